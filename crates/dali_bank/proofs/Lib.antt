@@ -1,0 +1,3 @@
+pub mod GtinLemmas
+pub mod NumberLemmas
+pub mod LayoutLemmas

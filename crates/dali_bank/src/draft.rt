@@ -1,0 +1,125 @@
+ghost use Rattle.std.specs.Prelude.{◌≡◌, ◌≢◌, ◌↔◌, ◌≤◌, ◌+◌, ℕ, List, [], ◌++◌, length, None, IsOk, IfOk, OnOk, IfErr};
+ghost use Rattle.dali_bank.specs.Draft.{placed_at};
+ghost use Rattle.dali_bank.specs.Spelling.{AreFieldBytes, plain};
+
+use crate::fault::BankFault;
+use crate::field::{FIELDS, Field};
+use crate::order::{Order, Updates};
+use crate::spelling::{FieldBytes, field_bytes};
+use crate::value::Value;
+use std::array;
+use std::marker::Model;
+
+/// An order in the making: its number, its unit, and the fields that are set so far.
+#[derive(Drop)]
+pub struct Draft {
+    id: u64,
+    unit: u8,
+    // each field's bytes, in the order of `Field::ALL`
+    found: [Option<FieldBytes>; FIELDS],
+}
+
+impl Model for Draft {
+    ghost use Rattle.std.specs.Prelude.{◌≤◌, map};
+    ghost use Rattle.std.specs.Option.{option_map};
+    ghost use Rattle.dali_bank.specs.Draft.{Drafted, AreFound};
+
+    ghost Value = { Drafted };
+
+    ghost view = { λ d. record { id = d.id; unit = d.unit; found = map (option_map (λ b. b.items)) d.found } };
+
+    ghost invariant = { λ d. (d.unit ≤ 63) × AreFound (map (option_map (λ b. b.items)) d.found) };
+}
+
+impl Draft {
+    ghost use Rattle.dali_bank.specs.Draft.{empty_draft, found_of, bytes_of, with_field, order_of, updates_of};
+    ghost use Rattle.dali_bank.specs.Faults.{IsSetFault};
+    ghost use Rattle.dali_bank.specs.Layout.{length_of};
+
+    /// A draft with no field set.
+    ///
+    /// Fault 1 Unit where the short address is over 63.
+    pub fn new(id: u64, unit: u8) -> Result<Draft, BankFault>
+        ensures short { IsOk result ↔ (unit ≤ 63) }
+        ensures ok { IfOk result (λ draft. draft ≡ empty_draft id unit) }
+        ensures err { IfErr result (λ fault. fault ≡ BankFault.Unit) }
+    {
+        if unit > 63 {
+            return Err(BankFault::Unit);
+        }
+        Ok(Draft {
+            id,
+            unit,
+            found: array::from_fn(|_| None),
+        })
+    }
+
+    /// Sets a field that isn't set yet.
+    ///
+    /// Fault 2 Kind where the field doesn't take a value of this kind, 4 Gtin where the digits are
+    /// no GTIN, 6 Twice where the field is set already: the first that stands. The draft is then as it was.
+    pub fn set(&mut self, field: Field, value: Value<'_>) -> Result<(), BankFault>
+        ensures ok { OnOk result ((bytes : List ℕ) × AreFieldBytes field (plain value.entry) bytes
+            × (found_of field self.old ≡ None) × (self.new ≡ with_field field bytes self.old)) }
+        ensures err { IfErr result (λ fault. IsSetFault field (plain value.entry) self.old fault
+            × (self.new ≡ self.old)) }
+    {
+        let bytes = field_bytes(field, value)?;
+        if self.found[field.rank()].is_some() {
+            return Err(BankFault::Twice);
+        }
+        self.found[field.rank()] = Some(bytes);
+        Ok(())
+    }
+
+    /// The order of all fields that are set.
+    ///
+    /// Fault 8 Empty where none is: the draft then comes back as it was.
+    pub fn finish(self) -> Result<Order, (Draft, BankFault)>
+        ensures some { IsOk result ↔ (updates_of self ≢ []) }
+        ensures ok { IfOk result (λ order. order ≡ order_of self) }
+        ensures err { IfErr result (λ refused. (refused.0 ≡ self) × (refused.1 ≡ BankFault.Empty)
+            × (updates_of self ≡ [])) }
+    {
+        let updates = self.updates();
+        if updates.is_empty() {
+            return Err((self, BankFault::Empty));
+        }
+        Ok(Order::new(self.id, self.unit, updates))
+    }
+
+    // The updates of all fields that are set, by rising location.
+    fn updates(&self) -> Updates
+        ensures { result.items ≡ updates_of self.now }
+    {
+        let mut updates = Updates::new();
+        for field in Field::ALL {
+            push_bytes(&mut updates, field.first(), self.bytes(field));
+        }
+        updates
+    }
+
+    // The bytes of a field, none where it isn't set.
+    fn bytes(&self, field: Field) -> &[u8]
+        ensures value { result.now ≡ bytes_of field self.now }
+        ensures few { length result.now ≤ length_of field }
+    {
+        match &self.found[field.rank()] {
+            Some(bytes) => bytes.as_slice(),
+            None => &[],
+        }
+    }
+}
+
+// Puts the bytes at the locations from the first on.
+fn push_bytes(updates: &mut Updates, first: u8, bytes: &[u8])
+    requires room { length updates.old.items + length bytes.now ≤ 115 }
+    requires places { first + length bytes.now ≤ 0x78 }
+    ensures { updates.new.items ≡ updates.old.items ++ placed_at first bytes.now }
+{
+    let mut location = first;
+    for &byte in bytes {
+        updates.push((location, byte));
+        location += 1;
+    }
+}

@@ -1,0 +1,49 @@
+ghost use Rattle.std.specs.Prelude.{◌≡◌, Some};
+
+use std::error::Error;
+use std::fmt;
+
+/// Why a draft was refused. Of several faults the one with the lowest number is told (profile).
+#[derive(Clone, Copy, Debug, PartialEq, Eq, Hash)]
+pub enum BankFault {
+    /// The unit's short address is over 63.
+    Unit = 1,
+    /// The field doesn't take a value of this kind.
+    Kind = 2,
+    /// The digits are no GTIN.
+    Gtin = 4,
+    /// The field is set already.
+    Twice = 6,
+    /// No field is set.
+    Empty = 8,
+}
+
+impl BankFault {
+    ghost use Rattle.dali_bank.specs.Faults.{number_of};
+
+    /// The fault's number.
+    pub fn number(&self) -> u8
+        ensures { result ≡ number_of self.now }
+    {
+        *self as u8
+    }
+}
+
+impl fmt::Display for BankFault {
+    ghost use Rattle.std.specs.Prelude.{Some};
+    ghost use Rattle.dali_bank.specs.Faults.{name_of};
+
+    ghost output = { λ fault. Some (name_of fault) };
+
+    fn fmt<W: fmt::Write>(&self, f: &mut fmt::Formatter<W>) -> fmt::Result {
+        f.write_str(match self {
+            BankFault::Unit => "Unit",
+            BankFault::Kind => "Kind",
+            BankFault::Gtin => "Gtin",
+            BankFault::Twice => "Twice",
+            BankFault::Empty => "Empty",
+        })
+    }
+}
+
+impl Error for BankFault {}

@@ -1,0 +1,3 @@
+pub mod StreamLemmas
+pub mod ItemLemmas
+pub mod ReportLemmas

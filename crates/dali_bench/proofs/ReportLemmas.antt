@@ -1,0 +1,69 @@
+-- Lemmas on what is written of a list of items.
+use Rattle.std.proofs.Common.{◌≡◌, ℕ, suc, ◌+◌, ◌<◌, List, [], ◌∷◌, ◌++◌, Bool, true, false, Option, take, length, map, count_by, is_ok, not, ap, sym, ◌∙◌, arith, append_assoc, append-nil, get_or, add-zero, zero-add, cond, subst, length-append}
+use Rattle.std.proofs.lemmas.List.{take_more, map-append}
+use Rattle.std.proofs.lemmas.List.Sums.{sum_by-append}
+use Rattle.std.specs.Io.KnownBytes.{Appends}
+use Rattle.serde_json.specs.Data.{Data, Items}
+use Rattle.serde_json.specs.View.{view, items_view, items_of}
+use Rattle.serde_json.specs.declared.value.Value.{Value}
+use Rattle.dali_bench.specs.Items.{Judges}
+use Rattle.dali_bench.specs.Lines.{item_lines}
+use Rattle.dali_bench.specs.Report.{Outcome, JudgesEach, lines_from, accepted_count, refused_count}
+use Rattle.dali_bench.proofs.StreamLemmas.{appends_both}
+
+-- the items so far, what became of them, and what was written of them
+pub record SoFar (ds : Items) (n accepted refused : ℕ) (before now : Option (List ℕ)) : Type 0 where
+  pub outcomes : List Outcome
+  pub judged : JudgesEach ds outcomes
+  pub many : length outcomes ≡ n
+  pub all : accepted + refused ≡ n
+  pub good : count_by is_ok outcomes ≡ accepted
+  pub bad : refused_count outcomes ≡ refused
+  pub written : Appends before now (lines_from 1 outcomes)
+
+judges_one_more : (ds : List Data) (xs : List Outcome) (d : Data) (x : Outcome) → JudgesEach (items_of ds) xs → Judges d x → JudgesEach (items_of (ds ++ d ∷ [])) (xs ++ x ∷ [])
+judges_one_more [] [] d x js j = (j, tt)
+judges_one_more [] (y ∷ xs) d x js j = absurd js
+judges_one_more (e ∷ ds) [] d x js j = absurd js
+judges_one_more (e ∷ ds) (y ∷ xs) d x js j = (js.0, judges_one_more ds xs d x js.1 j)
+
+lines_from_one_more : (i : ℕ) (xs : List Outcome) (x : Outcome) → lines_from i (xs ++ x ∷ []) ≡ lines_from i xs ++ item_lines (i + length xs) x
+lines_from_one_more i [] x = append-nil _ ∙ ap (λ n. item_lines n x) (sym (add-zero i))
+lines_from_one_more i (y ∷ xs) x =
+    let there : i + 1 + length xs ≡ i + suc (length xs) = omega arith in
+    ap (λ t. item_lines i y ++ t) (lines_from_one_more (i + 1) xs x ∙ ap (λ n. lines_from (i + 1) xs ++ item_lines n x) there)
+    ∙ sym (append_assoc (item_lines i y) (lines_from (i + 1) xs) _)
+
+count_one_more : {X : Type 0} (p : X → Bool) (xs : List X) (x : X) → count_by p (xs ++ x ∷ []) ≡ count_by p xs + cond (p x) 1 0
+count_one_more p xs x = sum_by-append (λ y. cond (p y) 1 0) xs (x ∷ []) ∙ ap (λ n. count_by p xs + n) (zero-add (cond (p x) 1 0))
+
+-- the step of the loop: one more item, its outcome, and its lines
+pub accepted_more : (vs : List Value) (i a r : ℕ) (before mid now : Option (List ℕ)) (d : Value) (x : Outcome) → i < length vs → SoFar (items_view (take i vs)) i a r before mid
+    → Judges (view (get_or vs i d)) x → is_ok x ≡ true → Appends mid now (item_lines (a + r + 1) x) → SoFar (items_view (take (i + 1) vs)) (i + 1) (a + 1) r before now
+accepted_more vs i a r before mid now d x within s judged good written =
+    let split : map view (take (i + 1) vs) ≡ map view (take i vs) ++ view (get_or vs i d) ∷ [] = ap (map view) (take_more vs i d within) ∙ map-append view (take i vs) _ in
+    let number : a + r + 1 ≡ 1 + length s.outcomes = omega (arith, s.many, s.all) in
+    record {
+      outcomes = s.outcomes ++ x ∷ [];
+      judged = subst (λ ds. JudgesEach (items_of ds) (s.outcomes ++ x ∷ [])) (sym split) (judges_one_more _ s.outcomes _ x s.judged judged);
+      many = length-append s.outcomes (x ∷ []) ∙ ap (λ n. n + 1) s.many;
+      all = omega (arith, s.all);
+      good = count_one_more is_ok s.outcomes x ∙ rw good (ap (λ n. n + 1) s.good);
+      bad = count_one_more (λ y. not (is_ok y)) s.outcomes x ∙ rw good (add-zero _ ∙ s.bad);
+      written = rw lines_from_one_more (appends_both before mid now _ _ s.written (rw number at written));
+    }
+
+pub refused_more : (vs : List Value) (i a r : ℕ) (before mid now : Option (List ℕ)) (d : Value) (x : Outcome) → i < length vs → SoFar (items_view (take i vs)) i a r before mid
+    → Judges (view (get_or vs i d)) x → is_ok x ≡ false → Appends mid now (item_lines (a + r + 1) x) → SoFar (items_view (take (i + 1) vs)) (i + 1) a (r + 1) before now
+refused_more vs i a r before mid now d x within s judged bad written =
+    let split : map view (take (i + 1) vs) ≡ map view (take i vs) ++ view (get_or vs i d) ∷ [] = ap (map view) (take_more vs i d within) ∙ map-append view (take i vs) _ in
+    let number : a + r + 1 ≡ 1 + length s.outcomes = omega (arith, s.many, s.all) in
+    record {
+      outcomes = s.outcomes ++ x ∷ [];
+      judged = subst (λ ds. JudgesEach (items_of ds) (s.outcomes ++ x ∷ [])) (sym split) (judges_one_more _ s.outcomes _ x s.judged judged);
+      many = length-append s.outcomes (x ∷ []) ∙ ap (λ n. n + 1) s.many;
+      all = omega (arith, s.all);
+      good = count_one_more is_ok s.outcomes x ∙ rw bad (add-zero _ ∙ s.good);
+      bad = count_one_more (λ y. not (is_ok y)) s.outcomes x ∙ rw bad (ap (λ n. n + 1) s.bad);
+      written = rw lines_from_one_more (appends_both before mid now _ _ s.written (rw number at written));
+    }

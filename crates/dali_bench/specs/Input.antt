@@ -1,0 +1,29 @@
+-- What a command reads.
+use Rattle.std.specs.Prelude.{◌≡◌, ◌+◌, ◌≤◌, ℕ, List, ◌++◌, Option, Some, None, length, IsUtf8}
+use Rattle.std.specs.Io.KnownBytes.{Consumes, IsAtEnd}
+use Rattle.serde_json.specs.Data.{Data}
+use Rattle.serde_json.specs.Read.{read}
+
+-- at most one byte past the limit is read
+pub record ReadsAtMost (limit : ℕ) (before after : Option (List ℕ)) : Type 0 where
+  pub input : List ℕ
+  pub consumed : Consumes before after input
+  pub bounded : length input ≤ limit + 1
+
+-- all that the reader has is read, or its first bytes up to one past the limit
+pub record ReadsInput (limit : ℕ) (before after : Option (List ℕ)) (input : List ℕ) : Type 0 where
+  pub consumed : Consumes before after input
+  pub bounded : length input ≤ limit + 1
+  pub whole : length input ≤ limit → IsAtEnd after
+
+-- what JSON the bytes are, as `serde_json` reads them: a value, or none
+abbrev pub IsReading : List ℕ → Option Data → Type 0
+IsReading input (Some value) = IsUtf8 input × (read input ≡ Some value)
+IsReading input None = IsUtf8 input → read input ≡ None
+
+-- some bytes more are read, at most so many, and stand behind the old ones
+pub record ReadsMore (most : ℕ) (before after : Option (List ℕ)) (old new : List ℕ) : Type 0 where
+  pub bytes : List ℕ
+  pub consumed : Consumes before after bytes
+  pub bounded : length bytes ≤ most
+  pub behind : new ≡ old ++ bytes

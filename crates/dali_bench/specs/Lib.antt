@@ -1,0 +1,6 @@
+pub mod Input
+pub mod Faults
+pub mod Items
+pub mod Lines
+pub mod Report
+pub mod Jobs

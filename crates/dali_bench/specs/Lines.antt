@@ -1,0 +1,28 @@
+-- The lines of items.
+use Rattle.std.specs.Prelude.{◌/◌, ◌%◌, ℕ, List, [], ◌∷◌, ◌++◌, length, Result, Ok, Err, codes, true, decimal}
+use Rattle.std.specs.List.{flat_map}
+use Rattle.std.specs.Fmt.{digit_glyph}
+use Rattle.dali_bank.specs.Order.{Contents}
+use Rattle.dali_bench.specs.declared.item.ItemFault.{ItemFault}
+use Rattle.dali_bench.specs.Faults.{item_number_of, item_name_of}
+
+-- two upper-case hexadecimal digits
+abbrev pub hex_byte : ℕ → List ℕ
+hex_byte byte = digit_glyph true (byte / 16) ∷ digit_glyph true (byte % 16) ∷ []
+
+-- a location and its byte
+abbrev pub update_line : ℕ × ℕ → List ℕ
+update_line update = hex_byte update.0 ++ codes " " ++ hex_byte update.1 ++ codes "\n"
+
+abbrev pub order_line : ℕ → Contents → List ℕ
+order_line number order = codes "item " ++ decimal number ++ codes " order " ++ decimal order.id ++ codes " unit " ++ decimal order.unit
+    ++ codes " bytes " ++ decimal (length order.updates) ++ codes "\n"
+
+-- a refused item
+abbrev pub refusal_line : ℕ → ItemFault → List ℕ
+refusal_line number fault = codes "item " ++ decimal number ++ codes " fault " ++ decimal (item_number_of fault) ++ codes " " ++ item_name_of fault ++ codes "\n"
+
+-- an accepted item with its updates, or a refused one
+abbrev pub item_lines : ℕ → Result Contents ItemFault → List ℕ
+item_lines number (Ok order) = order_line number order ++ flat_map update_line order.updates
+item_lines number (Err fault) = refusal_line number fault

@@ -1,0 +1,91 @@
+-- What `check` finds in its input, and what it writes.
+use Rattle.std.specs.Prelude.{◌≡◌, ◌==◌, ◌⊎◌, ◌<◌, ◌≤◌, ◌+◌, ℕ, List, [], ◌∷◌, ◌++◌, Option, Some, None, Result, codes, length, decimal, count_by, is_ok, not, ⊤, if◌then◌else◌}
+use Rattle.serde_json.specs.Data.{Data, Items, no_items, item}
+use Rattle.serde_json.specs.Find.{as_array}
+use Rattle.dali_bank.specs.Order.{Contents}
+use Rattle.dali_bench.specs.declared.item.ItemFault.{ItemFault}
+use Rattle.dali_bench.specs.declared.fault.Fault.{Fault}
+use Rattle.dali_bench.specs.declared.fault.Fault.TheVariants.{Json, Document, TooBig, Memory, File}
+use Rattle.dali_bench.specs.declared.fault.Status.{Status}
+use Rattle.dali_bench.specs.declared.fault.Status.TheVariants.{Good, Refused, Failed}
+use Rattle.dali_bench.specs.Faults.{fault_line, status_of}
+use Rattle.dali_bench.specs.Input.{IsReading, ReadsInput}
+use Rattle.dali_bench.specs.Items.{Judges}
+use Rattle.dali_bench.specs.Lines.{item_lines}
+
+-- what becomes of an item
+abbrev pub Outcome : Type 0
+Outcome = Result Contents ItemFault
+
+-- each item, and what becomes of it
+abbrev pub JudgesEach : Items → List Outcome → Type 0
+JudgesEach no_items [] = ⊤
+JudgesEach no_items (outcome ∷ outcomes) = ⊥
+JudgesEach (item source sources) [] = ⊥
+JudgesEach (item source sources) (outcome ∷ outcomes) = Judges source outcome × JudgesEach sources outcomes
+
+-- the items' lines, counted from a number on
+abbrev pub lines_from : ℕ → List Outcome → List ℕ
+lines_from number [] = []
+lines_from number (outcome ∷ outcomes) = item_lines number outcome ++ lines_from (number + 1) outcomes
+
+abbrev pub accepted_count : List Outcome → ℕ
+accepted_count outcomes = count_by is_ok outcomes
+
+abbrev pub refused_count : List Outcome → ℕ
+refused_count outcomes = count_by (λ outcome. not (is_ok outcome)) outcomes
+
+abbrev pub tally_line : ℕ → ℕ → List ℕ
+tally_line accepted refused = codes "accepted " ++ decimal accepted ++ codes " refused " ++ decimal refused ++ codes "\n"
+
+-- all that is written of the items
+abbrev pub report : List Outcome → List ℕ
+report outcomes = lines_from 1 outcomes ++ tally_line (accepted_count outcomes) (refused_count outcomes)
+
+-- refused where an item is
+abbrev pub report_status : List Outcome → Status
+report_status outcomes = if refused_count outcomes == 0 then Good else Refused
+
+-- the items of an input of at most so many bytes
+abbrev pub AreItems : ℕ → List ℕ → Items → Type 0
+AreItems limit input items = (length input ≤ limit) × ((json : Data) × IsReading input (Some json) × (as_array json ≡ Some items))
+
+-- why an input has no items; want of memory may come at any input
+abbrev pub IsInputFault : ℕ → List ℕ → Fault → Type 0
+IsInputFault limit input TooBig = limit < length input
+IsInputFault limit input Json = (length input ≤ limit) × IsReading input None
+IsInputFault limit input Document = (length input ≤ limit) × ((json : Data) × IsReading input (Some json) × (as_array json ≡ None))
+IsInputFault limit input Memory = ⊤
+IsInputFault limit input File = ⊥
+
+-- the status and the text of an input's items
+pub record IsReport (limit : ℕ) (input : List ℕ) (status : Status) (text : List ℕ) : Type 0 where
+  pub items : Items
+  pub outcomes : List Outcome
+  pub are_items : AreItems limit input items
+  pub judged : JudgesEach items outcomes
+  pub status_is : status ≡ report_status outcomes
+  pub text_is : text ≡ report outcomes
+
+-- the status and the text of an input that has no items
+pub record IsRefusal (limit : ℕ) (input : List ℕ) (status : Status) (text : List ℕ) : Type 0 where
+  pub fault : Fault
+  pub stands : IsInputFault limit input fault
+  pub status_is : status ≡ status_of fault
+  pub text_is : text ≡ fault_line fault
+
+-- the reader or the memory failed, which may come at any time
+pub record IsFailure (status : Status) (text : List ℕ) : Type 0 where
+  pub fault : Fault
+  pub failed : status_of fault ≡ Failed
+  pub status_is : status ≡ Failed
+  pub text_is : text ≡ fault_line fault
+
+-- what is answered and written of an input that was read
+abbrev pub IsAnswered : ℕ → List ℕ → Status → List ℕ → Type 0
+IsAnswered limit input status text = IsReport limit input status text ⊎ IsRefusal limit input status text
+
+-- what `check` answers and writes, by what the reader had before and has after it
+abbrev pub IsChecked : ℕ → Option (List ℕ) → Option (List ℕ) → Status → List ℕ → Type 0
+IsChecked limit before after status text =
+    ((input : List ℕ) × ReadsInput limit before after input × IsAnswered limit input status text) ⊎ IsFailure status text

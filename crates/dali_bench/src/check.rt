@@ -1,0 +1,143 @@
+ghost use Rattle.std.specs.Prelude.{◌≡◌, ◌≢◌, ℕ, List, IfOk, IfErr, OnOk, is_ok};
+ghost use Rattle.std.specs.Io.KnownBytes.{Appends};
+ghost use Rattle.serde_json.specs.View.{view, items_view};
+ghost use Rattle.dali_bench.specs.Faults.{fault_line, status_of};
+ghost use Rattle.dali_bench.specs.Input.{ReadsAtMost};
+ghost use Rattle.dali_bench.specs.Items.{Judges};
+ghost use Rattle.dali_bench.specs.Lines.{item_lines};
+ghost use Rattle.dali_bench.specs.Report.{Outcome, JudgesEach, report, report_status, AreItems, IsInputFault, IsChecked, IsAnswered};
+
+use crate::fault::{Fault, Status};
+use crate::input::read_input;
+use crate::item::order_of;
+use crate::lines::{write_fault, write_order, write_refusal, write_tally};
+use serde_json::Value;
+use std::alloc::Global;
+use std::io;
+use std::io::{Read, Write};
+
+/// The most bytes of a list of orders.
+pub const ORDERS_LIMIT: u32 = 16_777_216;
+
+/// Reads a JSON list of orders, and writes what becomes of each: the updates of an accepted item,
+/// the fault of a refused one, and how many there were of both.
+///
+/// Where the input is no such list it writes the fault alone: 13 TooBig over 16777216 bytes,
+/// 11 Json, 12 Document, 20 Memory or 21 File.
+pub fn check<R: Read, W: Write>(alloc: Global, reader: &mut R, writer: &mut W) -> Status
+    ensures checked { result ≢ Status.Unwritten → (text : List ℕ)
+        × IsChecked ORDERS_LIMIT (R.remaining reader.old) (R.remaining reader.new) result text
+        × Appends (W.contents writer.old) (W.contents writer.new) text }
+    ensures read { ReadsAtMost ORDERS_LIMIT (R.remaining reader.old) (R.remaining reader.new) }
+{
+    match try_check(alloc, reader, writer) {
+        Ok(status) => status,
+        Err(_) => Status::Unwritten,
+    }
+}
+
+// The same, or the error of the output.
+fn try_check<R: Read, W: Write>(
+    alloc: Global,
+    reader: &mut R,
+    writer: &mut W,
+) -> io::Result<Status>
+    ensures checked { IfOk result (λ status. (text : List ℕ)
+        × IsChecked ORDERS_LIMIT (R.remaining reader.old) (R.remaining reader.new) status text
+        × Appends (W.contents writer.old) (W.contents writer.new) text) }
+    ensures read { ReadsAtMost ORDERS_LIMIT (R.remaining reader.old) (R.remaining reader.new) }
+{
+    match read_input(alloc, reader, ORDERS_LIMIT) {
+        Ok(input) => write_checked(alloc, input.as_slice(), writer),
+        Err(fault) => write_failure(writer, fault),
+    }
+}
+
+// Writes what becomes of an input.
+fn write_checked<W: Write>(alloc: Global, input: &[u8], writer: &mut W) -> io::Result<Status>
+    ensures { IfOk result (λ status. (text : List ℕ) × IsAnswered ORDERS_LIMIT input.now status text
+        × Appends (W.contents writer.old) (W.contents writer.new) text) }
+{
+    match items_of(alloc, input, ORDERS_LIMIT) {
+        Ok(items) => write_report(writer, items.as_slice()),
+        Err(fault) => write_failure(writer, fault),
+    }
+}
+
+// Writes a fault, and nothing after it.
+#[tactic(auto, using(crate::proofs::StreamLemmas::appends_kept))]
+fn write_failure<W: Write>(writer: &mut W, fault: Fault) -> io::Result<Status>
+    ensures told { OnOk result (Appends (W.contents writer.old) (W.contents writer.new) (fault_line fault)) }
+    ensures status { IfOk result (λ status. status ≡ status_of fault) }
+{
+    write_fault(writer, fault)?;
+    writer.flush()?;
+    Ok(fault.status())
+}
+
+// The items of an input.
+fn items_of(alloc: Global, input: &[u8], limit: u32) -> Result<Vec<Value>, Fault>
+    ensures ok { IfOk result (λ items. AreItems limit input.now (items_view items.items)) }
+    ensures err { IfErr result (IsInputFault limit input.now) }
+{
+    if input.len() > limit as usize {
+        return Err(Fault::TooBig);
+    }
+    let value = match Value::from_slice(alloc, input) {
+        Ok(value) => value,
+        Err(error) => {
+            return Err(if error.is_memory() {
+                Fault::Memory
+            } else {
+                Fault::Json
+            });
+        }
+    };
+    match value {
+        Value::Array(items) => Ok(items),
+        _other => Err(Fault::Document),
+    }
+}
+
+// Writes what becomes of each item.
+#[tactic(auto, using(crate::proofs::StreamLemmas::appends_both, crate::proofs::StreamLemmas::appends_kept))]
+fn write_report<W: Write>(writer: &mut W, items: &[Value]) -> io::Result<Status>
+    ensures { IfOk result (λ status. (outcomes : List Outcome) × JudgesEach (items_view items.now) outcomes
+        × (status ≡ report_status outcomes)
+        × Appends (W.contents writer.old) (W.contents writer.new) (report outcomes)) }
+{
+    let mut accepted = 0u64;
+    let mut refused = 0u64;
+    for item in items {
+        if write_item(writer, accepted + refused + 1, item)? {
+            accepted += 1;
+        } else {
+            refused += 1;
+        }
+    }
+    write_tally(writer, accepted, refused)?;
+    writer.flush()?;
+    Ok(if refused == 0 {
+        Status::Good
+    } else {
+        Status::Refused
+    })
+}
+
+// Writes what becomes of an item, and whether it was accepted.
+fn write_item<W: Write>(writer: &mut W, number: u64, item: &Value) -> io::Result<bool>
+    ensures { IfOk result (λ accepted. (outcome : Outcome) × Judges (view item.now) outcome
+        × (is_ok outcome ≡ accepted)
+        × Appends (W.contents writer.old) (W.contents writer.new) (item_lines number outcome)) }
+{
+    match order_of(item) {
+        Ok(order) => {
+            write_order(writer, number, &order)?;
+            Ok(true)
+        }
+        Err(fault) => {
+            write_refusal(writer, number, fault)?;
+            Ok(false)
+        }
+    }
+}

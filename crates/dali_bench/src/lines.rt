@@ -1,0 +1,66 @@
+ghost use Rattle.std.specs.Prelude.{OnOk, Ok, Err};
+ghost use Rattle.std.specs.Io.KnownBytes.{Appends};
+ghost use Rattle.dali_bench.specs.Faults.{fault_line};
+ghost use Rattle.dali_bench.specs.Lines.{update_line, order_line, item_lines, refusal_line};
+ghost use Rattle.dali_bench.specs.Report.{tally_line};
+
+use crate::fault::Fault;
+use crate::item::ItemFault;
+use dali_bank::Order;
+use std::io;
+use std::io::Write;
+
+/// Writes the fault of a whole input.
+pub fn write_fault<W: Write>(writer: &mut W, fault: Fault) -> io::Result<()>
+    ensures { OnOk result (Appends (W.contents writer.old) (W.contents writer.new) (fault_line fault)) }
+{
+    let number = fault.number();
+    let name = fault.name();
+    writeln!(writer, "fault {number} {name}")
+}
+
+/// Writes a refused item.
+pub fn write_refusal<W: Write>(writer: &mut W, number: u64, fault: ItemFault) -> io::Result<()>
+    ensures { OnOk result (Appends (W.contents writer.old) (W.contents writer.new) (refusal_line number fault)) }
+{
+    let fault_number = fault.number();
+    writeln!(writer, "item {number} fault {fault_number} {fault}")
+}
+
+/// Writes an accepted item with its updates.
+#[tactic(auto, using(crate::proofs::StreamLemmas::appends_both))]
+pub fn write_order<W: Write>(writer: &mut W, number: u64, order: &Order) -> io::Result<()>
+    ensures { OnOk result (Appends (W.contents writer.old) (W.contents writer.new) (item_lines number (Ok order.now))) }
+{
+    write_heading(writer, number, order)?;
+    let updates = order.updates();
+    for &(location, byte) in updates {
+        write_update(writer, location, byte)?;
+    }
+    Ok(())
+}
+
+// Writes what an order is.
+fn write_heading<W: Write>(writer: &mut W, number: u64, order: &Order) -> io::Result<()>
+    ensures { OnOk result (Appends (W.contents writer.old) (W.contents writer.new) (order_line number order.now)) }
+{
+    let id = order.id();
+    let unit = order.unit();
+    let count = order.updates().len();
+    writeln!(writer, "item {number} order {id} unit {unit} bytes {count}")
+}
+
+// Writes a location and its byte.
+#[tactic(auto, using(std::proofs::lemmas::Fmt::hex_byte))]
+fn write_update<W: Write>(writer: &mut W, location: u8, byte: u8) -> io::Result<()>
+    ensures { OnOk result (Appends (W.contents writer.old) (W.contents writer.new) (update_line (location, byte))) }
+{
+    writeln!(writer, "{location:02X} {byte:02X}")
+}
+
+/// Writes how many items were accepted and refused.
+pub fn write_tally<W: Write>(writer: &mut W, accepted: u64, refused: u64) -> io::Result<()>
+    ensures { OnOk result (Appends (W.contents writer.old) (W.contents writer.new) (tally_line accepted refused)) }
+{
+    writeln!(writer, "accepted {accepted} refused {refused}")
+}

@@ -1,0 +1,87 @@
+//! A bench for luminaire data in memory bank 1 of DALI control gear.
+#![tactic(auto)]
+
+mod check;
+mod fault;
+mod input;
+mod item;
+mod job;
+mod lines;
+
+use crate::check::check;
+use crate::fault::{Fault, Status};
+use crate::job::{Job, job_of};
+use clap::error::ErrorKind;
+use std::alloc::{AllocError, Global};
+use std::io::BufWriter;
+use std::process::ExitCode;
+use std::{fs, io};
+
+fn main(rt: HostRuntime) -> ExitCode {
+    let status = match std::env::args(&rt) {
+        Ok(words) => match words.collect(rt.alloc()) {
+            Ok(words) => run(&rt, &words),
+            Err(_) => failed(&rt, Fault::Memory),
+        },
+        Err(error) if error.kind() == io::ErrorKind::OutOfMemory => failed(&rt, Fault::Memory),
+        Err(_) => refused(&rt, "error: an argument is no text in UTF-8"),
+    };
+    ExitCode::from(status.code())
+}
+
+// Carries out the command line.
+fn run(rt: &HostRuntime, words: &Vec<String>) -> Status {
+    let Ok(words) = texts_of(rt.alloc(), words) else {
+        return failed(rt, Fault::Memory);
+    };
+    match job_of(rt.alloc(), words.as_slice()) {
+        Ok(Job::Check(orders)) => check_file(rt, orders),
+        Err(error) if error.kind() == ErrorKind::OutOfMemory => failed(rt, Fault::Memory),
+        Err(error) => match error.print(rt) {
+            Ok(()) if error.exit_code() == 0 => Status::Good,
+            Ok(()) => Status::Refused,
+            Err(_) => Status::Unwritten,
+        },
+    }
+}
+
+fn texts_of<'a>(alloc: Global, words: &'a Vec<String>) -> Result<Vec<&'a str>, AllocError> {
+    let mut texts = Vec::new(alloc);
+    for word in words {
+        texts.push(word.as_str())?;
+    }
+    Ok(texts)
+}
+
+// Checks the orders of a file. The name `/dev/stdin` is read through the runtime, since a process
+// may lack the right to open it by name.
+fn check_file(rt: &HostRuntime, orders: &str) -> Status {
+    let Ok(mut writer) = BufWriter::new(rt.alloc(), io::writer(rt)) else {
+        return failed(rt, Fault::Memory);
+    };
+    if orders == "/dev/stdin" {
+        return check(rt.alloc(), &mut rt.reader(), &mut writer);
+    }
+    match fs::open(rt, orders) {
+        Ok(mut reader) => check(rt.alloc(), &mut reader, &mut writer),
+        Err(_) => failed(rt, Fault::File),
+    }
+}
+
+// Prints a fault that comes before any command runs.
+fn failed(rt: &HostRuntime, fault: Fault) -> Status {
+    let number = fault.number();
+    let name = fault.name();
+    match println!(rt; "fault {number} {name}") {
+        Ok(()) => fault.status(),
+        Err(_) => Status::Unwritten,
+    }
+}
+
+// Prints why the command line is refused.
+fn refused(rt: &HostRuntime, why: &str) -> Status {
+    match eprintln!(rt; "{why}") {
+        Ok(()) => Status::Refused,
+        Err(_) => Status::Unwritten,
+    }
+}

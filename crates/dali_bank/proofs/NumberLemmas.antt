@@ -39,9 +39,9 @@ in_range-drop (suc k) (byte ∷ bytes) all = in_range-drop k bytes all.1
 pub last_bytes : (size number : ℕ) → size ≤ 8 → number < 256 ^ size → number < 2 ^ 64 → SpellsNumber size number (drop (8 - size) (to_be_bytes w64 number))
 last_bytes size number few small fits =
     let whole : big_endian (to_be_bytes w64 number) ≡ number =
-        big_endian-eight _ _ _ _ _ _ _ _ ∙ from_be_bytes-to_be_bytes_8 number fits in
+    big_endian-eight _ _ _ _ _ _ _ _ ∙ from_be_bytes-to_be_bytes_8 number fits in
     let eight_in_range : AllByRecursion (λ byte. byte < 256) (to_be_bytes w64 number) =
-        (omega arith, (omega arith, (omega arith, (omega arith, (omega arith, (omega arith, (omega arith, (omega arith, tt)))))))) in
+    (omega arith, (omega arith, (omega arith, (omega arith, (omega arith, (omega arith, (omega arith, (omega arith, tt)))))))) in
     let left : 8 - (8 - size) ≡ size = omega arith in
     let few_enough : 8 - size ≤ 8 = omega arith in
     record {

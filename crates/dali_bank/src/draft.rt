@@ -1,6 +1,6 @@
 ghost use Rattle.std.specs.Prelude.{◌≡◌, ◌≢◌, ◌↔◌, ◌≤◌, ◌+◌, ℕ, List, [], ◌++◌, length, None, IsOk, IfOk, OnOk, IfErr};
 ghost use Rattle.dali_bank.specs.Draft.{placed_at};
-ghost use Rattle.dali_bank.specs.Spelling.{AreFieldBytes, plain};
+ghost use Rattle.dali_bank.specs.Spelling.{AreFieldBytes, HasBytes, plain};
 
 use crate::fault::BankFault;
 use crate::field::{FIELDS, Field};
@@ -59,6 +59,7 @@ impl Draft {
     /// Fault 2 Kind where the field doesn't take a value of this kind, 4 Gtin where the digits are
     /// no GTIN, 6 Twice where the field is set already: the first that stands. The draft is then as it was.
     pub fn set(&mut self, field: Field, value: Value<'_>) -> Result<(), BankFault>
+        ensures accepted { HasBytes field (plain value.entry) → found_of field self.old ≡ None → IsOk result }
         ensures ok { OnOk result ((bytes : List ℕ) × AreFieldBytes field (plain value.entry) bytes
             × (found_of field self.old ≡ None) × (self.new ≡ with_field field bytes self.old)) }
         ensures err { IfErr result (λ fault. IsSetFault field (plain value.entry) self.old fault

@@ -9,6 +9,8 @@ mod field;
 mod gtin;
 mod order;
 mod spelling;
+#[cfg(test)]
+mod tests;
 mod value;
 
 pub use draft::Draft;

@@ -37,11 +37,7 @@ pub fn check<R: Read, W: Write>(alloc: Global, reader: &mut R, writer: &mut W) -
 }
 
 // The same, or the error of the output.
-fn try_check<R: Read, W: Write>(
-    alloc: Global,
-    reader: &mut R,
-    writer: &mut W,
-) -> io::Result<Status>
+fn try_check<R: Read, W: Write>(alloc: Global, reader: &mut R, writer: &mut W) -> io::Result<Status>
     ensures checked { IfOk result (λ status. (text : List ℕ)
         × IsChecked ORDERS_LIMIT (R.remaining reader.old) (R.remaining reader.new) status text
         × Appends (W.contents writer.old) (W.contents writer.new) text) }

@@ -5,7 +5,6 @@ ghost use Rattle.dali_bench.specs.Input.{ReadsInput, ReadsAtMost, ReadsMore};
 
 use crate::fault::{Fault, Status};
 use std::alloc::Global;
-
 use std::io::{ErrorKind, Read};
 
 // How many bytes are read at a time.
@@ -33,11 +32,7 @@ pub fn read_input<R: Read>(alloc: Global, reader: &mut R, limit: u32) -> Result<
 }
 
 // Reads once, over the chunk, and puts what it read behind the input. Whether there may be more.
-fn read_more<R: Read>(
-    reader: &mut R,
-    input: &mut Vec<u8>,
-    chunk: &mut [u8],
-) -> Result<bool, Fault>
+fn read_more<R: Read>(reader: &mut R, input: &mut Vec<u8>, chunk: &mut [u8]) -> Result<bool, Fault>
     requires { 0 < length chunk.old }
     ensures ok { IfOk result (λ more. (more ≡ false → IsAtEnd (R.remaining reader.new))
         × ReadsMore (length chunk.old) (R.remaining reader.old) (R.remaining reader.new) input.old.items input.new.items) }

@@ -7,10 +7,13 @@ mod input;
 mod item;
 mod job;
 mod lines;
+#[cfg(test)]
+mod tests;
 
 use crate::check::check;
 use crate::fault::{Fault, Status};
 use crate::job::{Job, job_of};
+use crate::lines::write_fault;
 use clap::error::ErrorKind;
 use std::alloc::{AllocError, Global};
 use std::io::BufWriter;
@@ -24,8 +27,14 @@ fn main(rt: HostRuntime) -> ExitCode {
             Err(_) => failed(&rt, Fault::Memory),
         },
         Err(error) if error.kind() == io::ErrorKind::OutOfMemory => failed(&rt, Fault::Memory),
-        Err(_) => refused(&rt, "error: an argument is no text in UTF-8"),
+        Err(_) => {
+            let _ = eprintln!(&rt; "error: an argument is no text in UTF-8");
+            Status::Refused
+        }
     };
+    if status == Status::Unwritten {
+        let _ = eprintln!(&rt; "error: the output can't be written");
+    }
     ExitCode::from(status.code())
 }
 
@@ -64,24 +73,18 @@ fn check_file(rt: &HostRuntime, orders: &str) -> Status {
     }
     match fs::open(rt, orders) {
         Ok(mut reader) => check(rt.alloc(), &mut reader, &mut writer),
-        Err(_) => failed(rt, Fault::File),
+        Err(cause) => {
+            let _ = eprintln!(rt; "error: {orders}: {cause}");
+            failed(rt, Fault::File)
+        }
     }
 }
 
 // Prints a fault that comes before any command runs.
 fn failed(rt: &HostRuntime, fault: Fault) -> Status {
-    let number = fault.number();
-    let name = fault.name();
-    match println!(rt; "fault {number} {name}") {
+    let _ = eprintln!(rt; "error: {fault}");
+    match write_fault(&mut io::writer(rt), fault) {
         Ok(()) => fault.status(),
-        Err(_) => Status::Unwritten,
-    }
-}
-
-// Prints why the command line is refused.
-fn refused(rt: &HostRuntime, why: &str) -> Status {
-    match eprintln!(rt; "{why}") {
-        Ok(()) => Status::Refused,
         Err(_) => Status::Unwritten,
     }
 }

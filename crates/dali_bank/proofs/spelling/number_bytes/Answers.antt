@@ -12,5 +12,5 @@ returns c =
     let last : List ℕ = take (8 - (8 - size)) (drop (8 - size) c.to_be_bytes.result) in
     let all : c.loop-byte.bytes.items ≡ last = c.loop-byte.invariant ∙ take_all c.loop-byte.byte-index last (omega arith) in
     let whole : last ≡ drop (8 - size) c.to_be_bytes.result = take_all (8 - (8 - size)) (drop (8 - size) c.to_be_bytes.result)
-        (simp length-drop (omega (arith, ap (length {A = ℕ}) c.to_be_bytes.ensures))) in
+    (simp length-drop (omega (arith, ap (length {A = ℕ}) c.to_be_bytes.ensures))) in
     rw (all, whole, c.to_be_bytes.ensures) spelled

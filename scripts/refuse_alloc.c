@@ -1,0 +1,33 @@
+/* Preloaded into the built program by the test: refuses the allocation whose number, counted from 1, is in
+   the variable REFUSED_ALLOCATION, as a system without memory would. */
+#define _GNU_SOURCE
+#include <dlfcn.h>
+#include <errno.h>
+#include <stdlib.h>
+
+static int is_refused(void)
+{
+    static long count;
+    const char *refused = getenv("REFUSED_ALLOCATION");
+    count++;
+    if (refused == NULL || count != atol(refused))
+        return 0;
+    errno = ENOMEM;
+    return 1;
+}
+
+void *malloc(size_t size)
+{
+    static void *(*next)(size_t);
+    if (next == NULL)
+        next = (void *(*)(size_t))dlsym(RTLD_NEXT, "malloc");
+    return is_refused() ? NULL : next(size);
+}
+
+void *realloc(void *block, size_t size)
+{
+    static void *(*next)(void *, size_t);
+    if (next == NULL)
+        next = (void *(*)(void *, size_t))dlsym(RTLD_NEXT, "realloc");
+    return is_refused() ? NULL : next(block, size);
+}

@@ -1,9 +1,10 @@
 /* Preloaded into the built program by the test: refuses the allocation whose number, counted from 1, is in
-   the variable REFUSED_ALLOCATION, as a system without memory would. */
+   the variable REFUSED_ALLOCATION, as a system without memory would, and says so on standard error. */
 #define _GNU_SOURCE
 #include <dlfcn.h>
 #include <errno.h>
 #include <stdlib.h>
+#include <unistd.h>
 
 static int is_refused(void)
 {
@@ -12,6 +13,9 @@ static int is_refused(void)
     count++;
     if (refused == NULL || count != atol(refused))
         return 0;
+    static const char told[] = "an allocation was refused\n";
+    if (write(STDERR_FILENO, told, sizeof told - 1) < 0)
+        _exit(3);
     errno = ENOMEM;
     return 1;
 }

@@ -1,7 +1,7 @@
 -- Lemmas on the updates of fields that lie one behind the other.
-use Rattle.std.proofs.Common.{◌≡◌, ℕ, suc, ◌+◌, ◌<◌, ◌≤◌, ◌⊎◌, inl, inr, lit≤, List, [], ◌∷◌, ◌++◌, Option, Some, None, IfSome, unwrap_or, take, length, get_or, refl, ap, sym, ◌∙◌, arith, add-zero, length-append}
+use Rattle.std.proofs.Common.{◌≡◌, ℕ, suc, ◌+◌, ◌<◌, ◌≤◌, ◌⊎◌, inl, inr, lit≤, List, [], ◌∷◌, ◌++◌, Option, Some, None, IfSome, unwrap_or, take, length, get_or, refl, ap, sym, ◌∙◌, arith, add-zero}
 use Rattle.std.specs.Bool.{⊤}
-use Rattle.std.specs.List.{AllByRecursion, flat_map, sum_by}
+use Rattle.std.specs.List.{AllByRecursion, flat_map}
 use Rattle.std.proofs.lemmas.List.{take_more, flat_map_more}
 use Rattle.std.proofs.lemmas.List.Concat.{length-flat_map}
 use Rattle.std.proofs.lemmas.List.Sums.{sum_by-le-sum_by}

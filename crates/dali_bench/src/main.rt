@@ -74,15 +74,20 @@ fn check_file(rt: &HostRuntime, orders: &str) -> Status {
     match fs::open(rt, orders) {
         Ok(mut reader) => check(rt.alloc(), &mut reader, &mut writer),
         Err(cause) => {
-            let _ = eprintln!(rt; "error: {orders}: {cause}");
-            failed(rt, Fault::File)
+            let fault = Fault::File;
+            let _ = eprintln!(rt; "error: {fault}: {orders}: {cause}");
+            print_fault(rt, fault)
         }
     }
 }
 
-// Prints a fault that comes before any command runs.
+// Prints a fault that comes before any command runs, and what it means.
 fn failed(rt: &HostRuntime, fault: Fault) -> Status {
     let _ = eprintln!(rt; "error: {fault}");
+    print_fault(rt, fault)
+}
+
+fn print_fault(rt: &HostRuntime, fault: Fault) -> Status {
     match write_fault(&mut io::writer(rt), fault) {
         Ok(()) => fault.status(),
         Err(_) => Status::Unwritten,

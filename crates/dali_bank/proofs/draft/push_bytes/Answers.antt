@@ -1,4 +1,4 @@
-use Rattle.std.proofs.Common.{◌≡◌, ◌<◌, ◌+◌, ◌++◌, ◌∷◌, ◌∙◌, [], length, take, get_or, ap, sym, arith, append_assoc, length-append, length-take}
+use Rattle.std.proofs.Common.{◌≡◌, ◌<◌, ◌+◌, ◌++◌, ◌∷◌, ◌∙◌, [], length, take, get_or, ap, arith, append_assoc, length-append, length-take}
 use Rattle.std.proofs.lemmas.List.{take_more}
 use Rattle.dali_bank.specs.Draft.{placed_at}
 use Rattle.dali_bank.proofs.LayoutLemmas.{placed_at-snoc, length-placed_at}

@@ -1,4 +1,4 @@
-use Rattle.std.proofs.Common.{◌≡◌, ◌<◌, ◌≤◌, ◌-◌, length, get_or, arith}
+use Rattle.std.proofs.Common.{◌≡◌, ◌<◌, ◌-◌, length, get_or, arith}
 use Rattle.std.specs.Char.{digit_value}
 use Rattle.dali_bank.proofs.GtinLemmas.{digit_value-in_range, weighted_sum-drop}
 use Rattle.dali_bank.proofs.gtin.weighted_sum.Goals as goal

@@ -1,7 +1,5 @@
-use Rattle.std.proofs.Common.{◌≡◌, ◌-◌, ◌∙◌, List, ℕ, drop, take, length, arith, length-drop, length-take, ap, sym}
-use Rattle.std.specs.Int.{w64, to_be_bytes}
+use Rattle.std.proofs.Common.{◌≡◌, ◌-◌, ◌∙◌, List, ℕ, drop, take, length, arith, length-drop, ap}
 use Rattle.std.proofs.lemmas.List.{take_all}
-use Rattle.dali_bank.specs.Numbers.{SpellsNumber}
 use Rattle.dali_bank.proofs.NumberLemmas.{last_bytes}
 use Rattle.dali_bank.proofs.spelling.number_bytes.Goals as goal
 

@@ -1,4 +1,4 @@
-use Rattle.std.proofs.Common.{◌≡◌, ◌∙◌, replicate, take, ap}
+use Rattle.std.proofs.Common.{◌∙◌, take, ap}
 use Rattle.std.proofs.lemmas.List.{take-replicate}
 use Rattle.dali_bank.proofs.spelling.unknown_bytes.Goals as goal
 

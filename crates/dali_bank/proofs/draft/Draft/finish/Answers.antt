@@ -1,5 +1,5 @@
 use Rattle.std.proofs.Common.{◌≡◌, ◌≤◌, ℕ, length, arith, ap, false-eqb}
-use Rattle.dali_bank.specs.Draft.{Drafted, AreFound, updates_of}
+use Rattle.dali_bank.specs.Draft.{Drafted, AreFound}
 use Rattle.dali_bank.proofs.LayoutLemmas.{updates_valid}
 use Rattle.dali_bank.proofs.draft.Draft.finish.Goals as goal
 

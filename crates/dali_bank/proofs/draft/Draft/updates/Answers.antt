@@ -1,5 +1,4 @@
-use Rattle.std.proofs.Common.{◌≡◌, ◌<◌, ◌+◌, ◌≤◌, length, get_or, take, arith, length-append}
-use Rattle.std.specs.List.{sum_by}
+use Rattle.std.proofs.Common.{◌<◌, length, get_or, arith, length-append}
 use Rattle.std.proofs.lemmas.List.Sums.{sum_by_more, sum_by_more_le}
 use Rattle.dali_bank.specs.declared.field.Field.{Field}
 use Rattle.dali_bank.specs.declared.field.Field.TheVariants.{Gtin}

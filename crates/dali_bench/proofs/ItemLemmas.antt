@@ -1,5 +1,5 @@
 -- Lemmas on what an item gives to a draft.
-use Rattle.std.proofs.Common.{◌≡◌, ◌<◌, ◌≤◌, ℕ, List, [], ◌∷◌, Bool, ◌&&◌, ◌++◌, Option, Some, None, IsSome, MatchOption, true, suc, length, get_or, take, drop, string_bytes, codes, min, length-take, refl, arith, subst, ap, sym, ◌∙◌}
+use Rattle.std.proofs.Common.{◌≡◌, ◌<◌, ◌≤◌, ℕ, List, [], ◌∷◌, Bool, ◌&&◌, Option, Some, None, IsSome, MatchOption, suc, length, get_or, take, drop, string_bytes, codes, min, length-take, refl, arith, subst, ap, sym, ◌∙◌}
 use Rattle.std.specs.Bool.{⊤}
 use Rattle.std.specs.List.{list_all}
 use Rattle.std.proofs.Math.Seq.{split_at}

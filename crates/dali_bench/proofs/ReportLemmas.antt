@@ -8,7 +8,7 @@ use Rattle.serde_json.specs.View.{view, items_view, items_of}
 use Rattle.serde_json.specs.declared.value.Value.{Value}
 use Rattle.dali_bench.specs.Items.{Judges}
 use Rattle.dali_bench.specs.Lines.{item_lines}
-use Rattle.dali_bench.specs.Report.{Outcome, JudgesEach, lines_from, accepted_count, refused_count}
+use Rattle.dali_bench.specs.Report.{Outcome, JudgesEach, lines_from, refused_count}
 use Rattle.dali_bench.proofs.StreamLemmas.{appends_both}
 
 -- the items so far, what became of them, and what was written of them

@@ -1,4 +1,4 @@
-use Rattle.std.proofs.Common.{◌≡◌, ◌<◌, ◌≤◌, true, false, refl, sym, ◌∙◌, arith}
+use Rattle.std.proofs.Common.{◌≡◌, true, false, refl, sym, arith}
 use Rattle.serde_json.specs.View.{view}
 use Rattle.dali_bench.proofs.ItemLemmas.{numbers_and_keys, above_63}
 use Rattle.dali_bench.proofs.item.empty_draft_of.Goals as goal

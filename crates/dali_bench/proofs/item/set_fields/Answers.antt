@@ -1,7 +1,5 @@
-use Rattle.std.proofs.Common.{◌≡◌, ◌<◌, length}
 use Rattle.std.proofs.lemmas.Result.{err_from_is_err_and}
 use Rattle.serde_json.specs.View.{view}
-use Rattle.dali_bank.specs.Layout.{fields}
 use Rattle.dali_bench.proofs.ItemLemmas.{first_refused}
 use Rattle.dali_bench.proofs.item.set_fields.Goals as goal
 

@@ -1,9 +1,8 @@
-use Rattle.std.proofs.Common.{◌≡◌, Some, None, refl, sym}
+use Rattle.std.proofs.Common.{◌≡◌, Some, refl, sym}
 use Rattle.std.proofs.lemmas.Result.{MatchResult-weaker}
 use Rattle.serde_json.specs.Find.{get}
 use Rattle.serde_json.specs.View.{view}
-use Rattle.dali_bank.specs.Spelling.{plain}
-use Rattle.dali_bench.specs.Items.{key_of, given}
+use Rattle.dali_bench.specs.Items.{key_of}
 use Rattle.dali_bench.proofs.ItemLemmas.{value_fault}
 use Rattle.dali_bench.proofs.item.set_given.Goals as goal
 

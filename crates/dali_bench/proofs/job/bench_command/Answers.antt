@@ -1,7 +1,7 @@
-use Rattle.std.proofs.Common.{◌≡◌, ◌∙◌, ap, codes, true}
-use Rattle.clap.specs.Words.{App, Shape, app_of, new_app, shape_of, with_subcommand}
+use Rattle.std.proofs.Common.{◌≡◌, ◌∙◌, ap, true}
+use Rattle.clap.specs.Words.{App, app_of, shape_of, with_subcommand}
 use Rattle.clap.specs.Simple.{app_of_fields}
-use Rattle.dali_bench.specs.Jobs.{bench_app, check_app, top_app}
+use Rattle.dali_bench.specs.Jobs.{check_app, top_app}
 use Rattle.dali_bench.proofs.job.bench_command.Goals as goal
 
 pub returns : goal.returns

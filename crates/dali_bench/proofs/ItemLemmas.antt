@@ -1,5 +1,5 @@
 -- Lemmas on what an item gives to a draft.
-use Rattle.std.proofs.Common.{◌≡◌, ◌<◌, ◌≤◌, ℕ, List, [], ◌∷◌, Bool, ◌&&◌, Option, Some, None, IsSome, MatchOption, suc, length, get_or, take, drop, string_bytes, codes, min, length-take, refl, arith, subst, ap, sym, ◌∙◌}
+use Rattle.std.proofs.Common.{◌≡◌, ◌<◌, ◌≤◌, ℕ, List, [], ◌∷◌, Bool, ◌&&◌, Option, Some, None, IsSome, MatchOption, suc, length, get_or, take, drop, string_bytes, min, length-take, refl, arith, subst, ap, sym, ◌∙◌}
 use Rattle.std.specs.Bool.{⊤}
 use Rattle.std.specs.List.{list_all}
 use Rattle.std.proofs.Math.Seq.{split_at}
@@ -19,7 +19,7 @@ use Rattle.dali_bank.specs.Spelling.{Plain, AreFieldBytes, HasBytes}
 use Rattle.dali_bank.specs.Draft.{Drafted, found_of}
 use Rattle.dali_bank.specs.Faults.{IsSetFault, IsValueFault}
 use Rattle.dali_bench.specs.declared.item.ItemFault.TheVariants.{Bank}
-use Rattle.dali_bench.specs.Items.{HasNumbers, IsForUnit, IsFieldFault, IsFaultOf, IsFoundIn, IsAcceptable, IsRefused, KnowsKeys, is_key, key_of, keys_of, whole_at, given as given_value}
+use Rattle.dali_bench.specs.Items.{IsForUnit, IsFieldFault, IsFaultOf, IsFoundIn, IsAcceptable, IsRefused, KnowsKeys, is_key, key_of, keys_of, given as given_value}
 
 -- ---- the keys of an object
 
@@ -28,16 +28,9 @@ list_all-keys_of p [] = refl
 list_all-keys_of p (e ∷ es) = ap (λ b. p (string_bytes e.0) && b) (list_all-keys_of p es)
 
 -- the test of an object's keys is that of its map
-known_of : (source : Data) (es : List Entry) (answer : Bool) → Some (members_view es) ≡ as_object source
-    → answer ≡ list_all (λ key. is_key (string_bytes key)) (map.keys_of es) → KnowsKeys source answer
-known_of source es answer found said = (members_view es, sym found, list_all-keys_of is_key es ∙ sym said)
-
--- what was found of an item's numbers and keys
-pub numbers_and_keys : (source : Data) (id unit : ℕ) (es : List Entry) (said answer : Bool) → Some id ≡ whole_at (codes "order") source → Some unit ≡ whole_at (codes "unit") source
-    → Some (members_view es) ≡ as_object source → said ≡ list_all (λ key. is_key (string_bytes key)) (map.keys_of es) → said ≡ answer
-    → HasNumbers source id unit × KnowsKeys source answer
-numbers_and_keys source id unit es said answer order_found unit_found found tested same =
-    (record { order_is = sym order_found; unit_is = sym unit_found }, known_of source es answer found (sym same ∙ tested))
+pub known_of : (source : Data) (es : List Entry) (said answer : Bool) → Some (members_view es) ≡ as_object source
+    → said ≡ list_all (λ key. is_key (string_bytes key)) (map.keys_of es) → said ≡ answer → KnowsKeys source answer
+known_of source es said answer found tested same = (members_view es, sym found, list_all-keys_of is_key es ∙ sym tested ∙ same)
 
 pub above_63 : (unit : ℕ) → (unit ≤ 63 → ⊥) → 63 < unit
 above_63 unit far = grind arith

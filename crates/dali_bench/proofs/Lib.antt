@@ -1,3 +1,5 @@
 pub mod StreamLemmas
+pub mod FrameLemmas
+pub mod JobLemmas
 pub mod ItemLemmas
 pub mod ReportLemmas

@@ -2,7 +2,7 @@
 use Rattle.std.specs.Prelude.{ℕ, List, ◌++◌, codes, decimal}
 use Rattle.dali_bank.specs.Faults as bank
 use Rattle.dali_bench.specs.declared.fault.Fault.{Fault}
-use Rattle.dali_bench.specs.declared.fault.Fault.TheVariants.{Json, Document, TooBig, Memory, File}
+use Rattle.dali_bench.specs.declared.fault.Fault.TheVariants.{Json, Document, TooBig, Hex, Memory, File}
 use Rattle.dali_bench.specs.declared.fault.Status.{Status}
 use Rattle.dali_bench.specs.declared.fault.Status.TheVariants.{Good, Refused, Failed, Unwritten}
 use Rattle.dali_bench.specs.declared.item.ItemFault.{ItemFault}
@@ -12,6 +12,7 @@ abbrev pub number_of : Fault → ℕ
 number_of Json = 11
 number_of Document = 12
 number_of TooBig = 13
+number_of Hex = 14
 number_of Memory = 20
 number_of File = 21
 
@@ -19,6 +20,7 @@ abbrev pub name_of : Fault → List ℕ
 name_of Json = codes "Json"
 name_of Document = codes "Document"
 name_of TooBig = codes "TooBig"
+name_of Hex = codes "Hex"
 name_of Memory = codes "Memory"
 name_of File = codes "File"
 
@@ -27,6 +29,7 @@ abbrev pub status_of : Fault → Status
 status_of Json = Refused
 status_of Document = Refused
 status_of TooBig = Refused
+status_of Hex = Refused
 status_of Memory = Failed
 status_of File = Failed
 

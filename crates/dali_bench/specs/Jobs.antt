@@ -3,14 +3,15 @@ use Rattle.std.specs.Prelude.{◌≡◌, List, Option, Some, codes, true}
 use Rattle.clap.specs.Words.{App, Row, Rule, Text, first_of, new_app, new_rule, subcommand_of, with_rule, with_subcommand}
 use Rattle.clap.specs.declared.builder.ArgAction.TheVariants.{Set}
 use Rattle.dali_bench.specs.declared.job.Job.{Job}
-use Rattle.dali_bench.specs.declared.job.Job.TheVariants.{Check}
+use Rattle.dali_bench.specs.declared.job.Job.TheVariants.{Check, Frame}
 
--- the name of a file with orders, which has to be there
-abbrev pub orders_rule : Rule
-orders_rule = record (new_rule (codes "ORDERS")) { required = true; action = Some Set }
+-- an argument that has to be there, and takes one value
+abbrev pub value_rule : Text → Rule
+value_rule id = record (new_rule id) { required = true; action = Some Set }
 
-abbrev pub check_app : App
-check_app = with_rule (new_app (codes "check")) orders_rule
+-- a command with one argument
+abbrev pub command_app : Text → Text → App
+command_app name id = with_rule (new_app name) (value_rule id)
 
 -- a program that wants a command
 abbrev pub top_app : App
@@ -18,11 +19,16 @@ top_app = let app = new_app (codes "dali_bench") in record app { top = record ap
 
 -- the program's commands and their arguments, as `clap` sees them
 abbrev pub bench_app : App
-bench_app = with_subcommand top_app check_app.top
+bench_app = with_subcommand (with_subcommand top_app (command_app (codes "check") (codes "ORDERS")).top) (command_app (codes "frame") (codes "HEX")).top
+
+-- a parse entered the command, and its argument has the value
+abbrev pub HasValue : Option (Text × List Row) → Text → Text → Text → Type 0
+HasValue entered command id value = (rows : List Row) × (entered ≡ Some (command, rows)) × (first_of id rows ≡ Some value)
 
 -- the job is the command that a parse entered, with its values
 abbrev pub IsJob : Option (Text × List Row) → Job → Type 0
-IsJob entered (Check orders) = (rows : List Row) × (entered ≡ Some (codes "check", rows)) × (first_of (codes "ORDERS") rows ≡ Some orders.now)
+IsJob entered (Check orders) = HasValue entered (codes "check") (codes "ORDERS") orders.now
+IsJob entered (Frame digits) = HasValue entered (codes "frame") (codes "HEX") digits.now
 
 -- the job that the words name
 abbrev pub IsJobOf : List Text → Job → Type 0

@@ -3,4 +3,5 @@ pub mod Faults
 pub mod Items
 pub mod Lines
 pub mod Report
+pub mod Frames
 pub mod Jobs

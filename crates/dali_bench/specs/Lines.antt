@@ -1,18 +1,14 @@
 -- The lines of items.
-use Rattle.std.specs.Prelude.{◌/◌, ◌%◌, ℕ, List, [], ◌∷◌, ◌++◌, length, Result, Ok, Err, codes, true, decimal}
+use Rattle.std.specs.Prelude.{ℕ, List, ◌++◌, length, Result, Ok, Err, codes, decimal}
 use Rattle.std.specs.List.{flat_map}
-use Rattle.std.specs.Fmt.{digit_glyph}
 use Rattle.dali_bank.specs.Order.{Contents}
+use Rattle.dali_frame.specs.Hex.{byte_digits}
 use Rattle.dali_bench.specs.declared.item.ItemFault.{ItemFault}
 use Rattle.dali_bench.specs.Faults.{item_number_of, item_name_of}
 
--- two upper-case hexadecimal digits
-abbrev pub hex_byte : ℕ → List ℕ
-hex_byte byte = digit_glyph true (byte / 16) ∷ digit_glyph true (byte % 16) ∷ []
-
 -- a location and its byte
 abbrev pub update_line : ℕ × ℕ → List ℕ
-update_line update = hex_byte update.0 ++ codes " " ++ hex_byte update.1 ++ codes "\n"
+update_line update = byte_digits update.0 ++ codes " " ++ byte_digits update.1 ++ codes "\n"
 
 abbrev pub order_line : ℕ → Contents → List ℕ
 order_line number order = codes "item " ++ decimal number ++ codes " order " ++ decimal order.id ++ codes " unit " ++ decimal order.unit

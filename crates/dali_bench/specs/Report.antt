@@ -5,7 +5,7 @@ use Rattle.serde_json.specs.Find.{as_array}
 use Rattle.dali_bank.specs.Order.{Contents}
 use Rattle.dali_bench.specs.declared.item.ItemFault.{ItemFault}
 use Rattle.dali_bench.specs.declared.fault.Fault.{Fault}
-use Rattle.dali_bench.specs.declared.fault.Fault.TheVariants.{Json, Document, TooBig, Memory, File}
+use Rattle.dali_bench.specs.declared.fault.Fault.TheVariants.{Json, Document, TooBig, Hex, Memory, File}
 use Rattle.dali_bench.specs.declared.fault.Status.{Status}
 use Rattle.dali_bench.specs.declared.fault.Status.TheVariants.{Good, Refused, Failed}
 use Rattle.dali_bench.specs.Faults.{fault_line, status_of}
@@ -56,6 +56,7 @@ IsInputFault limit input TooBig = limit < length input
 IsInputFault limit input Json = (length input ≤ limit) × IsReading input None
 IsInputFault limit input Document = (length input ≤ limit) × ((json : Data) × IsReading input (Some json) × (as_array json ≡ None))
 IsInputFault limit input Memory = ⊤
+IsInputFault limit input Hex = ⊥
 IsInputFault limit input File = ⊥
 
 -- the status and the text of an input's items

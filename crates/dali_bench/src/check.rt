@@ -10,7 +10,7 @@ ghost use Rattle.dali_bench.specs.Report.{Outcome, JudgesEach, report, report_st
 use crate::fault::{Fault, Status};
 use crate::input::read_input;
 use crate::item::order_of;
-use crate::lines::{write_fault, write_order, write_refusal, write_tally};
+use crate::lines::{write_failure, write_order, write_refusal, write_tally};
 use serde_json::Value;
 use std::alloc::Global;
 use std::io;
@@ -58,17 +58,6 @@ fn write_checked<W: Write>(alloc: Global, input: &[u8], writer: &mut W) -> io::R
         Ok(items) => write_report(writer, items.as_slice()),
         Err(fault) => write_failure(writer, fault),
     }
-}
-
-// Writes a fault, and nothing after it.
-#[tactic(auto, using(crate::proofs::StreamLemmas::appends_kept))]
-fn write_failure<W: Write>(writer: &mut W, fault: Fault) -> io::Result<Status>
-    ensures told { OnOk result (Appends (W.contents writer.old) (W.contents writer.new) (fault_line fault)) }
-    ensures status { IfOk result (λ status. status ≡ status_of fault) }
-{
-    write_fault(writer, fault)?;
-    writer.flush()?;
-    Ok(fault.status())
 }
 
 // The items of an input.

@@ -38,6 +38,8 @@ pub enum Fault {
     Document = 12,
     #[error("the input is larger than its limit")]
     TooBig = 13,
+    #[error("the text is no hexadecimal digits, or not so many")]
+    Hex = 14,
     #[error("memory ran out")]
     Memory = 20,
     #[error("the input can't be opened or read")]
@@ -60,6 +62,7 @@ impl Fault {
             Fault::Json => "Json",
             Fault::Document => "Document",
             Fault::TooBig => "TooBig",
+            Fault::Hex => "Hex",
             Fault::Memory => "Memory",
             Fault::File => "File",
         }
@@ -70,7 +73,7 @@ impl Fault {
         ensures { result ≡ status_of self.now }
     {
         match self {
-            Fault::Json | Fault::Document | Fault::TooBig => Status::Refused,
+            Fault::Json | Fault::Document | Fault::TooBig | Fault::Hex => Status::Refused,
             Fault::Memory | Fault::File => Status::Failed,
         }
     }

@@ -4,7 +4,7 @@ ghost use Rattle.std.specs.BTreeMap.{keys};
 ghost use Rattle.serde_json.specs.View.{view};
 ghost use Rattle.dali_bank.specs.Spelling.{plain};
 ghost use Rattle.dali_bank.specs.Draft.{found_of, empty_draft};
-ghost use Rattle.dali_bench.specs.Items.{whole_at as whole_number_at, is_key as is_known_key, key_of, given as given_value, text_given as given_text, IsForUnit, HasFieldsOf, IsGiven, IsRefused, IsFieldFault, IsDraftOf, IsOrderOf, IsFaultOf};
+ghost use Rattle.dali_bench.specs.Items.{whole_at as whole_number_at, is_key as is_known_key, key_of, given as given_value, text_given as given_text, HasNumbers, IsForUnit, HasFieldsOf, IsGiven, IsRefused, IsFieldFault, IsDraftOf, IsOrderOf, IsFaultOf};
 
 use dali_bank::{BankFault, Draft, Field, Order, Value};
 use serde_json::{Map, Value as Json};
@@ -82,12 +82,7 @@ fn empty_draft_of(item: &Json) -> Result<Draft, ItemFault>
         × (draft ≡ empty_draft draft.id draft.unit)) }
     ensures err { IfErr result (IsFaultOf (view item.now)) }
 {
-    let Some(id) = whole_at(item, "order") else {
-        return Err(ItemFault::Shape);
-    };
-    let Some(unit) = whole_at(item, "unit") else {
-        return Err(ItemFault::Shape);
-    };
+    let (id, unit) = numbers_of(item)?;
     let Some(members) = item.as_object() else {
         return Err(ItemFault::Shape);
     };
@@ -100,6 +95,17 @@ fn empty_draft_of(item: &Json) -> Result<Draft, ItemFault>
     match Draft::new(id, unit) {
         Ok(draft) => Ok(draft),
         Err(fault) => Err(ItemFault::Bank(fault)),
+    }
+}
+
+// The item's number, and its unit's.
+fn numbers_of(item: &Json) -> Result<(u64, u64), ItemFault>
+    ensures ok { IfOk result (λ numbers. HasNumbers (view item.now) numbers.0 numbers.1) }
+    ensures err { IfErr result (IsFaultOf (view item.now)) }
+{
+    match (whole_at(item, "order"), whole_at(item, "unit")) {
+        (Some(id), Some(unit)) => Ok((id, unit)),
+        _ => Err(ItemFault::Shape),
     }
 }
 

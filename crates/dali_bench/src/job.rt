@@ -1,10 +1,10 @@
-ghost use Rattle.std.specs.Prelude.{◌≡◌, ◌⊎◌, IfOk, IfErr, false, map};
+ghost use Rattle.std.specs.Prelude.{◌≡◌, ◌⊎◌, List, ℕ, IfOk, IfErr, IfSome, IfNone, false, map};
 ghost use Rattle.clap.specs.declared.builder.command.Command.TheViews.{out-Command as fields_of};
-ghost use Rattle.clap.specs.Words.{HasKind, app_of, fault_of};
-ghost use Rattle.dali_bench.specs.Jobs.{IsJobOf, NamesNoJob, bench_app, check_app};
+ghost use Rattle.clap.specs.Words.{HasKind, app_of, fault_of, subcommand_rows_of};
+ghost use Rattle.dali_bench.specs.Jobs.{HasValue, IsJobOf, NamesNoJob, bench_app, command_app};
 
 use clap::error::ErrorKind;
-use clap::{Arg, ArgAction, Command, Error};
+use clap::{Arg, ArgAction, ArgMatches, Command, Error};
 use std::alloc::{AllocError, Global};
 
 /// What the command line asks for.
@@ -12,6 +12,8 @@ use std::alloc::{AllocError, Global};
 pub enum Job<'a> {
     /// To check a file of orders.
     Check(&'a str),
+    /// To print what the word of a forward frame means.
+    Frame(&'a str),
 }
 
 const ABOUT: &str = "Writes luminaire data to memory bank 1 of DALI control gear";
@@ -28,6 +30,14 @@ Faults of the file: 11 Json, 12 Document (no array), 13 TooBig (over 16777216 by
 20 Memory, 21 File (can't be opened or read).
 Exit status: 0 all accepted, 1 something refused, 2 a file, the memory or the output failed.";
 
+const FRAME_ABOUT: &str = "Prints what the word of a forward frame means";
+
+const HEX_HELP: &str = "Four hexadecimal digits, as A303";
+
+const FRAME_FAULTS: &str = "\
+Fault: 14 Hex (not four hexadecimal digits).
+Exit status: 0 printed, 1 refused, 2 the output failed.";
+
 /// Reads the command line, the program's name first.
 ///
 /// The error is `clap`'s: its text for a person, which may be the help that was asked for, or want of memory.
@@ -41,36 +51,53 @@ pub fn job_of<'a>(alloc: Global, words: &'a [&'a str]) -> Result<Job<'a>, Error>
         Ok(matches) => matches,
         Err(error) => return Err(error),
     };
-    let Some(found) = matches.subcommand_matches("check") else {
-        return Err(missing(&mut command));
-    };
-    let Some(orders) = found.get_str("ORDERS") else {
-        return Err(missing(&mut command));
-    };
-    Ok(Job::Check(orders))
+    if let Some(orders) = value_of(&matches, "check", "ORDERS") {
+        return Ok(Job::Check(orders));
+    }
+    if let Some(digits) = value_of(&matches, "frame", "HEX") {
+        return Ok(Job::Frame(digits));
+    }
+    Err(missing(&mut command))
+}
+
+// The value of a command's argument, where a parse entered that command.
+fn value_of<'a>(matches: &ArgMatches<'a>, command: &str, id: &str) -> Option<&'a str>
+    ensures found { IfSome result (λ value. HasValue (subcommand_rows_of matches.now) command.now id.now value.now) }
+    ensures none { IfNone result ((value : List ℕ) → ¬ HasValue (subcommand_rows_of matches.now) command.now id.now value) }
+{
+    match matches.subcommand_matches(command) {
+        Some(found) => found.get_str(id),
+        None => None,
+    }
 }
 
 // The program's commands.
 fn bench_command<'a>(alloc: Global) -> Result<Command<'a>, AllocError>
     ensures { IfOk result (λ command. app_of command ≡ bench_app) }
 {
-    let check = check_command(alloc)?;
-    let command = Command::new(alloc, "dali_bench").subcommand_required(true);
-    Ok(command.subcommand(check)?.about(ABOUT))
+    let check = command_with(alloc, "check", "ORDERS", ORDERS_HELP)?;
+    let frame = command_with(alloc, "frame", "HEX", HEX_HELP)?;
+    let top = Command::new(alloc, "dali_bench").subcommand_required(true);
+    let checks = top.subcommand(check.about(CHECK_ABOUT).after_help(CHECK_FAULTS))?;
+    let frames = checks.subcommand(frame.about(FRAME_ABOUT).after_help(FRAME_FAULTS))?;
+    Ok(frames.about(ABOUT))
 }
 
-fn check_command<'a>(alloc: Global) -> Result<Command<'a>, AllocError>
-    ensures app { IfOk result (λ command. app_of command ≡ check_app) }
+// A command with one argument, which has to be there.
+fn command_with<'a>(
+    alloc: Global,
+    name: &'a str,
+    id: &'a str,
+    help: &'a str,
+) -> Result<Command<'a>, AllocError>
+    ensures app { IfOk result (λ command. app_of command ≡ command_app name.entry.now id.entry.now) }
     ensures local { IfOk result (λ command. (fields_of command).has_globals ≡ false) }
 {
-    let orders = Arg::new(alloc, "ORDERS")
-        .help(ORDERS_HELP)
+    let argument = Arg::new(alloc, id)
+        .help(help)
         .required(true)
         .action(ArgAction::Set);
-    Command::new(alloc, "check")
-        .about(CHECK_ABOUT)
-        .after_help(CHECK_FAULTS)
-        .arg(orders)
+    Command::new(alloc, name).arg(argument)
 }
 
 // The error of a command line that names no job.

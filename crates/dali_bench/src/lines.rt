@@ -1,10 +1,11 @@
-ghost use Rattle.std.specs.Prelude.{OnOk, Ok, Err};
+ghost use Rattle.std.specs.Prelude.{◌≡◌, OnOk, IfOk, Ok, Err};
 ghost use Rattle.std.specs.Io.KnownBytes.{Appends};
-ghost use Rattle.dali_bench.specs.Faults.{fault_line};
+ghost use Rattle.dali_bench.specs.Faults.{fault_line, status_of};
 ghost use Rattle.dali_bench.specs.Lines.{update_line, order_line, item_lines, refusal_line};
 ghost use Rattle.dali_bench.specs.Report.{tally_line};
 
-use crate::fault::Fault;
+use crate::digits::ByteDigits;
+use crate::fault::{Fault, Status};
 use crate::item::ItemFault;
 use dali_bank::Order;
 use std::io;
@@ -17,6 +18,17 @@ pub fn write_fault<W: Write>(writer: &mut W, fault: Fault) -> io::Result<()>
     let number = fault.number();
     let name = fault.name();
     writeln!(writer, "fault {number} {name}")
+}
+
+/// Writes the fault of a whole input, and nothing after it.
+#[tactic(auto, using(crate::proofs::StreamLemmas::appends_kept))]
+pub fn write_failure<W: Write>(writer: &mut W, fault: Fault) -> io::Result<Status>
+    ensures told { OnOk result (Appends (W.contents writer.old) (W.contents writer.new) (fault_line fault)) }
+    ensures status { IfOk result (λ status. status ≡ status_of fault) }
+{
+    write_fault(writer, fault)?;
+    writer.flush()?;
+    Ok(fault.status())
 }
 
 /// Writes a refused item.
@@ -51,11 +63,11 @@ fn write_heading<W: Write>(writer: &mut W, number: u64, order: &Order) -> io::Re
 }
 
 // Writes a location and its byte.
-#[tactic(auto, using(std::proofs::lemmas::Fmt::hex_byte))]
 fn write_update<W: Write>(writer: &mut W, location: u8, byte: u8) -> io::Result<()>
     ensures { OnOk result (Appends (W.contents writer.old) (W.contents writer.new) (update_line (location, byte))) }
 {
-    writeln!(writer, "{location:02X} {byte:02X}")
+    let (location, byte) = (ByteDigits(location), ByteDigits(byte));
+    writeln!(writer, "{location} {byte}")
 }
 
 /// Writes how many items were accepted and refused.

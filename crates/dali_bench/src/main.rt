@@ -2,7 +2,9 @@
 #![tactic(auto)]
 
 mod check;
+mod digits;
 mod fault;
+mod frame;
 mod input;
 mod item;
 mod job;
@@ -12,6 +14,7 @@ mod tests;
 
 use crate::check::check;
 use crate::fault::{Fault, Status};
+use crate::frame::frame;
 use crate::job::{Job, job_of};
 use crate::lines::write_fault;
 use clap::error::ErrorKind;
@@ -45,6 +48,7 @@ fn run(rt: &HostRuntime, words: &Vec<String>) -> Status {
     };
     match job_of(rt.alloc(), words.as_slice()) {
         Ok(Job::Check(orders)) => check_file(rt, orders),
+        Ok(Job::Frame(digits)) => frame(digits, &mut io::writer(rt)),
         Err(error) if error.kind() == ErrorKind::OutOfMemory => failed(rt, Fault::Memory),
         Err(error) => match error.print(rt) {
             Ok(()) if error.exit_code() == 0 => Status::Good,

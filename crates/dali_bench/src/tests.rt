@@ -1,3 +1,4 @@
 mod check;
+mod frame;
 mod job;
 mod streams;

@@ -4,11 +4,21 @@ use std::test::Fail;
 
 #[test]
 fn command_lines(rt: HostRuntime) -> Result<(), Fail> {
-    let words = ["dali_bench", "check", "orders.json"];
-    assert_eq!(rt;
-        job_of(rt.alloc(), words.as_slice()).ok(),
-        Some(Job::Check("orders.json"))
-    );
+    let accepted = [
+        (
+            ["dali_bench", "check", "orders.json"],
+            Job::Check("orders.json"),
+        ),
+        (["dali_bench", "frame", "A303"], Job::Frame("A303")),
+        (["dali_bench", "frame", ""], Job::Frame("")),
+    ];
+    for (words, job) in &accepted {
+        assert_eq!(rt;
+            job_of(rt.alloc(), words.as_slice()).ok(),
+            Some(*job),
+            "{words:?}"
+        );
+    }
     let refused = [
         (["dali_bench"].as_slice(), ErrorKind::MissingSubcommand),
         (

@@ -1,15 +1,27 @@
-use Rattle.std.proofs.Common.{◌≡◌, ◌∙◌, ap, true}
+use Rattle.std.proofs.Common.{◌≡◌, ◌∙◌, ap, codes, true}
 use Rattle.clap.specs.Words.{App, app_of, shape_of, with_subcommand}
-use Rattle.clap.specs.Simple.{app_of_fields}
-use Rattle.dali_bench.specs.Jobs.{check_app, top_app}
+use Rattle.clap.specs.Simple.{app_of_fields, shape_of_fields}
+use Rattle.clap.specs.declared.builder.command.Command.{Command}
+use Rattle.clap.specs.declared.builder.command.Command.TheOpen.{Command-F}
+use Rattle.dali_bench.specs.Jobs.{top_app, command_app}
 use Rattle.dali_bench.proofs.job.bench_command.Goals as goal
+
+abbrev Fields : Type 0
+Fields = Command-F Command
 
 pub returns : goal.returns
 returns c =
-    let top : app_of c.subcommand_required-command.result ≡ top_app =
-    ap app_of_fields c.subcommand_required-command.ensures ∙ ap (λ (app : App). record app { top = record app.top { subcommand_required = true } }) c.new.ensures.app in
-    let check : shape_of c.in_ok-check.check ≡ check_app.top = ap (λ (app : App). app.top) c.in_ok-check.ensures.app in
-    let added : app_of c.in_ok-subcommand.field-0 ≡ with_subcommand (app_of c.subcommand_required-command.result) (shape_of c.in_ok-check.check) =
-    c.in_ok-subcommand.ensures.shape c.in_ok-check.ensures.local in
-    let about : app_of c.about.result ≡ app_of c.in_ok-subcommand.field-0 = ap app_of_fields c.about.ensures in
-    about ∙ added ∙ ap (λ (app : App). with_subcommand app (shape_of c.in_ok-check.check)) top ∙ ap (with_subcommand top_app) check
+    let check_app = command_app (codes "check") (codes "ORDERS") in
+    let frame_app = command_app (codes "frame") (codes "HEX") in
+    let top : app_of c.subcommand_required-top.result ≡ top_app =
+    ap app_of_fields c.subcommand_required-top.ensures ∙ ap (λ (app : App). record app { top = record app.top { subcommand_required = true } }) c.new.ensures.app in
+    let check : shape_of c.after_help.result ≡ check_app.top =
+    ap shape_of_fields c.after_help.ensures ∙ ap shape_of_fields c.about.ensures ∙ ap (λ (app : App). app.top) c.in_ok-check.ensures.app in
+    let frame : shape_of c.after_help-2.result ≡ frame_app.top =
+    ap shape_of_fields c.after_help-2.ensures ∙ ap shape_of_fields c.about-2.ensures ∙ ap (λ (app : App). app.top) c.in_ok-frame.ensures.app in
+    let checks : app_of c.in_ok-checks.checks ≡ with_subcommand (app_of c.subcommand_required-top.result) (shape_of c.after_help.result) =
+    c.in_ok-checks.ensures.shape (ap (λ (f : Fields). f.has_globals) c.after_help.ensures ∙ ap (λ (f : Fields). f.has_globals) c.about.ensures ∙ c.in_ok-check.ensures.local) in
+    let frames : app_of c.in_ok-frames.frames ≡ with_subcommand (app_of c.in_ok-checks.checks) (shape_of c.after_help-2.result) =
+    c.in_ok-frames.ensures.shape (ap (λ (f : Fields). f.has_globals) c.after_help-2.ensures ∙ ap (λ (f : Fields). f.has_globals) c.about-2.ensures ∙ c.in_ok-frame.ensures.local) in
+    ap app_of_fields c.about-3.ensures ∙ frames ∙ ap (λ (app : App). with_subcommand app (shape_of c.after_help-2.result)) (checks ∙ ap (λ (app : App). with_subcommand app (shape_of c.after_help.result)) top ∙ ap (with_subcommand top_app) check)
+    ∙ ap (with_subcommand (with_subcommand top_app check_app.top)) frame

@@ -1,0 +1,4 @@
+pub mod Frame
+pub mod Hex
+pub mod Line
+pub mod LineFault

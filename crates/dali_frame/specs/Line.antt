@@ -1,0 +1,12 @@
+-- The text lines of frames and answers.
+use Rattle.std.specs.Prelude.{◌≡◌, ℕ, List, length, ◌++◌, Option, Some, None, codes}
+use Rattle.dali_frame.specs.Hex.{word_digits, SpellsNumber}
+
+-- the line of a word: its four upper-case hexadecimal digits and a line feed
+abbrev pub word_line : ℕ → List ℕ
+word_line word = word_digits word ++ codes "\n"
+
+-- the line spells the answer: `--` is no answer, and two hexadecimal digits are their byte
+abbrev pub SpellsAnswer : List ℕ → Option ℕ → Type 0
+SpellsAnswer line None = line ≡ codes "--"
+SpellsAnswer line (Some byte) = (length line ≡ 2) × SpellsNumber line byte

@@ -1,0 +1,67 @@
+ghost use Rattle.std.specs.Prelude.{◌≡◌, ◌≢◌, ℕ, ◌<◌, ◌≤◌, ◌↔◌, codes, length, take, true, Option, IfOk, MatchResult};
+ghost use Rattle.std.specs.Char.{digit_value};
+ghost use Rattle.std.specs.Fmt.{digit_glyph};
+ghost use Rattle.std.specs.Str.Parse.{AllDigits};
+ghost use Rattle.dali_frame.specs.Frame.{spelling, IsProper};
+ghost use Rattle.dali_frame.specs.Hex.{SpellsNumber};
+ghost use Rattle.dali_frame.specs.Line.{word_line, SpellsAnswer};
+
+use crate::{Frame, LineFault, word_of};
+
+/// The line of a proper frame: the four upper-case hexadecimal digits of its word, and a line feed
+/// (profile).
+pub fn line_of(frame: &Frame) -> [u8; 5]
+    requires { IsProper frame.now }
+    ensures line { result ≡ word_line (spelling frame.now) }
+    ensures spells { SpellsNumber (take 4 result) (spelling frame.now) }
+{
+    let [first, second] = word_of(frame).to_be_bytes();
+    [
+        hex_digit(first / 16),
+        hex_digit(first % 16),
+        hex_digit(second / 16),
+        hex_digit(second % 16),
+        b'\n',
+    ]
+}
+
+/// The answer that a line without its line feed spells (profile): `--` is `None`, no answer, and
+/// two hexadecimal digits in either case are the byte of a backward frame.
+///
+/// `Length` (1) where the line hasn't two bytes, and `Digit` (2) where its two bytes are neither.
+pub fn answer_of(line: &[u8]) -> Result<Option<u8>, LineFault>
+    ensures ok { IfOk result (λ answer. SpellsAnswer line.now answer) }
+    ensures only { (answer : Option ℕ) → SpellsAnswer line.now answer → result ≡ Ok answer }
+    ensures length { (result ≡ Err LineFault.Length) ↔ (length line.now ≢ 2) }
+    ensures digit { (result ≡ Err LineFault.Digit)
+        ↔ ((length line.now ≡ 2) × (line.now ≢ codes "--") × ¬ (AllDigits 16 line.now)) }
+{
+    match *line {
+        [b'-', b'-'] => Ok(None),
+        [high, low] => Ok(Some(16 * hex_value(high)? + hex_value(low)?)),
+        _ => Err(LineFault::Length),
+    }
+}
+
+/// The upper-case hexadecimal digit of a number below 16.
+fn hex_digit(value: u8) -> u8
+    requires { value < 16 }
+    ensures { result ≡ digit_glyph true value }
+{
+    if value < 10 {
+        b'0' + value
+    } else {
+        b'A' + (value - 10)
+    }
+}
+
+/// The value of a hexadecimal digit in either case, or `Digit`.
+fn hex_value(digit: u8) -> Result<u8, LineFault>
+    ensures { MatchResult result (λ value. (value ≡ digit_value digit) × (value < 16))
+        (λ fault. (fault ≡ LineFault.Digit) × (16 ≤ digit_value digit)) }
+{
+    match char::from(digit).to_digit(16) {
+        Some(value) => Ok(value as u8),
+        None => Err(LineFault::Digit),
+    }
+}

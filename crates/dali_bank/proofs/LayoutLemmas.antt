@@ -1,14 +1,17 @@
 -- Lemmas on the updates of fields that lie one behind the other.
-use Rattle.std.proofs.Common.{◌≡◌, ℕ, suc, ◌+◌, ◌<◌, ◌≤◌, ◌⊎◌, inl, inr, lit≤, List, [], ◌∷◌, ◌++◌, Option, Some, None, IfSome, unwrap_or, take, length, get_or, refl, ap, sym, ◌∙◌, arith, add-zero}
+use Rattle.std.proofs.Common.{◌≡◌, ℕ, zero, suc, ◌+◌, ◌<◌, ◌≤◌, ◌≢◌, ◌⊎◌, inl, inr, lit≤, List, [], ◌∷◌, ◌++◌, Option, Some, None, IfSome, IsSomeAnd, unwrap_or, map, replicate, take, length, get_or, set, refl, ap, sym, subst, ◌∙◌, arith, lit<, add-zero, length-set, false, is_some, get_or-set_same, get_or-set_other}
+use Rattle.std.proofs.lemmas.Bool.{cases_eq, cases_lt}
 use Rattle.std.specs.Bool.{⊤}
 use Rattle.std.specs.List.{AllByRecursion, flat_map}
-use Rattle.std.proofs.lemmas.List.{take_more, flat_map_more}
+use Rattle.std.specs.Option.{option_map}
+use Rattle.std.proofs.lemmas.List.{take_more, flat_map_more, get_or_past}
 use Rattle.std.proofs.lemmas.List.Concat.{length-flat_map}
 use Rattle.std.proofs.lemmas.List.Sums.{sum_by-le-sum_by}
 use Rattle.dali_bank.specs.declared.field.Field.{Field}
-use Rattle.dali_bank.specs.declared.field.Field.TheVariants.{Gtin}
-use Rattle.dali_bank.specs.Draft.{Drafted, AreFound, found_of, bytes_of, placed_at, updates_of}
-use Rattle.dali_bank.specs.Layout.{fields, first_of, length_of}
+use Rattle.dali_bank.specs.declared.field.Field.TheVariants.{Gtin, Identification, Year, Week, InputPower, MinDimPower, MinVoltage, MaxVoltage, LightOutput, Cri, Cct, Distribution, Colour, Luminaire}
+use Rattle.dali_bank.specs.Draft.{Drafted, AreFound, found_of, bytes_of, placed_at, updates_of, GivesNumber}
+use Rattle.dali_bank.specs.Layout.{fields, rank_of, row_of, first_of, length_of, HasRoom}
+use Rattle.dali_bank.specs.Numbers.{big_endian}
 use Rattle.dali_bank.specs.Order.{IsWritable, RisesAbove, AreUpdates}
 
 -- ---- bytes at their places
@@ -51,9 +54,99 @@ placed_at-writable first size bytes (inr high) few = placed_high first bytes hig
 
 field_places : (field : Field) → ArePlaces (first_of field) (length_of field)
 field_places Gtin = inl (lit≤ tt, lit≤ tt)
+field_places Identification = inl (lit≤ tt, lit≤ tt)
+field_places Year = inr (lit≤ tt, lit≤ tt)
+field_places Week = inr (lit≤ tt, lit≤ tt)
+field_places InputPower = inr (lit≤ tt, lit≤ tt)
+field_places MinDimPower = inr (lit≤ tt, lit≤ tt)
+field_places MinVoltage = inr (lit≤ tt, lit≤ tt)
+field_places MaxVoltage = inr (lit≤ tt, lit≤ tt)
+field_places LightOutput = inr (lit≤ tt, lit≤ tt)
+field_places Cri = inr (lit≤ tt, lit≤ tt)
+field_places Cct = inr (lit≤ tt, lit≤ tt)
+field_places Distribution = inr (lit≤ tt, lit≤ tt)
+field_places Colour = inr (lit≤ tt, lit≤ tt)
+field_places Luminaire = inr (lit≤ tt, lit≤ tt)
+
+pub rank_within : (field : Field) → rank_of field < 14
+rank_within Gtin = lit< tt
+rank_within Identification = lit< tt
+rank_within Year = lit< tt
+rank_within Week = lit< tt
+rank_within InputPower = lit< tt
+rank_within MinDimPower = lit< tt
+rank_within MinVoltage = lit< tt
+rank_within MaxVoltage = lit< tt
+rank_within LightOutput = lit< tt
+rank_within Cri = lit< tt
+rank_within Cct = lit< tt
+rank_within Distribution = lit< tt
+rank_within Colour = lit< tt
+rank_within Luminaire = lit< tt
+
+rank_place : (field : Field) → get_or fields (rank_of field) Gtin ≡ field
+rank_place Gtin = refl
+rank_place Identification = refl
+rank_place Year = refl
+rank_place Week = refl
+rank_place InputPower = refl
+rank_place MinDimPower = refl
+rank_place MinVoltage = refl
+rank_place MaxVoltage = refl
+rank_place LightOutput = refl
+rank_place Cri = refl
+rank_place Cct = refl
+rank_place Distribution = refl
+rank_place Colour = refl
+rank_place Luminaire = refl
+
+pub field_room : (field : Field) → HasRoom (row_of field).form (row_of field).length
+field_room Gtin = refl
+field_room Identification = refl
+field_room Year = (lit≤ tt, lit< tt)
+field_room Week = (lit≤ tt, lit< tt)
+field_room InputPower = (lit≤ tt, lit< tt)
+field_room MinDimPower = (lit≤ tt, lit< tt)
+field_room MinVoltage = (lit≤ tt, lit< tt)
+field_room MaxVoltage = (lit≤ tt, lit< tt)
+field_room LightOutput = (lit≤ tt, lit< tt)
+field_room Cri = (lit≤ tt, lit< tt)
+field_room Cct = (lit≤ tt, lit< tt)
+field_room Distribution = (lit≤ tt, lit< tt)
+field_room Colour = (lit≤ tt, lit≤ tt)
+field_room Luminaire = (lit≤ tt, lit≤ tt)
+
+pub same_rank : (one other : Field) → rank_of one ≡ rank_of other → one ≡ other
+same_rank one other same = sym (rank_place one) ∙ ap (λ k. get_or fields k Gtin) same ∙ rank_place other
+
+all_at : (P : Field → Type 0) (fs : List Field) (k : ℕ) → AllByRecursion P fs → k < length fs → P (get_or fs k Gtin)
+all_at P [] k all within = absurd (omega arith)
+all_at P (field ∷ fs) zero all within = all.0
+all_at P (field ∷ fs) (suc k) all within = all_at P fs k all.1 (omega arith)
 
 at_each : (P : Field → Type 0) → AllByRecursion P fields → (field : Field) → P field
-at_each P all Gtin = all.0
+at_each P all field = subst P (rank_place field) (all_at P fields (rank_of field) all (rank_within field))
+
+pub all_of : (P : Field → Type 0) (fs : List Field) → ((field : Field) → P field) → AllByRecursion P fs
+all_of P [] each = tt
+all_of P (field ∷ fs) each = (each field, all_of P fs each)
+
+-- a field that is set to bytes of its length
+pub found_with : (found : List (Option (List ℕ))) (field : Field) (bytes : List ℕ) → length bytes ≡ length_of field
+    → AreFound found → AreFound (set found (rank_of field) (Some bytes))
+found_with found field bytes sized each =
+    let Fits : Option (List ℕ) → Field → Type 0 = λ b f. IfSome b (λ bs. length bs ≡ length_of f) in
+    all_of (λ f. Fits (get_or (set found (rank_of field) (Some bytes)) (rank_of f) None) f) fields (λ f. elim (cases_eq (rank_of f) (rank_of field)) [
+      | inl same ↦
+          let one : f ≡ field = same_rank f field same in
+          rw one (elim (cases_lt (rank_of field) (length found)) [
+            | inl within ↦ rw get_or-set_same sized
+            | inr past ↦
+                let beyond : length (set found (rank_of field) (Some bytes)) ≤ rank_of field = simp length-set past in
+                rw (get_or_past (set found (rank_of field) (Some bytes)) (rank_of field) None beyond) tt
+          ])
+      | inr other ↦ rw get_or-set_other (at_each (λ g. Fits (get_or found (rank_of g) None) g) each f)
+    ])
 
 -- each field begins behind the one before it
 abbrev FollowFrom : ℕ → List Field → Type 0
@@ -61,7 +154,7 @@ FollowFrom from [] = ⊤
 FollowFrom from (field ∷ others) = (from ≤ first_of field) × FollowFrom (first_of field + length_of field) others
 
 fields_follow : FollowFrom 0x03 fields
-fields_follow = (lit≤ tt, tt)
+fields_follow = (lit≤ tt, (lit≤ tt, (lit≤ tt, (lit≤ tt, (lit≤ tt, (lit≤ tt, (lit≤ tt, (lit≤ tt, (lit≤ tt, (lit≤ tt, (lit≤ tt, (lit≤ tt, (lit≤ tt, (lit≤ tt, tt))))))))))))))
 
 -- ---- the updates of a draft
 
@@ -113,3 +206,37 @@ updates_valid draft found some =
       rising = fields_rise draft fits 0x03 fields fields_follow 0 (lit≤ tt);
       writable = fields_writable draft fits fields;
     }
+
+-- a list of nothing but none
+pub map-none : {A B : Type 0} (f : A → B) (xs : List (Option A)) (n : ℕ) → length xs ≡ n → ((i : ℕ) → i < n → get_or xs i None ≡ None)
+    → map (option_map f) xs ≡ replicate n None
+map-none f [] zero sized each = refl
+map-none f [] (suc n) sized each = absurd (omega arith)
+map-none f (x ∷ xs) zero sized each = absurd (omega arith)
+map-none f (x ∷ xs) (suc n) sized each =
+    let first : x ≡ None = each 0 (omega arith) in
+    rw first (ap (λ others. None ∷ others) (map-none f xs n (omega arith) (λ i within. each (suc i) (omega (arith, within)))))
+
+-- a place that reads as none is none
+pub unset : {A B : Type 0} (f : A → B) (xs : List (Option A)) (i : ℕ) (d : Option A) → false ≡ is_some (get_or xs i d) → get_or (map (option_map f) xs) i None ≡ None
+unset f [] i d none = refl
+unset f (None ∷ xs) zero d none = refl
+unset f (Some x ∷ xs) zero d none = cc none
+unset f (x ∷ xs) (suc i) d none = unset f xs i d none
+
+-- ---- numbers of a draft
+
+no_number_found : (found : Option (List ℕ)) (size : ℕ) → IfSome found (λ bytes. length bytes ≡ size)
+    → unwrap_or found [] ≡ replicate (length (unwrap_or found [])) 0xFF → (n : ℕ)
+    → ¬ IsSomeAnd found (λ bytes. (bytes ≢ replicate size 0xFF) × (big_endian bytes ≡ n))
+no_number_found None size sized same n given = given
+no_number_found (Some bytes) size sized same n given = given.0 (same ∙ ap (λ k. replicate k 0xFF) sized)
+
+-- a field that isn't set, or set to FFh in every byte, gives no number
+pub no_number : (draft : Drafted) (field : Field) → IfSome (found_of field draft) (λ bytes. length bytes ≡ length_of field)
+    → bytes_of field draft ≡ replicate (length (bytes_of field draft)) 0xFF → (n : ℕ) → ¬ GivesNumber field draft n
+no_number draft field sized same = no_number_found (found_of field draft) (length_of field) sized same
+
+-- a field that is set has as many bytes as the layout says
+pub found_sized : (draft : Drafted) (field : Field) → AreFound draft.found → IfSome (found_of field draft) (λ bytes. length bytes ≡ length_of field)
+found_sized draft field found = at_each (λ f. IfSome (found_of f draft) (λ bytes. length bytes ≡ length_of f)) found field

@@ -1,3 +1,6 @@
 pub mod GtinLemmas
 pub mod NumberLemmas
+pub mod TextLemmas
+pub mod SpellingLemmas
 pub mod LayoutLemmas
+pub mod LawLemmas

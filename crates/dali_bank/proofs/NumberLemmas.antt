@@ -1,8 +1,9 @@
 -- Lemmas on numbers that are spelled by bytes.
-use Rattle.std.proofs.Common.{◌≡◌, ℕ, suc, zero, ◌+◌, ◌-◌, ◌*◌, ◌^◌, ◌<◌, ◌≤◌, List, [], ◌∷◌, length, drop, refl, sym, ◌∙◌, arith, lit<, length-drop}
+use Rattle.std.proofs.Common.{◌≡◌, ℕ, suc, zero, ◌+◌, ◌-◌, ◌*◌, ◌^◌, ◌<◌, ◌≤◌, List, [], ◌∷◌, length, drop, ◌++◌, ◌≢◌, replicate, ap, refl, sym, ◌∙◌, arith, lit<, add-one, length-drop, length-append}
 use Rattle.std.specs.Int.{w64, to_be_bytes, from_be_bytes}
 use Rattle.std.specs.List.{AllByRecursion}
-use Rattle.std.proofs.Math.Nat.{pow-le-pow_right}
+use Rattle.std.proofs.Math.Nat.{pow-le-pow_right, pow-suc}
+use Rattle.std.proofs.lemmas.List.{length-replicate}
 use Rattle.std.proofs.lemmas.Nat.{from_be_bytes-to_be_bytes_8}
 use Rattle.dali_bank.specs.Numbers.{big_endian, SpellsNumber}
 
@@ -49,3 +50,30 @@ last_bytes size number few small fits =
       in_range = in_range-drop (8 - size) (to_be_bytes w64 number) eight_in_range;
       adds_up = big_endian-drop (8 - size) (to_be_bytes w64 number) few_enough (rw (whole, left) small) ∙ whole;
     }
+
+-- one byte more
+pub big_endian-push : (bytes : List ℕ) (byte : ℕ) → big_endian (bytes ++ byte ∷ []) ≡ big_endian bytes * 256 + byte
+big_endian-push [] byte = omega arith
+big_endian-push (b ∷ bytes) byte =
+    let more : length (bytes ++ byte ∷ []) ≡ suc (length bytes) = simp length-append (omega arith) in
+    let power : 256 ^ suc (length bytes) ≡ 256 ^ length bytes * 256 = pow-suc 256 (length bytes) in
+    rw (more, power, big_endian-push bytes byte) (omega arith)
+
+pub number_small : (number byte count : ℕ) → number < 256 ^ count → byte < 256 → number * 256 + byte < 256 ^ (count + 1)
+number_small number byte count small fits =
+    let power : 256 ^ suc count ≡ 256 ^ count * 256 = pow-suc 256 count in
+    rw (add-one, power) (omega (arith, small, fits))
+
+-- FFh in every byte is the greatest number
+pub big_endian-unknown : (size : ℕ) → big_endian (replicate size 0xFF) + 1 ≡ 256 ^ size
+big_endian-unknown zero = refl
+big_endian-unknown (suc size) =
+    let power : 256 ^ suc size ≡ 256 ^ size * 256 = pow-suc 256 size in
+    let others = big_endian-unknown size in
+    rw (power, length-replicate {A = ℕ} size 0xFF) (omega (arith, others))
+
+-- bytes of a lesser number aren't all FFh
+pub not_unknown : (size number : ℕ) (bytes : List ℕ) → number + 1 < 256 ^ size → SpellsNumber size number bytes → bytes ≢ replicate size 0xFF
+not_unknown size number bytes small spelled same =
+    let greatest : big_endian bytes ≡ big_endian (replicate size 0xFF) = ap big_endian same in
+    absurd (omega (arith, small, spelled.adds_up, greatest, big_endian-unknown size))

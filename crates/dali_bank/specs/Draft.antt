@@ -1,8 +1,10 @@
 -- What a draft holds, and the order that it makes.
-use Rattle.std.specs.Prelude.{◌≡◌, ℕ, ◌+◌, Option, Some, None, IfSome, List, [], ◌∷◌, length, replicate, slice_index_or, slice_set, unwrap_or}
+use Rattle.std.specs.Prelude.{◌≡◌, ℕ, ◌≢◌, ◌+◌, ◌<◌, Option, Some, None, IfSome, IsSomeAnd, List, [], ◌∷◌, length, replicate, slice_index_or, slice_set, unwrap_or}
 use Rattle.std.specs.List.{AllByRecursion, flat_map}
 use Rattle.dali_bank.specs.declared.field.Field.{Field}
 use Rattle.dali_bank.specs.Layout.{fields, rank_of, first_of, length_of}
+use Rattle.dali_bank.specs.declared.field.Field.TheVariants.{MinVoltage, MaxVoltage}
+use Rattle.dali_bank.specs.Numbers.{big_endian}
 use Rattle.dali_bank.specs.Order.{Contents}
 
 -- a draft's number, the short address of its unit, and for each field its bytes, where it is set
@@ -31,6 +33,14 @@ placed_at first (byte ∷ bytes) = (first, byte) ∷ placed_at (first + 1) bytes
 -- the bytes of a field, none where it isn't set
 abbrev pub bytes_of : Field → Drafted → List ℕ
 bytes_of field draft = unwrap_or (found_of field draft) []
+
+-- the field is set to a number: to bytes that aren't all FFh, and that add up to it
+abbrev pub GivesNumber : Field → Drafted → ℕ → Type 0
+GivesNumber field draft n = IsSomeAnd (found_of field draft) (λ bytes. (bytes ≢ replicate (length_of field) 0xFF) × (big_endian bytes ≡ n))
+
+-- both voltages are set to numbers, and the minimum is over the maximum
+abbrev pub VoltagesCross : Drafted → Type 0
+VoltagesCross draft = (least : ℕ) × (most : ℕ) × GivesNumber MinVoltage draft least × GivesNumber MaxVoltage draft most × (most < least)
 
 -- the updates of all fields, by rising location: their bytes at their locations
 abbrev pub updates_of : Drafted → List (ℕ × ℕ)

@@ -1,6 +1,7 @@
 -- Global trade item numbers (profile, after GS1's rule of the check digit).
 use Rattle.std.specs.Prelude.{◌≡◌, ◌==◌, ◌⊎◌, ℕ, ◌+◌, ◌*◌, ◌%◌, List, [], ◌∷◌, length, All, if◌then◌else◌}
 use Rattle.std.specs.Char.{IsAsciiDigit, digit_value}
+use Rattle.std.specs.Str.Parse.{digits_value}
 
 -- the weight of a digit with so many digits to its right: 1 and 3 in turn, 1 for the last digit
 abbrev pub weight_of : ℕ → ℕ
@@ -19,3 +20,7 @@ pub record IsGtin (text : List ℕ) : Type 0 where
   pub sized : IsGtinLength (length text)
   pub digits : All IsAsciiDigit text
   pub checked : weighted_sum text % 10 ≡ 0
+
+-- the number's 14 decimal digits, leading zeros included, are a GTIN
+abbrev pub IsGtinNumber : ℕ → Type 0
+IsGtinNumber n = (s : List ℕ) × (length s ≡ 14) × IsGtin s × (digits_value 10 s ≡ n)

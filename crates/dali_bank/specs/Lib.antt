@@ -5,3 +5,5 @@ pub mod Spelling
 pub mod Order
 pub mod Draft
 pub mod Faults
+pub mod Shown
+pub mod Law

@@ -1,9 +1,11 @@
 -- Field bytes: which bytes a field has for a value.
-use Rattle.std.specs.Prelude.{◌≡◌, ℕ, List, replicate, ⊤}
+use Rattle.std.specs.Prelude.{◌≡◌, ℕ, ◌-◌, ◌≤◌, List, ◌++◌, length, replicate, take, Ok, ⊤}
+use Rattle.std.specs.List.{AllByRecursion}
 use Rattle.std.specs.Str.Parse.{digits_value}
+use Rattle.hex.specs.Hex.{decode_sized}
 use Rattle.dali_bank.specs.declared.field.Field.{Field}
 use Rattle.dali_bank.specs.declared.field.Form.{Form}
-use Rattle.dali_bank.specs.declared.field.Form.TheVariants.{Gtin}
+use Rattle.dali_bank.specs.declared.field.Form.TheVariants as form
 use Rattle.dali_bank.specs.declared.value.Value.{Value}
 use Rattle.dali_bank.specs.declared.value.Value.TheVariants.{Unknown, Number, Digits, Hex, Text}
 use Rattle.dali_bank.specs.Layout.{row_of, length_of}
@@ -27,19 +29,39 @@ plain (Text s) = text s.now
 
 -- a field of this form takes values of this kind
 abbrev pub FormTakes : Form → Plain → Type 0
-FormTakes form unknown = ⊤
-FormTakes Gtin (digits s) = ⊤
-FormTakes Gtin (number n) = ⊥
-FormTakes Gtin (hex s) = ⊥
-FormTakes Gtin (text s) = ⊥
+FormTakes form.Gtin (digits s) = ⊤
+FormTakes form.Identification (hex s) = ⊤
+FormTakes (form.Number least most) (number n) = ⊤
+FormTakes form.Text (text s) = ⊤
+FormTakes _ unknown = ⊤
+FormTakes _ _ = ⊥
+
+-- a character of a text, from space to tilde
+abbrev pub IsTextByte : ℕ → Type 0
+IsTextByte byte = (0x20 ≤ byte) × (byte ≤ 0x7E)
+
+-- 1 to so many characters
+pub record IsText (size : ℕ) (s : List ℕ) : Type 0 where
+  pub some : 1 ≤ length s
+  pub few : length s ≤ size
+  pub characters : AllByRecursion IsTextByte s
 
 -- so many bytes stand for the value in a field of this form
 abbrev pub AreFormBytes : Form → ℕ → Plain → List ℕ → Type 0
-AreFormBytes form size unknown bytes = bytes ≡ replicate size 0xFF
-AreFormBytes Gtin size (digits s) bytes = IsGtin s × SpellsNumber size (digits_value 10 s) bytes
-AreFormBytes Gtin size (number n) bytes = ⊥
-AreFormBytes Gtin size (hex s) bytes = ⊥
-AreFormBytes Gtin size (text s) bytes = ⊥
+AreFormBytes form.Gtin size (digits s) bytes = IsGtin s × SpellsNumber size (digits_value 10 s) bytes
+AreFormBytes form.Identification size (hex s) bytes = decode_sized s size ≡ Ok bytes
+AreFormBytes (form.Number least most) size (number n) bytes = (least ≤ n) × (n ≤ most) × SpellsNumber size n bytes
+AreFormBytes form.Text size (text s) bytes = IsText size s × (bytes ≡ s ++ replicate (size - length s) 0)
+AreFormBytes _ size unknown bytes = bytes ≡ replicate size 0xFF
+AreFormBytes _ size _ bytes = ⊥
+
+-- the first k bytes are a text, for which all bytes stand
+abbrev pub ShowsText : ℕ → List ℕ → ℕ → Type 0
+ShowsText size bytes k = (k ≤ length bytes) × AreFormBytes form.Text size (text (take k bytes)) bytes
+
+-- some bytes stand for the value in a field of this form
+abbrev pub HasFormBytes : Form → ℕ → Plain → Type 0
+HasFormBytes form size value = (bytes : List ℕ) × AreFormBytes form size value bytes
 
 -- the field takes values of this kind
 abbrev pub Takes : Field → Plain → Type 0
@@ -51,4 +73,4 @@ AreFieldBytes field value bytes = AreFormBytes (row_of field).form (length_of fi
 
 -- some bytes stand for the value
 abbrev pub HasBytes : Field → Plain → Type 0
-HasBytes field value = (bytes : List ℕ) × AreFieldBytes field value bytes
+HasBytes field value = HasFormBytes (row_of field).form (length_of field) value

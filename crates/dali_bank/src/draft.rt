@@ -1,13 +1,12 @@
-ghost use Rattle.std.specs.Prelude.{◌≡◌, ◌≢◌, ◌↔◌, ◌≤◌, ◌+◌, ℕ, List, [], ◌++◌, length, None, IsOk, IfOk, OnOk, IfErr};
+ghost use Rattle.std.specs.Prelude.{◌≡◌, ◌≢◌, ◌↔◌, ◌≤◌, ◌+◌, ℕ, List, [], ◌++◌, length, None, IsTrue, IsOk, IfOk, OnOk, IfErr, IfSome, IfNone};
 ghost use Rattle.dali_bank.specs.Draft.{placed_at};
 ghost use Rattle.dali_bank.specs.Spelling.{AreFieldBytes, HasBytes, plain};
 
 use crate::fault::BankFault;
 use crate::field::{FIELDS, Field};
 use crate::order::{Order, Updates};
-use crate::spelling::{FieldBytes, field_bytes};
+use crate::spelling::{FieldBytes, are_all, field_bytes, number_of};
 use crate::value::Value;
-use std::array;
 use std::marker::Model;
 
 /// An order in the making: its number, its unit, and the fields that are set so far.
@@ -26,14 +25,19 @@ impl Model for Draft {
 
     ghost Value = { Drafted };
 
-    ghost view = { λ d. record { id = d.id; unit = d.unit; found = map (option_map (λ b. b.items)) d.found } };
+    ghost view = { λ d. record {
+      id = d.id;
+      unit = d.unit;
+      found = map (option_map (λ b. b.items)) d.found;
+    } };
 
     ghost invariant = { λ d. (d.unit ≤ 63) × AreFound (map (option_map (λ b. b.items)) d.found) };
 }
 
 impl Draft {
     ghost use Rattle.dali_bank.specs.Draft.{empty_draft, found_of, bytes_of, with_field, order_of, updates_of};
-    ghost use Rattle.dali_bank.specs.Faults.{IsSetFault};
+    ghost use Rattle.dali_bank.specs.Draft.{GivesNumber, VoltagesCross};
+    ghost use Rattle.dali_bank.specs.Faults.{IsSetFault, IsFinishFault};
     ghost use Rattle.dali_bank.specs.Layout.{length_of};
 
     /// A draft with no field set.
@@ -50,16 +54,20 @@ impl Draft {
         Ok(Draft {
             id,
             unit,
-            found: array::from_fn(|_| None),
+            found: Default::default(),
         })
     }
 
     /// Sets a field that isn't set yet.
     ///
-    /// Fault 2 Kind where the field doesn't take a value of this kind, 4 Gtin where the digits are
-    /// no GTIN, 6 Twice where the field is set already: the first that stands. The draft is then as it was.
+    /// Fault 2 Kind where the field doesn't take a value of this kind, 3 Range where a number is
+    /// out of the field's range, 4 Gtin where the digits are no GTIN, 5 Text where a text isn't 1
+    /// to as many characters as the field has bytes, each 20h to 7Eh, or an identification number
+    /// isn't 16 hexadecimal digits, 6 Twice where the field is set already: the first that stands.
+    /// The draft is then as it was.
     pub fn set(&mut self, field: Field, value: Value<'_>) -> Result<(), BankFault>
-        ensures accepted { HasBytes field (plain value.entry) → found_of field self.old ≡ None → IsOk result }
+        ensures accepted { HasBytes field (plain value.entry) → found_of field self.old ≡ None
+            → IsOk result }
         ensures ok { OnOk result ((bytes : List ℕ) × AreFieldBytes field (plain value.entry) bytes
             × (found_of field self.old ≡ None) × (self.new ≡ with_field field bytes self.old)) }
         ensures err { IfErr result (λ fault. IsSetFault field (plain value.entry) self.old fault
@@ -75,18 +83,43 @@ impl Draft {
 
     /// The order of all fields that are set.
     ///
-    /// Fault 8 Empty where none is: the draft then comes back as it was.
+    /// Fault 7 Voltage where both voltages are numbers and the minimum is over the maximum, 8 Empty
+    /// where no field is set: the first that stands. The draft then comes back as it was.
     pub fn finish(self) -> Result<Order, (Draft, BankFault)>
-        ensures some { IsOk result ↔ (updates_of self ≢ []) }
+        ensures accepted { IsOk result ↔ ((¬ VoltagesCross self) × (updates_of self ≢ [])) }
         ensures ok { IfOk result (λ order. order ≡ order_of self) }
-        ensures err { IfErr result (λ refused. (refused.0 ≡ self) × (refused.1 ≡ BankFault.Empty)
-            × (updates_of self ≡ [])) }
+        ensures err { IfErr result (λ refused. (refused.0 ≡ self) × IsFinishFault self refused.1) }
     {
+        if self.voltages_cross() {
+            return Err((self, BankFault::Voltage));
+        }
         let updates = self.updates();
         if updates.is_empty() {
             return Err((self, BankFault::Empty));
         }
         Ok(Order::new(self.id, self.unit, updates))
+    }
+
+    // Whether both voltages are numbers, and the minimum is over the maximum.
+    fn voltages_cross(&self) -> bool
+        ensures { IsTrue result ↔ VoltagesCross self.now }
+    {
+        let least = self.number(Field::MinVoltage);
+        let most = self.number(Field::MaxVoltage);
+        matches!((least, most), (Some(least), Some(most)) if most < least)
+    }
+
+    // The number that the field is set to.
+    fn number(&self, field: Field) -> Option<u64>
+        requires { length_of field ≤ 8 }
+        ensures found { IfSome result (GivesNumber field self.now) }
+        ensures none { IfNone result ((n : ℕ) → ¬ GivesNumber field self.now n) }
+    {
+        let bytes = self.bytes(field);
+        if are_all(bytes, 0xff) {
+            return None;
+        }
+        Some(number_of(bytes))
     }
 
     // The updates of all fields that are set, by rising location.
@@ -104,6 +137,7 @@ impl Draft {
     fn bytes(&self, field: Field) -> &[u8]
         ensures value { result.now ≡ bytes_of field self.now }
         ensures few { length result.now ≤ length_of field }
+        ensures sized { IfSome (found_of field self.now) (λ bytes. length bytes ≡ length_of field) }
     {
         match &self.found[field.rank()] {
             Some(bytes) => bytes.as_slice(),

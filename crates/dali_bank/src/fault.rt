@@ -10,10 +10,16 @@ pub enum BankFault {
     Unit = 1,
     /// The field doesn't take a value of this kind.
     Kind = 2,
+    /// The number is out of the field's range.
+    Range = 3,
     /// The digits are no GTIN.
     Gtin = 4,
+    /// The text or the identification number breaks its rule.
+    Text = 5,
     /// The field is set already.
     Twice = 6,
+    /// The minimum voltage is over the maximum.
+    Voltage = 7,
     /// No field is set.
     Empty = 8,
 }
@@ -39,8 +45,11 @@ impl fmt::Display for BankFault {
         f.write_str(match self {
             BankFault::Unit => "Unit",
             BankFault::Kind => "Kind",
+            BankFault::Range => "Range",
             BankFault::Gtin => "Gtin",
+            BankFault::Text => "Text",
             BankFault::Twice => "Twice",
+            BankFault::Voltage => "Voltage",
             BankFault::Empty => "Empty",
         })
     }

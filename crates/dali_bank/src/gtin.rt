@@ -1,7 +1,7 @@
 ghost use Rattle.std.specs.Prelude.{◌≡◌, ◌≤◌, ◌<◌, ◌^◌, ◌↔◌, length, All, IsTrue, IsSome, IfSome};
 ghost use Rattle.std.specs.Char.{IsAsciiDigit};
 ghost use Rattle.std.specs.Str.Parse.{digits_value};
-ghost use Rattle.dali_bank.specs.Gtin.{IsGtin, IsGtinLength, weight_of, weighted_sum as weighted_sum_of};
+ghost use Rattle.dali_bank.specs.Gtin.{IsGtin, IsGtinLength, IsGtinNumber, weight_of, weighted_sum as weighted_sum_of};
 
 /// The number of a GTIN, where the text is one. Leading zeros don't show in it.
 pub(crate) fn gtin_number(text: &str) -> Option<u64>
@@ -14,6 +14,29 @@ pub(crate) fn gtin_number(text: &str) -> Option<u64>
     } else {
         None
     }
+}
+
+/// Whether the number's 14 decimal digits, leading zeros included, are a GTIN.
+pub(crate) fn is_gtin_number(number: u64) -> bool
+    ensures { IsTrue result ↔ IsGtinNumber number }
+{
+    number < 10u64.pow(14) && is_gtin(&digits_of(number))
+}
+
+// The number's 14 decimal digits, leading zeros included.
+fn digits_of(number: u64) -> [u8; 14]
+    requires { number < 10 ^ 14 }
+    ensures sized { length result ≡ 14 }
+    ensures digits { All IsAsciiDigit result }
+    ensures value { digits_value 10 result ≡ number }
+{
+    let mut digits = [b'0'; 14];
+    let mut rest = number;
+    for place in (0..14).rev() {
+        digits[place] = b'0' + (rest % 10) as u8;
+        rest /= 10;
+    }
+    digits
 }
 
 fn is_gtin(text: &[u8]) -> bool

@@ -1,13 +1,16 @@
-ghost use Rattle.std.specs.Prelude.{◌≡◌, ◌≤◌, ◌<◌, ◌^◌, IfOk, IfErr, replicate};
-ghost use Rattle.dali_bank.specs.Faults.{IsValueFault};
-ghost use Rattle.dali_bank.specs.Numbers.{SpellsNumber};
-ghost use Rattle.dali_bank.specs.Spelling.{AreFieldBytes, plain};
+ghost use Rattle.std.specs.Prelude.{◌≡◌, ◌≤◌, ◌<◌, ◌-◌, ◌^◌, ◌++◌, length, IsTrue, IfOk, IfErr, replicate, ◌↔◌};
+ghost use Rattle.dali_bank.specs.Faults.{IsFormFault, IsValueFault};
+ghost use Rattle.dali_bank.specs.Layout.{HasRoom};
+ghost use Rattle.dali_bank.specs.Numbers.{SpellsNumber, big_endian};
+ghost use Rattle.dali_bank.specs.Spelling.{AreFieldBytes, AreFormBytes, plain};
 
 use crate::fault::BankFault;
 use crate::field::{Field, Form, Row};
 use crate::gtin::gtin_number;
+use crate::text::is_text;
 use crate::value::Value;
 use arrayvec::ArrayVec;
+use hex::FromHex;
 
 /// The most bytes that a field has.
 pub(crate) const LONGEST: usize = 60;
@@ -21,13 +24,38 @@ pub(crate) fn field_bytes(field: Field, value: Value<'_>) -> Result<FieldBytes, 
     ensures err { IfErr result (IsValueFault field (plain value.entry)) }
 {
     let Row { length, form, .. } = field.row();
+    form_bytes(form, length, value)
+}
+
+// The bytes for a value in a field of this form and length.
+fn form_bytes(form: Form, length: u8, value: Value<'_>) -> Result<FieldBytes, BankFault>
+    requires { HasRoom form length }
+    ensures ok { IfOk result (λ bytes. AreFormBytes form length (plain value.entry) bytes.items) }
+    ensures err { IfErr result (IsFormFault form length (plain value.entry)) }
+{
     match (form, value) {
         (_, Value::Unknown) => Ok(unknown_bytes(length)),
         (Form::Gtin, Value::Digits(text)) => {
             let number = gtin_number(text).ok_or(BankFault::Gtin)?;
             Ok(number_bytes(number, length))
         }
-        (Form::Gtin, Value::Number(_) | Value::Hex(_) | Value::Text(_)) => Err(BankFault::Kind),
+        (Form::Identification, Value::Hex(text)) => {
+            let bytes = <[u8; 8]>::from_hex(text).map_err(|_| BankFault::Text)?;
+            Ok(copied(&bytes))
+        }
+        (Form::Number { least, most }, Value::Number(number)) => {
+            if number < least || number > most {
+                return Err(BankFault::Range);
+            }
+            Ok(number_bytes(number, length))
+        }
+        (Form::Text, Value::Text(text)) => {
+            if !is_text(text.as_bytes(), length) {
+                return Err(BankFault::Text);
+            }
+            Ok(text_bytes(text.as_bytes(), length))
+        }
+        _ => Err(BankFault::Kind),
     }
 }
 
@@ -46,9 +74,45 @@ fn number_bytes(number: u64, length: u8) -> FieldBytes
     requires fits { number < 256 ^ length }
     ensures { SpellsNumber length number result.items }
 {
-    let mut bytes = FieldBytes::new();
-    for &byte in &number.to_be_bytes()[8 - length as usize..] {
-        bytes.push(byte);
-    }
+    copied(&number.to_be_bytes()[8 - length as usize..])
+}
+
+// The text, filled up with zeros.
+fn text_bytes(text: &[u8], size: u8) -> FieldBytes
+    requires room { size ≤ 60 }
+    requires fits { length text.now ≤ size }
+    ensures { result.items ≡ text.now ++ replicate (size - length text.now) 0 }
+{
+    let mut filled = [0; LONGEST];
+    filled[..text.len()].copy_from_slice(text);
+    let mut bytes = FieldBytes::from(filled);
+    bytes.truncate(size as usize);
     bytes
+}
+
+// The bytes, as those of a field.
+fn copied(bytes: &[u8]) -> FieldBytes
+    requires { length bytes.now ≤ 60 }
+    ensures { result.items ≡ bytes.now }
+{
+    FieldBytes::try_from(bytes).unwrap()
+}
+
+/// The number that the bytes spell, the most significant one first.
+pub(crate) fn number_of(bytes: &[u8]) -> u64
+    requires { length bytes.now ≤ 8 }
+    ensures { result ≡ big_endian bytes.now }
+{
+    let mut number = 0;
+    for &byte in bytes {
+        number = number * 256 + u64::from(byte);
+    }
+    number
+}
+
+/// Whether the bytes are one byte again and again.
+pub(crate) fn are_all(bytes: &[u8], byte: u8) -> bool
+    ensures { IsTrue result ↔ (bytes.now ≡ replicate (length bytes.now) byte) }
+{
+    bytes.iter().all(|&other| other == byte)
 }

@@ -3,7 +3,7 @@ use Rattle.std.proofs.Common.{◌≡◌, List, ℕ, Bor, Option, Some, None, IfS
 use Rattle.clap.specs.Words.{Row, Text, first_of, is_simple, is_simple_and_free, subcommand_of}
 use Rattle.clap.proofs.OnLiterals.{clap_on_literals}
 use Rattle.dali_bench.specs.Jobs.{HasValue, NamesNoJob, bench_app}
-use Rattle.dali_bench.specs.declared.job.Job.TheVariants.{Check, Frame}
+use Rattle.dali_bench.specs.declared.job.Job.TheVariants.{Check, Frame, Show}
 
 pub bench_is_simple : is_simple bench_app ≡ true
 unfolding clap_on_literals
@@ -40,6 +40,8 @@ value_none entered command id rows (Some x) e first = tt
 
 -- where no command has its value, the words name no job
 pub names_none : (words : List Text) → ((value : Text) → ¬ HasValue (subcommand_of bench_app words) (codes "check") (codes "ORDERS") value)
-    → ((value : Text) → ¬ HasValue (subcommand_of bench_app words) (codes "frame") (codes "HEX") value) → NamesNoJob words
-names_none words no_orders no_digits (Check orders) = no_orders orders.now
-names_none words no_orders no_digits (Frame digits) = no_digits digits.now
+    → ((value : Text) → ¬ HasValue (subcommand_of bench_app words) (codes "frame") (codes "HEX") value)
+    → ((value : Text) → ¬ HasValue (subcommand_of bench_app words) (codes "show") (codes "HEXFILE") value) → NamesNoJob words
+names_none words no_orders no_digits no_dump (Check orders) = no_orders orders.now
+names_none words no_orders no_digits no_dump (Frame digits) = no_digits digits.now
+names_none words no_orders no_digits no_dump (Show dump) = no_dump dump.now

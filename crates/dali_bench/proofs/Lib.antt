@@ -1,5 +1,6 @@
 pub mod StreamLemmas
 pub mod FrameLemmas
+pub mod ShowLemmas
 pub mod JobLemmas
 pub mod ItemLemmas
 pub mod ReportLemmas

@@ -5,23 +5,20 @@ use Rattle.std.specs.Str.{bytes_eq}
 use Rattle.serde_json.specs.Data.{Data, null, number, string, Members, no_members, member}
 use Rattle.serde_json.specs.Find.{get, as_number, as_u64, as_object}
 use Rattle.dali_bank.specs.declared.field.Field.{Field}
-use Rattle.dali_bank.specs.declared.field.Field.TheVariants.{Gtin}
+use Rattle.dali_bank.specs.declared.field.Field.TheVariants.{Gtin, Identification}
 use Rattle.dali_bank.specs.declared.fault.BankFault.{BankFault}
 use Rattle.dali_bank.specs.declared.fault.BankFault.TheVariants as bank
 use Rattle.dali_bank.specs.Layout.{fields}
-use Rattle.dali_bank.specs.Spelling.{Plain, unknown, digits, AreFieldBytes, HasBytes}
+use Rattle.dali_bank.specs.Spelling.{Plain, unknown, digits, hex, text, AreFieldBytes, HasBytes}
 use Rattle.dali_bank.specs.Spelling as spelling
 use Rattle.dali_bank.specs.Faults.{IsValueFault}
 use Rattle.dali_bank.specs.Order.{Contents}
-use Rattle.dali_bank.specs.Draft.{Drafted, empty_draft, found_of, with_field, order_of, updates_of}
+use Rattle.dali_bank.specs.Draft.{Drafted, VoltagesCross, empty_draft, found_of, with_field, order_of, updates_of}
+use Rattle.dali_bench.specs.Keys.{key_of}
 use Rattle.dali_bench.specs.declared.item.ItemFault.{ItemFault}
 use Rattle.dali_bench.specs.declared.item.ItemFault.TheVariants.{Bank, Shape, Key}
 
 -- ---- keys
-
--- the key of a field
-abbrev pub key_of : Field → List ℕ
-key_of Gtin = codes "gtin"
 
 -- the key of an order's number, of its unit, or of a field
 abbrev pub is_key : List ℕ → Bool
@@ -56,13 +53,15 @@ pub record IsForUnit (source : Data) (id unit : ℕ) : Type 0 where
 
 -- what a text gives to a field
 abbrev pub text_given : Field → List ℕ → Plain
-text_given Gtin text = digits text
+text_given Gtin characters = digits characters
+text_given Identification characters = hex characters
+text_given _ characters = text characters
 
 -- what a JSON value gives to a field, where it is of a kind that orders have
 abbrev pub given : Field → Data → Option Plain
 given field null = Some unknown
 given field (number n) = option_map spelling.number (as_u64 n)
-given field (string text) = Some (text_given field text)
+given field (string characters) = Some (text_given field characters)
 given field _ = None
 
 -- the field is found as the object gives it: not at all, or with the bytes of its value
@@ -110,17 +109,17 @@ pub record IsDraftOf (source : Data) (draft : Drafted) : Type 0 where
 
 -- the order that an object spells
 abbrev pub IsOrderOf : Data → Contents → Type 0
-IsOrderOf source order = (draft : Drafted) × IsDraftOf source draft × (updates_of draft ≢ []) × (order ≡ order_of draft)
+IsOrderOf source order = (draft : Drafted) × IsDraftOf source draft × (¬ VoltagesCross draft) × (updates_of draft ≢ []) × (order ≡ order_of draft)
 
 -- why an object spells none: the first fault that stands
 abbrev pub IsFaultOf : Data → ItemFault → Type 0
 IsFaultOf source Shape = (whole_at (codes "order") source ≡ None) ⊎ (whole_at (codes "unit") source ≡ None)
 IsFaultOf source Key = (id : ℕ) × (unit : ℕ) × HasNumbers source id unit × KnowsKeys source false
 IsFaultOf source (Bank bank.Unit) = (id : ℕ) × (unit : ℕ) × HasNumbers source id unit × KnowsKeys source true × (63 < unit)
-IsFaultOf source (Bank bank.Kind) = (id : ℕ) × (unit : ℕ) × IsForUnit source id unit × IsFieldFault source bank.Kind
-IsFaultOf source (Bank bank.Gtin) = (id : ℕ) × (unit : ℕ) × IsForUnit source id unit × IsFieldFault source bank.Gtin
 IsFaultOf source (Bank bank.Twice) = ⊥
-IsFaultOf source (Bank bank.Empty) = (draft : Drafted) × IsDraftOf source draft × (updates_of draft ≡ [])
+IsFaultOf source (Bank bank.Voltage) = (draft : Drafted) × IsDraftOf source draft × VoltagesCross draft
+IsFaultOf source (Bank bank.Empty) = (draft : Drafted) × IsDraftOf source draft × (¬ VoltagesCross draft) × (updates_of draft ≡ [])
+IsFaultOf source (Bank fault) = (id : ℕ) × (unit : ℕ) × IsForUnit source id unit × IsFieldFault source fault
 
 -- what becomes of an item
 abbrev pub Judges : Data → Result Contents ItemFault → Type 0

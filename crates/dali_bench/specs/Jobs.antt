@@ -3,7 +3,7 @@ use Rattle.std.specs.Prelude.{◌≡◌, List, Option, Some, codes, true}
 use Rattle.clap.specs.Words.{App, Row, Rule, Text, first_of, new_app, new_rule, subcommand_of, with_rule, with_subcommand}
 use Rattle.clap.specs.declared.builder.ArgAction.TheVariants.{Set}
 use Rattle.dali_bench.specs.declared.job.Job.{Job}
-use Rattle.dali_bench.specs.declared.job.Job.TheVariants.{Check, Frame}
+use Rattle.dali_bench.specs.declared.job.Job.TheVariants.{Check, Frame, Show}
 
 -- an argument that has to be there, and takes one value
 abbrev pub value_rule : Text → Rule
@@ -19,7 +19,9 @@ top_app = let app = new_app (codes "dali_bench") in record app { top = record ap
 
 -- the program's commands and their arguments, as `clap` sees them
 abbrev pub bench_app : App
-bench_app = with_subcommand (with_subcommand top_app (command_app (codes "check") (codes "ORDERS")).top) (command_app (codes "frame") (codes "HEX")).top
+bench_app = let checks = with_subcommand top_app (command_app (codes "check") (codes "ORDERS")).top in
+    let frames = with_subcommand checks (command_app (codes "frame") (codes "HEX")).top in
+    with_subcommand frames (command_app (codes "show") (codes "HEXFILE")).top
 
 -- a parse entered the command, and its argument has the value
 abbrev pub HasValue : Option (Text × List Row) → Text → Text → Text → Type 0
@@ -29,6 +31,7 @@ HasValue entered command id value = (rows : List Row) × (entered ≡ Some (comm
 abbrev pub IsJob : Option (Text × List Row) → Job → Type 0
 IsJob entered (Check orders) = HasValue entered (codes "check") (codes "ORDERS") orders.now
 IsJob entered (Frame digits) = HasValue entered (codes "frame") (codes "HEX") digits.now
+IsJob entered (Show dump) = HasValue entered (codes "show") (codes "HEXFILE") dump.now
 
 -- the job that the words name
 abbrev pub IsJobOf : List Text → Job → Type 0

@@ -1,7 +1,9 @@
 pub mod Input
 pub mod Faults
+pub mod Keys
 pub mod Items
 pub mod Lines
 pub mod Report
 pub mod Frames
+pub mod Shows
 pub mod Jobs

@@ -1,11 +1,15 @@
 ghost use Rattle.std.specs.Prelude.{◌≡◌, ◌↔◌, None, IfOk, IfErr, OnOk, option_map, string_bytes};
-ghost use Rattle.std.specs.List.{list_all};
+ghost use Rattle.std.specs.List.{list_all, list_any};
+ghost use Rattle.std.specs.Str.{bytes_eq};
 ghost use Rattle.std.specs.BTreeMap.{keys};
 ghost use Rattle.serde_json.specs.View.{view};
 ghost use Rattle.dali_bank.specs.Spelling.{plain};
 ghost use Rattle.dali_bank.specs.Draft.{found_of, empty_draft};
-ghost use Rattle.dali_bench.specs.Items.{whole_at as whole_number_at, is_key as is_known_key, key_of, given as given_value, text_given as given_text, HasNumbers, IsForUnit, HasFieldsOf, IsGiven, IsRefused, IsFieldFault, IsDraftOf, IsOrderOf, IsFaultOf};
+ghost use Rattle.dali_bank.specs.Layout.{fields};
+ghost use Rattle.dali_bench.specs.Keys.{key_of};
+ghost use Rattle.dali_bench.specs.Items.{whole_at as whole_number_at, is_key as is_known_key, given as given_value, text_given as given_text, HasNumbers, IsForUnit, HasFieldsOf, IsGiven, IsRefused, IsFieldFault, IsDraftOf, IsOrderOf, IsFaultOf};
 
+use crate::key::key_text;
 use dali_bank::{BankFault, Draft, Field, Order, Value};
 use serde_json::{Map, Value as Json};
 use std::fmt;
@@ -52,7 +56,7 @@ impl fmt::Display for ItemFault {
 }
 
 /// The order that an item spells, or the first fault that stands: 9 Shape, 10 Key, 1 Unit,
-/// then 2 Kind and 4 Gtin of the fields by rising location, then 8 Empty.
+/// then 2 Kind, 3 Range, 4 Gtin and 5 Text of the fields by rising location, then 7 Voltage, 8 Empty.
 pub fn order_of(item: &Json) -> Result<Order, ItemFault>
     ensures ok { IfOk result (IsOrderOf (view item.now)) }
     ensures err { IfErr result (IsFaultOf (view item.now)) }
@@ -125,15 +129,13 @@ fn knows_keys(members: &Map<String, Json>) -> bool
 fn is_key(key: &str) -> bool
     ensures { result ≡ is_known_key key.now }
 {
-    matches!(key, "order" | "unit") || Field::ALL.iter().any(|field| key == key_text(*field))
+    matches!(key, "order" | "unit") || is_field_key(key)
 }
 
-fn key_text(field: Field) -> &'static str
-    ensures { result.now ≡ key_of field }
+fn is_field_key(key: &str) -> bool
+    ensures { result ≡ list_any (λ field. bytes_eq key.now (key_of field)) fields }
 {
-    match field {
-        Field::Gtin => "gtin",
-    }
+    Field::ALL.iter().any(|field| key == key_text(*field))
 }
 
 // Sets each field as the item gives it, by rising location.
@@ -184,5 +186,7 @@ fn text_given<'a>(field: Field, text: &'a str) -> Value<'a>
 {
     match field {
         Field::Gtin => Value::Digits(text),
+        Field::Identification => Value::Hex(text),
+        _ => Value::Text(text),
     }
 }

@@ -14,6 +14,8 @@ pub enum Job<'a> {
     Check(&'a str),
     /// To print what the word of a forward frame means.
     Frame(&'a str),
+    /// To print what the bytes of a memory bank say.
+    Show(&'a str),
 }
 
 const ABOUT: &str = "Writes luminaire data to memory bank 1 of DALI control gear";
@@ -24,8 +26,9 @@ const ORDERS_HELP: &str = "A JSON array of orders; /dev/stdin for standard input
 
 const CHECK_FAULTS: &str = "\
 Faults of an order: 1 Unit (short address over 63), 2 Kind (value of another kind),
-4 Gtin (length or check digit), 8 Empty (no field), 9 Shape (no object, or order or unit
-is missing or no whole number), 10 Key (unknown key).
+3 Range (number out of range), 4 Gtin (length or check digit), 5 Text (length or character,
+or no 16 hexadecimal digits), 7 Voltage (minimum over maximum), 8 Empty (no field),
+9 Shape (no object, or order or unit is missing or no whole number), 10 Key (unknown key).
 Faults of the file: 11 Json, 12 Document (no array), 13 TooBig (over 16777216 bytes),
 20 Memory, 21 File (can't be opened or read).
 Exit status: 0 all accepted, 1 something refused, 2 a file, the memory or the output failed.";
@@ -37,6 +40,16 @@ const HEX_HELP: &str = "Four hexadecimal digits, as A303";
 const FRAME_FAULTS: &str = "\
 Fault: 14 Hex (not four hexadecimal digits).
 Exit status: 0 printed, 1 refused, 2 the output failed.";
+
+const SHOW_ABOUT: &str = "Prints what the bytes of a memory bank say";
+
+const HEXFILE_HELP: &str =
+    "The bytes as hexadecimal digits, location 00h first; /dev/stdin for standard input";
+
+const SHOW_FAULTS: &str = "\
+Faults of the file: 13 TooBig (over 4096 bytes of text, or over 255 bytes of the bank),
+14 Hex (no hexadecimal digits, or an odd number of them), 20 Memory, 21 File (can't be opened or read).
+Exit status: 0 printed, 1 refused, 2 a file, the memory or the output failed.";
 
 /// Reads the command line, the program's name first.
 ///
@@ -56,6 +69,9 @@ pub fn job_of<'a>(alloc: Global, words: &'a [&'a str]) -> Result<Job<'a>, Error>
     }
     if let Some(digits) = value_of(&matches, "frame", "HEX") {
         return Ok(Job::Frame(digits));
+    }
+    if let Some(dump) = value_of(&matches, "show", "HEXFILE") {
+        return Ok(Job::Show(dump));
     }
     Err(missing(&mut command))
 }
@@ -77,10 +93,12 @@ fn bench_command<'a>(alloc: Global) -> Result<Command<'a>, AllocError>
 {
     let check = command_with(alloc, "check", "ORDERS", ORDERS_HELP)?;
     let frame = command_with(alloc, "frame", "HEX", HEX_HELP)?;
+    let show = command_with(alloc, "show", "HEXFILE", HEXFILE_HELP)?;
     let top = Command::new(alloc, "dali_bench").subcommand_required(true);
     let checks = top.subcommand(check.about(CHECK_ABOUT).after_help(CHECK_FAULTS))?;
     let frames = checks.subcommand(frame.about(FRAME_ABOUT).after_help(FRAME_FAULTS))?;
-    Ok(frames.about(ABOUT))
+    let shows = frames.subcommand(show.about(SHOW_ABOUT).after_help(SHOW_FAULTS))?;
+    Ok(shows.about(ABOUT))
 }
 
 // A command with one argument, which has to be there.

@@ -4,10 +4,10 @@ ghost use Rattle.dali_bench.specs.Faults.{fault_line, status_of};
 ghost use Rattle.dali_bench.specs.Lines.{update_line, order_line, item_lines, refusal_line};
 ghost use Rattle.dali_bench.specs.Report.{tally_line};
 
-use crate::digits::ByteDigits;
 use crate::fault::{Fault, Status};
 use crate::item::ItemFault;
 use dali_bank::Order;
+use dali_frame::byte_digits;
 use std::io;
 use std::io::Write;
 
@@ -66,8 +66,8 @@ fn write_heading<W: Write>(writer: &mut W, number: u64, order: &Order) -> io::Re
 fn write_update<W: Write>(writer: &mut W, location: u8, byte: u8) -> io::Result<()>
     ensures { OnOk result (Appends (W.contents writer.old) (W.contents writer.new) (update_line (location, byte))) }
 {
-    let (location, byte) = (ByteDigits(location), ByteDigits(byte));
-    writeln!(writer, "{location} {byte}")
+    let ([a, b], [c, d]) = (byte_digits(location), byte_digits(byte));
+    writer.write_all(&[a, b, b' ', c, d, b'\n'])
 }
 
 /// Writes how many items were accepted and refused.

@@ -8,7 +8,9 @@ mod frame;
 mod input;
 mod item;
 mod job;
+mod key;
 mod lines;
+mod show;
 #[cfg(test)]
 mod tests;
 
@@ -17,6 +19,7 @@ use crate::fault::{Fault, Status};
 use crate::frame::frame;
 use crate::job::{Job, job_of};
 use crate::lines::write_fault;
+use crate::show::show;
 use clap::error::ErrorKind;
 use std::alloc::{AllocError, Global};
 use std::io::BufWriter;
@@ -49,6 +52,7 @@ fn run(rt: &HostRuntime, words: &Vec<String>) -> Status {
     match job_of(rt.alloc(), words.as_slice()) {
         Ok(Job::Check(orders)) => check_file(rt, orders),
         Ok(Job::Frame(digits)) => frame(digits, &mut io::writer(rt)),
+        Ok(Job::Show(dump)) => show_file(rt, dump),
         Err(error) if error.kind() == ErrorKind::OutOfMemory => failed(rt, Fault::Memory),
         Err(error) => match error.print(rt) {
             Ok(()) if error.exit_code() == 0 => Status::Good,
@@ -77,12 +81,29 @@ fn check_file(rt: &HostRuntime, orders: &str) -> Status {
     }
     match fs::open(rt, orders) {
         Ok(mut reader) => check(rt.alloc(), &mut reader, &mut writer),
-        Err(cause) => {
-            let fault = Fault::File;
-            let _ = eprintln!(rt; "error: {fault}: {orders}: {cause}");
-            print_fault(rt, fault)
-        }
+        Err(cause) => unopened(rt, orders, cause),
     }
+}
+
+// Shows the bank of a file, with the same name for standard input.
+fn show_file(rt: &HostRuntime, dump: &str) -> Status {
+    let Ok(mut writer) = BufWriter::new(rt.alloc(), io::writer(rt)) else {
+        return failed(rt, Fault::Memory);
+    };
+    if dump == "/dev/stdin" {
+        return show(rt.alloc(), &mut rt.reader(), &mut writer);
+    }
+    match fs::open(rt, dump) {
+        Ok(mut reader) => show(rt.alloc(), &mut reader, &mut writer),
+        Err(cause) => unopened(rt, dump, cause),
+    }
+}
+
+// Prints that a file can't be opened, and why.
+fn unopened(rt: &HostRuntime, name: &str, cause: io::Error) -> Status {
+    let fault = Fault::File;
+    let _ = eprintln!(rt; "error: {fault}: {name}: {cause}");
+    print_fault(rt, fault)
 }
 
 // Prints a fault that comes before any command runs, and what it means.

@@ -1,4 +1,5 @@
 mod check;
 mod frame;
 mod job;
+mod show;
 mod streams;

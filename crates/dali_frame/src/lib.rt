@@ -7,7 +7,7 @@
 
 pub use fault::LineFault;
 pub use forward::{Frame, frame_of, word_of};
-pub use line::{answer_of, line_of};
+pub use line::{answer_of, byte_digits, line_of};
 
 mod fault;
 mod forward;

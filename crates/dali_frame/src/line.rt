@@ -3,7 +3,7 @@ ghost use Rattle.std.specs.Char.{digit_value};
 ghost use Rattle.std.specs.Fmt.{digit_glyph};
 ghost use Rattle.std.specs.Str.Parse.{AllDigits};
 ghost use Rattle.dali_frame.specs.Frame.{spelling, IsProper};
-ghost use Rattle.dali_frame.specs.Hex.{SpellsNumber};
+ghost use Rattle.dali_frame.specs.Hex.{SpellsNumber, byte_digits as digits_of};
 ghost use Rattle.dali_frame.specs.Line.{word_line, SpellsAnswer};
 
 use crate::{Frame, LineFault, word_of};
@@ -16,13 +16,15 @@ pub fn line_of(frame: &Frame) -> [u8; 5]
     ensures spells { SpellsNumber (take 4 result) (spelling frame.now) }
 {
     let [first, second] = word_of(frame).to_be_bytes();
-    [
-        hex_digit(first / 16),
-        hex_digit(first % 16),
-        hex_digit(second / 16),
-        hex_digit(second % 16),
-        b'\n',
-    ]
+    let ([a, b], [c, d]) = (byte_digits(first), byte_digits(second));
+    [a, b, c, d, b'\n']
+}
+
+/// The two upper-case hexadecimal digits of a byte (profile).
+pub fn byte_digits(byte: u8) -> [u8; 2]
+    ensures { result ≡ digits_of byte }
+{
+    [hex_digit(byte / 16), hex_digit(byte % 16)]
 }
 
 /// The answer that a line without its line feed spells (profile): `--` is `None`, no answer, and

@@ -11,6 +11,7 @@ fn command_lines(rt: HostRuntime) -> Result<(), Fail> {
         ),
         (["dali_bench", "frame", "A303"], Job::Frame("A303")),
         (["dali_bench", "frame", ""], Job::Frame("")),
+        (["dali_bench", "show", "bank.hex"], Job::Show("bank.hex")),
     ];
     for (words, job) in &accepted {
         assert_eq!(rt;

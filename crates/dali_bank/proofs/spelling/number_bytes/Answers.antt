@@ -1,4 +1,4 @@
-use Rattle.std.proofs.Common.{◌≡◌, ◌-◌, ◌∙◌, List, ℕ, drop, take, length, arith, length-drop, ap}
+use Rattle.std.proofs.Common.{◌≡◌, ◌-◌, ◌∙◌, List, ℕ, drop, length, arith, length-drop, ap}
 use Rattle.std.proofs.lemmas.List.{take_all}
 use Rattle.dali_bank.proofs.NumberLemmas.{last_bytes}
 use Rattle.dali_bank.proofs.spelling.number_bytes.Goals as goal
@@ -7,8 +7,7 @@ pub returns : goal.returns
 returns c =
     let size = c.args.length in
     let spelled = last_bytes size c.args.number c.requires.room c.requires.fits c.ranges.number.fits in
-    let last : List ℕ = take (8 - (8 - size)) (drop (8 - size) c.to_be_bytes.result) in
-    let all : c.loop-byte.bytes.items ≡ last = c.loop-byte.invariant ∙ take_all c.loop-byte.byte-index last (omega arith) in
-    let whole : last ≡ drop (8 - size) c.to_be_bytes.result = take_all (8 - (8 - size)) (drop (8 - size) c.to_be_bytes.result)
+    let last : List ℕ = drop (8 - size) c.to_be_bytes.result in
+    let all : c.copied.result.items ≡ last = c.copied.ensures ∙ take_all (8 - (8 - size)) last
     (simp length-drop (omega (arith, ap (length {A = ℕ}) c.to_be_bytes.ensures))) in
-    rw (all, whole, c.to_be_bytes.ensures) spelled
+    rw (all, c.to_be_bytes.ensures) spelled

@@ -2,7 +2,7 @@ use Rattle.std.proofs.Common.{◌≡◌, Some, refl, sym}
 use Rattle.std.proofs.lemmas.Result.{MatchResult-weaker}
 use Rattle.serde_json.specs.Find.{get}
 use Rattle.serde_json.specs.View.{view}
-use Rattle.dali_bench.specs.Items.{key_of}
+use Rattle.dali_bench.specs.Keys.{key_of}
 use Rattle.dali_bench.proofs.ItemLemmas.{value_fault}
 use Rattle.dali_bench.proofs.item.set_given.Goals as goal
 

@@ -13,15 +13,24 @@ pub returns : goal.returns
 returns c =
     let check_app = command_app (codes "check") (codes "ORDERS") in
     let frame_app = command_app (codes "frame") (codes "HEX") in
+    let show_app = command_app (codes "show") (codes "HEXFILE") in
     let top : app_of c.subcommand_required-top.result ≡ top_app =
     ap app_of_fields c.subcommand_required-top.ensures ∙ ap (λ (app : App). record app { top = record app.top { subcommand_required = true } }) c.new.ensures.app in
     let check : shape_of c.after_help.result ≡ check_app.top =
     ap shape_of_fields c.after_help.ensures ∙ ap shape_of_fields c.about.ensures ∙ ap (λ (app : App). app.top) c.in_ok-check.ensures.app in
     let frame : shape_of c.after_help-2.result ≡ frame_app.top =
     ap shape_of_fields c.after_help-2.ensures ∙ ap shape_of_fields c.about-2.ensures ∙ ap (λ (app : App). app.top) c.in_ok-frame.ensures.app in
+    let show : shape_of c.after_help-3.result ≡ show_app.top =
+    ap shape_of_fields c.after_help-3.ensures ∙ ap shape_of_fields c.about-3.ensures ∙ ap (λ (app : App). app.top) c.in_ok-show.ensures.app in
     let checks : app_of c.in_ok-checks.checks ≡ with_subcommand (app_of c.subcommand_required-top.result) (shape_of c.after_help.result) =
     c.in_ok-checks.ensures.shape (ap (λ (f : Fields). f.has_globals) c.after_help.ensures ∙ ap (λ (f : Fields). f.has_globals) c.about.ensures ∙ c.in_ok-check.ensures.local) in
     let frames : app_of c.in_ok-frames.frames ≡ with_subcommand (app_of c.in_ok-checks.checks) (shape_of c.after_help-2.result) =
     c.in_ok-frames.ensures.shape (ap (λ (f : Fields). f.has_globals) c.after_help-2.ensures ∙ ap (λ (f : Fields). f.has_globals) c.about-2.ensures ∙ c.in_ok-frame.ensures.local) in
-    ap app_of_fields c.about-3.ensures ∙ frames ∙ ap (λ (app : App). with_subcommand app (shape_of c.after_help-2.result)) (checks ∙ ap (λ (app : App). with_subcommand app (shape_of c.after_help.result)) top ∙ ap (with_subcommand top_app) check)
-    ∙ ap (with_subcommand (with_subcommand top_app check_app.top)) frame
+    let shows : app_of c.in_ok-shows.shows ≡ with_subcommand (app_of c.in_ok-frames.frames) (shape_of c.after_help-3.result) =
+    c.in_ok-shows.ensures.shape (ap (λ (f : Fields). f.has_globals) c.after_help-3.ensures ∙ ap (λ (f : Fields). f.has_globals) c.about-3.ensures ∙ c.in_ok-show.ensures.local) in
+    let with_check : app_of c.in_ok-checks.checks ≡ with_subcommand top_app check_app.top =
+    checks ∙ ap (λ (app : App). with_subcommand app (shape_of c.after_help.result)) top ∙ ap (with_subcommand top_app) check in
+    let with_frame : app_of c.in_ok-frames.frames ≡ with_subcommand (with_subcommand top_app check_app.top) frame_app.top =
+    frames ∙ ap (λ (app : App). with_subcommand app (shape_of c.after_help-2.result)) with_check ∙ ap (with_subcommand (with_subcommand top_app check_app.top)) frame in
+    ap app_of_fields c.about-4.ensures ∙ shows ∙ ap (λ (app : App). with_subcommand app (shape_of c.after_help-3.result)) with_frame
+    ∙ ap (with_subcommand (with_subcommand (with_subcommand top_app check_app.top) frame_app.top)) show

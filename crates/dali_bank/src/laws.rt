@@ -1,0 +1,16 @@
+//! Laws of fields and banks. Each is the contract of a function that does nothing.
+
+ghost use Rattle.dali_bank.specs.Law.{IsShownOnce, SetValuesAreShown};
+
+/// The bytes that a field has for a value, laid in a bank, are shown as that value.
+///
+/// There are two exceptions: digits are shown as their number, and an identification number of FFh
+/// in every byte is shown as unknown.
+pub fn set_values_are_shown()
+    ensures { SetValuesAreShown }
+{}
+
+/// A field of a bank is shown in one way: what `read_field` tells is all that its contract allows.
+pub fn fields_are_shown_once()
+    ensures { IsShownOnce }
+{}

@@ -7,3 +7,4 @@ pub mod Draft
 pub mod Faults
 pub mod Shown
 pub mod Law
+pub mod Blank

@@ -1,0 +1,3 @@
+pub mod SimLemmas
+pub mod ChainLemmas
+pub mod UnenabledLemmas

@@ -1,0 +1,43 @@
+-- What a bus may do to the units that it reaches.
+use Rattle.std.specs.Prelude.{◌≡◌, ℕ, ◌⊎◌, Option, Some, None, ⊤}
+use Rattle.dali_frame.specs.declared.forward.Frame.{Frame}
+use Rattle.dali_gear.specs.World.{Gear, World}
+use Rattle.dali_gear.specs.Hears.{Hears}
+
+-- the unit at this address heard the frame, and gave some answer or none
+abbrev pub Heard : ℕ → Gear → Frame → Gear → Type 0
+Heard at old frame new = (answer : Option ℕ) × Hears at old frame answer new
+
+-- a unit didn't hear the frame and is as it was, or it heard the frame. No unit comes or goes
+abbrev pub MayHear : ℕ → Option Gear → Frame → Option Gear → Type 0
+MayHear at None frame None = ⊤
+MayHear at (Some old) frame (Some new) = (new ≡ old) ⊎ Heard at old frame new
+MayHear at None frame (Some new) = ⊥
+MayHear at (Some old) frame None = ⊥
+
+-- the byte is the answer of a unit that heard the frame
+pub record Answered (old : World) (frame : Frame) (byte : ℕ) (new : World) : Type 0 where
+  pub address : ℕ
+  pub before : Gear
+  pub after : Gear
+  pub was : old address ≡ Some before
+  pub is : new address ≡ Some after
+  pub hears : Hears address before frame (Some byte) after
+
+-- nothing came back, or the answer of a unit that heard the frame
+abbrev pub MayAnswer : World → Frame → Option ℕ → World → Type 0
+MayAnswer old frame None new = ⊤
+MayAnswer old frame (Some byte) new = Answered old frame byte new
+
+-- the frame is carried from one world to the next, and this comes back
+pub record Carry (old : World) (frame : Frame) (answer : Option ℕ) (new : World) : Type 0 where
+  pub units : (address : ℕ) → MayHear address (old address) frame (new address)
+  pub answers : MayAnswer old frame answer new
+
+-- what happens on a bus: a frame is carried, and this came back
+pub data BusEvent : Type 0 where
+  Carried : (frame : Frame) (answer : Option ℕ) → BusEvent
+
+-- from the old world this may happen and lead to the new one
+abbrev pub WorldStep : World → BusEvent → World → Type 0
+WorldStep old (Carried frame answer) new = Carry old frame answer new

@@ -1,0 +1,11 @@
+pub mod World
+pub mod Hears
+pub mod Carry
+pub mod Chain
+pub mod Unenabled
+pub mod UnitState
+pub mod Faults
+pub mod Fate
+pub mod SimState
+pub mod UnitHears
+pub mod SimSteps

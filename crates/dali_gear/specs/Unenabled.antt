@@ -1,0 +1,30 @@
+-- Memory that nothing can write: where no unit is write-enabled and none is told to be.
+use Rattle.std.specs.Prelude.{◌≡◌, ℕ, false, List, IsSome, Option, ⊤}
+use Rattle.std.specs.List.{AllByRecursion}
+use Rattle.dali_frame.specs.declared.forward.Frame.{Frame}
+use Rattle.dali_frame.specs.declared.forward.Frame.TheVariants.{Enable, Other}
+use Rattle.dali_gear.specs.World.{World, is_enabled, SameBytes}
+use Rattle.dali_gear.specs.Carry.{BusEvent, Carried, WorldStep}
+use Rattle.dali_gear.specs.Chain.{IsChain, AtEachMoment}
+
+-- no unit is write-enabled
+abbrev pub NoneEnabled : World → Type 0
+NoneEnabled world = (address : ℕ) → is_enabled world address ≡ false
+
+-- the frame is ENABLE WRITE MEMORY to a unit of the world, or a word that may mean anything
+abbrev pub MayEnable : World → Frame → Type 0
+MayEnable world (Enable address) = IsSome (world address)
+MayEnable world (Other word) = ⊤
+MayEnable world _ = ⊥
+
+-- what happened enables no unit of the world
+abbrev pub EnablesNone : World → BusEvent → Type 0
+EnablesNone world (Carried frame answer) = ¬ MayEnable world frame
+
+-- Along each chain of worlds in which no unit is write-enabled at first and none is told to be, each place holds at
+-- each moment what it held at first.
+abbrev pub UnenabledMemoryStays : Type 0
+UnenabledMemoryStays =
+    (first : World) (past : List BusEvent) (last : World) (states : List World)
+    → NoneEnabled first → AllByRecursion (EnablesNone first) past → IsChain WorldStep first past last states
+    → AtEachMoment (λ (happened : List BusEvent) (world : World). SameBytes first world) past last states

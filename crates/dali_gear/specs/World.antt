@@ -1,0 +1,48 @@
+-- The control gear that a bus reaches, as memory access sees it.
+use Rattle.std.specs.Prelude.{◌≡◌, ℕ, Bool, false, is_some, Option, Some, None, ◌&&◌, ◌==◌, if◌then◌else◌}
+
+-- the byte at a location of a memory bank, by bank and location: none where the place doesn't exist
+abbrev pub Memory : Type 0
+Memory = ℕ → ℕ → Option ℕ
+
+-- a unit: its data transfer registers, whether it is write-enabled, and its memory banks
+pub record Gear : Type 0 where
+  pub dtr0 : ℕ
+  pub dtr1 : ℕ
+  pub dtr2 : ℕ
+  pub enabled : Bool
+  pub memory : Memory
+
+-- the units by short address, at most one at each
+abbrev pub World : Type 0
+World = ℕ → Option Gear
+
+-- the memory with this byte at that place, and all else as it was
+abbrev pub stored : Memory → ℕ → ℕ → ℕ → Memory
+stored memory bank location byte b l = if (b == bank) && (l == location) then Some byte else memory b l
+
+-- the byte at a place of the unit, if there is a unit and it has the place
+abbrev pub byte_in : Option Gear → ℕ → ℕ → Option ℕ
+byte_in None bank location = None
+byte_in (Some gear) bank location = gear.memory bank location
+
+-- the byte at a place, if the place exists
+abbrev pub byte_at : World → ℕ → ℕ → ℕ → Option ℕ
+byte_at world address bank location = byte_in (world address) bank location
+
+-- there is a unit, and it is write-enabled
+abbrev pub is_open : Option Gear → Bool
+is_open None = false
+is_open (Some gear) = gear.enabled
+
+-- a unit at this address is write-enabled
+abbrev pub is_enabled : World → ℕ → Bool
+is_enabled world address = is_open (world address)
+
+-- the worlds have units at the same addresses
+abbrev pub SameAddresses : World → World → Type 0
+SameAddresses old new = (address : ℕ) → is_some (new address) ≡ is_some (old address)
+
+-- each place holds in both what it holds in one, or exists in neither
+abbrev pub SameBytes : World → World → Type 0
+SameBytes old new = (address bank location : ℕ) → byte_at new address bank location ≡ byte_at old address bank location

@@ -1,0 +1,25 @@
+use dali_frame::Frame;
+
+/// A bus with control gear.
+///
+/// It may lose a frame, to any of its units, or an answer. It alters none, and no unit comes or
+/// goes. What it does is its own, as long as its units could do it (IEC 62386-102: memory access).
+pub trait Bus {
+    ghost use Rattle.dali_frame.specs.Frame.{IsProper};
+    ghost use Rattle.dali_gear.specs.World.{World};
+    ghost use Rattle.dali_gear.specs.Carry.{BusEvent, Carried, WorldStep};
+
+    /// The units that a state of the bus shows.
+    ghost world: { Self → World };
+
+    /// What this bus does: from the old state this may happen and lead to the new one.
+    ghost step: { Self → BusEvent → Self → Type 0 };
+
+    /// Sends a frame, which has to be proper, and answers the backward frame that came back.
+    fn carry(&mut self, frame: &Frame) -> Option<u8>
+        requires { IsProper frame.now }
+        ensures { step self.old (Carried frame.now result) self.new };
+
+    /// What this bus does is what its units may do.
+    ghost allowed: { (old : Self) (event : BusEvent) (new : Self) → step old event new → WorldStep (world old) event (world new) };
+}

@@ -1,0 +1,22 @@
+//! Laws of the world of units. Each is the contract of a function that does nothing.
+
+ghost use Rattle.std.specs.Prelude.{List, map};
+ghost use Rattle.dali_gear.specs.World.{World};
+ghost use Rattle.dali_gear.specs.Carry.{BusEvent, WorldStep};
+ghost use Rattle.dali_gear.specs.Chain.{IsChain};
+ghost use Rattle.dali_gear.specs.Unenabled.{UnenabledMemoryStays};
+
+use crate::bus::Bus;
+
+/// Where no unit is write-enabled at first, no ENABLE WRITE MEMORY is carried to a unit and no word
+/// outside the frame table is sent, no byte of any memory ever changes.
+pub fn unenabled_memory_stays()
+    ensures { UnenabledMemoryStays }
+{}
+
+/// What a bus does, happening by happening, is what its units may do: each chain of its states is a
+/// chain of the worlds that they show.
+pub fn chains_of_a_bus_are_chains_of_its_worlds<B: Bus>()
+    ensures { (first : B) (past : List BusEvent) (last : B) (states : List B) → IsChain B.step first past last states
+        → IsChain WorldStep (B.world first) past (B.world last) (map B.world states) }
+{}

@@ -1,3 +1,4 @@
 pub mod SimLemmas
 pub mod ChainLemmas
 pub mod UnenabledLemmas
+pub mod TestBusLemmas

@@ -9,3 +9,4 @@ pub mod Fate
 pub mod SimState
 pub mod UnitHears
 pub mod SimSteps
+pub mod TestBus

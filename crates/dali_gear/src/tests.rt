@@ -1,0 +1,3 @@
+mod own_bus;
+mod sim_bus;
+mod unit;

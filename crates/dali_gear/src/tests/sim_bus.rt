@@ -1,0 +1,93 @@
+use crate::{Bus, Fate, GearFault, SimBus, Unit, laws};
+use dali_frame::Frame;
+use std::alloc::Global;
+use std::test::Fail;
+
+// Blank units at two addresses.
+fn two_units(alloc: Global, first: u8, second: u8) -> Result<Vec<Unit>, Fail> {
+    let mut units = Vec::new(alloc);
+    units.push(Unit::blank(alloc, first)?)?;
+    units.push(Unit::blank(alloc, second)?)?;
+    Ok(units)
+}
+
+#[test]
+fn fates_lose_frames_and_answers(rt: HostRuntime) -> Result<(), Fail> {
+    let alloc = rt.alloc();
+    let fates = [
+        Fate {
+            lost: 1 << 5,
+            ..Fate::default()
+        },
+        Fate {
+            answer_lost: true,
+            ..Fate::default()
+        },
+        Fate {
+            refuse: true,
+            ..Fate::default()
+        },
+    ];
+    let mut bus = SimBus::new(two_units(alloc, 5, 6)?, fates.to_vec(alloc)?)?;
+    for (frame, answer, fates_left) in [
+        (Frame::Dtr0(0x07), None, 2),
+        (Frame::AskDtr0(6), None, 1),
+        (Frame::AskDtr0(6), Some(0x07), 0),
+        (Frame::AskDtr0(5), Some(0x00), 0),
+        (Frame::Enable(5), None, 0),
+        (Frame::Enable(5), None, 0),
+        (Frame::Enable(6), None, 0),
+        (Frame::Enable(6), None, 0),
+        (Frame::Dtr1(0x01), None, 0),
+        (Frame::Dtr0(0x02), None, 0),
+        (Frame::Write(0x55), None, 0),
+    ] {
+        assert!(rt; frame.is_proper());
+        assert_eq!(rt; bus.carry(&frame), answer, "{frame:?}");
+        assert_eq!(rt; bus.fates_left(), fates_left, "{frame:?}");
+    }
+    for unit in bus.units() {
+        assert_eq!(rt; unit.bank1().get(2), Some(&0x55));
+    }
+    Ok(())
+}
+
+#[test]
+fn a_refused_write_is_not_stored(rt: HostRuntime) -> Result<(), Fail> {
+    let alloc = rt.alloc();
+    let mut fates = vec![in alloc; Fate::default(); 4]?;
+    fates.push(Fate {
+        refuse: true,
+        ..Fate::default()
+    })?;
+    let mut bus = SimBus::new(two_units(alloc, 5, 6)?, fates)?;
+    for (frame, answer) in [
+        (Frame::Enable(5), None),
+        (Frame::Enable(5), None),
+        (Frame::Dtr1(0x01), None),
+        (Frame::Dtr0(0x02), None),
+        (Frame::Write(0x55), None),
+        (Frame::Dtr0(0x02), None),
+        (Frame::Write(0x55), Some(0x55)),
+    ] {
+        assert!(rt; frame.is_proper());
+        assert_eq!(rt; bus.carry(&frame), answer, "{frame:?}");
+    }
+    Ok(())
+}
+
+#[test]
+fn two_units_at_one_address(rt: HostRuntime) -> Result<(), Fail> {
+    let alloc = rt.alloc();
+    let made = SimBus::new(two_units(alloc, 5, 5)?, Vec::new(alloc));
+    assert_eq!(rt; made.err(), Some(GearFault::SameAddress));
+    let empty = SimBus::new(Vec::new(alloc), Vec::new(alloc))?;
+    assert_eq!(rt; empty.units().len(), 0);
+    Ok(())
+}
+
+#[test]
+fn laws_hold(_rt: HostRuntime) {
+    laws::unenabled_memory_stays();
+    laws::chains_of_a_bus_are_chains_of_its_worlds::<SimBus>();
+}

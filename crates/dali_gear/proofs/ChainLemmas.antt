@@ -1,5 +1,5 @@
 -- How chains grow, what holds along them, and which chains they show.
-use Rattle.std.proofs.Common.{◌≡◌, List, [], ◌∷◌, ◌++◌, map, reverse, refl, ap, sym, subst, ◌∙◌}
+use Rattle.std.proofs.Common.{List, [], ◌∷◌, ◌++◌, map, reverse, refl, ap, sym, subst}
 use Rattle.std.proofs.lemmas.List.{reverse-append}
 use Rattle.dali_gear.specs.Chain.{IsChain, AtEachMoment, Chain}
 

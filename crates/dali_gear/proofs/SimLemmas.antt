@@ -58,6 +58,7 @@ pub AreApart-map : (fate : Fate) (frame : Frame) (units : List UnitState) → Ar
 AreApart-map fate frame [] apart = tt
 AreApart-map fate frame (unit ∷ units) apart =
     (rw (fate_keeps fate frame unit) (stays_free fate frame units unit.address apart.0), AreApart-map fate frame units apart.1)
+
 -- an element that the loop hasn't reached is as it was
 at_turn : {X : Type 0} (f : X → X) (xs : List X) (i : ℕ) (d : X) → get_or (map f (take i xs) ++ drop i xs) i d ≡ get_or xs i d
 at_turn f [] zero d = refl
@@ -90,4 +91,3 @@ written_back [] [] n e f = rw e refl
 written_back [] (y ∷ old) n e f = absurd (omega arith)
 written_back (x ∷ new) [] n e f = absurd (omega arith)
 written_back (x ∷ new) (y ∷ old) n e f = rw e (ap (λ xs. x ∷ xs) (written_back new old (length old) refl (omega arith)))
-

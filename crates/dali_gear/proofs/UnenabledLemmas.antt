@@ -1,11 +1,11 @@
 -- Nothing writes where no unit is write-enabled and none is told to be.
-use Rattle.std.proofs.Common.{◌≡◌, ◌≢◌, ℕ, Bool, true, false, inl, inr, ◌⊎◌, List, [], ◌∷◌, Option, Some, None, is_some, IsSome, refl, ap, sym, subst, ◌∙◌}
+use Rattle.std.proofs.Common.{◌≡◌, ◌≢◌, ℕ, Bool, true, false, inl, inr, ◌⊎◌, List, [], ◌∷◌, Option, Some, None, is_some, IsSome, refl, sym, subst, ◌∙◌}
 use Rattle.std.specs.List.{AllByRecursion}
 use Rattle.dali_frame.specs.declared.forward.Frame.{Frame}
 use Rattle.dali_frame.specs.declared.forward.Frame.TheVariants.{Dtr0, Dtr1, Dtr2, Write, WriteSilent, Enable, AskDtr0, AskDtr1, AskDtr2, Read, Other}
 use Rattle.dali_gear.specs.World.{Gear, World, byte_in, is_open, SameAddresses, SameBytes}
-use Rattle.dali_gear.specs.Hears.{Hears, Obeys, MayEnd, PassesBy, Stores, ReadsByte, ReadsNothing, Ignores, Tells}
-use Rattle.dali_gear.specs.Carry.{BusEvent, Carried, Carry, WorldStep, MayHear, Heard}
+use Rattle.dali_gear.specs.Hears.{Obeys, MayEnd, PassesBy, Stores, Ignores, Tells}
+use Rattle.dali_gear.specs.Carry.{BusEvent, Carried, WorldStep, MayHear}
 use Rattle.dali_gear.specs.Chain.{IsChain, AtEachMoment}
 use Rattle.dali_gear.specs.Unenabled.{NoneEnabled, MayEnable, EnablesNone, UnenabledMemoryStays}
 

@@ -1,5 +1,5 @@
 -- Memory that nothing can write: where no unit is write-enabled and none is told to be.
-use Rattle.std.specs.Prelude.{◌≡◌, ℕ, false, List, IsSome, Option, ⊤}
+use Rattle.std.specs.Prelude.{◌≡◌, ℕ, false, List, IsSome, ⊤}
 use Rattle.std.specs.List.{AllByRecursion}
 use Rattle.dali_frame.specs.declared.forward.Frame.{Frame}
 use Rattle.dali_frame.specs.declared.forward.Frame.TheVariants.{Enable, Other}

@@ -116,7 +116,10 @@ fn writes_that_are_not_stored(rt: HostRuntime) -> Result<(), Fail> {
     assert_eq!(rt; unit.hear(&Frame::Write(0x22)), None);
     assert_eq!(rt; unit.hear(&Frame::WriteSilent(0x33)), None);
     assert_eq!(rt; unit.dtrs().0, 0x07);
-    assert!(rt; unit.bank1().starts_with(&[0x77, 0xFF, 0x55, 0xFF, 0xFF, 0xFF, 0x33, 0xFF]));
+    assert!(rt;
+        unit.bank1()
+            .starts_with(&[0x77, 0xFF, 0x55, 0xFF, 0xFF, 0xFF, 0x33, 0xFF])
+    );
     assert_eq!(rt; unit.hear(&Frame::Other(0xFEFE)), None);
     assert!(rt; !unit.is_enabled());
     Ok(())
@@ -138,8 +141,14 @@ fn each_bank_has_its_own_lock(rt: HostRuntime) -> Result<(), Fail> {
     ] {
         assert_eq!(rt; unit.hear(&frame), answer, "{frame:?}");
     }
-    assert!(rt; unit.bank2().starts_with(&[0x0F, 0xFF, 0x55, 0x22, 0xFF, 0xFF]));
-    assert!(rt; unit.bank1().starts_with(&[0x77, 0xFF, 0x55, 0xFF, 0xFF, 0xFF]));
+    assert!(rt;
+        unit.bank2()
+            .starts_with(&[0x0F, 0xFF, 0x55, 0x22, 0xFF, 0xFF])
+    );
+    assert!(rt;
+        unit.bank1()
+            .starts_with(&[0x77, 0xFF, 0x55, 0xFF, 0xFF, 0xFF])
+    );
     Ok(())
 }
 
@@ -166,7 +175,12 @@ fn banks_of_every_size(rt: HostRuntime) -> Result<(), Fail> {
 #[test]
 fn refused_units(rt: HostRuntime) {
     for (address, bytes, fixed, fault) in [
-        (64, BLANK.as_slice(), [].as_slice(), Some(GearFault::Address)),
+        (
+            64,
+            BLANK.as_slice(),
+            [].as_slice(),
+            Some(GearFault::Address),
+        ),
         (64, &[], &[], Some(GearFault::Address)),
         (63, &BLANK, &[], None),
         (5, &SHORT_BANK[..16], &[], Some(GearFault::Size)),

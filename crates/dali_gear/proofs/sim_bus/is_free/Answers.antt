@@ -1,4 +1,4 @@
-use Rattle.std.proofs.Common.{◌≡◌, ◌≢◌, ℕ, None, sym, subst, ◌∙◌}
+use Rattle.std.proofs.Common.{◌≢◌, ℕ, None, sym, subst, ◌∙◌}
 use Rattle.dali_gear.specs.SimState.{world_of}
 use Rattle.dali_gear.proofs.SimLemmas.{not_free, still_free}
 use Rattle.dali_gear.proofs.sim_bus.is_free.Goals as goal

@@ -1,4 +1,4 @@
-ghost use Rattle.std.specs.Prelude.{◌≡◌, ◌==◌, ◌≤◌, ◌<◌, ◌↔◌, [], true, false, if◌then◌else◌, IfOk, IfErr, IsOk, OnOk, IsTrue};
+ghost use Rattle.std.specs.Prelude.{◌≡◌, ◌==◌, ◌≤◌, ◌<◌, ◌↔◌, [], true, false, if◌then◌else◌, IfOk, IfErr, OnOk, IsTrue};
 ghost use Rattle.std.specs.List.{AllByRecursion};
 ghost use Rattle.dali_bank.specs.Blank.{blank_bank};
 ghost use Rattle.dali_gear.specs.UnitState.{UnitState, after_frame, after_write, after_read, after_enable, answer_to, selected_byte, stores, gear_of, new_unit};
@@ -59,7 +59,7 @@ impl Unit {
     ///
     /// Fault 1 Address where the short address is over 63, 4 NoMemory where there is no memory.
     pub fn blank(alloc: Global, address: u8) -> Result<Unit, GearFault>
-        ensures short { IsOk result → address ≤ 63 }
+        ensures accepted { OnOk result (address ≤ 63) }
         ensures ok { IfOk result (λ unit. unit ≡ new_unit address blank_bank []) }
         ensures err { IfErr result (λ fault. IsBlankFault address fault) }
     {

@@ -42,6 +42,15 @@ fn a_blank_unit(rt: HostRuntime) -> Result<(), Fail> {
     Ok(())
 }
 
+// `./test` runs this one again and again, with each allocation refused in turn.
+#[test]
+fn units_are_made(rt: HostRuntime) -> Result<(), Fail> {
+    let blank = Unit::blank(rt.alloc(), 5)?;
+    let short = Unit::with_bank1(rt.alloc(), 6, &SHORT_BANK, &[0x03, 0x10])?;
+    assert_eq!(rt; (blank.bank1().len(), short.bank1().len()), (120, 17));
+    Ok(())
+}
+
 #[test]
 fn a_unit_stores_once_it_is_enabled_and_unlocked(rt: HostRuntime) -> Result<(), Fail> {
     let mut unit = Unit::blank(rt.alloc(), 5)?;

@@ -1,4 +1,6 @@
--- Each step of the simulated bus is one that its units may make.
+-- Each step of the simulated bus is one that its units may make: lemmas, of which the last says it.
+--
+-- They stand in specs/ since the bus's law cites it.
 use Rattle.std.proofs.Common.{◌≡◌, ℕ, Bool, true, false, List, [], ◌∷◌, map, Option, Some, None, inl, inr, refl, sym, subst, ◌∙◌}
 use Rattle.std.specs.Prelude.{◌==◌, slice_get, if◌then◌else◌}
 use Rattle.std.specs.List.{filter_map, cons_option}
@@ -12,7 +14,7 @@ use Rattle.dali_gear.specs.Hears.{Hears, up}
 use Rattle.dali_gear.specs.SimState.{SimState, SimCarry, SimStep, world_of, AreApart, unit_after, unit_answer, bus_answer}
 use Rattle.dali_gear.specs.World.{Gear}
 use Rattle.dali_gear.specs.Carry.{BusEvent, Carried, WorldStep, Carry, MayHear, Answered, MayAnswer}
-use Rattle.dali_gear.specs.UnitHears.{unit-hears}
+use Rattle.dali_gear.specs.UnitHears.{unit_hears}
 
 -- a write keeps the address
 write_keeps : (unit : UnitState) (byte : ℕ) (carried done first : Bool)
@@ -61,7 +63,7 @@ unit_may : (fate : Fate) (frame : Frame) (unit : UnitState) → MayHear unit.add
 unit_may fate frame unit =
     elim (is_lost fate unit.address) as (λ b. MayHear unit.address (Some (gear_of unit)) frame (Some (gear_of (if b then unit else after_frame fate.refuse unit frame)))) [
       | true ↦ inl refl
-      | false ↦ inr (answer_to fate.refuse unit frame, unit-hears fate.refuse unit frame)
+      | false ↦ inr (answer_to fate.refuse unit frame, unit_hears fate.refuse unit frame)
     ]
 
 -- a unit and the rest of them, at an address
@@ -136,7 +138,7 @@ heard : (fate : Fate) (frame : Frame) (unit : UnitState) (byte : ℕ) (lost : Bo
 heard fate frame unit byte true h = cc
 heard fate frame unit byte false h =
     let P : Option ℕ → Type 0 = λ o. Hears unit.address (gear_of unit) frame o (gear_of (after_frame fate.refuse unit frame)) in
-    subst P h (unit-hears fate.refuse unit frame)
+    subst P h (unit_hears fate.refuse unit frame)
 
 answerer_answered : (fate : Fate) (frame : Frame) (units : List UnitState) (byte : ℕ) → Answerer fate frame units byte
     → Answered (world_of units) frame byte (world_of (map (unit_after fate frame) units))

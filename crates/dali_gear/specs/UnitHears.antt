@@ -1,12 +1,14 @@
--- What a simulated unit does is one of the things that a unit may do.
+-- What a simulated unit does with a frame is one of the things that a unit may do: lemmas, of which the last says it.
+--
+-- They stand in specs/ since the law of the simulated bus's steps rests on them.
 use Rattle.std.proofs.Common.{◌≡◌, ◌≢◌, ◌<◌, ℕ, zero, suc, Bool, true, false, not, ◌&&◌, ◌||◌, ◌⊎◌, inl, inr, List, [], ◌∷◌, length, Option, Some, None, IsSome, IsNone, refl, sym, subst, arith}
 use Rattle.std.specs.Prelude.{◌==◌, nat_lt, slice_get, slice_set, if◌then◌else◌}
 use Rattle.std.proofs.Math.Dec.{eqb-suc-suc}
 use Rattle.std.proofs.lemmas.Bool.{eqb-true, eqb-false, ne_eqb, ltb-true, and_parts, and_from, both_ways}
+use Rattle.std.proofs.lemmas.Option.{slice_get-get_or}
 use Rattle.dali_frame.specs.declared.forward.Frame.{Frame}
 use Rattle.dali_frame.specs.declared.forward.Frame.TheVariants.{Dtr0, Dtr1, Dtr2, Write, WriteSilent, Enable, AskDtr0, AskDtr1, AskDtr2, Read, Other}
-use Rattle.dali_gear.specs.UnitState.{BankState}
-use Rattle.dali_gear.specs.UnitState.{UnitState, is_writable, with_byte, has_bank, bank_of, with_stored, carries_out, stores, selected_byte, after_read, after_frame, answer_to, gear_of}
+use Rattle.dali_gear.specs.UnitState.{BankState, UnitState, is_writable, with_byte, has_bank, bank_of, with_stored, carries_out, stores, selected_byte, after_read, after_frame, answer_to, gear_of}
 use Rattle.dali_gear.specs.World.{Gear, stored}
 use Rattle.dali_gear.specs.Hears.{Hears, MayEnd, Obeys, Ignores, Tells, PassesBy, Stores, ReadsByte, ReadsNothing, selected, up}
 
@@ -19,10 +21,9 @@ slice_get-slice_set (y ∷ xs) zero x (suc j) h = rw (ne_eqb (suc j) 0 (λ e. om
 slice_get-slice_set (y ∷ xs) (suc i) x zero h = rw (ne_eqb 0 (suc i) (λ e. omega arith)) refl
 slice_get-slice_set (y ∷ xs) (suc i) x (suc j) h = rw (eqb-suc-suc j i) (slice_get-slice_set xs i x j (omega arith))
 
+-- there is a byte at each location up to the last
 is_some-within : (xs : List ℕ) (i : ℕ) → i < length xs → IsSome (slice_get xs i)
-is_some-within [] i h = absurd (omega arith)
-is_some-within (x ∷ xs) zero h = refl
-is_some-within (x ∷ xs) (suc i) h = is_some-within xs i (omega arith)
+is_some-within xs i within = rw (slice_get-get_or xs i 0 within) refl
 
 -- a question is answered by the unit that it is put to
 asked : (to at register : ℕ) (old : Gear) (b : Bool) → (to == at) ≡ b
@@ -153,19 +154,19 @@ read_by to unit true e =
 read_by to unit false e = record { obeyed = gear_of unit; obeys = inr (eqb-false to unit.address e, (refl, refl)); ends = inl refl }
 
 -- what a simulated unit does with any frame is one of the things that a unit may do
-pub unit-hears : (refuses : Bool) (unit : UnitState) (frame : Frame)
+pub unit_hears : (refuses : Bool) (unit : UnitState) (frame : Frame)
     → Hears unit.address (gear_of unit) frame (answer_to refuses unit frame) (gear_of (after_frame refuses unit frame))
-unit-hears refuses unit (Dtr0 byte) = record { obeyed = record (gear_of unit) { dtr0 = byte }; obeys = (refl, refl); ends = inl refl }
-unit-hears refuses unit (Dtr1 byte) = record { obeyed = record (gear_of unit) { dtr1 = byte }; obeys = (refl, refl); ends = inl refl }
-unit-hears refuses unit (Dtr2 byte) = record { obeyed = record (gear_of unit) { dtr2 = byte }; obeys = (refl, refl); ends = inl refl }
-unit-hears refuses unit (Write byte) =
+unit_hears refuses unit (Dtr0 byte) = record { obeyed = record (gear_of unit) { dtr0 = byte }; obeys = (refl, refl); ends = inl refl }
+unit_hears refuses unit (Dtr1 byte) = record { obeyed = record (gear_of unit) { dtr1 = byte }; obeys = (refl, refl); ends = inl refl }
+unit_hears refuses unit (Dtr2 byte) = record { obeyed = record (gear_of unit) { dtr2 = byte }; obeys = (refl, refl); ends = inl refl }
+unit_hears refuses unit (Write byte) =
     record { obeyed = _; obeys = writing refuses (record unit { half_pair = false }) byte _ _ refl refl; ends = inl refl }
-unit-hears refuses unit (WriteSilent byte) =
+unit_hears refuses unit (WriteSilent byte) =
     record { obeyed = _; obeys = (silently refuses (record unit { half_pair = false }) byte _ _ refl refl, refl); ends = inl refl }
-unit-hears refuses unit (Enable to) =
+unit_hears refuses unit (Enable to) =
     record { obeyed = _; obeys = enabling to unit (to == unit.address) unit.half_pair refl refl; ends = inl refl }
-unit-hears refuses unit (AskDtr0 to) = record { obeyed = gear_of unit; obeys = asked to unit.address unit.dtr0 (gear_of unit) _ refl; ends = inl refl }
-unit-hears refuses unit (AskDtr1 to) = record { obeyed = gear_of unit; obeys = asked to unit.address unit.dtr1 (gear_of unit) _ refl; ends = inl refl }
-unit-hears refuses unit (AskDtr2 to) = record { obeyed = gear_of unit; obeys = asked to unit.address unit.dtr2 (gear_of unit) _ refl; ends = inl refl }
-unit-hears refuses unit (Read to) = read_by to (record unit { half_pair = false }) _ refl
-unit-hears refuses unit (Other word) = record { obeyed = gear_of (record unit { enabled = false }); obeys = tt; ends = inl refl }
+unit_hears refuses unit (AskDtr0 to) = record { obeyed = gear_of unit; obeys = asked to unit.address unit.dtr0 (gear_of unit) _ refl; ends = inl refl }
+unit_hears refuses unit (AskDtr1 to) = record { obeyed = gear_of unit; obeys = asked to unit.address unit.dtr1 (gear_of unit) _ refl; ends = inl refl }
+unit_hears refuses unit (AskDtr2 to) = record { obeyed = gear_of unit; obeys = asked to unit.address unit.dtr2 (gear_of unit) _ refl; ends = inl refl }
+unit_hears refuses unit (Read to) = read_by to (record unit { half_pair = false }) _ refl
+unit_hears refuses unit (Other word) = record { obeyed = gear_of (record unit { enabled = false }); obeys = tt; ends = inl refl }

@@ -150,6 +150,7 @@ impl Unit {
 
     /// Does what the unit does with a frame that it hears, and tells its answer (IEC 62386-102:
     /// memory access, and profile where that leaves a choice).
+    #[tactic(auto, using(crate::specs::UnitHears::unit_hears))]
     pub fn hear(&mut self, frame: &Frame) -> Option<u8>
         ensures after { self.new ≡ after_frame false self.old frame.now }
         ensures answer { result ≡ answer_to false self.old frame.now }
@@ -159,6 +160,7 @@ impl Unit {
     }
 
     /// Does the same, but a write stores nothing and isn't answered (profile).
+    #[tactic(auto, using(crate::specs::UnitHears::unit_hears))]
     pub fn hear_refusing(&mut self, frame: &Frame) -> Option<u8>
         ensures after { self.new ≡ after_frame true self.old frame.now }
         ensures answer { result ≡ answer_to true self.old frame.now }

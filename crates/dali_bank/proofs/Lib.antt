@@ -4,3 +4,4 @@ pub mod TextLemmas
 pub mod SpellingLemmas
 pub mod LayoutLemmas
 pub mod LawLemmas
+pub mod OrderLemmas

@@ -1,4 +1,6 @@
-ghost use Rattle.std.specs.Prelude.{◌≡◌, ◌≤◌};
+ghost use Rattle.std.specs.Prelude.{◌≡◌, ◌≤◌, ◌<◌, ◌↔◌, length, IsTrue, IsSome, IfSome};
+ghost use Rattle.std.specs.List.{AllByRecursion};
+ghost use Rattle.dali_bank.specs.Order.{IsWritable, RisesAbove};
 
 use arrayvec::ArrayVec;
 use std::marker::Model;
@@ -43,6 +45,39 @@ impl Order {
         Order { id, unit, updates }
     }
 
+    /// The order of these parts, each pair a location and a byte.
+    ///
+    /// None where they make no order: where the short address is over 63, there aren't 1 to 115 pairs,
+    /// or their locations don't rise or one isn't in 03h to 10h or 13h to 77h.
+    pub fn from_pairs(id: u64, unit: u8, pairs: &[(u8, u8)]) -> Option<Order>
+        ensures made { IsSome result ↔ ((unit ≤ 63) × AreUpdates pairs.now) }
+        ensures parts { IfSome result (λ order. order ≡ record { id = id; unit = unit; updates = pairs.now }) }
+    {
+        if unit > 63 || pairs.is_empty() || pairs.len() > MOST_UPDATES {
+            return None;
+        }
+        if !rise_in_places(0, pairs) {
+            return None;
+        }
+        Some(Order::new(id, unit, updates_from(pairs)))
+    }
+
+    /// The same order again.
+    pub fn copy(&self) -> Order
+        ensures { result ≡ self.now }
+    {
+        Order::new(self.id, self.unit, updates_from(self.updates.as_slice()))
+    }
+
+    /// Whether both orders have the same number, unit and updates.
+    pub fn same(&self, other: &Order) -> bool
+        ensures { IsTrue result ↔ (self.now ≡ other.now) }
+    {
+        self.id == other.id
+            && self.unit == other.unit
+            && are_same(self.updates.as_slice(), other.updates.as_slice())
+    }
+
     /// The order's number.
     pub fn id(&self) -> u64
         ensures { result ≡ self.now.id }
@@ -65,4 +100,40 @@ impl Order {
     {
         self.updates.as_slice()
     }
+}
+
+// Whether both lists have the same pairs.
+fn are_same(pairs: &[(u8, u8)], others: &[(u8, u8)]) -> bool
+    ensures { IsTrue result ↔ (pairs.now ≡ others.now) }
+{
+    pairs == others
+}
+
+// Updates of these pairs.
+fn updates_from(pairs: &[(u8, u8)]) -> Updates
+    requires { length pairs.now ≤ 115 }
+    ensures { result.items ≡ pairs.now }
+{
+    let mut updates = Updates::new();
+    let _ = updates.try_extend_from_slice(pairs);
+    updates
+}
+
+// Whether the locations rise from above the bound on, all in places that an order may write.
+fn rise_in_places(bound: u8, pairs: &[(u8, u8)]) -> bool
+    ensures { IsTrue result ↔ (RisesAbove bound pairs.now × AllByRecursion (λ update. IsWritable update.0) pairs.now) }
+{
+    match pairs {
+        [] => true,
+        [(location, _byte), rest @ ..] => {
+            bound < *location && is_writable(*location) && rise_in_places(*location, rest)
+        }
+    }
+}
+
+// Whether an order may write at the location.
+fn is_writable(location: u8) -> bool
+    ensures { IsTrue result ↔ IsWritable location }
+{
+    matches!(location, 0x03..=0x10 | 0x13..=0x77)
 }

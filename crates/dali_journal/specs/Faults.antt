@@ -1,0 +1,18 @@
+-- Why there is no journal, and how a fault is told.
+use Rattle.std.specs.Prelude.{ℕ, List, codes}
+use Rattle.dali_journal.specs.declared.fault.JournalFault.{JournalFault}
+use Rattle.dali_journal.specs.declared.fault.JournalFault.TheVariants.{Limit, NoMemory}
+use Rattle.dali_journal.specs.JournalState.{IsLimit}
+
+abbrev pub number_of : JournalFault → ℕ
+number_of Limit = 1
+number_of NoMemory = 2
+
+abbrev pub name_of : JournalFault → List ℕ
+name_of Limit = codes "Limit"
+name_of NoMemory = codes "NoMemory"
+
+-- why no journal is made for at most so many orders
+abbrev pub IsNewFault : ℕ → JournalFault → Type 0
+IsNewFault limit Limit = ¬ IsLimit limit
+IsNewFault limit NoMemory = IsLimit limit

@@ -1,0 +1,20 @@
+//! The journal of a writer (profile): which orders it began, and how far each has come.
+//!
+//! A journal is a list of records. What it has begun it can always end without taking memory. Only
+//! `Journal::new`, `reserve` and `to_bytes` take memory.
+#![tactic(auto)]
+
+mod fault;
+mod journal;
+mod kept;
+pub mod laws;
+mod record;
+mod standing;
+#[cfg(test)]
+mod tests;
+
+pub use fault::{JournalFault, NoMemory};
+pub use journal::Journal;
+pub use kept::Kept;
+pub use record::{Code, Record};
+pub use standing::Standing;

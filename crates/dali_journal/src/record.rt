@@ -1,0 +1,107 @@
+ghost use Rattle.std.specs.Prelude.{◌≡◌, ◌+◌, ◌*◌, ◌≤◌, ◌++◌, ◌∷◌, [], length};
+ghost use Rattle.arrayvec.specs.ArrayVec.{array_vec_len};
+ghost use Rattle.dali_journal.specs.Spelling.{spelling, order_spelling, pairs_spelling, code_number};
+
+use arrayvec::ArrayVec;
+use dali_bank::Order;
+
+/// The most bytes of a record: those of an order with 115 updates.
+pub(crate) const MOST_BYTES: usize = 241;
+
+/// How an order ended (profile).
+#[derive(Clone, Copy, Debug, PartialEq, Eq, Hash)]
+pub enum Code {
+    /// 0: each update's location was read back and held its byte, and the unit was closed.
+    Done,
+    /// 1: the unit's bank 1 is too short. Nothing was written.
+    Short,
+    /// 2: the content format isn't 0003h. Nothing was written.
+    Format,
+    /// 3: the unit didn't answer. Nothing was written.
+    Silent,
+    /// 4: each location holds its old byte or the new one, and the unit was closed.
+    Doubt,
+    /// 5: as `Doubt`, but the unit may still be write-enabled.
+    DoubtOpen,
+}
+
+impl Code {
+    /// The code's number in the journal's bytes, 0 to 5.
+    pub fn number(&self) -> u8
+        ensures { result ≡ code_number self.now }
+    {
+        match self {
+            Code::Done => 0,
+            Code::Short => 1,
+            Code::Format => 2,
+            Code::Silent => 3,
+            Code::Doubt => 4,
+            Code::DoubtOpen => 5,
+        }
+    }
+}
+
+/// A record of the journal (profile). A unit is a short address, 0 to 63.
+#[derive(Drop)]
+pub enum Record {
+    /// The order was begun.
+    Began(Order),
+    /// The order's unit may be write-enabled from here on.
+    Opened(u8),
+    /// The order ended so.
+    Ended(Code),
+    /// The unit that was left was closed.
+    Closed(u8),
+}
+
+impl Record {
+    /// The record's bytes, 2 to 241 (profile): a letter, and then for `Began` (B, 42h) the order's
+    /// number in 8 bytes, the most significant first, its unit, the number of its updates and each
+    /// update's location and byte; for `Opened` (O, 4Fh) and `Closed` (C, 43h) the unit; for `Ended`
+    /// (E, 45h) the code's number.
+    pub fn bytes(&self) -> ArrayVec<u8, MOST_BYTES>
+        ensures { result.items ≡ spelling self.now }
+    {
+        match self {
+            Record::Began(order) => began_bytes(order),
+            Record::Opened(unit) => two_bytes(b'O', *unit),
+            Record::Ended(code) => two_bytes(b'E', code.number()),
+            Record::Closed(unit) => two_bytes(b'C', *unit),
+        }
+    }
+}
+
+// A letter and one byte.
+fn two_bytes(letter: u8, byte: u8) -> ArrayVec<u8, MOST_BYTES>
+    ensures { result.items ≡ letter ∷ byte ∷ [] }
+{
+    let mut bytes = ArrayVec::new();
+    bytes.push(letter);
+    bytes.push(byte);
+    bytes
+}
+
+// The bytes of a record that begins an order.
+fn began_bytes(order: &Order) -> ArrayVec<u8, MOST_BYTES>
+    ensures { result.items ≡ 0x42 ∷ order_spelling order.now }
+{
+    let updates = order.updates();
+    let mut bytes = ArrayVec::new();
+    bytes.push(b'B');
+    let _ = bytes.try_extend_from_slice(&order.id().to_be_bytes());
+    bytes.push(order.unit());
+    bytes.push(updates.len() as u8);
+    push_pairs(&mut bytes, updates);
+    bytes
+}
+
+// Puts each location and its byte at the end.
+fn push_pairs(bytes: &mut ArrayVec<u8, MOST_BYTES>, pairs: &[(u8, u8)])
+    requires { array_vec_len bytes.old + 2 * length pairs.now ≤ 241 }
+    ensures { bytes.new.items ≡ bytes.old.items ++ pairs_spelling pairs.now }
+{
+    for &(location, byte) in pairs {
+        bytes.push(location);
+        bytes.push(byte);
+    }
+}

@@ -5,7 +5,7 @@ use Rattle.dali_journal.specs.declared.record.Record.{Record}
 use Rattle.dali_journal.specs.declared.record.Record.TheVariants.{Began, Closed}
 use Rattle.dali_journal.specs.declared.standing.Standing.{Standing}
 use Rattle.dali_journal.specs.declared.standing.Standing.TheVariants as standings
-use Rattle.dali_journal.specs.Sentence.{standing_of, is_begun, Allows, IsSentence}
+use Rattle.dali_journal.specs.Sentence.{standing_of, is_begun, IsSentence}
 use Rattle.dali_journal.specs.Orders.{orders_of}
 
 -- its records, the newest first, the most orders that it may hold, and for how many records more it has memory

@@ -1,6 +1,7 @@
--- A list of groups is what the table allows, record by record.
+-- What the table allows, record by record, is a list of groups.
 use Rattle.std.proofs.Common.{◌≡◌, ℕ, Bool, true, false, List, [], ◌∷◌, ◌++◌, reverse, refl, sym, ap, ◌∙◌, subst, arith, ◌||◌, ◌==◌}
-use Rattle.std.proofs.Math.Bool.{or_assoc}
+use Rattle.std.proofs.Math.Bool.{or_assoc, or-false}
+use Rattle.std.proofs.lemmas.Bool.{or_from, or_parts}
 use Rattle.std.proofs.lemmas.Bool.Decides.{nat_tests}
 use Rattle.std.proofs.lemmas.List.{reverse-append}
 use Rattle.dali_bank.specs.Order.{Contents}
@@ -81,22 +82,11 @@ standing_reverse (entry ∷ older) =
 
 -- numbers
 
-both_false : (a b : Bool) → a ≡ false → b ≡ false → (a || b) ≡ false
-both_false a b p q = rw (p, q) refl
-
-neither : (a b : Bool) → (a || b) ≡ false → (a ≡ false) × (b ≡ false)
-neither true b e = cc
-neither false b e = (refl, e)
-
 or_swap : (a b : Bool) → (b || (a || false)) ≡ (a || b)
 or_swap true true = refl
 or_swap true false = refl
 or_swap false true = refl
 or_swap false false = refl
-
-or_none : (b : Bool) → (b || false) ≡ b
-or_none true = refl
-or_none false = refl
 
 apart : (a b : ℕ) → (a == b) ≡ false → (b == a) ≡ false
 apart a b e = grind (arith, nat_tests)
@@ -112,9 +102,9 @@ begun_push id (Closed unit ∷ rest) entry = begun_push id rest entry
 
 one_more : (id : ℕ) (entry : Record) (older : List Record) → (is_begun id older || is_begun id (entry ∷ [])) ≡ is_begun id (entry ∷ older)
 one_more id (Began order) older = or_swap (order.id == id) (is_begun id older)
-one_more id (Opened unit) older = or_none (is_begun id older)
-one_more id (Ended code) older = or_none (is_begun id older)
-one_more id (Closed unit) older = or_none (is_begun id older)
+one_more id (Opened unit) older = or-false (is_begun id older)
+one_more id (Ended code) older = or-false (is_begun id older)
+one_more id (Closed unit) older = or-false (is_begun id older)
 
 begun_reverse : (id : ℕ) (records : List Record) → is_begun id (reverse records) ≡ is_begun id records
 begun_reverse id [] = refl
@@ -143,13 +133,13 @@ new_alone (Closed unit) = tt
 -- a new number is another than the first
 new_first : (first : Contents) (rest : List Record) (entry : Record) → IsNew entry (Began first ∷ rest) → is_begun first.id (entry ∷ []) ≡ false
 new_first first rest (Began order) new =
-    both_false (order.id == first.id) false (apart first.id order.id (neither (first.id == order.id) (is_begun order.id rest) new).0) refl
+    or_from (order.id == first.id) false (apart first.id order.id (or_parts (first.id == order.id) (is_begun order.id rest) new).0) refl
 new_first first rest (Opened unit) new = refl
 new_first first rest (Ended code) new = refl
 new_first first rest (Closed unit) new = refl
 
 new_rest : (first : Contents) (rest : List Record) (entry : Record) → IsNew entry (Began first ∷ rest) → IsNew entry rest
-new_rest first rest (Began order) new = (neither (first.id == order.id) (is_begun order.id rest) new).1
+new_rest first rest (Began order) new = (or_parts (first.id == order.id) (is_begun order.id rest) new).1
 new_rest first rest (Opened unit) new = tt
 new_rest first rest (Ended code) new = tt
 new_rest first rest (Closed unit) new = tt
@@ -157,7 +147,7 @@ new_rest first rest (Closed unit) new = tt
 new_both : (first : Contents) (rest : List Record) (entry : Record) → is_begun first.id (entry ∷ []) ≡ false → IsNew entry rest
     → IsNew entry (Began first ∷ rest)
 new_both first rest (Began order) other new =
-    both_false (first.id == order.id) (is_begun order.id rest) (apart order.id first.id (neither (order.id == first.id) false other).0) new
+    or_from (first.id == order.id) (is_begun order.id rest) (apart order.id first.id (or_parts (order.id == first.id) false other).0) new
 new_both first rest (Opened unit) other new = tt
 new_both first rest (Ended code) other new = tt
 new_both first rest (Closed unit) other new = tt
@@ -165,7 +155,7 @@ new_both first rest (Closed unit) other new = tt
 distinct_push : (entries : List Record) (entry : Record) → HaveDistinctNumbers entries → IsNew entry entries → HaveDistinctNumbers (entries ++ entry ∷ [])
 distinct_push [] entry h new = alone entry
 distinct_push (Began first ∷ rest) entry h new = (
-  begun_push first.id rest entry ∙ both_false (is_begun first.id rest) (is_begun first.id (entry ∷ [])) h.0 (new_first first rest entry new),
+  begun_push first.id rest entry ∙ or_from (is_begun first.id rest) (is_begun first.id (entry ∷ [])) h.0 (new_first first rest entry new),
   distinct_push rest entry h.1 (new_rest first rest entry new),
 )
 distinct_push (Opened unit ∷ rest) entry h new = distinct_push rest entry h (new_same entry (Opened unit ∷ rest) rest (λ id. refl) new)
@@ -176,7 +166,7 @@ distinct_pop : (entries : List Record) (entry : Record) → HaveDistinctNumbers 
 distinct_pop [] entry h = (tt, new_alone entry)
 distinct_pop (Began first ∷ rest) entry h =
     let more = distinct_pop rest entry h.1 in
-    let both = neither (is_begun first.id rest) (is_begun first.id (entry ∷ [])) (sym (begun_push first.id rest entry) ∙ h.0) in
+    let both = or_parts (is_begun first.id rest) (is_begun first.id (entry ∷ [])) (sym (begun_push first.id rest entry) ∙ h.0) in
     ((both.0, more.0), new_both first rest entry both.1 more.1)
 distinct_pop (Opened unit ∷ rest) entry h =
     let more = distinct_pop rest entry h in (more.0, new_same entry rest (Opened unit ∷ rest) (λ id. refl) more.1)

@@ -1,0 +1,11 @@
+pub mod Exchanges
+pub mod Lines
+pub mod Plans
+pub mod Tries
+pub mod Told
+pub mod Worlds
+pub mod Counts
+pub mod Verdicts
+pub mod Stages
+pub mod Losses
+pub mod Walks

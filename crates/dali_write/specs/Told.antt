@@ -1,0 +1,26 @@
+-- What a session was told.
+use Rattle.std.specs.Prelude.{◌≡◌, List, drop, Option, None, slice_get}
+use Rattle.dali_write.specs.Exchanges.{Exchange}
+use Rattle.dali_write.specs.declared.line.Line.{Line}
+use Rattle.dali_write.specs.declared.session.Ask.{Ask}
+use Rattle.dali_write.specs.declared.session.Session.{Session}
+use Rattle.dali_write.specs.Tries.{Stands, plan_lines, ask_at}
+use Rattle.dali_write.specs.Stages.{plan_of, plan_at}
+
+-- what the session wants
+abbrev pub aim_of : Session → Ask
+aim_of s = ask_at (plan_at s.job s.stage) (drop s.number (plan_lines (s.unit) (plan_at s.job s.stage)))
+
+-- the frame at hand, with the answer that it wants
+abbrev pub line_of : Session → Option Line
+line_of s = slice_get (plan_lines (s.unit) (plan_at s.job s.stage)) s.number
+
+-- a step begins, with its first try
+abbrev pub BeginsTry : Session → Type 0
+BeginsTry s = (s.misses ≡ 0) × (s.number ≡ 0) × (s.byte ≡ None)
+
+-- A session was told these.
+unfoldable pub Told : List Exchange → Session → Type 0
+Told told s =
+    Stands (s.unit) (plan_of s.job) told (plan_at s.job s.stage) s.misses
+    (drop s.number (plan_lines (s.unit) (plan_at s.job s.stage))) s.byte

@@ -1,0 +1,113 @@
+//! Laws over the definitions alone.
+ghost use Rattle.std.specs.Prelude.{◌≡◌, ◌∷◌, ◌≤◌, ◌<◌, ◌⊎◌, ◌+◌, ◌*◌, List, [], length, slice_get, Some, ℕ, Option};
+ghost use Rattle.dali_frame.specs.declared.forward.Frame.TheVariants.{Write};
+ghost use Rattle.dali_write.specs.declared.session.Ask.{Ask};
+ghost use Rattle.dali_gear.specs.World.{World, Gear};
+ghost use Rattle.dali_gear.specs.Carry.{Carry};
+ghost use Rattle.dali_write.specs.Exchanges.{Exchange};
+ghost use Rattle.dali_write.specs.declared.session.Session.{Session};
+ghost use Rattle.dali_write.specs.declared.session.Verdict.{Verdict};
+ghost use Rattle.dali_write.specs.Plans.{unlock, close, read_length, read_all};
+ghost use Rattle.dali_write.specs.Tries.{Wants};
+ghost use Rattle.dali_write.specs.Verdicts.{Says};
+ghost use Rattle.dali_write.specs.Stages.{plan_of};
+ghost use Rattle.dali_write.specs.Told.{Told, aim_of};
+ghost use Rattle.dali_write.specs.Counts.{frame_limit};
+ghost use Rattle.dali_gear.specs.SimState.{SimState, AreApart, world_of};
+ghost use Rattle.dali_gear.specs.UnitState.{UnitState, gear_of};
+ghost use Rattle.dali_write.specs.declared.step.Step.{Step};
+ghost use Rattle.dali_write.specs.declared.step.Step.TheVariants.{WriteTo};
+ghost use Rattle.dali_write.specs.Lines.{step_lines};
+ghost use Rattle.dali_write.specs.Tries.{Missed, Misses, Succeeds, Fails};
+ghost use Rattle.dali_write.specs.Walks.{Took, Failed};
+ghost use Rattle.dali_write.specs.Losses.{SimRun, losses, Unrefused, IsAlone, CanDo, OnlyDiffers};
+ghost use Rattle.dali_write.specs.Worlds.{Run, ReadsByte, Shows, KeepsAt, Selects, OnlyEnabled, MayWrite};
+
+/// A session wants what its plan asks after what it was told, and ends so.
+pub fn sessions_follow_their_plans()
+    ensures { (told : List Exchange) (s : Session) → Told told s → Wants s.unit (plan_of s.job) told (aim_of s) }
+{}
+
+/// No session sends more frames than its limit.
+pub fn sessions_send_few_frames()
+    ensures { (told : List Exchange) (s : Session) → Told told s → length told ≤ frame_limit s.job }
+{}
+
+/// A checked read tells the byte at its place, and then the unit isn't enabled; no memory changes, and no unit is newly enabled.
+pub fn checked_reads_are_true()
+    ensures byte { (tried : List Exchange) (first last : World) (unit location byte : ℕ) → Run tried first last → ReadsByte unit location byte tried
+        → Shows last unit location byte }
+    ensures quiet { (tried : List Exchange) (first last : World) (unit location byte : ℕ) → Run tried first last → ReadsByte unit location byte tried
+        → (address : ℕ) → KeepsAt first last address }
+{}
+
+/// Where the unit was made sure to have selected the location, and no other unit is enabled, a write stores its byte there or nothing.
+pub fn guarded_writes_are_safe()
+    ensures { (told : List Exchange) (first before last : World) (unit location byte : ℕ) (answer : Option ℕ)
+        → Run told first before → Selects unit location told → OnlyEnabled unit before → Carry before (Write byte) answer last
+        → MayWrite before unit location byte answer last }
+{}
+
+/// What a session's verdict says of the world.
+pub fn verdicts_are_true()
+    ensures opened { (told : List Exchange) (first last : World) (unit : ℕ) (updates : List (ℕ × ℕ)) (verdict : Verdict)
+        → Run told first last → Wants unit (unlock updates) told (Ask.Ended verdict) → Says unit updates last verdict }
+    ensures fresh { (told : List Exchange) (first last : World) (unit : ℕ) (updates : List (ℕ × ℕ)) (verdict : Verdict)
+        → Run told first last → Wants unit (read_length updates) told (Ask.Ended verdict) → Says unit updates last verdict }
+    ensures closing { (told : List Exchange) (first last : World) (unit : ℕ) (verdict : Verdict)
+        → Run told first last → Wants unit (close Verdict.Closed Verdict.NotClosed) told (Ask.Ended verdict) → Says unit [] last verdict }
+{}
+
+/// A session that looks whether a bank suits, or reads it, changes no memory and enables no unit.
+pub fn readers_are_quiet()
+    ensures fresh { (told : List Exchange) (first last : World) (unit : ℕ) (updates : List (ℕ × ℕ)) (ask : Ask)
+        → Run told first last → Wants unit (read_length updates) told ask → (address : ℕ) → KeepsAt first last address }
+    ensures reading { (told : List Exchange) (first last : World) (unit : ℕ) (ask : Ask)
+        → Run told first last → Wants unit read_all told ask → (address : ℕ) → KeepsAt first last address }
+{}
+
+/// On the simulated bus, a try misses only by a loss to its unit.
+pub fn tries_miss_by_losses()
+    ensures { (at : ℕ) (step : Step) (unit : UnitState) (told : List Exchange) (first last : SimState) (run : SimRun told first last)
+        → IsAlone at unit first.units → CanDo step unit → Unrefused told first last run → Missed (step_lines at step) told → 1 ≤ losses at told first last run }
+{}
+
+/// On the simulated bus a step misses no more often than its unit has losses, and with fewer than eight of them it succeeds.
+pub fn steps_outlive_losses()
+    ensures misses { (at : ℕ) (step : Step) (unit : UnitState) (misses : ℕ) (told : List Exchange) (first last : SimState) (run : SimRun told first last)
+        → IsAlone at unit first.units → CanDo step unit → Unrefused told first last run → Misses (step_lines at step) misses told → misses ≤ losses at told first last run }
+    ensures succeeds { (at : ℕ) (step : Step) (unit : UnitState) (outcome : Option ℕ) (told : List Exchange) (first last : SimState) (run : SimRun told first last)
+        → IsAlone at unit first.units → CanDo step unit → Unrefused told first last run → losses at told first last run < 8
+        → Succeeds (step_lines at step) outcome told ⊎ Fails (step_lines at step) outcome told → Succeeds (step_lines at step) outcome told }
+{}
+
+/// How many frames an opened session took that ended Done.
+pub fn done_sessions_take_exactly()
+    ensures { (told : List Exchange) (unit : ℕ) (updates : List (ℕ × ℕ))
+        → Wants unit (unlock updates) told (Ask.Ended Verdict.Done) → Took unit (unlock updates) told Verdict.Done (12 * length updates + 19) }
+{}
+
+/// A session gives up only after eight misses of one step.
+pub fn sessions_give_up_late()
+    ensures fresh { (told : List Exchange) (unit : ℕ) (updates : List (ℕ × ℕ))
+        → Wants unit (read_length updates) told (Ask.Ended Verdict.Silent) → Failed unit (read_length updates) told Verdict.Silent }
+    ensures opened { (told : List Exchange) (unit : ℕ) (updates : List (ℕ × ℕ))
+        → Wants unit (unlock updates) told (Ask.Ended Verdict.DoubtOpen) → Failed unit (unlock updates) told Verdict.DoubtOpen }
+    ensures closing { (told : List Exchange) (unit : ℕ)
+        → Wants unit (close Verdict.Closed Verdict.NotClosed) told (Ask.Ended Verdict.NotClosed) → Failed unit (close Verdict.Closed Verdict.NotClosed) told Verdict.NotClosed }
+    ensures reading { (told : List Exchange) (unit : ℕ)
+        → Wants unit read_all told (Ask.Ended Verdict.Silent) → Failed unit read_all told Verdict.Silent }
+{}
+
+/// On the simulated bus a checked write that succeeded has stored its byte and nothing else, whatever was lost or refused before.
+pub fn successful_writes_are_stored()
+    ensures { (at location byte : ℕ) (unit : UnitState) (outcome : Option ℕ) (told : List Exchange) (first last : SimState) → SimRun told first last
+        → IsAlone at unit first.units → Succeeds (step_lines at (WriteTo location byte)) outcome told
+        → (now : UnitState) × IsAlone at now last.units × OnlyDiffers unit.bank1 location now.bank1 × (slice_get now.bank1.bytes location ≡ Some byte) }
+{}
+
+/// Where the units are at different addresses and no other is enabled, the unit at an address is alone.
+pub fn apart_units_are_alone()
+    ensures { (at : ℕ) (units : List UnitState) (gear : Gear) → AreApart units → OnlyEnabled at (world_of units) → world_of units at ≡ Some gear
+        → (unit : UnitState) × IsAlone at unit units × (gear_of unit ≡ gear) }
+{}

@@ -171,4 +171,4 @@ plan_takes Reading = (omega arith, takes_either 10160 _ (λ last. read_on 1 (min
 
 pub told_length : (told : List Exchange) (s : Session) → Told told s → length told ≤ frame_limit s.job
 unfolding Told
-told_length told s was = stands_takes _ (plan_of s.job) told _ _ _ _ (frame_limit s.job) was (plan_takes s.job)
+told_length told s was = stands_takes _ (plan_of s.job) told _ _ _ _ (frame_limit s.job) was.stands (plan_takes s.job)

@@ -9,18 +9,18 @@ use Rattle.dali_write.specs.Lines.{Meets, line, step_lines, byte_after}
 use Rattle.dali_write.specs.Plans.{Plan, Finish, Check, goes_on, plan_after}
 use Rattle.dali_write.specs.Tries.{Trying, Missed, Misses, byte_of, Succeeds, Fails, StepEnds, StepsEnd, plan_lines, GoesOn, Stands}
 
-goes_first : (unit : ℕ) (plan : Plan) → GoesOn plan (plan_lines unit plan)
+pub goes_first : (unit : ℕ) (plan : Plan) → GoesOn plan (plan_lines unit plan)
 goes_first unit (Finish verdict) = tt
 goes_first unit (Check (ReadFrom location) after) = tt
 goes_first unit (Check (WriteTo location byte) after) = tt
 
 -- at the beginning
-pub stands_at_first : (unit : ℕ) (plan : Plan) → Stands unit plan [] plan 0 (plan_lines unit plan) None
+unfoldable pub stands_at_first : (unit : ℕ) (plan : Plan) → Stands unit plan [] plan 0 (plan_lines unit plan) None
 stands_at_first unit plan =
     record { outcomes = []; ended = []; missed = []; tried = []; parts = refl; steps = refl; now_is = refl; few = omega arith; misses_are = refl; try = refl; byte_is = refl; going = goes_first unit plan }
 
 -- the frame at hand got what it wants
-pub stands_on : (unit : ℕ) (plan : Plan) (told : List Exchange) (now : Plan) (misses : ℕ) (left : List Line) (byte : Option ℕ) (frame : Frame) (answer : Option ℕ) (wish : Wish)
+unfoldable pub stands_on : (unit : ℕ) (plan : Plan) (told : List Exchange) (now : Plan) (misses : ℕ) (left : List Line) (byte : Option ℕ) (frame : Frame) (answer : Option ℕ) (wish : Wish)
     → Stands unit plan told now misses (line frame wish ∷ left) byte → Meets wish answer → GoesOn now left
     → Stands unit plan (record { frame = frame; answer = answer } ∷ told) now misses left (byte_after frame answer byte)
 stands_on unit plan told now misses left byte frame answer wish s meets going =
@@ -41,7 +41,7 @@ stands_on unit plan told now misses left byte frame answer wish s meets going =
     }
 
 -- another try of the same step
-pub stands_again : (unit : ℕ) (plan : Plan) (told : List Exchange) (now : Plan) (misses : ℕ) (left : List Line) (byte : Option ℕ) (frame : Frame) (answer : Option ℕ) (wish : Wish)
+unfoldable pub stands_again : (unit : ℕ) (plan : Plan) (told : List Exchange) (now : Plan) (misses : ℕ) (left : List Line) (byte : Option ℕ) (frame : Frame) (answer : Option ℕ) (wish : Wish)
     → Stands unit plan told now misses (line frame wish ∷ left) byte → ¬ Meets wish answer → suc misses < 8
     → Stands unit plan (record { frame = frame; answer = answer } ∷ told) now (suc misses) (plan_lines unit now) None
 stands_again unit plan told now misses left byte frame answer wish s misses_it few =
@@ -62,7 +62,7 @@ stands_again unit plan told now misses left byte frame answer wish s misses_it f
     }
 
 -- the step ended
-ends_step : (unit : ℕ) (plan : Plan) (told : List Exchange) (now : Plan) (outcomes : List (Option ℕ)) (ended newer : List Exchange) (outcome : Option ℕ)
+unfoldable pub ends_step : (unit : ℕ) (plan : Plan) (told : List Exchange) (now : Plan) (outcomes : List (Option ℕ)) (ended newer : List Exchange) (outcome : Option ℕ)
     → told ≡ newer ++ ended → StepsEnd unit plan outcomes ended → plan_after plan outcomes ≡ now → StepEnds unit now outcome newer
     → Stands unit plan told (goes_on now outcome) 0 (plan_lines unit (goes_on now outcome)) None
 ends_step unit plan told now outcomes ended newer outcome parts steps now_is ends =
@@ -86,7 +86,7 @@ trying_none : (tried : List Exchange) (next : Line) (left : List Line) → Tryin
 trying_none [] next left try = cc
 trying_none (x ∷ tried) next left try = trying_none tried (line x.frame try.0) (next ∷ left) try.2
 
-done_ends : (unit : ℕ) (now : Plan) (misses : ℕ) (tried missed : List Exchange) (byte : Option ℕ) (frame : Frame) (answer : Option ℕ) (wish : Wish)
+pub done_ends : (unit : ℕ) (now : Plan) (misses : ℕ) (tried missed : List Exchange) (byte : Option ℕ) (frame : Frame) (answer : Option ℕ) (wish : Wish)
     → misses < 8 → Misses (plan_lines unit now) misses missed → Trying (plan_lines unit now) tried (line frame wish ∷ []) → byte_of tried ≡ byte → Meets wish answer
     → StepEnds unit now (byte_after frame answer byte) ((record { frame = frame; answer = answer } ∷ tried) ++ missed)
 done_ends unit (Finish verdict) misses tried missed byte frame answer wish few are try is meets = absurd (trying_none tried (line frame wish) [] try)
@@ -94,7 +94,7 @@ done_ends unit (Check step after) misses tried missed byte frame answer wish few
     let x : Exchange = record { frame = frame; answer = answer } in
     inl (x ∷ tried, missed, misses, refl, (wish, meets, try), ap (λ (b : Option ℕ). byte_after frame answer b) (sym is), few, are)
 
-failed_ends : (unit : ℕ) (now : Plan) (tried missed : List Exchange) (frame : Frame) (answer : Option ℕ) (wish : Wish) (left : List Line)
+pub failed_ends : (unit : ℕ) (now : Plan) (tried missed : List Exchange) (frame : Frame) (answer : Option ℕ) (wish : Wish) (left : List Line)
     → Misses (plan_lines unit now) 7 missed → Trying (plan_lines unit now) tried (line frame wish ∷ left) → ¬ Meets wish answer
     → StepEnds unit now None ((record { frame = frame; answer = answer } ∷ tried) ++ missed)
 failed_ends unit (Finish verdict) tried missed frame answer wish left are try misses_it = absurd (trying_none tried (line frame wish) left try)
@@ -103,7 +103,7 @@ failed_ends unit (Check step after) tried missed frame answer wish left are try 
     inr (refl, (x ∷ tried, missed, refl, (wish, left, misses_it, try), are))
 
 -- the last frame of a try got what it wants
-pub stands_done : (unit : ℕ) (plan : Plan) (told : List Exchange) (now : Plan) (misses : ℕ) (byte : Option ℕ) (frame : Frame) (answer : Option ℕ) (wish : Wish)
+unfoldable pub stands_done : (unit : ℕ) (plan : Plan) (told : List Exchange) (now : Plan) (misses : ℕ) (byte : Option ℕ) (frame : Frame) (answer : Option ℕ) (wish : Wish)
     → Stands unit plan told now misses (line frame wish ∷ []) byte → Meets wish answer
     → Stands unit plan (record { frame = frame; answer = answer } ∷ told) (goes_on now (byte_after frame answer byte)) 0
     (plan_lines unit (goes_on now (byte_after frame answer byte))) None
@@ -114,7 +114,7 @@ stands_done unit plan told now misses byte frame answer wish s meets =
     (done_ends unit now misses s.tried s.missed byte frame answer wish s.few s.misses_are s.try s.byte_is meets)
 
 -- the eighth try missed
-pub stands_failed : (unit : ℕ) (plan : Plan) (told : List Exchange) (now : Plan) (misses : ℕ) (left : List Line) (byte : Option ℕ) (frame : Frame) (answer : Option ℕ) (wish : Wish)
+unfoldable pub stands_failed : (unit : ℕ) (plan : Plan) (told : List Exchange) (now : Plan) (misses : ℕ) (left : List Line) (byte : Option ℕ) (frame : Frame) (answer : Option ℕ) (wish : Wish)
     → Stands unit plan told now misses (line frame wish ∷ left) byte → ¬ Meets wish answer → 7 ≤ misses
     → Stands unit plan (record { frame = frame; answer = answer } ∷ told) (goes_on now None) 0 (plan_lines unit (goes_on now None)) None
 stands_failed unit plan told now misses left byte frame answer wish s misses_it many =

@@ -2,6 +2,7 @@ pub mod Exchanges
 pub mod Lines
 pub mod Plans
 pub mod Tries
+pub mod Found
 pub mod Told
 pub mod Worlds
 pub mod Counts

@@ -4,7 +4,8 @@ use Rattle.dali_write.specs.Exchanges.{Exchange}
 use Rattle.dali_write.specs.declared.line.Line.{Line}
 use Rattle.dali_write.specs.declared.session.Ask.{Ask}
 use Rattle.dali_write.specs.declared.session.Session.{Session}
-use Rattle.dali_write.specs.Tries.{Stands, plan_lines, ask_at}
+use Rattle.dali_write.specs.Tries.{plan_lines, ask_at}
+use Rattle.dali_write.specs.Found.{StandsWith}
 use Rattle.dali_write.specs.Stages.{plan_of, plan_at}
 
 -- what the session wants
@@ -22,5 +23,5 @@ BeginsTry s = (s.misses ≡ 0) × (s.number ≡ 0) × (s.byte ≡ None)
 -- A session was told these.
 unfoldable pub Told : List Exchange → Session → Type 0
 Told told s =
-    Stands (s.unit) (plan_of s.job) told (plan_at s.job s.stage) s.misses
-    (drop s.number (plan_lines (s.unit) (plan_at s.job s.stage))) s.byte
+    StandsWith s.job (s.unit) (plan_of s.job) told (plan_at s.job s.stage) s.misses
+    (drop s.number (plan_lines (s.unit) (plan_at s.job s.stage))) s.byte s.bytes.items

@@ -1,5 +1,5 @@
 // A session carries out a plan of checked steps, one frame at a time.
-ghost use Rattle.std.specs.Prelude.{◌≡◌, ◌∷◌, ◌≤◌, ◌<◌, ◌+◌, ◌-◌, [], List, ℕ, Option, IsSome, IsNone, IfSome, ◌==◌, if◌then◌else◌, drop, slice_get, max};
+ghost use Rattle.std.specs.Prelude.{◌≡◌, ◌∷◌, ◌≤◌, ◌<◌, ◌+◌, ◌-◌, [], List, ℕ, Option, IsSome, IsNone, IfSome, ◌==◌, if◌then◌else◌, drop, slice_get, max, length};
 ghost use Rattle.dali_frame.specs.declared.forward.Frame.{Frame};
 ghost use Rattle.dali_frame.specs.Frame.{IsProper};
 ghost use Rattle.dali_write.specs.Exchanges.{Exchange};
@@ -10,6 +10,7 @@ ghost use Rattle.dali_write.specs.declared.line.Wish.{Wish};
 ghost use Rattle.dali_write.specs.declared.session.Verdict.{Verdict};
 ghost use Rattle.dali_write.specs.declared.session.Job.{Job};
 ghost use Rattle.dali_write.specs.Stages.{plan_of, order_of, plan_at, step_of, updates_of, verdict_of};
+ghost use Rattle.dali_write.specs.Found.{kept_after};
 
 use crate::line::{Line, byte_after};
 use crate::step::Step;
@@ -192,6 +193,13 @@ impl Session {
         }
     }
 
+    /// What a reading session has read so far: bank 1 from location 00h on. Empty for the others.
+    pub fn bytes(&self) -> &[u8]
+        ensures { result.now ≡ self.now.bytes.items }
+    {
+        self.bytes.as_slice()
+    }
+
     /// How it ended.
     fn verdict(&self) -> Verdict
         ensures { result ≡ verdict_of self.now.stage }
@@ -300,8 +308,11 @@ impl Session {
         ensures job { self.new.job ≡ self.old.job }
         ensures plan { plan_at self.new.job self.new.stage ≡ goes_on (plan_at self.old.job self.old.stage) outcome }
         ensures begins { BeginsTry self.new }
+        ensures bytes { length self.old.bytes.items < 255 → self.new.bytes.items ≡ kept_after self.old.job self.old.bytes.items outcome }
     {
-        self.stage = self.next_stage(outcome);
+        let stage = self.next_stage(outcome);
+        keep_byte(&mut self.bytes, &self.job, outcome);
+        self.stage = stage;
         self.misses = 0;
         self.number = 0;
         self.byte = None;
@@ -358,6 +369,15 @@ impl Session {
             Stage::ReadOn(location, last) => read_next(location, last, outcome),
             Stage::Over(_) => self.stage,
         }
+    }
+}
+
+/// Keeps the byte that a reading session has read.
+fn keep_byte(bytes: &mut ArrayVec<u8, 255>, job: &Job, outcome: Option<u8>)
+    ensures { length bytes.old.items < 255 → bytes.new.items ≡ kept_after job.now bytes.old.items outcome }
+{
+    if let (Job::Reading, Some(byte)) = (job, outcome) {
+        let _ = bytes.try_push(byte);
     }
 }
 

@@ -67,7 +67,7 @@ pub fn readers_are_quiet()
         → Run told first last → Wants unit read_all told ask → (address : ℕ) → KeepsAt first last address }
 {}
 
-/// Where no other unit is enabled, a session changes only the places that it writes, in its own unit, and each of them holds its old byte or a written one; no other unit changes or is enabled.
+/// Where no other unit is enabled, a session changes only the places that it writes, at its unit, and each of them holds its old byte or a written one. No other unit changes or is enabled.
 pub fn sessions_touch_their_places_alone()
     ensures opened { (told : List Exchange) (first last : World) (unit : ℕ) (updates : List (ℕ × ℕ)) (ask : Ask)
         → OnlyEnabled unit first → Run told first last → Wants unit (unlock updates) told ask → Touches (writes_of updates) unit first last }

@@ -21,6 +21,7 @@ ghost use Rattle.dali_write.specs.Lines.{step_lines};
 ghost use Rattle.dali_write.specs.Tries.{Missed, Misses, Succeeds, Fails};
 ghost use Rattle.dali_write.specs.Walks.{Took, Failed};
 ghost use Rattle.dali_write.specs.Losses.{SimRun, losses, Unrefused, IsAlone, CanDo, OnlyDiffers};
+ghost use Rattle.dali_write.specs.Touches.{Touches, writes_of};
 ghost use Rattle.dali_write.specs.Worlds.{Run, ReadsByte, Shows, KeepsAt, Selects, OnlyEnabled, MayWrite};
 
 /// A session wants what its plan asks after what it was told, and ends so.
@@ -64,6 +65,17 @@ pub fn readers_are_quiet()
         → Run told first last → Wants unit (read_length updates) told ask → (address : ℕ) → KeepsAt first last address }
     ensures reading { (told : List Exchange) (first last : World) (unit : ℕ) (ask : Ask)
         → Run told first last → Wants unit read_all told ask → (address : ℕ) → KeepsAt first last address }
+{}
+
+/// Where no other unit is enabled, a session changes only the places that it writes, at its unit, and each of them holds its old byte or a written one. No other unit changes or is enabled.
+pub fn sessions_touch_their_places_alone()
+    ensures opened { (told : List Exchange) (first last : World) (unit : ℕ) (updates : List (ℕ × ℕ)) (ask : Ask)
+        → OnlyEnabled unit first → Run told first last → Wants unit (unlock updates) told ask → Touches (writes_of updates) unit first last }
+    ensures closing { (told : List Exchange) (first last : World) (unit : ℕ) (ask : Ask)
+        → OnlyEnabled unit first → Run told first last → Wants unit (close Verdict.Closed Verdict.NotClosed) told ask → Touches ((2, 0xFF) ∷ []) unit first last }
+    ensures enabled { (told : List Exchange) (first last : World) (unit : ℕ) (updates : List (ℕ × ℕ)) (ask : Ask)
+        → OnlyEnabled unit first → Run told first last → Wants unit (unlock updates) told ask ⊎ Wants unit (close Verdict.Closed Verdict.NotClosed) told ask
+        → OnlyEnabled unit last }
 {}
 
 /// On the simulated bus, a try misses only by a loss to its unit.

@@ -36,11 +36,11 @@ walks unit plan (outcome ∷ outcomes) told ends =
           (walk_on unit plan before.0 ends.1 (plan_after plan outcomes) outcome ends.0 before.1 ends.3),
     )
 
-nothing_of : (told : List Exchange) → length told ≤ 0 → told ≡ []
+pub nothing_of : (told : List Exchange) → length told ≤ 0 → told ≡ []
 nothing_of [] le = refl
 nothing_of (x ∷ told) le = let no : ⊥ = omega arith in absurd no
 
-ended_told : (told tried missed ended : List Exchange) → told ≡ tried ++ (missed ++ ended) → tried ≡ [] → missed ≡ [] → told ≡ ended
+pub ended_told : (told tried missed ended : List Exchange) → told ≡ tried ++ (missed ++ ended) → tried ≡ [] → missed ≡ [] → told ≡ ended
 ended_told told tried missed ended parts one two = rw (one, two) at parts
 
 ended_at : (unit : ℕ) (plan : Plan) (told : List Exchange) (now : Plan) (misses : ℕ) (left : List Line) (byte : Option ℕ) (verdict : Verdict)

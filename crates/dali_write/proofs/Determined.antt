@@ -216,8 +216,7 @@ place_is unit plan (x ∷ told) place (inr p) =
     let is = p.told_is in
     let newest : x ≡ p.newest = cc in
     let older : p.older ≡ told = cc in
-    let before : Stands unit plan told p.now p.misses (line p.newest.frame p.wish ∷ p.left) p.byte =
-        subst (λ (t : List Exchange). Stands unit plan t p.now p.misses (line p.newest.frame p.wish ∷ p.left) p.byte) older p.before in
+    let before = subst (λ (t : List Exchange). Stands unit plan t p.now p.misses (line p.newest.frame p.wish ∷ p.left) p.byte) older p.before in
     let same = place_is unit plan told _ (peel unit plan told p.now p.misses (line p.newest.frame p.wish ∷ p.left) p.byte before) in
     ap (λ (at : Place). moved unit x at.now at.misses at.left at.byte) same
     ∙ ap (λ (y : Exchange). moved unit y p.now p.misses (line p.newest.frame p.wish ∷ p.left) p.byte) newest ∙ p.leads

@@ -7,9 +7,10 @@ ghost use Rattle.dali_gear.specs.Carry.{Carry};
 ghost use Rattle.dali_write.specs.Exchanges.{Exchange};
 ghost use Rattle.dali_write.specs.declared.session.Session.{Session};
 ghost use Rattle.dali_write.specs.declared.session.Verdict.{Verdict};
-ghost use Rattle.dali_write.specs.Plans.{unlock, close, read_length, read_all};
+ghost use Rattle.dali_write.specs.Plans.{Plan, unlock, close, read_length, read_all};
 ghost use Rattle.dali_write.specs.Tries.{Wants};
-ghost use Rattle.dali_write.specs.Verdicts.{Says};
+ghost use Rattle.dali_write.specs.Verdicts.{Says, ShowsBank};
+ghost use Rattle.dali_write.specs.declared.session.Job.{Job};
 ghost use Rattle.dali_write.specs.Stages.{plan_of};
 ghost use Rattle.dali_write.specs.Told.{Told, aim_of};
 ghost use Rattle.dali_write.specs.Counts.{frame_limit};
@@ -57,6 +58,8 @@ pub fn verdicts_are_true()
         → Run told first last → Wants unit (read_length updates) told (Ask.Ended verdict) → Says unit updates last verdict }
     ensures closing { (told : List Exchange) (first last : World) (unit : ℕ) (verdict : Verdict)
         → Run told first last → Wants unit (close Verdict.Closed Verdict.NotClosed) told (Ask.Ended verdict) → Says unit [] last verdict }
+    ensures reading { (told : List Exchange) (s : Session) (first last : World) → Told told s → s.job ≡ Job.Reading → aim_of s ≡ Ask.Ended Verdict.Read
+        → Run told first last → ShowsBank last s.unit s.bytes.items }
 {}
 
 /// A session that looks whether a bank suits, or reads it, changes no memory and enables no unit.
@@ -122,4 +125,14 @@ pub fn successful_writes_are_stored()
 pub fn apart_units_are_alone()
     ensures { (at : ℕ) (units : List UnitState) (gear : Gear) → AreApart units → OnlyEnabled at (world_of units) → world_of units at ≡ Some gear
         → (unit : UnitState) × IsAlone at unit units × (gear_of unit ≡ gear) }
+{}
+
+/// After what it was told, a session with a plan wants one thing alone.
+pub fn wants_are_determined()
+    ensures { (told : List Exchange) (unit : ℕ) (plan : Plan) (one other : Ask) → Wants unit plan told one → Wants unit plan told other → one ≡ other }
+{}
+
+/// Each frame that a session was told of was the one that it wanted.
+pub fn each_frame_was_wanted()
+    ensures { (told : List Exchange) (x : Exchange) (unit : ℕ) (plan : Plan) (ask : Ask) → Wants unit plan (x ∷ told) ask → Wants unit plan told (Ask.Send x.frame) }
 {}

@@ -3,6 +3,7 @@ pub mod Lines
 pub mod Plans
 pub mod Tries
 pub mod Found
+pub mod FramesLeft
 pub mod Told
 pub mod Worlds
 pub mod Counts

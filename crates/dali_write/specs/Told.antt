@@ -1,11 +1,12 @@
 -- What a session was told.
-use Rattle.std.specs.Prelude.{◌≡◌, List, drop, Option, None, slice_get}
+use Rattle.std.specs.Prelude.{◌≡◌, ℕ, ◌+◌, ◌-◌, ◌*◌, List, length, drop, Option, None, slice_get}
 use Rattle.dali_write.specs.Exchanges.{Exchange}
 use Rattle.dali_write.specs.declared.line.Line.{Line}
 use Rattle.dali_write.specs.declared.session.Ask.{Ask}
 use Rattle.dali_write.specs.declared.session.Session.{Session}
 use Rattle.dali_write.specs.Tries.{plan_lines, ask_at}
 use Rattle.dali_write.specs.Found.{StandsWith}
+use Rattle.dali_write.specs.FramesLeft.{limit_at}
 use Rattle.dali_write.specs.Stages.{plan_of, plan_at}
 
 -- what the session wants
@@ -25,3 +26,7 @@ unfoldable pub Told : List Exchange → Session → Type 0
 Told told s =
     StandsWith s.job (s.unit) (plan_of s.job) told (plan_at s.job s.stage) s.misses
     (drop s.number (plan_lines (s.unit) (plan_at s.job s.stage))) s.byte s.bytes.items
+
+-- the most frames that are still to come: those from the stage on, less those of the step at hand that its tries so far used up
+abbrev pub frames_left : Session → ℕ
+frames_left s = limit_at s.job s.stage - (s.misses * length (plan_lines s.unit (plan_at s.job s.stage)) + s.number)

@@ -1,5 +1,5 @@
 // A session carries out a plan of checked steps, one frame at a time.
-ghost use Rattle.std.specs.Prelude.{◌≡◌, ◌∷◌, ◌≤◌, ◌<◌, ◌+◌, ◌-◌, [], List, ℕ, Option, IsSome, IsNone, IfSome, ◌==◌, if◌then◌else◌, drop, slice_get, max, length};
+ghost use Rattle.std.specs.Prelude.{◌≡◌, ◌∷◌, ◌≤◌, ◌<◌, ◌+◌, ◌*◌, ◌-◌, [], List, ℕ, Option, IsSome, IsNone, IfSome, ◌==◌, if◌then◌else◌, drop, slice_get, max, length};
 ghost use Rattle.dali_frame.specs.declared.forward.Frame.{Frame};
 ghost use Rattle.dali_frame.specs.Frame.{IsProper};
 ghost use Rattle.dali_write.specs.Exchanges.{Exchange};
@@ -11,6 +11,7 @@ ghost use Rattle.dali_write.specs.declared.session.Verdict.{Verdict};
 ghost use Rattle.dali_write.specs.declared.session.Job.{Job};
 ghost use Rattle.dali_write.specs.Stages.{plan_of, order_of, plan_at, step_of, updates_of, verdict_of};
 ghost use Rattle.dali_write.specs.Found.{kept_after};
+ghost use Rattle.dali_write.specs.FramesLeft.{limit_at, read_limit, close_limit};
 
 use crate::line::{Line, byte_after};
 use crate::step::Step;
@@ -101,10 +102,11 @@ pub struct Session {
     byte: Option<u8>,
     bytes: ArrayVec<u8, 255>,
     ghost short: { unit ≤ 63 },
+    ghost few: { misses < 8 },
 }
 
 impl Session {
-    ghost use Rattle.dali_write.specs.Told.{Told, aim_of, line_of, BeginsTry};
+    ghost use Rattle.dali_write.specs.Told.{Told, aim_of, line_of, frames_left, BeginsTry};
 
     /// Looks whether the unit's bank suits an order.
     pub fn fresh(order: Order) -> Session
@@ -261,6 +263,7 @@ impl Session {
         ensures told { (told : List Exchange) (frame : Frame) → aim_of self.old ≡ Ask.Send frame → Told told self.old
             → Told (record { frame = frame; answer = answer } ∷ told) self.new }
         ensures ended { (verdict : Verdict) → aim_of self.old ≡ Ask.Ended verdict → self.new ≡ self.old }
+        ensures falls { (frame : Frame) → aim_of self.old ≡ Ask.Send frame → frames_left self.new < frames_left self.old }
     {
         if let Some(line) = self.line() {
             if line.wish.is_met(answer) {
@@ -278,6 +281,7 @@ impl Session {
         ensures job { self.new.job ≡ self.old.job }
         ensures told { (told : List Exchange) (wish : Wish) → line_of self.old ≡ Some (line frame.now wish) → Meets wish answer → Told told self.old
             → Told (record { frame = frame.now; answer = answer } ∷ told) self.new }
+        ensures falls { frames_left self.new < frames_left self.old }
     {
         self.byte = byte_after(frame, answer, self.byte);
         self.number += 1;
@@ -292,6 +296,7 @@ impl Session {
         ensures job { self.new.job ≡ self.old.job }
         ensures told { (told : List Exchange) (frame : Frame) (answer : Option ℕ) (wish : Wish) → line_of self.old ≡ Some (line frame wish) → ¬ Meets wish answer
             → Told told self.old → Told (record { frame = frame; answer = answer } ∷ told) self.new }
+        ensures falls { IsSome (line_of self.old) → frames_left self.new < frames_left self.old }
     {
         if self.misses < MAX_MISSES {
             self.misses += 1;
@@ -308,6 +313,8 @@ impl Session {
         ensures job { self.new.job ≡ self.old.job }
         ensures plan { plan_at self.new.job self.new.stage ≡ goes_on (plan_at self.old.job self.old.stage) outcome }
         ensures begins { BeginsTry self.new }
+        ensures limit { IfSome (step_of (plan_at self.old.job self.old.stage)) (λ step.
+            limit_at self.new.job self.new.stage + 8 * length (step_lines self.old.unit step) ≤ limit_at self.old.job self.old.stage) }
         ensures bytes { length self.old.bytes.items < 255 → self.new.bytes.items ≡ kept_after self.old.job self.old.bytes.items outcome }
     {
         let stage = self.next_stage(outcome);
@@ -320,7 +327,9 @@ impl Session {
 
     /// The stage after the one at hand.
     fn next_stage(&self, outcome: Option<u8>) -> Stage
-        ensures { plan_at self.now.job result ≡ goes_on (plan_at self.now.job self.now.stage) outcome }
+        ensures plan { plan_at self.now.job result ≡ goes_on (plan_at self.now.job self.now.stage) outcome }
+        ensures limit { IfSome (step_of (plan_at self.now.job self.now.stage)) (λ step.
+            limit_at self.now.job result + 8 * length (step_lines self.now.unit step) ≤ limit_at self.now.job self.now.stage) }
     {
         match self.stage {
             Stage::ReadLength => match outcome {
@@ -383,7 +392,8 @@ fn keep_byte(bytes: &mut ArrayVec<u8, 255>, job: &Job, outcome: Option<u8>)
 
 /// The last location is known.
 fn judge_length(updates: &[(u8, u8)], last: u8) -> Stage
-    ensures { (job : Job) → updates_of job ≡ updates.now → plan_at job result ≡ judged updates.now last }
+    ensures plan { (job : Job) → updates_of job ≡ updates.now → plan_at job result ≡ judged updates.now last }
+    ensures limit { (job : Job) → limit_at job result ≤ 2 * read_limit }
 {
     let greatest = greatest_location(updates);
     if last < greatest {
@@ -411,7 +421,8 @@ fn greatest_location(updates: &[(u8, u8)]) -> u8
 
 /// What follows a write in an opened unit.
 fn after_write(outcome: Option<u8>, next: Stage) -> Stage
-    ensures { (job : Job) → plan_at job result ≡ either_way give_up (λ byte. plan_at job next) outcome }
+    ensures plan { (job : Job) → plan_at job result ≡ either_way give_up (λ byte. plan_at job next) outcome }
+    ensures limit { (job : Job) → close_limit ≤ limit_at job next → limit_at job result ≤ limit_at job next }
 {
     match outcome {
         Some(_) => next,
@@ -421,7 +432,8 @@ fn after_write(outcome: Option<u8>, next: Stage) -> Stage
 
 /// What follows a read in an opened unit, where the byte is to be this one.
 fn after_read(outcome: Option<u8>, byte: u8, next: Stage) -> Stage
-    ensures { (job : Job) → plan_at job result ≡ either_way give_up (λ found. if found == byte then plan_at job next else give_up) outcome }
+    ensures plan { (job : Job) → plan_at job result ≡ either_way give_up (λ found. if found == byte then plan_at job next else give_up) outcome }
+    ensures limit { (job : Job) → close_limit ≤ limit_at job next → limit_at job result ≤ limit_at job next }
 {
     match outcome {
         Some(found) => {
@@ -437,7 +449,8 @@ fn after_read(outcome: Option<u8>, byte: u8, next: Stage) -> Stage
 
 /// What follows the read of a location, where those up to the last one are to be read.
 fn read_next(location: u8, last: u8, outcome: Option<u8>) -> Stage
-    ensures { (job : Job) → plan_at job result ≡ goes_on (plan_at job (Stage.ReadOn location last)) outcome }
+    ensures plan { (job : Job) → plan_at job result ≡ goes_on (plan_at job (Stage.ReadOn location last)) outcome }
+    ensures limit { (job : Job) → location ≤ last → limit_at job result + read_limit ≤ limit_at job (Stage.ReadOn location last) }
 {
     if location > last {
         return Stage::Over(Verdict::Read);

@@ -12,3 +12,12 @@ returns-then-is_met-clause-told c told frame aim was =
     let same : c.in-Some.line.frame ≡ frame = cc in
     subst (λ (f : Frame). Told (record { frame = f; answer = c.args.answer } ∷ told) c.go_on.new.self) same
     (c.go_on.ensures.told told c.in-Some.line.wish at (search rules) was)
+
+pub returns-else-is_met-clause-told : goal.returns-else-is_met-clause-told
+returns-else-is_met-clause-told c told frame aim was =
+    let s = c.args.self.now in
+    let at = sym c.line.ensures ∙ c.in-Some.is in
+    let wanted = aim_at_line s c.in-Some.line at in
+    let same : c.in-Some.line.frame ≡ frame = cc in
+    subst (λ (f : Frame). Told (record { frame = f; answer = c.args.answer } ∷ told) c.miss.new.self) same
+    (c.miss.ensures.told told c.in-Some.line.frame c.args.answer c.in-Some.line.wish at (search rules) was)

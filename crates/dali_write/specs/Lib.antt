@@ -1,5 +1,6 @@
 pub mod Exchanges
 pub mod Lines
+pub mod Frames
 pub mod Plans
 pub mod Tries
 pub mod Told

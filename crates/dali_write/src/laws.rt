@@ -12,7 +12,7 @@ ghost use Rattle.dali_write.specs.Tries.{Wants};
 ghost use Rattle.dali_write.specs.Verdicts.{Says};
 ghost use Rattle.dali_write.specs.Stages.{plan_of};
 ghost use Rattle.dali_write.specs.Told.{Told, aim_of};
-ghost use Rattle.dali_write.specs.Counts.{frame_limit};
+ghost use Rattle.dali_write.specs.Counts.{done_frames, frame_limit};
 ghost use Rattle.dali_gear.specs.SimState.{SimState, AreApart, world_of};
 ghost use Rattle.dali_gear.specs.UnitState.{UnitState, gear_of};
 ghost use Rattle.dali_write.specs.declared.step.Step.{Step};
@@ -84,7 +84,7 @@ pub fn steps_outlive_losses()
 /// How many frames an opened session took that ended Done.
 pub fn done_sessions_take_exactly()
     ensures { (told : List Exchange) (unit : ℕ) (updates : List (ℕ × ℕ))
-        → Wants unit (unlock updates) told (Ask.Ended Verdict.Done) → Took unit (unlock updates) told Verdict.Done (12 * length updates + 19) }
+        → Wants unit (unlock updates) told (Ask.Ended Verdict.Done) → Took unit (unlock updates) told Verdict.Done (done_frames (length updates)) }
 {}
 
 /// A session gives up only after eight misses of one step.

@@ -35,13 +35,13 @@ misses_length lines (suc misses) told is =
     let times = suc_times misses (length lines) in
     omega arith
 
--- a step takes no more than eight tries of its lines
-times_eight : (misses lines few more : ℕ) → misses < 8 → more ≤ misses * lines → few ≤ lines → few + more ≤ 8 * lines
-times_eight misses lines few more below older newer =
-    let most : misses * lines ≤ 7 * lines = mul-le misses lines 7 lines (omega arith) (omega arith) in
+-- a step takes no more than its most tries of its lines
+times_most : (misses lines few more : ℕ) → misses < most_tries → more ≤ misses * lines → few ≤ lines → few + more ≤ most_tries * lines
+times_most misses lines few more below older newer =
+    let most : misses * lines ≤ (most_tries - 1) * lines = mul-le misses lines (most_tries - 1) lines (omega arith) (omega arith) in
     omega arith
 
-limit_lines : (unit : ℕ) (step : Step) → step_limit step ≡ 8 * length (step_lines unit step)
+limit_lines : (unit : ℕ) (step : Step) → step_limit step ≡ most_tries * length (step_lines unit step)
 limit_lines unit (ReadFrom location) = refl
 limit_lines unit (WriteTo location byte) = refl
 
@@ -54,10 +54,10 @@ step_length unit step outcome told (inl done) =
     let both = ap (λ (t : List Exchange). length t) done.3 in
     let joined = length-append done.0 done.1 in
     let limit = limit_lines unit step in
-    let eight = times_eight done.2 lines (length done.0) (length done.1) done.6 older newer in
+    let most = times_most done.2 lines (length done.0) (length done.1) done.6 older newer in
     omega arith
 step_length unit step outcome told (inr failed) =
-    let all = misses_length (step_lines unit step) 8 told failed.1 in
+    let all = misses_length (step_lines unit step) most_tries told failed.1 in
     let limit = limit_lines unit step in
     omega arith
 
@@ -81,7 +81,7 @@ steps_take unit plan (outcome ∷ outcomes) told limit ends takes =
     let le2 = now.2 in
     (now.0, now.1, omega arith)
 
-at_hand_takes : (unit : ℕ) (now : Plan) (misses : ℕ) (missed tried : List Exchange) (left : List Line) (rest : ℕ) → misses < 8
+at_hand_takes : (unit : ℕ) (now : Plan) (misses : ℕ) (missed tried : List Exchange) (left : List Line) (rest : ℕ) → misses < most_tries
     → Misses (plan_lines unit now) misses missed → Trying (plan_lines unit now) tried left → TakesAtMost rest now → length tried + length missed ≤ rest
 at_hand_takes unit (Finish verdict) misses missed tried left rest few are try takes =
     let newer = trying_length [] tried left try in
@@ -92,7 +92,7 @@ at_hand_takes unit (Check step after) misses missed tried left rest few are try 
     let newer : length tried ≤ lines = let all = trying_length (step_lines unit step) tried left try in omega arith in
     let older = misses_length (step_lines unit step) misses missed are in
     let limit = limit_lines unit step in
-    let eight = times_eight misses lines (length tried) (length missed) few older newer in
+    let most = times_most misses lines (length tried) (length missed) few older newer in
     let le = takes.0 in
     omega arith
 

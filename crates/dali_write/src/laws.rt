@@ -18,7 +18,7 @@ ghost use Rattle.dali_gear.specs.UnitState.{UnitState, gear_of};
 ghost use Rattle.dali_write.specs.declared.step.Step.{Step};
 ghost use Rattle.dali_write.specs.declared.step.Step.TheVariants.{WriteTo};
 ghost use Rattle.dali_write.specs.Lines.{step_lines};
-ghost use Rattle.dali_write.specs.Tries.{Missed, Misses, Succeeds, Fails};
+ghost use Rattle.dali_write.specs.Tries.{most_tries, Missed, Misses, Succeeds, Fails};
 ghost use Rattle.dali_write.specs.Walks.{Took, Failed};
 ghost use Rattle.dali_write.specs.Losses.{SimRun, losses, Unrefused, IsAlone, CanDo, OnlyDiffers};
 ghost use Rattle.dali_write.specs.Worlds.{Run, ReadsByte, Shows, KeepsAt, Selects, OnlyEnabled, MayWrite};
@@ -72,12 +72,12 @@ pub fn tries_miss_by_losses()
         → IsAlone at unit first.units → CanDo step unit → Unrefused told first last run → Missed (step_lines at step) told → 1 ≤ losses at told first last run }
 {}
 
-/// On the simulated bus a step misses no more often than its unit has losses, and with fewer than eight of them it succeeds.
+/// On the simulated bus a step misses no more often than its unit has losses, and with fewer of them than a step has tries it succeeds.
 pub fn steps_outlive_losses()
     ensures misses { (at : ℕ) (step : Step) (unit : UnitState) (misses : ℕ) (told : List Exchange) (first last : SimState) (run : SimRun told first last)
         → IsAlone at unit first.units → CanDo step unit → Unrefused told first last run → Misses (step_lines at step) misses told → misses ≤ losses at told first last run }
     ensures succeeds { (at : ℕ) (step : Step) (unit : UnitState) (outcome : Option ℕ) (told : List Exchange) (first last : SimState) (run : SimRun told first last)
-        → IsAlone at unit first.units → CanDo step unit → Unrefused told first last run → losses at told first last run < 8
+        → IsAlone at unit first.units → CanDo step unit → Unrefused told first last run → losses at told first last run < most_tries
         → Succeeds (step_lines at step) outcome told ⊎ Fails (step_lines at step) outcome told → Succeeds (step_lines at step) outcome told }
 {}
 
@@ -87,7 +87,7 @@ pub fn done_sessions_take_exactly()
         → Wants unit (unlock updates) told (Ask.Ended Verdict.Done) → Took unit (unlock updates) told Verdict.Done (done_frames (length updates)) }
 {}
 
-/// A session gives up only after eight misses of one step.
+/// A session gives up only after as many misses as a step has tries.
 pub fn sessions_give_up_late()
     ensures fresh { (told : List Exchange) (unit : ℕ) (updates : List (ℕ × ℕ))
         → Wants unit (read_length updates) told (Ask.Ended Verdict.Silent) → Failed unit (read_length updates) told Verdict.Silent }

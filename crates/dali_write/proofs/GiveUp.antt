@@ -59,7 +59,7 @@ not_both None none some = cc
 not_both (Some byte) none some = cc
 
 -- a step that failed missed in each of its tries
-all_missed : (unit : ℕ) (step : Step) (after : Option ℕ → Plan) (told : List Exchange) (ends : StepEnds unit (Check step after) None told)
+pub all_missed : (unit : ℕ) (step : Step) (after : Option ℕ → Plan) (told : List Exchange) (ends : StepEnds unit (Check step after) None told)
     → most_tries ≤ step_misses unit (Check step after) None told ends
 all_missed unit step after told (inl done) =
     let some = tried_byte (step_lines unit step) done.0 (ends_with_byte unit step) done.4 in

@@ -10,3 +10,4 @@ pub mod Verdicts
 pub mod Stages
 pub mod Losses
 pub mod Walks
+pub mod Doubts

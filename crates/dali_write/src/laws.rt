@@ -20,6 +20,7 @@ ghost use Rattle.dali_write.specs.declared.step.Step.TheVariants.{WriteTo};
 ghost use Rattle.dali_write.specs.Lines.{step_lines};
 ghost use Rattle.dali_write.specs.Tries.{most_tries, Missed, Misses, Succeeds, Fails};
 ghost use Rattle.dali_write.specs.Walks.{Took, Failed};
+ghost use Rattle.dali_write.specs.Doubts.{read_backs, FoundAnother};
 ghost use Rattle.dali_write.specs.Losses.{SimRun, losses, Unrefused, IsAlone, CanDo, OnlyDiffers};
 ghost use Rattle.dali_write.specs.Worlds.{Run, ReadsByte, Shows, KeepsAt, Selects, OnlyEnabled, MayWrite};
 
@@ -97,6 +98,13 @@ pub fn sessions_give_up_late()
         → Wants unit (close Verdict.Closed Verdict.NotClosed) told (Ask.Ended Verdict.NotClosed) → Failed unit (close Verdict.Closed Verdict.NotClosed) told Verdict.NotClosed }
     ensures reading { (told : List Exchange) (unit : ℕ)
         → Wants unit read_all told (Ask.Ended Verdict.Silent) → Failed unit read_all told Verdict.Silent }
+{}
+
+/// A session that carries an order out ends in doubt only after as many misses as a step has tries, or because a checked read of the lock byte or of
+/// an update's location found another byte than must be there.
+pub fn doubts_have_a_cause()
+    ensures { (told : List Exchange) (unit : ℕ) (updates : List (ℕ × ℕ)) → Wants unit (unlock updates) told (Ask.Ended Verdict.Doubt)
+        → Failed unit (unlock updates) told Verdict.Doubt ⊎ FoundAnother unit (unlock updates) (read_backs updates) told }
 {}
 
 /// On the simulated bus a checked write that succeeded has stored its byte and nothing else, whatever was lost or refused before.

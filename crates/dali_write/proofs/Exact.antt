@@ -18,13 +18,13 @@ use Rattle.dali_write.proofs.CountLemmas.{misses_length}
 use Rattle.dali_write.proofs.Walks.{ended_walk}
 
 -- the frames of a walk: these, and so many more
-record Frames (unit : ℕ) (plan : Plan) (outcomes : List (Option ℕ)) (told : List Exchange) (end : Plan) (walk : Walk unit plan outcomes told end) (frames : ℕ) : Type 0 where
-  more : ℕ
-  took : length told ≡ frames + more
-  few : more ≤ try_frames * misses_of unit plan outcomes told end walk
+pub record Frames (unit : ℕ) (plan : Plan) (outcomes : List (Option ℕ)) (told : List Exchange) (end : Plan) (walk : Walk unit plan outcomes told end) (frames : ℕ) : Type 0 where
+  pub more : ℕ
+  pub took : length told ≡ frames + more
+  pub few : more ≤ try_frames * misses_of unit plan outcomes told end walk
 
 -- each step has no more frames than this
-at_most : (unit : ℕ) (step : Step) → length (step_lines unit step) ≤ try_frames
+pub at_most : (unit : ℕ) (step : Step) → length (step_lines unit step) ≤ try_frames
 at_most unit (ReadFrom location) = omega arith
 at_most unit (WriteTo location byte) = omega arith
 
@@ -40,12 +40,12 @@ step_frames unit step after byte told (inl done) =
     (length done.1, omega arith, omega arith)
 step_frames unit step after byte told (inr failed) = let never = failed.0 in cc
 
--- a step that succeeded, and the steps after it
-step_first : (unit : ℕ) (step : Step) (after : Option ℕ → Plan) (byte : ℕ) (outcomes : List (Option ℕ)) (told : List Exchange) (end : Plan)
-    (walk : Walk unit (Check step after) (Some byte ∷ outcomes) told end) (frames all : ℕ) → length (step_lines unit step) + frames ≡ all
-    → Frames unit (after (Some byte)) outcomes walk.0 end walk.4 frames → Frames unit (Check step after) (Some byte ∷ outcomes) told end walk all
-step_first unit step after byte outcomes told end walk frames all sum rest =
-    let here = step_frames unit step after byte walk.1 walk.3 in
+-- a step, and the steps after it
+pub and_rest : (unit : ℕ) (step : Step) (after : Option ℕ → Plan) (outcome : Option ℕ) (outcomes : List (Option ℕ)) (told : List Exchange) (end : Plan)
+    (walk : Walk unit (Check step after) (outcome ∷ outcomes) told end) (here frames all : ℕ)
+    → (more : ℕ) × (length walk.1 ≡ here + more) × (more ≤ try_frames * step_misses unit (Check step after) outcome walk.1 walk.3) → here + frames ≡ all
+    → Frames unit (after outcome) outcomes walk.0 end walk.4 frames → Frames unit (Check step after) (outcome ∷ outcomes) told end walk all
+and_rest unit step after outcome outcomes told end walk length_here frames all here sum rest =
     let both = ap (λ (t : List Exchange). length t) walk.2 in
     let joined = length-append walk.0 walk.1 in
     let one = here.1 in
@@ -53,6 +53,13 @@ step_first unit step after byte outcomes told end walk frames all sum rest =
     let three = rest.took in
     let four = rest.few in
     record { more = here.0 + rest.more; took = omega arith; few = omega arith }
+
+-- a step that succeeded, and the steps after it
+pub step_first : (unit : ℕ) (step : Step) (after : Option ℕ → Plan) (byte : ℕ) (outcomes : List (Option ℕ)) (told : List Exchange) (end : Plan)
+    (walk : Walk unit (Check step after) (Some byte ∷ outcomes) told end) (frames all : ℕ) → length (step_lines unit step) + frames ≡ all
+    → Frames unit (after (Some byte)) outcomes walk.0 end walk.4 frames → Frames unit (Check step after) (Some byte ∷ outcomes) told end walk all
+step_first unit step after byte outcomes told end walk frames all sum rest =
+    and_rest unit step after (Some byte) outcomes told end walk (length (step_lines unit step)) frames all (step_frames unit step after byte walk.1 walk.3) sum rest
 
 -- no plan that gives up ends Done
 never_done : (unit : ℕ) (outcomes : List (Option ℕ)) (told : List Exchange) → Walk unit give_up outcomes told (Finish Done) → ⊥

@@ -7,11 +7,12 @@ ghost use Rattle.dali_gear.specs.Carry.{Carry};
 ghost use Rattle.dali_write.specs.Exchanges.{Exchange};
 ghost use Rattle.dali_write.specs.declared.session.Session.{Session};
 ghost use Rattle.dali_write.specs.declared.session.Verdict.{Verdict};
-ghost use Rattle.dali_write.specs.Plans.{unlock, close, read_length, read_all};
+ghost use Rattle.dali_write.specs.Plans.{greatest, unlock, close, read_length, read_all};
 ghost use Rattle.dali_write.specs.Tries.{Wants};
 ghost use Rattle.dali_write.specs.Verdicts.{Says};
 ghost use Rattle.dali_write.specs.Stages.{plan_of};
 ghost use Rattle.dali_write.specs.Told.{Told, aim_of};
+ghost use Rattle.dali_write.specs.Frames.{read_frames, write_frames};
 ghost use Rattle.dali_write.specs.Counts.{done_frames, frame_limit};
 ghost use Rattle.dali_gear.specs.SimState.{SimState, AreApart, world_of};
 ghost use Rattle.dali_gear.specs.UnitState.{UnitState, gear_of};
@@ -19,7 +20,7 @@ ghost use Rattle.dali_write.specs.declared.step.Step.{Step};
 ghost use Rattle.dali_write.specs.declared.step.Step.TheVariants.{WriteTo};
 ghost use Rattle.dali_write.specs.Lines.{step_lines};
 ghost use Rattle.dali_write.specs.Tries.{most_tries, Missed, Misses, Succeeds, Fails};
-ghost use Rattle.dali_write.specs.Walks.{Took, Failed};
+ghost use Rattle.dali_write.specs.Walks.{Took, TookAll, Failed};
 ghost use Rattle.dali_write.specs.Doubts.{read_backs, FoundAnother};
 ghost use Rattle.dali_write.specs.Losses.{SimRun, losses, Unrefused, IsAlone, CanDo, OnlyDiffers};
 ghost use Rattle.dali_write.specs.Worlds.{Run, ReadsByte, Shows, KeepsAt, Selects, OnlyEnabled, MayWrite};
@@ -86,6 +87,23 @@ pub fn steps_outlive_losses()
 pub fn done_sessions_take_exactly()
     ensures { (told : List Exchange) (unit : ℕ) (updates : List (ℕ × ℕ))
         → Wants unit (unlock updates) told (Ask.Ended Verdict.Done) → Took unit (unlock updates) told Verdict.Done (done_frames (length updates)) }
+{}
+
+/// How many frames the other sessions took that didn't give up. A closing session passes its write over where that fails: its frames are then all of
+/// missed tries.
+pub fn sessions_take_exactly()
+    ensures short { (told : List Exchange) (unit : ℕ) (updates : List (ℕ × ℕ))
+        → Wants unit (read_length updates) told (Ask.Ended Verdict.Short) → Took unit (read_length updates) told Verdict.Short read_frames }
+    ensures early { (told : List Exchange) (unit : ℕ) (updates : List (ℕ × ℕ)) → greatest updates < 0x13
+        → Wants unit (read_length updates) told (Ask.Ended Verdict.MayOpen) → Took unit (read_length updates) told Verdict.MayOpen read_frames }
+    ensures late { (told : List Exchange) (unit : ℕ) (updates : List (ℕ × ℕ)) → 0x13 ≤ greatest updates
+        → Wants unit (read_length updates) told (Ask.Ended Verdict.MayOpen) → Took unit (read_length updates) told Verdict.MayOpen (3 * read_frames) }
+    ensures format { (told : List Exchange) (unit : ℕ) (updates : List (ℕ × ℕ))
+        → Wants unit (read_length updates) told (Ask.Ended Verdict.Format) → Took unit (read_length updates) told Verdict.Format (3 * read_frames) }
+    ensures closed { (told : List Exchange) (unit : ℕ)
+        → Wants unit (close Verdict.Closed Verdict.NotClosed) told (Ask.Ended Verdict.Closed)
+        → Took unit (close Verdict.Closed Verdict.NotClosed) told Verdict.Closed (write_frames + read_frames) }
+    ensures read { (told : List Exchange) (unit : ℕ) → Wants unit read_all told (Ask.Ended Verdict.Read) → TookAll unit told }
 {}
 
 /// A session gives up only after as many misses as a step has tries.

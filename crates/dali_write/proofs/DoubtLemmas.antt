@@ -1,16 +1,16 @@
 -- A session ends in doubt only after the most misses, or because a read found another byte.
-use Rattle.std.proofs.Common.{◌≡◌, ◌≢◌, ◌⊎◌, inl, inr, refl, sym, ap, subst, ◌∙◌, ℕ, zero, suc, ◌+◌, ◌≤◌, Bool, true, false, ◌==◌, if◌then◌else◌, List, [], ◌∷◌, ◌++◌, append_assoc, append-nil, Option, Some, None, arith}
+use Rattle.std.proofs.Common.{◌≡◌, ◌≢◌, ◌⊎◌, inl, inr, refl, sym, ap, ◌∙◌, ℕ, suc, ◌≤◌, Bool, true, false, ◌==◌, if◌then◌else◌, List, [], ◌∷◌, ◌++◌, append_assoc, append-nil, Option, Some, None, arith}
 use Rattle.std.specs.List.{Contains}
 use Rattle.std.proofs.lemmas.Bool.{eq-eqb}
 use Rattle.dali_write.specs.Exchanges.{Exchange}
 use Rattle.dali_write.specs.declared.step.Step.{Step}
 use Rattle.dali_write.specs.declared.step.Step.TheVariants.{ReadFrom, WriteTo}
-use Rattle.dali_write.specs.declared.session.Verdict.TheVariants.{Done, Doubt}
+use Rattle.dali_write.specs.declared.session.Verdict.TheVariants.{Doubt}
 use Rattle.dali_write.specs.declared.session.Ask.TheVariants.{Ended}
 use Rattle.dali_write.specs.Lines.{read_lines}
-use Rattle.dali_write.specs.Plans.{Plan, Finish, Check, goes_on, either_way, give_up, expect, read_back, read_lock, write_on, unlock}
+use Rattle.dali_write.specs.Plans.{Plan, Finish, Check, either_way, give_up, expect, read_back, read_lock, write_on, unlock}
 use Rattle.dali_write.specs.Tries.{most_tries, Succeeds, StepEnds, Wants}
-use Rattle.dali_write.specs.Walks.{Walk, step_misses, misses_of, Failed}
+use Rattle.dali_write.specs.Walks.{Walk, misses_of, Failed}
 use Rattle.dali_write.specs.Doubts.{read_backs, FoundAnother}
 use Rattle.dali_write.proofs.Walks.{ended_walk}
 use Rattle.dali_write.proofs.GiveUp.{all_missed}

@@ -1,6 +1,5 @@
 -- How many frames a session takes that looks at a bank, closes it or reads it.
-use Rattle.std.proofs.Common.{◌≡◌, ◌≢◌, ◌⊎◌, inl, inr, refl, sym, ap, subst, ◌∙◌, ℕ, zero, suc, ◌+◌, ◌-◌, ◌*◌, ◌<◌, ◌≤◌, min, Bool, true, false, ◌==◌, ◌&&◌, nat_lt, if◌then◌else◌, List, [], ◌∷◌, ◌++◌, length, length-append, Option, Some, None, arith}
-use Rattle.std.proofs.lemmas.Nat.{mul-le}
+use Rattle.std.proofs.Common.{◌≡◌, ◌≢◌, inl, inr, refl, ap, ℕ, zero, suc, ◌+◌, ◌-◌, ◌*◌, ◌<◌, ◌≤◌, min, Bool, true, false, ◌==◌, ◌&&◌, nat_lt, if◌then◌else◌, List, [], ◌∷◌, length, length-append, Option, Some, None, arith}
 use Rattle.std.proofs.lemmas.Bool.{ltb-true, lt-ltb}
 use Rattle.dali_write.specs.Exchanges.{Exchange}
 use Rattle.dali_write.specs.declared.line.Line.{Line}
@@ -74,28 +73,28 @@ format_never_short unit =
     read_never unit 0x11 read_format_low Silent Short (λ e. cc)
     (λ high. read_never unit 0x12 _ Silent Short (λ e. cc) (λ low. ends_not unit _ Short (not_short ((high == 0) && (low == 3)))))
 
--- what follows the length, where the first test says whether the bank is too short, and the second whether its format doesn't matter
+-- what follows the length, where the first test says whether the bank is too short, and the second whether all locations are below 13h, where the format doesn't matter
 abbrev judged : Bool → Bool → Plan
-judged short early = if short then Finish Short else (if early then Finish MayOpen else read_format)
+judged short below = if short then Finish Short else (if below then Finish MayOpen else read_format)
 
-judged_short : (unit : ℕ) (short early : Bool) → Takes unit (judged short early) Short 0
-judged_short unit true early = takes_none unit Short Short
+judged_short : (unit : ℕ) (short below : Bool) → Takes unit (judged short below) Short 0
+judged_short unit true below = takes_none unit Short Short
 judged_short unit false true = takes_any unit (Finish MayOpen) Short 0 (ends_not unit MayOpen Short (λ e. cc))
 judged_short unit false false = takes_any unit read_format Short 0 (format_never_short unit)
 
-judged_early : (unit : ℕ) (short early : Bool) → early ≡ true → Takes unit (judged short early) MayOpen 0
-judged_early unit true early is = takes_none unit Short MayOpen
-judged_early unit false true is = takes_none unit MayOpen MayOpen
-judged_early unit false false is = cc
+judged_low : (unit : ℕ) (short below : Bool) → below ≡ true → Takes unit (judged short below) MayOpen 0
+judged_low unit true below is = takes_none unit Short MayOpen
+judged_low unit false true is = takes_none unit MayOpen MayOpen
+judged_low unit false false is = cc
 
-judged_late : (unit : ℕ) (verdict : Verdict) (short early : Bool) → early ≡ false → Short ≢ verdict → Silent ≢ verdict
-    → Takes unit (judged short early) verdict (2 * read_frames)
-judged_late unit verdict true early is one two = takes_any unit (Finish Short) verdict _ (ends_not unit Short verdict one)
-judged_late unit verdict false true is one two = cc
-judged_late unit verdict false false is one two = format_takes unit verdict two
+judged_high : (unit : ℕ) (verdict : Verdict) (short below : Bool) → below ≡ false → Short ≢ verdict → Silent ≢ verdict
+    → Takes unit (judged short below) verdict (2 * read_frames)
+judged_high unit verdict true below is one two = takes_any unit (Finish Short) verdict _ (ends_not unit Short verdict one)
+judged_high unit verdict false true is one two = cc
+judged_high unit verdict false false is one two = format_takes unit verdict two
 
-judged_format : (unit : ℕ) (short early : Bool) → Takes unit (judged short early) Format (2 * read_frames)
-judged_format unit true early = takes_any unit (Finish Short) Format _ (ends_not unit Short Format (λ e. cc))
+judged_format : (unit : ℕ) (short below : Bool) → Takes unit (judged short below) Format (2 * read_frames)
+judged_format unit true below = takes_any unit (Finish Short) Format _ (ends_not unit Short Format (λ e. cc))
 judged_format unit false true = takes_any unit (Finish MayOpen) Format _ (ends_not unit MayOpen Format (λ e. cc))
 judged_format unit false false = format_takes unit Format (λ e. cc)
 
@@ -116,22 +115,22 @@ pub short_took : (told : List Exchange) (unit : ℕ) (updates : List (ℕ × ℕ
 short_took told unit updates wants =
     took unit (read_length updates) told Short read_frames (length_takes unit updates Short 0 (λ e. cc) (λ short. judged_short unit short _)) wants
 
-pub early_took : (told : List Exchange) (unit : ℕ) (updates : List (ℕ × ℕ)) → greatest updates < 0x13 → Wants unit (read_length updates) told (Ended MayOpen)
+pub low_took : (told : List Exchange) (unit : ℕ) (updates : List (ℕ × ℕ)) → greatest updates < 0x13 → Wants unit (read_length updates) told (Ended MayOpen)
     → Took unit (read_length updates) told MayOpen read_frames
-early_took told unit updates early wants =
-    let is = lt-ltb (greatest updates) 0x13 early in
-    took unit (read_length updates) told MayOpen read_frames (length_takes unit updates MayOpen 0 (λ e. cc) (λ short. judged_early unit short _ is)) wants
+low_took told unit updates below wants =
+    let is = lt-ltb (greatest updates) 0x13 below in
+    took unit (read_length updates) told MayOpen read_frames (length_takes unit updates MayOpen 0 (λ e. cc) (λ short. judged_low unit short _ is)) wants
 
-not_early : (a b : ℕ) → b ≤ a → (t : Bool) → nat_lt a b ≡ t → t ≡ false
-not_early a b le true same = let less = ltb-true a b same in let no : ⊥ = omega arith in absurd no
-not_early a b le false same = refl
+not_low : (a b : ℕ) → b ≤ a → (t : Bool) → nat_lt a b ≡ t → t ≡ false
+not_low a b le true same = let less = ltb-true a b same in let no : ⊥ = omega arith in absurd no
+not_low a b le false same = refl
 
-pub late_took : (told : List Exchange) (unit : ℕ) (updates : List (ℕ × ℕ)) → 0x13 ≤ greatest updates → Wants unit (read_length updates) told (Ended MayOpen)
+pub high_took : (told : List Exchange) (unit : ℕ) (updates : List (ℕ × ℕ)) → 0x13 ≤ greatest updates → Wants unit (read_length updates) told (Ended MayOpen)
     → Took unit (read_length updates) told MayOpen (3 * read_frames)
-late_took told unit updates late wants =
-    let is = not_early (greatest updates) 0x13 late (nat_lt (greatest updates) 0x13) refl in
+high_took told unit updates high wants =
+    let is = not_low (greatest updates) 0x13 high (nat_lt (greatest updates) 0x13) refl in
     took unit (read_length updates) told MayOpen (3 * read_frames)
-    (length_takes unit updates MayOpen (2 * read_frames) (λ e. cc) (λ short. judged_late unit MayOpen short _ is (λ e. cc) (λ e. cc))) wants
+    (length_takes unit updates MayOpen (2 * read_frames) (λ e. cc) (λ short. judged_high unit MayOpen short _ is (λ e. cc) (λ e. cc))) wants
 
 pub format_took : (told : List Exchange) (unit : ℕ) (updates : List (ℕ × ℕ)) → Wants unit (read_length updates) told (Ended Format)
     → Took unit (read_length updates) told Format (3 * read_frames)

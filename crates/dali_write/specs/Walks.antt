@@ -26,7 +26,7 @@ misses_of unit plan [] told end walk = 0
 misses_of unit plan (outcome ∷ outcomes) told end walk =
     step_misses unit plan outcome walk.1 walk.3 + misses_of unit (goes_on plan outcome) outcomes walk.0 end walk.4
 
--- The plan ended so. It took this many frames where no try missed, and at most the frames of a try more for each that did.
+-- The plan ended so. It took this many frames where no try missed, and for each that did at most the frames of a try more.
 pub record Took (unit : ℕ) (plan : Plan) (told : List Exchange) (verdict : Verdict) (frames : ℕ) : Type 0 where
   pub outcomes : List (Option ℕ)
   pub walk : Walk unit plan outcomes told (Finish verdict)
@@ -34,7 +34,7 @@ pub record Took (unit : ℕ) (plan : Plan) (told : List Exchange) (verdict : Ver
   pub took : length told ≡ frames + more
   pub few : more ≤ try_frames * misses_of unit plan outcomes told (Finish verdict) walk
 
--- A reading session ended so: it took the frames that the byte calls for which it read first, at 00h.
+-- A reading session ended so. The byte that it read first, at 00h, says how many frames it took.
 pub record TookAll (unit : ℕ) (told : List Exchange) : Type 0 where
   pub last : ℕ
   pub took : Took unit read_all told Read (read_all_frames last)

@@ -89,14 +89,14 @@ pub fn done_sessions_take_exactly()
         → Wants unit (unlock updates) told (Ask.Ended Verdict.Done) → Took unit (unlock updates) told Verdict.Done (done_frames (length updates)) }
 {}
 
-/// How many frames the other sessions took that didn't give up. A closing session passes its write over where that fails: its frames are then all of
-/// missed tries.
+/// How many frames the other sessions took that didn't give up; one that may open reads the format only where a location is past 12h. A closing session
+/// whose write failed goes on to its read: the frames of that write are all of missed tries, and within what those allow.
 pub fn sessions_take_exactly()
     ensures short { (told : List Exchange) (unit : ℕ) (updates : List (ℕ × ℕ))
         → Wants unit (read_length updates) told (Ask.Ended Verdict.Short) → Took unit (read_length updates) told Verdict.Short read_frames }
-    ensures early { (told : List Exchange) (unit : ℕ) (updates : List (ℕ × ℕ)) → greatest updates < 0x13
+    ensures low { (told : List Exchange) (unit : ℕ) (updates : List (ℕ × ℕ)) → greatest updates < 0x13
         → Wants unit (read_length updates) told (Ask.Ended Verdict.MayOpen) → Took unit (read_length updates) told Verdict.MayOpen read_frames }
-    ensures late { (told : List Exchange) (unit : ℕ) (updates : List (ℕ × ℕ)) → 0x13 ≤ greatest updates
+    ensures high { (told : List Exchange) (unit : ℕ) (updates : List (ℕ × ℕ)) → 0x13 ≤ greatest updates
         → Wants unit (read_length updates) told (Ask.Ended Verdict.MayOpen) → Took unit (read_length updates) told Verdict.MayOpen (3 * read_frames) }
     ensures format { (told : List Exchange) (unit : ℕ) (updates : List (ℕ × ℕ))
         → Wants unit (read_length updates) told (Ask.Ended Verdict.Format) → Took unit (read_length updates) told Verdict.Format (3 * read_frames) }

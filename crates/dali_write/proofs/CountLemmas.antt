@@ -179,7 +179,7 @@ read_length_takes updates = (
   omega arith,
   takes_either (2 * most_read) _ (judge_length updates) tt
       (λ last. takes_if (nat_lt last (greatest updates)) (2 * most_read) _ _ tt
-        (takes_if (nat_lt (greatest updates) 0x13) (2 * most_read) _ _ tt read_format_takes)),
+      (takes_if (nat_lt (greatest updates) 0x13) (2 * most_read) _ _ tt read_format_takes)),
 )
 
 read_on_takes : (limit location left : ℕ) → left * most_read ≤ limit → TakesAtMost limit (read_on location left)

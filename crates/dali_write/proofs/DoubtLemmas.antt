@@ -74,11 +74,13 @@ expect_cause unit location byte after expected is rest (Some found ∷ outcomes)
   where
     reads : Option ℕ → Plan
     reads = either_way give_up (λ f. if f == byte then after else give_up)
+
     -- it went on, or gave up because the byte was another
     by : (t : Bool) → (found == byte) ≡ t → (on : Walk unit (if t then after else give_up) outcomes walk.0 (Finish Doubt))
         → Cause unit (if t then after else give_up) expected outcomes walk.0 on ⊎ ((found ≢ byte) × Walk unit give_up outcomes walk.0 (Finish Doubt))
     by true same on = inl (rest outcomes walk.0 on)
     by false same on = inr (λ e. let equal = eq-eqb found byte e in cc, on)
+
     finish : Cause unit (if found == byte then after else give_up) expected outcomes walk.0 walk.4 ⊎ ((found ≢ byte) × Walk unit give_up outcomes walk.0 (Finish Doubt))
         → Cause unit (expect location byte after) expected (Some found ∷ outcomes) told walk
     finish (inl cause) = cause_later unit (ReadFrom location) reads expected (Some found) outcomes told walk cause
@@ -100,6 +102,7 @@ expect_cause unit location byte after expected is rest (Some found ∷ outcomes)
           later = outcomes;
           gave_up = differs.1;
         }
+
 head_in : (x : ℕ × ℕ) (xs : List (ℕ × ℕ)) → Contains (x ∷ xs) x
 head_in x xs = (0, omega arith, refl)
 

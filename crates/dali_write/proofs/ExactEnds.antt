@@ -186,7 +186,7 @@ read_on_takes : (unit location left : ℕ) → Takes unit (read_on location left
 read_on_takes unit location zero outcomes told walk = takes_none unit Read Read outcomes told walk
 read_on_takes unit location (suc left) outcomes told walk =
     let all = read_takes unit location (λ byte. read_on (suc location) left) Silent Read (left * read_frames) (λ e. cc)
-        (λ byte. read_on_takes unit (suc location) left) outcomes told walk in
+    (λ byte. read_on_takes unit (suc location) left) outcomes told walk in
     let sum = all.took in
     record { more = all.more; took = omega arith; few = all.few }
 
@@ -197,8 +197,9 @@ read_took told unit wants = let walk = ended_walk unit read_all told Read wants 
     by [] walk = let no = walk.1 in cc
     by (None ∷ outcomes) walk = absurd (ends_not unit Silent Read (λ e. cc) outcomes walk.0 walk.4)
     by (Some last ∷ outcomes) walk =
-        let all = step_first unit (ReadFrom 0) (either_way (Finish Silent) (λ byte. read_on 1 (min byte 0xFE))) last outcomes told (Finish Read) walk (min last 0xFE * read_frames) (read_all_frames last) (omega arith)
-            (read_on_takes unit 1 (min last 0xFE) outcomes walk.0 walk.4) in
+        let on = read_on_takes unit 1 (min last 0xFE) outcomes walk.0 walk.4 in
+        let reads = either_way (Finish Silent) (λ byte. read_on 1 (min byte 0xFE)) in
+        let all = step_first unit (ReadFrom 0) reads last outcomes told (Finish Read) walk (min last 0xFE * read_frames) (read_all_frames last) (omega arith) on in
         record {
           last = last;
           rest = outcomes;

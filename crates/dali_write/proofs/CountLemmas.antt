@@ -10,8 +10,9 @@ use Rattle.dali_write.specs.declared.session.Job.{Job}
 use Rattle.dali_write.specs.declared.session.Job.TheVariants.{Fresh, Opened, Closing, Reading}
 use Rattle.dali_write.specs.declared.session.Session.{Session}
 use Rattle.dali_write.specs.Lines.{line, step_lines}
+use Rattle.dali_write.specs.Frames.{read_frames, write_frames}
 use Rattle.dali_write.specs.Plans.{Plan, Finish, Check, goes_on, plan_after, either_way, greatest, read_format_low, read_format, judge_length, read_length, read_closed, close, give_up, expect, read_back, read_lock, write_on, unlock, read_on, read_all}
-use Rattle.dali_write.specs.Tries.{Trying, Missed, Misses, Succeeds, Fails, StepEnds, StepsEnd, plan_lines, Stands}
+use Rattle.dali_write.specs.Tries.{most_tries, Trying, Missed, Misses, Succeeds, Fails, StepEnds, StepsEnd, plan_lines, Stands}
 use Rattle.dali_write.specs.Counts.{step_limit, TakesAtMost, frame_limit}
 use Rattle.dali_write.specs.Stages.{plan_of, plan_at}
 use Rattle.dali_write.specs.Told.{Told}
@@ -34,13 +35,13 @@ misses_length lines (suc misses) told is =
     let times = suc_times misses (length lines) in
     omega arith
 
--- a step takes no more than eight tries of its lines
-times_eight : (misses lines few more : ℕ) → misses < 8 → more ≤ misses * lines → few ≤ lines → few + more ≤ 8 * lines
-times_eight misses lines few more below older newer =
-    let most : misses * lines ≤ 7 * lines = mul-le misses lines 7 lines (omega arith) (omega arith) in
+-- a step takes no more than its most tries of its lines
+times_most : (misses lines few more : ℕ) → misses < most_tries → more ≤ misses * lines → few ≤ lines → few + more ≤ most_tries * lines
+times_most misses lines few more below older newer =
+    let most : misses * lines ≤ (most_tries - 1) * lines = mul-le misses lines (most_tries - 1) lines (omega arith) (omega arith) in
     omega arith
 
-limit_lines : (unit : ℕ) (step : Step) → step_limit step ≡ 8 * length (step_lines unit step)
+limit_lines : (unit : ℕ) (step : Step) → step_limit step ≡ most_tries * length (step_lines unit step)
 limit_lines unit (ReadFrom location) = refl
 limit_lines unit (WriteTo location byte) = refl
 
@@ -53,10 +54,10 @@ step_length unit step outcome told (inl done) =
     let both = ap (λ (t : List Exchange). length t) done.3 in
     let joined = length-append done.0 done.1 in
     let limit = limit_lines unit step in
-    let eight = times_eight done.2 lines (length done.0) (length done.1) done.6 older newer in
+    let most = times_most done.2 lines (length done.0) (length done.1) done.6 older newer in
     omega arith
 step_length unit step outcome told (inr failed) =
-    let all = misses_length (step_lines unit step) 8 told failed.1 in
+    let all = misses_length (step_lines unit step) most_tries told failed.1 in
     let limit = limit_lines unit step in
     omega arith
 
@@ -80,7 +81,7 @@ steps_take unit plan (outcome ∷ outcomes) told limit ends takes =
     let le2 = now.2 in
     (now.0, now.1, omega arith)
 
-at_hand_takes : (unit : ℕ) (now : Plan) (misses : ℕ) (missed tried : List Exchange) (left : List Line) (rest : ℕ) → misses < 8
+at_hand_takes : (unit : ℕ) (now : Plan) (misses : ℕ) (missed tried : List Exchange) (left : List Line) (rest : ℕ) → misses < most_tries
     → Misses (plan_lines unit now) misses missed → Trying (plan_lines unit now) tried left → TakesAtMost rest now → length tried + length missed ≤ rest
 at_hand_takes unit (Finish verdict) misses missed tried left rest few are try takes =
     let newer = trying_length [] tried left try in
@@ -91,7 +92,7 @@ at_hand_takes unit (Check step after) misses missed tried left rest few are try 
     let newer : length tried ≤ lines = let all = trying_length (step_lines unit step) tried left try in omega arith in
     let older = misses_length (step_lines unit step) misses missed are in
     let limit = limit_lines unit step in
-    let eight = times_eight misses lines (length tried) (length missed) few older newer in
+    let most = times_most misses lines (length tried) (length missed) few older newer in
     let le = takes.0 in
     omega arith
 
@@ -118,56 +119,82 @@ takes_either : (limit : ℕ) (failed : Plan) (found : ℕ → Plan) → TakesAtM
 takes_either limit failed found one two None = one
 takes_either limit failed found one two (Some byte) = two byte
 
-close_takes : (limit : ℕ) (answered unanswered : Verdict) → 96 ≤ limit → TakesAtMost limit (close answered unanswered)
-close_takes limit answered unanswered le =
-    (omega arith, λ outcome. (omega arith, takes_either (limit - 56 - 40) (Finish unanswered) (λ byte. Finish answered) tt (λ byte. tt)))
+-- the most frames of a checked read, of a checked write, and of a write and a read that lock the unit
+abbrev most_read : ℕ
+most_read = most_tries * read_frames
 
-expect_takes : (limit location byte : ℕ) (after : Plan) → 136 ≤ limit → TakesAtMost (limit - 40) after → TakesAtMost limit (expect location byte after)
+abbrev most_write : ℕ
+most_write = most_tries * write_frames
+
+abbrev most_close : ℕ
+most_close = most_write + most_read
+
+close_takes : (limit : ℕ) (answered unanswered : Verdict) → most_close ≤ limit → TakesAtMost limit (close answered unanswered)
+close_takes limit answered unanswered le =
+    (omega arith, λ outcome. (omega arith, takes_either (limit - most_write - most_read) (Finish unanswered) (λ byte. Finish answered) tt (λ byte. tt)))
+
+expect_takes : (limit location byte : ℕ) (after : Plan) → most_read + most_close ≤ limit → TakesAtMost (limit - most_read) after
+    → TakesAtMost limit (expect location byte after)
 expect_takes limit location byte after le takes =
-    let closes = close_takes (limit - 40) _ _ (omega arith) in (
+    let closes = close_takes (limit - most_read) _ _ (omega arith) in (
       omega arith,
-      takes_either (limit - 40) give_up (λ found. if found == byte then after else give_up) closes
-          (λ found. takes_if (found == byte) (limit - 40) after give_up takes closes),
+      takes_either (limit - most_read) give_up (λ found. if found == byte then after else give_up) closes
+          (λ found. takes_if (found == byte) (limit - most_read) after give_up takes closes),
     )
 
-read_back_takes : (limit : ℕ) (updates : List (ℕ × ℕ)) → 40 * length updates + 96 ≤ limit → TakesAtMost limit (read_back updates)
+read_back_takes : (limit : ℕ) (updates : List (ℕ × ℕ)) → length updates * most_read + most_close ≤ limit → TakesAtMost limit (read_back updates)
 read_back_takes limit [] le = tt
 read_back_takes limit (update ∷ updates) le =
-    expect_takes limit update.0 update.1 (read_back updates) (omega arith) (read_back_takes (limit - 40) updates (omega arith))
+    expect_takes limit update.0 update.1 (read_back updates) (omega arith) (read_back_takes (limit - most_read) updates (omega arith))
 
-read_lock_takes : (limit : ℕ) (updates : List (ℕ × ℕ)) → 40 * length updates + 136 ≤ limit → TakesAtMost limit (read_lock updates)
-read_lock_takes limit updates le = expect_takes limit 2 0xFF (read_back updates) (omega arith) (read_back_takes (limit - 40) updates (omega arith))
+read_lock_takes : (limit : ℕ) (updates : List (ℕ × ℕ)) → (length updates + 1) * most_read + most_close ≤ limit → TakesAtMost limit (read_lock updates)
+read_lock_takes limit updates le = expect_takes limit 2 0xFF (read_back updates) (omega arith) (read_back_takes (limit - most_read) updates (omega arith))
 
-write_on_takes : (limit : ℕ) (updates left : List (ℕ × ℕ)) → 56 * length left + 40 * length updates + 192 ≤ limit → TakesAtMost limit (write_on updates left)
-write_on_takes limit updates [] le =
-    (omega arith, takes_either (limit - 56) give_up (λ byte. read_lock updates) (close_takes (limit - 56) _ _ (omega arith)) (λ byte. read_lock_takes (limit - 56) updates (omega arith)))
-write_on_takes limit updates (update ∷ left) le =
-    (omega arith, takes_either (limit - 56) give_up (λ byte. write_on updates left) (close_takes (limit - 56) _ _ (omega arith)) (λ byte. write_on_takes (limit - 56) updates left (omega arith)))
-
-unlock_takes : (limit : ℕ) (updates : List (ℕ × ℕ)) → 96 * length updates + 248 ≤ limit → TakesAtMost limit (unlock updates)
-unlock_takes limit updates le =
-    (omega arith, takes_either (limit - 56) give_up (λ byte. write_on updates updates) (close_takes (limit - 56) _ _ (omega arith)) (λ byte. write_on_takes (limit - 56) updates updates (omega arith)))
-
-read_format_takes : TakesAtMost 80 read_format
-read_format_takes = (omega arith, takes_either 40 _ _ tt (λ high. (omega arith, takes_either 0 _ _ tt (λ low. tt))))
-
-read_length_takes : (updates : List (ℕ × ℕ)) → TakesAtMost 120 (read_length updates)
-read_length_takes updates = (
+write_on_takes : (limit : ℕ) (updates left : List (ℕ × ℕ))
+    → (length left + 1) * most_write + (length updates + 1) * most_read + most_close ≤ limit → TakesAtMost limit (write_on updates left)
+write_on_takes limit updates [] le = (
   omega arith,
-  takes_either 80 _ (judge_length updates) tt
-      (λ last. takes_if (nat_lt last (greatest updates)) 80 _ _ tt (takes_if (nat_lt (greatest updates) 0x13) 80 _ _ tt read_format_takes)),
+  takes_either (limit - most_write) give_up (λ byte. read_lock updates) (close_takes (limit - most_write) _ _ (omega arith))
+      (λ byte. read_lock_takes (limit - most_write) updates (omega arith)),
+)
+write_on_takes limit updates (update ∷ left) le = (
+  omega arith,
+  takes_either (limit - most_write) give_up (λ byte. write_on updates left) (close_takes (limit - most_write) _ _ (omega arith))
+      (λ byte. write_on_takes (limit - most_write) updates left (omega arith)),
 )
 
-read_on_takes : (limit location left : ℕ) → 40 * left ≤ limit → TakesAtMost limit (read_on location left)
+unlock_takes : (limit : ℕ) (updates : List (ℕ × ℕ))
+    → (length updates + 2) * most_write + (length updates + 1) * most_read + most_close ≤ limit → TakesAtMost limit (unlock updates)
+unlock_takes limit updates le = (
+  omega arith,
+  takes_either (limit - most_write) give_up (λ byte. write_on updates updates) (close_takes (limit - most_write) _ _ (omega arith))
+      (λ byte. write_on_takes (limit - most_write) updates updates (omega arith)),
+)
+
+read_format_takes : TakesAtMost (2 * most_read) read_format
+read_format_takes = (omega arith, takes_either most_read _ _ tt (λ high. (omega arith, takes_either 0 _ _ tt (λ low. tt))))
+
+read_length_takes : (updates : List (ℕ × ℕ)) → TakesAtMost (3 * most_read) (read_length updates)
+read_length_takes updates = (
+  omega arith,
+  takes_either (2 * most_read) _ (judge_length updates) tt
+      (λ last. takes_if (nat_lt last (greatest updates)) (2 * most_read) _ _ tt
+      (takes_if (nat_lt (greatest updates) 0x13) (2 * most_read) _ _ tt read_format_takes)),
+)
+
+read_on_takes : (limit location left : ℕ) → left * most_read ≤ limit → TakesAtMost limit (read_on location left)
 read_on_takes limit location zero le = tt
 read_on_takes limit location (suc left) le =
-    (omega arith, takes_either (limit - 40) _ (λ byte. read_on (suc location) left) tt (λ byte. read_on_takes (limit - 40) (suc location) left (omega arith)))
+    (omega arith, takes_either (limit - most_read) _ (λ byte. read_on (suc location) left) tt (λ byte. read_on_takes (limit - most_read) (suc location) left (omega arith)))
 
 plan_takes : (job : Job) → TakesAtMost (frame_limit job) (plan_of job)
 plan_takes (Fresh order) = read_length_takes order.updates
-plan_takes (Opened order) = unlock_takes (96 * length order.updates + 248) order.updates (omega arith)
-plan_takes Closing = close_takes 96 _ _ (omega arith)
-plan_takes Reading = (omega arith, takes_either 10160 _ (λ last. read_on 1 (min last 0xFE)) tt (λ last. read_on_takes 10160 1 (min last 0xFE) (omega arith)))
+plan_takes (Opened order) = unlock_takes (frame_limit (Opened order)) order.updates (omega arith)
+plan_takes Closing = close_takes most_close _ _ (omega arith)
+plan_takes Reading = (
+  omega arith,
+  takes_either (254 * most_read) _ (λ last. read_on 1 (min last 0xFE)) tt (λ last. read_on_takes (254 * most_read) 1 (min last 0xFE) (omega arith)),
+)
 
 pub told_length : (told : List Exchange) (s : Session) → Told told s → length told ≤ frame_limit s.job
 unfolding Told

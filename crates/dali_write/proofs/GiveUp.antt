@@ -1,4 +1,4 @@
--- A session gives up only after eight misses.
+-- A session gives up only after the most misses.
 use Rattle.std.proofs.Common.{◌≡◌, ◌≢◌, ◌⊎◌, inl, inr, refl, sym, ap, subst, ◌∙◌, ℕ, zero, suc, ◌+◌, ◌*◌, ◌<◌, ◌≤◌, min, Bool, true, false, ◌==◌, ◌&&◌, nat_lt, if◌then◌else◌, List, [], ◌∷◌, ◌++◌, append_assoc, length, Option, Some, None, IsSome, arith}
 use Rattle.dali_write.specs.Exchanges.{Exchange}
 use Rattle.dali_write.specs.declared.step.Step.{Step}
@@ -9,7 +9,7 @@ use Rattle.dali_write.specs.Plans.{Plan, Finish, Check, goes_on, either_way, gre
 use Rattle.dali_write.specs.declared.step.Step.TheVariants.{ReadFrom, WriteTo}
 use Rattle.dali_write.specs.declared.line.Line.{Line}
 use Rattle.dali_write.specs.Lines.{Meets, line, step_lines, byte_after}
-use Rattle.dali_write.specs.Tries.{Trying, byte_of, StepEnds, Wants}
+use Rattle.dali_write.specs.Tries.{most_tries, Trying, byte_of, StepEnds, Wants}
 use Rattle.dali_write.specs.Walks.{Walk, step_misses, misses_of, Failed}
 use Rattle.dali_write.proofs.Walks.{ended_walk}
 
@@ -58,22 +58,22 @@ not_both : (byte : Option ℕ) → None ≡ byte → IsSome byte → ⊥
 not_both None none some = cc
 not_both (Some byte) none some = cc
 
--- a step that failed missed eight times
-eight : (unit : ℕ) (step : Step) (after : Option ℕ → Plan) (told : List Exchange) (ends : StepEnds unit (Check step after) None told)
-    → 8 ≤ step_misses unit (Check step after) None told ends
-eight unit step after told (inl done) =
+-- a step that failed missed in each of its tries
+pub all_missed : (unit : ℕ) (step : Step) (after : Option ℕ → Plan) (told : List Exchange) (ends : StepEnds unit (Check step after) None told)
+    → most_tries ≤ step_misses unit (Check step after) None told ends
+all_missed unit step after told (inl done) =
     let some = tried_byte (step_lines unit step) done.0 (ends_with_byte unit step) done.4 in
     let none : None ≡ byte_of done.0 = done.5 in
     absurd (not_both (byte_of done.0) none some)
-eight unit step after told (inr failed) = omega arith
+all_missed unit step after told (inr failed) = omega arith
 
 many : (verdict : Verdict) (unit : ℕ) (plan : Plan) (outcomes : List (Option ℕ)) (told : List Exchange) (walk : Walk unit plan outcomes told (Finish verdict)) → Avoids verdict plan
-    → 8 ≤ misses_of unit plan outcomes told (Finish verdict) walk
+    → most_tries ≤ misses_of unit plan outcomes told (Finish verdict) walk
 many verdict unit (Finish v) [] told walk avoids = let same = walk.1 in absurd (avoids (let is : v ≡ verdict = cc in is))
 many verdict unit (Finish v) (o ∷ outcomes) told walk avoids = absurd walk.3
 many verdict unit (Check step after) [] told walk avoids = let differs = walk.1 in cc
 many verdict unit (Check step after) (None ∷ outcomes) told walk avoids =
-    let here = eight unit step after walk.1 walk.3 in omega arith
+    let here = all_missed unit step after walk.1 walk.3 in omega arith
 many verdict unit (Check step after) (Some byte ∷ outcomes) told walk avoids =
     let rest = many verdict unit (after (Some byte)) outcomes walk.0 walk.4 (avoids byte) in omega arith
 

@@ -10,7 +10,7 @@ use Rattle.dali_write.specs.declared.session.Verdict.{Verdict}
 use Rattle.dali_write.specs.declared.session.Verdict.TheVariants.{Done, Silent, Doubt, DoubtOpen, Closed, NotClosed}
 use Rattle.dali_write.specs.Lines.{line, read_lines}
 use Rattle.dali_write.specs.Plans.{Plan, Finish, Check, goes_on, either_way, read_closed, close, give_up, expect, read_back, read_lock, write_on, unlock}
-use Rattle.dali_write.specs.Tries.{Trying, Missed, Misses, byte_of, StepEnds, Wants}
+use Rattle.dali_write.specs.Tries.{most_tries, Trying, Missed, Misses, byte_of, StepEnds, Wants}
 use Rattle.dali_write.specs.Worlds.{Run, Shows, KeepsAt, IsOff, memory_of, memory_at}
 use Rattle.dali_write.specs.Verdicts.{Says, ShowsAll}
 use Rattle.dali_write.proofs.GearLemmas.{IsQuiet}
@@ -56,7 +56,7 @@ read_step_quiet address unit location after outcome told (inl done) =
     (both_quiet address done.0 done.1 (trying_quiet address (read_lines unit location) done.0 [] quiet done.4).0
     (misses_quiet address (read_lines unit location) done.2 done.1 quiet done.7))
 read_step_quiet address unit location after outcome told (inr failed) =
-    misses_quiet address (read_lines unit location) 8 told (read_quiet_lines address unit location) failed.1
+    misses_quiet address (read_lines unit location) most_tries told (read_quiet_lines address unit location) failed.1
 
 pub read_step_keeps : (unit location : ℕ) (after : Option ℕ → Plan) (outcome : Option ℕ) (told : List Exchange) (first last : World)
     → StepEnds unit (Check (ReadFrom location) after) outcome told → Run told first last → (address : ℕ) → KeepsAt first last address

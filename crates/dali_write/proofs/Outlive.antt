@@ -19,7 +19,7 @@ use Rattle.dali_write.specs.declared.line.Wish.TheVariants.{Nothing, Exactly, An
 use Rattle.dali_write.specs.declared.step.Step.{Step}
 use Rattle.dali_write.specs.declared.step.Step.TheVariants.{ReadFrom, WriteTo}
 use Rattle.dali_write.specs.Lines.{Meets, line, select_lines, read_lines, write_lines, step_lines}
-use Rattle.dali_write.specs.Tries.{Trying, Missed, Misses, Succeeds, Fails}
+use Rattle.dali_write.specs.Tries.{most_tries, Trying, Missed, Misses, Succeeds, Fails}
 use Rattle.dali_write.specs.Losses.{SimRun, is_loss, losses, Unrefused, IsAlone, CanDo}
 use Rattle.dali_write.proofs.OneFrame.{IsFor, own_answer, alone_then, address_of}
 use Rattle.dali_write.proofs.Success.{AllFor, all_for, missed_by_loss}
@@ -267,8 +267,8 @@ pub misses_by_losses : (at : ℕ) (step : Step) (unit : UnitState) (misses : ℕ
 misses_by_losses at step unit misses told first last run alone can kind are = (endures at step unit misses told first last run alone can kind are).few
 
 pub step_succeeds : (at : ℕ) (step : Step) (unit : UnitState) (outcome : Option ℕ) (told : List Exchange) (first last : SimState) (run : SimRun told first last)
-    → IsAlone at unit first.units → CanDo step unit → Unrefused told first last run → losses at told first last run < 8
+    → IsAlone at unit first.units → CanDo step unit → Unrefused told first last run → losses at told first last run < most_tries
     → Succeeds (step_lines at step) outcome told ⊎ Fails (step_lines at step) outcome told → Succeeds (step_lines at step) outcome told
 step_succeeds at step unit outcome told first last run alone can kind few (inl done) = done
 step_succeeds at step unit outcome told first last run alone can kind few (inr failed) =
-    let many = misses_by_losses at step unit 8 told first last run alone can kind failed.1 in absurd (omega arith)
+    let many = misses_by_losses at step unit most_tries told first last run alone can kind failed.1 in absurd (omega arith)

@@ -7,7 +7,7 @@ use Rattle.dali_write.specs.declared.line.Wish.{Wish}
 use Rattle.dali_write.specs.declared.step.Step.TheVariants.{ReadFrom, WriteTo}
 use Rattle.dali_write.specs.Lines.{Meets, line, step_lines, byte_after}
 use Rattle.dali_write.specs.Plans.{Plan, Finish, Check, goes_on, plan_after}
-use Rattle.dali_write.specs.Tries.{Trying, Missed, Misses, byte_of, Succeeds, Fails, StepEnds, StepsEnd, plan_lines, GoesOn, Stands}
+use Rattle.dali_write.specs.Tries.{most_tries, Trying, Missed, Misses, byte_of, Succeeds, Fails, StepEnds, StepsEnd, plan_lines, GoesOn, Stands}
 
 pub goes_first : (unit : ℕ) (plan : Plan) → GoesOn plan (plan_lines unit plan)
 goes_first unit (Finish verdict) = tt
@@ -42,7 +42,7 @@ stands_on unit plan told now misses left byte frame answer wish s meets going =
 
 -- another try of the same step
 unfoldable pub stands_again : (unit : ℕ) (plan : Plan) (told : List Exchange) (now : Plan) (misses : ℕ) (left : List Line) (byte : Option ℕ) (frame : Frame) (answer : Option ℕ) (wish : Wish)
-    → Stands unit plan told now misses (line frame wish ∷ left) byte → ¬ Meets wish answer → suc misses < 8
+    → Stands unit plan told now misses (line frame wish ∷ left) byte → ¬ Meets wish answer → suc misses < most_tries
     → Stands unit plan (record { frame = frame; answer = answer } ∷ told) now (suc misses) (plan_lines unit now) None
 stands_again unit plan told now misses left byte frame answer wish s misses_it few =
     let x : Exchange = record { frame = frame; answer = answer } in
@@ -87,7 +87,7 @@ trying_none [] next left try = cc
 trying_none (x ∷ tried) next left try = trying_none tried (line x.frame try.0) (next ∷ left) try.2
 
 pub done_ends : (unit : ℕ) (now : Plan) (misses : ℕ) (tried missed : List Exchange) (byte : Option ℕ) (frame : Frame) (answer : Option ℕ) (wish : Wish)
-    → misses < 8 → Misses (plan_lines unit now) misses missed → Trying (plan_lines unit now) tried (line frame wish ∷ []) → byte_of tried ≡ byte → Meets wish answer
+    → misses < most_tries → Misses (plan_lines unit now) misses missed → Trying (plan_lines unit now) tried (line frame wish ∷ []) → byte_of tried ≡ byte → Meets wish answer
     → StepEnds unit now (byte_after frame answer byte) ((record { frame = frame; answer = answer } ∷ tried) ++ missed)
 done_ends unit (Finish verdict) misses tried missed byte frame answer wish few are try is meets = absurd (trying_none tried (line frame wish) [] try)
 done_ends unit (Check step after) misses tried missed byte frame answer wish few are try is meets =
@@ -113,7 +113,7 @@ stands_done unit plan told now misses byte frame answer wish s meets =
     (ap (λ (t : List Exchange). x ∷ t) (s.parts ∙ sym (append_assoc s.tried s.missed s.ended))) s.steps s.now_is
     (done_ends unit now misses s.tried s.missed byte frame answer wish s.few s.misses_are s.try s.byte_is meets)
 
--- the eighth try missed
+-- the last try missed
 unfoldable pub stands_failed : (unit : ℕ) (plan : Plan) (told : List Exchange) (now : Plan) (misses : ℕ) (left : List Line) (byte : Option ℕ) (frame : Frame) (answer : Option ℕ) (wish : Wish)
     → Stands unit plan told now misses (line frame wish ∷ left) byte → ¬ Meets wish answer → 7 ≤ misses
     → Stands unit plan (record { frame = frame; answer = answer } ∷ told) (goes_on now None) 0 (plan_lines unit (goes_on now None)) None

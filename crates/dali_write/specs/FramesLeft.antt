@@ -3,15 +3,16 @@ use Rattle.std.specs.Prelude.{ℕ, suc, ◌+◌, ◌-◌, ◌*◌, length}
 use Rattle.dali_write.specs.declared.session.Job.{Job}
 use Rattle.dali_write.specs.declared.session.Stage.{Stage}
 use Rattle.dali_write.specs.declared.session.Stage.TheVariants.{ReadLength, ReadFormat, ReadFormatLow, Unlock, WriteOn, ReadLock, ReadBack, Close, ReadClosed, ReadAll, ReadOn, Over}
-use Rattle.dali_write.specs.Lines.{read_lines, write_lines}
+use Rattle.dali_write.specs.Frames.{read_frames, write_frames}
+use Rattle.dali_write.specs.Tries.{most_tries}
 use Rattle.dali_write.specs.Stages.{updates_of}
 
 -- all tries of a checked read, of a checked write, and of the two that close a unit
 abbrev pub read_limit : ℕ
-read_limit = 8 * length (read_lines 0 0)
+read_limit = most_tries * read_frames
 
 abbrev pub write_limit : ℕ
-write_limit = 8 * length (write_lines 0 0 0)
+write_limit = most_tries * write_frames
 
 abbrev pub close_limit : ℕ
 close_limit = write_limit + read_limit

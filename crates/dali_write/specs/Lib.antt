@@ -1,5 +1,6 @@
 pub mod Exchanges
 pub mod Lines
+pub mod Frames
 pub mod Plans
 pub mod Tries
 pub mod Found
@@ -12,3 +13,4 @@ pub mod Stages
 pub mod Losses
 pub mod Walks
 pub mod Touches
+pub mod Doubts

@@ -9,6 +9,10 @@ use Rattle.dali_write.specs.declared.session.Verdict.TheVariants.{Silent}
 use Rattle.dali_write.specs.Lines.{Meets, line, step_lines, byte_after}
 use Rattle.dali_write.specs.Plans.{Plan, Finish, Check, plan_after}
 
+-- a step has at most so many tries
+abbrev pub most_tries : ℕ
+most_tries = 8
+
 -- A try so far: the first of the lines were sent and got what they want, and these are left.
 abbrev pub Trying : List Line → List Exchange → List Line → Type 0
 Trying lines [] left = left ≡ lines
@@ -29,15 +33,15 @@ abbrev pub byte_of : List Exchange → Option ℕ
 byte_of [] = None
 byte_of (x ∷ told) = byte_after x.frame x.answer (byte_of told)
 
--- fewer than eight tries missed, and then one came to its end
+-- fewer than the most tries missed, and then one came to its end
 abbrev pub Succeeds : List Line → Option ℕ → List Exchange → Type 0
 Succeeds lines outcome told =
     (newer : List Exchange) × (older : List Exchange) × (misses : ℕ) × (told ≡ newer ++ older)
-    × Trying lines newer [] × (outcome ≡ byte_of newer) × (misses < 8) × Misses lines misses older
+    × Trying lines newer [] × (outcome ≡ byte_of newer) × (misses < most_tries) × Misses lines misses older
 
--- eight tries missed
+-- the most tries missed
 abbrev pub Fails : List Line → Option ℕ → List Exchange → Type 0
-Fails lines outcome told = (outcome ≡ None) × Misses lines 8 told
+Fails lines outcome told = (outcome ≡ None) × Misses lines most_tries told
 
 -- a whole checked step with its outcome
 abbrev pub StepEnds : ℕ → Plan → Option ℕ → List Exchange → Type 0
@@ -71,7 +75,7 @@ pub record Stands (unit : ℕ) (plan : Plan) (told : List Exchange) (now : Plan)
   pub parts : told ≡ tried ++ (missed ++ ended)
   pub steps : StepsEnd unit plan outcomes ended
   pub now_is : plan_after plan outcomes ≡ now
-  pub few : misses < 8
+  pub few : misses < most_tries
   pub misses_are : Misses (plan_lines unit now) misses missed
   pub try : Trying (plan_lines unit now) tried left
   pub byte_is : byte_of tried ≡ byte

@@ -7,20 +7,22 @@ ghost use Rattle.dali_gear.specs.Carry.{Carry};
 ghost use Rattle.dali_write.specs.Exchanges.{Exchange};
 ghost use Rattle.dali_write.specs.declared.session.Session.{Session};
 ghost use Rattle.dali_write.specs.declared.session.Verdict.{Verdict};
-ghost use Rattle.dali_write.specs.Plans.{Plan, unlock, close, read_length, read_all};
+ghost use Rattle.dali_write.specs.Plans.{Plan, greatest, unlock, close, read_length, read_all};
 ghost use Rattle.dali_write.specs.Tries.{Wants};
 ghost use Rattle.dali_write.specs.Verdicts.{Says, ShowsBank};
 ghost use Rattle.dali_write.specs.declared.session.Job.{Job};
 ghost use Rattle.dali_write.specs.Stages.{plan_of};
 ghost use Rattle.dali_write.specs.Told.{Told, aim_of};
-ghost use Rattle.dali_write.specs.Counts.{frame_limit};
+ghost use Rattle.dali_write.specs.Frames.{read_frames, write_frames};
+ghost use Rattle.dali_write.specs.Counts.{done_frames, frame_limit};
 ghost use Rattle.dali_gear.specs.SimState.{SimState, AreApart, world_of};
 ghost use Rattle.dali_gear.specs.UnitState.{UnitState, gear_of};
 ghost use Rattle.dali_write.specs.declared.step.Step.{Step};
 ghost use Rattle.dali_write.specs.declared.step.Step.TheVariants.{WriteTo};
 ghost use Rattle.dali_write.specs.Lines.{step_lines};
-ghost use Rattle.dali_write.specs.Tries.{Missed, Misses, Succeeds, Fails};
-ghost use Rattle.dali_write.specs.Walks.{Took, Failed};
+ghost use Rattle.dali_write.specs.Tries.{most_tries, Missed, Misses, Succeeds, Fails};
+ghost use Rattle.dali_write.specs.Walks.{Took, TookAll, Failed};
+ghost use Rattle.dali_write.specs.Doubts.{read_backs, FoundAnother};
 ghost use Rattle.dali_write.specs.Losses.{SimRun, losses, Unrefused, IsAlone, CanDo, OnlyDiffers};
 ghost use Rattle.dali_write.specs.Touches.{Touches, writes_of};
 ghost use Rattle.dali_write.specs.Worlds.{Run, ReadsByte, Shows, KeepsAt, Selects, OnlyEnabled, MayWrite};
@@ -87,22 +89,39 @@ pub fn tries_miss_by_losses()
         → IsAlone at unit first.units → CanDo step unit → Unrefused told first last run → Missed (step_lines at step) told → 1 ≤ losses at told first last run }
 {}
 
-/// On the simulated bus a step misses no more often than its unit has losses, and with fewer than eight of them it succeeds.
+/// On the simulated bus a step misses no more often than its unit has losses, and with fewer of them than a step has tries it succeeds.
 pub fn steps_outlive_losses()
     ensures misses { (at : ℕ) (step : Step) (unit : UnitState) (misses : ℕ) (told : List Exchange) (first last : SimState) (run : SimRun told first last)
         → IsAlone at unit first.units → CanDo step unit → Unrefused told first last run → Misses (step_lines at step) misses told → misses ≤ losses at told first last run }
     ensures succeeds { (at : ℕ) (step : Step) (unit : UnitState) (outcome : Option ℕ) (told : List Exchange) (first last : SimState) (run : SimRun told first last)
-        → IsAlone at unit first.units → CanDo step unit → Unrefused told first last run → losses at told first last run < 8
+        → IsAlone at unit first.units → CanDo step unit → Unrefused told first last run → losses at told first last run < most_tries
         → Succeeds (step_lines at step) outcome told ⊎ Fails (step_lines at step) outcome told → Succeeds (step_lines at step) outcome told }
 {}
 
 /// How many frames an opened session took that ended Done.
 pub fn done_sessions_take_exactly()
     ensures { (told : List Exchange) (unit : ℕ) (updates : List (ℕ × ℕ))
-        → Wants unit (unlock updates) told (Ask.Ended Verdict.Done) → Took unit (unlock updates) told Verdict.Done (12 * length updates + 19) }
+        → Wants unit (unlock updates) told (Ask.Ended Verdict.Done) → Took unit (unlock updates) told Verdict.Done (done_frames (length updates)) }
 {}
 
-/// A session gives up only after eight misses of one step.
+/// How many frames the other sessions took that didn't give up; one that may open reads the format only where a location is past 12h. A closing session
+/// whose write failed goes on to its read: the frames of that write are all of missed tries, and within what those allow.
+pub fn sessions_take_exactly()
+    ensures short { (told : List Exchange) (unit : ℕ) (updates : List (ℕ × ℕ))
+        → Wants unit (read_length updates) told (Ask.Ended Verdict.Short) → Took unit (read_length updates) told Verdict.Short read_frames }
+    ensures low { (told : List Exchange) (unit : ℕ) (updates : List (ℕ × ℕ)) → greatest updates < 0x13
+        → Wants unit (read_length updates) told (Ask.Ended Verdict.MayOpen) → Took unit (read_length updates) told Verdict.MayOpen read_frames }
+    ensures high { (told : List Exchange) (unit : ℕ) (updates : List (ℕ × ℕ)) → 0x13 ≤ greatest updates
+        → Wants unit (read_length updates) told (Ask.Ended Verdict.MayOpen) → Took unit (read_length updates) told Verdict.MayOpen (3 * read_frames) }
+    ensures format { (told : List Exchange) (unit : ℕ) (updates : List (ℕ × ℕ))
+        → Wants unit (read_length updates) told (Ask.Ended Verdict.Format) → Took unit (read_length updates) told Verdict.Format (3 * read_frames) }
+    ensures closed { (told : List Exchange) (unit : ℕ)
+        → Wants unit (close Verdict.Closed Verdict.NotClosed) told (Ask.Ended Verdict.Closed)
+        → Took unit (close Verdict.Closed Verdict.NotClosed) told Verdict.Closed (write_frames + read_frames) }
+    ensures read { (told : List Exchange) (unit : ℕ) → Wants unit read_all told (Ask.Ended Verdict.Read) → TookAll unit told }
+{}
+
+/// A session gives up only after as many misses as a step has tries.
 pub fn sessions_give_up_late()
     ensures fresh { (told : List Exchange) (unit : ℕ) (updates : List (ℕ × ℕ))
         → Wants unit (read_length updates) told (Ask.Ended Verdict.Silent) → Failed unit (read_length updates) told Verdict.Silent }
@@ -112,6 +131,13 @@ pub fn sessions_give_up_late()
         → Wants unit (close Verdict.Closed Verdict.NotClosed) told (Ask.Ended Verdict.NotClosed) → Failed unit (close Verdict.Closed Verdict.NotClosed) told Verdict.NotClosed }
     ensures reading { (told : List Exchange) (unit : ℕ)
         → Wants unit read_all told (Ask.Ended Verdict.Silent) → Failed unit read_all told Verdict.Silent }
+{}
+
+/// A session that carries an order out ends in doubt only after as many misses as a step has tries, or because a checked read of the lock byte or of
+/// an update's location found another byte than must be there.
+pub fn doubts_have_a_cause()
+    ensures { (told : List Exchange) (unit : ℕ) (updates : List (ℕ × ℕ)) → Wants unit (unlock updates) told (Ask.Ended Verdict.Doubt)
+        → Failed unit (unlock updates) told Verdict.Doubt ⊎ FoundAnother unit (unlock updates) (read_backs updates) told }
 {}
 
 /// On the simulated bus a checked write that succeeded has stored its byte and nothing else, whatever was lost or refused before.

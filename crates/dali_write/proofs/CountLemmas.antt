@@ -5,9 +5,9 @@ use Rattle.dali_write.specs.Exchanges.{Exchange}
 use Rattle.dali_write.specs.declared.line.Line.{Line}
 use Rattle.dali_write.specs.declared.step.Step.{Step}
 use Rattle.dali_write.specs.declared.step.Step.TheVariants.{ReadFrom, WriteTo}
-use Rattle.dali_write.specs.declared.session.Verdict.{Verdict}
-use Rattle.dali_write.specs.declared.session.Job.{Job}
-use Rattle.dali_write.specs.declared.session.Job.TheVariants.{Fresh, Opened, Closing, Reading}
+use Rattle.dali_write.specs.declared.ask.Verdict.{Verdict}
+use Rattle.dali_write.specs.declared.stage.Job.{Job}
+use Rattle.dali_write.specs.declared.stage.Job.TheVariants.{Fresh, Opened, Closing, Reading}
 use Rattle.dali_write.specs.declared.session.Session.{Session}
 use Rattle.dali_write.specs.Lines.{line, step_lines}
 use Rattle.dali_write.specs.Frames.{read_frames, write_frames}

@@ -6,8 +6,8 @@ use Rattle.dali_write.specs.declared.line.Wish.{Wish}
 use Rattle.dali_write.specs.declared.line.Wish.TheVariants.{Nothing, Exactly, Anything}
 use Rattle.dali_write.specs.declared.step.Step.{Step}
 use Rattle.dali_write.specs.declared.step.Step.TheVariants.{ReadFrom, WriteTo}
-use Rattle.dali_write.specs.declared.session.Ask.{Ask}
-use Rattle.dali_write.specs.declared.session.Ask.TheVariants.{Send}
+use Rattle.dali_write.specs.declared.ask.Ask.{Ask}
+use Rattle.dali_write.specs.declared.ask.Ask.TheVariants.{Send}
 use Rattle.dali_write.specs.Lines.{Meets, line, step_lines, byte_after}
 use Rattle.dali_write.specs.Plans.{Plan, Finish, Check, goes_on, plan_after}
 use Rattle.dali_write.specs.Tries.{Trying, Missed, Misses, byte_of, StepEnds, StepsEnd, plan_lines, GoesOn, Stands, ask_at, Wants}

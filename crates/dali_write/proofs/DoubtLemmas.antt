@@ -5,8 +5,8 @@ use Rattle.std.proofs.lemmas.Bool.{eq-eqb}
 use Rattle.dali_write.specs.Exchanges.{Exchange}
 use Rattle.dali_write.specs.declared.step.Step.{Step}
 use Rattle.dali_write.specs.declared.step.Step.TheVariants.{ReadFrom, WriteTo}
-use Rattle.dali_write.specs.declared.session.Verdict.TheVariants.{Doubt}
-use Rattle.dali_write.specs.declared.session.Ask.TheVariants.{Ended}
+use Rattle.dali_write.specs.declared.ask.Verdict.TheVariants.{Doubt}
+use Rattle.dali_write.specs.declared.ask.Ask.TheVariants.{Ended}
 use Rattle.dali_write.specs.Lines.{read_lines}
 use Rattle.dali_write.specs.Plans.{Plan, Finish, Check, either_way, give_up, expect, read_back, read_lock, write_on, unlock}
 use Rattle.dali_write.specs.Tries.{most_tries, Succeeds, StepEnds, Wants}

@@ -5,9 +5,9 @@ use Rattle.dali_write.specs.Exchanges.{Exchange}
 use Rattle.dali_write.specs.declared.line.Line.{Line}
 use Rattle.dali_write.specs.declared.step.Step.{Step}
 use Rattle.dali_write.specs.declared.step.Step.TheVariants.{ReadFrom, WriteTo}
-use Rattle.dali_write.specs.declared.session.Verdict.{Verdict}
-use Rattle.dali_write.specs.declared.session.Verdict.TheVariants.{MayOpen, Short, Format, Silent, Closed, NotClosed, Read}
-use Rattle.dali_write.specs.declared.session.Ask.TheVariants.{Ended}
+use Rattle.dali_write.specs.declared.ask.Verdict.{Verdict}
+use Rattle.dali_write.specs.declared.ask.Verdict.TheVariants.{MayOpen, Short, Format, Silent, Closed, NotClosed, Read}
+use Rattle.dali_write.specs.declared.ask.Ask.TheVariants.{Ended}
 use Rattle.dali_write.specs.Lines.{step_lines}
 use Rattle.dali_write.specs.Frames.{read_frames, write_frames, try_frames}
 use Rattle.dali_write.specs.Counts.{read_all_frames}

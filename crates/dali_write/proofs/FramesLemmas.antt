@@ -4,10 +4,10 @@ use Rattle.std.proofs.lemmas.Nat.{mul-le}
 use Rattle.std.proofs.lemmas.Option.{slice_get_within}
 use Rattle.dali_write.specs.declared.line.Line.{Line}
 use Rattle.dali_write.specs.declared.step.Step.{Step}
-use Rattle.dali_write.specs.declared.session.Job.{Job}
+use Rattle.dali_write.specs.declared.stage.Job.{Job}
 use Rattle.dali_write.specs.declared.session.Session.{Session}
-use Rattle.dali_write.specs.declared.session.Stage.{Stage}
-use Rattle.dali_write.specs.declared.session.Stage.TheVariants.{ReadLength, ReadFormat, ReadFormatLow, Unlock, WriteOn, ReadLock, ReadBack, Close, ReadClosed, ReadAll, ReadOn, Over}
+use Rattle.dali_write.specs.declared.stage.Stage.{Stage}
+use Rattle.dali_write.specs.declared.stage.Stage.TheVariants.{ReadLength, ReadFormat, ReadFormatLow, Unlock, WriteOn, ReadLock, ReadBack, Close, ReadClosed, ReadAll, ReadOn, Over}
 use Rattle.dali_write.specs.Lines.{step_lines}
 use Rattle.dali_write.specs.Plans.{Plan, Finish, Check, write_on, read_back, read_on}
 use Rattle.dali_write.specs.Tries.{plan_lines}

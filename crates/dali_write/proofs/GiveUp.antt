@@ -2,9 +2,9 @@
 use Rattle.std.proofs.Common.{◌≡◌, ◌≢◌, ◌⊎◌, inl, inr, refl, sym, ap, subst, ◌∙◌, ℕ, zero, suc, ◌+◌, ◌*◌, ◌<◌, ◌≤◌, min, Bool, true, false, ◌==◌, ◌&&◌, nat_lt, if◌then◌else◌, List, [], ◌∷◌, ◌++◌, append_assoc, length, Option, Some, None, IsSome, arith}
 use Rattle.dali_write.specs.Exchanges.{Exchange}
 use Rattle.dali_write.specs.declared.step.Step.{Step}
-use Rattle.dali_write.specs.declared.session.Verdict.{Verdict}
-use Rattle.dali_write.specs.declared.session.Verdict.TheVariants.{MayOpen, Done, Short, Format, Silent, Doubt, DoubtOpen, Closed, NotClosed}
-use Rattle.dali_write.specs.declared.session.Ask.TheVariants.{Ended}
+use Rattle.dali_write.specs.declared.ask.Verdict.{Verdict}
+use Rattle.dali_write.specs.declared.ask.Verdict.TheVariants.{MayOpen, Done, Short, Format, Silent, Doubt, DoubtOpen, Closed, NotClosed}
+use Rattle.dali_write.specs.declared.ask.Ask.TheVariants.{Ended}
 use Rattle.dali_write.specs.Plans.{Plan, Finish, Check, goes_on, either_way, greatest, read_format_low, read_format, judge_length, read_length, read_closed, close, give_up, expect, read_back, read_lock, write_on, unlock, read_on, read_all}
 use Rattle.dali_write.specs.declared.step.Step.TheVariants.{ReadFrom, WriteTo}
 use Rattle.dali_write.specs.declared.line.Line.{Line}

@@ -7,10 +7,10 @@ use Rattle.dali_gear.specs.World.{World, Gear, byte_in, byte_at}
 use Rattle.dali_write.specs.Exchanges.{Exchange}
 use Rattle.dali_write.specs.declared.line.Line.{Line}
 use Rattle.dali_write.specs.declared.session.Session.{Session}
-use Rattle.dali_write.specs.declared.session.Job.{Job}
-use Rattle.dali_write.specs.declared.session.Job.TheVariants.{Reading}
-use Rattle.dali_write.specs.declared.session.Verdict.TheVariants.{Silent, Read}
-use Rattle.dali_write.specs.declared.session.Ask.TheVariants.{Ended}
+use Rattle.dali_write.specs.declared.stage.Job.{Job}
+use Rattle.dali_write.specs.declared.stage.Job.TheVariants.{Reading}
+use Rattle.dali_write.specs.declared.ask.Verdict.TheVariants.{Silent, Read}
+use Rattle.dali_write.specs.declared.ask.Ask.TheVariants.{Ended}
 use Rattle.dali_write.specs.declared.step.Step.TheVariants.{ReadFrom}
 use Rattle.dali_write.specs.Plans.{Plan, Finish, Check, goes_on, plan_after, either_way, read_on, read_all}
 use Rattle.dali_write.specs.Tries.{StepEnds, StepsEnd, plan_lines, ask_at}

@@ -3,9 +3,9 @@ use Rattle.std.proofs.Common.{◌≡◌, refl, sym, ap, subst, ◌∙◌, ℕ, z
 use Rattle.std.specs.Option.{option_to_list}
 use Rattle.dali_write.specs.Exchanges.{Exchange}
 use Rattle.dali_write.specs.declared.line.Line.{Line}
-use Rattle.dali_write.specs.declared.session.Job.{Job}
-use Rattle.dali_write.specs.declared.session.Job.TheVariants.{Fresh, Opened, Closing, Reading}
-use Rattle.dali_write.specs.declared.session.Verdict.TheVariants.{Silent}
+use Rattle.dali_write.specs.declared.stage.Job.{Job}
+use Rattle.dali_write.specs.declared.stage.Job.TheVariants.{Fresh, Opened, Closing, Reading}
+use Rattle.dali_write.specs.declared.ask.Verdict.TheVariants.{Silent}
 use Rattle.dali_write.specs.declared.step.Step.{Step}
 use Rattle.dali_write.specs.Plans.{Plan, Finish, Check, goes_on, plan_after, either_way, read_on, read_all}
 use Rattle.dali_write.specs.Found.{StandsWith, found, kept_bytes}

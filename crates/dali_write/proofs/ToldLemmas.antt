@@ -5,9 +5,9 @@ use Rattle.dali_write.specs.Exchanges.{Exchange}
 use Rattle.dali_write.specs.declared.line.Line.{Line}
 use Rattle.dali_write.specs.declared.line.Wish.{Wish}
 use Rattle.dali_write.specs.declared.session.Session.{Session}
-use Rattle.dali_write.specs.declared.session.Job.{Job}
-use Rattle.dali_write.specs.declared.session.Job.TheVariants.{Fresh, Opened, Closing, Reading}
-use Rattle.dali_write.specs.declared.session.Ask.TheVariants.{Send}
+use Rattle.dali_write.specs.declared.stage.Job.{Job}
+use Rattle.dali_write.specs.declared.stage.Job.TheVariants.{Fresh, Opened, Closing, Reading}
+use Rattle.dali_write.specs.declared.ask.Ask.TheVariants.{Send}
 use Rattle.dali_write.specs.Lines.{Meets, line, byte_after}
 use Rattle.dali_write.specs.Plans.{Plan, Finish, Check, goes_on}
 use Rattle.dali_write.specs.Tries.{plan_lines, GoesOn, Wants, ask_at}

@@ -2,9 +2,9 @@
 use Rattle.std.proofs.Common.{◌≡◌, ◌⊎◌, inl, inr, refl, sym, ap, subst, ◌∙◌, ℕ, zero, suc, ◌+◌, ◌*◌, ◌≤◌, List, [], ◌∷◌, ◌++◌, append_assoc, append-nil, length, Option, Some, None, arith}
 use Rattle.dali_write.specs.Exchanges.{Exchange}
 use Rattle.dali_write.specs.declared.line.Line.{Line}
-use Rattle.dali_write.specs.declared.session.Verdict.{Verdict}
-use Rattle.dali_write.specs.declared.session.Verdict.TheVariants.{Silent}
-use Rattle.dali_write.specs.declared.session.Ask.TheVariants.{Send, Ended}
+use Rattle.dali_write.specs.declared.ask.Verdict.{Verdict}
+use Rattle.dali_write.specs.declared.ask.Verdict.TheVariants.{Silent}
+use Rattle.dali_write.specs.declared.ask.Ask.TheVariants.{Send, Ended}
 use Rattle.dali_write.specs.Plans.{Plan, Finish, Check, goes_on, plan_after}
 use Rattle.dali_write.specs.Tries.{Trying, Misses, StepEnds, StepsEnd, Stands, Wants, ask_at}
 pub use Rattle.dali_write.specs.Walks.{Walk}

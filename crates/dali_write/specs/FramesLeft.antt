@@ -1,8 +1,8 @@
 -- How many frames a session may still send: a number that falls with each of them.
 use Rattle.std.specs.Prelude.{ℕ, suc, ◌+◌, ◌-◌, ◌*◌, length}
-use Rattle.dali_write.specs.declared.session.Job.{Job}
-use Rattle.dali_write.specs.declared.session.Stage.{Stage}
-use Rattle.dali_write.specs.declared.session.Stage.TheVariants.{ReadLength, ReadFormat, ReadFormatLow, Unlock, WriteOn, ReadLock, ReadBack, Close, ReadClosed, ReadAll, ReadOn, Over}
+use Rattle.dali_write.specs.declared.stage.Job.{Job}
+use Rattle.dali_write.specs.declared.stage.Stage.{Stage}
+use Rattle.dali_write.specs.declared.stage.Stage.TheVariants.{ReadLength, ReadFormat, ReadFormatLow, Unlock, WriteOn, ReadLock, ReadBack, Close, ReadClosed, ReadAll, ReadOn, Over}
 use Rattle.dali_write.specs.Frames.{read_frames, write_frames}
 use Rattle.dali_write.specs.Tries.{most_tries}
 use Rattle.dali_write.specs.Stages.{updates_of}

@@ -2,12 +2,12 @@
 use Rattle.std.specs.Prelude.{ℕ, suc, ◌-◌, List, [], drop, Option, Some, None}
 use Rattle.dali_bank.specs.Order.{Contents}
 use Rattle.dali_write.specs.declared.step.Step.{Step}
-use Rattle.dali_write.specs.declared.session.Verdict.{Verdict}
-use Rattle.dali_write.specs.declared.session.Verdict.TheVariants.{Done, Silent, Closed, NotClosed, Read}
-use Rattle.dali_write.specs.declared.session.Job.{Job}
-use Rattle.dali_write.specs.declared.session.Job.TheVariants.{Fresh, Opened, Closing, Reading}
-use Rattle.dali_write.specs.declared.session.Stage.{Stage}
-use Rattle.dali_write.specs.declared.session.Stage.TheVariants.{ReadLength, ReadFormat, ReadFormatLow, Unlock, WriteOn, ReadLock, ReadBack, Close, ReadClosed, ReadAll, ReadOn, Over}
+use Rattle.dali_write.specs.declared.ask.Verdict.{Verdict}
+use Rattle.dali_write.specs.declared.ask.Verdict.TheVariants.{Done, Silent, Closed, NotClosed, Read}
+use Rattle.dali_write.specs.declared.stage.Job.{Job}
+use Rattle.dali_write.specs.declared.stage.Job.TheVariants.{Fresh, Opened, Closing, Reading}
+use Rattle.dali_write.specs.declared.stage.Stage.{Stage}
+use Rattle.dali_write.specs.declared.stage.Stage.TheVariants.{ReadLength, ReadFormat, ReadFormatLow, Unlock, WriteOn, ReadLock, ReadBack, Close, ReadClosed, ReadAll, ReadOn, Over}
 use Rattle.dali_write.specs.Plans.{Plan, Finish, Check, read_length, read_format, read_format_low, unlock, write_on, read_lock, read_back, close, read_closed, read_all, read_on}
 
 abbrev pub updates_of : Job → List (ℕ × ℕ)

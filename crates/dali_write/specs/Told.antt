@@ -2,12 +2,23 @@
 use Rattle.std.specs.Prelude.{◌≡◌, ℕ, ◌+◌, ◌-◌, ◌*◌, List, length, drop, Option, None, slice_get}
 use Rattle.dali_write.specs.Exchanges.{Exchange}
 use Rattle.dali_write.specs.declared.line.Line.{Line}
-use Rattle.dali_write.specs.declared.session.Ask.{Ask}
+use Rattle.dali_write.specs.declared.ask.Ask.{Ask}
+use Rattle.dali_write.specs.declared.stage.Job.{Job}
 use Rattle.dali_write.specs.declared.session.Session.{Session}
 use Rattle.dali_write.specs.Tries.{plan_lines, ask_at}
 use Rattle.dali_write.specs.Found.{StandsWith}
 use Rattle.dali_write.specs.FramesLeft.{limit_at}
 use Rattle.dali_write.specs.Stages.{plan_of, plan_at}
+
+-- the short address of a session's unit, what it is for, and what it has read
+abbrev pub unit_of : Session → ℕ
+unit_of s = s.unit
+
+abbrev pub job_of : Session → Job
+job_of s = s.job
+
+abbrev pub bytes_of : Session → List ℕ
+bytes_of s = s.bytes.items
 
 -- what the session wants
 abbrev pub aim_of : Session → Ask

@@ -3,9 +3,9 @@ use Rattle.std.specs.Prelude.{◌≡◌, ℕ, suc, zero, ◌<◌, ◌⊎◌, Lis
 use Rattle.dali_write.specs.Exchanges.{Exchange}
 use Rattle.dali_write.specs.declared.line.Line.{Line}
 use Rattle.dali_write.specs.declared.line.Wish.{Wish}
-use Rattle.dali_write.specs.declared.session.Ask.{Ask}
-use Rattle.dali_write.specs.declared.session.Ask.TheVariants.{Send, Ended}
-use Rattle.dali_write.specs.declared.session.Verdict.TheVariants.{Silent}
+use Rattle.dali_write.specs.declared.ask.Ask.{Ask}
+use Rattle.dali_write.specs.declared.ask.Ask.TheVariants.{Send, Ended}
+use Rattle.dali_write.specs.declared.ask.Verdict.TheVariants.{Silent}
 use Rattle.dali_write.specs.Lines.{Meets, line, step_lines, byte_after}
 use Rattle.dali_write.specs.Plans.{Plan, Finish, Check, plan_after}
 

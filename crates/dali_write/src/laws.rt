@@ -1,16 +1,16 @@
 //! Laws over the definitions alone.
 ghost use Rattle.std.specs.Prelude.{◌≡◌, ◌∷◌, ◌≤◌, ◌<◌, ◌⊎◌, ◌+◌, ◌*◌, List, [], length, slice_get, Some, ℕ, Option};
 ghost use Rattle.dali_frame.specs.declared.forward.Frame.TheVariants.{Write};
-ghost use Rattle.dali_write.specs.declared.session.Ask.{Ask};
+ghost use Rattle.dali_write.specs.declared.ask.Ask.{Ask};
 ghost use Rattle.dali_gear.specs.World.{World, Gear};
 ghost use Rattle.dali_gear.specs.Carry.{Carry};
 ghost use Rattle.dali_write.specs.Exchanges.{Exchange};
 ghost use Rattle.dali_write.specs.declared.session.Session.{Session};
-ghost use Rattle.dali_write.specs.declared.session.Verdict.{Verdict};
+ghost use Rattle.dali_write.specs.declared.ask.Verdict.{Verdict};
 ghost use Rattle.dali_write.specs.Plans.{Plan, greatest, unlock, close, read_length, read_all};
 ghost use Rattle.dali_write.specs.Tries.{Wants};
 ghost use Rattle.dali_write.specs.Verdicts.{Says, ShowsBank};
-ghost use Rattle.dali_write.specs.declared.session.Job.{Job};
+ghost use Rattle.dali_write.specs.declared.stage.Job.{Job};
 ghost use Rattle.dali_write.specs.Stages.{plan_of};
 ghost use Rattle.dali_write.specs.Told.{Told, aim_of};
 ghost use Rattle.dali_write.specs.Frames.{read_frames, write_frames};

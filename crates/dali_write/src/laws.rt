@@ -1,10 +1,11 @@
-//! Laws over the definitions alone.
-ghost use Rattle.std.specs.Prelude.{◌≡◌, ◌∷◌, ◌≤◌, ◌<◌, ◌⊎◌, ◌+◌, ◌*◌, List, [], length, slice_get, Some, ℕ, Option};
+//! Laws of checked steps and sessions. Each is the contract of a function that does nothing.
+ghost use Rattle.std.specs.Prelude.{◌↔◌, ◌≡◌, ◌∷◌, ◌≤◌, ◌<◌, ◌⊎◌, ◌+◌, ◌*◌, List, [], length, slice_get, Some, ℕ, Option};
 ghost use Rattle.dali_frame.specs.declared.forward.Frame.TheVariants.{Write};
 ghost use Rattle.dali_write.specs.declared.ask.Ask.{Ask};
 ghost use Rattle.dali_gear.specs.World.{World, Gear};
 ghost use Rattle.dali_gear.specs.Carry.{Carry};
-ghost use Rattle.dali_write.specs.Exchanges.{Exchange};
+ghost use Rattle.dali_write.specs.Exchanges.{Exchange, by_exchange};
+ghost use Rattle.dali_gear.specs.Chain.{Chain};
 ghost use Rattle.dali_write.specs.declared.session.Session.{Session};
 ghost use Rattle.dali_write.specs.declared.ask.Verdict.{Verdict};
 ghost use Rattle.dali_write.specs.Plans.{Plan, greatest, unlock, close, read_length, read_all};
@@ -27,6 +28,11 @@ ghost use Rattle.dali_write.specs.Losses.{SimRun, losses, Unrefused, IsAlone, Ca
 ghost use Rattle.dali_write.specs.Touches.{Touches, writes_of};
 ghost use Rattle.dali_write.specs.Worlds.{Run, ReadsByte, Shows, KeepsAt, Selects, OnlyEnabled, MayWrite};
 
+/// Exchanges lead from one world to another exactly where a chain of worlds does.
+pub fn runs_are_chains()
+    ensures { (told : List Exchange) (first last : World) → Run told first last ↔ Chain by_exchange first told last }
+{}
+
 /// A session wants what its plan asks after what it was told, and ends so.
 pub fn sessions_follow_their_plans()
     ensures { (told : List Exchange) (s : Session) → Told told s → Wants s.unit (plan_of s.job) told (aim_of s) }
@@ -37,7 +43,8 @@ pub fn sessions_send_few_frames()
     ensures { (told : List Exchange) (s : Session) → Told told s → length told ≤ frame_limit s.job }
 {}
 
-/// A checked read tells the byte at its place, and then the unit isn't enabled; no memory changes, and no unit is newly enabled.
+/// A checked read tells the byte at its place, and then the unit isn't enabled; no memory changes,
+/// and no unit is newly enabled.
 pub fn checked_reads_are_true()
     ensures byte { (tried : List Exchange) (first last : World) (unit location byte : ℕ) → Run tried first last → ReadsByte unit location byte tried
         → Shows last unit location byte }
@@ -45,7 +52,8 @@ pub fn checked_reads_are_true()
         → (address : ℕ) → KeepsAt first last address }
 {}
 
-/// Where the unit was made sure to have selected the location, and no other unit is enabled, a write stores its byte there or nothing.
+/// Where the unit was made sure to have selected the location, and no other unit is enabled, a
+/// write stores its byte there or nothing.
 pub fn guarded_writes_are_safe()
     ensures { (told : List Exchange) (first before last : World) (unit location byte : ℕ) (answer : Option ℕ)
         → Run told first before → Selects unit location told → OnlyEnabled unit before → Carry before (Write byte) answer last
@@ -72,7 +80,8 @@ pub fn readers_are_quiet()
         → Run told first last → Wants unit read_all told ask → (address : ℕ) → KeepsAt first last address }
 {}
 
-/// Where no other unit is enabled, a session changes only the places that it writes, at its unit, and each of them holds its old byte or a written one. No other unit changes or is enabled.
+/// Where no other unit is enabled, a session changes only the places that it writes, at its unit,
+/// and each of them holds its old byte or a written one. No other unit changes or is enabled.
 pub fn sessions_touch_their_places_alone()
     ensures opened { (told : List Exchange) (first last : World) (unit : ℕ) (updates : List (ℕ × ℕ)) (ask : Ask)
         → OnlyEnabled unit first → Run told first last → Wants unit (unlock updates) told ask → Touches (writes_of updates) unit first last }
@@ -89,7 +98,8 @@ pub fn tries_miss_by_losses()
         → IsAlone at unit first.units → CanDo step unit → Unrefused told first last run → Missed (step_lines at step) told → 1 ≤ losses at told first last run }
 {}
 
-/// On the simulated bus a step misses no more often than its unit has losses, and with fewer of them than a step has tries it succeeds.
+/// On the simulated bus a step misses no more often than its unit has losses, and with fewer of
+/// them than a step has tries it succeeds.
 pub fn steps_outlive_losses()
     ensures misses { (at : ℕ) (step : Step) (unit : UnitState) (misses : ℕ) (told : List Exchange) (first last : SimState) (run : SimRun told first last)
         → IsAlone at unit first.units → CanDo step unit → Unrefused told first last run → Misses (step_lines at step) misses told → misses ≤ losses at told first last run }
@@ -104,8 +114,9 @@ pub fn done_sessions_take_exactly()
         → Wants unit (unlock updates) told (Ask.Ended Verdict.Done) → Took unit (unlock updates) told Verdict.Done (done_frames (length updates)) }
 {}
 
-/// How many frames the other sessions took that didn't give up; one that may open reads the format only where a location is past 12h. A closing session
-/// whose write failed goes on to its read: the frames of that write are all of missed tries, and within what those allow.
+/// How many frames the other sessions took that didn't give up; one that may open reads the format
+/// only where a location is past 12h. A closing session whose write failed goes on to its read: the
+/// frames of that write are all of missed tries, and within what those allow.
 pub fn sessions_take_exactly()
     ensures short { (told : List Exchange) (unit : ℕ) (updates : List (ℕ × ℕ))
         → Wants unit (read_length updates) told (Ask.Ended Verdict.Short) → Took unit (read_length updates) told Verdict.Short read_frames }
@@ -133,21 +144,24 @@ pub fn sessions_give_up_late()
         → Wants unit read_all told (Ask.Ended Verdict.Silent) → Failed unit read_all told Verdict.Silent }
 {}
 
-/// A session that carries an order out ends in doubt only after as many misses as a step has tries, or because a checked read of the lock byte or of
-/// an update's location found another byte than must be there.
+/// A session that carries an order out ends in doubt only after as many misses as a step has tries,
+/// or because a checked read of the lock byte or of an update's location found another byte than
+/// must be there.
 pub fn doubts_have_a_cause()
     ensures { (told : List Exchange) (unit : ℕ) (updates : List (ℕ × ℕ)) → Wants unit (unlock updates) told (Ask.Ended Verdict.Doubt)
         → Failed unit (unlock updates) told Verdict.Doubt ⊎ FoundAnother unit (unlock updates) (read_backs updates) told }
 {}
 
-/// On the simulated bus a checked write that succeeded has stored its byte and nothing else, whatever was lost or refused before.
+/// On the simulated bus a checked write that succeeded has stored its byte and nothing else,
+/// whatever was lost or refused before.
 pub fn successful_writes_are_stored()
     ensures { (at location byte : ℕ) (unit : UnitState) (outcome : Option ℕ) (told : List Exchange) (first last : SimState) → SimRun told first last
         → IsAlone at unit first.units → Succeeds (step_lines at (WriteTo location byte)) outcome told
         → (now : UnitState) × IsAlone at now last.units × OnlyDiffers unit.bank1 location now.bank1 × (slice_get now.bank1.bytes location ≡ Some byte) }
 {}
 
-/// Where the units are at different addresses and no other is enabled, the unit at an address is alone.
+/// Where the units are at different addresses and no other is enabled, the unit at an address is
+/// alone.
 pub fn apart_units_are_alone()
     ensures { (at : ℕ) (units : List UnitState) (gear : Gear) → AreApart units → OnlyEnabled at (world_of units) → world_of units at ≡ Some gear
         → (unit : UnitState) × IsAlone at unit units × (gear_of unit ≡ gear) }

@@ -191,7 +191,9 @@ fn a_lost_dtr1_is_seen(rt: HostRuntime) -> Result<(), Fail> {
         ..Fate::default()
     };
     let mut fates = then(alloc, 7, lost)?;
-    fates[0] = lost;
+    if let Some(first) = fates.first_mut() {
+        *first = lost;
+    }
     let mut bus = bus_of(alloc, unit, fates)?;
     let mut fresh = Session::fresh(order(5, &GTIN)?);
     let (before, verdict) = finish(&mut bus, &mut fresh);

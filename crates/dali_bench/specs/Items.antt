@@ -69,11 +69,6 @@ abbrev pub IsFoundIn : Data → Field → Option (List ℕ) → Type 0
 IsFoundIn source field found = MatchOption (get (key_of field) source) (found ≡ None)
     (λ json. (value : Plain) × (bytes : List ℕ) × (given field json ≡ Some value) × AreFieldBytes field value bytes × (found ≡ Some bytes))
 
--- after is before with the field as the object gives it
-abbrev pub IsGiven : Data → Field → Drafted → Drafted → Type 0
-IsGiven source field before after = MatchOption (get (key_of field) source) (after ≡ before)
-    (λ json. (value : Plain) × (bytes : List ℕ) × (given field json ≡ Some value) × AreFieldBytes field value bytes × (after ≡ with_field field bytes before))
-
 -- the object gives nothing to the field, or a value that has bytes
 abbrev pub IsAcceptable : Data → Field → Type 0
 IsAcceptable source field = MatchOption (get (key_of field) source) ⊤

@@ -16,7 +16,7 @@ use Rattle.dali_write.specs.Tries.{most_tries, Trying, Missed, Misses, Succeeds,
 use Rattle.dali_write.specs.Counts.{step_limit, TakesAtMost, frame_limit}
 use Rattle.dali_write.specs.Stages.{plan_of, plan_at}
 use Rattle.dali_write.specs.Told.{Told}
-use Rattle.dali_write.proofs.Shapes.{trying_length}
+use Rattle.dali_write.proofs.ShapeLemmas.{trying_length}
 
 pub missed_length : (lines : List Line) (tried : List Exchange) → Missed lines tried → length tried ≤ length lines
 missed_length lines [] missed = absurd missed

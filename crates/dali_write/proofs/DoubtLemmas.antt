@@ -12,8 +12,8 @@ use Rattle.dali_write.specs.Plans.{Plan, Finish, Check, either_way, give_up, exp
 use Rattle.dali_write.specs.Tries.{most_tries, Succeeds, StepEnds, Wants}
 use Rattle.dali_write.specs.Walks.{Walk, misses_of, Failed}
 use Rattle.dali_write.specs.Doubts.{read_backs, FoundAnother}
-use Rattle.dali_write.proofs.Walks.{ended_walk}
-use Rattle.dali_write.proofs.GiveUp.{all_missed}
+use Rattle.dali_write.proofs.WalkLemmas.{ended_walk}
+use Rattle.dali_write.proofs.GiveUpLemmas.{all_missed}
 
 -- why a walk ended in doubt
 abbrev Cause : (unit : ℕ) (plan : Plan) (expected : List (ℕ × ℕ)) (outcomes : List (Option ℕ)) (told : List Exchange) → Walk unit plan outcomes told (Finish Doubt) → Type 0

@@ -14,7 +14,7 @@ use Rattle.dali_write.specs.Tries.{plan_lines, GoesOn, Wants, ask_at}
 use Rattle.dali_write.specs.Found.{StandsWith, kept_bytes, kept_after}
 use Rattle.dali_write.specs.Stages.{plan_of, plan_at}
 use Rattle.dali_write.specs.Told.{Told, line_of, aim_of, BeginsTry}
-use Rattle.dali_write.proofs.Standing.{ends_step, stands_at_first, stands_on, stands_again, stands_done, stands_failed}
+use Rattle.dali_write.proofs.StandingLemmas.{ends_step, stands_at_first, stands_on, stands_again, stands_done, stands_failed}
 use Rattle.dali_write.proofs.LineLemmas.{drop_at, drop_end}
 use Rattle.dali_write.proofs.RoomLemmas.{room_for_one}
 

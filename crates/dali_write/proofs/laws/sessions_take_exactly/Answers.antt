@@ -1,4 +1,4 @@
-use Rattle.dali_write.proofs.ExactEnds.{short_took, low_took, high_took, format_took, closed_took, read_took}
+use Rattle.dali_write.proofs.ExactEndLemmas.{short_took, low_took, high_took, format_took, closed_took, read_took}
 use Rattle.dali_write.proofs.laws.sessions_take_exactly.Goals as goal
 
 pub returns-clause-short : goal.returns-clause-short

@@ -1,4 +1,4 @@
-use Rattle.dali_write.proofs.Touching.{opened_touches, closing_touches, others_off}
+use Rattle.dali_write.proofs.TouchLemmas.{opened_touches, closing_touches, others_off}
 use Rattle.dali_write.proofs.laws.sessions_touch_their_places_alone.Goals as goal
 
 pub returns-clause-opened : goal.returns-clause-opened

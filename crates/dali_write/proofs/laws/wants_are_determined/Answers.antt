@@ -1,4 +1,4 @@
-use Rattle.dali_write.proofs.Determined.{wants_one}
+use Rattle.dali_write.proofs.DeterminedLemmas.{wants_one}
 use Rattle.dali_write.proofs.laws.wants_are_determined.Goals as goal
 
 pub returns : goal.returns

@@ -19,10 +19,10 @@ use Rattle.dali_write.specs.Worlds.{Run, Shows, KeepsAt}
 use Rattle.dali_write.specs.Verdicts.{ShowsBank}
 use Rattle.dali_write.specs.Stages.{plan_of, plan_at}
 use Rattle.dali_write.specs.Told.{Told, aim_of}
-use Rattle.dali_write.proofs.Truth.{split}
-use Rattle.dali_write.proofs.Meaning.{read_step_shows, read_step_keeps, shows_kept}
-use Rattle.dali_write.proofs.Walks.{nothing_of, ended_told}
-use Rattle.dali_write.proofs.Shapes.{trying_length}
+use Rattle.dali_write.proofs.TruthLemmas.{split}
+use Rattle.dali_write.proofs.VerdictLemmas.{read_step_shows, read_step_keeps, shows_kept}
+use Rattle.dali_write.proofs.WalkLemmas.{nothing_of, ended_told}
+use Rattle.dali_write.proofs.ShapeLemmas.{trying_length}
 use Rattle.dali_write.proofs.CountLemmas.{misses_length}
 
 -- the unit shows each of the bytes at its location

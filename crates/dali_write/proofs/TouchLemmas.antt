@@ -21,9 +21,9 @@ use Rattle.dali_write.specs.Tries.{Trying, Missed, Misses, StepEnds, StepsEnd, W
 use Rattle.dali_write.specs.Worlds.{Run, KeepsAt, Selects, OnlyEnabled, IsOff, memory_of, written}
 use Rattle.dali_write.specs.Touches.{Has, OldOrNew, Touches, writes_of}
 use Rattle.dali_write.proofs.GearLemmas.{end_steady, carry_keeps, IsQuiet}
-use Rattle.dali_write.proofs.Shapes.{trying_length}
-use Rattle.dali_write.proofs.Truth.{split, write_safe, keeps_then, keeps_none}
-use Rattle.dali_write.proofs.Meaning.{trying_quiet, read_quiet_lines}
+use Rattle.dali_write.proofs.ShapeLemmas.{trying_length}
+use Rattle.dali_write.proofs.TruthLemmas.{split, write_safe, keeps_then, keeps_none}
+use Rattle.dali_write.proofs.VerdictLemmas.{trying_quiet, read_quiet_lines}
 
 -- the byte at a place of a memory
 abbrev byte_by : Option Memory → ℕ → ℕ → Option ℕ

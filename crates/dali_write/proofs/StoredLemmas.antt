@@ -21,9 +21,9 @@ use Rattle.dali_write.specs.declared.step.Step.TheVariants.{ReadFrom, WriteTo}
 use Rattle.dali_write.specs.Lines.{Meets, line, select_lines, read_lines, write_lines, step_lines}
 use Rattle.dali_write.specs.Tries.{Trying, Missed, Misses, Succeeds, Fails}
 use Rattle.dali_write.specs.Losses.{SimRun, is_loss, losses, IsAlone, OnlyDiffers}
-use Rattle.dali_write.proofs.OneFrame.{IsFor, own_answer, alone_then, address_of}
-use Rattle.dali_write.proofs.Outlive.{IsQuiet, AllQuiet, bank_stays, hears, says, told_if, length_set}
-use Rattle.dali_write.proofs.Success.{AllFor, all_for, missed_by_loss}
+use Rattle.dali_write.proofs.OneFrameLemmas.{IsFor, own_answer, alone_then, address_of}
+use Rattle.dali_write.proofs.OutliveLemmas.{IsQuiet, AllQuiet, bank_stays, hears, says, told_if, length_set}
+use Rattle.dali_write.proofs.LossLemmas.{AllFor, all_for, missed_by_loss}
 
 -- Whatever is lost or refused of the lines, it holds of the bank, and it goes on so while answers that come back are as wished; after the last line, the unit is so.
 abbrev Safe : (BankState → Type 0) → (UnitState → Type 0) → List Line → UnitState → Type 0

@@ -11,7 +11,7 @@ use Rattle.dali_write.specs.declared.ask.Ask.TheVariants.{Send}
 use Rattle.dali_write.specs.Lines.{Meets, line, step_lines, byte_after}
 use Rattle.dali_write.specs.Plans.{Plan, Finish, Check, goes_on, plan_after}
 use Rattle.dali_write.specs.Tries.{Trying, Missed, Misses, byte_of, StepEnds, StepsEnd, plan_lines, GoesOn, Stands, ask_at, Wants}
-use Rattle.dali_write.proofs.Shapes.{trying_length}
+use Rattle.dali_write.proofs.ShapeLemmas.{trying_length}
 
 -- where a session stands: its plan from the step at hand on, the missed tries of that step, what is left of the try at hand, and its byte
 record Place : Type 0 where

@@ -13,7 +13,7 @@ use Rattle.dali_write.specs.Lines.{select_lines, byte_after}
 use Rattle.dali_write.specs.Tries.{Trying, byte_of}
 use Rattle.dali_write.specs.Worlds.{Run, ReadsByte, Shows, KeepsAt, Selects, OnlyEnabled, MayWrite, IsOff, memory_of, memory_at, written}
 use Rattle.dali_write.proofs.GearLemmas.{After, Banked, asked1, placed, asked0, stays, carry_keeps, IsQuiet, Steady, end_steady, same_steady}
-use Rattle.dali_write.proofs.Shapes.{Got, Selected, selected, WasRead, was_read}
+use Rattle.dali_write.proofs.ShapeLemmas.{Got, Selected, selected, WasRead, was_read}
 
 -- a run in two parts
 pub split : (newer older : List Exchange) (first last : World) → Run (newer ++ older) first last → (mid : World) × Run older first mid × Run newer mid last

@@ -15,7 +15,7 @@ use Rattle.dali_write.specs.declared.step.Step.TheVariants.{ReadFrom, WriteTo}
 use Rattle.dali_write.specs.Lines.{Meets, line, select_lines, read_lines, write_lines, step_lines}
 use Rattle.dali_write.specs.Tries.{Trying, Missed}
 use Rattle.dali_write.specs.Losses.{SimRun, is_loss, losses, Unrefused, IsAlone, CanDo}
-use Rattle.dali_write.proofs.OneFrame.{IsFor, HeardWhole, heard_whole, address_of}
+use Rattle.dali_write.proofs.OneFrameLemmas.{IsFor, HeardWhole, heard_whole, address_of}
 
 -- a unit that hears all of the lines gives the answers that they want
 abbrev pub Suits : List Line → UnitState → Type 0

@@ -11,7 +11,7 @@ use Rattle.dali_write.specs.declared.line.Line.{Line}
 use Rattle.dali_write.specs.Lines.{Meets, line, step_lines, byte_after}
 use Rattle.dali_write.specs.Tries.{most_tries, Trying, byte_of, StepEnds, Wants}
 use Rattle.dali_write.specs.Walks.{Walk, step_misses, misses_of, Failed}
-use Rattle.dali_write.proofs.Walks.{ended_walk}
+use Rattle.dali_write.proofs.WalkLemmas.{ended_walk}
 
 -- where no step fails, the plan doesn't end so
 abbrev Avoids : Verdict → Plan → Type 0

@@ -15,9 +15,9 @@ use Rattle.dali_write.specs.Plans.{Plan, Finish, Check, goes_on, plan_after, eit
 use Rattle.dali_write.specs.Tries.{Trying, Misses, StepEnds, StepsEnd, Stands, Wants, plan_lines}
 use Rattle.dali_write.specs.Worlds.{Run, Shows, KeepsAt}
 use Rattle.dali_write.specs.Verdicts.{Says}
-use Rattle.dali_write.proofs.Truth.{split, AllQuiet, run_keeps}
-use Rattle.dali_write.proofs.Walks.{Walk, ended_walk}
-use Rattle.dali_write.proofs.Meaning.{finish_walk, only_older, read_step_shows, read_step_keeps, read_step_quiet, shows_kept, both_quiet, misses_quiet, trying_quiet, read_quiet_lines, LinesQuiet}
+use Rattle.dali_write.proofs.TruthLemmas.{split, AllQuiet, run_keeps}
+use Rattle.dali_write.proofs.WalkLemmas.{Walk, ended_walk}
+use Rattle.dali_write.proofs.VerdictLemmas.{finish_walk, only_older, read_step_shows, read_step_keeps, read_step_quiet, shows_kept, both_quiet, misses_quiet, trying_quiet, read_quiet_lines, LinesQuiet}
 
 both_true : (a b : Bool) → (a && b) ≡ true → (a ≡ true) × (b ≡ true)
 both_true true b e = (refl, e)

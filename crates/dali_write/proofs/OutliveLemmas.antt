@@ -21,8 +21,8 @@ use Rattle.dali_write.specs.declared.step.Step.TheVariants.{ReadFrom, WriteTo}
 use Rattle.dali_write.specs.Lines.{Meets, line, select_lines, read_lines, write_lines, step_lines}
 use Rattle.dali_write.specs.Tries.{most_tries, Trying, Missed, Misses, Succeeds, Fails}
 use Rattle.dali_write.specs.Losses.{SimRun, is_loss, losses, Unrefused, IsAlone, CanDo}
-use Rattle.dali_write.proofs.OneFrame.{IsFor, own_answer, alone_then, address_of}
-use Rattle.dali_write.proofs.Success.{AllFor, all_for, missed_by_loss}
+use Rattle.dali_write.proofs.OneFrameLemmas.{IsFor, own_answer, alone_then, address_of}
+use Rattle.dali_write.proofs.LossLemmas.{AllFor, all_for, missed_by_loss}
 
 -- the frame writes nothing
 abbrev pub IsQuiet : Frame → Type 0

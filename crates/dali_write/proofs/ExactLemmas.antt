@@ -13,9 +13,9 @@ use Rattle.dali_write.specs.Counts.{done_frames}
 use Rattle.dali_write.specs.Plans.{Plan, Finish, Check, goes_on, either_way, read_closed, close, give_up, expect, read_back, read_lock, write_on, unlock}
 use Rattle.dali_write.specs.Tries.{StepEnds, Wants}
 use Rattle.dali_write.specs.Walks.{Walk, step_misses, misses_of, Took}
-use Rattle.dali_write.proofs.Shapes.{trying_length}
+use Rattle.dali_write.proofs.ShapeLemmas.{trying_length}
 use Rattle.dali_write.proofs.CountLemmas.{misses_length}
-use Rattle.dali_write.proofs.Walks.{ended_walk}
+use Rattle.dali_write.proofs.WalkLemmas.{ended_walk}
 
 -- the frames of a walk: these, and so many more
 pub record Frames (unit : ℕ) (plan : Plan) (outcomes : List (Option ℕ)) (told : List Exchange) (end : Plan) (walk : Walk unit plan outcomes told end) (frames : ℕ) : Type 0 where

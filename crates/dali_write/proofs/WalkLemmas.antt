@@ -8,7 +8,7 @@ use Rattle.dali_write.specs.declared.ask.Ask.TheVariants.{Send, Ended}
 use Rattle.dali_write.specs.Plans.{Plan, Finish, Check, goes_on, plan_after}
 use Rattle.dali_write.specs.Tries.{Trying, Misses, StepEnds, StepsEnd, Stands, Wants, ask_at}
 pub use Rattle.dali_write.specs.Walks.{Walk}
-use Rattle.dali_write.proofs.Shapes.{trying_length}
+use Rattle.dali_write.proofs.ShapeLemmas.{trying_length}
 use Rattle.dali_write.proofs.CountLemmas.{misses_length}
 
 -- one more step

@@ -14,11 +14,11 @@ use Rattle.dali_write.specs.Counts.{read_all_frames}
 use Rattle.dali_write.specs.Plans.{Plan, Finish, Check, either_way, greatest, read_format_low, read_format, judge_length, read_length, read_closed, close, read_on, read_all}
 use Rattle.dali_write.specs.Tries.{most_tries, Missed, Misses, StepEnds, Wants}
 use Rattle.dali_write.specs.Walks.{Walk, step_misses, Took, TookAll}
-use Rattle.dali_write.proofs.Walks.{ended_walk}
+use Rattle.dali_write.proofs.WalkLemmas.{ended_walk}
 use Rattle.dali_write.proofs.CountLemmas.{misses_length}
-use Rattle.dali_write.proofs.Exact.{Frames, at_most, and_rest, step_first}
-use Rattle.dali_write.proofs.GiveUp.{all_missed}
-use Rattle.dali_write.proofs.Meaning.{finish_walk}
+use Rattle.dali_write.proofs.ExactLemmas.{Frames, at_most, and_rest, step_first}
+use Rattle.dali_write.proofs.GiveUpLemmas.{all_missed}
+use Rattle.dali_write.proofs.VerdictLemmas.{finish_walk}
 
 -- each walk of the plan to the verdict takes so many frames, and more only for misses
 abbrev Takes : ℕ → Plan → Verdict → ℕ → Type 0

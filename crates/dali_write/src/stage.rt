@@ -205,6 +205,7 @@ fn after_read(outcome: Option<u8>, byte: u8, next: Stage) -> Stage
 }
 
 // What follows the read of a location, where those up to the last one are to be read.
+#[tactic(auto, using(crate::proofs::LineLemmas::read_on_next))]
 fn read_next(location: u8, last: u8, outcome: Option<u8>) -> Stage
     ensures plan { (job : Job) → plan_at job result ≡ goes_on (plan_at job (Stage.ReadOn location last)) outcome }
     ensures limit { (job : Job) → location ≤ last → limit_at job result + read_limit ≤ limit_at job (Stage.ReadOn location last) }

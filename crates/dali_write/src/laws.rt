@@ -13,7 +13,7 @@ ghost use Rattle.dali_write.specs.Tries.{Wants};
 ghost use Rattle.dali_write.specs.Verdicts.{Says, ShowsBank};
 ghost use Rattle.dali_write.specs.declared.stage.Job.{Job};
 ghost use Rattle.dali_write.specs.Stages.{plan_of};
-ghost use Rattle.dali_write.specs.Told.{Told, aim_of};
+ghost use Rattle.dali_write.specs.Told.{Told, unit_of, job_of, bytes_of, aim_of};
 ghost use Rattle.dali_write.specs.Frames.{read_frames, write_frames};
 ghost use Rattle.dali_write.specs.Counts.{done_frames, frame_limit};
 ghost use Rattle.dali_gear.specs.SimState.{SimState, AreApart, world_of};
@@ -35,12 +35,12 @@ pub fn runs_are_chains()
 
 /// A session wants what its plan asks after what it was told, and ends so.
 pub fn sessions_follow_their_plans()
-    ensures { (told : List Exchange) (s : Session) → Told told s → Wants s.unit (plan_of s.job) told (aim_of s) }
+    ensures { (told : List Exchange) (s : Session) → Told told s → Wants (unit_of s) (plan_of (job_of s)) told (aim_of s) }
 {}
 
 /// No session sends more frames than its limit.
 pub fn sessions_send_few_frames()
-    ensures { (told : List Exchange) (s : Session) → Told told s → length told ≤ frame_limit s.job }
+    ensures { (told : List Exchange) (s : Session) → Told told s → length told ≤ frame_limit (job_of s) }
 {}
 
 /// A checked read tells the byte at its place, and then the unit isn't enabled; no memory changes,
@@ -68,8 +68,8 @@ pub fn verdicts_are_true()
         → Run told first last → Wants unit (read_length updates) told (Ask.Ended verdict) → Says unit updates last verdict }
     ensures closing { (told : List Exchange) (first last : World) (unit : ℕ) (verdict : Verdict)
         → Run told first last → Wants unit (close Verdict.Closed Verdict.NotClosed) told (Ask.Ended verdict) → Says unit [] last verdict }
-    ensures reading { (told : List Exchange) (s : Session) (first last : World) → Told told s → s.job ≡ Job.Reading → aim_of s ≡ Ask.Ended Verdict.Read
-        → Run told first last → ShowsBank last s.unit s.bytes.items }
+    ensures reading { (told : List Exchange) (s : Session) (first last : World) → Told told s → job_of s ≡ Job.Reading → aim_of s ≡ Ask.Ended Verdict.Read
+        → Run told first last → ShowsBank last (unit_of s) (bytes_of s) }
 {}
 
 /// A session that looks whether a bank suits, or reads it, changes no memory and enables no unit.

@@ -13,7 +13,7 @@ use Rattle.dali_bank.specs.Spelling.{Plain, unknown, digits, hex, text, AreField
 use Rattle.dali_bank.specs.Spelling as spelling
 use Rattle.dali_bank.specs.Faults.{IsValueFault}
 use Rattle.dali_bank.specs.Order.{Contents}
-use Rattle.dali_bank.specs.Draft.{Drafted, VoltagesCross, empty_draft, found_of, with_field, order_of, updates_of}
+use Rattle.dali_bank.specs.Draft.{Drafted, VoltagesCross, empty_draft, found_of, order_of, updates_of}
 use Rattle.dali_bench.specs.Keys.{key_of}
 use Rattle.dali_bench.specs.declared.item.ItemFault.{ItemFault}
 use Rattle.dali_bench.specs.declared.item.ItemFault.TheVariants.{Bank, Shape, Key}

@@ -1,5 +1,5 @@
 -- How many frames a session sends at most.
-use Rattle.std.proofs.Common.{◌≡◌, ◌⊎◌, inl, inr, refl, sym, ap, subst, ℕ, zero, suc, ◌+◌, ◌-◌, ◌*◌, ◌<◌, ◌≤◌, min, max, Bool, true, false, ◌==◌, ◌&&◌, nat_lt, if◌then◌else◌, List, [], ◌∷◌, ◌++◌, length, length-append, Option, Some, None, arith}
+use Rattle.std.proofs.Common.{◌≡◌, ◌⊎◌, inl, inr, refl, ap, subst, ℕ, zero, suc, ◌+◌, ◌-◌, ◌*◌, ◌<◌, ◌≤◌, min, Bool, true, false, ◌==◌, nat_lt, if◌then◌else◌, List, [], ◌∷◌, ◌++◌, length, length-append, Option, Some, None, arith}
 use Rattle.std.proofs.lemmas.Nat.{mul-le}
 use Rattle.dali_write.specs.Exchanges.{Exchange}
 use Rattle.dali_write.specs.declared.line.Line.{Line}
@@ -11,10 +11,10 @@ use Rattle.dali_write.specs.declared.stage.Job.TheVariants.{Fresh, Opened, Closi
 use Rattle.dali_write.specs.declared.session.Session.{Session}
 use Rattle.dali_write.specs.Lines.{line, step_lines}
 use Rattle.dali_write.specs.Frames.{read_frames, write_frames}
-use Rattle.dali_write.specs.Plans.{Plan, Finish, Check, goes_on, plan_after, either_way, greatest, read_format_low, read_format, judge_length, read_length, read_closed, close, give_up, expect, read_back, read_lock, write_on, unlock, read_on, read_all}
+use Rattle.dali_write.specs.Plans.{Plan, Finish, Check, goes_on, plan_after, either_way, greatest, read_format, judge_length, read_length, close, give_up, expect, read_back, read_lock, write_on, unlock, read_on}
 use Rattle.dali_write.specs.Tries.{most_tries, Trying, Missed, Misses, Succeeds, Fails, StepEnds, StepsEnd, plan_lines, Stands}
 use Rattle.dali_write.specs.Counts.{step_limit, TakesAtMost, frame_limit}
-use Rattle.dali_write.specs.Stages.{plan_of, plan_at}
+use Rattle.dali_write.specs.Stages.{plan_of}
 use Rattle.dali_write.specs.Told.{Told}
 use Rattle.dali_write.proofs.ShapeLemmas.{trying_length}
 

@@ -1,12 +1,12 @@
 -- What frames do to one unit.
-use Rattle.std.proofs.Common.{◌≡◌, ◌⊎◌, refl, sym, ap, subst, ◌∙◌, inl, inr, ℕ, true, false, Option, Some, None, IsSome}
+use Rattle.std.proofs.Common.{◌≡◌, ◌⊎◌, refl, ap, subst, ◌∙◌, inl, inr, ℕ, false, Option, Some, None}
 use Rattle.std.specs.Prelude.{◌≢◌}
 use Rattle.dali_frame.specs.declared.forward.Frame.{Frame}
 use Rattle.dali_frame.specs.declared.forward.Frame.TheVariants.{Dtr0, Dtr1, Dtr2, Write, WriteSilent, Enable, AskDtr0, AskDtr1, AskDtr2, Read, Other}
-use Rattle.dali_gear.specs.World.{World, Gear, Memory, stored}
-use Rattle.dali_gear.specs.Hears.{Hears, Obeys, MayEnd, Tells, Ignores, PassesBy, Stores, ReadsByte, ReadsNothing, selected}
-use Rattle.dali_gear.specs.Carry.{Carry, MayHear, Heard, Answered, MayAnswer}
-use Rattle.dali_write.specs.Worlds.{memory_of, memory_at, IsOff, KeepsAt}
+use Rattle.dali_gear.specs.World.{World, Gear}
+use Rattle.dali_gear.specs.Hears.{Hears, Obeys, MayEnd, Tells, Ignores, PassesBy}
+use Rattle.dali_gear.specs.Carry.{Carry, MayHear, Heard}
+use Rattle.dali_write.specs.Worlds.{memory_of, IsOff, KeepsAt}
 
 -- the memory stays, and it isn't newly enabled
 pub record Keeps (old new : Gear) : Type 0 where

@@ -1,11 +1,11 @@
 -- A session gives up only after the most misses.
-use Rattle.std.proofs.Common.{◌≡◌, ◌≢◌, ◌⊎◌, inl, inr, refl, sym, ap, subst, ◌∙◌, ℕ, zero, suc, ◌+◌, ◌*◌, ◌<◌, ◌≤◌, min, Bool, true, false, ◌==◌, ◌&&◌, nat_lt, if◌then◌else◌, List, [], ◌∷◌, ◌++◌, append_assoc, length, Option, Some, None, IsSome, arith}
+use Rattle.std.proofs.Common.{◌≡◌, ◌≢◌, inl, inr, refl, sym, ap, subst, ◌∙◌, ℕ, zero, suc, ◌≤◌, min, Bool, true, false, ◌==◌, ◌&&◌, nat_lt, if◌then◌else◌, List, [], ◌∷◌, ◌++◌, append_assoc, Option, Some, None, IsSome, arith}
 use Rattle.dali_write.specs.Exchanges.{Exchange}
 use Rattle.dali_write.specs.declared.step.Step.{Step}
 use Rattle.dali_write.specs.declared.ask.Verdict.{Verdict}
-use Rattle.dali_write.specs.declared.ask.Verdict.TheVariants.{MayOpen, Done, Short, Format, Silent, Doubt, DoubtOpen, Closed, NotClosed}
+use Rattle.dali_write.specs.declared.ask.Verdict.TheVariants.{MayOpen, Short, Format, Silent, DoubtOpen, Closed, NotClosed}
 use Rattle.dali_write.specs.declared.ask.Ask.TheVariants.{Ended}
-use Rattle.dali_write.specs.Plans.{Plan, Finish, Check, goes_on, either_way, greatest, read_format_low, read_format, judge_length, read_length, read_closed, close, give_up, expect, read_back, read_lock, write_on, unlock, read_on, read_all}
+use Rattle.dali_write.specs.Plans.{Plan, Finish, Check, greatest, read_format, read_length, close, give_up, expect, read_back, write_on, unlock, read_on, read_all}
 use Rattle.dali_write.specs.declared.step.Step.TheVariants.{ReadFrom, WriteTo}
 use Rattle.dali_write.specs.declared.line.Line.{Line}
 use Rattle.dali_write.specs.Lines.{Meets, line, step_lines, byte_after}
@@ -96,7 +96,7 @@ format_avoids = λ high low. suits_not_silent ((high == 0) && (low == 3))
 length_avoids : (updates : List (ℕ × ℕ)) → Avoids Silent (read_length updates)
 length_avoids updates = λ last.
     avoids_if Silent (nat_lt last (greatest updates)) (Finish Short) _ (λ e. cc)
-        (avoids_if Silent (nat_lt (greatest updates) 0x13) (Finish MayOpen) read_format (λ e. cc) format_avoids)
+    (avoids_if Silent (nat_lt (greatest updates) 0x13) (Finish MayOpen) read_format (λ e. cc) format_avoids)
 
 pub fresh_late : (told : List Exchange) (unit : ℕ) (updates : List (ℕ × ℕ)) → Wants unit (read_length updates) told (Ended Silent) → Failed unit (read_length updates) told Silent
 fresh_late told unit updates wants = late unit (read_length updates) told Silent (length_avoids updates) wants

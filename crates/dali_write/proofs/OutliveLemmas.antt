@@ -1,27 +1,24 @@
 -- Whatever is lost in a try, the unit can do the step in the next one.
-use Rattle.std.proofs.Common.{◌≡◌, ◌≢◌, ◌⊎◌, inl, inr, refl, sym, ap, subst, ◌∙◌, ℕ, zero, suc, ◌+◌, ◌≤◌, ◌<◌, Bool, true, false, ◌&&◌, ◌||◌, not, List, [], ◌∷◌, ◌++◌, map, length, get_or, Option, Some, None, IsSome, IsTrue, is_some, arith}
-use Rattle.std.specs.Prelude.{◌==◌, nat_lt, nat_le, slice_get, slice_set, slice_index, if◌then◌else◌}
+use Rattle.std.proofs.Common.{◌≡◌, ◌≢◌, ◌⊎◌, inl, inr, refl, sym, ap, subst, ℕ, zero, suc, ◌+◌, ◌≤◌, ◌<◌, Bool, true, false, ◌&&◌, ◌||◌, not, List, [], ◌∷◌, ◌++◌, length, Option, Some, None, IsTrue, arith}
+use Rattle.std.specs.Prelude.{◌==◌, nat_lt, nat_le, slice_set, slice_index, if◌then◌else◌}
 use Rattle.std.specs.List.{list_any}
-use Rattle.std.proofs.Math.Dec.{eqb-suc-suc}
-use Rattle.std.proofs.lemmas.Bool.{eqb-true, eqb-false, eq-eqb, ne_eqb}
+use Rattle.std.proofs.lemmas.Bool.{eqb-false}
 use Rattle.dali_frame.specs.declared.forward.Frame.{Frame}
 use Rattle.dali_frame.specs.declared.forward.Frame.TheVariants.{Dtr0, Dtr1, Dtr2, Write, WriteSilent, Enable, AskDtr0, AskDtr1, AskDtr2, Read, Other}
-use Rattle.dali_gear.specs.declared.fate.Fate.{Fate}
 use Rattle.dali_gear.specs.Fate.{is_lost, next_fate}
 use Rattle.dali_write.specs.Exchanges.{Exchange}
 use Rattle.dali_gear.specs.UnitState.{BankState}
 use Rattle.dali_gear.specs.UnitState.{UnitState, after_frame, answer_to, is_writable, with_byte, has_bank, stores, carries_out}
 use Rattle.dali_gear.specs.Hears.{up}
-use Rattle.dali_gear.specs.SimState.{SimState, SimCarry, unit_after, unit_answer}
+use Rattle.dali_gear.specs.SimState.{SimState, SimCarry, unit_after}
 use Rattle.dali_write.specs.declared.line.Line.{Line}
-use Rattle.dali_write.specs.declared.line.Wish.{Wish}
-use Rattle.dali_write.specs.declared.line.Wish.TheVariants.{Nothing, Exactly, Anything}
+use Rattle.dali_write.specs.declared.line.Wish.TheVariants.{Nothing, Exactly}
 use Rattle.dali_write.specs.declared.step.Step.{Step}
 use Rattle.dali_write.specs.declared.step.Step.TheVariants.{ReadFrom, WriteTo}
-use Rattle.dali_write.specs.Lines.{Meets, line, select_lines, read_lines, write_lines, step_lines}
+use Rattle.dali_write.specs.Lines.{Meets, line, read_lines, write_lines, step_lines}
 use Rattle.dali_write.specs.Tries.{most_tries, Trying, Missed, Misses, Succeeds, Fails}
-use Rattle.dali_write.specs.Losses.{SimRun, is_loss, losses, Unrefused, IsAlone, CanDo}
-use Rattle.dali_write.proofs.OneFrameLemmas.{IsFor, own_answer, alone_then, address_of}
+use Rattle.dali_write.specs.Losses.{SimRun, losses, Unrefused, IsAlone, CanDo}
+use Rattle.dali_write.proofs.OneFrameLemmas.{own_answer, alone_then}
 use Rattle.dali_write.proofs.LossLemmas.{AllFor, all_for, missed_by_loss}
 
 -- the frame writes nothing
@@ -118,9 +115,9 @@ still_writable bank location byte = rw (length_set bank.bytes location byte) (by
   where
     by : (b : Bool) → (location == 2) ≡ b
         → (nat_lt location (length bank.bytes)
-            && (b || (nat_le 3 location && not (list_any (λ fixed. fixed == location) bank.fixed) && (slice_index (slice_set bank.bytes location byte) 2 == 0x55))))
+        && (b || (nat_le 3 location && not (list_any (λ fixed. fixed == location) bank.fixed) && (slice_index (slice_set bank.bytes location byte) 2 == 0x55))))
         ≡ (nat_lt location (length bank.bytes)
-            && (b || (nat_le 3 location && not (list_any (λ fixed. fixed == location) bank.fixed) && (slice_index bank.bytes 2 == 0x55))))
+        && (b || (nat_le 3 location && not (list_any (λ fixed. fixed == location) bank.fixed) && (slice_index bank.bytes 2 == 0x55))))
     by true e = refl
     by false e = rw (other_set bank.bytes location byte 2 (λ same. eqb-false location 2 e (sym same))) refl
 
@@ -164,9 +161,9 @@ quiet_first step (next ∷ lines) left unit quiet can rest =
 safe_writing : (at location byte : ℕ) (unit : UnitState) → CanDo (WriteTo location byte) unit → Safe (WriteTo location byte) (write_lines at location byte) unit
 safe_writing at location byte unit can =
     quiet_first (WriteTo location byte)
-        (line (Enable at) Nothing ∷ line (Enable at) Nothing ∷ line (Dtr1 1) Nothing ∷ line (AskDtr1 at) (Exactly 1) ∷ line (Dtr0 location) Nothing ∷ [])
-        (line (AskDtr0 at) (Exactly location) ∷ line (Write byte) (Exactly byte) ∷ [])
-        unit (tt, (tt, (tt, (tt, (tt, tt))))) can (safe_ask at location byte)
+    (line (Enable at) Nothing ∷ line (Enable at) Nothing ∷ line (Dtr1 1) Nothing ∷ line (AskDtr1 at) (Exactly 1) ∷ line (Dtr0 location) Nothing ∷ [])
+    (line (AskDtr0 at) (Exactly location) ∷ line (Write byte) (Exactly byte) ∷ [])
+    unit (tt, (tt, (tt, (tt, (tt, tt))))) can (safe_ask at location byte)
 
 safe_step : (at : ℕ) (step : Step) (unit : UnitState) → CanDo step unit → Safe step (step_lines at step) unit
 safe_step at (ReadFrom location) unit can = safe_quiet (ReadFrom location) (read_lines at location) unit (tt, (tt, (tt, (tt, (tt, tt))))) can
@@ -238,6 +235,7 @@ parts_of at told newer older first last run kind same = moved told same run kind
   where
     P : List Exchange → Type 0
     P t = (r : SimRun t first last) → Unrefused t first last r → Parts at newer older first last (losses at t first last r)
+
     moved : (t : List Exchange) → t ≡ newer ++ older → P t
     moved t e = subst P (sym e) (parts at newer older first last)
 

@@ -1,6 +1,5 @@
 -- What a reading session has read is what bank 1 of its unit holds.
-use Rattle.std.proofs.Common.{◌≡◌, ◌≢◌, ◌⊎◌, inl, inr, refl, sym, ap, subst, ◌∙◌, ℕ, zero, suc, ◌+◌, ◌<◌, ◌≤◌, min, List, [], ◌∷◌, ◌++◌, length, length-append, get_or, drop, Option, Some, None, arith}
-use Rattle.std.specs.Prelude.{slice_get}
+use Rattle.std.proofs.Common.{◌≡◌, ◌⊎◌, inl, inr, refl, sym, ap, subst, ◌∙◌, ℕ, zero, suc, ◌+◌, ◌<◌, ◌≤◌, min, List, [], ◌∷◌, ◌++◌, length, length-append, get_or, drop, Option, Some, None, arith}
 use Rattle.std.specs.Option.{option_to_list}
 use Rattle.std.proofs.lemmas.Option.{slice_get-get_or}
 use Rattle.dali_gear.specs.World.{World, Gear, byte_in, byte_at}
@@ -11,7 +10,6 @@ use Rattle.dali_write.specs.declared.stage.Job.{Job}
 use Rattle.dali_write.specs.declared.stage.Job.TheVariants.{Reading}
 use Rattle.dali_write.specs.declared.ask.Verdict.TheVariants.{Silent, Read}
 use Rattle.dali_write.specs.declared.ask.Ask.TheVariants.{Ended}
-use Rattle.dali_write.specs.declared.step.Step.TheVariants.{ReadFrom}
 use Rattle.dali_write.specs.Plans.{Plan, Finish, Check, goes_on, plan_after, either_way, read_on, read_all}
 use Rattle.dali_write.specs.Tries.{StepEnds, StepsEnd, plan_lines, ask_at}
 use Rattle.dali_write.specs.Found.{StandsWith, found}
@@ -50,13 +48,16 @@ shows_more mid last unit byte bytes each keeps here location below = by_place (b
     before [] x i lt = absurd (omega arith)
     before (y ∷ xs) x zero lt = refl
     before (y ∷ xs) x (suc i) lt = before xs x i (omega arith)
+
     at_end : (xs : List ℕ) (x : ℕ) → get_or (xs ++ x ∷ []) (length xs) 0 ≡ x
     at_end [] x = refl
     at_end (y ∷ xs) x = at_end xs x
+
     old_or_new : (i n : ℕ) → i < n + 1 → (i < n) ⊎ (i ≡ n)
     old_or_new i zero lt = inr (omega arith)
     old_or_new zero (suc n) lt = inl (omega arith)
     old_or_new (suc i) (suc n) lt = elim (old_or_new i n (omega arith)) [ inl less ↦ inl (omega arith) | inr same ↦ inr (omega arith) ]
+
     by_place : (all : List ℕ) → bytes ++ byte ∷ [] ≡ all → Shows last unit location (get_or (bytes ++ byte ∷ []) location 0)
     by_place all same =
         elim (old_or_new location (length bytes) (omega (arith, length-append bytes (byte ∷ [])))) [
@@ -89,13 +90,17 @@ next_read unit (suc left) None bytes newer mid last some count shows ends run = 
 next_read unit (suc left) (Some byte) bytes newer mid last some count shows ends run =
     let after_next = either_way (Finish Silent) (λ b. read_on (suc (length bytes)) left) in
     let more : length (bytes ++ byte ∷ []) ≡ suc (length bytes) = omega (arith, length-append bytes (byte ∷ [])) in
-    inl (byte, refl, record {
-      left = left;
-      some = omega arith;
-      plan_is = ap (λ (n : ℕ). read_on n left) (sym more);
-      count = omega (arith, ap (λ (b : ℕ). min b 0xFE) (front bytes byte some));
-      shows = shows_more mid last unit byte bytes shows (read_step_keeps unit (length bytes) after_next (Some byte) newer mid last ends run unit) (read_step_shows unit (length bytes) byte after_next newer mid last ends run);
-    })
+    inl (
+      byte,
+      refl,
+      record {
+        left = left;
+        some = omega arith;
+        plan_is = ap (λ (n : ℕ). read_on n left) (sym more);
+        count = omega (arith, ap (λ (b : ℕ). min b 0xFE) (front bytes byte some));
+        shows = shows_more mid last unit byte bytes shows (read_step_keeps unit (length bytes) after_next (Some byte) newer mid last ends run unit) (read_step_shows unit (length bytes) byte after_next newer mid last ends run);
+      },
+    )
   where
     front : (xs : List ℕ) (x : ℕ) → 1 ≤ length xs → get_or (xs ++ x ∷ []) 0 0 ≡ get_or xs 0 0
     front [] x some = absurd (omega arith)

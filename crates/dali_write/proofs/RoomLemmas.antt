@@ -1,5 +1,5 @@
 -- There is room for each byte that a reading session reads.
-use Rattle.std.proofs.Common.{◌≡◌, refl, sym, ap, subst, ◌∙◌, ℕ, zero, suc, ◌+◌, ◌-◌, ◌<◌, ◌≤◌, min, List, [], ◌∷◌, ◌++◌, length, length-append, Option, Some, None, arith}
+use Rattle.std.proofs.Common.{◌≡◌, sym, ap, subst, ◌∙◌, ℕ, zero, suc, ◌-◌, ◌<◌, ◌≤◌, min, List, [], ◌∷◌, length, length-append, Option, Some, None, arith}
 use Rattle.std.specs.Option.{option_to_list}
 use Rattle.dali_write.specs.Exchanges.{Exchange}
 use Rattle.dali_write.specs.declared.line.Line.{Line}
@@ -8,7 +8,7 @@ use Rattle.dali_write.specs.declared.stage.Job.TheVariants.{Fresh, Opened, Closi
 use Rattle.dali_write.specs.declared.ask.Verdict.TheVariants.{Silent}
 use Rattle.dali_write.specs.declared.step.Step.{Step}
 use Rattle.dali_write.specs.Plans.{Plan, Finish, Check, goes_on, plan_after, either_way, read_on, read_all}
-use Rattle.dali_write.specs.Found.{StandsWith, found, kept_bytes}
+use Rattle.dali_write.specs.Found.{StandsWith, found}
 use Rattle.dali_write.specs.Stages.{plan_of}
 
 -- whatever the outcomes are, the plan has no more steps

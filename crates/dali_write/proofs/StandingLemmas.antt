@@ -1,13 +1,13 @@
 -- How a session's standing goes on.
-use Rattle.std.proofs.Common.{◌≡◌, refl, sym, ap, subst, ◌∙◌, inl, inr, ℕ, zero, suc, ◌+◌, ◌<◌, ◌≤◌, List, [], ◌∷◌, ◌++◌, append_assoc, Option, Some, None, arith}
+use Rattle.std.proofs.Common.{◌≡◌, refl, sym, ap, subst, ◌∙◌, inl, inr, ℕ, suc, ◌<◌, ◌≤◌, List, [], ◌∷◌, ◌++◌, append_assoc, Option, None, arith}
 use Rattle.dali_frame.specs.declared.forward.Frame.{Frame}
 use Rattle.dali_write.specs.Exchanges.{Exchange}
 use Rattle.dali_write.specs.declared.line.Line.{Line}
 use Rattle.dali_write.specs.declared.line.Wish.{Wish}
 use Rattle.dali_write.specs.declared.step.Step.TheVariants.{ReadFrom, WriteTo}
-use Rattle.dali_write.specs.Lines.{Meets, line, step_lines, byte_after}
+use Rattle.dali_write.specs.Lines.{Meets, line, byte_after}
 use Rattle.dali_write.specs.Plans.{Plan, Finish, Check, goes_on, plan_after}
-use Rattle.dali_write.specs.Tries.{most_tries, Trying, Missed, Misses, byte_of, Succeeds, Fails, StepEnds, StepsEnd, plan_lines, GoesOn, Stands}
+use Rattle.dali_write.specs.Tries.{most_tries, Trying, Misses, byte_of, StepEnds, StepsEnd, plan_lines, GoesOn, Stands}
 
 pub goes_first : (unit : ℕ) (plan : Plan) → GoesOn plan (plan_lines unit plan)
 goes_first unit (Finish verdict) = tt

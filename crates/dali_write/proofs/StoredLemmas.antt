@@ -1,29 +1,26 @@
 -- What storing its byte keeps of the bank, a step keeps, whatever is lost; and a write that succeeded has stored its byte.
-use Rattle.std.proofs.Common.{◌≡◌, ◌≢◌, ◌⊎◌, inl, inr, refl, sym, ap, subst, ◌∙◌, ℕ, zero, suc, ◌+◌, ◌≤◌, ◌<◌, Bool, true, false, ◌&&◌, ◌||◌, not, List, [], ◌∷◌, ◌++◌, map, length, get_or, Option, Some, None, IsSome, IsTrue, is_some, arith}
-use Rattle.std.specs.Prelude.{◌==◌, nat_lt, nat_le, slice_get, slice_set, slice_index, if◌then◌else◌}
-use Rattle.std.specs.List.{list_any}
+use Rattle.std.proofs.Common.{◌≡◌, ◌≢◌, refl, sym, ap, subst, ◌∙◌, ℕ, zero, suc, ◌<◌, Bool, true, false, ◌&&◌, not, List, [], ◌∷◌, ◌++◌, length, Option, Some, None, arith}
+use Rattle.std.specs.Prelude.{◌==◌, slice_get, slice_set, if◌then◌else◌}
 use Rattle.std.proofs.lemmas.Bool.{ltb-true}
-use Rattle.std.proofs.lemmas.Bool.{eqb-true, eqb-false, eq-eqb, ne_eqb}
+use Rattle.std.proofs.lemmas.Bool.{eq-eqb}
 use Rattle.dali_frame.specs.declared.forward.Frame.{Frame}
-use Rattle.dali_frame.specs.declared.forward.Frame.TheVariants.{Dtr0, Dtr1, Dtr2, Write, WriteSilent, Enable, AskDtr0, AskDtr1, AskDtr2, Read, Other}
-use Rattle.dali_gear.specs.declared.fate.Fate.{Fate}
+use Rattle.dali_frame.specs.declared.forward.Frame.TheVariants.{Dtr0, Dtr1, Write, Enable, AskDtr0, AskDtr1}
 use Rattle.dali_gear.specs.Fate.{is_lost, next_fate}
 use Rattle.dali_write.specs.Exchanges.{Exchange}
 use Rattle.dali_gear.specs.UnitState.{BankState}
-use Rattle.dali_gear.specs.UnitState.{UnitState, after_frame, answer_to, is_writable, with_byte, bank_of, has_bank, stores, carries_out}
+use Rattle.dali_gear.specs.UnitState.{UnitState, is_writable, with_byte, bank_of, stores, carries_out}
 use Rattle.dali_gear.specs.Hears.{up}
-use Rattle.dali_gear.specs.SimState.{SimState, SimCarry, unit_after, unit_answer}
+use Rattle.dali_gear.specs.SimState.{SimState, SimCarry, unit_after}
 use Rattle.dali_write.specs.declared.line.Line.{Line}
-use Rattle.dali_write.specs.declared.line.Wish.{Wish}
-use Rattle.dali_write.specs.declared.line.Wish.TheVariants.{Nothing, Exactly, Anything}
+use Rattle.dali_write.specs.declared.line.Wish.TheVariants.{Nothing, Exactly}
 use Rattle.dali_write.specs.declared.step.Step.{Step}
 use Rattle.dali_write.specs.declared.step.Step.TheVariants.{ReadFrom, WriteTo}
-use Rattle.dali_write.specs.Lines.{Meets, line, select_lines, read_lines, write_lines, step_lines}
-use Rattle.dali_write.specs.Tries.{Trying, Missed, Misses, Succeeds, Fails}
-use Rattle.dali_write.specs.Losses.{SimRun, is_loss, losses, IsAlone, OnlyDiffers}
-use Rattle.dali_write.proofs.OneFrameLemmas.{IsFor, own_answer, alone_then, address_of}
+use Rattle.dali_write.specs.Lines.{Meets, line, read_lines, step_lines}
+use Rattle.dali_write.specs.Tries.{Trying, Missed, Misses, Succeeds}
+use Rattle.dali_write.specs.Losses.{SimRun, IsAlone, OnlyDiffers}
+use Rattle.dali_write.proofs.OneFrameLemmas.{own_answer, alone_then}
 use Rattle.dali_write.proofs.OutliveLemmas.{IsQuiet, AllQuiet, bank_stays, hears, says, told_if, length_set}
-use Rattle.dali_write.proofs.LossLemmas.{AllFor, all_for, missed_by_loss}
+use Rattle.dali_write.proofs.LossLemmas.{AllFor, all_for}
 
 -- Whatever is lost or refused of the lines, it holds of the bank, and it goes on so while answers that come back are as wished; after the last line, the unit is so.
 abbrev Safe : (BankState → Type 0) → (UnitState → Type 0) → List Line → UnitState → Type 0
@@ -122,7 +119,7 @@ safe_dtr0 keep at location byte stored unit bank kept false refuses answer back 
 safe_ask1 : (keep : BankState → Type 0) (at location byte : ℕ) → ((bank : BankState) → keep bank → keep (with_byte bank location byte))
     → (unit : UnitState) → keep unit.bank1
     → Safe keep (Has location byte)
-        (line (AskDtr1 at) (Exactly 1) ∷ line (Dtr0 location) Nothing ∷ line (AskDtr0 at) (Exactly location) ∷ line (Write byte) (Exactly byte) ∷ []) unit
+    (line (AskDtr1 at) (Exactly 1) ∷ line (Dtr0 location) Nothing ∷ line (AskDtr0 at) (Exactly location) ∷ line (Write byte) (Exactly byte) ∷ []) unit
 safe_ask1 keep at location byte stored unit kept true refuses answer back = (kept, λ meets. let lost : None ≡ Some 1 = back 1 meets in cc)
 safe_ask1 keep at location byte stored unit kept false refuses answer back =
     (kept, λ meets. safe_dtr0 keep at location byte stored (record unit { half_pair = false }) (told_if (at == unit.address) unit.dtr1 1 (back 1 meets)) kept)
@@ -142,9 +139,9 @@ safe_step keep at (ReadFrom location) unit keeps kept =
     quiet_first keep (Ends (ReadFrom location)) (read_lines at location) [] unit (tt, (tt, (tt, (tt, (tt, tt))))) kept (λ new still. tt)
 safe_step keep at (WriteTo location byte) unit keeps kept =
     quiet_first keep (Has location byte)
-        (line (Enable at) Nothing ∷ line (Enable at) Nothing ∷ line (Dtr1 1) Nothing ∷ [])
-        (line (AskDtr1 at) (Exactly 1) ∷ line (Dtr0 location) Nothing ∷ line (AskDtr0 at) (Exactly location) ∷ line (Write byte) (Exactly byte) ∷ [])
-        unit (tt, (tt, (tt, tt))) kept (safe_ask1 keep at location byte keeps)
+    (line (Enable at) Nothing ∷ line (Enable at) Nothing ∷ line (Dtr1 1) Nothing ∷ [])
+    (line (AskDtr1 at) (Exactly 1) ∷ line (Dtr0 location) Nothing ∷ line (AskDtr0 at) (Exactly location) ∷ line (Write byte) (Exactly byte) ∷ [])
+    unit (tt, (tt, (tt, tt))) kept (safe_ask1 keep at location byte keeps)
 
 -- the unit after a part of a try
 record After (keep : BankState → Type 0) (end : UnitState → Type 0) (at : ℕ) (left : List Line) (last : SimState) : Type 0 where
@@ -176,7 +173,7 @@ after_missed : (keep : BankState → Type 0) (at : ℕ) (step : Step) (unit : Un
 after_missed keep at step unit [] first last run alone kept keeps missed = absurd missed
 after_missed keep at step unit (x ∷ told) first last run alone kept keeps missed =
     let before = after_trying keep (Ends step) at (step_lines at step) (line x.frame missed.0 ∷ missed.1) unit told first run.0 run.1 alone kept
-        (safe_step keep at step unit keeps kept) (all_for at step) missed.3 in
+    (safe_step keep at step unit keeps kept) (all_for at step) missed.3 in
     let more = one_more keep (Ends step) at (line x.frame missed.0) missed.1 run.0 x.answer last run.2 before in
     (more.0, more.1, more.2)
 
@@ -220,6 +217,7 @@ write_stored at location byte unit outcome told first last run alone done =
   where
     same : OnlyDiffers unit.bank1 location unit.bank1
     same = record { others = λ other away. refl; lengths = refl; fixed = refl }
+
     stored : (bank : BankState) → OnlyDiffers unit.bank1 location bank → OnlyDiffers unit.bank1 location (with_byte bank location byte)
     stored bank so =
         record {

@@ -1,5 +1,5 @@
 -- Checked reads tell the truth, and guarded writes are safe.
-use Rattle.std.proofs.Common.{◌≡◌, ◌⊎◌, refl, sym, ap, subst, ◌∙◌, inl, inr, ℕ, true, false, List, [], ◌∷◌, ◌++◌, Option, Some, None, IsSome}
+use Rattle.std.proofs.Common.{◌≡◌, ◌⊎◌, refl, sym, ap, subst, ◌∙◌, inl, inr, ℕ, true, false, List, [], ◌∷◌, ◌++◌, Option, Some, None}
 use Rattle.std.specs.Prelude.{◌≢◌, Bool}
 use Rattle.std.proofs.Math.Dec.{eqb}
 use Rattle.std.proofs.lemmas.Bool.{eqb-true, eqb-false}
@@ -12,8 +12,8 @@ use Rattle.dali_write.specs.Exchanges.{Exchange}
 use Rattle.dali_write.specs.Lines.{select_lines, byte_after}
 use Rattle.dali_write.specs.Tries.{Trying, byte_of}
 use Rattle.dali_write.specs.Worlds.{Run, ReadsByte, Shows, KeepsAt, Selects, OnlyEnabled, MayWrite, IsOff, memory_of, memory_at, written}
-use Rattle.dali_write.proofs.GearLemmas.{After, Banked, asked1, placed, asked0, stays, carry_keeps, IsQuiet, Steady, end_steady, same_steady}
-use Rattle.dali_write.proofs.ShapeLemmas.{Got, Selected, selected, WasRead, was_read}
+use Rattle.dali_write.proofs.GearLemmas.{After, asked1, placed, asked0, stays, carry_keeps, IsQuiet, end_steady}
+use Rattle.dali_write.proofs.ShapeLemmas.{selected, was_read}
 
 -- a run in two parts
 pub split : (newer older : List Exchange) (first last : World) → Run (newer ++ older) first last → (mid : World) × Run older first mid × Run newer mid last

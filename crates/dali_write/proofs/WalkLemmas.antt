@@ -1,12 +1,11 @@
 -- The whole steps of a session, the oldest first.
-use Rattle.std.proofs.Common.{◌≡◌, ◌⊎◌, inl, inr, refl, sym, ap, subst, ◌∙◌, ℕ, zero, suc, ◌+◌, ◌*◌, ◌≤◌, List, [], ◌∷◌, ◌++◌, append_assoc, append-nil, length, Option, Some, None, arith}
+use Rattle.std.proofs.Common.{◌≡◌, refl, sym, ap, subst, ◌∙◌, ℕ, ◌≤◌, List, [], ◌∷◌, ◌++◌, append_assoc, append-nil, length, Option, arith}
 use Rattle.dali_write.specs.Exchanges.{Exchange}
 use Rattle.dali_write.specs.declared.line.Line.{Line}
 use Rattle.dali_write.specs.declared.ask.Verdict.{Verdict}
-use Rattle.dali_write.specs.declared.ask.Verdict.TheVariants.{Silent}
-use Rattle.dali_write.specs.declared.ask.Ask.TheVariants.{Send, Ended}
+use Rattle.dali_write.specs.declared.ask.Ask.TheVariants.{Ended}
 use Rattle.dali_write.specs.Plans.{Plan, Finish, Check, goes_on, plan_after}
-use Rattle.dali_write.specs.Tries.{Trying, Misses, StepEnds, StepsEnd, Stands, Wants, ask_at}
+use Rattle.dali_write.specs.Tries.{StepEnds, StepsEnd, Stands, Wants, ask_at}
 pub use Rattle.dali_write.specs.Walks.{Walk}
 use Rattle.dali_write.proofs.ShapeLemmas.{trying_length}
 use Rattle.dali_write.proofs.CountLemmas.{misses_length}
@@ -52,8 +51,7 @@ ended_at unit plan told (Finish v) misses left byte verdict s ask =
     let few = misses_length [] misses s.missed s.misses_are in
     let missed = nothing_of s.missed (omega arith) in
     let all = ended_told told s.tried s.missed s.ended s.parts tried missed in
-    let walk = walks unit plan s.outcomes s.ended s.steps in
-    (
+    let walk = walks unit plan s.outcomes s.ended s.steps in (
       walk.0,
       subst (λ (v : Verdict). Walk unit plan walk.0 told (Finish v)) same
           (subst (λ (p : Plan). Walk unit plan walk.0 told p) s.now_is (subst (λ (t : List Exchange). Walk unit plan walk.0 t (plan_after plan s.outcomes)) (sym all) walk.1)),

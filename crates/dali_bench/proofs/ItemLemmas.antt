@@ -1,16 +1,12 @@
 -- Lemmas on what an item gives to a draft.
-use Rattle.std.proofs.Common.{◌≡◌, ◌≢◌, ◌<◌, ◌≤◌, ℕ, zero, inl, inr, ◌+◌, length-set, get_or-set_same, get_or-set_other, List, [], ◌∷◌, Bool, ◌&&◌, Option, Some, None, IsSome, MatchOption, suc, length, get_or, take, drop, string_bytes, min, length-take, refl, arith, subst, ap, sym, ◌∙◌}
+use Rattle.std.proofs.Common.{◌≡◌, ◌≢◌, ◌<◌, ◌≤◌, ℕ, zero, inl, inr, ◌+◌, length-set, get_or-set_same, get_or-set_other, List, [], ◌∷◌, Option, Some, None, IsSome, MatchOption, suc, length, get_or, take, drop, min, length-take, refl, arith, subst, sym, ◌∙◌}
 use Rattle.std.specs.Bool.{⊤}
-use Rattle.std.specs.List.{list_all}
 use Rattle.std.proofs.lemmas.Bool.{cases_eq}
 use Rattle.std.proofs.Math.Seq.{split_at}
 use Rattle.std.proofs.lemmas.List.{get_or-take, get_or_default}
 use Rattle.std.proofs.lemmas.List.Elements.{recursion_from_All}
-use Rattle.std.specs.Map as map
 use Rattle.serde_json.specs.Data.{Data}
-use Rattle.serde_json.specs.Find.{get, as_object}
-use Rattle.serde_json.specs.View.{members_view}
-use Rattle.serde_json.proofs.Views.{Entry}
+use Rattle.serde_json.specs.Find.{get}
 use Rattle.dali_bank.specs.declared.field.Field.{Field}
 use Rattle.dali_bank.specs.declared.field.Field.TheVariants.{Gtin}
 use Rattle.dali_bank.specs.declared.fault.BankFault.{BankFault}
@@ -19,21 +15,11 @@ use Rattle.dali_bank.specs.Layout.{fields, rank_of}
 use Rattle.dali_bank.proofs.LayoutLemmas.{rank_within, same_rank, all_of}
 use Rattle.dali_bank.specs.Spelling.{Plain, unknown, number, digits, hex, text, AreFieldBytes, HasBytes}
 use Rattle.dali_bank.specs.Draft.{Drafted, found_of, with_field}
-use Rattle.dali_bank.specs.Faults.{IsSetFault, rule_fault, IsValueFault}
+use Rattle.dali_bank.specs.Faults.{IsFinishFault, IsSetFault, rule_fault, IsValueFault}
 use Rattle.dali_bench.specs.declared.item.ItemFault.TheVariants.{Bank}
 use Rattle.dali_bench.specs.Keys.{key_of}
-use Rattle.dali_bench.specs.Items.{IsForUnit, HasFieldsOf, IsGiven, IsFieldFault, IsFaultOf, IsFoundIn, IsAcceptable, IsRefused, KnowsKeys, is_key, keys_of, given as given_value}
-
--- ---- the keys of an object
-
-list_all-keys_of : (p : List ℕ → Bool) (es : List Entry) → list_all p (keys_of (members_view es)) ≡ list_all (λ key. p (string_bytes key)) (map.keys_of es)
-list_all-keys_of p [] = refl
-list_all-keys_of p (e ∷ es) = ap (λ b. p (string_bytes e.0) && b) (list_all-keys_of p es)
-
--- the test of an object's keys is that of its map
-pub known_of : (source : Data) (es : List Entry) (said answer : Bool) → Some (members_view es) ≡ as_object source
-    → said ≡ list_all (λ key. is_key (string_bytes key)) (map.keys_of es) → said ≡ answer → KnowsKeys source answer
-known_of source es said answer found tested same = (members_view es, sym found, list_all-keys_of is_key es ∙ sym tested ∙ same)
+use Rattle.dali_bench.specs.Items.{IsForUnit, HasFieldsOf, IsFieldFault, IsDraftOf, IsFaultOf, IsFoundIn, IsAcceptable, IsRefused, given as given_value}
+use Rattle.dali_bench.specs.Members.{IsGivenBy}
 
 pub above_63 : (unit : ℕ) → (unit ≤ 63 → ⊥) → 63 < unit
 above_63 unit far = grind arith
@@ -77,7 +63,7 @@ pub record SetSoFar (source : Data) (count : ℕ) (before now : Drafted) : Type 
   pub rest : (field : Field) → count ≤ rank_of field → found_of field now ≡ None
 
 -- nothing was given
-not_given : (source : Data) (field : Field) (before now : Drafted) → get (key_of field) source ≡ None → SetSoFar source (rank_of field) before now → SetSoFar source (rank_of field + 1) before now
+pub not_given : (source : Data) (field : Field) (before now : Drafted) → get (key_of field) source ≡ None → SetSoFar source (rank_of field) before now → SetSoFar source (rank_of field + 1) before now
 not_given source field before now none so_far = record {
   id_is = so_far.id_is;
   unit_is = so_far.unit_is;
@@ -110,18 +96,24 @@ was_given source field bytes before now given so_far = record {
       rw get_or-set_other (so_far.rest other (omega (arith, above)));
 }
 
--- one field more is set as the object gives it
-pub one_more : (source : Data) (field : Field) (before now after : Drafted) → SetSoFar source (rank_of field) before now → IsGiven source field now after
-    → SetSoFar source (rank_of field + 1) before after
-one_more source field before now after so_far given = go (get (key_of field) source) refl given
-  where
-    go : (json : Option Data) → get (key_of field) source ≡ json
-        → MatchOption json (after ≡ now) (λ j. (value : Plain) × (bytes : List ℕ) × (given_value field j ≡ Some value) × AreFieldBytes field value bytes × (after ≡ with_field field bytes now))
-        → SetSoFar source (rank_of field + 1) before after
-    go None none same = rw same (not_given source field before now none so_far)
-    go (Some j) some g =
-        let there : IsFoundIn source field (Some g.1) = rw some (g.0, g.1, g.2, g.3, refl) in
-        rw g.4 (was_given source field g.1 before now there so_far)
+-- the fields from this rank on are not set
+abbrev pub AreUnsetFrom : ℕ → Drafted → Type 0
+AreUnsetFrom count draft = (field : Field) → count ≤ rank_of field → found_of field draft ≡ None
+
+pub unset_after : (count : ℕ) (draft : Drafted) → AreUnsetFrom count draft → AreUnsetFrom (count + 1) draft
+unset_after count draft unset = λ field above. unset field (omega (arith, above))
+
+pub unset_given : (json : Data) (given : Field) (before after : Drafted) → AreUnsetFrom (rank_of given) before → IsGivenBy json given before after → AreUnsetFrom (rank_of given + 1) after
+unset_given json given before after unset by = λ field above.
+    let differs : rank_of field ≢ rank_of given = λ same. omega (arith, same, above) in
+    rw (by.4, get_or-set_other) (unset field (omega (arith, above)))
+
+-- one field more is set as a value gives it
+pub one_more : (source : Data) (field : Field) (before now after : Drafted) (json : Data) → SetSoFar source (rank_of field) before now → get (key_of field) source ≡ Some json
+    → IsGivenBy json field now after → SetSoFar source (rank_of field + 1) before after
+one_more source field before now after json so_far there by =
+    let found : IsFoundIn source field (Some by.1) = rw there (by.0, by.1, by.2, by.3, refl) in
+    rw by.4 (was_given source field by.1 before now found so_far)
 
 -- all fields are set as the object gives them
 pub all_set : (source : Data) (count : ℕ) (before now : Drafted) → length fields ≤ count → SetSoFar source count before now → HasFieldsOf source before now
@@ -204,6 +196,24 @@ value_fault_of_values field value bank.Empty refused = rule_of_values value bank
 field_fault_of_values : (field : Field) (value : Option Plain) (fault : BankFault) → MatchOption value (fault ≡ bank.Kind) (λ v. IsValueFault field v fault) → IsOfValues fault
 field_fault_of_values field None fault refused = subst IsOfValues (sym refused) tt
 field_fault_of_values field (Some value) fault refused = value_fault_of_values field value fault refused
+
+-- a draft with the object's fields is the draft of the object
+pub drafted : (source : Data) (before after : Drafted) → IsForUnit source before.id before.unit → HasFieldsOf source before after → IsDraftOf source after
+drafted source before after for_unit fields_are = record {
+  for_unit = rw (fields_are.id, fields_are.unit) for_unit;
+  fields = record { id = refl; unit = refl; sized = fields_are.sized; found = fields_are.found };
+}
+
+-- what stops a draft at the end is a fault of the item
+pub finish_fault : (source : Data) (draft : Drafted) (fault : BankFault) → IsDraftOf source draft → IsFinishFault draft fault → IsFaultOf source (Bank fault)
+finish_fault source draft bank.Voltage of_item stands = (draft, of_item, stands)
+finish_fault source draft bank.Empty of_item stands = (draft, of_item, stands.0, stands.1)
+finish_fault source draft bank.Unit of_item stands = absurd stands
+finish_fault source draft bank.Kind of_item stands = absurd stands
+finish_fault source draft bank.Range of_item stands = absurd stands
+finish_fault source draft bank.Gtin of_item stands = absurd stands
+finish_fault source draft bank.Text of_item stands = absurd stands
+finish_fault source draft bank.Twice of_item stands = absurd stands
 
 -- what a field refuses is a fault of the item
 pub field_fault : (source : Data) (id unit : ℕ) (fault : BankFault) → IsForUnit source id unit → IsFieldFault source fault → IsFaultOf source (Bank fault)

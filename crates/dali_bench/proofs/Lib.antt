@@ -4,3 +4,4 @@ pub mod ShowLemmas
 pub mod JobLemmas
 pub mod ItemLemmas
 pub mod ReportLemmas
+pub mod MemberLemmas

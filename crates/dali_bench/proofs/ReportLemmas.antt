@@ -1,6 +1,6 @@
 -- Lemmas on what is written of a list of items.
-use Rattle.std.proofs.Common.{◌≡◌, ℕ, suc, ◌+◌, ◌<◌, List, [], ◌∷◌, ◌++◌, Bool, true, false, Option, take, length, map, count_by, is_ok, not, ap, sym, ◌∙◌, arith, append_assoc, append-nil, get_or, add-zero, zero-add, cond, subst, length-append}
-use Rattle.std.proofs.lemmas.List.{take_more, map-append}
+use Rattle.std.proofs.Common.{◌≡◌, ℕ, suc, ◌+◌, List, [], ◌∷◌, ◌++◌, Bool, true, false, Option, length, count_by, is_ok, not, ap, sym, ◌∙◌, arith, append_assoc, append-nil, add-zero, zero-add, cond, subst, length-append}
+use Rattle.std.proofs.lemmas.List.{map-append}
 use Rattle.std.proofs.lemmas.List.Sums.{sum_by-append}
 use Rattle.std.specs.Io.KnownBytes.{Appends}
 use Rattle.serde_json.specs.Data.{Data, Items}
@@ -38,31 +38,31 @@ count_one_more : {X : Type 0} (p : X → Bool) (xs : List X) (x : X) → count_b
 count_one_more p xs x = sum_by-append (λ y. cond (p y) 1 0) xs (x ∷ []) ∙ ap (λ n. count_by p xs + n) (zero-add (cond (p x) 1 0))
 
 -- the step of the loop: one more item, its outcome, and its lines
-pub accepted_more : (vs : List Value) (i a r : ℕ) (before mid now : Option (List ℕ)) (d : Value) (x : Outcome) → i < length vs → SoFar (items_view (take i vs)) i a r before mid
-    → Judges (view (get_or vs i d)) x → is_ok x ≡ true → Appends mid now (item_lines (a + r + 1) x) → SoFar (items_view (take (i + 1) vs)) (i + 1) (a + 1) r before now
-accepted_more vs i a r before mid now d x within s judged good written =
-    let split : map view (take (i + 1) vs) ≡ map view (take i vs) ++ view (get_or vs i d) ∷ [] = ap (map view) (take_more vs i d within) ∙ map-append view (take i vs) _ in
+pub accepted_more : (done : List Value) (v : Value) (a r : ℕ) (before mid now : Option (List ℕ)) (x : Outcome) → SoFar (items_view done) (length done) a r before mid
+    → Judges (view v) x → is_ok x ≡ true → Appends mid now (item_lines (a + r + 1) x) → SoFar (items_view (done ++ v ∷ [])) (length (done ++ v ∷ [])) (a + 1) r before now
+accepted_more done v a r before mid now x s judged good written =
+    let size : length (done ++ v ∷ []) ≡ length done + 1 = length-append done (v ∷ []) in
     let number : a + r + 1 ≡ 1 + length s.outcomes = omega (arith, s.many, s.all) in
     record {
       outcomes = s.outcomes ++ x ∷ [];
-      judged = subst (λ ds. JudgesEach (items_of ds) (s.outcomes ++ x ∷ [])) (sym split) (judges_one_more _ s.outcomes _ x s.judged judged);
-      many = length-append s.outcomes (x ∷ []) ∙ ap (λ n. n + 1) s.many;
-      all = omega (arith, s.all);
+      judged = subst (λ ds. JudgesEach (items_of ds) (s.outcomes ++ x ∷ [])) (sym (map-append view done (v ∷ []))) (judges_one_more _ s.outcomes _ x s.judged judged);
+      many = length-append s.outcomes (x ∷ []) ∙ ap (λ n. n + 1) s.many ∙ sym size;
+      all = omega (arith, s.all, size);
       good = count_one_more is_ok s.outcomes x ∙ rw good (ap (λ n. n + 1) s.good);
       bad = count_one_more (λ y. not (is_ok y)) s.outcomes x ∙ rw good (add-zero _ ∙ s.bad);
       written = rw lines_from_one_more (appends_both before mid now _ _ s.written (rw number at written));
     }
 
-pub refused_more : (vs : List Value) (i a r : ℕ) (before mid now : Option (List ℕ)) (d : Value) (x : Outcome) → i < length vs → SoFar (items_view (take i vs)) i a r before mid
-    → Judges (view (get_or vs i d)) x → is_ok x ≡ false → Appends mid now (item_lines (a + r + 1) x) → SoFar (items_view (take (i + 1) vs)) (i + 1) a (r + 1) before now
-refused_more vs i a r before mid now d x within s judged bad written =
-    let split : map view (take (i + 1) vs) ≡ map view (take i vs) ++ view (get_or vs i d) ∷ [] = ap (map view) (take_more vs i d within) ∙ map-append view (take i vs) _ in
+pub refused_more : (done : List Value) (v : Value) (a r : ℕ) (before mid now : Option (List ℕ)) (x : Outcome) → SoFar (items_view done) (length done) a r before mid
+    → Judges (view v) x → is_ok x ≡ false → Appends mid now (item_lines (a + r + 1) x) → SoFar (items_view (done ++ v ∷ [])) (length (done ++ v ∷ [])) a (r + 1) before now
+refused_more done v a r before mid now x s judged bad written =
+    let size : length (done ++ v ∷ []) ≡ length done + 1 = length-append done (v ∷ []) in
     let number : a + r + 1 ≡ 1 + length s.outcomes = omega (arith, s.many, s.all) in
     record {
       outcomes = s.outcomes ++ x ∷ [];
-      judged = subst (λ ds. JudgesEach (items_of ds) (s.outcomes ++ x ∷ [])) (sym split) (judges_one_more _ s.outcomes _ x s.judged judged);
-      many = length-append s.outcomes (x ∷ []) ∙ ap (λ n. n + 1) s.many;
-      all = omega (arith, s.all);
+      judged = subst (λ ds. JudgesEach (items_of ds) (s.outcomes ++ x ∷ [])) (sym (map-append view done (v ∷ []))) (judges_one_more _ s.outcomes _ x s.judged judged);
+      many = length-append s.outcomes (x ∷ []) ∙ ap (λ n. n + 1) s.many ∙ sym size;
+      all = omega (arith, s.all, size);
       good = count_one_more is_ok s.outcomes x ∙ rw bad (add-zero _ ∙ s.good);
       bad = count_one_more (λ y. not (is_ok y)) s.outcomes x ∙ rw bad (ap (λ n. n + 1) s.bad);
       written = rw lines_from_one_more (appends_both before mid now _ _ s.written (rw number at written));

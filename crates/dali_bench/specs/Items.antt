@@ -13,7 +13,7 @@ use Rattle.dali_bank.specs.Spelling.{Plain, unknown, digits, hex, text, AreField
 use Rattle.dali_bank.specs.Spelling as spelling
 use Rattle.dali_bank.specs.Faults.{IsValueFault}
 use Rattle.dali_bank.specs.Order.{Contents}
-use Rattle.dali_bank.specs.Draft.{Drafted, VoltagesCross, empty_draft, found_of, with_field, order_of, updates_of}
+use Rattle.dali_bank.specs.Draft.{Drafted, VoltagesCross, empty_draft, found_of, order_of, updates_of}
 use Rattle.dali_bench.specs.Keys.{key_of}
 use Rattle.dali_bench.specs.declared.item.ItemFault.{ItemFault}
 use Rattle.dali_bench.specs.declared.item.ItemFault.TheVariants.{Bank, Shape, Key}
@@ -68,11 +68,6 @@ given field _ = None
 abbrev pub IsFoundIn : Data → Field → Option (List ℕ) → Type 0
 IsFoundIn source field found = MatchOption (get (key_of field) source) (found ≡ None)
     (λ json. (value : Plain) × (bytes : List ℕ) × (given field json ≡ Some value) × AreFieldBytes field value bytes × (found ≡ Some bytes))
-
--- after is before with the field as the object gives it
-abbrev pub IsGiven : Data → Field → Drafted → Drafted → Type 0
-IsGiven source field before after = MatchOption (get (key_of field) source) (after ≡ before)
-    (λ json. (value : Plain) × (bytes : List ℕ) × (given field json ≡ Some value) × AreFieldBytes field value bytes × (after ≡ with_field field bytes before))
 
 -- the object gives nothing to the field, or a value that has bytes
 abbrev pub IsAcceptable : Data → Field → Type 0

@@ -2,6 +2,8 @@
 use Rattle.std.specs.Prelude.{ℕ, List, codes}
 use Rattle.dali_bank.specs.declared.field.Field.{Field}
 use Rattle.dali_bank.specs.declared.field.Field.TheVariants.{Gtin, Identification, Year, Week, InputPower, MinDimPower, MinVoltage, MaxVoltage, LightOutput, Cri, Cct, Distribution, Colour, Luminaire}
+use Rattle.dali_bench.specs.declared.key.Key.{Key}
+use Rattle.dali_bench.specs.declared.key.Key.TheVariants.{Order, Unit, Of}
 
 -- the word of a field
 abbrev pub key_of : Field → List ℕ
@@ -19,3 +21,9 @@ key_of Cct = codes "cct"
 key_of Distribution = codes "distribution"
 key_of Colour = codes "colour"
 key_of Luminaire = codes "luminaire"
+
+-- the text of a key
+abbrev pub text_of : Key → List ℕ
+text_of Order = codes "order"
+text_of Unit = codes "unit"
+text_of (Of field) = key_of field

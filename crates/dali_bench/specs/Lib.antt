@@ -7,3 +7,4 @@ pub mod Report
 pub mod Frames
 pub mod Shows
 pub mod Jobs
+pub mod Members

@@ -55,7 +55,7 @@ fn write_checked<W: Write>(alloc: Global, input: &[u8], writer: &mut W) -> io::R
         × Appends (W.contents writer.old) (W.contents writer.new) text) }
 {
     match items_of(alloc, input, ORDERS_LIMIT) {
-        Ok(items) => write_report(writer, items.as_slice()),
+        Ok(items) => write_report(writer, items),
         Err(fault) => write_failure(writer, fault),
     }
 }
@@ -86,8 +86,8 @@ fn items_of(alloc: Global, input: &[u8], limit: u32) -> Result<Vec<Value>, Fault
 
 // Writes what becomes of each item.
 #[tactic(auto, using(crate::proofs::StreamLemmas::appends_both, crate::proofs::StreamLemmas::appends_kept))]
-fn write_report<W: Write>(writer: &mut W, items: &[Value]) -> io::Result<Status>
-    ensures { IfOk result (λ status. (outcomes : List Outcome) × JudgesEach (items_view items.now) outcomes
+fn write_report<W: Write>(writer: &mut W, items: Vec<Value>) -> io::Result<Status>
+    ensures { IfOk result (λ status. (outcomes : List Outcome) × JudgesEach (items_view items.items) outcomes
         × (status ≡ report_status outcomes)
         × Appends (W.contents writer.old) (W.contents writer.new) (report outcomes)) }
 {
@@ -109,13 +109,14 @@ fn write_report<W: Write>(writer: &mut W, items: &[Value]) -> io::Result<Status>
     })
 }
 
-// Writes what becomes of an item, and whether it was accepted.
-fn write_item<W: Write>(writer: &mut W, number: u64, item: &Value) -> io::Result<bool>
-    ensures { IfOk result (λ accepted. (outcome : Outcome) × Judges (view item.now) outcome
+// Writes what becomes of an item, and whether it was accepted. The item is let go here, while it
+// is in the processor's cache.
+fn write_item<W: Write>(writer: &mut W, number: u64, item: Value) -> io::Result<bool>
+    ensures { IfOk result (λ accepted. (outcome : Outcome) × Judges (view item) outcome
         × (is_ok outcome ≡ accepted)
         × Appends (W.contents writer.old) (W.contents writer.new) (item_lines number outcome)) }
 {
-    match order_of(item) {
+    match order_of(&item) {
         Ok(order) => {
             write_order(writer, number, &order)?;
             Ok(true)

@@ -1,17 +1,16 @@
-ghost use Rattle.std.specs.Prelude.{◌≡◌, ◌↔◌, None, IfOk, IfErr, OnOk, option_map, string_bytes};
-ghost use Rattle.std.specs.List.{list_all, list_any};
-ghost use Rattle.std.specs.Str.{bytes_eq};
-ghost use Rattle.std.specs.BTreeMap.{keys};
+ghost use Rattle.std.specs.Prelude.{◌≡◌, Some, None, IfOk, IfErr, OnOk, option_map, option_and_then};
+ghost use Rattle.serde_json.specs.Data.{Data};
+ghost use Rattle.serde_json.specs.Find.{get, as_number, as_u64};
 ghost use Rattle.serde_json.specs.View.{view};
 ghost use Rattle.dali_bank.specs.Spelling.{plain};
 ghost use Rattle.dali_bank.specs.Draft.{found_of, empty_draft};
-ghost use Rattle.dali_bank.specs.Layout.{fields};
 ghost use Rattle.dali_bench.specs.Keys.{key_of};
-ghost use Rattle.dali_bench.specs.Items.{whole_at as whole_number_at, is_key as is_known_key, given as given_value, text_given as given_text, HasNumbers, IsForUnit, HasFieldsOf, IsGiven, IsRefused, IsFieldFault, IsDraftOf, IsOrderOf, IsFaultOf};
+ghost use Rattle.dali_bench.specs.Items.{given as given_value, text_given as given_text, HasNumbers, IsForUnit, HasFieldsOf, IsFieldFault, IsOrderOf, IsFaultOf};
+ghost use Rattle.dali_bench.specs.Members.{AreMembersOf, IsGivenBy, IsRefusedAs};
 
-use crate::key::key_text;
+use crate::members::{Members, members_of};
 use dali_bank::{BankFault, Draft, Field, Order, Value};
-use serde_json::{Map, Value as Json};
+use serde_json::Value as Json;
 use std::fmt;
 
 /// Why an item of a list of orders was refused.
@@ -61,36 +60,29 @@ pub fn order_of(item: &Json) -> Result<Order, ItemFault>
     ensures ok { IfOk result (IsOrderOf (view item.now)) }
     ensures err { IfErr result (IsFaultOf (view item.now)) }
 {
-    let draft = draft_of(item)?;
+    let Some(members) = members_of(item) else {
+        return Err(ItemFault::Shape);
+    };
+    let mut draft = empty_draft_of(&members)?;
+    if let Err(fault) = set_fields(&mut draft, &members) {
+        return Err(ItemFault::Bank(fault));
+    }
     match draft.finish() {
         Ok(order) => Ok(order),
         Err((_, fault)) => Err(ItemFault::Bank(fault)),
     }
 }
 
-// The draft of an item's fields.
-fn draft_of(item: &Json) -> Result<Draft, ItemFault>
-    ensures ok { IfOk result (IsDraftOf (view item.now)) }
-    ensures err { IfErr result (IsFaultOf (view item.now)) }
+// The empty draft for the number and the unit of an object, where it has no other key.
+fn empty_draft_of(members: &Members<'_>) -> Result<Draft, ItemFault>
+    ensures ok { IfOk result (λ draft. (draft ≡ empty_draft draft.id draft.unit)
+        × ((source : Data) → AreMembersOf source members.now
+        → IsForUnit source draft.id draft.unit)) }
+    ensures err { IfErr result (λ fault. (source : Data) → AreMembersOf source members.now
+        → IsFaultOf source fault) }
 {
-    let mut draft = empty_draft_of(item)?;
-    match set_fields(&mut draft, item) {
-        Ok(()) => Ok(draft),
-        Err(fault) => Err(ItemFault::Bank(fault)),
-    }
-}
-
-// The empty draft for the item's number and unit, where it is an object with no other key.
-fn empty_draft_of(item: &Json) -> Result<Draft, ItemFault>
-    ensures ok { IfOk result (λ draft. IsForUnit (view item.now) draft.id draft.unit
-        × (draft ≡ empty_draft draft.id draft.unit)) }
-    ensures err { IfErr result (IsFaultOf (view item.now)) }
-{
-    let (id, unit) = numbers_of(item)?;
-    let Some(members) = item.as_object() else {
-        return Err(ItemFault::Shape);
-    };
-    if !knows_keys(members) {
+    let (id, unit) = numbers_of(members)?;
+    if !members.are_known {
         return Err(ItemFault::Key);
     }
     let Ok(unit) = u8::try_from(unit) else {
@@ -102,63 +94,48 @@ fn empty_draft_of(item: &Json) -> Result<Draft, ItemFault>
     }
 }
 
-// The item's number, and its unit's.
-fn numbers_of(item: &Json) -> Result<(u64, u64), ItemFault>
-    ensures ok { IfOk result (λ numbers. HasNumbers (view item.now) numbers.0 numbers.1) }
-    ensures err { IfErr result (IsFaultOf (view item.now)) }
+// The object's number, and its unit's.
+fn numbers_of(members: &Members<'_>) -> Result<(u64, u64), ItemFault>
+    ensures ok { IfOk result (λ numbers. (source : Data) → AreMembersOf source members.now
+        → HasNumbers source numbers.0 numbers.1) }
+    ensures err { IfErr result (λ fault. (source : Data) → AreMembersOf source members.now
+        → IsFaultOf source fault) }
 {
-    match (whole_at(item, "order"), whole_at(item, "unit")) {
+    match (whole(members.order), whole(members.unit)) {
         (Some(id), Some(unit)) => Ok((id, unit)),
         _ => Err(ItemFault::Shape),
     }
 }
 
-// The whole number at a key.
-fn whole_at(item: &Json, key: &str) -> Option<u64>
-    ensures { result ≡ whole_number_at key.now (view item.now) }
+// The whole number that a JSON value is.
+fn whole(json: Option<&Json>) -> Option<u64>
+    ensures { result ≡ option_and_then as_u64 (option_and_then as_number (option_map (λ j. view j.now) json.entry)) }
 {
-    item.get(key).and_then(Json::as_u64)
+    json.and_then(Json::as_u64)
 }
 
-fn knows_keys(members: &Map<String, Json>) -> bool
-    ensures { result ≡ list_all (λ key. is_known_key (string_bytes key)) (keys members.now) }
-{
-    members.keys().all(|key| is_key(key.as_str()))
-}
-
-fn is_key(key: &str) -> bool
-    ensures { result ≡ is_known_key key.now }
-{
-    matches!(key, "order" | "unit") || is_field_key(key)
-}
-
-fn is_field_key(key: &str) -> bool
-    ensures { result ≡ list_any (λ field. bytes_eq key.now (key_of field)) fields }
-{
-    Field::ALL.iter().any(|field| key == key_text(*field))
-}
-
-// Sets each field as the item gives it, by rising location.
-fn set_fields(draft: &mut Draft, item: &Json) -> Result<(), BankFault>
+// Sets each field as the object gives it, by rising location.
+fn set_fields(draft: &mut Draft, members: &Members<'_>) -> Result<(), BankFault>
     requires { draft.old ≡ empty_draft draft.old.id draft.old.unit }
-    ensures ok { OnOk result (HasFieldsOf (view item.now) draft.old draft.new) }
-    ensures err { IfErr result (IsFieldFault (view item.now)) }
+    ensures ok { OnOk result ((source : Data) → AreMembersOf source members.now
+        → HasFieldsOf source draft.old draft.new) }
+    ensures err { IfErr result (λ fault. (source : Data) → AreMembersOf source members.now
+        → IsFieldFault source fault) }
 {
     for field in Field::ALL {
-        set_given(draft, field, item)?;
+        if let Some(json) = members.field(field) {
+            set_given(draft, field, json)?;
+        }
     }
     Ok(())
 }
 
-// Sets a field as the item gives it, where it gives it anything.
-fn set_given(draft: &mut Draft, field: Field, item: &Json) -> Result<(), BankFault>
+// Sets a field as a JSON value gives it.
+fn set_given(draft: &mut Draft, field: Field, json: &Json) -> Result<(), BankFault>
     requires { found_of field draft.old ≡ None }
-    ensures ok { OnOk result (IsGiven (view item.now) field draft.old draft.new) }
-    ensures err { IfErr result (IsRefused (view item.now) field) }
+    ensures ok { OnOk result (IsGivenBy (view json.now) field draft.old draft.new) }
+    ensures err { IfErr result (IsRefusedAs (view json.now) field) }
 {
-    let Some(json) = item.get(key_text(field)) else {
-        return Ok(());
-    };
     let Some(value) = given(field, json) else {
         return Err(BankFault::Kind);
     };

@@ -1,12 +1,14 @@
-ghost use Rattle.std.specs.Prelude.{◌≡◌, OnOk, IfOk, Ok, Err};
+ghost use Rattle.std.specs.Prelude.{◌≡◌, ◌≤◌, OnOk, IfOk, Ok, Err, length};
 ghost use Rattle.std.specs.Io.KnownBytes.{Appends};
+ghost use Rattle.std.specs.List.{flat_map};
 ghost use Rattle.dali_bench.specs.Faults.{fault_line, status_of};
 ghost use Rattle.dali_bench.specs.Lines.{update_line, order_line, item_lines, refusal_line};
 ghost use Rattle.dali_bench.specs.Report.{tally_line};
 
 use crate::fault::{Fault, Status};
 use crate::item::ItemFault;
-use dali_bank::Order;
+use arrayvec::ArrayVec;
+use dali_bank::{MOST_UPDATES, Order};
 use dali_frame::byte_digits;
 use std::io;
 use std::io::Write;
@@ -45,11 +47,7 @@ pub fn write_order<W: Write>(writer: &mut W, number: u64, order: &Order) -> io::
     ensures { OnOk result (Appends (W.contents writer.old) (W.contents writer.new) (item_lines number (Ok order.now))) }
 {
     write_heading(writer, number, order)?;
-    let updates = order.updates();
-    for &(location, byte) in updates {
-        write_update(writer, location, byte)?;
-    }
-    Ok(())
+    write_updates(writer, order.updates())
 }
 
 // Writes what an order is.
@@ -62,12 +60,24 @@ fn write_heading<W: Write>(writer: &mut W, number: u64, order: &Order) -> io::Re
     writeln!(writer, "item {number} order {id} unit {unit} bytes {count}")
 }
 
-// Writes a location and its byte.
-fn write_update<W: Write>(writer: &mut W, location: u8, byte: u8) -> io::Result<()>
-    ensures { OnOk result (Appends (W.contents writer.old) (W.contents writer.new) (update_line (location, byte))) }
+// Writes the updates at once, which takes much less time than line by line.
+fn write_updates<W: Write>(writer: &mut W, updates: &[(u8, u8)]) -> io::Result<()>
+    requires { length updates.now ≤ 115 }
+    ensures { OnOk result (Appends (W.contents writer.old) (W.contents writer.new) (flat_map update_line updates.now)) }
+{
+    let mut lines = ArrayVec::<[u8; 6], MOST_UPDATES>::new();
+    for &(location, byte) in updates {
+        lines.push(line_of(location, byte));
+    }
+    writer.write_all(lines.as_slice().as_flattened())
+}
+
+// The line of a location and its byte.
+fn line_of(location: u8, byte: u8) -> [u8; 6]
+    ensures { result ≡ update_line (location, byte) }
 {
     let ([a, b], [c, d]) = (byte_digits(location), byte_digits(byte));
-    writer.write_all(&[a, b, b' ', c, d, b'\n'])
+    [a, b, b' ', c, d, b'\n']
 }
 
 /// Writes how many items were accepted and refused.

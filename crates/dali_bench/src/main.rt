@@ -10,6 +10,7 @@ mod item;
 mod job;
 mod key;
 mod lines;
+mod members;
 mod show;
 #[cfg(test)]
 mod tests;

@@ -1,18 +1,30 @@
-use Rattle.std.proofs.Common.{◌∙◌, subst}
-use Rattle.serde_json.specs.View.{view}
-use Rattle.serde_json.specs.declared.value.Value.{Value}
-use Rattle.dali_bench.specs.Items.{Judges}
+use Rattle.std.proofs.Common.{◌≡◌, ◌∷◌, [], length, ap, ◌∙◌, append_assoc, arith}
+use Rattle.std.specs.Vec.Iter.{into_iter_items, into_iter_len}
 use Rattle.dali_bench.proofs.ReportLemmas.{accepted_more, refused_more}
 use Rattle.dali_bench.proofs.check.write_report.Goals as goal
-use Rattle.dali_bench.proofs.check.write_report.Goals.{then-branch, else-branch}
+
+pub loop-item-preserved-then-branch : goal.loop-item-preserved-then-branch
+loop-item-preserved-then-branch g c =
+    let at = c.loop-item in
+    let (split, size, so_far) = at.invariant in
+    let (outcome, judged, is, written) = c.in_ok-write_item.ensures in
+    let steps : into_iter_items at.item-iterator ≡ c.in-Some.item ∷ into_iter_items c.next.new.self = c.in-Some.ensures.steps.0 in
+    let gone = c.in-Some.ensures.steps.1 in
+    let left : into_iter_len c.next.new.self ≡ length (into_iter_items c.next.new.self) = let short = ap length steps in omega arith in (
+      append_assoc at.yielded (c.in-Some.item ∷ []) _ ∙ rw (← steps) split,
+      left,
+      accepted_more at.yielded c.in-Some.item at.accepted at.refused _ _ _ outcome so_far judged (is ∙ c.if-branch.true) written,
+    )
 
 pub loop-item-preserved : goal.loop-item-preserved
 loop-item-preserved g c =
-    let fact = c.in_ok-write_item.ensures in
-    let judged = subst (λ (v : Value). Judges (view v) fact.0) c.item-item.is fact.1 in
-    elim c.if-branch.branch [
-      | then-branch w ↦ rw (w.accepted-is, w.refused-is) (accepted_more c.args.items.now c.loop-item.item-index c.loop-item.accepted c.loop-item.refused _ _ _ c.item-item.result fact.0
-          c.loop-item-test.true c.loop-item.invariant judged (fact.2 ∙ w.if-branch.true) fact.3)
-      | else-branch w ↦ rw (w.accepted-is, w.refused-is) (refused_more c.args.items.now c.loop-item.item-index c.loop-item.accepted c.loop-item.refused _ _ _ c.item-item.result fact.0
-          c.loop-item-test.true c.loop-item.invariant judged (fact.2 ∙ w.if-branch.false) fact.3)
-    ]
+    let at = c.loop-item in
+    let (split, size, so_far) = at.invariant in
+    let (outcome, judged, is, written) = c.in_ok-write_item.ensures in
+    let steps : into_iter_items at.item-iterator ≡ c.in-Some.item ∷ into_iter_items c.next.new.self = c.in-Some.ensures.steps.0 in
+    let gone = c.in-Some.ensures.steps.1 in
+    let left : into_iter_len c.next.new.self ≡ length (into_iter_items c.next.new.self) = let short = ap length steps in omega arith in (
+      append_assoc at.yielded (c.in-Some.item ∷ []) _ ∙ rw (← steps) split,
+      left,
+      refused_more at.yielded c.in-Some.item at.accepted at.refused _ _ _ outcome so_far judged (is ∙ c.if-branch.false) written,
+    )

@@ -1,0 +1,149 @@
+-- A session ends in doubt only after the most misses, or because a read found another byte.
+use Rattle.std.proofs.Common.{◌≡◌, ◌≢◌, ◌⊎◌, inl, inr, refl, sym, ap, ◌∙◌, ℕ, suc, ◌≤◌, Bool, true, false, ◌==◌, if◌then◌else◌, List, [], ◌∷◌, ◌++◌, append_assoc, append-nil, Option, Some, None, arith}
+use Rattle.std.specs.List.{Contains}
+use Rattle.std.proofs.lemmas.Bool.{eq-eqb}
+use Rattle.dali_write.specs.Exchanges.{Exchange}
+use Rattle.dali_write.specs.declared.step.Step.{Step}
+use Rattle.dali_write.specs.declared.step.Step.TheVariants.{ReadFrom, WriteTo}
+use Rattle.dali_write.specs.declared.ask.Verdict.TheVariants.{Doubt}
+use Rattle.dali_write.specs.declared.ask.Ask.TheVariants.{Ended}
+use Rattle.dali_write.specs.Lines.{read_lines}
+use Rattle.dali_write.specs.Plans.{Plan, Finish, Check, either_way, give_up, expect, read_back, read_lock, write_on, unlock}
+use Rattle.dali_write.specs.Tries.{most_tries, Succeeds, StepEnds, Wants}
+use Rattle.dali_write.specs.Walks.{Walk, misses_of, Failed}
+use Rattle.dali_write.specs.Doubts.{read_backs, FoundAnother}
+use Rattle.dali_write.proofs.WalkLemmas.{ended_walk}
+use Rattle.dali_write.proofs.GiveUpLemmas.{all_missed}
+
+-- why a walk ended in doubt
+abbrev Cause : (unit : ℕ) (plan : Plan) (expected : List (ℕ × ℕ)) (outcomes : List (Option ℕ)) (told : List Exchange) → Walk unit plan outcomes told (Finish Doubt) → Type 0
+Cause unit plan expected outcomes told walk = (most_tries ≤ misses_of unit plan outcomes told (Finish Doubt) walk) ⊎ FoundAnother unit plan expected told
+
+-- each walk of the plan that ended in doubt has a cause
+abbrev HasCause : ℕ → Plan → List (ℕ × ℕ) → Type 0
+HasCause unit plan expected = (outcomes : List (Option ℕ)) (told : List Exchange) (walk : Walk unit plan outcomes told (Finish Doubt)) → Cause unit plan expected outcomes told walk
+
+-- the first step failed
+failed_first : (unit : ℕ) (step : Step) (after : Option ℕ → Plan) (expected : List (ℕ × ℕ)) (outcomes : List (Option ℕ)) (told : List Exchange)
+    (walk : Walk unit (Check step after) (None ∷ outcomes) told (Finish Doubt)) → Cause unit (Check step after) expected (None ∷ outcomes) told walk
+failed_first unit step after expected outcomes told walk = let here = all_missed unit step after walk.1 walk.3 in inl (omega arith)
+
+append_twice : (a b c d : List Exchange) → (a ++ (b ++ c)) ++ d ≡ a ++ (b ++ (c ++ d))
+append_twice a b c d = append_assoc a (b ++ c) d ∙ ap (λ (t : List Exchange). a ++ t) (append_assoc b c d)
+
+-- the cause came after the first step
+cause_later : (unit : ℕ) (step : Step) (after : Option ℕ → Plan) (expected : List (ℕ × ℕ)) (outcome : Option ℕ) (outcomes : List (Option ℕ)) (told : List Exchange)
+    (walk : Walk unit (Check step after) (outcome ∷ outcomes) told (Finish Doubt))
+    → Cause unit (after outcome) expected outcomes walk.0 walk.4 → Cause unit (Check step after) expected (outcome ∷ outcomes) told walk
+cause_later unit step after expected outcome outcomes told walk (inl many) = inl (omega arith)
+cause_later unit step after expected outcome outcomes told walk (inr f) =
+    inr record {
+      newer = f.newer;
+      read = f.read;
+      older = f.older ++ walk.1;
+      parts = walk.2 ∙ ap (λ (t : List Exchange). t ++ walk.1) f.parts ∙ append_twice f.newer f.read f.older walk.1;
+      location = f.location;
+      byte = f.byte;
+      is_expected = f.is_expected;
+      before = outcome ∷ f.before;
+      after = f.after;
+      came = (f.older, walk.1, refl, walk.3, f.came);
+      found = f.found;
+      answered = f.answered;
+      another = f.another;
+      later = f.later;
+      gave_up = f.gave_up;
+    }
+
+-- a step with an outcome succeeded
+was_answered : (unit location found : ℕ) (after : Option ℕ → Plan) (told : List Exchange) → StepEnds unit (Check (ReadFrom location) after) (Some found) told
+    → Succeeds (read_lines unit location) (Some found) told
+was_answered unit location found after told (inl done) = done
+was_answered unit location found after told (inr failed) = let never = failed.0 in cc
+
+append_none : (a : List Exchange) → a ++ [] ≡ a
+append_none a = simp append-nil
+
+-- a read of a location that must hold the byte
+expect_cause : (unit location byte : ℕ) (after : Plan) (expected : List (ℕ × ℕ)) → Contains expected (location, byte) → HasCause unit after expected
+    → HasCause unit (expect location byte after) expected
+expect_cause unit location byte after expected is rest [] told walk = let differs = walk.1 in cc
+expect_cause unit location byte after expected is rest (None ∷ outcomes) told walk = failed_first unit (ReadFrom location) _ expected outcomes told walk
+expect_cause unit location byte after expected is rest (Some found ∷ outcomes) told walk =
+    finish (by (found == byte) refl walk.4)
+  where
+    reads : Option ℕ → Plan
+    reads = either_way give_up (λ f. if f == byte then after else give_up)
+
+    -- it went on, or gave up because the byte was another
+    by : (t : Bool) → (found == byte) ≡ t → (on : Walk unit (if t then after else give_up) outcomes walk.0 (Finish Doubt))
+        → Cause unit (if t then after else give_up) expected outcomes walk.0 on ⊎ ((found ≢ byte) × Walk unit give_up outcomes walk.0 (Finish Doubt))
+    by true same on = inl (rest outcomes walk.0 on)
+    by false same on = inr (λ e. let equal = eq-eqb found byte e in cc, on)
+
+    finish : Cause unit (if found == byte then after else give_up) expected outcomes walk.0 walk.4 ⊎ ((found ≢ byte) × Walk unit give_up outcomes walk.0 (Finish Doubt))
+        → Cause unit (expect location byte after) expected (Some found ∷ outcomes) told walk
+    finish (inl cause) = cause_later unit (ReadFrom location) reads expected (Some found) outcomes told walk cause
+    finish (inr differs) =
+        inr record {
+          newer = walk.0;
+          read = walk.1;
+          older = [];
+          parts = walk.2 ∙ ap (λ (t : List Exchange). walk.0 ++ t) (sym (append_none walk.1));
+          location = location;
+          byte = byte;
+          is_expected = is;
+          before = [];
+          after = after;
+          came = (refl, refl);
+          found = found;
+          answered = was_answered unit location found reads walk.1 walk.3;
+          another = differs.0;
+          later = outcomes;
+          gave_up = differs.1;
+        }
+
+head_in : (x : ℕ × ℕ) (xs : List (ℕ × ℕ)) → Contains (x ∷ xs) x
+head_in x xs = (0, omega arith, refl)
+
+tail_in : (y x : ℕ × ℕ) (xs : List (ℕ × ℕ)) → Contains xs x → Contains (y ∷ xs) x
+tail_in y x xs is = (suc is.0, (let low = is.1 in omega arith), is.2)
+
+read_back_cause : (unit : ℕ) (expected updates : List (ℕ × ℕ)) → ((update : ℕ × ℕ) → Contains updates update → Contains expected update)
+    → HasCause unit (read_back updates) expected
+read_back_cause unit expected [] all [] told walk = let differs = walk.1 in cc
+read_back_cause unit expected [] all (o ∷ outcomes) told walk = absurd walk.3
+read_back_cause unit expected (update ∷ updates) all outcomes told walk =
+    expect_cause unit update.0 update.1 (read_back updates) expected (all update (head_in update updates))
+    (read_back_cause unit expected updates (λ u is. all u (tail_in update u updates is))) outcomes told walk
+
+read_lock_cause : (unit : ℕ) (updates : List (ℕ × ℕ)) → HasCause unit (read_lock updates) (read_backs updates)
+read_lock_cause unit updates =
+    expect_cause unit 2 0xFF (read_back updates) (read_backs updates) (head_in (2, 0xFF) updates)
+    (read_back_cause unit (read_backs updates) updates (λ u is. tail_in (2, 0xFF) u updates is))
+
+-- a write, after which the session goes on or gives up
+write_cause : (unit location byte : ℕ) (after : Plan) (expected : List (ℕ × ℕ)) → HasCause unit after expected
+    → HasCause unit (Check (WriteTo location byte) (either_way give_up (λ b. after))) expected
+write_cause unit location byte after expected rest [] told walk = let differs = walk.1 in cc
+write_cause unit location byte after expected rest (None ∷ outcomes) told walk = failed_first unit (WriteTo location byte) _ expected outcomes told walk
+write_cause unit location byte after expected rest (Some b ∷ outcomes) told walk =
+    cause_later unit (WriteTo location byte) _ expected (Some b) outcomes told walk (rest outcomes walk.0 walk.4)
+
+write_on_cause : (unit : ℕ) (updates left : List (ℕ × ℕ)) → HasCause unit (write_on updates left) (read_backs updates)
+write_on_cause unit updates [] = write_cause unit 2 0xFF (read_lock updates) (read_backs updates) (read_lock_cause unit updates)
+write_on_cause unit updates (update ∷ left) =
+    write_cause unit update.0 update.1 (write_on updates left) (read_backs updates) (write_on_cause unit updates left)
+
+unlock_cause : (unit : ℕ) (updates : List (ℕ × ℕ)) → HasCause unit (unlock updates) (read_backs updates)
+unlock_cause unit updates = write_cause unit 2 0x55 (write_on updates updates) (read_backs updates) (write_on_cause unit updates updates)
+
+pub doubt_cause : (told : List Exchange) (unit : ℕ) (updates : List (ℕ × ℕ)) → Wants unit (unlock updates) told (Ended Doubt)
+    → Failed unit (unlock updates) told Doubt ⊎ FoundAnother unit (unlock updates) (read_backs updates) told
+doubt_cause told unit updates wants =
+    let walk = ended_walk unit (unlock updates) told Doubt wants in by walk.0 walk.1 (unlock_cause unit updates walk.0 told walk.1)
+  where
+    by : (outcomes : List (Option ℕ)) (walk : Walk unit (unlock updates) outcomes told (Finish Doubt)) → Cause unit (unlock updates) (read_backs updates) outcomes told walk
+        → Failed unit (unlock updates) told Doubt ⊎ FoundAnother unit (unlock updates) (read_backs updates) told
+    by outcomes walk (inl many) = inl record { outcomes = outcomes; walk = walk; many = many }
+    by outcomes walk (inr found) = inr found

@@ -1,0 +1,175 @@
+-- What a reading session has read is what bank 1 of its unit holds.
+use Rattle.std.proofs.Common.{◌≡◌, ◌⊎◌, inl, inr, refl, sym, ap, subst, ◌∙◌, ℕ, zero, suc, ◌+◌, ◌<◌, ◌≤◌, min, List, [], ◌∷◌, ◌++◌, length, length-append, get_or, drop, Option, Some, None, arith}
+use Rattle.std.specs.Option.{option_to_list}
+use Rattle.std.proofs.lemmas.Option.{slice_get-get_or}
+use Rattle.dali_gear.specs.World.{World, Gear, byte_in, byte_at}
+use Rattle.dali_write.specs.Exchanges.{Exchange}
+use Rattle.dali_write.specs.declared.line.Line.{Line}
+use Rattle.dali_write.specs.declared.session.Session.{Session}
+use Rattle.dali_write.specs.declared.stage.Job.{Job}
+use Rattle.dali_write.specs.declared.stage.Job.TheVariants.{Reading}
+use Rattle.dali_write.specs.declared.ask.Verdict.TheVariants.{Silent, Read}
+use Rattle.dali_write.specs.declared.ask.Ask.TheVariants.{Ended}
+use Rattle.dali_write.specs.Plans.{Plan, Finish, Check, goes_on, plan_after, either_way, read_on, read_all}
+use Rattle.dali_write.specs.Tries.{StepEnds, StepsEnd, plan_lines, ask_at}
+use Rattle.dali_write.specs.Found.{StandsWith, found}
+use Rattle.dali_write.specs.Worlds.{Run, Shows, KeepsAt}
+use Rattle.dali_write.specs.Verdicts.{ShowsBank}
+use Rattle.dali_write.specs.Stages.{plan_of, plan_at}
+use Rattle.dali_write.specs.Told.{Told, aim_of}
+use Rattle.dali_write.proofs.TruthLemmas.{split}
+use Rattle.dali_write.proofs.VerdictLemmas.{read_step_shows, read_step_keeps, shows_kept}
+use Rattle.dali_write.proofs.WalkLemmas.{nothing_of, ended_told}
+use Rattle.dali_write.proofs.ShapeLemmas.{trying_length}
+use Rattle.dali_write.proofs.CountLemmas.{misses_length}
+
+-- the unit shows each of the bytes at its location
+abbrev ShowsEach : World → ℕ → List ℕ → Type 0
+ShowsEach world unit bytes = (location : ℕ) → location < length bytes → Shows world unit location (get_or bytes location 0)
+
+-- so far these bytes were read, of as many as the first one names, and the unit shows each
+record ReadSoFar (plan : Plan) (bytes : List ℕ) (unit : ℕ) (world : World) : Type 0 where
+  left : ℕ
+  some : 1 ≤ length bytes
+  plan_is : plan ≡ read_on (length bytes) left
+  count : length bytes + left ≡ suc (min (get_or bytes 0 0) 0xFE)
+  shows : ShowsEach world unit bytes
+
+-- nothing was read yet, some bytes were, or a read failed
+abbrev Reached : Plan → List ℕ → ℕ → World → Type 0
+Reached plan bytes unit world = ((plan ≡ read_all) × (bytes ≡ [])) ⊎ (ReadSoFar plan bytes unit world ⊎ (plan ≡ Finish Silent))
+
+-- one more byte, shown after those that stand in the same memory
+shows_more : (mid last : World) (unit byte : ℕ) (bytes : List ℕ) → ShowsEach mid unit bytes → KeepsAt mid last unit → Shows last unit (length bytes) byte
+    → ShowsEach last unit (bytes ++ byte ∷ [])
+shows_more mid last unit byte bytes each keeps here location below = by_place (bytes ++ byte ∷ []) refl
+  where
+    before : (xs : List ℕ) (x i : ℕ) → i < length xs → get_or (xs ++ x ∷ []) i 0 ≡ get_or xs i 0
+    before [] x i lt = absurd (omega arith)
+    before (y ∷ xs) x zero lt = refl
+    before (y ∷ xs) x (suc i) lt = before xs x i (omega arith)
+
+    at_end : (xs : List ℕ) (x : ℕ) → get_or (xs ++ x ∷ []) (length xs) 0 ≡ x
+    at_end [] x = refl
+    at_end (y ∷ xs) x = at_end xs x
+
+    old_or_new : (i n : ℕ) → i < n + 1 → (i < n) ⊎ (i ≡ n)
+    old_or_new i zero lt = inr (omega arith)
+    old_or_new zero (suc n) lt = inl (omega arith)
+    old_or_new (suc i) (suc n) lt = elim (old_or_new i n (omega arith)) [ inl less ↦ inl (omega arith) | inr same ↦ inr (omega arith) ]
+
+    by_place : (all : List ℕ) → bytes ++ byte ∷ [] ≡ all → Shows last unit location (get_or (bytes ++ byte ∷ []) location 0)
+    by_place all same =
+        elim (old_or_new location (length bytes) (omega (arith, length-append bytes (byte ∷ [])))) [
+          | inl less ↦ subst (λ (b : ℕ). Shows last unit location b) (sym (before bytes byte location less)) (shows_kept mid last unit location (get_or bytes location 0) (each location less) keeps)
+          | inr is ↦ subst (λ (l : ℕ). Shows last unit l (get_or (bytes ++ byte ∷ []) l 0)) (sym is) (subst (λ (b : ℕ). Shows last unit (length bytes) b) (sym (at_end bytes byte)) here)
+        ]
+
+-- the first read, of location 00h
+first_read : (unit : ℕ) (outcome : Option ℕ) (newer : List Exchange) (mid last : World) → StepEnds unit read_all outcome newer → Run newer mid last
+    → Reached (goes_on read_all outcome) (found (outcome ∷ [])) unit last
+first_read unit None newer mid last ends run = inr (inr refl)
+first_read unit (Some byte) newer mid last ends run =
+    let after_first = either_way (Finish Silent) (λ top. read_on 1 (min top 0xFE)) in
+    inr (inl (record {
+      left = min byte 0xFE;
+      some = omega arith;
+      plan_is = refl;
+      count = omega arith;
+      shows = shows_more mid last unit byte [] (λ location below. absurd (omega arith)) (read_step_keeps unit 0 after_first (Some byte) newer mid last ends run unit) (read_step_shows unit 0 byte after_first newer mid last ends run);
+    }))
+
+-- a further read
+next_read : (unit left : ℕ) (outcome : Option ℕ) (bytes : List ℕ) (newer : List Exchange) (mid last : World) → 1 ≤ length bytes
+    → length bytes + left ≡ suc (min (get_or bytes 0 0) 0xFE) → ShowsEach mid unit bytes
+    → StepEnds unit (read_on (length bytes) left) outcome newer → Run newer mid last
+    → ((byte : ℕ) × (outcome ≡ Some byte) × ReadSoFar (goes_on (read_on (length bytes) left) outcome) (bytes ++ byte ∷ []) unit last)
+    ⊎ (goes_on (read_on (length bytes) left) outcome ≡ Finish Silent)
+next_read unit zero outcome bytes newer mid last some count shows ends run = absurd ends
+next_read unit (suc left) None bytes newer mid last some count shows ends run = inr refl
+next_read unit (suc left) (Some byte) bytes newer mid last some count shows ends run =
+    let after_next = either_way (Finish Silent) (λ b. read_on (suc (length bytes)) left) in
+    let more : length (bytes ++ byte ∷ []) ≡ suc (length bytes) = omega (arith, length-append bytes (byte ∷ [])) in
+    inl (
+      byte,
+      refl,
+      record {
+        left = left;
+        some = omega arith;
+        plan_is = ap (λ (n : ℕ). read_on n left) (sym more);
+        count = omega (arith, ap (λ (b : ℕ). min b 0xFE) (front bytes byte some));
+        shows = shows_more mid last unit byte bytes shows (read_step_keeps unit (length bytes) after_next (Some byte) newer mid last ends run unit) (read_step_shows unit (length bytes) byte after_next newer mid last ends run);
+      },
+    )
+  where
+    front : (xs : List ℕ) (x : ℕ) → 1 ≤ length xs → get_or (xs ++ x ∷ []) 0 0 ≡ get_or xs 0 0
+    front [] x some = absurd (omega arith)
+    front (y ∷ xs) x some = refl
+
+-- one more step, whatever stood before it
+step_reaches : (unit : ℕ) (plan : Plan) (outcomes : List (Option ℕ)) (outcome : Option ℕ) (newer : List Exchange) (mid last : World)
+    → Reached plan (found outcomes) unit mid → StepEnds unit plan outcome newer → Run newer mid last
+    → Reached (goes_on plan outcome) (found (outcome ∷ outcomes)) unit last
+step_reaches unit plan outcomes outcome newer mid last (inl (is, none)) ends run =
+    let first = first_read unit outcome newer mid last (subst (λ (p : Plan). StepEnds unit p outcome newer) is ends) run in
+    subst (λ (p : Plan). Reached (goes_on p outcome) (found (outcome ∷ outcomes)) unit last) (sym is)
+    (subst (λ (bytes : List ℕ). Reached (goes_on read_all outcome) (bytes ++ option_to_list outcome) unit last) (sym none) first)
+step_reaches unit plan outcomes outcome newer mid last (inr (inl so_far)) ends run =
+    let is = so_far.plan_is in
+    let bytes = found outcomes in
+    subst (λ (p : Plan). Reached (goes_on p outcome) (bytes ++ option_to_list outcome) unit last) (sym is)
+    (elim (next_read unit so_far.left outcome bytes newer mid last so_far.some so_far.count so_far.shows (subst (λ (p : Plan). StepEnds unit p outcome newer) is ends) run) [
+      | inl read ↦ inr (inl (subst (λ (o : Option ℕ). ReadSoFar (goes_on (read_on (length bytes) so_far.left) outcome) (bytes ++ option_to_list o) unit last) (sym read.1) read.2))
+      | inr failed ↦ inr (inr failed)
+    ])
+step_reaches unit plan outcomes outcome newer mid last (inr (inr is)) ends run = absurd (subst (λ (p : Plan). StepEnds unit p outcome newer) is ends)
+
+steps_reach : (unit : ℕ) (outcomes : List (Option ℕ)) (told : List Exchange) (first last : World) → StepsEnd unit read_all outcomes told → Run told first last
+    → Reached (plan_after read_all outcomes) (found outcomes) unit last
+steps_reach unit [] told first last ends run = inl (refl, refl)
+steps_reach unit (outcome ∷ outcomes) told first last ends run =
+    let parts = split ends.0 ends.1 first last (subst (λ (t : List Exchange). Run t first last) ends.2 run) in
+    step_reaches unit (plan_after read_all outcomes) outcomes outcome ends.0 parts.0 last (steps_reach unit outcomes ends.1 first parts.0 ends.4 parts.1) ends.3 parts.2
+
+-- the byte that a unit shows stands at its place
+byte_shown : (world : World) (unit location byte : ℕ) → Shows world unit location byte → byte_at world unit 1 location ≡ Some byte
+byte_shown world unit location byte shows = ap (λ (o : Option Gear). byte_in o 1 location) shows.is ∙ shows.byte_is
+
+-- where the plan has ended well, the bytes are the bank's
+bank_shown : (unit : ℕ) (bytes : List ℕ) (plan : Plan) (world : World) → Reached plan bytes unit world → plan ≡ Finish Read → ShowsBank world unit bytes
+bank_shown unit bytes plan world (inl (is, none)) ended = let never : read_all ≡ Finish Read = sym is ∙ ended in cc
+bank_shown unit bytes plan world (inr (inl so_far)) ended = by so_far.left so_far.count (sym so_far.plan_is ∙ ended)
+  where
+    by : (left : ℕ) → length bytes + left ≡ suc (min (get_or bytes 0 0) 0xFE) → read_on (length bytes) left ≡ Finish Read → ShowsBank world unit bytes
+    by zero count over =
+        record {
+          last = get_or bytes 0 0;
+          names = byte_shown world unit 0 (get_or bytes 0 0) (so_far.shows 0 (omega (arith, so_far.some)));
+          count = omega (arith, count);
+          bytes_are = λ location below. byte_shown world unit location (get_or bytes location 0) (so_far.shows location below) ∙ sym (slice_get-get_or bytes location 0 below);
+        }
+    by (suc left) count over = cc
+bank_shown unit bytes plan world (inr (inr is)) ended = let never : Finish Silent ≡ Finish Read = sym is ∙ ended in cc
+
+ended_shows : (unit : ℕ) (told : List Exchange) (now : Plan) (misses : ℕ) (left : List Line) (byte : Option ℕ) (bytes : List ℕ) (first last : World)
+    → StandsWith Reading unit read_all told now misses left byte bytes → ask_at now left ≡ Ended Read → Run told first last → ShowsBank last unit bytes
+ended_shows unit told (Finish v) misses left byte bytes first last s ask run =
+    let same : v ≡ Read = cc in
+    let short = trying_length [] s.stands.tried left s.stands.try in
+    let tried = nothing_of s.stands.tried (omega arith) in
+    let few = misses_length [] misses s.stands.missed s.stands.misses_are in
+    let missed = nothing_of s.stands.missed (omega arith) in
+    let all = ended_told told s.stands.tried s.stands.missed s.stands.ended s.stands.parts tried missed in
+    let reached = steps_reach unit s.stands.outcomes s.stands.ended first last s.stands.steps (subst (λ (t : List Exchange). Run t first last) all run) in
+    subst (λ (b : List ℕ). ShowsBank last unit b) (sym s.bytes_are)
+    (bank_shown unit (found s.stands.outcomes) (plan_after read_all s.stands.outcomes) last reached (s.stands.now_is ∙ ap Finish same))
+ended_shows unit told (Check step after) misses [] byte bytes first last s ask run = absurd s.stands.going
+ended_shows unit told (Check step after) misses (next ∷ left) byte bytes first last s ask run = cc
+
+pub bytes_are_true : (told : List Exchange) (s : Session) (first last : World) → Told told s → s.job ≡ Reading → aim_of s ≡ Ended Read → Run told first last
+    → ShowsBank last s.unit s.bytes.items
+unfolding Told
+bytes_are_true told s first last was reading ended run =
+    ended_shows s.unit told (plan_at s.job s.stage) s.misses _ s.byte s.bytes.items first last
+    (subst (λ (job : Job). StandsWith job s.unit (plan_of job) told (plan_at s.job s.stage) s.misses (drop s.number (plan_lines s.unit (plan_at s.job s.stage))) s.byte s.bytes.items) reading was)
+    ended run

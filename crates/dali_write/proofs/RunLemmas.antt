@@ -1,0 +1,20 @@
+-- Exchanges that lead from world to world are a chain of them.
+use Rattle.std.proofs.Common.{List, [], ◌∷◌}
+use Rattle.dali_gear.specs.World.{World}
+use Rattle.dali_gear.specs.Chain.{IsChain, Chain}
+use Rattle.dali_write.specs.Exchanges.{Exchange, by_exchange}
+use Rattle.dali_write.specs.Worlds.{Run}
+
+pub chain_of_run : (told : List Exchange) (first last : World) → Run told first last → Chain by_exchange first told last
+chain_of_run [] first last same = record { states = []; steps = same }
+chain_of_run (x ∷ told) first last (mid, run, carry) =
+    let before = chain_of_run told first mid run in record { states = mid ∷ before.states; steps = (carry, before.steps) }
+
+run_along : (told : List Exchange) (first last : World) (states : List World) → IsChain by_exchange first told last states → Run told first last
+run_along [] first last [] same = same
+run_along [] first last (state ∷ states) wrong = absurd wrong
+run_along (x ∷ told) first last [] wrong = absurd wrong
+run_along (x ∷ told) first last (state ∷ states) steps = (state, run_along told first state states steps.1, steps.0)
+
+pub run_of_chain : (told : List Exchange) (first last : World) → Chain by_exchange first told last → Run told first last
+run_of_chain told first last chain = run_along told first last chain.states chain.steps

@@ -1,0 +1,31 @@
+-- Why a session that carries an order out ends in doubt.
+use Rattle.std.specs.Prelude.{◌≡◌, ◌≢◌, ℕ, List, ◌∷◌, ◌++◌, Option, Some}
+use Rattle.std.specs.List.{Contains}
+use Rattle.dali_write.specs.Exchanges.{Exchange}
+use Rattle.dali_write.specs.declared.ask.Verdict.TheVariants.{Doubt}
+use Rattle.dali_write.specs.Lines.{read_lines}
+use Rattle.dali_write.specs.Plans.{Plan, Finish, expect, give_up}
+use Rattle.dali_write.specs.Tries.{Succeeds}
+use Rattle.dali_write.specs.Walks.{Walk}
+
+-- what is read back, each location with the byte that must be there: the lock byte, and the updates
+abbrev pub read_backs : List (ℕ × ℕ) → List (ℕ × ℕ)
+read_backs updates = (2, 0xFF) ∷ updates
+
+-- After older exchanges the plan was to read one of the locations, which must hold its byte; the read was answered by another byte; after it the session gave up.
+pub record FoundAnother (unit : ℕ) (plan : Plan) (expected : List (ℕ × ℕ)) (told : List Exchange) : Type 0 where
+  pub newer : List Exchange
+  pub read : List Exchange
+  pub older : List Exchange
+  pub parts : told ≡ newer ++ (read ++ older)
+  pub location : ℕ
+  pub byte : ℕ
+  pub is_expected : Contains expected (location, byte)
+  pub before : List (Option ℕ)
+  pub after : Plan
+  pub came : Walk unit plan before older (expect location byte after)
+  pub found : ℕ
+  pub answered : Succeeds (read_lines unit location) (Some found) read
+  pub another : found ≢ byte
+  pub later : List (Option ℕ)
+  pub gave_up : Walk unit give_up later newer (Finish Doubt)

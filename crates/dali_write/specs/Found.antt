@@ -1,0 +1,29 @@
+-- What a session has found in its steps so far.
+use Rattle.std.specs.Prelude.{◌≡◌, ℕ, List, [], ◌++◌, ◌∷◌, Option}
+use Rattle.std.specs.Option.{option_to_list}
+use Rattle.dali_write.specs.Exchanges.{Exchange}
+use Rattle.dali_write.specs.declared.line.Line.{Line}
+use Rattle.dali_write.specs.declared.stage.Job.{Job}
+use Rattle.dali_write.specs.declared.stage.Job.TheVariants.{Reading}
+use Rattle.dali_write.specs.Plans.{Plan}
+use Rattle.dali_write.specs.Tries.{Stands}
+
+-- the bytes of outcomes that are listed newest first, the oldest first
+abbrev pub found : List (Option ℕ) → List ℕ
+found [] = []
+found (newest ∷ older) = found older ++ option_to_list newest
+
+-- the bytes that a session keeps that had these outcomes: a reading one keeps all that it read, others none
+abbrev pub kept_bytes : Job → List (Option ℕ) → List ℕ
+kept_bytes Reading outcomes = found outcomes
+kept_bytes job outcomes = []
+
+-- the bytes kept after one more outcome
+abbrev pub kept_after : Job → List ℕ → Option ℕ → List ℕ
+kept_after Reading bytes outcome = bytes ++ option_to_list outcome
+kept_after job bytes outcome = bytes
+
+-- what was told is so, and these bytes were kept of it
+pub record StandsWith (job : Job) (unit : ℕ) (plan : Plan) (told : List Exchange) (now : Plan) (misses : ℕ) (left : List Line) (byte : Option ℕ) (bytes : List ℕ) : Type 0 where
+  pub stands : Stands unit plan told now misses left byte
+  pub bytes_are : bytes ≡ kept_bytes job stands.outcomes

@@ -1,0 +1,41 @@
+-- How many frames a session may still send: a number that falls with each of them.
+use Rattle.std.specs.Prelude.{ℕ, suc, ◌+◌, ◌-◌, ◌*◌, length}
+use Rattle.dali_write.specs.declared.stage.Job.{Job}
+use Rattle.dali_write.specs.declared.stage.Stage.{Stage}
+use Rattle.dali_write.specs.declared.stage.Stage.TheVariants.{ReadLength, ReadFormat, ReadFormatLow, Unlock, WriteOn, ReadLock, ReadBack, Close, ReadClosed, ReadAll, ReadOn, Over}
+use Rattle.dali_write.specs.Frames.{read_frames, write_frames}
+use Rattle.dali_write.specs.Tries.{most_tries}
+use Rattle.dali_write.specs.Stages.{updates_of}
+
+-- all tries of a checked read, of a checked write, and of the two that close a unit
+abbrev pub read_limit : ℕ
+read_limit = most_tries * read_frames
+
+abbrev pub write_limit : ℕ
+write_limit = most_tries * write_frames
+
+abbrev pub close_limit : ℕ
+close_limit = write_limit + read_limit
+
+-- to read back the updates from this one on, of so many
+abbrev pub read_back_limit : ℕ → ℕ → ℕ
+read_back_limit count index = read_limit * (count - index) + close_limit
+
+-- to write the updates from this one on, lock the unit and read all of them back
+abbrev pub write_on_limit : ℕ → ℕ → ℕ
+write_on_limit count index = write_limit * (count - index) + write_limit + read_limit + read_back_limit count 0
+
+-- the most frames from a stage on
+abbrev pub limit_at : Job → Stage → ℕ
+limit_at job ReadLength = 3 * read_limit
+limit_at job ReadFormat = 2 * read_limit
+limit_at job (ReadFormatLow high) = read_limit
+limit_at job Unlock = write_limit + write_on_limit (length (updates_of job)) 0
+limit_at job (WriteOn index) = write_on_limit (length (updates_of job)) index
+limit_at job ReadLock = read_limit + read_back_limit (length (updates_of job)) 0
+limit_at job (ReadBack index) = read_back_limit (length (updates_of job)) index
+limit_at job (Close answered unanswered) = close_limit
+limit_at job (ReadClosed answered unanswered) = read_limit
+limit_at job ReadAll = 255 * read_limit
+limit_at job (ReadOn location last) = read_limit * (suc last - location)
+limit_at job (Over verdict) = 0

@@ -1,0 +1,16 @@
+pub mod Exchanges
+pub mod Lines
+pub mod Frames
+pub mod Plans
+pub mod Tries
+pub mod Found
+pub mod FramesLeft
+pub mod Told
+pub mod Worlds
+pub mod Counts
+pub mod Verdicts
+pub mod Stages
+pub mod Losses
+pub mod Walks
+pub mod Touches
+pub mod Doubts

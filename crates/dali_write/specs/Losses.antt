@@ -1,0 +1,61 @@
+-- What the simulated bus loses of the frames that are meant for one unit.
+use Rattle.std.specs.Prelude.{◌≡◌, ◌≢◌, ℕ, ◌+◌, ◌==◌, Bool, false, ◌&&◌, ◌||◌, is_some, IsSome, IsTrue, ◌⊎◌, List, [], ◌∷◌, length, slice_get, if◌then◌else◌}
+use Rattle.std.specs.List.{list_any}
+use Rattle.dali_frame.specs.declared.forward.Frame.{Frame}
+use Rattle.dali_gear.specs.declared.fate.Fate.{Fate}
+use Rattle.dali_gear.specs.Fate.{is_lost, next_fate}
+use Rattle.dali_gear.specs.UnitState.{BankState}
+use Rattle.dali_gear.specs.UnitState.{UnitState, is_writable}
+use Rattle.dali_gear.specs.SimState.{SimState, SimCarry, unit_answer}
+use Rattle.dali_write.specs.Exchanges.{Exchange}
+use Rattle.dali_write.specs.declared.step.Step.{Step}
+use Rattle.dali_write.specs.declared.step.Step.TheVariants.{ReadFrom, WriteTo}
+
+-- exchanges, the newest first, lead the simulated bus from the first state to the last
+abbrev pub SimRun : List Exchange → SimState → SimState → Type 0
+SimRun [] first last = last ≡ first
+SimRun (x ∷ told) first last = (mid : SimState) × SimRun told first mid × SimCarry mid x.frame x.answer last
+
+-- the unit at the address answers the frame
+abbrev pub answers_at : ℕ → Fate → Frame → List UnitState → Bool
+answers_at address fate frame units = list_any (λ unit. (unit.address == address) && is_some (unit_answer fate frame unit)) units
+
+-- the unit doesn't hear the frame, or its answer is lost
+abbrev pub is_loss : ℕ → SimState → Frame → Bool
+is_loss address state frame =
+    is_lost (next_fate state.fates) address || ((next_fate state.fates).answer_lost && answers_at address (next_fate state.fates) frame state.units)
+
+-- so many of the exchanges are losses to the unit
+abbrev pub losses : ℕ → (told : List Exchange) (first last : SimState) → SimRun told first last → ℕ
+losses address [] first last run = 0
+losses address (x ∷ told) first last run = (if is_loss address run.0 x.frame then 1 else 0) + losses address told first run.0 run.1
+
+-- no fate of the exchanges refuses
+abbrev pub Unrefused : (told : List Exchange) (first last : SimState) → SimRun told first last → Type 0
+Unrefused [] first last run = Unit {0}
+Unrefused (x ∷ told) first last run = ((next_fate run.0.fates).refuse ≡ false) × Unrefused told first run.0 run.1
+
+-- another unit, not enabled
+abbrev pub IsElse : ℕ → UnitState → Type 0
+IsElse address unit = (unit.address ≢ address) × (unit.enabled ≡ false)
+
+abbrev pub AllElse : ℕ → List UnitState → Type 0
+AllElse address [] = Unit {0}
+AllElse address (unit ∷ units) = IsElse address unit × AllElse address units
+
+-- this is the unit at the address; no other is there, and no other is enabled
+abbrev pub IsAlone : ℕ → UnitState → List UnitState → Type 0
+IsAlone address unit [] = ⊥
+IsAlone address unit (first ∷ units) =
+    ((first ≡ unit) × (unit.address ≡ address) × AllElse address units) ⊎ (IsElse address first × IsAlone address unit units)
+
+-- the unit has the location to read, or can write it
+abbrev pub CanDo : Step → UnitState → Type 0
+CanDo (ReadFrom location) unit = IsSome (slice_get unit.bank1.bytes location)
+CanDo (WriteTo location byte) unit = IsTrue (is_writable unit.bank1 location)
+
+-- the banks are the same but for the byte at this location
+pub record OnlyDiffers (old : BankState) (location : ℕ) (new : BankState) : Type 0 where
+  pub others : (other : ℕ) → other ≢ location → slice_get new.bytes other ≡ slice_get old.bytes other
+  pub lengths : length new.bytes ≡ length old.bytes
+  pub fixed : new.fixed ≡ old.fixed

@@ -1,0 +1,43 @@
+-- What a session was told.
+use Rattle.std.specs.Prelude.{◌≡◌, ℕ, ◌+◌, ◌-◌, ◌*◌, List, length, drop, Option, None, slice_get}
+use Rattle.dali_write.specs.Exchanges.{Exchange}
+use Rattle.dali_write.specs.declared.line.Line.{Line}
+use Rattle.dali_write.specs.declared.ask.Ask.{Ask}
+use Rattle.dali_write.specs.declared.stage.Job.{Job}
+use Rattle.dali_write.specs.declared.session.Session.{Session}
+use Rattle.dali_write.specs.Tries.{plan_lines, ask_at}
+use Rattle.dali_write.specs.Found.{StandsWith}
+use Rattle.dali_write.specs.FramesLeft.{limit_at}
+use Rattle.dali_write.specs.Stages.{plan_of, plan_at}
+
+-- the short address of a session's unit, what it is for, and what it has read
+abbrev pub unit_of : Session → ℕ
+unit_of s = s.unit
+
+abbrev pub job_of : Session → Job
+job_of s = s.job
+
+abbrev pub bytes_of : Session → List ℕ
+bytes_of s = s.bytes.items
+
+-- what the session wants
+abbrev pub aim_of : Session → Ask
+aim_of s = ask_at (plan_at s.job s.stage) (drop s.number (plan_lines (s.unit) (plan_at s.job s.stage)))
+
+-- the frame at hand, with the answer that it wants
+abbrev pub line_of : Session → Option Line
+line_of s = slice_get (plan_lines (s.unit) (plan_at s.job s.stage)) s.number
+
+-- a step begins, with its first try
+abbrev pub BeginsTry : Session → Type 0
+BeginsTry s = (s.misses ≡ 0) × (s.number ≡ 0) × (s.byte ≡ None)
+
+-- A session was told these.
+unfoldable pub Told : List Exchange → Session → Type 0
+Told told s =
+    StandsWith s.job (s.unit) (plan_of s.job) told (plan_at s.job s.stage) s.misses
+    (drop s.number (plan_lines (s.unit) (plan_at s.job s.stage))) s.byte s.bytes.items
+
+-- the most frames that are still to come: those from the stage on, less those of the step at hand that its tries so far used up
+abbrev pub frames_left : Session → ℕ
+frames_left s = limit_at s.job s.stage - (s.misses * length (plan_lines s.unit (plan_at s.job s.stage)) + s.number)

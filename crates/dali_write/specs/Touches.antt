@@ -1,0 +1,24 @@
+-- What a session may have changed.
+use Rattle.std.specs.Prelude.{◌≡◌, ◌≢◌, ◌⊎◌, ℕ, List, [], ◌∷◌, Option, Some}
+use Rattle.dali_gear.specs.World.{World, Gear, byte_in}
+use Rattle.dali_write.specs.Worlds.{KeepsAt}
+
+-- one of the writes puts this byte at this location
+abbrev pub Has : List (ℕ × ℕ) → ℕ → ℕ → Type 0
+Has [] location byte = ⊥
+Has (write ∷ writes) location byte = ((write.0 ≡ location) × (write.1 ≡ byte)) ⊎ Has writes location byte
+
+-- each place of the unit holds what it held, or it is in bank 1 and holds the byte of one of the writes there
+abbrev pub OldOrNew : List (ℕ × ℕ) → Option Gear → Option Gear → Type 0
+OldOrNew writes first last =
+    (bank location : ℕ) → (byte_in last bank location ≡ byte_in first bank location)
+    ⊎ ((byte : ℕ) × (bank ≡ 1) × Has writes location byte × (byte_in last bank location ≡ Some byte))
+
+-- every other unit keeps its memory and isn't newly enabled, and in this one each place is old or new
+pub record Touches (writes : List (ℕ × ℕ)) (unit : ℕ) (first last : World) : Type 0 where
+  pub others : (address : ℕ) → address ≢ unit → KeepsAt first last address
+  pub here : OldOrNew writes (first unit) (last unit)
+
+-- the writes of an opened session: it unlocks bank 1, locks it, and writes the updates
+abbrev pub writes_of : List (ℕ × ℕ) → List (ℕ × ℕ)
+writes_of updates = (2, 0x55) ∷ (2, 0xFF) ∷ updates

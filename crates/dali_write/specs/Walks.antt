@@ -1,0 +1,48 @@
+-- The whole steps of a session, the oldest first, and how many tries missed.
+use Rattle.std.specs.Prelude.{◌≡◌, ℕ, ◌+◌, ◌*◌, ◌≤◌, List, [], ◌∷◌, ◌++◌, length, Option, Some}
+use Rattle.std.proofs.Common.{inl, inr}
+use Rattle.dali_write.specs.Exchanges.{Exchange}
+use Rattle.dali_write.specs.declared.ask.Verdict.{Verdict}
+use Rattle.dali_write.specs.declared.ask.Verdict.TheVariants.{Read}
+use Rattle.dali_write.specs.Frames.{try_frames}
+use Rattle.dali_write.specs.Counts.{read_all_frames}
+use Rattle.dali_write.specs.Plans.{Plan, Finish, Check, goes_on, read_all}
+use Rattle.dali_write.specs.Tries.{most_tries, StepEnds}
+
+-- whole steps lead from the plan to what is left of it
+abbrev pub Walk : ℕ → Plan → List (Option ℕ) → List Exchange → Plan → Type 0
+Walk unit plan [] told end = (told ≡ []) × (plan ≡ end)
+Walk unit plan (outcome ∷ outcomes) told end =
+    (newer : List Exchange) × (older : List Exchange) × (told ≡ newer ++ older) × StepEnds unit plan outcome older × Walk unit (goes_on plan outcome) outcomes newer end
+
+-- so many tries of a step missed
+abbrev pub step_misses : (unit : ℕ) (plan : Plan) (outcome : Option ℕ) (told : List Exchange) → StepEnds unit plan outcome told → ℕ
+step_misses unit (Finish verdict) outcome told ends = 0
+step_misses unit (Check step after) outcome told (inl done) = done.2
+step_misses unit (Check step after) outcome told (inr failed) = most_tries
+
+abbrev pub misses_of : (unit : ℕ) (plan : Plan) (outcomes : List (Option ℕ)) (told : List Exchange) (end : Plan) → Walk unit plan outcomes told end → ℕ
+misses_of unit plan [] told end walk = 0
+misses_of unit plan (outcome ∷ outcomes) told end walk =
+    step_misses unit plan outcome walk.1 walk.3 + misses_of unit (goes_on plan outcome) outcomes walk.0 end walk.4
+
+-- The plan ended so. It took this many frames where no try missed, and for each that did at most the frames of a try more.
+pub record Took (unit : ℕ) (plan : Plan) (told : List Exchange) (verdict : Verdict) (frames : ℕ) : Type 0 where
+  pub outcomes : List (Option ℕ)
+  pub walk : Walk unit plan outcomes told (Finish verdict)
+  pub more : ℕ
+  pub took : length told ≡ frames + more
+  pub few : more ≤ try_frames * misses_of unit plan outcomes told (Finish verdict) walk
+
+-- A reading session ended so. The byte that it read first, at 00h, says how many frames it took.
+pub record TookAll (unit : ℕ) (told : List Exchange) : Type 0 where
+  pub last : ℕ
+  pub took : Took unit read_all told Read (read_all_frames last)
+  pub rest : List (Option ℕ)
+  pub first : took.outcomes ≡ Some last ∷ rest
+
+-- it ended so after as many misses as a step has tries
+pub record Failed (unit : ℕ) (plan : Plan) (told : List Exchange) (verdict : Verdict) : Type 0 where
+  pub outcomes : List (Option ℕ)
+  pub walk : Walk unit plan outcomes told (Finish verdict)
+  pub many : most_tries ≤ misses_of unit plan outcomes told (Finish verdict) walk

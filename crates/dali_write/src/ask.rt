@@ -1,0 +1,38 @@
+use dali_frame::Frame;
+
+/// How a session ended (profile).
+#[derive(Clone, Copy, Debug, PartialEq, Eq, Hash)]
+pub enum Verdict {
+    /// A fresh session: the unit's bank 1 is long enough for the order, and has the content format
+    /// 0003h where the order needs it.
+    MayOpen,
+    /// An opened session: each update was read back, the lock byte is FFh, and the unit isn't
+    /// write-enabled.
+    Done,
+    /// A fresh session: the unit's bank 1 is too short for the order.
+    Short,
+    /// A fresh session: the content format isn't 0003h.
+    Format,
+    /// A fresh or reading session: a step failed.
+    Silent,
+    /// An opened session: each location of the order holds its old byte or the new one, and the unit
+    /// isn't write-enabled.
+    Doubt,
+    /// An opened session: as `Doubt`, but the unit may still be write-enabled.
+    DoubtOpen,
+    /// A closing session: the unit isn't write-enabled.
+    Closed,
+    /// A closing session: the unit may still be write-enabled.
+    NotClosed,
+    /// A reading session: bank 1 was read.
+    Read,
+}
+
+/// What a session wants (profile).
+#[derive(Clone, Copy, Debug, PartialEq, Eq, Hash)]
+pub enum Ask {
+    /// This frame is to be sent.
+    Send(Frame),
+    /// Nothing: it ended so.
+    Ended(Verdict),
+}

@@ -1,0 +1,178 @@
+//! Laws of checked steps and sessions. Each is the contract of a function that does nothing.
+ghost use Rattle.std.specs.Prelude.{◌↔◌, ◌≡◌, ◌∷◌, ◌≤◌, ◌<◌, ◌⊎◌, ◌+◌, ◌*◌, List, [], length, slice_get, Some, ℕ, Option};
+ghost use Rattle.dali_frame.specs.declared.forward.Frame.TheVariants.{Write};
+ghost use Rattle.dali_write.specs.declared.ask.Ask.{Ask};
+ghost use Rattle.dali_gear.specs.World.{World, Gear};
+ghost use Rattle.dali_gear.specs.Carry.{Carry};
+ghost use Rattle.dali_write.specs.Exchanges.{Exchange, by_exchange};
+ghost use Rattle.dali_gear.specs.Chain.{Chain};
+ghost use Rattle.dali_write.specs.declared.session.Session.{Session};
+ghost use Rattle.dali_write.specs.declared.ask.Verdict.{Verdict};
+ghost use Rattle.dali_write.specs.Plans.{Plan, greatest, unlock, close, read_length, read_all};
+ghost use Rattle.dali_write.specs.Tries.{Wants};
+ghost use Rattle.dali_write.specs.Verdicts.{Says, ShowsBank};
+ghost use Rattle.dali_write.specs.declared.stage.Job.{Job};
+ghost use Rattle.dali_write.specs.Stages.{plan_of};
+ghost use Rattle.dali_write.specs.Told.{Told, unit_of, job_of, bytes_of, aim_of};
+ghost use Rattle.dali_write.specs.Frames.{read_frames, write_frames};
+ghost use Rattle.dali_write.specs.Counts.{done_frames, frame_limit};
+ghost use Rattle.dali_gear.specs.SimState.{SimState, AreApart, world_of};
+ghost use Rattle.dali_gear.specs.UnitState.{UnitState, gear_of};
+ghost use Rattle.dali_write.specs.declared.step.Step.{Step};
+ghost use Rattle.dali_write.specs.declared.step.Step.TheVariants.{WriteTo};
+ghost use Rattle.dali_write.specs.Lines.{step_lines};
+ghost use Rattle.dali_write.specs.Tries.{most_tries, Missed, Misses, Succeeds, Fails};
+ghost use Rattle.dali_write.specs.Walks.{Took, TookAll, Failed};
+ghost use Rattle.dali_write.specs.Doubts.{read_backs, FoundAnother};
+ghost use Rattle.dali_write.specs.Losses.{SimRun, losses, Unrefused, IsAlone, CanDo, OnlyDiffers};
+ghost use Rattle.dali_write.specs.Touches.{Touches, writes_of};
+ghost use Rattle.dali_write.specs.Worlds.{Run, ReadsByte, Shows, KeepsAt, Selects, OnlyEnabled, MayWrite};
+
+/// Exchanges lead from one world to another exactly where a chain of worlds does.
+pub fn runs_are_chains()
+    ensures { (told : List Exchange) (first last : World) → Run told first last ↔ Chain by_exchange first told last }
+{}
+
+/// A session wants what its plan asks after what it was told, and ends so.
+pub fn sessions_follow_their_plans()
+    ensures { (told : List Exchange) (s : Session) → Told told s → Wants (unit_of s) (plan_of (job_of s)) told (aim_of s) }
+{}
+
+/// No session sends more frames than its limit.
+pub fn sessions_send_few_frames()
+    ensures { (told : List Exchange) (s : Session) → Told told s → length told ≤ frame_limit (job_of s) }
+{}
+
+/// A checked read tells the byte at its place, and then the unit isn't enabled; no memory changes,
+/// and no unit is newly enabled.
+pub fn checked_reads_are_true()
+    ensures byte { (tried : List Exchange) (first last : World) (unit location byte : ℕ) → Run tried first last → ReadsByte unit location byte tried
+        → Shows last unit location byte }
+    ensures quiet { (tried : List Exchange) (first last : World) (unit location byte : ℕ) → Run tried first last → ReadsByte unit location byte tried
+        → (address : ℕ) → KeepsAt first last address }
+{}
+
+/// Where the unit was made sure to have selected the location, and no other unit is enabled, a
+/// write stores its byte there or nothing.
+pub fn guarded_writes_are_safe()
+    ensures { (told : List Exchange) (first before last : World) (unit location byte : ℕ) (answer : Option ℕ)
+        → Run told first before → Selects unit location told → OnlyEnabled unit before → Carry before (Write byte) answer last
+        → MayWrite before unit location byte answer last }
+{}
+
+/// What a session's verdict says of the world.
+pub fn verdicts_are_true()
+    ensures opened { (told : List Exchange) (first last : World) (unit : ℕ) (updates : List (ℕ × ℕ)) (verdict : Verdict)
+        → Run told first last → Wants unit (unlock updates) told (Ask.Ended verdict) → Says unit updates last verdict }
+    ensures fresh { (told : List Exchange) (first last : World) (unit : ℕ) (updates : List (ℕ × ℕ)) (verdict : Verdict)
+        → Run told first last → Wants unit (read_length updates) told (Ask.Ended verdict) → Says unit updates last verdict }
+    ensures closing { (told : List Exchange) (first last : World) (unit : ℕ) (verdict : Verdict)
+        → Run told first last → Wants unit (close Verdict.Closed Verdict.NotClosed) told (Ask.Ended verdict) → Says unit [] last verdict }
+    ensures reading { (told : List Exchange) (s : Session) (first last : World) → Told told s → job_of s ≡ Job.Reading → aim_of s ≡ Ask.Ended Verdict.Read
+        → Run told first last → ShowsBank last (unit_of s) (bytes_of s) }
+{}
+
+/// A session that looks whether a bank suits, or reads it, changes no memory and enables no unit.
+pub fn readers_are_quiet()
+    ensures fresh { (told : List Exchange) (first last : World) (unit : ℕ) (updates : List (ℕ × ℕ)) (ask : Ask)
+        → Run told first last → Wants unit (read_length updates) told ask → (address : ℕ) → KeepsAt first last address }
+    ensures reading { (told : List Exchange) (first last : World) (unit : ℕ) (ask : Ask)
+        → Run told first last → Wants unit read_all told ask → (address : ℕ) → KeepsAt first last address }
+{}
+
+/// Where no other unit is enabled, a session changes only the places that it writes, at its unit,
+/// and each of them holds its old byte or a written one. No other unit changes or is enabled.
+pub fn sessions_touch_their_places_alone()
+    ensures opened { (told : List Exchange) (first last : World) (unit : ℕ) (updates : List (ℕ × ℕ)) (ask : Ask)
+        → OnlyEnabled unit first → Run told first last → Wants unit (unlock updates) told ask → Touches (writes_of updates) unit first last }
+    ensures closing { (told : List Exchange) (first last : World) (unit : ℕ) (ask : Ask)
+        → OnlyEnabled unit first → Run told first last → Wants unit (close Verdict.Closed Verdict.NotClosed) told ask → Touches ((2, 0xFF) ∷ []) unit first last }
+    ensures enabled { (told : List Exchange) (first last : World) (unit : ℕ) (updates : List (ℕ × ℕ)) (ask : Ask)
+        → OnlyEnabled unit first → Run told first last → Wants unit (unlock updates) told ask ⊎ Wants unit (close Verdict.Closed Verdict.NotClosed) told ask
+        → OnlyEnabled unit last }
+{}
+
+/// On the simulated bus, a try misses only by a loss to its unit.
+pub fn tries_miss_by_losses()
+    ensures { (at : ℕ) (step : Step) (unit : UnitState) (told : List Exchange) (first last : SimState) (run : SimRun told first last)
+        → IsAlone at unit first.units → CanDo step unit → Unrefused told first last run → Missed (step_lines at step) told → 1 ≤ losses at told first last run }
+{}
+
+/// On the simulated bus a step misses no more often than its unit has losses, and with fewer of
+/// them than a step has tries it succeeds.
+pub fn steps_outlive_losses()
+    ensures misses { (at : ℕ) (step : Step) (unit : UnitState) (misses : ℕ) (told : List Exchange) (first last : SimState) (run : SimRun told first last)
+        → IsAlone at unit first.units → CanDo step unit → Unrefused told first last run → Misses (step_lines at step) misses told → misses ≤ losses at told first last run }
+    ensures succeeds { (at : ℕ) (step : Step) (unit : UnitState) (outcome : Option ℕ) (told : List Exchange) (first last : SimState) (run : SimRun told first last)
+        → IsAlone at unit first.units → CanDo step unit → Unrefused told first last run → losses at told first last run < most_tries
+        → Succeeds (step_lines at step) outcome told ⊎ Fails (step_lines at step) outcome told → Succeeds (step_lines at step) outcome told }
+{}
+
+/// How many frames an opened session took that ended Done.
+pub fn done_sessions_take_exactly()
+    ensures { (told : List Exchange) (unit : ℕ) (updates : List (ℕ × ℕ))
+        → Wants unit (unlock updates) told (Ask.Ended Verdict.Done) → Took unit (unlock updates) told Verdict.Done (done_frames (length updates)) }
+{}
+
+/// How many frames the other sessions took that didn't give up; one that may open reads the format
+/// only where a location is past 12h. A closing session whose write failed goes on to its read: the
+/// frames of that write are all of missed tries, and within what those allow.
+pub fn sessions_take_exactly()
+    ensures short { (told : List Exchange) (unit : ℕ) (updates : List (ℕ × ℕ))
+        → Wants unit (read_length updates) told (Ask.Ended Verdict.Short) → Took unit (read_length updates) told Verdict.Short read_frames }
+    ensures low { (told : List Exchange) (unit : ℕ) (updates : List (ℕ × ℕ)) → greatest updates < 0x13
+        → Wants unit (read_length updates) told (Ask.Ended Verdict.MayOpen) → Took unit (read_length updates) told Verdict.MayOpen read_frames }
+    ensures high { (told : List Exchange) (unit : ℕ) (updates : List (ℕ × ℕ)) → 0x13 ≤ greatest updates
+        → Wants unit (read_length updates) told (Ask.Ended Verdict.MayOpen) → Took unit (read_length updates) told Verdict.MayOpen (3 * read_frames) }
+    ensures format { (told : List Exchange) (unit : ℕ) (updates : List (ℕ × ℕ))
+        → Wants unit (read_length updates) told (Ask.Ended Verdict.Format) → Took unit (read_length updates) told Verdict.Format (3 * read_frames) }
+    ensures closed { (told : List Exchange) (unit : ℕ)
+        → Wants unit (close Verdict.Closed Verdict.NotClosed) told (Ask.Ended Verdict.Closed)
+        → Took unit (close Verdict.Closed Verdict.NotClosed) told Verdict.Closed (write_frames + read_frames) }
+    ensures read { (told : List Exchange) (unit : ℕ) → Wants unit read_all told (Ask.Ended Verdict.Read) → TookAll unit told }
+{}
+
+/// A session gives up only after as many misses as a step has tries.
+pub fn sessions_give_up_late()
+    ensures fresh { (told : List Exchange) (unit : ℕ) (updates : List (ℕ × ℕ))
+        → Wants unit (read_length updates) told (Ask.Ended Verdict.Silent) → Failed unit (read_length updates) told Verdict.Silent }
+    ensures opened { (told : List Exchange) (unit : ℕ) (updates : List (ℕ × ℕ))
+        → Wants unit (unlock updates) told (Ask.Ended Verdict.DoubtOpen) → Failed unit (unlock updates) told Verdict.DoubtOpen }
+    ensures closing { (told : List Exchange) (unit : ℕ)
+        → Wants unit (close Verdict.Closed Verdict.NotClosed) told (Ask.Ended Verdict.NotClosed) → Failed unit (close Verdict.Closed Verdict.NotClosed) told Verdict.NotClosed }
+    ensures reading { (told : List Exchange) (unit : ℕ)
+        → Wants unit read_all told (Ask.Ended Verdict.Silent) → Failed unit read_all told Verdict.Silent }
+{}
+
+/// A session that carries an order out ends in doubt only after as many misses as a step has tries,
+/// or because a checked read of the lock byte or of an update's location found another byte than
+/// must be there.
+pub fn doubts_have_a_cause()
+    ensures { (told : List Exchange) (unit : ℕ) (updates : List (ℕ × ℕ)) → Wants unit (unlock updates) told (Ask.Ended Verdict.Doubt)
+        → Failed unit (unlock updates) told Verdict.Doubt ⊎ FoundAnother unit (unlock updates) (read_backs updates) told }
+{}
+
+/// On the simulated bus a checked write that succeeded has stored its byte and nothing else,
+/// whatever was lost or refused before.
+pub fn successful_writes_are_stored()
+    ensures { (at location byte : ℕ) (unit : UnitState) (outcome : Option ℕ) (told : List Exchange) (first last : SimState) → SimRun told first last
+        → IsAlone at unit first.units → Succeeds (step_lines at (WriteTo location byte)) outcome told
+        → (now : UnitState) × IsAlone at now last.units × OnlyDiffers unit.bank1 location now.bank1 × (slice_get now.bank1.bytes location ≡ Some byte) }
+{}
+
+/// Where the units are at different addresses and no other is enabled, the unit at an address is
+/// alone.
+pub fn apart_units_are_alone()
+    ensures { (at : ℕ) (units : List UnitState) (gear : Gear) → AreApart units → OnlyEnabled at (world_of units) → world_of units at ≡ Some gear
+        → (unit : UnitState) × IsAlone at unit units × (gear_of unit ≡ gear) }
+{}
+
+/// After what it was told, a session with a plan wants one thing alone.
+pub fn wants_are_determined()
+    ensures { (told : List Exchange) (unit : ℕ) (plan : Plan) (one other : Ask) → Wants unit plan told one → Wants unit plan told other → one ≡ other }
+{}
+
+/// Each frame that a session was told of was the one that it wanted.
+pub fn each_frame_was_wanted()
+    ensures { (told : List Exchange) (x : Exchange) (unit : ℕ) (plan : Plan) (ask : Ask) → Wants unit plan (x ∷ told) ask → Wants unit plan told (Ask.Send x.frame) }
+{}

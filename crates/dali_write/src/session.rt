@@ -1,0 +1,239 @@
+ghost use Rattle.std.specs.Prelude.{◌≡◌, ◌∷◌, ◌≤◌, ◌<◌, ◌+◌, ◌*◌, [], List, ℕ, Option, IsSome, IsNone, IfSome, length};
+ghost use Rattle.dali_frame.specs.declared.forward.Frame.{Frame};
+ghost use Rattle.dali_frame.specs.Frame.{IsProper};
+ghost use Rattle.dali_write.specs.Exchanges.{Exchange};
+ghost use Rattle.dali_write.specs.Lines.{Meets, line, step_lines};
+ghost use Rattle.dali_write.specs.Plans.{goes_on};
+ghost use Rattle.dali_write.specs.Tries.{most_tries};
+ghost use Rattle.dali_write.specs.declared.line.Wish.{Wish};
+ghost use Rattle.dali_write.specs.declared.ask.Verdict.{Verdict};
+ghost use Rattle.dali_write.specs.declared.stage.Job.{Job};
+ghost use Rattle.dali_write.specs.Stages.{plan_of, order_of, plan_at, step_of};
+ghost use Rattle.dali_write.specs.Found.{kept_after};
+ghost use Rattle.dali_write.specs.FramesLeft.{limit_at};
+
+use crate::ask::{Ask, Verdict};
+use crate::line::{Line, byte_after};
+use crate::stage::{Job, Stage};
+use arrayvec::ArrayVec;
+use dali_bank::Order;
+use dali_frame::Frame;
+
+// How many tries of a step may miss with another one to come.
+const MOST_MISSES: u8 = 7;
+
+/// A session with one unit (profile): it goes through a plan of checked reads and writes, frame by
+/// frame.
+///
+/// A *checked read* of a location sets DTR1 to 01h and asks it back, sets DTR0 to the location and
+/// asks it back, and reads. A *checked write* enables writes by two frames, does the same four, and
+/// writes. A missing or other answer than the one that the frame wants ends the try, and the next
+/// one begins with the first frame; the step fails when its eighth try ends so. An answer to a frame
+/// that has none is passed over.
+#[derive(Drop)]
+pub struct Session {
+    unit: u8,
+    job: Job,
+    stage: Stage,
+    // the tries of the step at hand that missed
+    misses: u8,
+    // the number of the frame in the try at hand
+    number: usize,
+    // the byte that the try at hand has read or written
+    byte: Option<u8>,
+    // what a reading session has read so far
+    bytes: ArrayVec<u8, 255>,
+    ghost short: { unit ≤ 63 },
+    ghost few: { misses < 8 },
+}
+
+impl Session {
+    ghost use Rattle.dali_write.specs.Told.{Told, unit_of, job_of, bytes_of, aim_of, line_of, frames_left, BeginsTry};
+
+    /// Looks whether bank 1 of the order's unit suits the order: its last location, and the content
+    /// format where the order writes from 13h on. Ends as `MayOpen`, `Short`, `Format` or `Silent`.
+    pub fn fresh(order: Order) -> Session
+        ensures unit { unit_of result ≡ order.unit }
+        ensures job { job_of result ≡ Job.Fresh order }
+        ensures told { Told [] result }
+    {
+        Session::begun(order.unit(), Job::Fresh(order), Stage::ReadLength)
+    }
+
+    /// Carries the order out: unlocks bank 1, writes each update, locks it and reads all back. Where
+    /// a step fails or another byte is read back, closes the unit. Ends as `Done`, `Doubt` or
+    /// `DoubtOpen`.
+    pub fn opened(order: Order) -> Session
+        ensures unit { unit_of result ≡ order.unit }
+        ensures job { job_of result ≡ Job.Opened order }
+        ensures told { Told [] result }
+    {
+        Session::begun(order.unit(), Job::Opened(order), Stage::Unlock)
+    }
+
+    /// Closes the unit at a short address, at most 63: locks bank 1, whether or not that succeeds,
+    /// and reads the lock byte. Ends as `Closed` or `NotClosed`.
+    pub fn closing(unit: u8) -> Session
+        requires { unit ≤ 63 }
+        ensures unit { unit_of result ≡ unit }
+        ensures job { job_of result ≡ Job.Closing }
+        ensures told { Told [] result }
+    {
+        Session::begun(
+            unit,
+            Job::Closing,
+            Stage::Close(Verdict::Closed, Verdict::NotClosed),
+        )
+    }
+
+    /// Reads bank 1 of the unit at a short address, at most 63: location 00h, and then those up to
+    /// the one that 00h names, at most up to FEh. Ends as `Read` or `Silent`.
+    pub fn reading(unit: u8) -> Session
+        requires { unit ≤ 63 }
+        ensures unit { unit_of result ≡ unit }
+        ensures job { job_of result ≡ Job.Reading }
+        ensures told { Told [] result }
+    {
+        Session::begun(unit, Job::Reading, Stage::ReadAll)
+    }
+
+    fn begun(unit: u8, job: Job, stage: Stage) -> Session
+        requires short { unit ≤ 63 }
+        requires stage { plan_at job stage ≡ plan_of job }
+        ensures unit { unit_of result ≡ unit }
+        ensures job { job_of result ≡ job }
+        ensures told { Told [] result }
+    {
+        Session {
+            unit,
+            job,
+            stage,
+            misses: 0,
+            number: 0,
+            byte: None,
+            bytes: ArrayVec::new(),
+        }
+    }
+
+    /// The frame that the session wants to send, which is proper, or how it ended.
+    pub fn want(&self) -> Ask
+        ensures aim { result ≡ aim_of self.now }
+        ensures proper { (frame : Frame) → result ≡ Ask.Send frame → IsProper frame }
+    {
+        match self.stage.step(&self.job) {
+            Some(step) => match step.line(self.unit, self.number) {
+                Some(line) => Ask::Send(line.frame),
+                None => Ask::Ended(Verdict::Silent),
+            },
+            None => Ask::Ended(self.stage.verdict()),
+        }
+    }
+
+    /// The order of a fresh or an opened session.
+    pub fn order(&self) -> Option<&Order>
+        ensures some { IfSome result (λ order. order_of (job_of self.now) ≡ Some order.now) }
+        ensures none { IsNone result → order_of (job_of self.now) ≡ None }
+    {
+        match &self.job {
+            Job::Fresh(order) | Job::Opened(order) => Some(order),
+            Job::Closing | Job::Reading => None,
+        }
+    }
+
+    /// What a reading session has read so far: bank 1 from location 00h on, at most 255 bytes. Empty
+    /// for the others.
+    pub fn bytes(&self) -> &[u8]
+        ensures { result.now ≡ bytes_of self.now }
+    {
+        self.bytes.as_slice()
+    }
+
+    /// Tells the session the answer to the frame that it wanted. A session that has ended is as it
+    /// was.
+    pub fn heard(&mut self, answer: Option<u8>)
+        ensures unit { unit_of self.new ≡ unit_of self.old }
+        ensures job { job_of self.new ≡ job_of self.old }
+        ensures told { (told : List Exchange) (frame : Frame) → aim_of self.old ≡ Ask.Send frame → Told told self.old
+            → Told (record { frame = frame; answer = answer } ∷ told) self.new }
+        ensures ended { (verdict : Verdict) → aim_of self.old ≡ Ask.Ended verdict → self.new ≡ self.old }
+        ensures falls { (frame : Frame) → aim_of self.old ≡ Ask.Send frame → frames_left self.new < frames_left self.old }
+    {
+        if let Some(line) = self.line() {
+            if line.wish.is_met(answer) {
+                self.go_on(&line.frame, answer);
+            } else {
+                self.miss();
+            }
+        }
+    }
+
+    // The frame at hand, with the answer that it wants.
+    fn line(&self) -> Option<Line>
+        ensures { result ≡ line_of self.now }
+    {
+        match self.stage.step(&self.job) {
+            Some(step) => step.line(self.unit, self.number),
+            None => None,
+        }
+    }
+
+    // The frame at hand got the answer that it wants.
+    fn go_on(&mut self, frame: &Frame, answer: Option<u8>)
+        requires { IsSome (line_of self.old) }
+        ensures unit { self.new.unit ≡ self.old.unit }
+        ensures job { self.new.job ≡ self.old.job }
+        ensures told { (told : List Exchange) (wish : Wish) → line_of self.old ≡ Some (line frame.now wish) → Meets wish answer → Told told self.old
+            → Told (record { frame = frame.now; answer = answer } ∷ told) self.new }
+        ensures falls { frames_left self.new < frames_left self.old }
+    {
+        self.byte = byte_after(frame, answer, self.byte);
+        self.number += 1;
+        if self.line().is_none() {
+            self.advance(self.byte);
+        }
+    }
+
+    // The frame at hand got another answer, and the try ends.
+    fn miss(&mut self)
+        ensures unit { self.new.unit ≡ self.old.unit }
+        ensures job { self.new.job ≡ self.old.job }
+        ensures told { (told : List Exchange) (frame : Frame) (answer : Option ℕ) (wish : Wish) → line_of self.old ≡ Some (line frame wish) → ¬ Meets wish answer
+            → Told told self.old → Told (record { frame = frame; answer = answer } ∷ told) self.new }
+        ensures falls { IsSome (line_of self.old) → frames_left self.new < frames_left self.old }
+    {
+        if self.misses < MOST_MISSES {
+            self.misses += 1;
+            self.number = 0;
+            self.byte = None;
+        } else {
+            self.advance(None);
+        }
+    }
+
+    // The step at hand ended with this outcome, and the next one begins.
+    fn advance(&mut self, outcome: Option<u8>)
+        ensures unit { self.new.unit ≡ self.old.unit }
+        ensures job { self.new.job ≡ self.old.job }
+        ensures plan { plan_at self.new.job self.new.stage ≡ goes_on (plan_at self.old.job self.old.stage) outcome }
+        ensures begins { BeginsTry self.new }
+        ensures limit { IfSome (step_of (plan_at self.old.job self.old.stage)) (λ step.
+            limit_at self.new.job self.new.stage + most_tries * length (step_lines self.old.unit step) ≤ limit_at self.old.job self.old.stage) }
+        ensures bytes { length self.old.bytes.items < 255 → self.new.bytes.items ≡ kept_after self.old.job self.old.bytes.items outcome }
+    {
+        let stage = self.stage.next(&self.job, outcome);
+        keep_byte(&mut self.bytes, &self.job, outcome);
+        self.stage = stage;
+        self.misses = 0;
+        self.number = 0;
+        self.byte = None;
+    }
+}
+
+// Keeps the byte that a reading session has read.
+fn keep_byte(bytes: &mut ArrayVec<u8, 255>, job: &Job, outcome: Option<u8>)
+    ensures { length bytes.old.items < 255 → bytes.new.items ≡ kept_after job.now bytes.old.items outcome }
+{
+    if let (Job::Reading, Some(byte)) = (job, outcome) {
+        let _ = bytes.try_push(byte);
+    }
+}

@@ -1,0 +1,224 @@
+ghost use Rattle.std.specs.Prelude.{◌≡◌, ◌≤◌, ◌+◌, ◌*◌, ℕ, IfSome, ◌==◌, if◌then◌else◌, max, length};
+ghost use Rattle.dali_write.specs.Lines.{step_lines};
+ghost use Rattle.dali_write.specs.Plans.{greatest, goes_on, judge_length as judged, either_way, give_up};
+ghost use Rattle.dali_write.specs.Tries.{most_tries};
+ghost use Rattle.dali_write.specs.declared.stage.Job.{Job};
+ghost use Rattle.dali_write.specs.declared.stage.Stage.TheVariants.{ReadOn};
+ghost use Rattle.dali_write.specs.Stages.{plan_at, step_of, updates_of, verdict_of};
+ghost use Rattle.dali_write.specs.FramesLeft.{limit_at, read_limit, close_limit};
+
+use crate::ask::Verdict;
+use crate::step::Step;
+use dali_bank::Order;
+
+/// What a session is for.
+#[derive(Drop)]
+pub(crate) enum Job {
+    Fresh(Order),
+    Opened(Order),
+    Closing,
+    Reading,
+}
+
+impl Job {
+    // The updates of its order.
+    pub(crate) fn updates(&self) -> &[(u8, u8)]
+        ensures { result.now ≡ updates_of self.now }
+    {
+        match self {
+            Job::Fresh(order) | Job::Opened(order) => order.updates(),
+            Job::Closing | Job::Reading => &[],
+        }
+    }
+}
+
+/// What a session is about to do.
+#[derive(Clone, Copy, Debug, PartialEq, Eq)]
+pub(crate) enum Stage {
+    ReadLength,
+    ReadFormat,
+    /// The first byte of the content format was read.
+    ReadFormatLow(u8),
+    Unlock,
+    /// Write the update with this index and those after it. Past the last one, lock the unit.
+    WriteOn(usize),
+    ReadLock,
+    /// Read back the update with this index and those after it.
+    ReadBack(usize),
+    /// Lock the unit, and see whether it answers: then the first verdict, else the second.
+    Close(Verdict, Verdict),
+    ReadClosed(Verdict, Verdict),
+    ReadAll,
+    /// Read this location and those after it, up to the last one.
+    ReadOn(u8, u8),
+    Over(Verdict),
+}
+
+impl Stage {
+    // The step at hand, if the session hasn't ended.
+    pub(crate) fn step(self, job: &Job) -> Option<Step>
+        ensures { result ≡ step_of (plan_at job.now self) }
+    {
+        match self {
+            Stage::ReadLength | Stage::ReadAll => Some(Step::ReadFrom(0x00)),
+            Stage::ReadFormat => Some(Step::ReadFrom(0x11)),
+            Stage::ReadFormatLow(_) => Some(Step::ReadFrom(0x12)),
+            Stage::Unlock => Some(Step::WriteTo(0x02, 0x55)),
+            Stage::WriteOn(index) => match job.updates().get(index).copied() {
+                Some((location, byte)) => Some(Step::WriteTo(location, byte)),
+                None => Some(Step::WriteTo(0x02, 0xFF)),
+            },
+            Stage::ReadLock | Stage::ReadClosed(_, _) => Some(Step::ReadFrom(0x02)),
+            Stage::ReadBack(index) => match job.updates().get(index).copied() {
+                Some((location, _)) => Some(Step::ReadFrom(location)),
+                None => None,
+            },
+            Stage::Close(_, _) => Some(Step::WriteTo(0x02, 0xFF)),
+            Stage::ReadOn(location, last) => {
+                if location <= last {
+                    Some(Step::ReadFrom(location))
+                } else {
+                    None
+                }
+            }
+            Stage::Over(_) => None,
+        }
+    }
+
+    // How the session ended, where no step is at hand.
+    pub(crate) fn verdict(self) -> Verdict
+        ensures { result ≡ verdict_of self }
+    {
+        match self {
+            Stage::Over(verdict) => verdict,
+            Stage::ReadBack(_) => Verdict::Done,
+            Stage::ReadOn(_, _) => Verdict::Read,
+            _ => Verdict::Silent,
+        }
+    }
+
+    // The stage after this one, whose step had this outcome: its byte, or none where it failed.
+    pub(crate) fn next(self, job: &Job, outcome: Option<u8>) -> Stage
+        ensures plan { plan_at job.now result ≡ goes_on (plan_at job.now self) outcome }
+        ensures limit { (unit : ℕ) → IfSome (step_of (plan_at job.now self)) (λ step.
+            limit_at job.now result + most_tries * length (step_lines unit step) ≤ limit_at job.now self) }
+    {
+        match self {
+            Stage::ReadLength => judge_length(job.updates(), outcome),
+            Stage::ReadFormat => match outcome {
+                Some(high) => Stage::ReadFormatLow(high),
+                None => Stage::Over(Verdict::Silent),
+            },
+            Stage::ReadFormatLow(high) => judge_format(high, outcome),
+            Stage::Unlock => after_write(outcome, Stage::WriteOn(0)),
+            Stage::WriteOn(index) => {
+                if index < job.updates().len() {
+                    after_write(outcome, Stage::WriteOn(index + 1))
+                } else {
+                    after_write(outcome, Stage::ReadLock)
+                }
+            }
+            Stage::ReadLock => after_read(outcome, 0xFF, Stage::ReadBack(0)),
+            Stage::ReadBack(index) => match job.updates().get(index).copied() {
+                Some((_, byte)) => after_read(outcome, byte, Stage::ReadBack(index + 1)),
+                None => self,
+            },
+            Stage::Close(answered, unanswered) => Stage::ReadClosed(answered, unanswered),
+            Stage::ReadClosed(answered, unanswered) => Stage::Over(if outcome.is_some() {
+                answered
+            } else {
+                unanswered
+            }),
+            Stage::ReadAll => match outcome {
+                Some(last) => Stage::ReadOn(1, last.min(0xFE)),
+                None => Stage::Over(Verdict::Silent),
+            },
+            Stage::ReadOn(location, last) => read_next(location, last, outcome),
+            Stage::Over(_) => self,
+        }
+    }
+}
+
+// What follows the read of the last location.
+fn judge_length(updates: &[(u8, u8)], outcome: Option<u8>) -> Stage
+    ensures plan { (job : Job) → updates_of job ≡ updates.now → plan_at job result ≡ goes_on (plan_at job Stage.ReadLength) outcome }
+    ensures limit { (job : Job) → limit_at job result ≤ 2 * read_limit }
+{
+    let Some(last) = outcome else {
+        return Stage::Over(Verdict::Silent);
+    };
+    let greatest = greatest_location(updates);
+    if last < greatest {
+        Stage::Over(Verdict::Short)
+    } else if greatest < 0x13 {
+        Stage::Over(Verdict::MayOpen)
+    } else {
+        Stage::ReadFormat
+    }
+}
+
+// The greatest location of the updates.
+fn greatest_location(updates: &[(u8, u8)]) -> u8
+    ensures { result ≡ greatest updates.now }
+{
+    let mut greatest = 0;
+    for &(location, _) in updates {
+        if location > greatest {
+            greatest = location;
+        }
+    }
+    greatest
+}
+
+// What follows the read of the content format's second byte.
+fn judge_format(high: u8, outcome: Option<u8>) -> Stage
+    ensures plan { (job : Job) → plan_at job result ≡ goes_on (plan_at job (Stage.ReadFormatLow high)) outcome }
+    ensures limit { (job : Job) → limit_at job result ≡ 0 }
+{
+    Stage::Over(match outcome {
+        Some(low) if high == 0x00 && low == 0x03 => Verdict::MayOpen,
+        Some(_) => Verdict::Format,
+        None => Verdict::Silent,
+    })
+}
+
+// What follows a write in an opened unit.
+fn after_write(outcome: Option<u8>, next: Stage) -> Stage
+    ensures plan { (job : Job) → plan_at job result ≡ either_way give_up (λ byte. plan_at job next) outcome }
+    ensures limit { (job : Job) → close_limit ≤ limit_at job next → limit_at job result ≤ limit_at job next }
+{
+    match outcome {
+        Some(_) => next,
+        None => Stage::Close(Verdict::Doubt, Verdict::DoubtOpen),
+    }
+}
+
+// What follows a read in an opened unit, where the byte has to be this one.
+fn after_read(outcome: Option<u8>, byte: u8, next: Stage) -> Stage
+    ensures plan { (job : Job) → plan_at job result ≡ either_way give_up (λ found. if found == byte then plan_at job next else give_up) outcome }
+    ensures limit { (job : Job) → close_limit ≤ limit_at job next → limit_at job result ≤ limit_at job next }
+{
+    match outcome {
+        Some(found) if found == byte => next,
+        _ => Stage::Close(Verdict::Doubt, Verdict::DoubtOpen),
+    }
+}
+
+// What follows the read of a location, where those up to the last one are to be read.
+#[tactic(auto, using(crate::proofs::LineLemmas::read_on_next))]
+fn read_next(location: u8, last: u8, outcome: Option<u8>) -> Stage
+    ensures plan { (job : Job) → plan_at job result ≡ goes_on (plan_at job (Stage.ReadOn location last)) outcome }
+    ensures limit { (job : Job) → location ≤ last → limit_at job result + read_limit ≤ limit_at job (Stage.ReadOn location last) }
+{
+    if location > last {
+        return Stage::Over(Verdict::Read);
+    }
+    if outcome.is_none() {
+        return Stage::Over(Verdict::Silent);
+    }
+    if location < last {
+        Stage::ReadOn(location + 1, last)
+    } else {
+        Stage::Over(Verdict::Read)
+    }
+}

@@ -1,19 +1,17 @@
 -- The frames that are still to come fall with each frame.
-use Rattle.std.proofs.Common.{◌≡◌, refl, sym, ap, subst, ◌∙◌, ℕ, zero, suc, ◌+◌, ◌-◌, ◌*◌, ◌<◌, ◌≤◌, List, [], ◌∷◌, length, drop, Option, Some, None, IfSome, IsSome, is_some, true, slice_get, arith}
+use Rattle.std.proofs.Common.{◌≡◌, refl, ℕ, zero, suc, ◌+◌, ◌-◌, ◌*◌, ◌<◌, ◌≤◌, List, [], ◌∷◌, length, drop, Option, Some, None, IsSome, arith}
 use Rattle.std.proofs.lemmas.Nat.{mul-le}
 use Rattle.std.proofs.lemmas.Option.{slice_get_within}
 use Rattle.dali_write.specs.declared.line.Line.{Line}
-use Rattle.dali_write.specs.declared.step.Step.{Step}
 use Rattle.dali_write.specs.declared.stage.Job.{Job}
 use Rattle.dali_write.specs.declared.session.Session.{Session}
 use Rattle.dali_write.specs.declared.stage.Stage.{Stage}
 use Rattle.dali_write.specs.declared.stage.Stage.TheVariants.{ReadLength, ReadFormat, ReadFormatLow, Unlock, WriteOn, ReadLock, ReadBack, Close, ReadClosed, ReadAll, ReadOn, Over}
-use Rattle.dali_write.specs.Lines.{step_lines}
-use Rattle.dali_write.specs.Plans.{Plan, Finish, Check, write_on, read_back, read_on}
+use Rattle.dali_write.specs.Plans.{write_on, read_back, read_on}
 use Rattle.dali_write.specs.Tries.{plan_lines}
-use Rattle.dali_write.specs.Stages.{updates_of, plan_at, step_of}
+use Rattle.dali_write.specs.Stages.{updates_of, plan_at}
 use Rattle.dali_write.specs.FramesLeft.{limit_at, read_limit}
-use Rattle.dali_write.specs.Told.{line_of, frames_left, BeginsTry}
+use Rattle.dali_write.specs.Told.{line_of}
 
 write_on_lines : (unit : ℕ) (updates left : List (ℕ × ℕ)) → length (plan_lines unit (write_on updates left)) ≤ 7
 write_on_lines unit updates [] = omega arith
@@ -57,11 +55,6 @@ pub falls_again : (limit lines misses number : ℕ) → 8 * lines ≤ limit → 
 falls_again limit lines misses number fit few below =
     let times : (misses + 1) * lines ≡ misses * lines + lines = omega arith in
     omega (arith, within_tries misses lines number (omega arith) below)
-
--- the next step
-pub falls_anew : (limit new lines more misses number : ℕ) → new + 8 * lines ≤ limit → misses < 8 → number < lines
-    → new - (0 * more + 0) < limit - (misses * lines + number)
-falls_anew limit new lines more misses number fit few below = omega (arith, within_tries misses lines number few below)
 
 -- while a frame is at hand, its number is below that of the lines
 pub number_below : (s : Session) → IsSome (line_of s) → s.number < length (plan_lines s.unit (plan_at s.job s.stage))

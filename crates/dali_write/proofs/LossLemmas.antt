@@ -1,9 +1,9 @@
 -- A try without a loss comes to its end.
-use Rattle.std.proofs.Common.{◌≡◌, ◌≢◌, ◌⊎◌, inl, inr, refl, sym, ap, subst, ◌∙◌, ℕ, zero, suc, ◌+◌, ◌≤◌, Bool, true, false, ◌&&◌, ◌||◌, not, List, [], ◌∷◌, ◌++◌, map, length, Option, Some, None, IsSome, IsTrue, is_some, arith}
-use Rattle.std.specs.Prelude.{◌==◌, slice_get, if◌then◌else◌}
-use Rattle.std.proofs.lemmas.Bool.{eqb-true, eq-eqb, ne_eqb}
-use Rattle.dali_frame.specs.declared.forward.Frame.{Frame}
-use Rattle.dali_frame.specs.declared.forward.Frame.TheVariants.{Dtr0, Dtr1, Dtr2, Write, WriteSilent, Enable, AskDtr0, AskDtr1, AskDtr2, Read, Other}
+use Rattle.std.proofs.Common.{◌≡◌, refl, sym, ap, subst, ◌∙◌, ℕ, ◌+◌, ◌≤◌, Bool, true, false, List, [], ◌∷◌, ◌++◌, Option, Some, None, IsSome, IsTrue, arith}
+use Rattle.std.specs.Prelude.{slice_get, if◌then◌else◌}
+use Rattle.std.proofs.lemmas.Bool.{eq-eqb}
+use Rattle.std.proofs.Math.Nat.{pos_of_ne-zero}
+use Rattle.dali_frame.specs.declared.forward.Frame.TheVariants.{Write, Enable}
 use Rattle.dali_write.specs.Exchanges.{Exchange}
 use Rattle.dali_gear.specs.UnitState.{UnitState, after_frame, after_enable, answer_to, is_writable}
 use Rattle.dali_gear.specs.SimState.{SimState}
@@ -15,7 +15,7 @@ use Rattle.dali_write.specs.declared.step.Step.TheVariants.{ReadFrom, WriteTo}
 use Rattle.dali_write.specs.Lines.{Meets, line, select_lines, read_lines, write_lines, step_lines}
 use Rattle.dali_write.specs.Tries.{Trying, Missed}
 use Rattle.dali_write.specs.Losses.{SimRun, is_loss, losses, Unrefused, IsAlone, CanDo}
-use Rattle.dali_write.proofs.OneFrameLemmas.{IsFor, HeardWhole, heard_whole, address_of}
+use Rattle.dali_write.proofs.OneFrameLemmas.{IsFor, heard_whole, address_of}
 
 -- a unit that hears all of the lines gives the answers that they want
 abbrev pub Suits : List Line → UnitState → Type 0
@@ -64,9 +64,14 @@ enabled_by_two at unit is = by unit.half_pair refl
         ∙ ap (λ (h : Bool). record unit { enabled = true; half_pair = h }) (sym e)
 
 suits_write : (at location byte : ℕ) (unit : UnitState) → unit.address ≡ at → IsTrue (is_writable unit.bank1 location) → Suits (write_lines at location byte) unit
-suits_write at location byte unit is can =
-    (tt, (tt, subst (λ (u : UnitState). Suits (select_lines at location ++ line (Write byte) (Exactly byte) ∷ []) u) (sym (enabled_by_two at unit is))
-        (suits_enabled at location byte (record unit { enabled = true }) is refl can)))
+suits_write at location byte unit is can = (
+  tt,
+  (
+    tt,
+    subst (λ (u : UnitState). Suits (select_lines at location ++ line (Write byte) (Exactly byte) ∷ []) u) (sym (enabled_by_two at unit is))
+        (suits_enabled at location byte (record unit { enabled = true }) is refl can),
+  ),
+)
 
 pub suits_step : (at : ℕ) (step : Step) (unit : UnitState) → unit.address ≡ at → CanDo step unit → Suits (step_lines at step) unit
 suits_step at (ReadFrom location) unit is can = suits_read at location unit is can
@@ -110,12 +115,8 @@ ends at lines unit (x ∷ told) first last run for suits alone none kind missed 
     let heard = heard_whole at run.0 before.now x.frame x.answer last run.2 before.for.0 before.alone whole.0 kind.0 in
     missed.2 (meets_own missed.0 (answer_to false before.now x.frame) x.answer before.suits.0 heard.answered)
 
-some_loss : (n : ℕ) → (n ≡ 0 → ⊥) → 1 ≤ n
-some_loss zero never = absurd (never refl)
-some_loss (suc n) never = omega arith
-
 pub missed_by_loss : (at : ℕ) (step : Step) (unit : UnitState) (told : List Exchange) (first last : SimState) (run : SimRun told first last)
     → IsAlone at unit first.units → CanDo step unit → Unrefused told first last run → Missed (step_lines at step) told → 1 ≤ losses at told first last run
 missed_by_loss at step unit told first last run alone can kind missed =
-    some_loss (losses at told first last run)
-        (λ none. ends at (step_lines at step) unit told first last run (all_for at step) (suits_step at step unit (address_of at unit first.units alone) can) alone none kind missed)
+    pos_of_ne-zero
+    (λ none. ends at (step_lines at step) unit told first last run (all_for at step) (suits_step at step unit (address_of at unit first.units alone) can) alone none kind missed)

@@ -1,14 +1,14 @@
 -- What a frame that is meant for one unit does on the simulated bus.
-use Rattle.std.proofs.Common.{◌≡◌, ◌≢◌, ◌⊎◌, inl, inr, refl, sym, ap, subst, ◌∙◌, ℕ, zero, suc, ◌+◌, ◌≤◌, Bool, true, false, ◌&&◌, ◌||◌, List, [], ◌∷◌, ◌++◌, map, length, Option, Some, None, IsSome, is_some, arith}
-use Rattle.std.specs.Prelude.{◌==◌, slice_get, if◌then◌else◌}
-use Rattle.std.specs.List.{filter_map, cons_option, list_any}
-use Rattle.std.proofs.lemmas.Bool.{eqb-true, eq-eqb, ne_eqb}
+use Rattle.std.proofs.Common.{◌≡◌, ◌≢◌, inl, inr, refl, sym, ap, subst, ◌∙◌, ℕ, Bool, true, false, ◌&&◌, ◌||◌, List, [], ◌∷◌, map, Option, Some, None}
+use Rattle.std.specs.Prelude.{◌==◌, if◌then◌else◌}
+use Rattle.std.specs.List.{filter_map, cons_option}
+use Rattle.std.proofs.lemmas.Bool.{eq-eqb, ne_eqb}
 use Rattle.dali_frame.specs.declared.forward.Frame.{Frame}
 use Rattle.dali_frame.specs.declared.forward.Frame.TheVariants.{Dtr0, Dtr1, Dtr2, Write, WriteSilent, Enable, AskDtr0, AskDtr1, AskDtr2, Read, Other}
 use Rattle.dali_gear.specs.declared.fate.Fate.{Fate}
 use Rattle.dali_gear.specs.Fate.{is_lost, next_fate}
-use Rattle.dali_gear.specs.UnitState.{UnitState, has_bank, carries_out, stores, after_frame, answer_to}
-use Rattle.dali_gear.specs.SimState.{SimState, SimCarry, unit_after, unit_answer, bus_answer, only_answer}
+use Rattle.dali_gear.specs.UnitState.{UnitState, after_frame, answer_to}
+use Rattle.dali_gear.specs.SimState.{SimState, SimCarry, unit_after, unit_answer, only_answer}
 use Rattle.dali_gear.specs.SimSteps.{fate_keeps}
 use Rattle.dali_write.specs.Losses.{answers_at, is_loss, IsElse, AllElse, IsAlone}
 
@@ -64,6 +64,7 @@ else_after fate at unit frame is other = (rw (fate_keeps fate frame unit) other.
     by : (b : Bool) → (if b then unit else after_frame fate.refuse unit frame).enabled ≡ false
     by true = other.1
     by false = off_after fate.refuse at unit frame is other.0 other.1
+
     off : (unit_after fate frame unit).enabled ≡ false
     off = by (is_lost fate unit.address)
 
@@ -116,7 +117,7 @@ found_answering fate at unit (first ∷ units) frame byte (inl here) answers =
 found_answering fate at unit (first ∷ units) frame byte (inr further) answers =
     rw (ne_eqb first.address at further.0.0) (found_answering fate at unit units frame byte further.1 answers)
 
--- what comes back where exactly this answer was given
+-- the unit has heard the frame, and where it answers, that comes back
 pub record HeardWhole (at : ℕ) (unit : UnitState) (frame : Frame) (answer : Option ℕ) (new : SimState) : Type 0 where
   pub alone : IsAlone at (after_frame false unit frame) new.units
   pub answered : (byte : ℕ) → answer_to false unit frame ≡ Some byte → answer ≡ Some byte
@@ -145,8 +146,8 @@ heard_whole at old unit frame answer new step is alone whole kind =
       answered = λ byte answers.
           step.answers
           ∙ comes_back fate.answer_lost (unit_answer fate frame unit) byte (filter_map (unit_answer fate frame) old.units)
-              (parts.1 (found_answering fate at unit old.units frame byte alone (own ∙ answers)))
-              (own_answers fate at unit old.units frame is alone) (own ∙ answers);
+          (parts.1 (found_answering fate at unit old.units frame byte alone (own ∙ answers)))
+          (own_answers fate at unit old.units frame is alone) (own ∙ answers);
     }
 
 -- what came back is what it answered

@@ -1,5 +1,5 @@
 -- The exchanges of whole tries, one by one.
-use Rattle.std.proofs.Common.{◌≡◌, refl, sym, ap, subst, ◌∙◌, ℕ, suc, ◌+◌, List, [], ◌∷◌, length, Option, Some, None, IsSome, arith}
+use Rattle.std.proofs.Common.{◌≡◌, refl, ap, subst, ℕ, ◌+◌, List, [], ◌∷◌, length, arith}
 use Rattle.dali_frame.specs.declared.forward.Frame.{Frame}
 use Rattle.dali_frame.specs.declared.forward.Frame.TheVariants.{Dtr0, Dtr1, AskDtr0, AskDtr1, Read}
 use Rattle.dali_write.specs.Exchanges.{Exchange}
@@ -13,6 +13,10 @@ use Rattle.dali_write.specs.Tries.{Trying}
 pub trying_length : (lines : List Line) (tried : List Exchange) (left : List Line) → Trying lines tried left → length tried + length left ≡ length lines
 trying_length lines [] left try = let same = ap (λ (l : List Line). length l) try in omega arith
 trying_length lines (x ∷ tried) left try = let rest = trying_length lines tried (line x.frame try.0 ∷ left) try.2 in omega arith
+
+-- of no lines, none is left
+pub none_left : (tried : List Exchange) (next : Line) (left : List Line) → Trying [] tried (next ∷ left) → ⊥
+none_left tried next left try = let long = trying_length [] tried (next ∷ left) try in omega arith
 
 -- an exchange of a line
 pub record Got (x : Exchange) (frame : Frame) (wish : Wish) : Type 0 where

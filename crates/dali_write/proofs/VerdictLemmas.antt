@@ -4,18 +4,19 @@ use Rattle.std.proofs.lemmas.Bool.{eqb-true}
 use Rattle.dali_gear.specs.World.{World, Gear, Memory}
 use Rattle.dali_write.specs.Exchanges.{Exchange}
 use Rattle.dali_write.specs.declared.line.Line.{Line}
-use Rattle.dali_write.specs.declared.step.Step.TheVariants.{ReadFrom, WriteTo}
+use Rattle.dali_write.specs.declared.step.Step.TheVariants.{ReadFrom}
 use Rattle.dali_write.specs.declared.ask.Ask.TheVariants.{Ended}
 use Rattle.dali_write.specs.declared.ask.Verdict.{Verdict}
-use Rattle.dali_write.specs.declared.ask.Verdict.TheVariants.{Done, Silent, Doubt, DoubtOpen, Closed, NotClosed}
+use Rattle.dali_write.specs.declared.ask.Verdict.TheVariants.{Done, Doubt, DoubtOpen, Closed, NotClosed}
 use Rattle.dali_write.specs.Lines.{line, read_lines}
-use Rattle.dali_write.specs.Plans.{Plan, Finish, Check, goes_on, either_way, read_closed, close, give_up, expect, read_back, read_lock, write_on, unlock}
-use Rattle.dali_write.specs.Tries.{most_tries, Trying, Missed, Misses, byte_of, StepEnds, Wants}
-use Rattle.dali_write.specs.Worlds.{Run, Shows, KeepsAt, IsOff, memory_of, memory_at}
+use Rattle.dali_write.specs.Plans.{Plan, Finish, Check, either_way, read_closed, close, give_up, expect, read_back, read_lock, write_on, unlock}
+use Rattle.dali_write.specs.Tries.{most_tries, Trying, Missed, Misses, StepEnds, Wants}
+use Rattle.dali_write.specs.Worlds.{Run, Shows, KeepsAt, IsOff, memory_of}
 use Rattle.dali_write.specs.Verdicts.{Says, ShowsAll}
 use Rattle.dali_write.proofs.GearLemmas.{IsQuiet}
 use Rattle.dali_write.proofs.TruthLemmas.{split, read_true, AllQuiet, run_keeps, keeps_then, keeps_none}
-use Rattle.dali_write.proofs.WalkLemmas.{Walk, ended_walk}
+use Rattle.dali_write.specs.Walks.{Walk}
+use Rattle.dali_write.proofs.WalkLemmas.{ended_walk}
 
 -- no frame of these lines writes, or enables the unit at the address
 abbrev pub LinesQuiet : ℕ → List Line → Type 0

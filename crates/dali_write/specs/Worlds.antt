@@ -1,11 +1,9 @@
 -- What exchanges do to a world of units.
-use Rattle.std.specs.Prelude.{◌≡◌, ◌≢◌, ◌⊎◌, ℕ, true, false, List, [], ◌∷◌, ◌++◌, Option, Some, None}
-use Rattle.dali_frame.specs.declared.forward.Frame.{Frame}
-use Rattle.dali_frame.specs.declared.forward.Frame.TheVariants.{Dtr0, Dtr1, Dtr2, Write, WriteSilent, Enable, AskDtr0, AskDtr1, AskDtr2, Read, Other}
+use Rattle.std.specs.Prelude.{◌≡◌, ◌≢◌, ◌⊎◌, ℕ, false, List, [], ◌∷◌, ◌++◌, Option, Some, None}
 use Rattle.dali_gear.specs.World.{World, Gear, Memory, stored}
 use Rattle.dali_gear.specs.Carry.{Carry}
 use Rattle.dali_write.specs.Exchanges.{Exchange}
-use Rattle.dali_write.specs.Lines.{read_lines, select_lines, write_lines, line}
+use Rattle.dali_write.specs.Lines.{read_lines, select_lines}
 use Rattle.dali_write.specs.Tries.{Trying, byte_of}
 
 -- exchanges, the newest first, lead from the first world to the last

@@ -56,7 +56,11 @@ fn finish<B: Bus>(bus: &mut B, session: &mut Session) -> (u32, Option<Verdict>) 
 
 #[test]
 fn the_frames_of_a_fresh_session(rt: HostRuntime) -> Result<(), Fail> {
-    let mut bus = bus_of(rt.alloc(), Unit::blank(rt.alloc(), 5)?, Vec::new(rt.alloc()))?;
+    let mut bus = bus_of(
+        rt.alloc(),
+        Unit::blank(rt.alloc(), 5)?,
+        Vec::new(rt.alloc()),
+    )?;
     let mut session = Session::fresh(order(5, &GTIN)?);
     assert!(rt; session.order().is_some_and(|order| order.id() == 1));
     for word in [0xC301, 0x0B9C, 0xA300, 0x0B98, 0x0BC5] {
@@ -84,7 +88,9 @@ fn sessions_with_a_blank_unit(rt: HostRuntime) -> Result<(), Fail> {
     let mut late = Session::fresh(order(5, &YEAR)?);
     assert_eq!(rt; finish(&mut bus, &mut late), (15, Some(Verdict::MayOpen)));
     for unit in bus.units() {
-        assert!(rt; unit.bank1().starts_with(&[0x77, 0xFF, 0xFF, 0x03, 0xA4, 0xCE, 0xEF, 0xAD, 0xAB, 0xFF]));
+        assert!(rt;
+            unit.bank1().starts_with(&[0x77, 0xFF, 0xFF, 0x03, 0xA4, 0xCE, 0xEF, 0xAD, 0xAB, 0xFF])
+        );
         assert!(rt; !unit.is_enabled());
     }
     Ok(())
@@ -97,9 +103,15 @@ fn sessions_with_no_unit(rt: HostRuntime) -> Result<(), Fail> {
     let mut fresh = Session::fresh(order(9, &GTIN)?);
     assert_eq!(rt; finish(&mut bus, &mut fresh), (16, Some(Verdict::Silent)));
     let mut opened = Session::opened(order(9, &GTIN)?);
-    assert_eq!(rt; finish(&mut bus, &mut opened), (80, Some(Verdict::DoubtOpen)));
+    assert_eq!(rt;
+        finish(&mut bus, &mut opened),
+        (80, Some(Verdict::DoubtOpen))
+    );
     let mut closing = Session::closing(9);
-    assert_eq!(rt; finish(&mut bus, &mut closing), (48, Some(Verdict::NotClosed)));
+    assert_eq!(rt;
+        finish(&mut bus, &mut closing),
+        (48, Some(Verdict::NotClosed))
+    );
     let mut reading = Session::reading(9);
     assert_eq!(rt; finish(&mut bus, &mut reading), (16, Some(Verdict::Silent)));
     assert!(rt; reading.bytes().is_empty());
@@ -109,7 +121,11 @@ fn sessions_with_no_unit(rt: HostRuntime) -> Result<(), Fail> {
 #[test]
 fn a_fixed_location_is_in_doubt(rt: HostRuntime) -> Result<(), Fail> {
     let alloc = rt.alloc();
-    let mut bus = bus_of(alloc, Unit::with_bank1(alloc, 5, &BLANK, &[0x05])?, Vec::new(alloc))?;
+    let mut bus = bus_of(
+        alloc,
+        Unit::with_bank1(alloc, 5, &BLANK, &[0x05])?,
+        Vec::new(alloc),
+    )?;
     let mut opened = Session::opened(order(5, &GTIN)?);
     assert_eq!(rt; finish(&mut bus, &mut opened), (89, Some(Verdict::Doubt)));
     Ok(())
@@ -120,7 +136,11 @@ fn another_content_format(rt: HostRuntime) -> Result<(), Fail> {
     let alloc = rt.alloc();
     let mut bank = BLANK;
     bank[0x12] = 0x04;
-    let mut bus = bus_of(alloc, Unit::with_bank1(alloc, 5, &bank, &[])?, Vec::new(alloc))?;
+    let mut bus = bus_of(
+        alloc,
+        Unit::with_bank1(alloc, 5, &bank, &[])?,
+        Vec::new(alloc),
+    )?;
     let mut fresh = Session::fresh(order(5, &YEAR)?);
     assert_eq!(rt; finish(&mut bus, &mut fresh), (15, Some(Verdict::Format)));
     Ok(())
@@ -129,7 +149,11 @@ fn another_content_format(rt: HostRuntime) -> Result<(), Fail> {
 #[test]
 fn a_short_bank(rt: HostRuntime) -> Result<(), Fail> {
     let alloc = rt.alloc();
-    let mut bus = bus_of(alloc, Unit::with_bank1(alloc, 5, &SHORT_BANK, &[])?, Vec::new(alloc))?;
+    let mut bus = bus_of(
+        alloc,
+        Unit::with_bank1(alloc, 5, &SHORT_BANK, &[])?,
+        Vec::new(alloc),
+    )?;
     let mut fresh = Session::fresh(order(5, &YEAR)?);
     assert_eq!(rt; finish(&mut bus, &mut fresh), (5, Some(Verdict::Short)));
     let mut reading = Session::reading(5);
@@ -143,7 +167,11 @@ fn a_bank_of_255_bytes(rt: HostRuntime) -> Result<(), Fail> {
     let alloc = rt.alloc();
     let mut bank = vec![in alloc; 0xA5; 255]?;
     bank[0] = 0xFE;
-    let mut bus = bus_of(alloc, Unit::with_bank1(alloc, 5, &bank, &[])?, Vec::new(alloc))?;
+    let mut bus = bus_of(
+        alloc,
+        Unit::with_bank1(alloc, 5, &bank, &[])?,
+        Vec::new(alloc),
+    )?;
     let mut reading = Session::reading(5);
     assert_eq!(rt; finish(&mut bus, &mut reading), (1275, Some(Verdict::Read)));
     assert_eq!(rt; reading.bytes(), bank.as_slice());
@@ -200,7 +228,10 @@ fn a_lost_dtr1_is_seen(rt: HostRuntime) -> Result<(), Fail> {
     assert_eq!(rt; verdict, Some(Verdict::MayOpen));
     let mut opened = Session::opened(order(5, &GTIN)?);
     let (after, verdict) = finish(&mut bus, &mut opened);
-    assert_eq!(rt; (before.saturating_add(after), verdict), (105, Some(Verdict::Done)));
+    assert_eq!(rt;
+        (before.saturating_add(after), verdict),
+        (105, Some(Verdict::Done))
+    );
     for unit in bus.units() {
         assert!(rt; unit.bank2().starts_with(&[0x0F, 0xFF, 0xFF, 0xFF]));
         assert!(rt; unit.bank2().iter().skip(1).all(|byte| *byte == 0xFF));

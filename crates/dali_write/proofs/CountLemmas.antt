@@ -1,5 +1,5 @@
 -- How many frames a session sends at most.
-use Rattle.std.proofs.Common.{◌≡◌, ◌⊎◌, inl, inr, refl, ap, subst, ℕ, zero, suc, ◌+◌, ◌-◌, ◌*◌, ◌<◌, ◌≤◌, min, Bool, true, false, ◌==◌, nat_lt, if◌then◌else◌, List, [], ◌∷◌, ◌++◌, length, length-append, Option, Some, None, arith}
+use Rattle.std.proofs.Common.{◌≡◌, ◌⊎◌, inl, inr, refl, ap, subst, ℕ, zero, suc, ◌+◌, ◌-◌, ◌*◌, ◌<◌, ◌≤◌, min, ◌==◌, nat_lt, if◌then◌else◌, List, [], ◌∷◌, ◌++◌, length, length-append, Option, arith}
 use Rattle.std.proofs.lemmas.Nat.{mul-le}
 use Rattle.dali_write.specs.Exchanges.{Exchange}
 use Rattle.dali_write.specs.declared.line.Line.{Line}
@@ -11,12 +11,13 @@ use Rattle.dali_write.specs.declared.stage.Job.TheVariants.{Fresh, Opened, Closi
 use Rattle.dali_write.specs.declared.session.Session.{Session}
 use Rattle.dali_write.specs.Lines.{line, step_lines}
 use Rattle.dali_write.specs.Frames.{read_frames, write_frames}
-use Rattle.dali_write.specs.Plans.{Plan, Finish, Check, goes_on, plan_after, either_way, greatest, read_format, judge_length, read_length, close, give_up, expect, read_back, read_lock, write_on, unlock, read_on}
+use Rattle.dali_write.specs.Plans.{Plan, Finish, Check, goes_on, plan_after, greatest, read_format, judge_length, read_length, close, give_up, expect, read_back, read_lock, write_on, unlock, read_on}
 use Rattle.dali_write.specs.Tries.{most_tries, Trying, Missed, Misses, Succeeds, Fails, StepEnds, StepsEnd, plan_lines, Stands}
 use Rattle.dali_write.specs.Counts.{step_limit, TakesAtMost, frame_limit}
 use Rattle.dali_write.specs.Stages.{plan_of}
 use Rattle.dali_write.specs.Told.{Told}
 use Rattle.dali_write.proofs.ShapeLemmas.{trying_length}
+use Rattle.dali_write.proofs.PlanLemmas.{either_all, if_all}
 
 pub missed_length : (lines : List Line) (tried : List Exchange) → Missed lines tried → length tried ≤ length lines
 missed_length lines [] missed = absurd missed
@@ -108,17 +109,6 @@ stands_takes unit plan told now misses left byte limit s takes =
     let le = before.2 in
     omega arith
 
--- the plans
-
-takes_if : (b : Bool) (limit : ℕ) (p q : Plan) → TakesAtMost limit p → TakesAtMost limit q → TakesAtMost limit (if b then p else q)
-takes_if true limit p q one two = one
-takes_if false limit p q one two = two
-
-takes_either : (limit : ℕ) (failed : Plan) (found : ℕ → Plan) → TakesAtMost limit failed → ((byte : ℕ) → TakesAtMost limit (found byte))
-    → (outcome : Option ℕ) → TakesAtMost limit (either_way failed found outcome)
-takes_either limit failed found one two None = one
-takes_either limit failed found one two (Some byte) = two byte
-
 -- the most frames of a checked read, of a checked write, and of a write and a read that lock the unit
 abbrev most_read : ℕ
 most_read = most_tries * read_frames
@@ -131,15 +121,15 @@ most_close = most_write + most_read
 
 close_takes : (limit : ℕ) (answered unanswered : Verdict) → most_close ≤ limit → TakesAtMost limit (close answered unanswered)
 close_takes limit answered unanswered le =
-    (omega arith, λ outcome. (omega arith, takes_either (limit - most_write - most_read) (Finish unanswered) (λ byte. Finish answered) tt (λ byte. tt)))
+    (omega arith, λ outcome. (omega arith, either_all (TakesAtMost (limit - most_write - most_read)) (Finish unanswered) (λ byte. Finish answered) tt (λ byte. tt)))
 
 expect_takes : (limit location byte : ℕ) (after : Plan) → most_read + most_close ≤ limit → TakesAtMost (limit - most_read) after
     → TakesAtMost limit (expect location byte after)
 expect_takes limit location byte after le takes =
     let closes = close_takes (limit - most_read) _ _ (omega arith) in (
       omega arith,
-      takes_either (limit - most_read) give_up (λ found. if found == byte then after else give_up) closes
-          (λ found. takes_if (found == byte) (limit - most_read) after give_up takes closes),
+      either_all (TakesAtMost (limit - most_read)) give_up (λ found. if found == byte then after else give_up) closes
+          (λ found. if_all (TakesAtMost (limit - most_read)) (found == byte) after give_up takes closes),
     )
 
 read_back_takes : (limit : ℕ) (updates : List (ℕ × ℕ)) → length updates * most_read + most_close ≤ limit → TakesAtMost limit (read_back updates)
@@ -154,12 +144,12 @@ write_on_takes : (limit : ℕ) (updates left : List (ℕ × ℕ))
     → (length left + 1) * most_write + (length updates + 1) * most_read + most_close ≤ limit → TakesAtMost limit (write_on updates left)
 write_on_takes limit updates [] le = (
   omega arith,
-  takes_either (limit - most_write) give_up (λ byte. read_lock updates) (close_takes (limit - most_write) _ _ (omega arith))
+  either_all (TakesAtMost (limit - most_write)) give_up (λ byte. read_lock updates) (close_takes (limit - most_write) _ _ (omega arith))
       (λ byte. read_lock_takes (limit - most_write) updates (omega arith)),
 )
 write_on_takes limit updates (update ∷ left) le = (
   omega arith,
-  takes_either (limit - most_write) give_up (λ byte. write_on updates left) (close_takes (limit - most_write) _ _ (omega arith))
+  either_all (TakesAtMost (limit - most_write)) give_up (λ byte. write_on updates left) (close_takes (limit - most_write) _ _ (omega arith))
       (λ byte. write_on_takes (limit - most_write) updates left (omega arith)),
 )
 
@@ -167,25 +157,25 @@ unlock_takes : (limit : ℕ) (updates : List (ℕ × ℕ))
     → (length updates + 2) * most_write + (length updates + 1) * most_read + most_close ≤ limit → TakesAtMost limit (unlock updates)
 unlock_takes limit updates le = (
   omega arith,
-  takes_either (limit - most_write) give_up (λ byte. write_on updates updates) (close_takes (limit - most_write) _ _ (omega arith))
+  either_all (TakesAtMost (limit - most_write)) give_up (λ byte. write_on updates updates) (close_takes (limit - most_write) _ _ (omega arith))
       (λ byte. write_on_takes (limit - most_write) updates updates (omega arith)),
 )
 
 read_format_takes : TakesAtMost (2 * most_read) read_format
-read_format_takes = (omega arith, takes_either most_read _ _ tt (λ high. (omega arith, takes_either 0 _ _ tt (λ low. tt))))
+read_format_takes = (omega arith, either_all (TakesAtMost most_read) _ _ tt (λ high. (omega arith, either_all (TakesAtMost 0) _ _ tt (λ low. tt))))
 
 read_length_takes : (updates : List (ℕ × ℕ)) → TakesAtMost (3 * most_read) (read_length updates)
 read_length_takes updates = (
   omega arith,
-  takes_either (2 * most_read) _ (judge_length updates) tt
-      (λ last. takes_if (nat_lt last (greatest updates)) (2 * most_read) _ _ tt
-      (takes_if (nat_lt (greatest updates) 0x13) (2 * most_read) _ _ tt read_format_takes)),
+  either_all (TakesAtMost (2 * most_read)) _ (judge_length updates) tt
+      (λ last. if_all (TakesAtMost (2 * most_read)) (nat_lt last (greatest updates)) _ _ tt
+      (if_all (TakesAtMost (2 * most_read)) (nat_lt (greatest updates) 0x13) _ _ tt read_format_takes)),
 )
 
 read_on_takes : (limit location left : ℕ) → left * most_read ≤ limit → TakesAtMost limit (read_on location left)
 read_on_takes limit location zero le = tt
 read_on_takes limit location (suc left) le =
-    (omega arith, takes_either (limit - most_read) _ (λ byte. read_on (suc location) left) tt (λ byte. read_on_takes (limit - most_read) (suc location) left (omega arith)))
+    (omega arith, either_all (TakesAtMost (limit - most_read)) _ (λ byte. read_on (suc location) left) tt (λ byte. read_on_takes (limit - most_read) (suc location) left (omega arith)))
 
 plan_takes : (job : Job) → TakesAtMost (frame_limit job) (plan_of job)
 plan_takes (Fresh order) = read_length_takes order.updates
@@ -193,7 +183,7 @@ plan_takes (Opened order) = unlock_takes (frame_limit (Opened order)) order.upda
 plan_takes Closing = close_takes most_close _ _ (omega arith)
 plan_takes Reading = (
   omega arith,
-  takes_either (254 * most_read) _ (λ last. read_on 1 (min last 0xFE)) tt (λ last. read_on_takes (254 * most_read) 1 (min last 0xFE) (omega arith)),
+  either_all (TakesAtMost (254 * most_read)) _ (λ last. read_on 1 (min last 0xFE)) tt (λ last. read_on_takes (254 * most_read) 1 (min last 0xFE) (omega arith)),
 )
 
 pub told_length : (told : List Exchange) (s : Session) → Told told s → length told ≤ frame_limit s.job

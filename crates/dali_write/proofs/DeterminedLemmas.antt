@@ -11,7 +11,7 @@ use Rattle.dali_write.specs.declared.ask.Ask.TheVariants.{Send}
 use Rattle.dali_write.specs.Lines.{Meets, line, step_lines, byte_after}
 use Rattle.dali_write.specs.Plans.{Plan, Finish, Check, goes_on, plan_after}
 use Rattle.dali_write.specs.Tries.{Trying, Missed, Misses, byte_of, StepEnds, StepsEnd, plan_lines, GoesOn, Stands, ask_at, Wants}
-use Rattle.dali_write.proofs.ShapeLemmas.{trying_length}
+use Rattle.dali_write.proofs.ShapeLemmas.{none_left}
 
 -- where a session stands: its plan from the step at hand on, the missed tries of that step, what is left of the try at hand, and its byte
 record Place : Type 0 where
@@ -68,10 +68,6 @@ misses_is Anything (Some other) misses = absurd (misses refl)
 some_lines : (unit : ℕ) (step : Step) → [] ≡ step_lines unit step → ⊥
 some_lines unit (ReadFrom location) none = cc
 some_lines unit (WriteTo location byte) none = cc
-
--- of no lines, none is left
-none_left : (tried : List Exchange) (next : Line) (left : List Line) → Trying [] tried (next ∷ left) → ⊥
-none_left tried next left try = let long = trying_length [] tried (next ∷ left) try in omega arith
 
 -- The newest exchange was of the frame that was wanted, and it led from where the session stood.
 record Peeled (unit : ℕ) (plan : Plan) (told : List Exchange) (place : Place) : Type 0 where

@@ -61,9 +61,6 @@ was_answered : (unit location found : ℕ) (after : Option ℕ → Plan) (told :
 was_answered unit location found after told (inl done) = done
 was_answered unit location found after told (inr failed) = let never = failed.0 in cc
 
-append_none : (a : List Exchange) → a ++ [] ≡ a
-append_none a = simp append-nil
-
 -- a read of a location that must hold the byte
 expect_cause : (unit location byte : ℕ) (after : Plan) (expected : List (ℕ × ℕ)) → Contains expected (location, byte) → HasCause unit after expected
     → HasCause unit (expect location byte after) expected
@@ -89,7 +86,7 @@ expect_cause unit location byte after expected is rest (Some found ∷ outcomes)
           newer = walk.0;
           read = walk.1;
           older = [];
-          parts = walk.2 ∙ ap (λ (t : List Exchange). walk.0 ++ t) (sym (append_none walk.1));
+          parts = walk.2 ∙ ap (λ (t : List Exchange). walk.0 ++ t) (sym (append-nil walk.1));
           location = location;
           byte = byte;
           is_expected = is;

@@ -1,6 +1,6 @@
 -- How many frames a session takes that looks at a bank, closes it or reads it.
 use Rattle.std.proofs.Common.{◌≡◌, ◌≢◌, inl, inr, refl, ap, ℕ, zero, suc, ◌+◌, ◌-◌, ◌*◌, ◌<◌, ◌≤◌, min, Bool, true, false, ◌==◌, ◌&&◌, nat_lt, if◌then◌else◌, List, [], ◌∷◌, length, length-append, Option, Some, None, arith}
-use Rattle.std.proofs.lemmas.Bool.{ltb-true, lt-ltb}
+use Rattle.std.proofs.lemmas.Bool.{lt-ltb, le-ltb}
 use Rattle.dali_write.specs.Exchanges.{Exchange}
 use Rattle.dali_write.specs.declared.line.Line.{Line}
 use Rattle.dali_write.specs.declared.step.Step.{Step}
@@ -121,14 +121,10 @@ low_took told unit updates below wants =
     let is = lt-ltb (greatest updates) 0x13 below in
     took unit (read_length updates) told MayOpen read_frames (length_takes unit updates MayOpen 0 (λ e. cc) (λ short. judged_low unit short _ is)) wants
 
-not_low : (a b : ℕ) → b ≤ a → (t : Bool) → nat_lt a b ≡ t → t ≡ false
-not_low a b le true same = let less = ltb-true a b same in let no : ⊥ = omega arith in absurd no
-not_low a b le false same = refl
-
 pub high_took : (told : List Exchange) (unit : ℕ) (updates : List (ℕ × ℕ)) → 0x13 ≤ greatest updates → Wants unit (read_length updates) told (Ended MayOpen)
     → Took unit (read_length updates) told MayOpen (3 * read_frames)
 high_took told unit updates high wants =
-    let is = not_low (greatest updates) 0x13 high (nat_lt (greatest updates) 0x13) refl in
+    let is = le-ltb (greatest updates) 0x13 high in
     took unit (read_length updates) told MayOpen (3 * read_frames)
     (length_takes unit updates MayOpen (2 * read_frames) (λ e. cc) (λ short. judged_high unit MayOpen short _ is (λ e. cc) (λ e. cc))) wants
 

@@ -56,11 +56,6 @@ falls_again limit lines misses number fit few below =
     let times : (misses + 1) * lines ≡ misses * lines + lines = omega arith in
     omega (arith, within_tries misses lines number (omega arith) below)
 
--- the next step
-pub falls_anew : (limit new lines more misses number : ℕ) → new + 8 * lines ≤ limit → misses < 8 → number < lines
-    → new - (0 * more + 0) < limit - (misses * lines + number)
-falls_anew limit new lines more misses number fit few below = omega (arith, within_tries misses lines number few below)
-
 -- while a frame is at hand, its number is below that of the lines
 pub number_below : (s : Session) → IsSome (line_of s) → s.number < length (plan_lines s.unit (plan_at s.job s.stage))
 number_below s some = by (line_of s) refl some

@@ -1,6 +1,7 @@
 -- What the verdict of a fresh session says of the world, and that reading is quiet.
 use Rattle.std.proofs.Common.{◌≡◌, refl, sym, subst, ℕ, zero, suc, ◌≤◌, min, Bool, true, false, ◌==◌, ◌&&◌, nat_lt, if◌then◌else◌, List, [], ◌∷◌, ◌++◌, Option, Some, None, arith}
 use Rattle.std.proofs.lemmas.Bool.{eqb-true, ltb-true, ltb-false}
+use Rattle.std.specs.Cmp.{first_so, second_so}
 use Rattle.dali_gear.specs.World.{World}
 use Rattle.dali_write.specs.Exchanges.{Exchange}
 use Rattle.dali_write.specs.declared.step.Step.TheVariants.{ReadFrom, WriteTo}
@@ -13,12 +14,10 @@ use Rattle.dali_write.specs.Tries.{StepEnds, StepsEnd, Wants, plan_lines}
 use Rattle.dali_write.specs.Worlds.{Run, Shows, KeepsAt}
 use Rattle.dali_write.specs.Verdicts.{Says}
 use Rattle.dali_write.proofs.TruthLemmas.{split, AllQuiet, run_keeps}
-use Rattle.dali_write.proofs.WalkLemmas.{Walk, ended_walk}
+use Rattle.dali_write.specs.Walks.{Walk}
+use Rattle.dali_write.proofs.WalkLemmas.{ended_walk}
 use Rattle.dali_write.proofs.VerdictLemmas.{finish_walk, read_step_shows, read_step_keeps, read_step_quiet, shows_kept, both_quiet, misses_quiet, trying_quiet, read_quiet_lines, LinesQuiet}
-
-both_true : (a b : Bool) → (a && b) ≡ true → (a ≡ true) × (b ≡ true)
-both_true true b e = (refl, e)
-both_true false b e = cc
+use Rattle.dali_write.proofs.PlanLemmas.{either_all, if_all}
 
 no_match : (high low : ℕ) → ((high == 0) && (low == 3)) ≡ false → (high ≡ 0) × (low ≡ 3) → ⊥
 no_match high low differs both =
@@ -56,9 +55,8 @@ format_low_says unit updates length high verdict (Some low ∷ outcomes) told fi
           → (t : Bool) → ((high == 0) && (low == 3)) ≡ t → Walk unit (Finish (if t then MayOpen else Format)) outcomes walk.0 (Finish verdict) → Says unit updates last verdict
       by mid run size_is high_is low_is true suits on =
           let over = ends_here unit MayOpen verdict mid last outcomes walk.0 on run in
-          let parts = both_true (high == 0) (low == 3) suits in
-          let zero = eqb-true high 0 parts.0 in
-          let three = eqb-true low 3 parts.1 in
+          let zero = eqb-true high 0 (first_so (high == 0) (low == 3) suits) in
+          let three = eqb-true low 3 (second_so (high == 0) (low == 3) suits) in
           subst (λ (v : Verdict). Says unit updates last v) over.0
           (subst (λ (w : World). Says unit updates w MayOpen) (sym over.1)
           (length, size_is, fits, λ long. (subst (λ (h : ℕ). Shows mid unit 0x11 h) zero high_is, subst (λ (l : ℕ). Shows mid unit 0x12 l) three low_is)))
@@ -145,28 +143,20 @@ quiet_wants unit plan told ask first last reads run wants address =
     run_keeps told first last address
     (subst (λ (t : List Exchange). AllQuiet address t) (sym s.parts) (both_quiet address s.tried (s.missed ++ s.ended) tried (both_quiet address s.missed s.ended missed before.0))) run
 
-either_reads : (failed : Plan) (found : ℕ → Plan) → OnlyReads failed → ((byte : ℕ) → OnlyReads (found byte)) → (outcome : Option ℕ) → OnlyReads (either_way failed found outcome)
-either_reads failed found one two None = one
-either_reads failed found one two (Some byte) = two byte
-
-if_reads : (b : Bool) (p q : Plan) → OnlyReads p → OnlyReads q → OnlyReads (if b then p else q)
-if_reads true p q one two = one
-if_reads false p q one two = two
-
 length_reads : (updates : List (ℕ × ℕ)) → OnlyReads (read_length updates)
 unfolding OnlyReads
 length_reads updates =
-    either_reads (Finish Silent) (judge_length updates) tt (λ last. if_reads (nat_lt last (greatest updates)) (Finish Short) _ tt
-    (if_reads (nat_lt (greatest updates) 0x13) (Finish MayOpen) read_format tt (either_reads (Finish Silent) read_format_low tt (λ high. either_reads (Finish Silent) _ tt (λ low. tt)))))
+    either_all OnlyReads (Finish Silent) (judge_length updates) tt (λ last. if_all OnlyReads (nat_lt last (greatest updates)) (Finish Short) _ tt
+    (if_all OnlyReads (nat_lt (greatest updates) 0x13) (Finish MayOpen) read_format tt (either_all OnlyReads (Finish Silent) read_format_low tt (λ high. either_all OnlyReads (Finish Silent) _ tt (λ low. tt)))))
 
 on_reads : (location left : ℕ) → OnlyReads (read_on location left)
 unfolding OnlyReads
 on_reads location zero = tt
-on_reads location (suc left) = either_reads (Finish Silent) (λ byte. read_on (suc location) left) tt (λ byte. on_reads (suc location) left)
+on_reads location (suc left) = either_all OnlyReads (Finish Silent) (λ byte. read_on (suc location) left) tt (λ byte. on_reads (suc location) left)
 
 all_reads : OnlyReads read_all
 unfolding OnlyReads
-all_reads = either_reads (Finish Silent) (λ last. read_on 1 (min last 0xFE)) tt (λ last. on_reads 1 (min last 0xFE))
+all_reads = either_all OnlyReads (Finish Silent) (λ last. read_on 1 (min last 0xFE)) tt (λ last. on_reads 1 (min last 0xFE))
 
 pub fresh_quiet : (told : List Exchange) (first last : World) (unit : ℕ) (updates : List (ℕ × ℕ)) (ask : Ask) → Run told first last → Wants unit (read_length updates) told ask
     → (address : ℕ) → KeepsAt first last address

@@ -46,7 +46,7 @@ IsQuiet at (Other w) = ⊥
 same_keeps : (old new : Gear) → new ≡ old → Keeps old new
 same_keeps old new same = (same_steady old new same).keeps
 
-passing_keeps : (old new : Gear) (answer : Option ℕ) → PassesBy old answer new → Keeps old new
+pub passing_keeps : (old new : Gear) (answer : Option ℕ) → PassesBy old answer new → Keeps old new
 passing_keeps old new answer passes = rw passes.2 (record { memory = refl; off = λ off. off })
 
 obeying_keeps : (at : ℕ) (old : Gear) (frame : Frame) (answer : Option ℕ) (new : Gear) → IsQuiet at frame → Obeys at old frame answer new → Keeps old new
@@ -86,10 +86,6 @@ pub carry_keeps : (old : World) (frame : Frame) (answer : Option ℕ) (new : Wor
 carry_keeps old frame answer new address quiet carry =
     let both = quiet_here address (old address) frame (new address) quiet (carry.units address) in record { memory = both.0; off = both.1 }
 
--- a gear at an address, and one after it
-pub record At (world : World) (address : ℕ) (gear : Gear) : Type 0 where
-  pub is : world address ≡ Some gear
-
 -- the unit that answers a query
 answers_ask1 : (at : ℕ) (old : Gear) (to v : ℕ) (new : Gear) → Hears at old (AskDtr1 to) (Some v) new → (to ≡ at) × (old.dtr1 ≡ v) × Steady old new
 answers_ask1 at old to v new h = told h.obeys where
@@ -103,13 +99,14 @@ answers_ask0 at old to v new h = told h.obeys where
   told (inl (is, tells)) = let value = tells.1 in (is, cc, rw tells.0 at (end_steady h.obeyed new h.ends))
   told (inr (isnt, ignores)) = let never = ignores.1 in cc
 
--- what a unit answered, at its address
+-- the unit at the address has these bytes in DTR0 and DTR1
 pub record After (world : World) (unit : ℕ) (dtr0 dtr1 : ℕ) : Type 0 where
   pub gear : Gear
   pub is : world unit ≡ Some gear
   pub dtr0_is : gear.dtr0 ≡ dtr0
   pub dtr1_is : gear.dtr1 ≡ dtr1
 
+-- it has this byte in DTR1
 pub record Banked (world : World) (unit dtr1 : ℕ) : Type 0 where
   pub gear : Gear
   pub is : world unit ≡ Some gear

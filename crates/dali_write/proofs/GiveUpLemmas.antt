@@ -12,6 +12,7 @@ use Rattle.dali_write.specs.Lines.{Meets, line, step_lines, byte_after}
 use Rattle.dali_write.specs.Tries.{most_tries, Trying, byte_of, StepEnds, Wants}
 use Rattle.dali_write.specs.Walks.{Walk, step_misses, misses_of, Failed}
 use Rattle.dali_write.proofs.WalkLemmas.{ended_walk}
+use Rattle.dali_write.proofs.PlanLemmas.{if_all}
 
 -- where no step fails, the plan doesn't end so
 abbrev Avoids : Verdict → Plan → Type 0
@@ -82,10 +83,6 @@ late unit plan told verdict avoids wants =
     let walk = ended_walk unit plan told verdict wants in
     record { outcomes = walk.0; walk = walk.1; many = many verdict unit plan walk.0 told walk.1 avoids }
 
-avoids_if : (verdict : Verdict) (b : Bool) (p q : Plan) → Avoids verdict p → Avoids verdict q → Avoids verdict (if b then p else q)
-avoids_if verdict true p q one two = one
-avoids_if verdict false p q one two = two
-
 suits_not_silent : (b : Bool) → Avoids Silent (Finish (if b then MayOpen else Format))
 suits_not_silent true = λ e. cc
 suits_not_silent false = λ e. cc
@@ -95,8 +92,8 @@ format_avoids = λ high low. suits_not_silent ((high == 0) && (low == 3))
 
 length_avoids : (updates : List (ℕ × ℕ)) → Avoids Silent (read_length updates)
 length_avoids updates = λ last.
-    avoids_if Silent (nat_lt last (greatest updates)) (Finish Short) _ (λ e. cc)
-    (avoids_if Silent (nat_lt (greatest updates) 0x13) (Finish MayOpen) read_format (λ e. cc) format_avoids)
+    if_all (Avoids Silent) (nat_lt last (greatest updates)) (Finish Short) _ (λ e. cc)
+    (if_all (Avoids Silent) (nat_lt (greatest updates) 0x13) (Finish MayOpen) read_format (λ e. cc) format_avoids)
 
 pub fresh_late : (told : List Exchange) (unit : ℕ) (updates : List (ℕ × ℕ)) → Wants unit (read_length updates) told (Ended Silent) → Failed unit (read_length updates) told Silent
 fresh_late told unit updates wants = late unit (read_length updates) told Silent (length_avoids updates) wants
@@ -105,7 +102,7 @@ give_up_avoids : Avoids DoubtOpen give_up
 give_up_avoids = λ written read e. cc
 
 expect_avoids : (location byte : ℕ) (after : Plan) → Avoids DoubtOpen after → Avoids DoubtOpen (expect location byte after)
-expect_avoids location byte after avoids = λ found. avoids_if DoubtOpen (found == byte) after give_up avoids give_up_avoids
+expect_avoids location byte after avoids = λ found. if_all (Avoids DoubtOpen) (found == byte) after give_up avoids give_up_avoids
 
 read_back_avoids : (updates : List (ℕ × ℕ)) → Avoids DoubtOpen (read_back updates)
 read_back_avoids [] = λ e. cc

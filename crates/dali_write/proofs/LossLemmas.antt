@@ -1,7 +1,8 @@
 -- A try without a loss comes to its end.
-use Rattle.std.proofs.Common.{◌≡◌, refl, sym, ap, subst, ◌∙◌, ℕ, zero, suc, ◌+◌, ◌≤◌, Bool, true, false, List, [], ◌∷◌, ◌++◌, Option, Some, None, IsSome, IsTrue, arith}
+use Rattle.std.proofs.Common.{◌≡◌, refl, sym, ap, subst, ◌∙◌, ℕ, ◌+◌, ◌≤◌, Bool, true, false, List, [], ◌∷◌, ◌++◌, Option, Some, None, IsSome, IsTrue, arith}
 use Rattle.std.specs.Prelude.{slice_get, if◌then◌else◌}
 use Rattle.std.proofs.lemmas.Bool.{eq-eqb}
+use Rattle.std.proofs.Math.Nat.{pos_of_ne-zero}
 use Rattle.dali_frame.specs.declared.forward.Frame.TheVariants.{Write, Enable}
 use Rattle.dali_write.specs.Exchanges.{Exchange}
 use Rattle.dali_gear.specs.UnitState.{UnitState, after_frame, after_enable, answer_to, is_writable}
@@ -114,12 +115,8 @@ ends at lines unit (x ∷ told) first last run for suits alone none kind missed 
     let heard = heard_whole at run.0 before.now x.frame x.answer last run.2 before.for.0 before.alone whole.0 kind.0 in
     missed.2 (meets_own missed.0 (answer_to false before.now x.frame) x.answer before.suits.0 heard.answered)
 
-some_loss : (n : ℕ) → (n ≡ 0 → ⊥) → 1 ≤ n
-some_loss zero never = absurd (never refl)
-some_loss (suc n) never = omega arith
-
 pub missed_by_loss : (at : ℕ) (step : Step) (unit : UnitState) (told : List Exchange) (first last : SimState) (run : SimRun told first last)
     → IsAlone at unit first.units → CanDo step unit → Unrefused told first last run → Missed (step_lines at step) told → 1 ≤ losses at told first last run
 missed_by_loss at step unit told first last run alone can kind missed =
-    some_loss (losses at told first last run)
+    pos_of_ne-zero
     (λ none. ends at (step_lines at step) unit told first last run (all_for at step) (suits_step at step unit (address_of at unit first.units alone) can) alone none kind missed)

@@ -117,7 +117,7 @@ found_answering fate at unit (first ∷ units) frame byte (inl here) answers =
 found_answering fate at unit (first ∷ units) frame byte (inr further) answers =
     rw (ne_eqb first.address at further.0.0) (found_answering fate at unit units frame byte further.1 answers)
 
--- what comes back where exactly this answer was given
+-- the unit has heard the frame, and where it answers, that comes back
 pub record HeardWhole (at : ℕ) (unit : UnitState) (frame : Frame) (answer : Option ℕ) (new : SimState) : Type 0 where
   pub alone : IsAlone at (after_frame false unit frame) new.units
   pub answered : (byte : ℕ) → answer_to false unit frame ≡ Some byte → answer ≡ Some byte

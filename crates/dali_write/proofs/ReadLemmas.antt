@@ -2,6 +2,9 @@
 use Rattle.std.proofs.Common.{◌≡◌, ◌⊎◌, inl, inr, refl, sym, ap, subst, ◌∙◌, ℕ, zero, suc, ◌+◌, ◌<◌, ◌≤◌, min, List, [], ◌∷◌, ◌++◌, length, length-append, get_or, drop, Option, Some, None, arith}
 use Rattle.std.specs.Option.{option_to_list}
 use Rattle.std.proofs.lemmas.Option.{slice_get-get_or}
+use Rattle.std.proofs.lemmas.List.{get_or_append_left}
+use Rattle.std.proofs.Math.Seq.{get_or-append_seam}
+use Rattle.std.proofs.Math.Nat.{eq-or-lt_of_le}
 use Rattle.dali_gear.specs.World.{World, Gear, byte_in, byte_at}
 use Rattle.dali_write.specs.Exchanges.{Exchange}
 use Rattle.dali_write.specs.declared.line.Line.{Line}
@@ -19,9 +22,7 @@ use Rattle.dali_write.specs.Stages.{plan_of, plan_at}
 use Rattle.dali_write.specs.Told.{Told, aim_of}
 use Rattle.dali_write.proofs.TruthLemmas.{split}
 use Rattle.dali_write.proofs.VerdictLemmas.{read_step_shows, read_step_keeps, shows_kept}
-use Rattle.dali_write.proofs.WalkLemmas.{nothing_of, ended_told}
-use Rattle.dali_write.proofs.ShapeLemmas.{trying_length}
-use Rattle.dali_write.proofs.CountLemmas.{misses_length}
+use Rattle.dali_write.proofs.WalkLemmas.{ended_told}
 
 -- the unit shows each of the bytes at its location
 abbrev ShowsEach : World → ℕ → List ℕ → Type 0
@@ -42,28 +43,13 @@ Reached plan bytes unit world = ((plan ≡ read_all) × (bytes ≡ [])) ⊎ (Rea
 -- one more byte, shown after those that stand in the same memory
 shows_more : (mid last : World) (unit byte : ℕ) (bytes : List ℕ) → ShowsEach mid unit bytes → KeepsAt mid last unit → Shows last unit (length bytes) byte
     → ShowsEach last unit (bytes ++ byte ∷ [])
-shows_more mid last unit byte bytes each keeps here location below = by_place (bytes ++ byte ∷ []) refl
-  where
-    before : (xs : List ℕ) (x i : ℕ) → i < length xs → get_or (xs ++ x ∷ []) i 0 ≡ get_or xs i 0
-    before [] x i lt = absurd (omega arith)
-    before (y ∷ xs) x zero lt = refl
-    before (y ∷ xs) x (suc i) lt = before xs x i (omega arith)
-
-    at_end : (xs : List ℕ) (x : ℕ) → get_or (xs ++ x ∷ []) (length xs) 0 ≡ x
-    at_end [] x = refl
-    at_end (y ∷ xs) x = at_end xs x
-
-    old_or_new : (i n : ℕ) → i < n + 1 → (i < n) ⊎ (i ≡ n)
-    old_or_new i zero lt = inr (omega arith)
-    old_or_new zero (suc n) lt = inl (omega arith)
-    old_or_new (suc i) (suc n) lt = elim (old_or_new i n (omega arith)) [ inl less ↦ inl (omega arith) | inr same ↦ inr (omega arith) ]
-
-    by_place : (all : List ℕ) → bytes ++ byte ∷ [] ≡ all → Shows last unit location (get_or (bytes ++ byte ∷ []) location 0)
-    by_place all same =
-        elim (old_or_new location (length bytes) (omega (arith, length-append bytes (byte ∷ [])))) [
-          | inl less ↦ subst (λ (b : ℕ). Shows last unit location b) (sym (before bytes byte location less)) (shows_kept mid last unit location (get_or bytes location 0) (each location less) keeps)
-          | inr is ↦ subst (λ (l : ℕ). Shows last unit l (get_or (bytes ++ byte ∷ []) l 0)) (sym is) (subst (λ (b : ℕ). Shows last unit (length bytes) b) (sym (at_end bytes byte)) here)
-        ]
+shows_more mid last unit byte bytes each keeps here location below =
+    elim (eq-or-lt_of_le {n = location} {m = length bytes} (omega (arith, length-append bytes (byte ∷ [])))) [
+      | inl is ↦ subst (λ (l : ℕ). Shows last unit l (get_or (bytes ++ byte ∷ []) l 0)) (sym is)
+          (subst (λ (b : ℕ). Shows last unit (length bytes) b) (sym (get_or-append_seam bytes byte [] 0)) here)
+      | inr less ↦ subst (λ (b : ℕ). Shows last unit location b) (sym (get_or_append_left bytes (byte ∷ []) 0 location less))
+          (shows_kept mid last unit location (get_or bytes location 0) (each location less) keeps)
+    ]
 
 -- the first read, of location 00h
 first_read : (unit : ℕ) (outcome : Option ℕ) (newer : List Exchange) (mid last : World) → StepEnds unit read_all outcome newer → Run newer mid last
@@ -97,14 +83,10 @@ next_read unit (suc left) (Some byte) bytes newer mid last some count shows ends
         left = left;
         some = omega arith;
         plan_is = ap (λ (n : ℕ). read_on n left) (sym more);
-        count = omega (arith, ap (λ (b : ℕ). min b 0xFE) (front bytes byte some));
+        count = omega (arith, ap (λ (b : ℕ). min b 0xFE) (get_or_append_left bytes (byte ∷ []) 0 0 some));
         shows = shows_more mid last unit byte bytes shows (read_step_keeps unit (length bytes) after_next (Some byte) newer mid last ends run unit) (read_step_shows unit (length bytes) byte after_next newer mid last ends run);
       },
     )
-  where
-    front : (xs : List ℕ) (x : ℕ) → 1 ≤ length xs → get_or (xs ++ x ∷ []) 0 0 ≡ get_or xs 0 0
-    front [] x some = absurd (omega arith)
-    front (y ∷ xs) x some = refl
 
 -- one more step, whatever stood before it
 step_reaches : (unit : ℕ) (plan : Plan) (outcomes : List (Option ℕ)) (outcome : Option ℕ) (newer : List Exchange) (mid last : World)
@@ -155,11 +137,7 @@ ended_shows : (unit : ℕ) (told : List Exchange) (now : Plan) (misses : ℕ) (l
     → StandsWith Reading unit read_all told now misses left byte bytes → ask_at now left ≡ Ended Read → Run told first last → ShowsBank last unit bytes
 ended_shows unit told (Finish v) misses left byte bytes first last s ask run =
     let same : v ≡ Read = cc in
-    let short = trying_length [] s.stands.tried left s.stands.try in
-    let tried = nothing_of s.stands.tried (omega arith) in
-    let few = misses_length [] misses s.stands.missed s.stands.misses_are in
-    let missed = nothing_of s.stands.missed (omega arith) in
-    let all = ended_told told s.stands.tried s.stands.missed s.stands.ended s.stands.parts tried missed in
+    let all = ended_told told s.stands.tried s.stands.missed s.stands.ended left misses s.stands.parts s.stands.try s.stands.misses_are in
     let reached = steps_reach unit s.stands.outcomes s.stands.ended first last s.stands.steps (subst (λ (t : List Exchange). Run t first last) all run) in
     subst (λ (b : List ℕ). ShowsBank last unit b) (sym s.bytes_are)
     (bank_shown unit (found s.stands.outcomes) (plan_after read_all s.stands.outcomes) last reached (s.stands.now_is ∙ ap Finish same))

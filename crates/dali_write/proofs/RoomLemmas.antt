@@ -7,9 +7,10 @@ use Rattle.dali_write.specs.declared.stage.Job.{Job}
 use Rattle.dali_write.specs.declared.stage.Job.TheVariants.{Fresh, Opened, Closing, Reading}
 use Rattle.dali_write.specs.declared.ask.Verdict.TheVariants.{Silent}
 use Rattle.dali_write.specs.declared.step.Step.{Step}
-use Rattle.dali_write.specs.Plans.{Plan, Finish, Check, goes_on, plan_after, either_way, read_on, read_all}
+use Rattle.dali_write.specs.Plans.{Plan, Finish, Check, goes_on, plan_after, read_on, read_all}
 use Rattle.dali_write.specs.Found.{StandsWith, found}
 use Rattle.dali_write.specs.Stages.{plan_of}
+use Rattle.dali_write.proofs.PlanLemmas.{either_all}
 
 -- whatever the outcomes are, the plan has no more steps
 abbrev HasAtMost : ℕ → Plan → Type 0
@@ -17,19 +18,14 @@ HasAtMost most (Finish verdict) = Unit {0}
 HasAtMost zero (Check step after) = ⊥
 HasAtMost (suc most) (Check step after) = (outcome : Option ℕ) → HasAtMost most (after outcome)
 
-either_has : (most : ℕ) (failed : Plan) (found : ℕ → Plan) → HasAtMost most failed → ((byte : ℕ) → HasAtMost most (found byte))
-    → (outcome : Option ℕ) → HasAtMost most (either_way failed found outcome)
-either_has most failed found one other None = one
-either_has most failed found one other (Some byte) = other byte
-
 read_on_has : (most location left : ℕ) → left ≤ most → HasAtMost most (read_on location left)
 read_on_has most location zero few = tt
 read_on_has zero location (suc left) few = absurd (omega arith)
 read_on_has (suc most) location (suc left) few =
-    either_has most (Finish Silent) (λ byte. read_on (suc location) left) tt (λ byte. read_on_has most (suc location) left (omega arith))
+    either_all (HasAtMost most) (Finish Silent) (λ byte. read_on (suc location) left) tt (λ byte. read_on_has most (suc location) left (omega arith))
 
 read_all_has : HasAtMost 255 read_all
-read_all_has = either_has 254 (Finish Silent) (λ last. read_on 1 (min last 0xFE)) tt (λ last. read_on_has 254 1 (min last 0xFE) (omega arith))
+read_all_has = either_all (HasAtMost 254) (Finish Silent) (λ last. read_on 1 (min last 0xFE)) tt (λ last. read_on_has 254 1 (min last 0xFE) (omega arith))
 
 -- one step less
 one_less : (most : ℕ) (plan : Plan) (outcome : Option ℕ) → HasAtMost most plan → HasAtMost (most - 1) (goes_on plan outcome)

@@ -14,6 +14,10 @@ pub trying_length : (lines : List Line) (tried : List Exchange) (left : List Lin
 trying_length lines [] left try = let same = ap (λ (l : List Line). length l) try in omega arith
 trying_length lines (x ∷ tried) left try = let rest = trying_length lines tried (line x.frame try.0 ∷ left) try.2 in omega arith
 
+-- of no lines, none is left
+pub none_left : (tried : List Exchange) (next : Line) (left : List Line) → Trying [] tried (next ∷ left) → ⊥
+none_left tried next left try = let long = trying_length [] tried (next ∷ left) try in omega arith
+
 -- an exchange of a line
 pub record Got (x : Exchange) (frame : Frame) (wish : Wish) : Type 0 where
   pub frame_is : x.frame ≡ frame

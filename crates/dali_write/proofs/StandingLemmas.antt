@@ -8,6 +8,7 @@ use Rattle.dali_write.specs.declared.step.Step.TheVariants.{ReadFrom, WriteTo}
 use Rattle.dali_write.specs.Lines.{Meets, line, byte_after}
 use Rattle.dali_write.specs.Plans.{Plan, Finish, Check, goes_on, plan_after}
 use Rattle.dali_write.specs.Tries.{most_tries, Trying, Misses, byte_of, StepEnds, StepsEnd, plan_lines, GoesOn, Stands}
+use Rattle.dali_write.proofs.ShapeLemmas.{none_left}
 
 pub goes_first : (unit : ℕ) (plan : Plan) → GoesOn plan (plan_lines unit plan)
 goes_first unit (Finish verdict) = tt
@@ -81,15 +82,10 @@ ends_step unit plan told now outcomes ended newer outcome parts steps now_is end
       going = goes_first unit (goes_on now outcome);
     }
 
--- no frame of no lines
-trying_none : (tried : List Exchange) (next : Line) (left : List Line) → Trying [] tried (next ∷ left) → ⊥
-trying_none [] next left try = cc
-trying_none (x ∷ tried) next left try = trying_none tried (line x.frame try.0) (next ∷ left) try.2
-
 pub done_ends : (unit : ℕ) (now : Plan) (misses : ℕ) (tried missed : List Exchange) (byte : Option ℕ) (frame : Frame) (answer : Option ℕ) (wish : Wish)
     → misses < most_tries → Misses (plan_lines unit now) misses missed → Trying (plan_lines unit now) tried (line frame wish ∷ []) → byte_of tried ≡ byte → Meets wish answer
     → StepEnds unit now (byte_after frame answer byte) ((record { frame = frame; answer = answer } ∷ tried) ++ missed)
-done_ends unit (Finish verdict) misses tried missed byte frame answer wish few are try is meets = absurd (trying_none tried (line frame wish) [] try)
+done_ends unit (Finish verdict) misses tried missed byte frame answer wish few are try is meets = absurd (none_left tried (line frame wish) [] try)
 done_ends unit (Check step after) misses tried missed byte frame answer wish few are try is meets =
     let x : Exchange = record { frame = frame; answer = answer } in
     inl (x ∷ tried, missed, misses, refl, (wish, meets, try), ap (λ (b : Option ℕ). byte_after frame answer b) (sym is), few, are)
@@ -97,7 +93,7 @@ done_ends unit (Check step after) misses tried missed byte frame answer wish few
 pub failed_ends : (unit : ℕ) (now : Plan) (tried missed : List Exchange) (frame : Frame) (answer : Option ℕ) (wish : Wish) (left : List Line)
     → Misses (plan_lines unit now) 7 missed → Trying (plan_lines unit now) tried (line frame wish ∷ left) → ¬ Meets wish answer
     → StepEnds unit now None ((record { frame = frame; answer = answer } ∷ tried) ++ missed)
-failed_ends unit (Finish verdict) tried missed frame answer wish left are try misses_it = absurd (trying_none tried (line frame wish) left try)
+failed_ends unit (Finish verdict) tried missed frame answer wish left are try misses_it = absurd (none_left tried (line frame wish) left try)
 failed_ends unit (Check step after) tried missed frame answer wish left are try misses_it =
     let x : Exchange = record { frame = frame; answer = answer } in
     inr (refl, (x ∷ tried, missed, refl, (wish, left, misses_it, try), are))

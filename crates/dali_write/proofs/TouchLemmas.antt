@@ -16,14 +16,15 @@ use Rattle.dali_write.specs.declared.ask.Ask.{Ask}
 use Rattle.dali_write.specs.declared.ask.Verdict.{Verdict}
 use Rattle.dali_write.specs.declared.ask.Verdict.TheVariants.{Doubt, DoubtOpen, Closed, NotClosed}
 use Rattle.dali_write.specs.Lines.{line, select_lines, read_lines, write_lines}
-use Rattle.dali_write.specs.Plans.{Plan, Finish, Check, goes_on, plan_after, either_way, close, give_up, expect, read_back, read_lock, write_on, unlock}
+use Rattle.dali_write.specs.Plans.{Plan, Finish, Check, goes_on, plan_after, close, give_up, expect, read_back, read_lock, write_on, unlock}
 use Rattle.dali_write.specs.Tries.{Trying, Missed, Misses, StepEnds, StepsEnd, Wants, plan_lines}
 use Rattle.dali_write.specs.Worlds.{Run, KeepsAt, Selects, OnlyEnabled, IsOff, memory_of, written}
 use Rattle.dali_write.specs.Touches.{Has, OldOrNew, Touches, writes_of}
 use Rattle.dali_write.proofs.GearLemmas.{end_steady, carry_keeps, IsQuiet}
-use Rattle.dali_write.proofs.ShapeLemmas.{trying_length}
+use Rattle.dali_write.proofs.ShapeLemmas.{trying_length, none_left}
 use Rattle.dali_write.proofs.TruthLemmas.{split, write_safe, keeps_then, keeps_none}
 use Rattle.dali_write.proofs.VerdictLemmas.{trying_quiet, read_quiet_lines}
+use Rattle.dali_write.proofs.PlanLemmas.{either_all, if_all}
 
 -- the byte at a place of a memory
 abbrev byte_by : Option Memory → ℕ → ℕ → Option ℕ
@@ -279,9 +280,7 @@ goes_on_writes writes (Check (WriteTo location byte) after) outcome only = only.
 
 -- the frames of the step at hand may be sent
 plan_safe : (writes : List (ℕ × ℕ)) (unit : ℕ) (plan : Plan) → OnlyWrites writes plan → SafeLines writes unit (plan_lines unit plan)
-plan_safe writes unit (Finish verdict) only = λ tried next left try.
-    let short = trying_length [] tried (next ∷ left) try in
-    let no : ⊥ = omega arith in absurd no
+plan_safe writes unit (Finish verdict) only = λ tried next left try. absurd (none_left tried next left try)
 plan_safe writes unit (Check (ReadFrom location) after) only = read_safe writes unit location
 plan_safe writes unit (Check (WriteTo location byte) after) only = write_lines_safe writes unit location byte only.0
 
@@ -320,25 +319,15 @@ wants_harmless writes unit plan told ask only wants =
     harmless_as writes unit told (s.tried ++ (s.missed ++ s.ended)) s.parts
     (harmless_both writes unit s.tried (s.missed ++ s.ended) tried (harmless_both writes unit s.missed s.ended missed before.0))
 
--- whichever way the plan goes on
-either_writes : (writes : List (ℕ × ℕ)) (failed : Plan) (found : ℕ → Plan) → OnlyWrites writes failed → ((byte : ℕ) → OnlyWrites writes (found byte))
-    → (outcome : Option ℕ) → OnlyWrites writes (either_way failed found outcome)
-either_writes writes failed found one two None = one
-either_writes writes failed found one two (Some byte) = two byte
-
-if_writes : (writes : List (ℕ × ℕ)) (b : Bool) (p q : Plan) → OnlyWrites writes p → OnlyWrites writes q → OnlyWrites writes (if b then p else q)
-if_writes writes true p q one two = one
-if_writes writes false p q one two = two
-
 -- a plan that locks the unit
 close_writes : (writes : List (ℕ × ℕ)) (answered unanswered : Verdict) → Has writes 2 0xFF → OnlyWrites writes (close answered unanswered)
-close_writes writes answered unanswered has = (has, λ written. either_writes writes (Finish unanswered) (λ byte. Finish answered) tt (λ byte. tt))
+close_writes writes answered unanswered has = (has, λ written. either_all (OnlyWrites writes) (Finish unanswered) (λ byte. Finish answered) tt (λ byte. tt))
 
 -- a plan that reads a byte back
 expect_writes : (writes : List (ℕ × ℕ)) (location byte : ℕ) (after : Plan) → Has writes 2 0xFF → OnlyWrites writes after → OnlyWrites writes (expect location byte after)
 expect_writes writes location byte after has only =
     let gives = close_writes writes Doubt DoubtOpen has in
-    either_writes writes give_up (λ found. if found == byte then after else give_up) gives (λ found. if_writes writes (found == byte) after give_up only gives)
+    either_all (OnlyWrites writes) give_up (λ found. if found == byte then after else give_up) gives (λ found. if_all (OnlyWrites writes) (found == byte) after give_up only gives)
 
 read_back_writes : (writes updates : List (ℕ × ℕ)) → Has writes 2 0xFF → OnlyWrites writes (read_back updates)
 read_back_writes writes [] has = tt
@@ -349,12 +338,12 @@ write_on_writes : (writes updates left : List (ℕ × ℕ)) → Has writes 2 0xF
     → OnlyWrites writes (write_on updates left)
 write_on_writes writes updates [] has among = (
   has,
-  either_writes writes give_up (λ byte. read_lock updates) (close_writes writes Doubt DoubtOpen has)
+  either_all (OnlyWrites writes) give_up (λ byte. read_lock updates) (close_writes writes Doubt DoubtOpen has)
       (λ byte. expect_writes writes 2 0xFF (read_back updates) has (read_back_writes writes updates has)),
 )
 write_on_writes writes updates (update ∷ left) has among = (
   among update.0 update.1 (inl (refl, refl)),
-  either_writes writes give_up (λ byte. write_on updates left) (close_writes writes Doubt DoubtOpen has)
+  either_all (OnlyWrites writes) give_up (λ byte. write_on updates left) (close_writes writes Doubt DoubtOpen has)
       (λ byte. write_on_writes writes updates left has (λ location b in_left. among location b (inr in_left))),
 )
 
@@ -363,7 +352,7 @@ unlock_writes : (updates : List (ℕ × ℕ)) → OnlyWrites (writes_of updates)
 unlock_writes updates =
     let has : Has (writes_of updates) 2 0xFF = inr (inl (refl, refl)) in (
       inl (refl, refl),
-      either_writes (writes_of updates) give_up (λ byte. write_on updates updates) (close_writes (writes_of updates) Doubt DoubtOpen has)
+      either_all (OnlyWrites (writes_of updates)) give_up (λ byte. write_on updates updates) (close_writes (writes_of updates) Doubt DoubtOpen has)
           (λ byte. write_on_writes (writes_of updates) updates updates has (λ location b in_updates. inr (inr in_updates))),
     )
 

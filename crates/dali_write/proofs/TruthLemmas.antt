@@ -12,7 +12,7 @@ use Rattle.dali_write.specs.Exchanges.{Exchange}
 use Rattle.dali_write.specs.Lines.{select_lines, byte_after}
 use Rattle.dali_write.specs.Tries.{Trying, byte_of}
 use Rattle.dali_write.specs.Worlds.{Run, ReadsByte, Shows, KeepsAt, Selects, OnlyEnabled, MayWrite, IsOff, memory_of, memory_at, written}
-use Rattle.dali_write.proofs.GearLemmas.{After, asked1, placed, asked0, stays, carry_keeps, IsQuiet, end_steady}
+use Rattle.dali_write.proofs.GearLemmas.{After, asked1, placed, asked0, stays, carry_keeps, IsQuiet, passing_keeps, end_steady}
 use Rattle.dali_write.proofs.ShapeLemmas.{selected, was_read}
 
 -- a run in two parts
@@ -123,9 +123,6 @@ read_quiet tried first last unit location byte run reads address =
     ) r
 
 -- a unit that isn't enabled stores nothing
-passed : (old new : Gear) (answer : Option ℕ) → PassesBy old answer new → new.memory ≡ old.memory
-passed old new answer passes = ap (λ (g : Gear). g.memory) passes.2
-
 off_write : (at : ℕ) (old : Gear) (byte : ℕ) (new : Gear) → old.enabled ≡ false → Heard at old (Write byte) new → new.memory ≡ old.memory
 off_write at old byte new off heard = (end_steady h.obeyed new h.ends).keeps.memory ∙ told h.obeys where
   h : Hears at old (Write byte) heard.0 new
@@ -133,7 +130,7 @@ off_write at old byte new off heard = (end_steady h.obeyed new h.ends).keeps.mem
 
   told : (Stores byte old h.obeyed × (heard.0 ≡ Some byte)) ⊎ PassesBy old heard.0 h.obeyed → h.obeyed.memory ≡ old.memory
   told (inl stores) = let on = stores.0.0 in cc
-  told (inr passes) = passed old h.obeyed heard.0 passes
+  told (inr passes) = (passing_keeps old h.obeyed heard.0 passes).memory
 
 off_write_here : (at : ℕ) (old : Option Gear) (byte : ℕ) (new : Option Gear) → IsOff old → MayHear at old (Write byte) new → memory_of new ≡ memory_of old
 off_write_here at None byte None off hears = refl
@@ -165,7 +162,7 @@ write_here at old location byte new zero one (inr heard) = told h.obeys where
   told : (Stores byte old h.obeyed × (heard.0 ≡ Some byte)) ⊎ PassesBy old heard.0 h.obeyed
       → (new.memory ≡ old.memory) ⊎ (new.memory ≡ stored old.memory 1 location byte)
   told (inl stores) = inr (stored_there old location byte h.obeyed new zero one stores.0 h.ends)
-  told (inr passes) = inl ((end_steady h.obeyed new h.ends).keeps.memory ∙ passed old h.obeyed heard.0 passes)
+  told (inr passes) = inl ((end_steady h.obeyed new h.ends).keeps.memory ∙ (passing_keeps old h.obeyed heard.0 passes).memory)
 
 -- a unit that answers a write was enabled, and has stored the byte
 write_answered : (at : ℕ) (old : Gear) (byte v : ℕ) (new : Gear) → Hears at old (Write byte) (Some v) new

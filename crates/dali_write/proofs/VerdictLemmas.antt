@@ -15,7 +15,8 @@ use Rattle.dali_write.specs.Worlds.{Run, Shows, KeepsAt, IsOff, memory_of}
 use Rattle.dali_write.specs.Verdicts.{Says, ShowsAll}
 use Rattle.dali_write.proofs.GearLemmas.{IsQuiet}
 use Rattle.dali_write.proofs.TruthLemmas.{split, read_true, AllQuiet, run_keeps, keeps_then, keeps_none}
-use Rattle.dali_write.proofs.WalkLemmas.{Walk, ended_walk}
+use Rattle.dali_write.specs.Walks.{Walk}
+use Rattle.dali_write.proofs.WalkLemmas.{ended_walk}
 
 -- no frame of these lines writes, or enables the unit at the address
 abbrev pub LinesQuiet : ℕ → List Line → Type 0

@@ -1,12 +1,13 @@
 -- The whole steps of a session, the oldest first.
-use Rattle.std.proofs.Common.{◌≡◌, refl, sym, ap, subst, ◌∙◌, ℕ, ◌≤◌, List, [], ◌∷◌, ◌++◌, append_assoc, append-nil, length, Option, arith}
+use Rattle.std.proofs.Common.{◌≡◌, refl, sym, ap, subst, ◌∙◌, ℕ, List, [], ◌∷◌, ◌++◌, append_assoc, append-nil, Option, arith}
+use Rattle.std.proofs.lemmas.List.{nil_from_length}
 use Rattle.dali_write.specs.Exchanges.{Exchange}
 use Rattle.dali_write.specs.declared.line.Line.{Line}
 use Rattle.dali_write.specs.declared.ask.Verdict.{Verdict}
 use Rattle.dali_write.specs.declared.ask.Ask.TheVariants.{Ended}
 use Rattle.dali_write.specs.Plans.{Plan, Finish, Check, goes_on, plan_after}
-use Rattle.dali_write.specs.Tries.{StepEnds, StepsEnd, Stands, Wants, ask_at}
-pub use Rattle.dali_write.specs.Walks.{Walk}
+use Rattle.dali_write.specs.Tries.{Trying, Misses, StepEnds, StepsEnd, Stands, Wants, ask_at}
+use Rattle.dali_write.specs.Walks.{Walk}
 use Rattle.dali_write.proofs.ShapeLemmas.{trying_length}
 use Rattle.dali_write.proofs.CountLemmas.{misses_length}
 
@@ -14,9 +15,7 @@ use Rattle.dali_write.proofs.CountLemmas.{misses_length}
 walk_on : (unit : ℕ) (plan : Plan) (outcomes : List (Option ℕ)) (told : List Exchange) (end : Plan) (outcome : Option ℕ) (more : List Exchange)
     → Walk unit plan outcomes told end → StepEnds unit end outcome more → Walk unit plan (outcomes ++ outcome ∷ []) (more ++ told) (goes_on end outcome)
 walk_on unit plan [] told end outcome more walk ends =
-    ([], more, rw walk.0 append_none, subst (λ (p : Plan). StepEnds unit p outcome more) (sym walk.1) ends, (refl, ap (λ (p : Plan). goes_on p outcome) walk.1)) where
-      append_none : more ++ [] ≡ [] ++ more
-      append_none = simp append-nil
+    ([], more, rw walk.0 (append-nil more), subst (λ (p : Plan). StepEnds unit p outcome more) (sym walk.1) ends, (refl, ap (λ (p : Plan). goes_on p outcome) walk.1))
 walk_on unit plan (o ∷ outcomes) told end outcome more walk ends = (
   more ++ walk.0,
   walk.1,
@@ -35,22 +34,19 @@ walks unit plan (outcome ∷ outcomes) told ends =
           (walk_on unit plan before.0 ends.1 (plan_after plan outcomes) outcome ends.0 before.1 ends.3),
     )
 
-pub nothing_of : (told : List Exchange) → length told ≤ 0 → told ≡ []
-nothing_of [] le = refl
-nothing_of (x ∷ told) le = let no : ⊥ = omega arith in absurd no
-
-pub ended_told : (told tried missed ended : List Exchange) → told ≡ tried ++ (missed ++ ended) → tried ≡ [] → missed ≡ [] → told ≡ ended
-ended_told told tried missed ended parts one two = rw (one, two) at parts
+-- where no frame is at hand, the whole steps are all
+pub ended_told : (told tried missed ended : List Exchange) (left : List Line) (misses : ℕ) → told ≡ tried ++ (missed ++ ended) → Trying [] tried left → Misses [] misses missed
+    → told ≡ ended
+ended_told told tried missed ended left misses parts try are =
+    let short = trying_length [] tried left try in
+    let few = misses_length [] misses missed are in
+    rw (nil_from_length tried (omega arith), nil_from_length missed (omega arith)) at parts
 
 ended_at : (unit : ℕ) (plan : Plan) (told : List Exchange) (now : Plan) (misses : ℕ) (left : List Line) (byte : Option ℕ) (verdict : Verdict)
     → Stands unit plan told now misses left byte → ask_at now left ≡ Ended verdict → (forward : List (Option ℕ)) × Walk unit plan forward told (Finish verdict)
 ended_at unit plan told (Finish v) misses left byte verdict s ask =
     let same : v ≡ verdict = cc in
-    let short = trying_length [] s.tried left s.try in
-    let tried = nothing_of s.tried (omega arith) in
-    let few = misses_length [] misses s.missed s.misses_are in
-    let missed = nothing_of s.missed (omega arith) in
-    let all = ended_told told s.tried s.missed s.ended s.parts tried missed in
+    let all = ended_told told s.tried s.missed s.ended left misses s.parts s.try s.misses_are in
     let walk = walks unit plan s.outcomes s.ended s.steps in (
       walk.0,
       subst (λ (v : Verdict). Walk unit plan walk.0 told (Finish v)) same

@@ -1,5 +1,5 @@
 -- Sessions touch their places alone.
-use Rattle.std.proofs.Common.{◌≡◌, ◌⊎◌, refl, sym, ap, subst, ◌∙◌, inl, inr, ℕ, zero, suc, Bool, true, false, ◌==◌, if◌then◌else◌, List, [], ◌∷◌, ◌++◌, Option, Some, None, arith}
+use Rattle.std.proofs.Common.{◌≡◌, ◌⊎◌, refl, sym, ap, subst, ◌∙◌, inl, inr, ℕ, zero, suc, Bool, true, false, ◌==◌, if◌then◌else◌, List, [], ◌∷◌, ◌++◌, Option, Some, None, IsSome, arith}
 use Rattle.std.specs.Prelude.{slice_get, take, drop}
 use Rattle.std.proofs.lemmas.Bool.{eqb-true}
 use Rattle.dali_frame.specs.declared.forward.Frame.{Frame}
@@ -18,7 +18,7 @@ use Rattle.dali_write.specs.declared.ask.Verdict.TheVariants.{Doubt, DoubtOpen, 
 use Rattle.dali_write.specs.Lines.{line, select_lines, read_lines, write_lines}
 use Rattle.dali_write.specs.Plans.{Plan, Finish, Check, goes_on, plan_after, close, give_up, expect, read_back, read_lock, write_on, unlock}
 use Rattle.dali_write.specs.Tries.{Trying, Missed, Misses, StepEnds, StepsEnd, Wants, plan_lines}
-use Rattle.dali_write.specs.Worlds.{Run, KeepsAt, Selects, OnlyEnabled, IsOff, memory_of, written}
+use Rattle.dali_write.specs.Worlds.{Run, KeepsAt, Selects, OnlyEnabled, IsOff, memory_of, Written}
 use Rattle.dali_write.specs.Touches.{Has, OldOrNew, Touches, writes_of}
 use Rattle.dali_write.proofs.GearLemmas.{end_steady, carry_keeps, IsQuiet}
 use Rattle.dali_write.proofs.ShapeLemmas.{trying_length, none_left}
@@ -55,23 +55,27 @@ stored_byte memory location byte bank place = by (bank == 1) refl (place == loca
 
 -- where one of the writes was stored, each place is old or new
 written_new : (writes : List (ℕ × ℕ)) (old new : Option Gear) (location byte : ℕ) → Has writes location byte
-    → memory_of new ≡ written location byte (memory_of old) → OldOrNew writes old new
-written_new writes None new location byte has is = kept_old writes None new is
-written_new writes (Some old) new location byte has is = λ bank place.
-    let there : byte_in new bank place ≡ stored old.memory 1 location byte bank place = by_memory new bank place ∙ ap (λ (m : Option Memory). byte_by m bank place) is in
+    → Written location byte (memory_of old) (memory_of new) → OldOrNew writes old new
+written_new writes None new location byte has is = absurd is
+written_new writes (Some old) None location byte has is = absurd is
+written_new writes (Some old) (Some new) location byte has is = λ bank place.
+    let there : new.memory bank place ≡ stored old.memory 1 location byte bank place = ap (λ (m : Memory). m bank place) is.1 in
     elim (stored_byte old.memory location byte bank place) [
       | inl same ↦ inl (there ∙ same)
-      | inr at ↦ inr (byte, at.0, subst (λ (l : ℕ). Has writes l byte) (sym at.1) has, there ∙ at.2)
+      | inr at ↦ inr (byte, at.0, subst (λ (l : ℕ). Has writes l byte) (sym at.1) has, rw (at.0, at.1) is.0, there ∙ at.2)
     ]
 
 -- one change after another
 old_or_new_then : (writes : List (ℕ × ℕ)) (first mid last : Option Gear) → OldOrNew writes first mid → OldOrNew writes mid last → OldOrNew writes first last
 old_or_new_then writes first mid last one two = λ bank location.
     elim (two bank location) [
-      | inr new ↦ inr new
+      | inr new ↦ elim (one bank location) [
+        | inl old ↦ inr (new.0, new.1, new.2, subst (λ (o : Option ℕ). IsSome o) old new.3, new.4)
+        | inr before ↦ inr (new.0, new.1, new.2, before.3, new.4)
+      ]
       | inl same ↦ elim (one bank location) [
         | inl old ↦ inl (same ∙ old)
-        | inr new ↦ inr (new.0, new.1, new.2, same ∙ new.3)
+        | inr new ↦ inr (new.0, new.1, new.2, new.3, same ∙ new.4)
       ]
     ]
 

@@ -11,7 +11,7 @@ use Rattle.dali_gear.specs.Carry.{Carry, MayHear, Heard}
 use Rattle.dali_write.specs.Exchanges.{Exchange}
 use Rattle.dali_write.specs.Lines.{select_lines, byte_after}
 use Rattle.dali_write.specs.Tries.{Trying, byte_of}
-use Rattle.dali_write.specs.Worlds.{Run, ReadsByte, Shows, KeepsAt, Selects, OnlyEnabled, MayWrite, IsOff, memory_of, memory_at, written}
+use Rattle.dali_write.specs.Worlds.{Run, ReadsByte, Shows, KeepsAt, Selects, OnlyEnabled, MayWrite, IsOff, memory_of, memory_at, Written}
 use Rattle.dali_write.proofs.GearLemmas.{After, asked1, placed, asked0, stays, carry_keeps, IsQuiet, passing_keeps, end_steady}
 use Rattle.dali_write.proofs.ShapeLemmas.{selected, was_read}
 
@@ -147,29 +147,30 @@ same_or_not a b = by (eqb a b) refl where
 
 -- the unit stored the byte where it had selected
 stored_there : (old : Gear) (location byte : ℕ) (obeyed new : Gear) → old.dtr0 ≡ location → old.dtr1 ≡ 1 → Stores byte old obeyed → MayEnd obeyed new
-    → new.memory ≡ stored old.memory 1 location byte
+    → Written location byte (Some old.memory) (Some new.memory)
 stored_there old location byte obeyed new zero one stores ends =
+    let place = stores.1 in
     let there = ap (λ (g : Gear). g.memory) stores.2 in
-    (end_steady obeyed new ends).keeps.memory ∙ rw (zero, one) at there
+    (rw (zero, one) at place, (end_steady obeyed new ends).keeps.memory ∙ rw (zero, one) at there)
 
 write_here : (at : ℕ) (old : Gear) (location byte : ℕ) (new : Gear) → old.dtr0 ≡ location → old.dtr1 ≡ 1 → (new ≡ old) ⊎ Heard at old (Write byte) new
-    → (new.memory ≡ old.memory) ⊎ (new.memory ≡ stored old.memory 1 location byte)
+    → (new.memory ≡ old.memory) ⊎ Written location byte (Some old.memory) (Some new.memory)
 write_here at old location byte new zero one (inl same) = inl (ap (λ (g : Gear). g.memory) same)
 write_here at old location byte new zero one (inr heard) = told h.obeys where
   h : Hears at old (Write byte) heard.0 new
   h = heard.1
 
   told : (Stores byte old h.obeyed × (heard.0 ≡ Some byte)) ⊎ PassesBy old heard.0 h.obeyed
-      → (new.memory ≡ old.memory) ⊎ (new.memory ≡ stored old.memory 1 location byte)
+      → (new.memory ≡ old.memory) ⊎ Written location byte (Some old.memory) (Some new.memory)
   told (inl stores) = inr (stored_there old location byte h.obeyed new zero one stores.0 h.ends)
   told (inr passes) = inl ((end_steady h.obeyed new h.ends).keeps.memory ∙ (passing_keeps old h.obeyed heard.0 passes).memory)
 
 -- a unit that answers a write was enabled, and has stored the byte
 write_answered : (at : ℕ) (old : Gear) (byte v : ℕ) (new : Gear) → Hears at old (Write byte) (Some v) new
-    → (old.enabled ≡ true) × ((location : ℕ) → old.dtr0 ≡ location → old.dtr1 ≡ 1 → new.memory ≡ stored old.memory 1 location byte)
+    → (old.enabled ≡ true) × ((location : ℕ) → old.dtr0 ≡ location → old.dtr1 ≡ 1 → Written location byte (Some old.memory) (Some new.memory))
 write_answered at old byte v new h = told h.obeys where
   told : (Stores byte old h.obeyed × (Some v ≡ Some byte)) ⊎ PassesBy old (Some v) h.obeyed
-      → (old.enabled ≡ true) × ((location : ℕ) → old.dtr0 ≡ location → old.dtr1 ≡ 1 → new.memory ≡ stored old.memory 1 location byte)
+      → (old.enabled ≡ true) × ((location : ℕ) → old.dtr0 ≡ location → old.dtr1 ≡ 1 → Written location byte (Some old.memory) (Some new.memory))
   told (inl stores) = (stores.0.0, λ location zero one. stored_there old location byte h.obeyed new zero one stores.0 h.ends)
   told (inr passes) = let never = passes.3 in cc
 
@@ -178,7 +179,7 @@ off_not_on world address gear is on off = let e : gear.enabled ≡ false = rw is
 
 -- the unit that answered is the only one that can be enabled
 answer_here : (before : World) (unit location byte v : ℕ) (last : World) → After before unit location 1 → OnlyEnabled unit before → Carry before (Write byte) (Some v) last
-    → memory_at last unit ≡ written location byte (memory_at before unit)
+    → Written location byte (memory_at before unit) (memory_at last unit)
 answer_here before unit location byte v last after only carry =
     let a = carry.answers in
     let told = write_answered a.address a.before byte v a.after a.hears in
@@ -190,14 +191,14 @@ answer_here before unit location byte v last after only carry =
           let gear : a.before ≡ after.gear = let there = after.is in cc in
           let zero : a.before.dtr0 ≡ location = ap (λ (g : Gear). g.dtr0) gear ∙ after.dtr0_is in
           let one : a.before.dtr1 ≡ 1 = ap (λ (g : Gear). g.dtr1) gear ∙ after.dtr1_is in
-          rw (was, is) (ap Some (told.1 location zero one))
+          rw (was, is) (told.1 location zero one)
     ]
 
 here_of : (before last : World) (unit location byte : ℕ) (old new : Gear) → before unit ≡ Some old → last unit ≡ Some new
-    → (new.memory ≡ old.memory) ⊎ (new.memory ≡ stored old.memory 1 location byte)
-    → (memory_at last unit ≡ memory_at before unit) ⊎ (memory_at last unit ≡ written location byte (memory_at before unit))
+    → (new.memory ≡ old.memory) ⊎ Written location byte (Some old.memory) (Some new.memory)
+    → (memory_at last unit ≡ memory_at before unit) ⊎ Written location byte (memory_at before unit) (memory_at last unit)
 here_of before last unit location byte old new was is (inl same) = inl (rw (was, is) (ap Some same))
-here_of before last unit location byte old new was is (inr stored_it) = inr (rw (was, is) (ap Some stored_it))
+here_of before last unit location byte old new was is (inr stored_it) = inr (rw (was, is) stored_it)
 
 pub write_safe : (told : List Exchange) (first before last : World) (unit location byte : ℕ) (answer : Option ℕ)
     → Run told first before → Selects unit location told → OnlyEnabled unit before → Carry before (Write byte) answer last

@@ -1,5 +1,5 @@
 -- What exchanges do to a world of units.
-use Rattle.std.specs.Prelude.{◌≡◌, ◌≢◌, ◌⊎◌, ℕ, false, List, [], ◌∷◌, ◌++◌, Option, Some, None}
+use Rattle.std.specs.Prelude.{◌≡◌, ◌≢◌, ◌⊎◌, ℕ, false, List, [], ◌∷◌, ◌++◌, Option, Some, None, IsSome}
 use Rattle.dali_gear.specs.World.{World, Gear, Memory, stored}
 use Rattle.dali_gear.specs.Carry.{Carry}
 use Rattle.dali_write.specs.Exchanges.{Exchange}
@@ -48,13 +48,14 @@ Selects unit location told =
 abbrev pub OnlyEnabled : ℕ → World → Type 0
 OnlyEnabled unit world = (address : ℕ) → address ≢ unit → IsOff (world address)
 
--- the memory with the byte at the location of bank 1
-abbrev pub written : ℕ → ℕ → Option Memory → Option Memory
-written location byte None = None
-written location byte (Some memory) = Some (stored memory 1 location byte)
+-- the memory has the location of bank 1, and the new one holds the byte there and is otherwise the same
+abbrev pub Written : ℕ → ℕ → Option Memory → Option Memory → Type 0
+Written location byte (Some old) (Some new) = IsSome (old 1 location) × (new ≡ stored old 1 location byte)
+Written location byte (Some old) None = ⊥
+Written location byte None new = ⊥
 
 -- the byte was stored at the location of bank 1 of the unit, or nothing was; an answer says that it was
 pub record MayWrite (first : World) (unit location byte : ℕ) (answer : Option ℕ) (last : World) : Type 0 where
   pub others : (address : ℕ) → address ≢ unit → memory_at last address ≡ memory_at first address
-  pub here : (memory_at last unit ≡ memory_at first unit) ⊎ (memory_at last unit ≡ written location byte (memory_at first unit))
-  pub answered : (told : ℕ) → answer ≡ Some told → memory_at last unit ≡ written location byte (memory_at first unit)
+  pub here : (memory_at last unit ≡ memory_at first unit) ⊎ Written location byte (memory_at first unit) (memory_at last unit)
+  pub answered : (told : ℕ) → answer ≡ Some told → Written location byte (memory_at first unit) (memory_at last unit)

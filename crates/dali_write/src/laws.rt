@@ -19,7 +19,7 @@ ghost use Rattle.dali_write.specs.Counts.{done_frames, frame_limit};
 ghost use Rattle.dali_gear.specs.SimState.{SimState, AreApart, world_of};
 ghost use Rattle.dali_gear.specs.UnitState.{UnitState, gear_of};
 ghost use Rattle.dali_write.specs.declared.step.Step.{Step};
-ghost use Rattle.dali_write.specs.declared.step.Step.TheVariants.{WriteTo};
+ghost use Rattle.dali_write.specs.declared.step.Step.TheVariants.{ReadFrom, WriteTo};
 ghost use Rattle.dali_write.specs.Lines.{step_lines};
 ghost use Rattle.dali_write.specs.Tries.{most_tries, Missed, Misses, Succeeds, Fails};
 ghost use Rattle.dali_write.specs.Walks.{Took, TookAll, Failed};
@@ -81,7 +81,8 @@ pub fn readers_are_quiet()
 {}
 
 /// Where no other unit is enabled, a session changes only the places that it writes, at its unit,
-/// and each of them holds its old byte or a written one. No other unit changes or is enabled.
+/// and each of them holds its old byte or a written one. No other unit's memory changes, and none
+/// is newly enabled.
 pub fn sessions_touch_their_places_alone()
     ensures opened { (told : List Exchange) (first last : World) (unit : ℕ) (updates : List (ℕ × ℕ)) (ask : Ask)
         → OnlyEnabled unit first → Run told first last → Wants unit (unlock updates) told ask → Touches (writes_of updates) unit first last }
@@ -92,13 +93,19 @@ pub fn sessions_touch_their_places_alone()
         → OnlyEnabled unit last }
 {}
 
-/// On the simulated bus, a try misses only by a loss to its unit.
+/// What the simulated bus does with exchanges is what its units may do.
+pub fn simulated_runs_are_runs()
+    ensures { (told : List Exchange) (first last : SimState) → SimRun told first last → Run told (world_of first.units) (world_of last.units) }
+{}
+
+/// On the simulated bus, where no fate refuses, no other unit is write-enabled, and the unit has
+/// the location to read or can write it, a try misses only by a loss to the unit.
 pub fn tries_miss_by_losses()
     ensures { (at : ℕ) (step : Step) (unit : UnitState) (told : List Exchange) (first last : SimState) (run : SimRun told first last)
         → IsAlone at unit first.units → CanDo step unit → Unrefused told first last run → Missed (step_lines at step) told → 1 ≤ losses at told first last run }
 {}
 
-/// On the simulated bus a step misses no more often than its unit has losses, and with fewer of
+/// With the same premises, a step misses no more often than its unit has losses, and with fewer of
 /// them than a step has tries it succeeds.
 pub fn steps_outlive_losses()
     ensures misses { (at : ℕ) (step : Step) (unit : UnitState) (misses : ℕ) (told : List Exchange) (first last : SimState) (run : SimRun told first last)
@@ -158,6 +165,17 @@ pub fn successful_writes_are_stored()
     ensures { (at location byte : ℕ) (unit : UnitState) (outcome : Option ℕ) (told : List Exchange) (first last : SimState) → SimRun told first last
         → IsAlone at unit first.units → Succeeds (step_lines at (WriteTo location byte)) outcome told
         → (now : UnitState) × IsAlone at now last.units × OnlyDiffers unit.bank1 location now.bank1 × (slice_get now.bank1.bytes location ≡ Some byte) }
+{}
+
+/// On the simulated bus a step leaves its unit alone at its address, whatever is lost or refused. A
+/// checked read leaves bank 1 as it was, and so does a checked write but for its location.
+pub fn steps_keep_the_bank()
+    ensures read { (at location : ℕ) (unit : UnitState) (outcome : Option ℕ) (told : List Exchange) (first last : SimState) → SimRun told first last
+        → IsAlone at unit first.units → Succeeds (step_lines at (ReadFrom location)) outcome told ⊎ Fails (step_lines at (ReadFrom location)) outcome told
+        → (now : UnitState) × IsAlone at now last.units × (now.bank1 ≡ unit.bank1) }
+    ensures write { (at location byte : ℕ) (unit : UnitState) (outcome : Option ℕ) (told : List Exchange) (first last : SimState) → SimRun told first last
+        → IsAlone at unit first.units → Succeeds (step_lines at (WriteTo location byte)) outcome told ⊎ Fails (step_lines at (WriteTo location byte)) outcome told
+        → (now : UnitState) × IsAlone at now last.units × OnlyDiffers unit.bank1 location now.bank1 }
 {}
 
 /// Where the units are at different addresses and no other is enabled, the unit at an address is

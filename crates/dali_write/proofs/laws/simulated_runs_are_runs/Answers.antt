@@ -1,0 +1,5 @@
+use Rattle.dali_write.proofs.RunLemmas.{sim_run}
+use Rattle.dali_write.proofs.laws.simulated_runs_are_runs.Goals as goal
+
+pub returns : goal.returns
+returns c = sim_run

@@ -1,5 +1,6 @@
 ghost use Rattle.std.specs.Prelude.{◌≡◌, Some};
 
+use std::alloc::AllocError;
 use std::error::Error;
 use std::fmt;
 
@@ -56,3 +57,9 @@ impl fmt::Display for NoMemory {
 }
 
 impl Error for NoMemory {}
+
+impl From<AllocError> for NoMemory {
+    fn from(_: AllocError) -> NoMemory {
+        NoMemory
+    }
+}

@@ -121,7 +121,7 @@ impl Journal {
     pub fn has_room(&self, order: &Order) -> bool
         ensures { IsTrue result ↔ HasRoom self.now order.now }
     {
-        let _each_order_has_as_many = order;
+        // each order has at most as many records
         self.records.capacity() - self.records.len()
             >= self.standing.records_due() + MOST_RECORDS_OF_AN_ORDER
     }
@@ -137,12 +137,9 @@ impl Journal {
         ensures kept_room { (other : Contents) → HasRoom self.old other → HasRoom self.new other }
         ensures succeeds { HasRoom self.old order.now → IsOk result }
     {
-        let _each_order_has_as_many = order;
         let count = self.standing.records_due() + MOST_RECORDS_OF_AN_ORDER;
-        match self.records.reserve(count) {
-            Ok(()) => Ok(()),
-            Err(_) => Err(NoMemory),
-        }
+        self.records.reserve(count)?;
+        Ok(())
     }
 
     /// Adds a record at the end, without taking memory.
@@ -170,10 +167,7 @@ impl Journal {
     pub fn to_bytes(&self, alloc: Global) -> Result<Vec<u8>, NoMemory>
         ensures { IfOk result (λ bytes. bytes.items ≡ journal_spelling self.now.records) }
     {
-        match bytes_of(alloc, &self.records) {
-            Ok(bytes) => Ok(bytes),
-            Err(_) => Err(NoMemory),
-        }
+        Ok(bytes_of(alloc, &self.records)?)
     }
 }
 

@@ -17,7 +17,7 @@ pub enum Code {
     Short,
     /// 2: the content format isn't 0003h. Nothing was written.
     Format,
-    /// 3: the unit didn't answer. Nothing was written.
+    /// 3: a checked read failed in each of its eight tries. Nothing was written.
     Silent,
     /// 4: each location holds its old byte or the new one, and the unit was closed.
     Doubt,

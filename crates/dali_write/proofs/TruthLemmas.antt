@@ -5,7 +5,7 @@ use Rattle.std.proofs.Math.Dec.{eqb}
 use Rattle.std.proofs.lemmas.Bool.{eqb-true, eqb-false}
 use Rattle.dali_frame.specs.declared.forward.Frame.{Frame}
 use Rattle.dali_frame.specs.declared.forward.Frame.TheVariants.{Dtr0, Dtr1, AskDtr0, AskDtr1, Read, Write}
-use Rattle.dali_gear.specs.World.{World, Gear, Memory, stored}
+use Rattle.dali_gear.specs.World.{World, Gear, Memory}
 use Rattle.dali_gear.specs.Hears.{Hears, MayEnd, Ignores, PassesBy, Stores, ReadsByte as AnswersByte, ReadsNothing, selected as selected_byte}
 use Rattle.dali_gear.specs.Carry.{Carry, MayHear, Heard}
 use Rattle.dali_write.specs.Exchanges.{Exchange}

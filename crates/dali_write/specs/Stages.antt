@@ -1,9 +1,9 @@
 -- What is left to do at a stage of a session.
-use Rattle.std.specs.Prelude.{ℕ, suc, ◌-◌, List, [], drop, Option, Some, None}
+use Rattle.std.specs.Prelude.{ℕ, suc, ◌-◌, List, [], drop, Option, Some, None, Result, Ok, Err}
 use Rattle.dali_bank.specs.Order.{Contents}
 use Rattle.dali_write.specs.declared.step.Step.{Step}
 use Rattle.dali_write.specs.declared.ask.Verdict.{Verdict}
-use Rattle.dali_write.specs.declared.ask.Verdict.TheVariants.{Done, Silent, Closed, NotClosed, Read}
+use Rattle.dali_write.specs.declared.ask.Verdict.TheVariants.{Closed, NotClosed}
 use Rattle.dali_write.specs.declared.stage.Job.{Job}
 use Rattle.dali_write.specs.declared.stage.Job.TheVariants.{Fresh, Opened, Closing, Reading}
 use Rattle.dali_write.specs.declared.stage.Stage.{Stage}
@@ -45,22 +45,7 @@ plan_at job ReadAll = read_all
 plan_at job (ReadOn location last) = read_on location (suc last - location)
 plan_at job (Over verdict) = Finish verdict
 
--- the step at hand
-abbrev pub step_of : Plan → Option Step
-step_of (Finish verdict) = None
-step_of (Check step after) = Some step
-
--- the verdict where no step is at hand
-abbrev pub verdict_of : Stage → Verdict
-verdict_of ReadLength = Silent
-verdict_of ReadFormat = Silent
-verdict_of (ReadFormatLow high) = Silent
-verdict_of Unlock = Silent
-verdict_of (WriteOn index) = Silent
-verdict_of ReadLock = Silent
-verdict_of (ReadBack index) = Done
-verdict_of (Close answered unanswered) = Silent
-verdict_of (ReadClosed answered unanswered) = Silent
-verdict_of ReadAll = Silent
-verdict_of (ReadOn location last) = Read
-verdict_of (Over verdict) = verdict
+-- the step at hand, or how the session ended
+abbrev pub step_of : Plan → Result Step Verdict
+step_of (Finish verdict) = Err verdict
+step_of (Check step after) = Ok step

@@ -1,4 +1,4 @@
-ghost use Rattle.std.specs.Prelude.{◌≡◌, ◌∷◌, ◌≤◌, ◌<◌, ◌+◌, ◌*◌, [], List, ℕ, Option, IsSome, IsNone, IfSome, length};
+ghost use Rattle.std.specs.Prelude.{◌≡◌, ◌∷◌, ◌≤◌, ◌<◌, ◌+◌, ◌*◌, [], List, ℕ, Option, IsSome, IsNone, IfSome, IfOk, length};
 ghost use Rattle.dali_frame.specs.declared.forward.Frame.{Frame};
 ghost use Rattle.dali_frame.specs.Frame.{IsProper};
 ghost use Rattle.dali_write.specs.Exchanges.{Exchange};
@@ -121,11 +121,12 @@ impl Session {
         ensures proper { (frame : Frame) → result ≡ Ask.Send frame → IsProper frame }
     {
         match self.stage.step(&self.job) {
-            Some(step) => match step.line(self.unit, self.number) {
+            Ok(step) => match step.line(self.unit, self.number) {
                 Some(line) => Ask::Send(line.frame),
+                // A step at hand has a next frame.
                 None => Ask::Ended(Verdict::Silent),
             },
-            None => Ask::Ended(self.stage.verdict()),
+            Err(verdict) => Ask::Ended(verdict),
         }
     }
 
@@ -172,8 +173,8 @@ impl Session {
         ensures { result ≡ line_of self.now }
     {
         match self.stage.step(&self.job) {
-            Some(step) => step.line(self.unit, self.number),
-            None => None,
+            Ok(step) => step.line(self.unit, self.number),
+            Err(_) => None,
         }
     }
 
@@ -216,7 +217,7 @@ impl Session {
         ensures job { self.new.job ≡ self.old.job }
         ensures plan { plan_at self.new.job self.new.stage ≡ goes_on (plan_at self.old.job self.old.stage) outcome }
         ensures begins { BeginsTry self.new }
-        ensures limit { IfSome (step_of (plan_at self.old.job self.old.stage)) (λ step.
+        ensures limit { IfOk (step_of (plan_at self.old.job self.old.stage)) (λ step.
             limit_at self.new.job self.new.stage + most_tries * length (step_lines self.old.unit step) ≤ limit_at self.old.job self.old.stage) }
         ensures bytes { length self.old.bytes.items < 255 → self.new.bytes.items ≡ kept_after self.old.job self.old.bytes.items outcome }
     {

@@ -1,10 +1,10 @@
-ghost use Rattle.std.specs.Prelude.{◌≡◌, ◌≤◌, ◌+◌, ◌*◌, ℕ, IfSome, ◌==◌, if◌then◌else◌, max, length};
+ghost use Rattle.std.specs.Prelude.{◌≡◌, ◌≤◌, ◌+◌, ◌*◌, ℕ, IfOk, ◌==◌, if◌then◌else◌, max, length};
 ghost use Rattle.dali_write.specs.Lines.{step_lines};
 ghost use Rattle.dali_write.specs.Plans.{greatest, goes_on, judge_length as judged, either_way, give_up};
 ghost use Rattle.dali_write.specs.Tries.{most_tries};
 ghost use Rattle.dali_write.specs.declared.stage.Job.{Job};
 ghost use Rattle.dali_write.specs.declared.stage.Stage.TheVariants.{ReadOn};
-ghost use Rattle.dali_write.specs.Stages.{plan_at, step_of, updates_of, verdict_of};
+ghost use Rattle.dali_write.specs.Stages.{plan_at, step_of, updates_of};
 ghost use Rattle.dali_write.specs.FramesLeft.{limit_at, read_limit, close_limit};
 
 use crate::ask::Verdict;
@@ -55,52 +55,40 @@ pub(crate) enum Stage {
 }
 
 impl Stage {
-    // The step at hand, if the session hasn't ended.
-    pub(crate) fn step(self, job: &Job) -> Option<Step>
+    // The step at hand, or how the session ended.
+    pub(crate) fn step(self, job: &Job) -> Result<Step, Verdict>
         ensures { result ≡ step_of (plan_at job.now self) }
     {
         match self {
-            Stage::ReadLength | Stage::ReadAll => Some(Step::ReadFrom(0x00)),
-            Stage::ReadFormat => Some(Step::ReadFrom(0x11)),
-            Stage::ReadFormatLow(_) => Some(Step::ReadFrom(0x12)),
-            Stage::Unlock => Some(Step::WriteTo(0x02, 0x55)),
+            Stage::ReadLength | Stage::ReadAll => Ok(Step::ReadFrom(0x00)),
+            Stage::ReadFormat => Ok(Step::ReadFrom(0x11)),
+            Stage::ReadFormatLow(_) => Ok(Step::ReadFrom(0x12)),
+            Stage::Unlock => Ok(Step::WriteTo(0x02, 0x55)),
             Stage::WriteOn(index) => match job.updates().get(index).copied() {
-                Some((location, byte)) => Some(Step::WriteTo(location, byte)),
-                None => Some(Step::WriteTo(0x02, 0xFF)),
+                Some((location, byte)) => Ok(Step::WriteTo(location, byte)),
+                None => Ok(Step::WriteTo(0x02, 0xFF)),
             },
-            Stage::ReadLock | Stage::ReadClosed(_, _) => Some(Step::ReadFrom(0x02)),
+            Stage::ReadLock | Stage::ReadClosed(_, _) => Ok(Step::ReadFrom(0x02)),
             Stage::ReadBack(index) => match job.updates().get(index).copied() {
-                Some((location, _)) => Some(Step::ReadFrom(location)),
-                None => None,
+                Some((location, _)) => Ok(Step::ReadFrom(location)),
+                None => Err(Verdict::Done),
             },
-            Stage::Close(_, _) => Some(Step::WriteTo(0x02, 0xFF)),
+            Stage::Close(_, _) => Ok(Step::WriteTo(0x02, 0xFF)),
             Stage::ReadOn(location, last) => {
                 if location <= last {
-                    Some(Step::ReadFrom(location))
+                    Ok(Step::ReadFrom(location))
                 } else {
-                    None
+                    Err(Verdict::Read)
                 }
             }
-            Stage::Over(_) => None,
-        }
-    }
-
-    // How the session ended, where no step is at hand.
-    pub(crate) fn verdict(self) -> Verdict
-        ensures { result ≡ verdict_of self }
-    {
-        match self {
-            Stage::Over(verdict) => verdict,
-            Stage::ReadBack(_) => Verdict::Done,
-            Stage::ReadOn(_, _) => Verdict::Read,
-            _ => Verdict::Silent,
+            Stage::Over(verdict) => Err(verdict),
         }
     }
 
     // The stage after this one, whose step had this outcome: its byte, or none where it failed.
     pub(crate) fn next(self, job: &Job, outcome: Option<u8>) -> Stage
         ensures plan { plan_at job.now result ≡ goes_on (plan_at job.now self) outcome }
-        ensures limit { (unit : ℕ) → IfSome (step_of (plan_at job.now self)) (λ step.
+        ensures limit { (unit : ℕ) → IfOk (step_of (plan_at job.now self)) (λ step.
             limit_at job.now result + most_tries * length (step_lines unit step) ≤ limit_at job.now self) }
     {
         match self {

@@ -6,12 +6,12 @@ use Rattle.std.proofs.lemmas.Bool.{eqb-true, eqb-false}
 use Rattle.dali_frame.specs.declared.forward.Frame.{Frame}
 use Rattle.dali_frame.specs.declared.forward.Frame.TheVariants.{Dtr0, Dtr1, AskDtr0, AskDtr1, Read, Write}
 use Rattle.dali_gear.specs.World.{World, Gear, Memory}
-use Rattle.dali_gear.specs.Hears.{Hears, MayEnd, Ignores, PassesBy, Stores, ReadsByte as AnswersByte, ReadsNothing, selected as selected_byte}
+use Rattle.dali_gear.specs.Hears.{Hears, MayEnd, Ignores, PassesBy, Stores, ReadsByte, ReadsNothing, selected as selected_byte}
 use Rattle.dali_gear.specs.Carry.{Carry, MayHear, Heard}
 use Rattle.dali_write.specs.Exchanges.{Exchange}
 use Rattle.dali_write.specs.Lines.{select_lines, byte_after}
 use Rattle.dali_write.specs.Tries.{Trying, byte_of}
-use Rattle.dali_write.specs.Worlds.{Run, ReadsByte, Shows, KeepsAt, Selects, OnlyEnabled, MayWrite, IsOff, memory_of, memory_at, Written}
+use Rattle.dali_write.specs.Worlds.{Run, IsCheckedRead, Shows, KeepsAt, Selects, OnlyEnabled, MayWrite, IsOff, memory_of, memory_at, Written}
 use Rattle.dali_write.proofs.GearLemmas.{After, asked1, placed, asked0, stays, carry_keeps, IsQuiet, passing_keeps, end_steady}
 use Rattle.dali_write.proofs.ShapeLemmas.{selected, was_read}
 
@@ -41,7 +41,7 @@ selects_run unit location tried first last run try =
 answers_read : (at : ℕ) (old : Gear) (to v : ℕ) (new : Gear) → Hears at old (Read to) (Some v) new
     → (to ≡ at) × (selected_byte old ≡ Some v) × (new.enabled ≡ false) × (new.memory ≡ old.memory)
 answers_read at old to v new h = told h.obeys where
-  told : ((to ≡ at) × (AnswersByte old (Some v) h.obeyed ⊎ ReadsNothing old (Some v) h.obeyed)) ⊎ ((to ≢ at) × Ignores old (Some v) h.obeyed)
+  told : ((to ≡ at) × (ReadsByte old (Some v) h.obeyed ⊎ ReadsNothing old (Some v) h.obeyed)) ⊎ ((to ≢ at) × Ignores old (Some v) h.obeyed)
       → (to ≡ at) × (selected_byte old ≡ Some v) × (new.enabled ≡ false) × (new.memory ≡ old.memory)
   told (inl (is, inl read)) =
       let e = end_steady h.obeyed new h.ends in
@@ -71,7 +71,7 @@ last_answer tried x rest unit byte is frame answer =
     subst (λ (f : Frame). byte_after f x.answer (byte_of rest) ≡ Some byte) frame (subst (λ (t : List Exchange). byte_of t ≡ Some byte) is answer)
 
 -- the answer to the last frame of a checked read
-pub read_true : (tried : List Exchange) (first last : World) (unit location byte : ℕ) → Run tried first last → ReadsByte unit location byte tried
+pub read_true : (tried : List Exchange) (first last : World) (unit location byte : ℕ) → Run tried first last → IsCheckedRead unit location byte tried
     → Shows last unit location byte
 read_true tried first last unit location byte run reads =
     let s = was_read unit location tried reads.0 in
@@ -103,7 +103,7 @@ run_keeps (x ∷ told) first last address quiet run =
 quiet_frame : (address : ℕ) (x : Exchange) (frame : Frame) → x.frame ≡ frame → IsQuiet address frame → IsQuiet address x.frame
 quiet_frame address x frame same quiet = subst (λ (f : Frame). IsQuiet address f) (sym same) quiet
 
-pub read_quiet : (tried : List Exchange) (first last : World) (unit location byte : ℕ) → Run tried first last → ReadsByte unit location byte tried
+pub read_quiet : (tried : List Exchange) (first last : World) (unit location byte : ℕ) → Run tried first last → IsCheckedRead unit location byte tried
     → (address : ℕ) → KeepsAt first last address
 read_quiet tried first last unit location byte run reads address =
     let s = was_read unit location tried reads.0 in

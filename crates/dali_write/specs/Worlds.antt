@@ -29,8 +29,8 @@ pub record KeepsAt (first last : World) (address : ℕ) : Type 0 where
   pub off : IsOff (first address) → IsOff (last address)
 
 -- a checked read, answered by the byte
-abbrev pub ReadsByte : ℕ → ℕ → ℕ → List Exchange → Type 0
-ReadsByte unit location byte tried = Trying (read_lines unit location) tried [] × (byte_of tried ≡ Some byte)
+abbrev pub IsCheckedRead : ℕ → ℕ → ℕ → List Exchange → Type 0
+IsCheckedRead unit location byte tried = Trying (read_lines unit location) tried [] × (byte_of tried ≡ Some byte)
 
 -- the unit has the byte at the location of bank 1, and isn't enabled
 pub record Shows (world : World) (unit location byte : ℕ) : Type 0 where

@@ -26,7 +26,7 @@ ghost use Rattle.dali_write.specs.Walks.{Took, TookAll, Failed};
 ghost use Rattle.dali_write.specs.Doubts.{read_backs, FoundAnother};
 ghost use Rattle.dali_write.specs.Losses.{SimRun, losses, Unrefused, IsAlone, CanDo, OnlyDiffers};
 ghost use Rattle.dali_write.specs.Touches.{Touches, writes_of};
-ghost use Rattle.dali_write.specs.Worlds.{Run, ReadsByte, Shows, KeepsAt, Selects, OnlyEnabled, MayWrite};
+ghost use Rattle.dali_write.specs.Worlds.{Run, IsCheckedRead, Shows, KeepsAt, Selects, OnlyEnabled, MayWrite};
 
 /// Exchanges lead from one world to another exactly where a chain of worlds does.
 pub fn runs_are_chains()
@@ -46,9 +46,9 @@ pub fn sessions_send_few_frames()
 /// A checked read tells the byte at its place, and then the unit isn't enabled; no memory changes,
 /// and no unit is newly enabled.
 pub fn checked_reads_are_true()
-    ensures byte { (tried : List Exchange) (first last : World) (unit location byte : ℕ) → Run tried first last → ReadsByte unit location byte tried
+    ensures byte { (tried : List Exchange) (first last : World) (unit location byte : ℕ) → Run tried first last → IsCheckedRead unit location byte tried
         → Shows last unit location byte }
-    ensures quiet { (tried : List Exchange) (first last : World) (unit location byte : ℕ) → Run tried first last → ReadsByte unit location byte tried
+    ensures quiet { (tried : List Exchange) (first last : World) (unit location byte : ℕ) → Run tried first last → IsCheckedRead unit location byte tried
         → (address : ℕ) → KeepsAt first last address }
 {}
 

@@ -324,6 +324,80 @@ fn texts_are_shown_up_to_their_zeros(rt: HostRuntime) {
 }
 
 #[test]
+fn orders_of_pairs(rt: HostRuntime) {
+    for (number, unit, pairs, is_order) in [
+        (0, 0, [(0x13, 24)].as_slice(), true),
+        (u64::MAX, 63, &[(0x13, 24)], true),
+        (1, 64, &[(0x13, 24)], false),
+        (1, 255, &[(0x13, 24)], false),
+        (1, 5, &[], false),
+        (1, 5, &[(0x00, 24)], false),
+        (1, 5, &[(0x02, 24)], false),
+        (1, 5, &[(0x03, 24)], true),
+        (1, 5, &[(0x10, 24)], true),
+        (1, 5, &[(0x11, 24)], false),
+        (1, 5, &[(0x12, 24)], false),
+        (1, 5, &[(0x13, 24)], true),
+        (1, 5, &[(0x77, 24)], true),
+        (1, 5, &[(0x78, 24)], false),
+        (1, 5, &[(0xFF, 24)], false),
+        (1, 5, &[(0x03, 0x00), (0x04, 0xFF)], true),
+        (1, 5, &[(0x10, 1), (0x13, 2)], true),
+        (1, 5, &[(0x10, 1), (0x11, 2)], false),
+        (1, 5, &[(0x12, 1), (0x13, 2)], false),
+        (1, 5, &[(0x77, 1), (0x78, 2)], false),
+        (1, 5, &[(0x13, 1), (0x13, 1)], false),
+        (1, 5, &[(0x13, 1), (0x13, 2)], false),
+        (1, 5, &[(0x14, 1), (0x13, 2)], false),
+        (1, 5, &[(0x13, 1), (0x15, 2), (0x14, 3)], false),
+    ] {
+        let made = Order::from_pairs(number, unit, pairs);
+        assert_eq!(rt; made.is_some(), is_order, "{unit} {pairs:?}");
+        if let Some(order) = made {
+            assert_eq!(rt; (order.id(), order.unit()), (number, unit));
+            assert_eq!(rt; order.updates(), pairs);
+        }
+    }
+}
+
+#[test]
+fn an_order_of_all_places(rt: HostRuntime) -> Result<(), Fail> {
+    let mut pairs = Vec::new(rt.alloc());
+    for location in 0x03..=0x77u8 {
+        if location != 0x11 && location != 0x12 {
+            pairs.push((location, 0xFF))?;
+        }
+    }
+    assert_eq!(rt; pairs.len(), 115);
+    let order = Order::from_pairs(1, 5, &pairs).ok_or("an order")?;
+    assert_eq!(rt; order.updates(), pairs.as_slice());
+    pairs.push((0x78, 0xFF))?;
+    assert!(rt; Order::from_pairs(1, 5, &pairs).is_none());
+    Ok(())
+}
+
+#[test]
+fn orders_that_are_the_same(rt: HostRuntime) -> Result<(), Fail> {
+    let order = Order::from_pairs(7, 5, &[(0x13, 24), (0x14, 53)]).ok_or("an order")?;
+    assert!(rt; order.same(&order.copy()));
+    for (number, unit, pairs, is_same) in [
+        (7, 5, [(0x13, 24), (0x14, 53)].as_slice(), true),
+        (8, 5, &[(0x13, 24), (0x14, 53)], false),
+        (7, 6, &[(0x13, 24), (0x14, 53)], false),
+        (7, 5, &[(0x13, 25), (0x14, 53)], false),
+        (7, 5, &[(0x13, 24), (0x14, 52)], false),
+        (7, 5, &[(0x13, 24), (0x15, 53)], false),
+        (7, 5, &[(0x13, 24)], false),
+        (7, 5, &[(0x13, 24), (0x14, 53), (0x15, 0)], false),
+    ] {
+        let other = Order::from_pairs(number, unit, pairs).ok_or("another order")?;
+        assert_eq!(rt; order.same(&other), is_same, "{number} {unit} {pairs:?}");
+        assert_eq!(rt; other.same(&order), is_same, "{number} {unit} {pairs:?}");
+    }
+    Ok(())
+}
+
+#[test]
 fn a_blank_bank(rt: HostRuntime) {
     for (location, &byte) in BLANK.iter().enumerate() {
         let expected = match location {

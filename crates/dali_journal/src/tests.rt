@@ -32,6 +32,9 @@ fn a_left_unit_is_closed(rt: HostRuntime) -> Result<(), Fail> {
     assert!(rt; matches!(journal.kept(1), Kept::Unfinished(begun) if begun.same(&order)));
     journal.append(Record::Ended(Code::DoubtOpen));
     assert!(rt; matches!(journal.standing(), Standing::Left(5)));
+    assert!(rt;
+        matches!(journal.kept(1), Kept::Ended(ended, Code::DoubtOpen) if ended.same(&order))
+    );
     journal.append(Record::Closed(5));
     assert!(rt; matches!(journal.standing(), Standing::Idle));
     assert!(rt;

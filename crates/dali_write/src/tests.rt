@@ -1,4 +1,4 @@
-use crate::{Ask, Session, Verdict};
+use crate::{Ask, Session, Verdict, laws};
 use dali_bank::{BLANK, Order};
 use dali_frame::{Frame, word_of};
 use dali_gear::{Bus, Fate, SimBus, Unit};
@@ -128,6 +128,12 @@ fn a_fixed_location_is_in_doubt(rt: HostRuntime) -> Result<(), Fail> {
     )?;
     let mut opened = Session::opened(order(5, &GTIN)?);
     assert_eq!(rt; finish(&mut bus, &mut opened), (89, Some(Verdict::Doubt)));
+    for unit in bus.units() {
+        assert!(rt;
+            unit.bank1()
+                .starts_with(&[0x77, 0xFF, 0xFF, 0x03, 0xA4, 0xFF, 0xFF, 0xFF, 0xFF])
+        );
+    }
     Ok(())
 }
 
@@ -240,22 +246,62 @@ fn a_lost_dtr1_is_seen(rt: HostRuntime) -> Result<(), Fail> {
 }
 
 #[test]
-fn seven_losses_in_a_step_and_one_later(rt: HostRuntime) -> Result<(), Fail> {
+fn losses_in_each_try_of_the_unlock_step(rt: HostRuntime) -> Result<(), Fail> {
     let alloc = rt.alloc();
-    let lost = Fate {
-        answer_lost: true,
-        ..Fate::default()
-    };
-    let mut fates = then(alloc, 43, lost)?;
-    for number in [9, 13, 17, 21, 25, 29, 33usize] {
-        if let Some(fate) = fates.get_mut(number - 1) {
-            *fate = lost;
+    let stored = [0x77, 0xFF, 0xFF, 0x03, 0xA4, 0xCE, 0xEF, 0xAD, 0xAB, 0xFF];
+    let unchanged = [0x77, 0xFF, 0xFF, 0xFF, 0xFF, 0xFF, 0xFF, 0xFF, 0xFF, 0xFF];
+    // The frames whose answers are lost, numbered from 1 over both sessions.
+    for (losses, frames, verdict, bank) in [
+        (
+            [9usize, 13, 17, 21, 25, 29, 33].as_slice(),
+            119,
+            Verdict::Done,
+            stored,
+        ),
+        (&[9, 13, 17, 21, 25, 29, 33, 44], 123, Verdict::Done, stored),
+        (
+            &[9, 13, 17, 21, 25, 29, 33, 37],
+            44,
+            Verdict::Doubt,
+            unchanged,
+        ),
+    ] {
+        let mut fates = vec![in alloc; Fate::default(); 44]?;
+        for &number in losses {
+            if let Some(fate) = fates.get_mut(number.saturating_sub(1)) {
+                fate.answer_lost = true;
+            }
+        }
+        let mut bus = bus_of(alloc, Unit::blank(alloc, 5)?, fates)?;
+        let mut fresh = Session::fresh(order(5, &GTIN)?);
+        assert_eq!(rt; finish(&mut bus, &mut fresh), (5, Some(Verdict::MayOpen)));
+        let mut opened = Session::opened(order(5, &GTIN)?);
+        assert_eq!(rt; finish(&mut bus, &mut opened), (frames, Some(verdict)));
+        for unit in bus.units() {
+            assert!(rt; unit.bank1().starts_with(&bank), "{frames} frames");
         }
     }
-    let mut bus = bus_of(alloc, Unit::blank(alloc, 5)?, fates)?;
-    let mut fresh = Session::fresh(order(5, &GTIN)?);
-    assert_eq!(rt; finish(&mut bus, &mut fresh), (5, Some(Verdict::MayOpen)));
-    let mut opened = Session::opened(order(5, &GTIN)?);
-    assert_eq!(rt; finish(&mut bus, &mut opened), (123, Some(Verdict::Done)));
     Ok(())
+}
+
+#[test]
+fn laws_hold(_rt: HostRuntime) {
+    laws::runs_are_chains();
+    laws::sessions_follow_their_plans();
+    laws::sessions_send_few_frames();
+    laws::checked_reads_are_true();
+    laws::guarded_writes_are_safe();
+    laws::verdicts_are_true();
+    laws::readers_are_quiet();
+    laws::sessions_touch_their_places_alone();
+    laws::tries_miss_by_losses();
+    laws::steps_outlive_losses();
+    laws::done_sessions_take_exactly();
+    laws::sessions_take_exactly();
+    laws::sessions_give_up_late();
+    laws::doubts_have_a_cause();
+    laws::successful_writes_are_stored();
+    laws::apart_units_are_alone();
+    laws::wants_are_determined();
+    laws::each_frame_was_wanted();
 }

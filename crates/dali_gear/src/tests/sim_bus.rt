@@ -14,40 +14,53 @@ fn two_units(alloc: Global, first: u8, second: u8) -> Result<Vec<Unit>, Fail> {
 #[test]
 fn fates_lose_frames_and_answers(rt: HostRuntime) -> Result<(), Fail> {
     let alloc = rt.alloc();
+    let whole = Fate::default();
+    let lost = Fate {
+        lost: 1 << 5,
+        ..Fate::default()
+    };
+    let answer_lost = Fate {
+        answer_lost: true,
+        ..Fate::default()
+    };
+    let refused = Fate {
+        refuse: true,
+        ..Fate::default()
+    };
     let fates = [
-        Fate {
-            lost: 1 << 5,
-            ..Fate::default()
-        },
-        Fate {
-            answer_lost: true,
-            ..Fate::default()
-        },
-        Fate {
-            refuse: true,
-            ..Fate::default()
-        },
+        lost,
+        answer_lost,
+        refused,
+        whole,
+        whole,
+        whole,
+        whole,
+        whole,
+        refused,
     ];
     let mut bus = SimBus::new(two_units(alloc, 5, 6)?, fates.to_vec(alloc)?)?;
-    for (frame, answer, fates_left) in [
-        (Frame::Dtr0(0x07), None, 2),
-        (Frame::AskDtr0(6), None, 1),
-        (Frame::AskDtr0(6), Some(0x07), 0),
-        (Frame::AskDtr0(5), Some(0x00), 0),
-        (Frame::Enable(5), None, 0),
-        (Frame::Enable(5), None, 0),
-        (Frame::Enable(6), None, 0),
-        (Frame::Enable(6), None, 0),
-        (Frame::Dtr1(0x01), None, 0),
-        (Frame::Dtr0(0x02), None, 0),
-        (Frame::Write(0x55), None, 0),
+    // What each unit holds at 02h after a frame stands last.
+    for (frame, answer, fates_left, held) in [
+        (Frame::Dtr0(0x07), None, 8, 0xFF),
+        (Frame::AskDtr0(6), None, 7, 0xFF),
+        (Frame::AskDtr0(6), Some(0x07), 6, 0xFF),
+        (Frame::AskDtr0(5), Some(0x00), 5, 0xFF),
+        (Frame::Enable(5), None, 4, 0xFF),
+        (Frame::Enable(5), None, 3, 0xFF),
+        (Frame::Dtr1(0x01), None, 2, 0xFF),
+        (Frame::Dtr0(0x02), None, 1, 0xFF),
+        (Frame::Write(0x55), None, 0, 0xFF),
+        (Frame::Enable(6), None, 0, 0xFF),
+        (Frame::Enable(6), None, 0, 0xFF),
+        (Frame::Dtr0(0x02), None, 0, 0xFF),
+        (Frame::Write(0x55), None, 0, 0x55),
     ] {
         assert!(rt; frame.is_proper());
         assert_eq!(rt; bus.carry(&frame), answer, "{frame:?}");
         assert_eq!(rt; bus.fates_left(), fates_left, "{frame:?}");
-    }
-    for unit in bus.units() {
-        assert_eq!(rt; unit.bank1().get(2), Some(&0x55));
+        for unit in bus.units() {
+            assert_eq!(rt; unit.bank1().get(2), Some(&held), "{frame:?}");
+        }
     }
     Ok(())
 }
@@ -61,17 +74,22 @@ fn a_refused_write_is_not_stored(rt: HostRuntime) -> Result<(), Fail> {
         ..Fate::default()
     })?;
     let mut bus = SimBus::new(two_units(alloc, 5, 6)?, fates)?;
-    for (frame, answer) in [
-        (Frame::Enable(5), None),
-        (Frame::Enable(5), None),
-        (Frame::Dtr1(0x01), None),
-        (Frame::Dtr0(0x02), None),
-        (Frame::Write(0x55), None),
-        (Frame::Dtr0(0x02), None),
-        (Frame::Write(0x55), Some(0x55)),
+    // What unit 5 holds at 02h after a frame stands last.
+    for (frame, answer, held) in [
+        (Frame::Enable(5), None, 0xFF),
+        (Frame::Enable(5), None, 0xFF),
+        (Frame::Dtr1(0x01), None, 0xFF),
+        (Frame::Dtr0(0x02), None, 0xFF),
+        (Frame::Write(0x55), None, 0xFF),
+        (Frame::Dtr0(0x02), None, 0xFF),
+        (Frame::Write(0x55), Some(0x55), 0x55),
     ] {
         assert!(rt; frame.is_proper());
         assert_eq!(rt; bus.carry(&frame), answer, "{frame:?}");
+        for unit in bus.units() {
+            let byte = if unit.address() == 5 { held } else { 0xFF };
+            assert_eq!(rt; unit.bank1().get(2), Some(&byte), "{frame:?}");
+        }
     }
     Ok(())
 }

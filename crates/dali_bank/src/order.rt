@@ -8,7 +8,7 @@ use std::marker::Model;
 /// The most updates of an order: the bytes of all fields.
 pub const MOST_UPDATES: usize = 115;
 
-/// An update of one location of memory bank 1.
+/// The updates of an order, each a location of memory bank 1 and its byte.
 pub(crate) type Updates = ArrayVec<(u8, u8), MOST_UPDATES>;
 
 /// A numbered list of updates for the memory bank 1 of one unit.

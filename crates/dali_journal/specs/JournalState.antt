@@ -29,7 +29,7 @@ HasRoom journal order = records_due (standing_of journal.records) + 4 ≤ journa
 abbrev pub order_count : JournalState → ℕ
 order_count journal = length (orders_of journal.records)
 
--- the record may come next: the standing allows it, and an order begins only with room, below the limit, and under a new number
+-- where the record begins an order, there is room for it, fewer orders than the limit were begun, and its number is new
 abbrev pub MayBegin : JournalState → Record → Type 0
 MayBegin journal (Began order) = HasRoom journal order × (order_count journal < journal.limit) × (is_begun order.id journal.records ≡ false)
 MayBegin journal other = ⊤

@@ -4,8 +4,7 @@ use Rattle.std.specs.List.{list_any}
 use Rattle.dali_frame.specs.declared.forward.Frame.{Frame}
 use Rattle.dali_gear.specs.declared.fate.Fate.{Fate}
 use Rattle.dali_gear.specs.Fate.{is_lost, next_fate}
-use Rattle.dali_gear.specs.UnitState.{BankState}
-use Rattle.dali_gear.specs.UnitState.{UnitState, is_writable}
+use Rattle.dali_gear.specs.UnitState.{BankState, UnitState, is_writable}
 use Rattle.dali_gear.specs.SimState.{SimState, SimCarry, unit_answer}
 use Rattle.dali_write.specs.Exchanges.{Exchange}
 use Rattle.dali_write.specs.declared.step.Step.{Step}

@@ -287,6 +287,7 @@ fn losses_in_each_try_of_the_unlock_step(rt: HostRuntime) -> Result<(), Fail> {
 #[test]
 fn laws_hold(_rt: HostRuntime) {
     laws::runs_are_chains();
+    laws::simulated_runs_are_runs();
     laws::sessions_follow_their_plans();
     laws::sessions_send_few_frames();
     laws::checked_reads_are_true();
@@ -301,6 +302,7 @@ fn laws_hold(_rt: HostRuntime) {
     laws::sessions_give_up_late();
     laws::doubts_have_a_cause();
     laws::successful_writes_are_stored();
+    laws::steps_keep_the_bank();
     laws::apart_units_are_alone();
     laws::wants_are_determined();
     laws::each_frame_was_wanted();

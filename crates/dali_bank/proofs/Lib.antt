@@ -5,3 +5,4 @@ pub mod SpellingLemmas
 pub mod LayoutLemmas
 pub mod LawLemmas
 pub mod OrderLemmas
+pub mod UpdateLemmas

@@ -1,11 +1,13 @@
--- What a set value looks like when its bytes lie in a memory bank.
-use Rattle.std.specs.Prelude.{◌≡◌, ◌≢◌, ◌⊎◌, ℕ, List, length, replicate}
+-- The laws of fields, banks and updates.
+use Rattle.std.specs.Prelude.{◌≡◌, ◌≢◌, ◌⊎◌, ◌↔◌, ℕ, List, Some, length, replicate}
+use Rattle.std.specs.List.{Contains}
 use Rattle.std.specs.Str.Parse.{digits_value}
 use Rattle.dali_bank.specs.declared.field.Field.{Field}
 use Rattle.dali_bank.specs.declared.shown.Shown.{Shown}
 use Rattle.dali_bank.specs.declared.shown.Shown.TheVariants as shown
 use Rattle.dali_bank.specs.Spelling.{Plain, unknown, number, digits, hex, text, AreFieldBytes}
 use Rattle.dali_bank.specs.Shown.{IsShown, part_of}
+use Rattle.dali_bank.specs.Order.{RisesAbove, update_at}
 
 -- a value and its bytes, shown as that value: but digits as their number, and an identification of all FFh as unknown
 abbrev pub ShowsPlain : Plain → List ℕ → Shown → Type 0
@@ -23,3 +25,7 @@ SetValuesAreShown = (field : Field) (value : Plain) (bytes bank : List ℕ) → 
 -- a field of a bank is shown in one way
 abbrev pub IsShownOnce : Type 0
 IsShownOnce = (field : Field) (bank : List ℕ) (one other : Shown) → IsShown bank field one → IsShown bank field other → one ≡ other
+
+-- the byte that rising updates have for a location is the one that stands among them with it
+abbrev pub UpdatesAreFound : Type 0
+UpdatesAreFound = (updates : List (ℕ × ℕ)) (location byte : ℕ) → RisesAbove 0 updates → (update_at updates location ≡ Some byte) ↔ Contains updates (location, byte)

@@ -1,5 +1,5 @@
 -- What an order holds.
-use Rattle.std.specs.Prelude.{ℕ, ◌<◌, ◌≤◌, ◌⊎◌, List, [], ◌∷◌, length, ⊤}
+use Rattle.std.specs.Prelude.{ℕ, ◌==◌, ◌<◌, ◌≤◌, ◌⊎◌, List, [], ◌∷◌, length, Option, Some, None, ⊤, if◌then◌else◌}
 use Rattle.std.specs.List.{AllByRecursion}
 
 -- an order's number, the short address of its unit, and its updates, each a location and a byte
@@ -23,3 +23,8 @@ pub record AreUpdates (updates : List (ℕ × ℕ)) : Type 0 where
   pub few : length updates ≤ 115
   pub rising : RisesAbove 0 updates
   pub writable : AllByRecursion (λ update. IsWritable update.0) updates
+
+-- the byte that updates have for a location, if they have one
+abbrev pub update_at : List (ℕ × ℕ) → ℕ → Option ℕ
+update_at [] location = None
+update_at (update ∷ updates) location = if update.0 == location then Some update.1 else update_at updates location

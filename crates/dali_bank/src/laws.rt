@@ -1,6 +1,6 @@
-//! Laws of fields and banks. Each is the contract of a function that does nothing.
+//! Laws of fields, banks and updates. Each is the contract of a function that does nothing.
 
-ghost use Rattle.dali_bank.specs.Law.{IsShownOnce, SetValuesAreShown};
+ghost use Rattle.dali_bank.specs.Law.{IsShownOnce, SetValuesAreShown, UpdatesAreFound};
 
 /// The bytes that a field has for a value, laid in a bank, are shown as that value.
 ///
@@ -13,4 +13,9 @@ pub fn set_values_are_shown()
 /// A field of a bank is shown in one way: what `read_field` tells is all that its contract allows.
 pub fn fields_are_shown_once()
     ensures { IsShownOnce }
+{}
+
+/// The byte that an order's updates have for a location is the one that stands among them with it.
+pub fn updates_are_found_by_location()
+    ensures { UpdatesAreFound }
 {}

@@ -1,5 +1,5 @@
 -- Which lists of records a journal may hold, by the table of standings. The newest record comes first.
-use Rattle.std.specs.Prelude.{◌≡◌, ◌||◌, ◌==◌, ℕ, Bool, false, List, [], ◌∷◌, ⊤}
+use Rattle.std.specs.Prelude.{◌≡◌, ◌||◌, ◌==◌, ℕ, Bool, false, List, [], ◌∷◌, Option, Some, None, ⊤}
 use Rattle.dali_journal.specs.declared.record.Code.TheVariants.{Done, Short, Format, Silent, Doubt, DoubtOpen}
 use Rattle.dali_journal.specs.declared.record.Record.{Record}
 use Rattle.dali_journal.specs.declared.record.Record.TheVariants.{Began, Opened, Ended, Closed}
@@ -30,6 +30,13 @@ next_standing standing other = standings.Idle
 abbrev pub standing_of : List Record → Standing
 standing_of [] = standings.Idle
 standing_of (newest ∷ older) = next_standing (standing_of older) newest
+
+-- the unit that a standing names: it may be write-enabled
+abbrev pub named_unit : Standing → Option ℕ
+named_unit standings.Idle = None
+named_unit (standings.Began order) = None
+named_unit (standings.Opened order) = Some order.unit
+named_unit (standings.Left unit) = Some unit
 
 -- an order of this number was begun
 abbrev pub is_begun : ℕ → List Record → Bool

@@ -12,10 +12,13 @@ pub enum Kept {
     Ended(Order, Code),
 }
 
-/// How far an order has come.
+/// How far an order has come, as the definitions of journals and writers tell it (profile).
 #[derive(Clone, Copy, Debug, PartialEq, Eq)]
-pub(crate) enum Stage {
+pub enum Stage {
+    /// The order was begun.
     Begun,
+    /// Its unit was opened.
     Open,
+    /// It ended so.
     Ended(Code),
 }

@@ -15,6 +15,6 @@ mod tests;
 
 pub use fault::{JournalFault, NoMemory};
 pub use journal::Journal;
-pub use kept::Kept;
+pub use kept::{Kept, Stage};
 pub use record::{Code, Record};
 pub use standing::Standing;

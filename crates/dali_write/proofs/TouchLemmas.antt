@@ -37,9 +37,12 @@ by_memory None bank location = refl
 by_memory (Some gear) bank location = refl
 
 -- where the memory stays, each place does
+pub same_byte : (old new : Option Gear) → memory_of new ≡ memory_of old → (bank location : ℕ) → byte_in new bank location ≡ byte_in old bank location
+same_byte old new same bank location =
+    by_memory new bank location ∙ (ap (λ (m : Option Memory). byte_by m bank location) same ∙ sym (by_memory old bank location))
+
 kept_old : (writes : List (ℕ × ℕ)) (old new : Option Gear) → memory_of new ≡ memory_of old → OldOrNew writes old new
-kept_old writes old new same = λ bank location.
-    inl (by_memory new bank location ∙ (ap (λ (m : Option Memory). byte_by m bank location) same ∙ sym (by_memory old bank location)))
+kept_old writes old new same = λ bank location. inl (same_byte old new same bank location)
 
 -- storing a byte changes one place
 stored_byte : (memory : Memory) (location byte bank place : ℕ)
@@ -133,7 +136,7 @@ write_off_here at None byte (Some new) hears off = absurd hears
 write_off_here at (Some old) byte None hears off = absurd hears
 
 -- After these exchanges the frame may be sent: where no other unit is enabled, it touches only the places of the writes.
-abbrev SafeNext : List (ℕ × ℕ) → ℕ → List Exchange → Frame → Type 0
+abbrev pub SafeNext : List (ℕ × ℕ) → ℕ → List Exchange → Frame → Type 0
 SafeNext writes unit tried frame =
     (first before last : World) (answer : Option ℕ) → OnlyEnabled unit before → Run tried first before → Carry before frame answer last → Touches writes unit before last
 
@@ -147,7 +150,7 @@ quiet_safe writes unit tried frame quiet first before last answer only run carry
     keeps_touches writes unit before last (λ address. carry_keeps before frame answer last address (quiet address) carry)
 
 -- so may one that enables this unit
-enable_safe : (writes : List (ℕ × ℕ)) (unit : ℕ) (tried : List Exchange) → SafeNext writes unit tried (Enable unit)
+pub enable_safe : (writes : List (ℕ × ℕ)) (unit : ℕ) (tried : List Exchange) → SafeNext writes unit tried (Enable unit)
 enable_safe writes unit tried first before last answer only run carry =
     record {
       others = λ address other. carry_keeps before (Enable unit) answer last address (λ same. other (sym same)) carry;
@@ -155,7 +158,7 @@ enable_safe writes unit tried first before last answer only run carry =
     }
 
 -- a guarded write of one of the writes
-guarded_safe : (writes : List (ℕ × ℕ)) (unit location byte : ℕ) (tried : List Exchange) → Has writes location byte → Selects unit location tried
+pub guarded_safe : (writes : List (ℕ × ℕ)) (unit location byte : ℕ) (tried : List Exchange) → Has writes location byte → Selects unit location tried
     → SafeNext writes unit tried (Write byte)
 guarded_safe writes unit location byte tried has selects first before last answer only run carry =
     let safe = write_safe tried first before last unit location byte answer run selects only carry in

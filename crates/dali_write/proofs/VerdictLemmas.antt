@@ -12,7 +12,8 @@ use Rattle.dali_write.specs.Lines.{line, read_lines}
 use Rattle.dali_write.specs.Plans.{Plan, Finish, Check, either_way, read_closed, close, give_up, expect, read_back, read_lock, write_on, unlock}
 use Rattle.dali_write.specs.Tries.{most_tries, Trying, Missed, Misses, StepEnds, Wants}
 use Rattle.dali_write.specs.Worlds.{Run, Shows, KeepsAt, IsOff, memory_of}
-use Rattle.dali_write.specs.Verdicts.{Says, ShowsAll}
+use Rattle.dali_write.specs.Findings.{ShowsAll}
+use Rattle.dali_write.specs.Verdicts.{Says}
 use Rattle.dali_write.proofs.GearLemmas.{IsQuiet}
 use Rattle.dali_write.proofs.TruthLemmas.{split, read_true, AllQuiet, run_keeps, keeps_then, keeps_none}
 use Rattle.dali_write.specs.Walks.{Walk}
@@ -162,7 +163,7 @@ expect_says unit location byte after verdict (Some found ∷ outcomes) told firs
 -- all bytes were read back
 record Held (unit : ℕ) (updates : List (ℕ × ℕ)) (verdict : Verdict) (first last : World) : Type 0 where
   done : verdict ≡ Done
-  shows : ShowsAll last unit updates
+  shows : ShowsAll (Shows last unit) updates
   keeps : (address : ℕ) → KeepsAt first last address
 
 read_back_says : (unit : ℕ) (updates : List (ℕ × ℕ)) (verdict : Verdict) (outcomes : List (Option ℕ)) (told : List Exchange) (first last : World)

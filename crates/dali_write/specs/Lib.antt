@@ -7,6 +7,8 @@ pub mod Found
 pub mod FramesLeft
 pub mod Told
 pub mod Worlds
+pub mod Reads
+pub mod Findings
 pub mod Counts
 pub mod Verdicts
 pub mod Stages

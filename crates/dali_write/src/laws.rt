@@ -26,6 +26,7 @@ ghost use Rattle.dali_write.specs.Walks.{Took, TookAll, Failed};
 ghost use Rattle.dali_write.specs.Doubts.{read_backs, FoundAnother};
 ghost use Rattle.dali_write.specs.Losses.{SimRun, losses, Unrefused, IsAlone, CanDo, OnlyDiffers};
 ghost use Rattle.dali_write.specs.Touches.{Touches, writes_of};
+ghost use Rattle.dali_write.specs.Reads.{ReadStands};
 ghost use Rattle.dali_write.specs.Worlds.{Run, IsCheckedRead, Shows, KeepsAt, Selects, OnlyEnabled, MayWrite};
 
 /// Exchanges lead from one world to another exactly where a chain of worlds does.
@@ -50,6 +51,12 @@ pub fn checked_reads_are_true()
         → Shows last unit location byte }
     ensures quiet { (tried : List Exchange) (first last : World) (unit location byte : ℕ) → Run tried first last → IsCheckedRead unit location byte tried
         → (address : ℕ) → KeepsAt first last address }
+{}
+
+/// What a checked read told is still so until a frame enables a unit or writes.
+pub fn standing_reads_are_true()
+    ensures { (told : List Exchange) (first last : World) (unit location byte : ℕ) → Run told first last → ReadStands told unit location byte
+        → Shows last unit location byte }
 {}
 
 /// Where the unit was made sure to have selected the location, and no other unit is enabled, a

@@ -1,0 +1,28 @@
+-- What reads of bank 1 of a unit find, where 'shows location byte' says that the location shows the byte.
+--
+-- What a byte is shown by is left open: the verdict of a session asks it of the world, a record of the journal of the
+-- frames that were sent, and the promises of the writer of the world again.
+use Rattle.std.specs.Prelude.{◌≡◌, ℕ, ◌<◌, ◌≤◌, List, [], ◌∷◌}
+use Rattle.dali_write.specs.Plans.{greatest}
+
+-- bank 1 reaches to the greatest location of the updates, and where that is 13h or above the content format is 0003h
+abbrev pub Suits : (ℕ → ℕ → Type 0) → List (ℕ × ℕ) → Type 0
+Suits shows updates = (last : ℕ) × shows 0x00 last × (greatest updates ≤ last) × (0x13 ≤ greatest updates → shows 0x11 0x00 × shows 0x12 0x03)
+
+-- bank 1 ends before the greatest location of the updates
+abbrev pub IsTooShort : (ℕ → ℕ → Type 0) → List (ℕ × ℕ) → Type 0
+IsTooShort shows updates = (last : ℕ) × shows 0x00 last × (last < greatest updates)
+
+-- an update is at 13h or above, and the content format isn't 0003h
+abbrev pub HasOtherFormat : (ℕ → ℕ → Type 0) → List (ℕ × ℕ) → Type 0
+HasOtherFormat shows updates =
+    (high : ℕ) × (low : ℕ) × shows 0x11 high × shows 0x12 low × (0x13 ≤ greatest updates) × ((high ≡ 0x00) × (low ≡ 0x03) → ⊥)
+
+-- each update's location shows its byte
+abbrev pub ShowsAll : (ℕ → ℕ → Type 0) → List (ℕ × ℕ) → Type 0
+ShowsAll shows [] = Unit {0}
+ShowsAll shows (update ∷ updates) = shows update.0 update.1 × ShowsAll shows updates
+
+-- the lock byte is FFh, and each update's location shows its byte
+abbrev pub IsWritten : (ℕ → ℕ → Type 0) → List (ℕ × ℕ) → Type 0
+IsWritten shows updates = shows 0x02 0xFF × ShowsAll shows updates

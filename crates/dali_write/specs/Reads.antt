@@ -1,0 +1,29 @@
+-- What checked reads among exchanges show. The newest exchange comes first.
+use Rattle.std.specs.Prelude.{◌≡◌, ◌⊎◌, ℕ, List, [], ◌∷◌, ◌++◌, ⊤}
+use Rattle.dali_frame.specs.declared.forward.Frame.{Frame}
+use Rattle.dali_frame.specs.declared.forward.Frame.TheVariants.{Write, WriteSilent, Enable, Other}
+use Rattle.dali_write.specs.Exchanges.{Exchange}
+use Rattle.dali_write.specs.Worlds.{IsCheckedRead}
+
+-- the frame enables no unit and writes nothing
+abbrev pub IsPassive : Frame → Type 0
+IsPassive (Write byte) = ⊥
+IsPassive (WriteSilent byte) = ⊥
+IsPassive (Enable unit) = ⊥
+IsPassive (Other word) = ⊥
+IsPassive _ = ⊤
+
+-- the newest exchanges are a checked read of the location, answered by the byte
+abbrev pub EndsInRead : ℕ → ℕ → ℕ → List Exchange → Type 0
+EndsInRead unit location byte told =
+    (newer : List Exchange) × (older : List Exchange) × (told ≡ newer ++ older) × IsCheckedRead unit location byte newer
+
+-- a checked read of the location was answered by the byte, and no frame since then enables a unit or writes
+abbrev pub ReadStands : List Exchange → ℕ → ℕ → ℕ → Type 0
+ReadStands [] unit location byte = ⊥
+ReadStands (x ∷ told) unit location byte = EndsInRead unit location byte (x ∷ told) ⊎ (IsPassive x.frame × ReadStands told unit location byte)
+
+-- some checked read of the unit was answered
+abbrev pub HasRead : ℕ → List Exchange → Type 0
+HasRead unit [] = ⊥
+HasRead unit (x ∷ told) = ((location : ℕ) × (byte : ℕ) × EndsInRead unit location byte (x ∷ told)) ⊎ HasRead unit told

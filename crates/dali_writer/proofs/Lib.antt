@@ -1,0 +1,10 @@
+pub mod StandingLemmas
+pub mod FrameLemmas
+pub mod RecordLemmas
+pub mod PromiseLemmas
+pub mod MomentLemmas
+pub mod AppliedLemmas
+pub mod ReplyLemmas
+pub mod TakenLemmas
+pub mod QuietLemmas
+pub mod RepeatLemmas

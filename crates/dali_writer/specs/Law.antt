@@ -1,0 +1,82 @@
+-- The laws of a writer. They speak of traces and worlds alone.
+use Rattle.std.specs.Prelude.{◌≡◌, ◌≤◌, false, List, [], ◌∷◌, ◌++◌, length}
+use Rattle.std.specs.List.{Contains}
+use Rattle.dali_bank.specs.Order.{Contents}
+use Rattle.dali_gear.specs.World.{World}
+use Rattle.dali_gear.specs.Chain.{IsChain, AtEachMoment}
+use Rattle.dali_journal.specs.declared.record.Code.{Code}
+use Rattle.dali_journal.specs.declared.kept.Stage.TheVariants as stages
+use Rattle.dali_journal.specs.Sentence.{IsSentence}
+use Rattle.dali_journal.specs.Orders.{orders_of}
+use Rattle.dali_writer.specs.declared.happening.Reply.{Reply}
+use Rattle.dali_writer.specs.declared.happening.Reply.TheVariants as replies
+use Rattle.dali_writer.specs.declared.happening.Happening.{Happening}
+use Rattle.dali_writer.specs.declared.happening.Happening.TheVariants.{Asked, Answered}
+use Rattle.dali_writer.specs.Trace.{Start, records_of, is_busy}
+use Rattle.dali_writer.specs.Replies.{IsReply}
+use Rattle.dali_writer.specs.Legal.{Legal}
+use Rattle.dali_writer.specs.Taken.{taken_orders, begun_orders}
+use Rattle.dali_writer.specs.Possible.{AreSettled}
+use Rattle.dali_writer.specs.Moves.{Moves}
+use Rattle.dali_writer.specs.Fits.{Fits, OnlyNamed, IsApplied}
+use Rattle.dali_writer.specs.Quiet.{NoneTaken, NoneSent}
+
+-- a chain of worlds along a legal trace, from a world that fits the start world and the start records, with no unit enabled but the one that they name
+pub record Along (zero : World) (start : Start) (first : World) (past : List Happening) (last : World) (states : List World) : Type 0 where
+  pub legal : Legal start past
+  pub fits : Fits zero start.records first
+  pub only : OnlyNamed start.records first
+  pub chain : IsChain Moves first past last states
+
+-- along each of them this is so at each moment, of the trace up to there and the world there
+abbrev pub Always : (World → Start → List Happening → World → Type 0) → Type 0
+Always holds = (zero : World) (start : Start) (first : World) (past : List Happening) (last : World) (states : List World)
+    → Along zero start first past last states → AtEachMoment (holds zero start) past last states
+
+-- the world fits
+abbrev pub FitsAt : World → Start → List Happening → World → Type 0
+FitsAt zero start moment now = Fits zero (records_of start moment) now
+
+-- no unit is enabled but the named one
+abbrev pub OnlyNamedAt : World → Start → List Happening → World → Type 0
+OnlyNamedAt zero start moment now = OnlyNamed (records_of start moment) now
+
+-- where each order is done or untouched, every place holds what it held at the start, with the done orders applied
+abbrev pub AppliedAt : World → Start → List Happening → World → Type 0
+AppliedAt zero start moment now = AreSettled (orders_of (records_of start moment)) → IsApplied zero (records_of start moment) now
+
+-- the records are a sentence within the limit
+abbrev pub RecordsAreASentence : Type 0
+RecordsAreASentence = (start : Start) (past : List Happening) → Legal start past
+    → IsSentence (records_of start past) × (length (orders_of (records_of start past)) ≤ start.limit)
+
+-- the orders of the records are the taken ones, in front of those of the start
+abbrev pub TakenOrdersAreKept : Type 0
+TakenOrdersAreKept = (start : Start) (past : List Happening) → Legal start past
+    → begun_orders (records_of start past) ≡ taken_orders past ++ begun_orders start.records
+
+-- one reply is due to an order, and no other
+abbrev pub OneReplyIsDue : Type 0
+OneReplyIsDue = (start : Start) (past : List Happening) (order : Contents)
+    → (due : Reply) × IsReply start past order due × ((other : Reply) → IsReply start past order other → other ≡ due)
+
+-- straight after an order that has ended comes its kept reply
+abbrev pub RepeatsAreAnswered : Type 0
+RepeatsAreAnswered = (start : Start) (past : List Happening) (order : Contents) (code : Code) (next : Happening)
+    → Contains (orders_of (records_of start past)) (order, stages.Ended code) → Legal start (next ∷ Asked order ∷ past)
+    → next ≡ Answered order.id (replies.Kept code)
+
+-- no frame is sent and no record is kept by this part of a trace
+abbrev pub NothingIsDone : Start → List Happening → List Happening → Type 0
+NothingIsDone start more past = NoneSent more × (records_of start (more ++ past) ≡ records_of start past)
+
+-- where a trace isn't busy, nothing is done until an order is taken
+abbrev pub QuietUntilTaken : Type 0
+QuietUntilTaken = (start : Start) (past more : List Happening)
+    → Legal start (more ++ past) → is_busy start past ≡ false → NoneTaken more → NothingIsDone start more past
+
+-- nor by the repeat of an order that has ended
+abbrev pub RepeatsAreQuiet : Type 0
+RepeatsAreQuiet = (start : Start) (past more : List Happening) (order : Contents) (code : Code) (next : Happening)
+    → Contains (orders_of (records_of start past)) (order, stages.Ended code) → is_busy start past ≡ false
+    → Legal start (more ++ next ∷ Asked order ∷ past) → NoneTaken more → NothingIsDone start (more ++ next ∷ Asked order ∷ []) past

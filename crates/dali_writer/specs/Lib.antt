@@ -1,0 +1,12 @@
+pub mod Trace
+pub mod Replies
+pub mod Grounds
+pub mod Legal
+pub mod Parts
+pub mod Taken
+pub mod Possible
+pub mod Moves
+pub mod Fits
+pub mod WhenKept
+pub mod Quiet
+pub mod Law

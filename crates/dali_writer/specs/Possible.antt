@@ -1,0 +1,61 @@
+-- Which bytes the units may hold, by what a journal says of each order. The newest order comes first.
+use Rattle.std.specs.Prelude.{◌≡◌, ◌⊎◌, ◌==◌, ◌&&◌, ℕ, List, [], ◌∷◌, Option, Some, None, if◌then◌else◌}
+use Rattle.dali_bank.specs.Order.{Contents, update_at}
+use Rattle.dali_journal.specs.declared.record.Code.TheVariants.{Done, Short, Format, Silent, Doubt, DoubtOpen}
+use Rattle.dali_journal.specs.declared.kept.Stage.{Stage}
+use Rattle.dali_journal.specs.declared.kept.Stage.TheVariants as stages
+
+-- what is known of an order's bytes: all of them are written, none is, or each may be
+pub data Mark : Type 0 where
+  IsDone : Mark
+  IsUntouched : Mark
+  IsInDoubt : Mark
+
+-- how far an order has come tells what is known of its bytes
+abbrev pub mark_of : Stage → Mark
+mark_of stages.Begun = IsUntouched
+mark_of stages.Open = IsInDoubt
+mark_of (stages.Ended Done) = IsDone
+mark_of (stages.Ended Short) = IsUntouched
+mark_of (stages.Ended Format) = IsUntouched
+mark_of (stages.Ended Silent) = IsUntouched
+mark_of (stages.Ended Doubt) = IsInDoubt
+mark_of (stages.Ended DoubtOpen) = IsInDoubt
+
+-- the byte that an order has for a place, if it has one: in bank 1 of its unit
+abbrev pub byte_for : Contents → ℕ → ℕ → ℕ → Option ℕ
+byte_for order address bank location = if (order.unit == address) && (bank == 1) then update_at order.updates location else None
+
+-- which bytes a place may hold after an order that has this byte for it, given those that it may hold before
+abbrev pub MayHold : Mark → Option ℕ → (ℕ → Type 0) → ℕ → Type 0
+MayHold IsDone (Some update) before byte = byte ≡ update
+MayHold IsInDoubt (Some update) before byte = before byte ⊎ (byte ≡ update)
+MayHold IsUntouched (Some update) before byte = before byte
+MayHold mark None before byte = before byte
+
+-- the byte is possible at a place that held the first one, after these orders
+abbrev pub IsPossible : ℕ → ℕ → ℕ → ℕ → List (Contents × Stage) → ℕ → Type 0
+IsPossible first address bank location [] byte = byte ≡ first
+IsPossible first address bank location (newest ∷ older) byte =
+    MayHold (mark_of newest.1) (byte_for newest.0 address bank location) (IsPossible first address bank location older) byte
+
+-- the byte after an order of this mark, which has this byte for the place: its own one where it is done
+abbrev pub applied_to : Mark → Option ℕ → ℕ → ℕ
+applied_to IsDone (Some update) before = update
+applied_to mark other before = before
+
+-- the first byte of a place, with the done orders applied once each in their order
+abbrev pub applied : ℕ → ℕ → ℕ → ℕ → List (Contents × Stage) → ℕ
+applied first address bank location [] = first
+applied first address bank location (newest ∷ older) =
+    applied_to (mark_of newest.1) (byte_for newest.0 address bank location) (applied first address bank location older)
+
+-- an order of this mark is no longer in doubt
+abbrev pub IsSettled : Mark → Type 0
+IsSettled IsInDoubt = ⊥
+IsSettled other = Unit {0}
+
+-- each order is done or untouched
+abbrev pub AreSettled : List (Contents × Stage) → Type 0
+AreSettled [] = Unit {0}
+AreSettled (newest ∷ older) = IsSettled (mark_of newest.1) × AreSettled older

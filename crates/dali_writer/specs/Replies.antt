@@ -1,0 +1,35 @@
+-- Which reply is due to an order: the first of Kept, IdReused, Busy, Full and Taken that applies.
+use Rattle.std.specs.Prelude.{◌≡◌, ◌≢◌, Bool, true, false, List}
+use Rattle.dali_bank.specs.Order.{Contents}
+use Rattle.dali_journal.specs.declared.kept.Kept.{Kept}
+use Rattle.dali_journal.specs.declared.kept.Kept.TheVariants as kepts
+use Rattle.dali_journal.specs.Orders.{kept_of}
+use Rattle.dali_writer.specs.declared.happening.Reply.{Reply}
+use Rattle.dali_writer.specs.declared.happening.Reply.TheVariants as replies
+use Rattle.dali_writer.specs.declared.happening.Happening.{Happening}
+use Rattle.dali_writer.specs.Trace.{Start, records_of, is_busy, is_full}
+
+-- the journal has the order's number for another order
+abbrev pub IsReused : Contents → Kept → Type 0
+IsReused order kepts.Absent = ⊥
+IsReused order (kepts.Unfinished old) = old ≢ order
+IsReused order (kepts.Ended old code) = old ≢ order
+
+-- the journal doesn't have the order, or hasn't ended it
+abbrev pub IsNotEnded : Contents → Kept → Type 0
+IsNotEnded order kepts.Absent = Unit {0}
+IsNotEnded order (kepts.Unfinished old) = old ≡ order
+IsNotEnded order (kepts.Ended old code) = ⊥
+
+-- the reply that is due to an order, by what the journal has under its number. Kept: it has ended so. IdReused: the number is another order's. Else Busy, Full or Taken
+abbrev pub IsReplyBy : Contents → Kept → Bool → Bool → Reply → Type 0
+IsReplyBy order kept busy full (replies.Kept code) = kept ≡ kepts.Ended order code
+IsReplyBy order kept busy full replies.IdReused = IsReused order kept
+IsReplyBy order kept busy full replies.Busy = IsNotEnded order kept × (busy ≡ true)
+IsReplyBy order kept busy full replies.Full = IsNotEnded order kept × (busy ≡ false) × (full ≡ true)
+IsReplyBy order kept busy full replies.Taken = IsNotEnded order kept × (busy ≡ false) × (full ≡ false)
+IsReplyBy order kept busy full (replies.Blocked unit) = ⊥
+
+-- the reply that is due to an order at this moment
+abbrev pub IsReply : Start → List Happening → Contents → Reply → Type 0
+IsReply start past order reply = IsReplyBy order (kept_of order.id (records_of start past)) (is_busy start past) (is_full start past) reply

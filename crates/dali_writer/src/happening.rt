@@ -1,0 +1,51 @@
+use dali_bank::Order;
+use dali_frame::Frame;
+use dali_journal::{Code, Record};
+
+/// The answer to an order, given at once, or what is said of an order that was taken (profile).
+///
+/// At once the first of `Kept`, `IdReused`, `Busy`, `Full` and `Taken` is given that applies. `Kept`
+/// and `Blocked` are also said later, of an order that was taken.
+#[derive(Clone, Copy, Debug, PartialEq, Eq, Hash)]
+pub enum Reply {
+    /// The order will be carried out.
+    Taken,
+    /// The journal has this same order, and it ended so.
+    Kept(Code),
+    /// The journal has an order of this number for another unit or with other updates.
+    IdReused,
+    /// An order is at work, waits, or has ended and that isn't said yet.
+    Busy,
+    /// The journal holds as many orders as it may.
+    Full,
+    /// The order isn't carried out, since a unit that an order before it left open couldn't be
+    /// closed: that unit's short address, 0 to 63.
+    Blocked(u8),
+}
+
+/// What happened (profile). A trace is a list of happenings.
+#[derive(Drop)]
+pub enum Happening {
+    /// The order was submitted.
+    Asked(Order),
+    /// The order of this number was answered so.
+    Answered(u64, Reply),
+    /// The frame was sent, and this answer came back or none.
+    Sent(Frame, Option<u8>),
+    /// The record was kept in the journal.
+    Kept(Record),
+    /// The program was stopped, and began anew from its journal.
+    Stopped,
+}
+
+/// What is to be done (profile).
+#[derive(Drop)]
+pub enum Event {
+    /// Submit the order, and reply to it.
+    Submit(Order),
+    /// Do the next thing that is to be done: keep one record, send one frame, or say how an order
+    /// ended. Where nothing is at work nothing is done.
+    Step,
+    /// Stop the program: of a record that was to be kept, at most so many bytes reach the journal.
+    Stop(u16),
+}

@@ -1,0 +1,48 @@
+//! Laws of a writer, over its definitions alone. Each is the contract of a function that does nothing.
+
+ghost use Rattle.dali_writer.specs.WhenKept.{WhenKept};
+ghost use Rattle.dali_writer.specs.Law.{Always, FitsAt, OnlyNamedAt, AppliedAt, RecordsAreASentence, TakenOrdersAreKept, OneReplyIsDue, RepeatsAreAnswered, RepeatsAreQuiet, QuietUntilTaken};
+
+/// Along every chain of worlds of every legal trace, from a world that fits and in which no unit but the named one is
+/// write-enabled.
+pub fn every_moment_fits()
+    // each moment fits;
+    ensures fits { Always FitsAt }
+    // no unit but the named one is enabled;
+    ensures enabled { Always OnlyNamedAt }
+    // and when a record is kept, what it says is so.
+    ensures kept { Always (λ zero start. WhenKept start) }
+{}
+
+/// With the same premises: where no order is in doubt, every place but the lock bytes of bank 1 holds what it held at
+/// the start, with the done orders applied once each in journal order.
+pub fn done_orders_are_applied_once()
+    ensures { Always AppliedAt }
+{}
+
+/// The records of a legal trace are always a sentence within the limit.
+pub fn records_are_a_sentence()
+    ensures { RecordsAreASentence }
+{}
+
+/// The orders of the journal are the taken orders, behind those that it held at the start.
+pub fn the_taken_orders_are_kept()
+    ensures { TakenOrdersAreKept }
+{}
+
+/// One reply is due to an order, and no other.
+pub fn one_reply_is_due()
+    ensures { OneReplyIsDue }
+{}
+
+/// A repeat of an order that has ended gets its kept reply at once. Where nothing else is at work, no frame is sent and
+/// no record kept until another order is taken.
+pub fn repeats_are_answered_by_what_is_kept()
+    ensures answered { RepeatsAreAnswered }
+    ensures quiet { RepeatsAreQuiet }
+{}
+
+/// Where nothing is at work, no frame is sent and no record kept until an order is taken, stops included.
+pub fn nothing_is_done_until_an_order_is_taken()
+    ensures { QuietUntilTaken }
+{}

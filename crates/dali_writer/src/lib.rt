@@ -1,0 +1,8 @@
+//! What happens to a writer of orders (profile): which traces of happenings are legal, and what is so along each of
+//! them, whatever a bus loses and whenever the program is stopped.
+#![tactic(auto)]
+
+mod happening;
+pub mod laws;
+
+pub use happening::{Event, Happening, Reply};

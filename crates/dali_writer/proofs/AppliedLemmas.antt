@@ -5,17 +5,17 @@ use Rattle.dali_gear.specs.World.{World, byte_at}
 use Rattle.dali_journal.specs.declared.record.Record.{Record}
 use Rattle.dali_journal.specs.declared.kept.Stage.{Stage}
 use Rattle.dali_journal.specs.Orders.{orders_of}
-use Rattle.dali_writer.specs.Possible.{Mark, IsDone, IsUntouched, IsInDoubt, mark_of, byte_for, MayHold, IsPossible, IsSettled, AreSettled, applied_to, applied}
+use Rattle.dali_writer.specs.Possible.{Mark, Applied, Untouched, InDoubt, mark_of, byte_for, MayHold, IsPossible, IsSettled, AreSettled, applied_to, applied}
 use Rattle.dali_writer.specs.Fits.{Fits, IsApplied}
 
 -- after an order that is done or untouched one byte is possible where one was before
 settled : (mark : Mark) (found : Option ℕ) (before : ℕ → Type 0) (byte one : ℕ) → IsSettled mark → (before byte → byte ≡ one) → MayHold mark found before byte
     → byte ≡ applied_to mark found one
-settled IsDone (Some update) before byte one is only may = may
-settled IsDone None before byte one is only may = only may
-settled IsUntouched (Some update) before byte one is only may = only may
-settled IsUntouched None before byte one is only may = only may
-settled IsInDoubt found before byte one is only may = absurd is
+settled Applied (Some update) before byte one is only may = may
+settled Applied None before byte one is only may = only may
+settled Untouched (Some update) before byte one is only may = only may
+settled Untouched None before byte one is only may = only may
+settled InDoubt found before byte one is only may = absurd is
 
 pub is_applied : (first address bank location byte : ℕ) (orders : List (Contents × Stage)) → AreSettled orders → IsPossible first address bank location orders byte
     → byte ≡ applied first address bank location orders

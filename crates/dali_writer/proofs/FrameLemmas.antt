@@ -20,7 +20,7 @@ use Rattle.dali_write.proofs.TouchLemmas.{same_byte, enable_safe, guarded_safe}
 use Rattle.dali_writer.specs.declared.happening.Happening.{Happening}
 use Rattle.dali_writer.specs.Trace.{sent_of}
 use Rattle.dali_writer.specs.Legal.{MayPut, MaySend, IsGuarded}
-use Rattle.dali_writer.specs.Possible.{IsInDoubt, byte_for, MayHold, IsPossible}
+use Rattle.dali_writer.specs.Possible.{InDoubt, byte_for, MayHold, IsPossible}
 use Rattle.dali_writer.specs.Fits.{Fits, OnlyNamed, IsOpened, IsLockByte}
 use Rattle.dali_writer.proofs.StandingLemmas.{open_order, named_opened, byte_for_here}
 
@@ -111,7 +111,7 @@ is_possible first unit location byte records (standings.Opened order) at is_name
     let newest = open_order records order at in
     let here : order.unit ≡ unit = cc in
     let has : byte_for order unit 1 location ≡ Some byte = subst (λ (a : ℕ). byte_for order a 1 location ≡ Some byte) here (byte_for_here order location byte update) in
-    let P : Option ℕ → Type 0 = λ found. MayHold IsInDoubt found (IsPossible first unit 1 location newest.0) byte in
+    let P : Option ℕ → Type 0 = λ found. MayHold InDoubt found (IsPossible first unit 1 location newest.0) byte in
     rw newest.1 (subst P (sym has) (inr refl))
 
 -- a frame by which the named unit may be enabled, or one of the writes put that may be

@@ -8,3 +8,8 @@ pub mod ReplyLemmas
 pub mod TakenLemmas
 pub mod QuietLemmas
 pub mod RepeatLemmas
+pub mod WorkedLemmas
+pub mod RefusedLemmas
+pub mod LeftLemmas
+pub mod BlankLemmas
+pub mod PartLemmas

@@ -15,7 +15,7 @@ use Rattle.dali_journal.specs.Orders.{orders_of, come_to}
 use Rattle.dali_write.specs.Findings.{Suits, IsTooShort, HasOtherFormat, ShowsAll, IsWritten}
 use Rattle.dali_write.specs.Worlds.{Shows}
 use Rattle.dali_writer.specs.Grounds.{Grounds}
-use Rattle.dali_writer.specs.Possible.{IsDone, IsUntouched, IsInDoubt, byte_for, MayHold, IsPossible}
+use Rattle.dali_writer.specs.Possible.{Applied, Untouched, InDoubt, byte_for, MayHold, IsPossible}
 use Rattle.dali_writer.specs.Fits.{Fits, IsOpened}
 use Rattle.dali_writer.proofs.StandingLemmas.{begun_order, open_order, HasByte, byte_for_or_none}
 
@@ -50,13 +50,13 @@ changed_fits zero now records more possible opened fits = record {
 }
 
 -- from untouched to in doubt
-doubted : (found : Option ℕ) (before : ℕ → Type 0) (byte : ℕ) → MayHold IsUntouched found before byte → MayHold IsInDoubt found before byte
+doubted : (found : Option ℕ) (before : ℕ → Type 0) (byte : ℕ) → MayHold Untouched found before byte → MayHold InDoubt found before byte
 doubted None before byte may = may
 doubted (Some update) before byte may = inl may
 
 -- from in doubt to done, where the byte is there
-written : (found : Option ℕ) (before : ℕ → Type 0) (byte : ℕ) → ((update : ℕ) → found ≡ Some update → byte ≡ update) → MayHold IsInDoubt found before byte
-    → MayHold IsDone found before byte
+written : (found : Option ℕ) (before : ℕ → Type 0) (byte : ℕ) → ((update : ℕ) → found ≡ Some update → byte ≡ update) → MayHold InDoubt found before byte
+    → MayHold Applied found before byte
 written None before byte is may = may
 written (Some update) before byte is may = is update refl
 
@@ -98,7 +98,7 @@ keeps_fitting zero now records (Began order) stands at allowed grounds fits =
     changed_fits zero now records (Began order ∷ records)
     (λ address bank location first byte is possible. by (byte_for order address bank location) (IsPossible first address bank location (orders_of records)) byte possible)
     (λ address opened. opened) fits where
-      by : (found : Option ℕ) (before : ℕ → Type 0) (byte : ℕ) → before byte → MayHold IsUntouched found before byte
+      by : (found : Option ℕ) (before : ℕ → Type 0) (byte : ℕ) → before byte → MayHold Untouched found before byte
       by None before byte may = may
       by (Some update) before byte may = may
 keeps_fitting zero now records (Opened unit) (standings.Began order) at allowed grounds fits =

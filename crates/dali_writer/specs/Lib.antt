@@ -10,3 +10,4 @@ pub mod Fits
 pub mod WhenKept
 pub mod Quiet
 pub mod Law
+pub mod Worked

@@ -5,22 +5,22 @@ use Rattle.dali_journal.specs.declared.record.Code.TheVariants.{Done, Short, For
 use Rattle.dali_journal.specs.declared.kept.Stage.{Stage}
 use Rattle.dali_journal.specs.declared.kept.Stage.TheVariants as stages
 
--- what is known of an order's bytes: all of them are written, none is, or each may be
+-- what is known of an order's bytes: all of them are written, none is, or each of them may be
 pub data Mark : Type 0 where
-  IsDone : Mark
-  IsUntouched : Mark
-  IsInDoubt : Mark
+  Applied : Mark
+  Untouched : Mark
+  InDoubt : Mark
 
 -- how far an order has come tells what is known of its bytes
 abbrev pub mark_of : Stage → Mark
-mark_of stages.Begun = IsUntouched
-mark_of stages.Open = IsInDoubt
-mark_of (stages.Ended Done) = IsDone
-mark_of (stages.Ended Short) = IsUntouched
-mark_of (stages.Ended Format) = IsUntouched
-mark_of (stages.Ended Silent) = IsUntouched
-mark_of (stages.Ended Doubt) = IsInDoubt
-mark_of (stages.Ended DoubtOpen) = IsInDoubt
+mark_of stages.Begun = Untouched
+mark_of stages.Open = InDoubt
+mark_of (stages.Ended Done) = Applied
+mark_of (stages.Ended Short) = Untouched
+mark_of (stages.Ended Format) = Untouched
+mark_of (stages.Ended Silent) = Untouched
+mark_of (stages.Ended Doubt) = InDoubt
+mark_of (stages.Ended DoubtOpen) = InDoubt
 
 -- the byte that an order has for a place, if it has one: in bank 1 of its unit
 abbrev pub byte_for : Contents → ℕ → ℕ → ℕ → Option ℕ
@@ -28,9 +28,9 @@ byte_for order address bank location = if (order.unit == address) && (bank == 1)
 
 -- which bytes a place may hold after an order that has this byte for it, given those that it may hold before
 abbrev pub MayHold : Mark → Option ℕ → (ℕ → Type 0) → ℕ → Type 0
-MayHold IsDone (Some update) before byte = byte ≡ update
-MayHold IsInDoubt (Some update) before byte = before byte ⊎ (byte ≡ update)
-MayHold IsUntouched (Some update) before byte = before byte
+MayHold Applied (Some update) before byte = byte ≡ update
+MayHold InDoubt (Some update) before byte = before byte ⊎ (byte ≡ update)
+MayHold Untouched (Some update) before byte = before byte
 MayHold mark None before byte = before byte
 
 -- the byte is possible at a place that held the first one, after these orders
@@ -41,7 +41,7 @@ IsPossible first address bank location (newest ∷ older) byte =
 
 -- the byte after an order of this mark, which has this byte for the place: its own one where it is done
 abbrev pub applied_to : Mark → Option ℕ → ℕ → ℕ
-applied_to IsDone (Some update) before = update
+applied_to Applied (Some update) before = update
 applied_to mark other before = before
 
 -- the first byte of a place, with the done orders applied once each in their order
@@ -52,7 +52,7 @@ applied first address bank location (newest ∷ older) =
 
 -- an order of this mark is no longer in doubt
 abbrev pub IsSettled : Mark → Type 0
-IsSettled IsInDoubt = ⊥
+IsSettled InDoubt = ⊥
 IsSettled other = Unit {0}
 
 -- each order is done or untouched

@@ -4,5 +4,7 @@
 
 mod happening;
 pub mod laws;
+#[cfg(test)]
+mod tests;
 
 pub use happening::{Event, Happening, Reply};

@@ -1,0 +1,26 @@
+use Rattle.dali_writer.proofs.RefusedLemmas.{not_unguarded, not_with_the_bank_not_asked, not_written_twice, not_another_byte, not_idle_frame, not_to_another_unit, not_enabled_before_opened, not_unlocked}
+use Rattle.dali_writer.proofs.tests.worked.frames_that_are_not_legal.Goals as goal
+
+pub returns-clause-unguarded : goal.returns-clause-unguarded
+returns-clause-unguarded c = not_unguarded
+
+pub returns-clause-bank_not_asked : goal.returns-clause-bank_not_asked
+returns-clause-bank_not_asked c = not_with_the_bank_not_asked
+
+pub returns-clause-written_twice : goal.returns-clause-written_twice
+returns-clause-written_twice c = not_written_twice
+
+pub returns-clause-another_byte : goal.returns-clause-another_byte
+returns-clause-another_byte c = not_another_byte
+
+pub returns-clause-idle_frame : goal.returns-clause-idle_frame
+returns-clause-idle_frame c = not_idle_frame
+
+pub returns-clause-frame_to_another_unit : goal.returns-clause-frame_to_another_unit
+returns-clause-frame_to_another_unit c = not_to_another_unit
+
+pub returns-clause-enabled_before_opened : goal.returns-clause-enabled_before_opened
+returns-clause-enabled_before_opened c = not_enabled_before_opened
+
+pub returns-clause-left_unit_unlocked : goal.returns-clause-left_unit_unlocked
+returns-clause-left_unit_unlocked c = not_unlocked

@@ -1,0 +1,78 @@
+ghost use Rattle.std.specs.Prelude.{◌≡◌, ◌∷◌, [], length};
+ghost use Rattle.dali_writer.specs.declared.happening.Happening.TheVariants.{Stopped};
+ghost use Rattle.dali_writer.specs.declared.happening.Event.TheVariants.{Submit, Step, Stop};
+ghost use Rattle.dali_writer.specs.Trace.{sent_of};
+ghost use Rattle.dali_writer.specs.Taken.{taken_orders};
+ghost use Rattle.dali_writer.specs.Legal.{Legal, IsFinished};
+ghost use Rattle.dali_writer.specs.Parts.{AreParts};
+ghost use Rattle.dali_writer.specs.Worked.{empty, left_open, first_order, second_order, asked, begun, whole, unreached, blocked, second_begun, GoesAlong};
+ghost use Rattle.dali_writer.specs.Worked.{unguarded, bank_not_asked, written_twice, another_byte, idle_frame, frame_to_another_unit, enabled_before_opened, opened_unread, done_unread, done_with_the_lock_unread};
+ghost use Rattle.dali_writer.specs.Worked.{begun_twice, busy_at_once, reply_to_another, said_before_ended, begun_while_left, closed_unread, blocked_after_a_read, left_unit_unlocked, begun_after_a_stop};
+
+// A GTIN order on a blank unit, 96 frames, and the same order sent again.
+#[test]
+fn the_worked_trace_is_legal()
+    ensures legal { Legal empty whole }
+    ensures finished { IsFinished whole }
+    ensures frames { length (sent_of whole) ≡ 96 }
+    ensures taken { taken_orders whole ≡ first_order ∷ [] }
+{}
+
+// The premises of the laws are met together: a blank unit goes along that trace.
+#[test]
+fn a_blank_unit_goes_along()
+    ensures { GoesAlong }
+{}
+
+// An order that finds another unit left open: it is blocked after 48 frames, and begins when it is sent again.
+#[test]
+fn the_trace_with_a_left_unit_is_legal()
+    ensures legal { Legal left_open second_begun }
+    ensures frames { length (sent_of unreached) ≡ 48 }
+    ensures blocked { taken_orders blocked ≡ [] }
+    ensures taken { taken_orders second_begun ≡ second_order ∷ [] }
+{}
+
+// A step keeps the record of 23 bytes that begins the order, and so does a stop that lets 23 bytes through, but not one
+// that lets 22 through. An order alone is no finished trace.
+#[test]
+fn traces_are_parts_of_events()
+    ensures stepped { AreParts empty (Step ∷ Submit first_order ∷ []) begun }
+    ensures stopped { AreParts empty (Stop 22 ∷ Step ∷ Submit first_order ∷ []) (Stopped ∷ begun) }
+    ensures kept { AreParts empty (Stop 23 ∷ Submit first_order ∷ []) (Stopped ∷ begun) }
+    ensures cut { ¬ AreParts empty (Stop 22 ∷ Submit first_order ∷ []) (Stopped ∷ begun) }
+    ensures idle { ¬ AreParts empty (Step ∷ []) asked }
+    ensures unfinished { ¬ IsFinished asked }
+{}
+
+// What a legal trace can't have.
+#[test]
+fn frames_that_are_not_legal()
+    ensures unguarded { ¬ Legal empty unguarded }
+    ensures bank_not_asked { ¬ Legal empty bank_not_asked }
+    ensures written_twice { ¬ Legal empty written_twice }
+    ensures another_byte { ¬ Legal empty another_byte }
+    ensures idle_frame { ¬ Legal empty idle_frame }
+    ensures frame_to_another_unit { ¬ Legal empty frame_to_another_unit }
+    ensures enabled_before_opened { ¬ Legal empty enabled_before_opened }
+    ensures left_unit_unlocked { ¬ Legal left_open left_unit_unlocked }
+{}
+
+#[test]
+fn records_that_are_not_legal()
+    ensures opened_unread { ¬ Legal empty opened_unread }
+    ensures done_unread { ¬ Legal empty done_unread }
+    ensures done_with_the_lock_unread { ¬ Legal empty done_with_the_lock_unread }
+    ensures begun_twice { ¬ Legal empty begun_twice }
+    ensures begun_while_left { ¬ Legal left_open begun_while_left }
+    ensures begun_after_a_stop { ¬ Legal empty begun_after_a_stop }
+    ensures closed_unread { ¬ Legal left_open closed_unread }
+{}
+
+#[test]
+fn answers_that_are_not_legal()
+    ensures busy_at_once { ¬ Legal empty busy_at_once }
+    ensures reply_to_another { ¬ Legal empty reply_to_another }
+    ensures said_before_ended { ¬ Legal empty said_before_ended }
+    ensures blocked_after_a_read { ¬ Legal left_open blocked_after_a_read }
+{}

@@ -1,5 +1,5 @@
 -- Where no order is in doubt, each place holds one byte alone.
-use Rattle.std.proofs.Common.{◌≡◌, refl, sym, ap, ◌∙◌, ℕ, true, false, List, [], ◌∷◌, Option, Some, None, is_some}
+use Rattle.std.proofs.Common.{◌≡◌, refl, ap, ◌∙◌, ℕ, true, List, [], ◌∷◌, Option, Some, None, is_some}
 use Rattle.dali_bank.specs.Order.{Contents}
 use Rattle.dali_gear.specs.World.{World, byte_at}
 use Rattle.dali_journal.specs.declared.record.Record.{Record}

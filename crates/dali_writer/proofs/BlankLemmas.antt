@@ -3,18 +3,18 @@ use Rattle.std.proofs.Common.{◌≡◌, inl, inr, refl, ℕ, Bool, true, false,
 use Rattle.std.proofs.lemmas.Bool.{eqb-true}
 use Rattle.dali_frame.specs.declared.forward.Frame.{Frame}
 use Rattle.dali_frame.specs.declared.forward.Frame.TheVariants.{Dtr0, Dtr1, Write, Enable, AskDtr0, AskDtr1, Read}
-use Rattle.dali_gear.specs.World.{Gear, World, stored, is_open}
+use Rattle.dali_gear.specs.World.{Gear, stored, is_open}
 use Rattle.dali_gear.specs.Hears.{Hears, up}
 use Rattle.dali_gear.specs.Carry.{Carry, MayHear, MayAnswer}
 use Rattle.dali_gear.specs.Chain.{Chain}
 use Rattle.dali_journal.specs.declared.record.Code.TheVariants.{Done}
-use Rattle.dali_journal.specs.declared.record.Record.TheVariants.{Began, Opened, Ended, Closed}
+use Rattle.dali_journal.specs.declared.record.Record.TheVariants.{Began, Opened, Ended}
 use Rattle.dali_writer.specs.declared.happening.Reply.TheVariants as replies
 use Rattle.dali_writer.specs.declared.happening.Happening.{Happening}
-use Rattle.dali_writer.specs.declared.happening.Happening.TheVariants.{Asked, Answered, Sent, Kept, Stopped}
+use Rattle.dali_writer.specs.declared.happening.Happening.TheVariants.{Asked, Answered, Sent, Kept}
 use Rattle.dali_writer.specs.Moves.{Moves}
 use Rattle.dali_writer.specs.Fits.{Fits, OnlyNamed}
-use Rattle.dali_writer.specs.Worked.{select_at, read_at, write_at, write_all, read_all, alone, blank_unit, empty, first_order, asked, taken, begun, measured, opened, unlocked, locked, lock_read, read_back, ended, said, whole, GoesAlong}
+use Rattle.dali_writer.specs.Worked.{select_at, read_at, write_at, alone, blank_unit, empty, first_order, asked, taken, begun, measured, opened, unlocked, locked, lock_read, read_back, ended, said, whole, GoesAlong}
 use Rattle.dali_writer.proofs.WorkedLemmas.{whole_legal}
 
 -- the unit, alone, hears a frame

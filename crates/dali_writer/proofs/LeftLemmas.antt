@@ -1,12 +1,12 @@
 -- The worked trace of an order that finds another unit left open is legal.
-use Rattle.std.proofs.Common.{◌≡◌, ◌⊎◌, inl, inr, refl, sym, ℕ, List, [], ◌∷◌, Option, Some, None, arith}
+use Rattle.std.proofs.Common.{◌≡◌, inl, refl, List, ◌∷◌, Some, None, arith}
 use Rattle.dali_frame.specs.declared.forward.Frame.TheVariants.{Dtr1, AskDtr1, Enable}
 use Rattle.dali_journal.specs.Sentence.{named_unit}
 use Rattle.dali_write.proofs.EndLemmas.{reads_by}
 use Rattle.dali_writer.specs.declared.happening.Happening.{Happening}
-use Rattle.dali_writer.specs.declared.happening.Happening.TheVariants.{Asked, Answered, Sent, Kept, Stopped}
-use Rattle.dali_writer.specs.Trace.{Start, standing_at, sent_of, sent_since_taken, waiting}
-use Rattle.dali_writer.specs.Legal.{Serves, MayFollow, MaySend, Legal}
+use Rattle.dali_writer.specs.declared.happening.Happening.TheVariants.{Sent}
+use Rattle.dali_writer.specs.Trace.{standing_at, sent_since_taken}
+use Rattle.dali_writer.specs.Legal.{Serves, MayFollow, Legal}
 use Rattle.dali_writer.specs.Worked.{read_at, enable_twice, write_at, read_try, lock_try, eight_times, left_open, second_taken, unreached, blocked, taken_again, second_begun}
 use Rattle.dali_writer.proofs.WorkedLemmas.{next, enable_legal, read_legal, write_legal, read_stands}
 use Rattle.dali_writer.proofs.RefusedLemmas.{has_none}

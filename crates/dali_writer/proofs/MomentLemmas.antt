@@ -2,17 +2,16 @@
 use Rattle.std.proofs.Common.{◌≡◌, refl, sym, subst, ℕ, List, [], ◌∷◌, Option}
 use Rattle.dali_frame.specs.declared.forward.Frame.{Frame}
 use Rattle.dali_gear.specs.World.{World}
-use Rattle.dali_gear.specs.Chain.{IsChain, AtEachMoment}
+use Rattle.dali_gear.specs.Chain.{AtEachMoment}
 use Rattle.dali_journal.specs.declared.record.Record.{Record}
 use Rattle.dali_journal.specs.Sentence.{IsSentence}
 use Rattle.dali_write.specs.Reads.{ReadStands}
 use Rattle.dali_write.specs.Worlds.{Run, Shows}
 use Rattle.dali_write.proofs.StandingReadLemmas.{stands_true}
-use Rattle.dali_writer.specs.declared.happening.Reply.{Reply}
 use Rattle.dali_writer.specs.declared.happening.Happening.{Happening}
 use Rattle.dali_writer.specs.declared.happening.Happening.TheVariants.{Asked, Answered, Sent, Kept, Stopped}
 use Rattle.dali_writer.specs.Trace.{Start, records_of, standing_at, sent_of}
-use Rattle.dali_writer.specs.Legal.{Legal, MayFollow, MayKeep, MaySend}
+use Rattle.dali_writer.specs.Legal.{MayFollow, MayKeep, MaySend}
 use Rattle.dali_writer.specs.Moves.{Moves}
 use Rattle.dali_writer.specs.Fits.{Fits, OnlyNamed}
 use Rattle.dali_writer.specs.WhenKept.{WhenKept}

@@ -8,7 +8,7 @@ use Rattle.dali_writer.specs.declared.happening.Happening.TheVariants.{Asked, An
 use Rattle.dali_writer.specs.declared.happening.Event.TheVariants.{Submit, Step, Stop}
 use Rattle.dali_writer.specs.Trace.{is_busy}
 use Rattle.dali_writer.specs.Parts.{AreParts}
-use Rattle.dali_writer.specs.Worked.{empty, first_order, asked, taken, begun}
+use Rattle.dali_writer.specs.Worked.{empty, first_order, asked, begun}
 
 -- a record of 23 bytes isn't kept where 22 reach the journal
 kept_is : (entry : Record) (before : List Happening) → Stopped ∷ begun ≡ Stopped ∷ Kept entry ∷ before → Began first_order ≡ entry

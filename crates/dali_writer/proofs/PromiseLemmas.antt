@@ -1,5 +1,5 @@
 -- When a record is kept, what it rests on is so in the world, in the words of the promises.
-use Rattle.std.proofs.Common.{◌≡◌, refl, sym, subst, ℕ, false, List, [], ◌∷◌}
+use Rattle.std.proofs.Common.{◌≡◌, sym, subst, false, List, ◌∷◌}
 use Rattle.dali_gear.specs.World.{World, is_enabled}
 use Rattle.dali_journal.specs.declared.record.Code.TheVariants.{Done, Short, Format, Silent, Doubt, DoubtOpen}
 use Rattle.dali_journal.specs.declared.record.Record.{Record}

@@ -1,9 +1,9 @@
 -- What may not happen on the way of the worked traces.
-use Rattle.std.proofs.Common.{◌≡◌, ◌⊎◌, inl, inr, refl, sym, ap, ◌∙◌, subst, ℕ, Bool, true, false, ◌&&◌, not, List, [], ◌∷◌, Option, Some, None, arith}
+use Rattle.std.proofs.Common.{◌≡◌, inl, inr, refl, sym, ap, ◌∙◌, subst, ℕ, Bool, true, false, ◌&&◌, not, List, [], ◌∷◌, Option, Some, None, arith}
 use Rattle.std.specs.Prelude.{◌≢◌}
 use Rattle.std.proofs.lemmas.Bool.{and_parts}
 use Rattle.dali_frame.specs.declared.forward.Frame.{Frame}
-use Rattle.dali_frame.specs.declared.forward.Frame.TheVariants.{Dtr0, Dtr1, Write, Enable, AskDtr0, AskDtr1, Read}
+use Rattle.dali_frame.specs.declared.forward.Frame.TheVariants.{Dtr1, Write, Enable, AskDtr0, AskDtr1, Read}
 use Rattle.dali_bank.specs.Order.{update_at}
 use Rattle.dali_journal.specs.declared.standing.Standing.TheVariants as standings
 use Rattle.dali_write.specs.Exchanges.{Exchange}
@@ -13,7 +13,7 @@ use Rattle.dali_write.proofs.EndLemmas.{reads_by, ends_selecting, ends_reading}
 use Rattle.dali_writer.specs.declared.happening.Happening.{Happening}
 use Rattle.dali_writer.specs.Trace.{sent_of, sent_since_taken}
 use Rattle.dali_writer.specs.Legal.{MayPut, Legal}
-use Rattle.dali_writer.specs.Worked.{read_at, write_at, second_taken, empty, left_open, first_order, opened, enable_twice, locked, unguarded, bank_not_asked, written_twice, another_byte, idle_frame, frame_to_another_unit, enabled_before_opened, opened_unread, done_unread, done_with_the_lock_unread, begun_twice, busy_at_once, reply_to_another, said_before_ended, begun_while_left, closed_unread, blocked_after_a_read, left_unit_unlocked, begun_after_a_stop}
+use Rattle.dali_writer.specs.Worked.{read_at, write_at, second_taken, empty, left_open, first_order, locked, unguarded, bank_not_asked, written_twice, another_byte, idle_frame, frame_to_another_unit, enabled_before_opened, opened_unread, done_unread, done_with_the_lock_unread, begun_twice, busy_at_once, reply_to_another, said_before_ended, begun_while_left, closed_unread, blocked_after_a_read, left_unit_unlocked, begun_after_a_stop}
 
 -- the newest exchange and the third newest of those that select
 newest_is : (unit location : ℕ) (x : Exchange) (told : List Exchange) → Selects unit location (x ∷ told) → (x.frame ≡ AskDtr0 unit) × (x.answer ≡ Some location)
@@ -135,14 +135,19 @@ pub not_with_the_lock_unread : Legal empty done_with_the_lock_unread → ⊥
 not_with_the_lock_unread legal = legal_none where
   p3 : List Happening
   p3 = read_at 5 3 0x03 locked
+
   p4 : List Happening
   p4 = read_at 5 4 0xA4 p3
+
   p5 : List Happening
   p5 = read_at 5 5 0xCE p4
+
   p6 : List Happening
   p6 = read_at 5 6 0xEF p5
+
   p7 : List Happening
   p7 = read_at 5 7 0xAD p6
+
   legal_none : ⊥
   legal_none =
       none_stands _ 0xFF (Some 0xFF) 5 0x02 0xFF

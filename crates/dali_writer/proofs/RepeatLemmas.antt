@@ -1,5 +1,5 @@
 -- An order that has ended is the one that is found under its number, so that a repeat is answered by what is kept.
-use Rattle.std.proofs.Common.{◌≡◌, refl, sym, ap, ◌∙◌, subst, Contains, length, get_or, ◌<◌, ◌≤◌, zero, suc, Bool, true, false, ◌==◌, ℕ, List, [], ◌∷◌, ◌++◌, Option, arith}
+use Rattle.std.proofs.Common.{◌≡◌, refl, sym, ◌∙◌, subst, Contains, length, get_or, ◌<◌, ◌≤◌, zero, suc, Bool, true, false, ◌==◌, ℕ, List, [], ◌∷◌, ◌++◌, arith}
 use Rattle.std.proofs.lemmas.Bool.{eqb-true, eq-eqb}
 use Rattle.std.proofs.lemmas.List.{append_assoc}
 use Rattle.dali_bank.specs.Order.{Contents}
@@ -8,17 +8,15 @@ use Rattle.dali_journal.specs.declared.record.Record.{Record}
 use Rattle.dali_journal.specs.declared.record.Record.TheVariants.{Began, Opened, Ended, Closed}
 use Rattle.dali_journal.specs.declared.kept.Stage.{Stage}
 use Rattle.dali_journal.specs.declared.kept.Stage.TheVariants as stages
-use Rattle.dali_journal.specs.declared.kept.Kept.{Kept}
 use Rattle.dali_journal.specs.declared.kept.Kept.TheVariants as kepts
 use Rattle.dali_journal.specs.Sentence.{is_begun, IsSentence}
 use Rattle.dali_journal.specs.Orders.{orders_of, come_to, kept_at, kept_among, kept_of}
-use Rattle.dali_writer.specs.declared.happening.Reply.{Reply}
 use Rattle.dali_writer.specs.declared.happening.Reply.TheVariants as replies
 use Rattle.dali_writer.specs.declared.happening.Happening.{Happening}
 use Rattle.dali_writer.specs.declared.happening.Happening.TheVariants.{Asked, Answered, Sent, Kept as Keeps, Stopped}
 use Rattle.dali_writer.specs.Trace.{Start, records_of, is_busy, is_full}
 use Rattle.dali_writer.specs.Legal.{Replies, Legal}
-use Rattle.dali_writer.specs.Quiet.{NoneTaken, NoneSent}
+use Rattle.dali_writer.specs.Quiet.{NoneTaken}
 use Rattle.dali_writer.specs.Law.{NothingIsDone}
 use Rattle.dali_writer.proofs.MomentLemmas.{may_keep}
 use Rattle.dali_writer.proofs.ReplyLemmas.{only_due}

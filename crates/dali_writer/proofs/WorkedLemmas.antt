@@ -1,22 +1,19 @@
 -- The worked traces are legal, and what may not happen on the way isn't.
-use Rattle.std.proofs.Common.{◌≡◌, ◌≤◌, ◌⊎◌, inl, inr, refl, sym, ap, ◌∙◌, ℕ, List, [], ◌∷◌, ◌++◌, Option, Some, None, IsSome, length, arith}
+use Rattle.std.proofs.Common.{◌≡◌, inl, inr, refl, sym, ap, ℕ, List, [], ◌∷◌, Option, Some, None, arith}
 use Rattle.dali_frame.specs.declared.forward.Frame.{Frame}
-use Rattle.dali_frame.specs.declared.forward.Frame.TheVariants.{Dtr0, Dtr1, Write, Enable, AskDtr0, AskDtr1, Read}
+use Rattle.dali_frame.specs.declared.forward.Frame.TheVariants.{Dtr0, Dtr1, Enable, AskDtr0, AskDtr1}
 use Rattle.dali_bank.specs.Order.{Contents, update_at}
-use Rattle.dali_journal.specs.declared.record.Record.TheVariants.{Began, Opened, Ended, Closed}
 use Rattle.dali_journal.specs.declared.standing.Standing.{Standing}
 use Rattle.dali_journal.specs.declared.standing.Standing.TheVariants as standings
 use Rattle.dali_journal.specs.Sentence.{named_unit}
-use Rattle.dali_write.specs.Exchanges.{Exchange}
 use Rattle.dali_write.specs.Findings.{ShowsAll}
-use Rattle.dali_write.specs.Worlds.{IsCheckedRead, Selects}
-use Rattle.dali_write.specs.Reads.{ReadStands, HasRead}
+use Rattle.dali_write.specs.Reads.{ReadStands}
 use Rattle.dali_write.proofs.EndLemmas.{selects_by, reads_by}
 use Rattle.dali_writer.specs.declared.happening.Happening.{Happening}
-use Rattle.dali_writer.specs.declared.happening.Happening.TheVariants.{Asked, Answered, Sent, Kept, Stopped}
+use Rattle.dali_writer.specs.declared.happening.Happening.TheVariants.{Sent}
 use Rattle.dali_writer.specs.Trace.{Start, standing_at, sent_of}
-use Rattle.dali_writer.specs.Legal.{Serves, MayPut, MaySend, IsGuarded, MayFollow, Legal}
-use Rattle.dali_writer.specs.Worked.{select_at, read_at, enable_twice, write_at, read_all, write_all, first_order, empty, asked, taken, begun, measured, opened, unlocked, written, locked, lock_read, read_back, ended, said, whole}
+use Rattle.dali_writer.specs.Legal.{Serves, MayPut, MaySend, MayFollow, Legal}
+use Rattle.dali_writer.specs.Worked.{select_at, read_at, enable_twice, write_at, read_all, write_all, first_order, empty, taken, begun, measured, opened, unlocked, written, locked, lock_read, read_back, ended, said, whole}
 
 -- a unit that is served is so after one frame more
 pub next : (past : List Happening) (frame : Frame) (answer : Option ℕ) (stands : Standing) (unit : ℕ) → Serves past stands unit → Serves (Sent frame answer ∷ past) stands unit

@@ -1,5 +1,5 @@
 -- Worked traces: a GTIN order on a blank unit, an order that finds another unit left open, and what may not happen on the way.
-use Rattle.std.specs.Prelude.{◌≡◌, ◌==◌, ℕ, nat_le, false, List, [], ◌∷◌, Option, Some, None, if◌then◌else◌}
+use Rattle.std.specs.Prelude.{◌≡◌, ◌==◌, ℕ, nat_le, false, List, [], ◌∷◌, Some, None, if◌then◌else◌}
 use Rattle.dali_frame.specs.declared.forward.Frame.TheVariants.{Dtr0, Dtr1, Write, Enable, AskDtr0, AskDtr1, Read}
 use Rattle.dali_bank.specs.Order.{Contents}
 use Rattle.dali_gear.specs.World.{Gear, World, Memory}

@@ -10,7 +10,6 @@ ghost use Rattle.dali_writer.specs.Worked.{unguarded, bank_not_asked, written_tw
 ghost use Rattle.dali_writer.specs.Worked.{begun_twice, busy_at_once, reply_to_another, said_before_ended, begun_while_left, closed_unread, blocked_after_a_read, left_unit_unlocked, begun_after_a_stop};
 
 // A GTIN order on a blank unit, 96 frames, and the same order sent again.
-#[test]
 fn the_worked_trace_is_legal()
     ensures legal { Legal empty whole }
     ensures finished { IsFinished whole }
@@ -19,13 +18,11 @@ fn the_worked_trace_is_legal()
 {}
 
 // The premises of the laws are met together: a blank unit goes along that trace.
-#[test]
 fn a_blank_unit_goes_along()
     ensures { GoesAlong }
 {}
 
 // An order that finds another unit left open: it is blocked after 48 frames, and begins when it is sent again.
-#[test]
 fn the_trace_with_a_left_unit_is_legal()
     ensures legal { Legal left_open second_begun }
     ensures frames { length (sent_of unreached) ≡ 48 }
@@ -35,7 +32,6 @@ fn the_trace_with_a_left_unit_is_legal()
 
 // A step keeps the record of 23 bytes that begins the order, and so does a stop that lets 23 bytes through, but not one
 // that lets 22 through. An order alone is no finished trace.
-#[test]
 fn traces_are_parts_of_events()
     ensures stepped { AreParts empty (Step ∷ Submit first_order ∷ []) begun }
     ensures stopped { AreParts empty (Stop 22 ∷ Step ∷ Submit first_order ∷ []) (Stopped ∷ begun) }
@@ -46,7 +42,6 @@ fn traces_are_parts_of_events()
 {}
 
 // What a legal trace can't have.
-#[test]
 fn frames_that_are_not_legal()
     ensures unguarded { ¬ Legal empty unguarded }
     ensures bank_not_asked { ¬ Legal empty bank_not_asked }
@@ -58,7 +53,6 @@ fn frames_that_are_not_legal()
     ensures left_unit_unlocked { ¬ Legal left_open left_unit_unlocked }
 {}
 
-#[test]
 fn records_that_are_not_legal()
     ensures opened_unread { ¬ Legal empty opened_unread }
     ensures done_unread { ¬ Legal empty done_unread }
@@ -69,10 +63,21 @@ fn records_that_are_not_legal()
     ensures closed_unread { ¬ Legal left_open closed_unread }
 {}
 
-#[test]
 fn answers_that_are_not_legal()
     ensures busy_at_once { ¬ Legal empty busy_at_once }
     ensures reply_to_another { ¬ Legal empty reply_to_another }
     ensures said_before_ended { ¬ Legal empty said_before_ended }
     ensures blocked_after_a_read { ¬ Legal left_open blocked_after_a_read }
 {}
+
+// All of it is proved: the test calls it, so that nothing is left out.
+#[test]
+fn the_worked_traces_are_as_they_should_be() {
+    the_worked_trace_is_legal();
+    a_blank_unit_goes_along();
+    the_trace_with_a_left_unit_is_legal();
+    traces_are_parts_of_events();
+    frames_that_are_not_legal();
+    records_that_are_not_legal();
+    answers_that_are_not_legal();
+}

@@ -1,13 +1,12 @@
 -- Exchanges that end in the four that select a location, or in a checked read.
-use Rattle.std.proofs.Common.{◌≡◌, refl, ap, ◌∙◌, subst, ℕ, List, [], ◌∷◌, ◌++◌, Option, Some}
+use Rattle.std.proofs.Common.{◌≡◌, refl, ap, ◌∙◌, ℕ, List, [], ◌∷◌, ◌++◌, Option, Some}
 use Rattle.dali_frame.specs.declared.forward.Frame.{Frame}
 use Rattle.dali_frame.specs.declared.forward.Frame.TheVariants.{Dtr0, Dtr1, AskDtr0, AskDtr1, Read}
 use Rattle.dali_write.specs.Exchanges.{Exchange}
 use Rattle.dali_write.specs.declared.line.Wish.TheVariants.{Nothing, Exactly, Anything}
-use Rattle.dali_write.specs.Tries.{byte_of}
 use Rattle.dali_write.specs.Worlds.{Selects}
 use Rattle.dali_write.specs.Reads.{EndsInRead}
-use Rattle.dali_write.proofs.ShapeLemmas.{Got, Selected, selected, WasRead, was_read}
+use Rattle.dali_write.proofs.ShapeLemmas.{Got, selected, was_read}
 
 -- a frame that was sent, with its answer
 abbrev pub exchange : Frame → Option ℕ → Exchange

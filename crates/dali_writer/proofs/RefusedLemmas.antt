@@ -13,7 +13,7 @@ use Rattle.dali_write.proofs.EndLemmas.{reads_by, ends_selecting, ends_reading}
 use Rattle.dali_writer.specs.declared.happening.Happening.{Happening}
 use Rattle.dali_writer.specs.Trace.{sent_of, sent_since_taken}
 use Rattle.dali_writer.specs.Legal.{MayPut, Legal}
-use Rattle.dali_writer.specs.Worked.{read_at, write_at, second_taken, empty, left_open, first_order, locked, unguarded, bank_not_asked, written_twice, another_byte, idle_frame, frame_to_another_unit, enabled_before_opened, opened_unread, done_unread, done_with_the_lock_unread, begun_twice, busy_at_once, reply_to_another, said_before_ended, begun_while_left, closed_unread, blocked_after_a_read, left_unit_unlocked, begun_after_a_stop}
+use Rattle.dali_writer.specs.Worked.{read_at, write_at, second_taken, empty, left_open, first_order, locked, unguarded, bank_not_asked, written_twice, another_byte, idle_frame, frame_to_another_unit, enabled_before_opened, opened_unread, done_unread, done_with_the_lock_unread, begun_twice, busy_at_once, reply_to_another, said_before_ended, begun_while_left, closed_unread, blocked_after_a_read, left_unit_unlocked, begun_after_a_stop, another_code_said, blocked_by_no_unit, silent_write, one_of_one}
 
 -- the newest exchange and the third newest of those that select
 newest_is : (unit location : ℕ) (x : Exchange) (told : List Exchange) → Selects unit location (x ∷ told) → (x.frame ≡ AskDtr0 unit) × (x.answer ≡ Some location)
@@ -184,3 +184,15 @@ not_unlocked legal = let e = legal.1.may.1 in omega (arith, e)
 
 pub not_begun_after_a_stop : Legal empty begun_after_a_stop → ⊥
 not_begun_after_a_stop legal = let e = legal.1.due in cc
+
+pub not_another_code : Legal empty another_code_said → ⊥
+not_another_code legal = let e = legal.1.1.1 in cc
+
+pub not_blocked_by_no_unit : Legal empty blocked_by_no_unit → ⊥
+not_blocked_by_no_unit legal = let e = legal.1.0 in cc
+
+pub not_silent : Legal empty silent_write → ⊥
+not_silent legal = legal.1
+
+pub not_taken_when_full : Legal one_of_one second_taken → ⊥
+not_taken_when_full legal = let e = legal.1.1.2 in cc

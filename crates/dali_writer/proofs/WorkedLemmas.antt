@@ -1,5 +1,6 @@
 -- The worked traces are legal, and what may not happen on the way isn't.
 use Rattle.std.proofs.Common.{◌≡◌, inl, inr, refl, sym, ap, ℕ, List, [], ◌∷◌, Option, Some, None, arith}
+use Rattle.std.specs.Prelude.{◌≢◌}
 use Rattle.dali_frame.specs.declared.forward.Frame.{Frame}
 use Rattle.dali_frame.specs.declared.forward.Frame.TheVariants.{Dtr0, Dtr1, Enable, AskDtr0, AskDtr1}
 use Rattle.dali_bank.specs.Order.{Contents, update_at}
@@ -13,7 +14,7 @@ use Rattle.dali_writer.specs.declared.happening.Happening.{Happening}
 use Rattle.dali_writer.specs.declared.happening.Happening.TheVariants.{Sent}
 use Rattle.dali_writer.specs.Trace.{Start, standing_at, sent_of}
 use Rattle.dali_writer.specs.Legal.{Serves, MayPut, MaySend, MayFollow, Legal}
-use Rattle.dali_writer.specs.Worked.{select_at, read_at, enable_twice, write_at, read_all, write_all, first_order, empty, taken, begun, measured, opened, unlocked, written, locked, lock_read, read_back, ended, said, whole}
+use Rattle.dali_writer.specs.Worked.{select_at, read_at, enable_twice, write_at, read_all, write_all, first_order, empty, taken, begun, measured, opened, unlocked, written, locked, lock_read, read_back, ended, said, whole, first_elsewhere, busy_while_at_work, number_used_again, one_of_one, full}
 
 -- a unit that is served is so after one frame more
 pub next : (past : List Happening) (frame : Frame) (answer : Option ℕ) (stands : Standing) (unit : ℕ) → Serves past stands unit → Serves (Sent frame answer ∷ past) stands unit
@@ -168,3 +169,15 @@ said_legal = (ended_legal, (refl, (refl, refl)))
 
 pub whole_legal : Legal empty whole
 whole_legal = ((said_legal, tt), (refl, refl))
+
+-- the other replies, each where it is due
+pub busy_legal : Legal empty busy_while_at_work
+busy_legal = ((begun_legal, tt), (refl, (tt, refl)))
+
+pub reused_legal : Legal empty number_used_again
+reused_legal = ((said_legal, tt), (refl, other)) where
+  other : first_order ≢ first_elsewhere
+  other e = let five : 5 ≡ 6 = ap (λ (order : Contents). order.unit) e in omega (arith, five)
+
+pub full_legal : Legal one_of_one full
+full_legal = ((((((tt, tt, refl), refl, tt), tt, tt), omega arith), tt), (refl, (tt, refl, refl)))

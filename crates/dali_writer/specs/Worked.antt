@@ -1,9 +1,9 @@
 -- Worked traces: a GTIN order on a blank unit, an order that finds another unit left open, and what may not happen on the way.
 use Rattle.std.specs.Prelude.{◌≡◌, ◌==◌, ℕ, nat_le, false, List, [], ◌∷◌, Some, None, if◌then◌else◌}
-use Rattle.dali_frame.specs.declared.forward.Frame.TheVariants.{Dtr0, Dtr1, Write, Enable, AskDtr0, AskDtr1, Read}
+use Rattle.dali_frame.specs.declared.forward.Frame.TheVariants.{Dtr0, Dtr1, Write, WriteSilent, Enable, AskDtr0, AskDtr1, Read}
 use Rattle.dali_bank.specs.Order.{Contents}
 use Rattle.dali_gear.specs.World.{Gear, World, Memory}
-use Rattle.dali_journal.specs.declared.record.Code.TheVariants.{Done, DoubtOpen}
+use Rattle.dali_journal.specs.declared.record.Code.TheVariants.{Done, Short, DoubtOpen}
 use Rattle.dali_journal.specs.declared.record.Record.TheVariants.{Began, Opened, Ended, Closed}
 use Rattle.dali_writer.specs.declared.happening.Reply.TheVariants as replies
 use Rattle.dali_writer.specs.declared.happening.Happening.{Happening}
@@ -169,11 +169,43 @@ reply_to_another = Answered 2 replies.Taken ∷ asked
 abbrev pub said_before_ended : List Happening
 said_before_ended = Answered 1 (replies.Kept Done) ∷ read_back
 
--- A second order that finds unit 5 left open
+-- another code than the record has
+abbrev pub another_code_said : List Happening
+another_code_said = Answered 1 (replies.Kept Short) ∷ ended
+
+-- blocked, with no unit left open
+abbrev pub blocked_by_no_unit : List Happening
+blocked_by_no_unit = Answered 1 (replies.Blocked 5) ∷ taken
+
+-- a write without an answer
+abbrev pub silent_write : List Happening
+silent_write = Sent (WriteSilent 0x55) None ∷ select_at 5 0x02 (enable_twice 5 opened)
+
+-- The other replies
 
 -- order 2 for unit 6, with the same updates
 abbrev pub second_order : Contents
 second_order = record { id = 2; unit = 6; updates = first_order.updates }
+
+-- order 1 again, for another unit
+abbrev pub first_elsewhere : Contents
+first_elsewhere = record { id = 1; unit = 6; updates = first_order.updates }
+
+-- each of them where it is due
+abbrev pub busy_while_at_work : List Happening
+busy_while_at_work = Answered 2 replies.Busy ∷ Asked second_order ∷ begun
+
+abbrev pub number_used_again : List Happening
+number_used_again = Answered 1 replies.IdReused ∷ Asked first_elsewhere ∷ said
+
+-- a journal that may hold one order, and holds one
+abbrev pub one_of_one : Start
+one_of_one = record { records = Ended DoubtOpen ∷ Opened 5 ∷ Began first_order ∷ []; limit = 1 }
+
+abbrev pub full : List Happening
+full = Answered 2 replies.Full ∷ Asked second_order ∷ []
+
+-- A second order that finds unit 5 left open
 
 -- the first order ended with its unit left open
 abbrev pub left_open : Start

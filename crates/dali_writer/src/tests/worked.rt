@@ -7,6 +7,7 @@ ghost use Rattle.dali_writer.specs.Legal.{Legal, IsFinished};
 ghost use Rattle.dali_writer.specs.Parts.{AreParts};
 ghost use Rattle.dali_writer.specs.Worked.{empty, left_open, first_order, second_order, asked, begun, whole, unreached, blocked, second_begun, GoesAlong};
 ghost use Rattle.dali_writer.specs.Worked.{unguarded, bank_not_asked, written_twice, another_byte, idle_frame, frame_to_another_unit, enabled_before_opened, opened_unread, done_unread, done_with_the_lock_unread};
+ghost use Rattle.dali_writer.specs.Worked.{second_taken, one_of_one, full, busy_while_at_work, number_used_again, another_code_said, blocked_by_no_unit, silent_write};
 ghost use Rattle.dali_writer.specs.Worked.{begun_twice, busy_at_once, reply_to_another, said_before_ended, begun_while_left, closed_unread, blocked_after_a_read, left_unit_unlocked, begun_after_a_stop};
 
 // A GTIN order on a blank unit, 96 frames, and the same order sent again.
@@ -30,6 +31,13 @@ fn the_trace_with_a_left_unit_is_legal()
     ensures taken { taken_orders second_begun ≡ second_order ∷ [] }
 {}
 
+// The replies that the traces above don't have, each where it is due.
+fn other_replies_are_legal()
+    ensures busy { Legal empty busy_while_at_work }
+    ensures reused { Legal empty number_used_again }
+    ensures full { Legal one_of_one full }
+{}
+
 // A step keeps the record of 23 bytes that begins the order, and so does a stop that lets 23 bytes through, but not one
 // that lets 22 through. An order alone is no finished trace.
 fn traces_are_parts_of_events()
@@ -51,6 +59,7 @@ fn frames_that_are_not_legal()
     ensures frame_to_another_unit { ¬ Legal empty frame_to_another_unit }
     ensures enabled_before_opened { ¬ Legal empty enabled_before_opened }
     ensures left_unit_unlocked { ¬ Legal left_open left_unit_unlocked }
+    ensures silent_write { ¬ Legal empty silent_write }
 {}
 
 fn records_that_are_not_legal()
@@ -67,7 +76,10 @@ fn answers_that_are_not_legal()
     ensures busy_at_once { ¬ Legal empty busy_at_once }
     ensures reply_to_another { ¬ Legal empty reply_to_another }
     ensures said_before_ended { ¬ Legal empty said_before_ended }
+    ensures another_code_said { ¬ Legal empty another_code_said }
+    ensures blocked_by_no_unit { ¬ Legal empty blocked_by_no_unit }
     ensures blocked_after_a_read { ¬ Legal left_open blocked_after_a_read }
+    ensures taken_when_full { ¬ Legal one_of_one second_taken }
 {}
 
 // All of it is proved: the test calls it, so that nothing is left out.
@@ -76,6 +88,7 @@ fn the_worked_traces_are_as_they_should_be() {
     the_worked_trace_is_legal();
     a_blank_unit_goes_along();
     the_trace_with_a_left_unit_is_legal();
+    other_replies_are_legal();
     traces_are_parts_of_events();
     frames_that_are_not_legal();
     records_that_are_not_legal();

@@ -1,4 +1,4 @@
-use Rattle.dali_writer.proofs.RefusedLemmas.{not_busy_at_once, not_to_another_number, not_said_before_ended, not_blocked_after_a_read}
+use Rattle.dali_writer.proofs.RefusedLemmas.{not_another_code, not_blocked_by_no_unit, not_taken_when_full, not_busy_at_once, not_to_another_number, not_said_before_ended, not_blocked_after_a_read}
 use Rattle.dali_writer.proofs.tests.worked.answers_that_are_not_legal.Goals as goal
 
 pub returns-clause-busy_at_once : goal.returns-clause-busy_at_once
@@ -12,3 +12,12 @@ returns-clause-said_before_ended c = not_said_before_ended
 
 pub returns-clause-blocked_after_a_read : goal.returns-clause-blocked_after_a_read
 returns-clause-blocked_after_a_read c = not_blocked_after_a_read
+
+pub returns-clause-another_code_said : goal.returns-clause-another_code_said
+returns-clause-another_code_said c = not_another_code
+
+pub returns-clause-blocked_by_no_unit : goal.returns-clause-blocked_by_no_unit
+returns-clause-blocked_by_no_unit c = not_blocked_by_no_unit
+
+pub returns-clause-taken_when_full : goal.returns-clause-taken_when_full
+returns-clause-taken_when_full c = not_taken_when_full

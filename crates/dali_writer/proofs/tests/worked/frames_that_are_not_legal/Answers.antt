@@ -1,4 +1,4 @@
-use Rattle.dali_writer.proofs.RefusedLemmas.{not_unguarded, not_with_the_bank_not_asked, not_written_twice, not_another_byte, not_idle_frame, not_to_another_unit, not_enabled_before_opened, not_unlocked}
+use Rattle.dali_writer.proofs.RefusedLemmas.{not_silent, not_unguarded, not_with_the_bank_not_asked, not_written_twice, not_another_byte, not_idle_frame, not_to_another_unit, not_enabled_before_opened, not_unlocked}
 use Rattle.dali_writer.proofs.tests.worked.frames_that_are_not_legal.Goals as goal
 
 pub returns-clause-unguarded : goal.returns-clause-unguarded
@@ -24,3 +24,6 @@ returns-clause-enabled_before_opened c = not_enabled_before_opened
 
 pub returns-clause-left_unit_unlocked : goal.returns-clause-left_unit_unlocked
 returns-clause-left_unit_unlocked c = not_unlocked
+
+pub returns-clause-silent_write : goal.returns-clause-silent_write
+returns-clause-silent_write c = not_silent

@@ -3,6 +3,8 @@
 -- What a byte is shown by is left open: the verdict of a session asks it of the world, a record of the journal of the
 -- frames that were sent, and the promises of the writer of the world again.
 use Rattle.std.specs.Prelude.{◌≡◌, ℕ, ◌<◌, ◌≤◌, List, [], ◌∷◌}
+use Rattle.dali_write.specs.declared.ask.Verdict.{Verdict}
+use Rattle.dali_write.specs.declared.ask.Verdict.TheVariants.{MayOpen, Done, Short, Format, Silent, Doubt, DoubtOpen, Closed, NotClosed, Read}
 use Rattle.dali_write.specs.Plans.{greatest}
 
 -- bank 1 reaches to the greatest location of the updates, and where that is 13h or above the content format is 0003h
@@ -26,3 +28,16 @@ ShowsAll shows (update ∷ updates) = shows update.0 update.1 × ShowsAll shows 
 -- the lock byte is FFh, and each update's location shows its byte
 abbrev pub IsWritten : (ℕ → ℕ → Type 0) → List (ℕ × ℕ) → Type 0
 IsWritten shows updates = shows 0x02 0xFF × ShowsAll shows updates
+
+-- MayOpen: bank 1 suits the updates. Short, Format: it doesn't. Done: they are written. Doubt and Closed: the lock byte answers. Other verdicts rest on nothing.
+abbrev pub Rests : (ℕ → ℕ → Type 0) → List (ℕ × ℕ) → Verdict → Type 0
+Rests shows updates MayOpen = Suits shows updates
+Rests shows updates Done = IsWritten shows updates
+Rests shows updates Short = IsTooShort shows updates
+Rests shows updates Format = HasOtherFormat shows updates
+Rests shows updates Silent = Unit {0}
+Rests shows updates Doubt = (byte : ℕ) × shows 0x02 byte
+Rests shows updates DoubtOpen = Unit {0}
+Rests shows updates Closed = (byte : ℕ) × shows 0x02 byte
+Rests shows updates NotClosed = Unit {0}
+Rests shows updates Read = Unit {0}

@@ -26,6 +26,7 @@ ghost use Rattle.dali_write.specs.Walks.{Took, TookAll, Failed};
 ghost use Rattle.dali_write.specs.Doubts.{read_backs, FoundAnother};
 ghost use Rattle.dali_write.specs.Losses.{SimRun, losses, Unrefused, IsAlone, CanDo, OnlyDiffers};
 ghost use Rattle.dali_write.specs.Touches.{Touches, writes_of};
+ghost use Rattle.dali_write.specs.Findings.{Rests};
 ghost use Rattle.dali_write.specs.Reads.{ReadStands};
 ghost use Rattle.dali_write.specs.Worlds.{Run, IsCheckedRead, Shows, KeepsAt, Selects, OnlyEnabled, MayWrite};
 
@@ -65,6 +66,16 @@ pub fn guarded_writes_are_safe()
     ensures { (told : List Exchange) (first before last : World) (unit location byte : ℕ) (answer : Option ℕ)
         → Run told first before → Selects unit location told → OnlyEnabled unit before → Carry before (Write byte) answer last
         → MayWrite before unit location byte answer last }
+{}
+
+/// What a session's verdict rests on: checked reads of its own that still stand.
+pub fn verdicts_rest_on_reads()
+    ensures opened { (told : List Exchange) (unit : ℕ) (updates : List (ℕ × ℕ)) (verdict : Verdict)
+        → Wants unit (unlock updates) told (Ask.Ended verdict) → Rests (ReadStands told unit) updates verdict }
+    ensures fresh { (told : List Exchange) (unit : ℕ) (updates : List (ℕ × ℕ)) (verdict : Verdict)
+        → Wants unit (read_length updates) told (Ask.Ended verdict) → Rests (ReadStands told unit) updates verdict }
+    ensures closing { (told : List Exchange) (unit : ℕ) (verdict : Verdict)
+        → Wants unit (close Verdict.Closed Verdict.NotClosed) told (Ask.Ended verdict) → Rests (ReadStands told unit) [] verdict }
 {}
 
 /// What a session's verdict says of the world.

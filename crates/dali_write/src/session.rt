@@ -130,6 +130,14 @@ impl Session {
         }
     }
 
+    /// The short address of the session's unit, 0 to 63.
+    pub fn unit(&self) -> u8
+        ensures value { result ≡ unit_of self.now }
+        ensures short { result ≤ 63 }
+    {
+        self.unit
+    }
+
     /// The order of a fresh or an opened session.
     pub fn order(&self) -> Option<&Order>
         ensures some { IfSome result (λ order. order_of (job_of self.now) ≡ Some order.now) }

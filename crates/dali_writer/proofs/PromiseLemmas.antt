@@ -13,7 +13,8 @@ use Rattle.dali_writer.specs.declared.happening.Happening.TheVariants.{Kept}
 use Rattle.dali_writer.specs.Trace.{Start, standing_at}
 use Rattle.dali_writer.specs.Grounds.{Grounds}
 use Rattle.dali_writer.specs.WhenKept.{Holds, WhenKept}
-use Rattle.dali_writer.proofs.RecordLemmas.{shown_byte, shown_off, suits_too, short_too, format_too, written_too}
+use Rattle.dali_write.proofs.RestLemmas.{suits_too, short_too, format_too, written_too}
+use Rattle.dali_writer.proofs.RecordLemmas.{shown_byte, shown_off}
 
 pub when_kept : (start : Start) (past : List Happening) (now : World) (entry : Record) (stands : Standing) → standing_at start past ≡ stands
     → Allows stands entry → Grounds (Shows now) stands entry → WhenKept start (Kept entry ∷ past) now

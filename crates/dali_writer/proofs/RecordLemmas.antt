@@ -14,6 +14,7 @@ use Rattle.dali_journal.specs.Sentence.{Allows, next_standing, standing_of, name
 use Rattle.dali_journal.specs.Orders.{orders_of, come_to}
 use Rattle.dali_write.specs.Findings.{Suits, IsTooShort, HasOtherFormat, ShowsAll, IsWritten}
 use Rattle.dali_write.specs.Worlds.{Shows}
+use Rattle.dali_write.proofs.RestLemmas.{Shown, suits_too, short_too, format_too, written_too}
 use Rattle.dali_writer.specs.Grounds.{Grounds}
 use Rattle.dali_writer.specs.Possible.{Applied, Untouched, InDoubt, byte_for, MayHold, IsPossible}
 use Rattle.dali_writer.specs.Fits.{Fits, IsOpened}
@@ -148,26 +149,6 @@ keeps_only now (standings.Left unit) (Closed closed) allowed grounds only addres
 keeps_only now _ _ allowed grounds only address on = absurd allowed
 
 -- what a record rests on is so of one way of showing where it is so of another that shows no less
-abbrev pub Shown : (ℕ → ℕ → Type 0) → (ℕ → ℕ → Type 0) → Type 0
-Shown P Q = (location byte : ℕ) → P location byte → Q location byte
-
-pub suits_too : (P Q : ℕ → ℕ → Type 0) (updates : List (ℕ × ℕ)) → Shown P Q → Suits P updates → Suits Q updates
-suits_too P Q updates f suits =
-    (suits.0, f 0 suits.0 suits.1, suits.2, λ needed. (f 0x11 0 (suits.3 needed).0, f 0x12 3 (suits.3 needed).1))
-
-pub short_too : (P Q : ℕ → ℕ → Type 0) (updates : List (ℕ × ℕ)) → Shown P Q → IsTooShort P updates → IsTooShort Q updates
-short_too P Q updates f short = (short.0, f 0 short.0 short.1, short.2)
-
-pub format_too : (P Q : ℕ → ℕ → Type 0) (updates : List (ℕ × ℕ)) → Shown P Q → HasOtherFormat P updates → HasOtherFormat Q updates
-format_too P Q updates f other = (other.0, other.1, f 0x11 other.0 other.2, f 0x12 other.1 other.3, other.4, other.5)
-
-all_too : (P Q : ℕ → ℕ → Type 0) (updates : List (ℕ × ℕ)) → Shown P Q → ShowsAll P updates → ShowsAll Q updates
-all_too P Q [] f all = tt
-all_too P Q (update ∷ updates) f all = (f update.0 update.1 all.0, all_too P Q updates f all.1)
-
-pub written_too : (P Q : ℕ → ℕ → Type 0) (updates : List (ℕ × ℕ)) → Shown P Q → IsWritten P updates → IsWritten Q updates
-written_too P Q updates f done = (f 2 0xFF done.0, all_too P Q updates f done.1)
-
 pub grounds_too : (P Q : ℕ → ℕ → ℕ → Type 0) → ((unit : ℕ) → Shown (P unit) (Q unit)) → (stands : Standing) (entry : Record)
     → Grounds P stands entry → Grounds Q stands entry
 grounds_too P Q f (standings.Began order) (Opened unit) grounds = suits_too (P order.unit) (Q order.unit) order.updates (f order.unit) grounds

@@ -3,7 +3,9 @@ use Rattle.std.specs.Prelude.{◌≡◌, ℕ, ◌+◌, ◌-◌, ◌*◌, List, l
 use Rattle.dali_write.specs.Exchanges.{Exchange}
 use Rattle.dali_write.specs.declared.line.Line.{Line}
 use Rattle.dali_write.specs.declared.ask.Ask.{Ask}
+use Rattle.dali_bank.specs.Order.{Contents}
 use Rattle.dali_write.specs.declared.stage.Job.{Job}
+use Rattle.dali_write.specs.declared.stage.Job.TheVariants.{Fresh, Opened, Closing}
 use Rattle.dali_write.specs.declared.session.Session.{Session}
 use Rattle.dali_write.specs.Tries.{plan_lines, ask_at}
 use Rattle.dali_write.specs.Found.{StandsWith}
@@ -19,6 +21,16 @@ job_of s = s.job
 
 abbrev pub bytes_of : Session → List ℕ
 bytes_of s = s.bytes.items
+
+-- The session looks whether the order suits its unit; it carries the order out; it closes the unit.
+abbrev pub IsFresh : Contents → Session → Type 0
+IsFresh order s = (unit_of s ≡ order.unit) × (job_of s ≡ Fresh order)
+
+abbrev pub IsOpened : Contents → Session → Type 0
+IsOpened order s = (unit_of s ≡ order.unit) × (job_of s ≡ Opened order)
+
+abbrev pub IsClosing : ℕ → Session → Type 0
+IsClosing unit s = (unit_of s ≡ unit) × (job_of s ≡ Closing)
 
 -- what the session wants
 abbrev pub aim_of : Session → Ask

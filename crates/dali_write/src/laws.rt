@@ -10,7 +10,7 @@ ghost use Rattle.dali_write.specs.declared.session.Session.{Session};
 ghost use Rattle.dali_write.specs.declared.ask.Verdict.{Verdict};
 ghost use Rattle.dali_write.specs.Plans.{Plan, greatest, unlock, close, read_length, read_all};
 ghost use Rattle.dali_write.specs.Tries.{Wants};
-ghost use Rattle.dali_write.specs.Verdicts.{Says, ShowsBank};
+ghost use Rattle.dali_write.specs.Verdicts.{Says, ShowsBank, EndsFresh, EndsOpened, EndsClosing};
 ghost use Rattle.dali_write.specs.declared.stage.Job.{Job};
 ghost use Rattle.dali_write.specs.Stages.{plan_of};
 ghost use Rattle.dali_write.specs.Told.{Told, unit_of, job_of, bytes_of, aim_of};
@@ -66,6 +66,16 @@ pub fn guarded_writes_are_safe()
     ensures { (told : List Exchange) (first before last : World) (unit location byte : ℕ) (answer : Option ℕ)
         → Run told first before → Selects unit location told → OnlyEnabled unit before → Carry before (Write byte) answer last
         → MayWrite before unit location byte answer last }
+{}
+
+/// With which verdicts a session may end.
+pub fn sessions_end_by_their_kind()
+    ensures fresh { (told : List Exchange) (unit : ℕ) (updates : List (ℕ × ℕ)) (verdict : Verdict)
+        → Wants unit (read_length updates) told (Ask.Ended verdict) → EndsFresh verdict }
+    ensures opened { (told : List Exchange) (unit : ℕ) (updates : List (ℕ × ℕ)) (verdict : Verdict)
+        → Wants unit (unlock updates) told (Ask.Ended verdict) → EndsOpened verdict }
+    ensures closing { (told : List Exchange) (unit : ℕ) (verdict : Verdict)
+        → Wants unit (close Verdict.Closed Verdict.NotClosed) told (Ask.Ended verdict) → EndsClosing verdict }
 {}
 
 /// What a session's verdict rests on: checked reads of its own that still stand.

@@ -1,0 +1,80 @@
+-- With which verdicts a session may end.
+use Rattle.std.proofs.Common.{◌≡◌, subst, ℕ, Bool, ◌==◌, ◌&&◌, nat_lt, true, false, if◌then◌else◌, List, [], ◌∷◌, Option, Some, None}
+use Rattle.dali_write.specs.Exchanges.{Exchange}
+use Rattle.dali_write.specs.declared.line.Line.{Line}
+use Rattle.dali_write.specs.declared.ask.Ask.TheVariants.{Ended}
+use Rattle.dali_write.specs.declared.ask.Verdict.{Verdict}
+use Rattle.dali_write.specs.declared.ask.Verdict.TheVariants.{MayOpen, Done, Short, Format, Silent, Doubt, DoubtOpen, Closed, NotClosed}
+use Rattle.dali_write.specs.Plans.{Plan, Finish, Check, goes_on, plan_after, greatest, judge_length, read_format, read_format_low, read_length, close, read_closed, give_up, expect, read_back, read_lock, write_on, unlock}
+use Rattle.dali_write.specs.Tries.{GoesOn, Wants, ask_at}
+use Rattle.dali_write.specs.Verdicts.{EndsFresh, EndsOpened, EndsClosing}
+use Rattle.dali_write.proofs.PlanLemmas.{either_all, if_all}
+
+-- wherever the plan ends, it ends so
+abbrev EndsSo : (Verdict → Type 0) → Plan → Type 0
+EndsSo P (Finish verdict) = P verdict
+EndsSo P (Check step after) = (outcome : Option ℕ) → EndsSo P (after outcome)
+
+on : (P : Verdict → Type 0) (plan : Plan) (outcome : Option ℕ) → EndsSo P plan → EndsSo P (goes_on plan outcome)
+on P (Finish verdict) outcome ends = ends
+on P (Check step after) outcome ends = ends outcome
+
+after_all : (P : Verdict → Type 0) (plan : Plan) (outcomes : List (Option ℕ)) → EndsSo P plan → EndsSo P (plan_after plan outcomes)
+after_all P plan [] ends = ends
+after_all P plan (outcome ∷ outcomes) ends = on P (plan_after plan outcomes) outcome (after_all P plan outcomes ends)
+
+-- the plan that is left has ended
+over : (P : Verdict → Type 0) (now : Plan) (left : List Line) (verdict : Verdict) → EndsSo P now → GoesOn now left → ask_at now left ≡ Ended verdict → P verdict
+over P (Finish end) left verdict ends going is = let same : end ≡ verdict = cc in subst P same ends
+over P (Check step after) [] verdict ends going is = absurd going
+over P (Check step after) (next ∷ left) verdict ends going is = cc
+
+ended : (P : Verdict → Type 0) (unit : ℕ) (plan : Plan) (told : List Exchange) (verdict : Verdict) → EndsSo P plan → Wants unit plan told (Ended verdict) → P verdict
+ended P unit plan told verdict ends wants =
+    let s = wants.stands in
+    over P wants.now wants.left verdict (subst (EndsSo P) s.now_is (after_all P plan s.outcomes ends)) s.going wants.ask_is
+
+close_ends : (P : Verdict → Type 0) (answered unanswered : Verdict) → P answered → P unanswered → EndsSo P (close answered unanswered)
+close_ends P answered unanswered a u = λ outcome. either_all (EndsSo P) (Finish unanswered) (λ byte. Finish answered) u (λ byte. a)
+
+expect_ends : (location byte : ℕ) (after : Plan) → EndsSo EndsOpened after → EndsSo EndsOpened (expect location byte after)
+expect_ends location byte after ends =
+    let gives = close_ends EndsOpened Doubt DoubtOpen tt tt in
+    either_all (EndsSo EndsOpened) give_up (λ found. if found == byte then after else give_up) gives
+    (λ found. if_all (EndsSo EndsOpened) (found == byte) after give_up ends gives)
+
+read_back_ends : (updates : List (ℕ × ℕ)) → EndsSo EndsOpened (read_back updates)
+read_back_ends [] = tt
+read_back_ends (update ∷ updates) = expect_ends update.0 update.1 (read_back updates) (read_back_ends updates)
+
+write_on_ends : (updates left : List (ℕ × ℕ)) → EndsSo EndsOpened (write_on updates left)
+write_on_ends updates [] =
+    either_all (EndsSo EndsOpened) give_up (λ byte. read_lock updates) (close_ends EndsOpened Doubt DoubtOpen tt tt)
+    (λ byte. expect_ends 2 0xFF (read_back updates) (read_back_ends updates))
+write_on_ends updates (update ∷ left) =
+    either_all (EndsSo EndsOpened) give_up (λ byte. write_on updates left) (close_ends EndsOpened Doubt DoubtOpen tt tt) (λ byte. write_on_ends updates left)
+
+unlock_ends : (updates : List (ℕ × ℕ)) → EndsSo EndsOpened (unlock updates)
+unlock_ends updates =
+    either_all (EndsSo EndsOpened) give_up (λ byte. write_on updates updates) (close_ends EndsOpened Doubt DoubtOpen tt tt) (λ byte. write_on_ends updates updates)
+
+length_ends : (updates : List (ℕ × ℕ)) → EndsSo EndsFresh (read_length updates)
+length_ends updates =
+    either_all (EndsSo EndsFresh) (Finish Silent) (judge_length updates) tt
+    (λ last. if_all (EndsSo EndsFresh) (nat_lt last (greatest updates)) (Finish Short) _ tt
+    (if_all (EndsSo EndsFresh) (nat_lt (greatest updates) 0x13) (Finish MayOpen) read_format tt
+    (either_all (EndsSo EndsFresh) (Finish Silent) read_format_low tt
+    (λ high. either_all (EndsSo EndsFresh) (Finish Silent) _ tt
+    (λ low. judged ((high == 0) && (low == 3)))))))  where
+      judged : (suits : Bool) → EndsFresh (if suits then MayOpen else Format)
+      judged true = tt
+      judged false = tt
+
+pub fresh_ends : (told : List Exchange) (unit : ℕ) (updates : List (ℕ × ℕ)) (verdict : Verdict) → Wants unit (read_length updates) told (Ended verdict) → EndsFresh verdict
+fresh_ends told unit updates verdict wants = ended EndsFresh unit (read_length updates) told verdict (length_ends updates) wants
+
+pub opened_ends : (told : List Exchange) (unit : ℕ) (updates : List (ℕ × ℕ)) (verdict : Verdict) → Wants unit (unlock updates) told (Ended verdict) → EndsOpened verdict
+opened_ends told unit updates verdict wants = ended EndsOpened unit (unlock updates) told verdict (unlock_ends updates) wants
+
+pub closing_ends : (told : List Exchange) (unit : ℕ) (verdict : Verdict) → Wants unit (close Closed NotClosed) told (Ended verdict) → EndsClosing verdict
+closing_ends told unit verdict wants = ended EndsClosing unit (close Closed NotClosed) told verdict (close_ends EndsClosing Closed NotClosed tt tt) wants

@@ -181,7 +181,7 @@ safe_as writes unit tried next frame wish is safe =
     subst (λ (l : Line). SafeNext writes unit tried l.frame) (sym same) safe
 
 -- the line at a number
-abbrev line_at : ℕ → List Line → Option Line
+abbrev pub line_at : ℕ → List Line → Option Line
 line_at number lines = slice_get lines number
 
 -- all frames of a checked read are quiet
@@ -191,7 +191,7 @@ read_safe writes unit location tried next left try =
     (λ address. (trying_quiet address (read_lines unit location) tried (next ∷ left) (read_quiet_lines address unit location) try).1.0)
 
 -- the last four of six lines that were sent are the selecting ones
-four_of : (unit location byte : ℕ) (l1 l2 l3 l4 l5 l6 next : Line) (left : List Line) → l1 ∷ l2 ∷ l3 ∷ l4 ∷ l5 ∷ l6 ∷ next ∷ left ≡ write_lines unit location byte
+pub four_of : (unit location byte : ℕ) (l1 l2 l3 l4 l5 l6 next : Line) (left : List Line) → l1 ∷ l2 ∷ l3 ∷ l4 ∷ l5 ∷ l6 ∷ next ∷ left ≡ write_lines unit location byte
     → l3 ∷ l4 ∷ l5 ∷ l6 ∷ [] ≡ select_lines unit location
 four_of unit location byte l1 l2 l3 l4 l5 l6 next left is = ap (λ (lines : List Line). take 4 (drop 2 lines)) is
 
@@ -274,13 +274,13 @@ misses_harmless writes unit lines (suc misses) told safe is =
     (harmless_both writes unit is.0 is.1 (missed_harmless writes unit lines is.0 safe is.3) (misses_harmless writes unit lines misses is.1 safe is.4))
 
 -- each write of the plan is one of these
-abbrev OnlyWrites : List (ℕ × ℕ) → Plan → Type 0
+abbrev pub OnlyWrites : List (ℕ × ℕ) → Plan → Type 0
 OnlyWrites writes (Finish verdict) = Unit {0}
 OnlyWrites writes (Check (ReadFrom location) after) = (outcome : Option ℕ) → OnlyWrites writes (after outcome)
 OnlyWrites writes (Check (WriteTo location byte) after) = Has writes location byte × ((outcome : Option ℕ) → OnlyWrites writes (after outcome))
 
 -- after an outcome the plan makes only these writes, too
-goes_on_writes : (writes : List (ℕ × ℕ)) (plan : Plan) (outcome : Option ℕ) → OnlyWrites writes plan → OnlyWrites writes (goes_on plan outcome)
+pub goes_on_writes : (writes : List (ℕ × ℕ)) (plan : Plan) (outcome : Option ℕ) → OnlyWrites writes plan → OnlyWrites writes (goes_on plan outcome)
 goes_on_writes writes (Finish verdict) outcome only = tt
 goes_on_writes writes (Check (ReadFrom location) after) outcome only = only outcome
 goes_on_writes writes (Check (WriteTo location byte) after) outcome only = only.1 outcome
@@ -327,7 +327,7 @@ wants_harmless writes unit plan told ask only wants =
     (harmless_both writes unit s.tried (s.missed ++ s.ended) tried (harmless_both writes unit s.missed s.ended missed before.0))
 
 -- a plan that locks the unit
-close_writes : (writes : List (ℕ × ℕ)) (answered unanswered : Verdict) → Has writes 2 0xFF → OnlyWrites writes (close answered unanswered)
+pub close_writes : (writes : List (ℕ × ℕ)) (answered unanswered : Verdict) → Has writes 2 0xFF → OnlyWrites writes (close answered unanswered)
 close_writes writes answered unanswered has = (has, λ written. either_all (OnlyWrites writes) (Finish unanswered) (λ byte. Finish answered) tt (λ byte. tt))
 
 -- a plan that reads a byte back
@@ -355,7 +355,7 @@ write_on_writes writes updates (update ∷ left) has among = (
 )
 
 -- the plan of an opened session
-unlock_writes : (updates : List (ℕ × ℕ)) → OnlyWrites (writes_of updates) (unlock updates)
+pub unlock_writes : (updates : List (ℕ × ℕ)) → OnlyWrites (writes_of updates) (unlock updates)
 unlock_writes updates =
     let has : Has (writes_of updates) 2 0xFF = inr (inl (refl, refl)) in (
       inl (refl, refl),

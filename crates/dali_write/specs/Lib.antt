@@ -15,4 +15,5 @@ pub mod Stages
 pub mod Losses
 pub mod Walks
 pub mod Touches
+pub mod Guards
 pub mod Doubts

@@ -1,5 +1,6 @@
 //! Laws of checked steps and sessions. Each is the contract of a function that does nothing.
 ghost use Rattle.std.specs.Prelude.{◌↔◌, ◌≡◌, ◌∷◌, ◌≤◌, ◌<◌, ◌⊎◌, ◌+◌, ◌*◌, List, [], length, slice_get, Some, ℕ, Option};
+ghost use Rattle.dali_frame.specs.declared.forward.Frame.{Frame};
 ghost use Rattle.dali_frame.specs.declared.forward.Frame.TheVariants.{Write};
 ghost use Rattle.dali_write.specs.declared.ask.Ask.{Ask};
 ghost use Rattle.dali_gear.specs.World.{World, Gear};
@@ -27,6 +28,7 @@ ghost use Rattle.dali_write.specs.Doubts.{read_backs, FoundAnother};
 ghost use Rattle.dali_write.specs.Losses.{SimRun, losses, Unrefused, IsAlone, CanDo, OnlyDiffers};
 ghost use Rattle.dali_write.specs.Touches.{Touches, writes_of};
 ghost use Rattle.dali_write.specs.Findings.{Rests};
+ghost use Rattle.dali_write.specs.Guards.{IsGuarded};
 ghost use Rattle.dali_write.specs.Reads.{ReadStands};
 ghost use Rattle.dali_write.specs.Worlds.{Run, IsCheckedRead, Shows, KeepsAt, Selects, OnlyEnabled, MayWrite};
 
@@ -119,6 +121,14 @@ pub fn sessions_touch_their_places_alone()
     ensures enabled { (told : List Exchange) (first last : World) (unit : ℕ) (updates : List (ℕ × ℕ)) (ask : Ask)
         → OnlyEnabled unit first → Run told first last → Wants unit (unlock updates) told ask ⊎ Wants unit (close Verdict.Closed Verdict.NotClosed) told ask
         → OnlyEnabled unit last }
+{}
+
+/// A session sends only frames that set registers, ask its unit or read it; one that writes enables
+/// its unit, and writes a byte of its own only where the unit was made sure to have selected its location.
+pub fn wanted_frames_are_guarded()
+    ensures opened { (told : List Exchange) (unit : ℕ) (updates : List (ℕ × ℕ)) (frame : Frame) → Wants unit (unlock updates) told (Ask.Send frame) → IsGuarded (writes_of updates) unit told frame }
+    ensures fresh { (told : List Exchange) (unit : ℕ) (updates : List (ℕ × ℕ)) (frame : Frame) → Wants unit (read_length updates) told (Ask.Send frame) → IsGuarded [] unit told frame }
+    ensures closing { (told : List Exchange) (unit : ℕ) (frame : Frame) → Wants unit (close Verdict.Closed Verdict.NotClosed) told (Ask.Send frame) → IsGuarded ((2, 0xFF) ∷ []) unit told frame }
 {}
 
 /// What the simulated bus does with exchanges is what its units may do.

@@ -26,7 +26,7 @@ ghost use Rattle.dali_write.specs.Walks.{Took, TookAll, Failed};
 ghost use Rattle.dali_write.specs.Doubts.{read_backs, FoundAnother};
 ghost use Rattle.dali_write.specs.Losses.{SimRun, losses, Unrefused, IsAlone, CanDo, OnlyDiffers};
 ghost use Rattle.dali_write.specs.Touches.{Touches, writes_of};
-ghost use Rattle.dali_write.specs.Reads.{ReadStands};
+ghost use Rattle.dali_write.specs.Reads.{ReadStands, HasRead};
 ghost use Rattle.dali_write.specs.Worlds.{Run, IsCheckedRead, Shows, KeepsAt, Selects, OnlyEnabled, MayWrite};
 
 /// Exchanges lead from one world to another exactly where a chain of worlds does.
@@ -156,6 +156,11 @@ pub fn sessions_give_up_late()
         → Wants unit (close Verdict.Closed Verdict.NotClosed) told (Ask.Ended Verdict.NotClosed) → Failed unit (close Verdict.Closed Verdict.NotClosed) told Verdict.NotClosed }
     ensures reading { (told : List Exchange) (unit : ℕ)
         → Wants unit read_all told (Ask.Ended Verdict.Silent) → Failed unit read_all told Verdict.Silent }
+{}
+
+/// Where a closing session ends as `NotClosed`, no checked read of its unit was answered since it began.
+pub fn unreached_units_were_not_read()
+    ensures { (told : List Exchange) (unit : ℕ) → Wants unit (close Verdict.Closed Verdict.NotClosed) told (Ask.Ended Verdict.NotClosed) → HasRead unit told → ⊥ }
 {}
 
 /// A session that carries an order out ends in doubt only after as many misses as a step has tries,

@@ -9,7 +9,7 @@ use Rattle.dali_write.specs.Plans.{Plan, Finish, Check, greatest, read_format, r
 use Rattle.dali_write.specs.declared.step.Step.TheVariants.{ReadFrom, WriteTo}
 use Rattle.dali_write.specs.declared.line.Line.{Line}
 use Rattle.dali_write.specs.Lines.{Meets, line, step_lines, byte_after}
-use Rattle.dali_write.specs.Tries.{most_tries, Trying, byte_of, StepEnds, Wants}
+use Rattle.dali_write.specs.Tries.{most_tries, Trying, byte_of, Succeeds, StepEnds, Wants}
 use Rattle.dali_write.specs.Walks.{Walk, step_misses, misses_of, Failed}
 use Rattle.dali_write.proofs.WalkLemmas.{ended_walk}
 use Rattle.dali_write.proofs.PlanLemmas.{if_all}
@@ -59,13 +59,16 @@ not_both : (byte : Option ℕ) → None ≡ byte → IsSome byte → ⊥
 not_both None none some = cc
 not_both (Some byte) none some = cc
 
+-- a step that succeeded has a byte
+pub has_byte : (unit : ℕ) (step : Step) (told : List Exchange) → Succeeds (step_lines unit step) None told → ⊥
+has_byte unit step told done =
+    let some = tried_byte (step_lines unit step) done.0 (ends_with_byte unit step) done.4 in
+    not_both (byte_of done.0) done.5 some
+
 -- a step that failed missed in each of its tries
 pub all_missed : (unit : ℕ) (step : Step) (after : Option ℕ → Plan) (told : List Exchange) (ends : StepEnds unit (Check step after) None told)
     → most_tries ≤ step_misses unit (Check step after) None told ends
-all_missed unit step after told (inl done) =
-    let some = tried_byte (step_lines unit step) done.0 (ends_with_byte unit step) done.4 in
-    let none : None ≡ byte_of done.0 = done.5 in
-    absurd (not_both (byte_of done.0) none some)
+all_missed unit step after told (inl done) = absurd (has_byte unit step told done)
 all_missed unit step after told (inr failed) = omega arith
 
 many : (verdict : Verdict) (unit : ℕ) (plan : Plan) (outcomes : List (Option ℕ)) (told : List Exchange) (walk : Walk unit plan outcomes told (Finish verdict)) → Avoids verdict plan

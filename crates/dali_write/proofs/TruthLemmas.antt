@@ -66,7 +66,7 @@ shown old unit location byte new carry after =
     let here = byte_there after.gear a.before location byte same after.dtr0_is after.dtr1_is told.1 in
     record { gear = a.after; is = is; byte_is = ap (λ (m : Memory). m 1 location) told.3 ∙ here; off = told.2 }
 
-last_answer : (tried : List Exchange) (x : Exchange) (rest : List Exchange) (unit byte : ℕ) → tried ≡ x ∷ rest → x.frame ≡ Read unit → byte_of tried ≡ Some byte → x.answer ≡ Some byte
+pub last_answer : (tried : List Exchange) (x : Exchange) (rest : List Exchange) (unit byte : ℕ) → tried ≡ x ∷ rest → x.frame ≡ Read unit → byte_of tried ≡ Some byte → x.answer ≡ Some byte
 last_answer tried x rest unit byte is frame answer =
     subst (λ (f : Frame). byte_after f x.answer (byte_of rest) ≡ Some byte) frame (subst (λ (t : List Exchange). byte_of t ≡ Some byte) is answer)
 

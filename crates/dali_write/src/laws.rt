@@ -29,7 +29,7 @@ ghost use Rattle.dali_write.specs.Losses.{SimRun, losses, Unrefused, IsAlone, Ca
 ghost use Rattle.dali_write.specs.Touches.{Touches, writes_of};
 ghost use Rattle.dali_write.specs.Findings.{Rests};
 ghost use Rattle.dali_write.specs.Guards.{IsGuarded};
-ghost use Rattle.dali_write.specs.Reads.{ReadStands};
+ghost use Rattle.dali_write.specs.Reads.{ReadStands, HasRead};
 ghost use Rattle.dali_write.specs.Worlds.{Run, IsCheckedRead, Shows, KeepsAt, Selects, OnlyEnabled, MayWrite};
 
 /// Exchanges lead from one world to another exactly where a chain of worlds does.
@@ -123,8 +123,9 @@ pub fn sessions_touch_their_places_alone()
         → OnlyEnabled unit last }
 {}
 
-/// A session sends only frames that set registers, ask its unit or read it; one that writes enables
-/// its unit, and writes a byte of its own only where the unit was made sure to have selected its location.
+/// A fresh, opened or closing session sends only frames that set registers, ask its unit or read it;
+/// one that writes enables its unit besides, and writes a byte of its own where the unit was made sure
+/// to have selected its location.
 pub fn wanted_frames_are_guarded()
     ensures opened { (told : List Exchange) (unit : ℕ) (updates : List (ℕ × ℕ)) (frame : Frame) → Wants unit (unlock updates) told (Ask.Send frame) → IsGuarded (writes_of updates) unit told frame }
     ensures fresh { (told : List Exchange) (unit : ℕ) (updates : List (ℕ × ℕ)) (frame : Frame) → Wants unit (read_length updates) told (Ask.Send frame) → IsGuarded [] unit told frame }
@@ -187,6 +188,11 @@ pub fn sessions_give_up_late()
         → Wants unit (close Verdict.Closed Verdict.NotClosed) told (Ask.Ended Verdict.NotClosed) → Failed unit (close Verdict.Closed Verdict.NotClosed) told Verdict.NotClosed }
     ensures reading { (told : List Exchange) (unit : ℕ)
         → Wants unit read_all told (Ask.Ended Verdict.Silent) → Failed unit read_all told Verdict.Silent }
+{}
+
+/// Where a closing session ends as `NotClosed`, no checked read of its unit was answered since it began.
+pub fn unreached_units_were_not_read()
+    ensures { (told : List Exchange) (unit : ℕ) → Wants unit (close Verdict.Closed Verdict.NotClosed) told (Ask.Ended Verdict.NotClosed) → HasRead unit told → ⊥ }
 {}
 
 /// A session that carries an order out ends in doubt only after as many misses as a step has tries,

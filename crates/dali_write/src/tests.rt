@@ -306,4 +306,9 @@ fn laws_hold(_rt: HostRuntime) {
     laws::apart_units_are_alone();
     laws::wants_are_determined();
     laws::each_frame_was_wanted();
+    laws::standing_reads_are_true();
+    laws::verdicts_rest_on_reads();
+    laws::sessions_end_by_their_kind();
+    laws::wanted_frames_are_guarded();
+    laws::unreached_units_were_not_read();
 }

@@ -39,9 +39,12 @@ eight_on try f past on =
     let p5 = try p4 in let p6 = try p5 in let p7 = try p6 in
     f p7 (f p6 (f p5 (f p4 (f p3 (f p2 (f p1 (f past on)))))))
 
+pub second_taken_legal : Legal left_open second_taken
+second_taken_legal = (((((((tt, tt, refl), refl, tt), tt, tt), omega arith), tt), (refl, (tt, refl, refl))))
+
 second_taken_on : GoesOn second_taken
 second_taken_on = record {
-  legal = (((((((tt, tt, refl), refl, tt), tt, tt), omega arith), tt), (refl, (tt, refl, refl))));
+  legal = second_taken_legal;
   serves = (refl, refl);
   names = refl;
   set = (5, (refl, refl));

@@ -13,3 +13,4 @@ pub mod RefusedLemmas
 pub mod LeftLemmas
 pub mod BlankLemmas
 pub mod PartLemmas
+pub mod EndingLemmas

@@ -13,7 +13,7 @@ use Rattle.dali_write.proofs.EndLemmas.{reads_by, ends_selecting, ends_reading}
 use Rattle.dali_writer.specs.declared.happening.Happening.{Happening}
 use Rattle.dali_writer.specs.Trace.{sent_of, sent_since_taken}
 use Rattle.dali_writer.specs.Legal.{MayPut, Legal}
-use Rattle.dali_writer.specs.Worked.{read_at, write_at, second_taken, empty, left_open, first_order, locked, unguarded, bank_not_asked, written_twice, another_byte, idle_frame, frame_to_another_unit, enabled_before_opened, opened_unread, done_unread, done_with_the_lock_unread, begun_twice, busy_at_once, reply_to_another, said_before_ended, begun_while_left, closed_unread, blocked_after_a_read, left_unit_unlocked, begun_after_a_stop, another_code_said, blocked_by_no_unit, silent_write, one_of_one}
+use Rattle.dali_writer.specs.Worked.{read_at, write_at, second_taken, empty, left_open, first_order, locked, unguarded, bank_not_asked, written_twice, another_byte, idle_frame, frame_to_another_unit, enabled_before_opened, opened_unread, done_unread, done_with_the_lock_unread, begun_twice, busy_at_once, reply_to_another, said_before_ended, begun_while_left, closed_unread, blocked_after_a_read, left_unit_unlocked, begun_after_a_stop, another_code_said, blocked_by_no_unit, silent_write, one_of_one, another_number_said, blocked_under_another_number, frame_to_another_unit_once_opened, frame_past_the_left_unit, another_lock_byte, opened_after_a_stop, written_after_a_stop, said_after_a_stop, closed_by_an_old_read}
 
 -- the newest exchange and the third newest of those that select
 newest_is : (unit location : ℕ) (x : Exchange) (told : List Exchange) → Selects unit location (x ∷ told) → (x.frame ≡ AskDtr0 unit) × (x.answer ≡ Some location)
@@ -196,3 +196,40 @@ not_silent legal = legal.1
 
 pub not_taken_when_full : Legal one_of_one second_taken → ⊥
 not_taken_when_full legal = let e = legal.1.1.2 in cc
+
+pub not_another_number : Legal empty another_number_said → ⊥
+not_another_number legal = let e = legal.1.1.0 in omega (arith, e)
+
+pub not_blocked_under_another_number : Legal left_open blocked_under_another_number → ⊥
+not_blocked_under_another_number legal = let e = legal.1.1 in omega (arith, e)
+
+pub not_to_another_unit_once_opened : Legal empty frame_to_another_unit_once_opened → ⊥
+not_to_another_unit_once_opened legal = let e = legal.1 in omega (arith, e)
+
+pub not_past_the_left_unit : Legal left_open frame_past_the_left_unit → ⊥
+not_past_the_left_unit legal = let e = legal.1.0 in omega (arith, e)
+
+pub not_another_lock_byte : Legal empty another_lock_byte → ⊥
+not_another_lock_byte legal = by legal.1.location (newest_is legal.1.unit legal.1.location _ _ legal.1.selected).1 legal.1.may where
+  by : (location : ℕ) → Some 2 ≡ Some location → MayPut (standings.Opened first_order) location 0xAA → ⊥
+  by location told (inl update) =
+      let is : 2 ≡ location = cc in
+      let there : update_at first_order.updates 2 ≡ Some 0xAA = subst (λ l. update_at first_order.updates l ≡ Some 0xAA) (sym is) update in cc
+  by location told (inr (lock, inl opens)) = omega (arith, opens)
+  by location told (inr (lock, inr closes)) = omega (arith, closes)
+
+pub not_opened_after_a_stop : Legal empty opened_after_a_stop → ⊥
+not_opened_after_a_stop legal = legal.1.grounds.1
+
+-- nothing is selected where no frame was sent
+none_selected : (unit location : ℕ) → Selects unit location [] → ⊥
+none_selected unit location selects = let is = (ends_selecting unit location [] selects).is in cc
+
+pub not_written_after_a_stop : Legal empty written_after_a_stop → ⊥
+not_written_after_a_stop legal = none_selected legal.1.unit legal.1.location legal.1.selected
+
+pub not_said_after_a_stop : Legal empty said_after_a_stop → ⊥
+not_said_after_a_stop legal = let e = legal.1.0 in cc
+
+pub not_closed_by_an_old_read : Legal empty closed_by_an_old_read → ⊥
+not_closed_by_an_old_read legal = legal.1.due.1

@@ -72,16 +72,16 @@ write_legal start past unit location byte legal first serves is_named may =
 pub read_stands : (past : List Happening) (unit location byte : ℕ) → ReadStands (sent_of (read_at unit location byte past)) unit location byte
 read_stands past unit location byte = inl (reads_by unit location byte None None (sent_of past))
 
-behind_read : (past : List Happening) (unit location byte other place found : ℕ) → ReadStands (sent_of past) unit location byte
+pub behind_read : (past : List Happening) (unit location byte other place found : ℕ) → ReadStands (sent_of past) unit location byte
     → ReadStands (sent_of (read_at other place found past)) unit location byte
 behind_read past unit location byte other place found stands = inr (tt, inr (tt, inr (tt, inr (tt, inr (tt, stands)))))
 
 -- the same of all updates that are written, or read
-abbrev IsAmong : Contents → List (ℕ × ℕ) → Type 0
+abbrev pub IsAmong : Contents → List (ℕ × ℕ) → Type 0
 IsAmong order [] = Unit {0}
 IsAmong order (update ∷ updates) = (update_at order.updates update.0 ≡ Some update.1) × IsAmong order updates
 
-writes_legal : (start : Start) (order : Contents) (updates : List (ℕ × ℕ)) (past : List Happening) → IsAmong order updates
+pub writes_legal : (start : Start) (order : Contents) (updates : List (ℕ × ℕ)) (past : List Happening) → IsAmong order updates
     → standing_at start past ≡ standings.Opened order → Legal start past → ((unit : ℕ) → unit ≡ order.unit → MayFollow start past (Sent (Enable unit) None))
     → Legal start (write_all order.unit updates past)
 writes_legal start order [] past among at legal first = legal
@@ -92,7 +92,7 @@ writes_legal start order (update ∷ updates) past among at legal first =
     let one = write_legal start past order.unit update.0 update.1 legal (first order.unit refl) served named may in
     writes_legal start order updates (write_at order.unit update.0 update.1 past) among.1 at one (λ unit is. rw at (is, ap Some (sym is)))
 
-reads_legal : (start : Start) (order : Contents) (updates : List (ℕ × ℕ)) (past : List Happening)
+pub reads_legal : (start : Start) (order : Contents) (updates : List (ℕ × ℕ)) (past : List Happening)
     → standing_at start past ≡ standings.Opened order → Legal start past → MayFollow start past (Sent (Dtr1 1) None)
     → Legal start (read_all order.unit updates past)
 reads_legal start order [] past at legal first = legal
@@ -103,13 +103,13 @@ reads_legal start order (update ∷ updates) past at legal first =
     reads_legal start order updates (read_at order.unit update.0 update.1 past) at one on
 
 -- what was read before all of them still stands, and so does each of them
-reads_behind : (unit location byte : ℕ) (updates : List (ℕ × ℕ)) (other : ℕ) (past : List Happening) → ReadStands (sent_of past) unit location byte
+pub reads_behind : (unit location byte : ℕ) (updates : List (ℕ × ℕ)) (other : ℕ) (past : List Happening) → ReadStands (sent_of past) unit location byte
     → ReadStands (sent_of (read_all other updates past)) unit location byte
 reads_behind unit location byte [] other past stands = stands
 reads_behind unit location byte (update ∷ updates) other past stands =
     reads_behind unit location byte updates other (read_at other update.0 update.1 past) (behind_read past unit location byte other update.0 update.1 stands)
 
-reads_stand : (unit : ℕ) (updates : List (ℕ × ℕ)) (past : List Happening) → ShowsAll (ReadStands (sent_of (read_all unit updates past)) unit) updates
+pub reads_stand : (unit : ℕ) (updates : List (ℕ × ℕ)) (past : List Happening) → ShowsAll (ReadStands (sent_of (read_all unit updates past)) unit) updates
 reads_stand unit [] past = tt
 reads_stand unit (update ∷ updates) past = (
   reads_behind unit update.0 update.1 updates unit (read_at unit update.0 update.1 past) (read_stands past unit update.0 update.1),
@@ -120,13 +120,13 @@ reads_stand unit (update ∷ updates) past = (
 taken_legal : Legal empty taken
 taken_legal = (((tt, omega arith), tt), (refl, (tt, refl, refl)))
 
-begun_legal : Legal empty begun
+pub begun_legal : Legal empty begun
 begun_legal = (taken_legal, record { sentence = (tt, tt, refl); within = omega arith; due = refl; grounds = tt })
 
-measured_legal : Legal empty measured
+pub measured_legal : Legal empty measured
 measured_legal = read_legal empty begun 5 0x00 0x77 begun_legal (5, refl) refl
 
-opened_legal : Legal empty opened
+pub opened_legal : Legal empty opened
 opened_legal = (
   measured_legal,
   record {
@@ -137,7 +137,7 @@ opened_legal = (
   },
 )
 
-unlocked_legal : Legal empty unlocked
+pub unlocked_legal : Legal empty unlocked
 unlocked_legal = write_legal empty opened 5 0x02 0x55 opened_legal (refl, refl) refl refl (inr (refl, inl refl))
 
 written_legal : Legal empty written
@@ -153,7 +153,7 @@ lock_read_legal = read_legal empty locked 5 0x02 0xFF locked_legal (5, refl) ref
 read_back_legal : Legal empty read_back
 read_back_legal = reads_legal empty first_order first_order.updates lock_read refl lock_read_legal (5, refl)
 
-ended_legal : Legal empty ended
+pub ended_legal : Legal empty ended
 ended_legal = (
   read_back_legal,
   record {

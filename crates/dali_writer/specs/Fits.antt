@@ -1,11 +1,11 @@
--- What a journal promises of a world.
+-- What a journal promises of a world. The start world is called zero.
 use Rattle.std.specs.Prelude.{◌≡◌, ◌⊎◌, ℕ, true, List, [], ◌∷◌, Some, is_some}
 use Rattle.dali_gear.specs.World.{World, byte_at, is_enabled}
 use Rattle.dali_journal.specs.declared.record.Record.{Record}
 use Rattle.dali_journal.specs.declared.record.Record.TheVariants.{Opened}
 use Rattle.dali_journal.specs.Sentence.{standing_of, named_unit}
 use Rattle.dali_journal.specs.Orders.{orders_of}
-use Rattle.dali_writer.specs.Possible.{IsPossible, applied}
+use Rattle.dali_writer.specs.Possible.{IsPossible, IsSettled, applied}
 
 -- a unit was opened
 abbrev pub IsOpened : ℕ → List Record → Type 0
@@ -31,7 +31,8 @@ pub record Fits (zero : World) (records : List Record) (now : World) : Type 0 wh
 abbrev pub OnlyNamed : List Record → World → Type 0
 OnlyNamed records now = (address : ℕ) → is_enabled now address ≡ true → named_unit (standing_of records) ≡ Some address
 
--- every place but the lock bytes of bank 1 holds its byte of the start world, with the done orders applied once each in journal order
+-- every place but the lock bytes of bank 1 that no order leaves in doubt holds its byte of the start world, with the done orders applied once each in journal order
 abbrev pub IsApplied : World → List Record → World → Type 0
 IsApplied zero records now = (address bank location first : ℕ) → (IsLockByte bank location → ⊥) → byte_at zero address bank location ≡ Some first
+    → IsSettled address bank location (orders_of records)
     → byte_at now address bank location ≡ Some (applied first address bank location (orders_of records))

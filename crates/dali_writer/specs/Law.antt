@@ -16,7 +16,6 @@ use Rattle.dali_writer.specs.Trace.{Start, records_of, is_busy}
 use Rattle.dali_writer.specs.Replies.{IsReply}
 use Rattle.dali_writer.specs.Legal.{Legal}
 use Rattle.dali_writer.specs.Taken.{taken_orders, begun_orders}
-use Rattle.dali_writer.specs.Possible.{AreSettled}
 use Rattle.dali_writer.specs.Moves.{Moves}
 use Rattle.dali_writer.specs.Fits.{Fits, OnlyNamed, IsApplied}
 use Rattle.dali_writer.specs.Quiet.{NoneTaken, NoneSent}
@@ -41,16 +40,16 @@ FitsAt zero start moment now = Fits zero (records_of start moment) now
 abbrev pub OnlyNamedAt : World → Start → List Happening → World → Type 0
 OnlyNamedAt zero start moment now = OnlyNamed (records_of start moment) now
 
--- where each order is done or untouched, every place holds what it held at the start, with the done orders applied
+-- every place that is in no doubt holds what it held at the start, with the done orders applied
 abbrev pub AppliedAt : World → Start → List Happening → World → Type 0
-AppliedAt zero start moment now = AreSettled (orders_of (records_of start moment)) → IsApplied zero (records_of start moment) now
+AppliedAt zero start moment now = IsApplied zero (records_of start moment) now
 
 -- the records are a sentence within the limit
 abbrev pub RecordsAreASentence : Type 0
 RecordsAreASentence = (start : Start) (past : List Happening) → Legal start past
     → IsSentence (records_of start past) × (length (orders_of (records_of start past)) ≤ start.limit)
 
--- the orders of the records are the taken ones, in front of those of the start
+-- the orders of the records are the taken ones, after those of the start (lists have the newest first)
 abbrev pub TakenOrdersAreKept : Type 0
 TakenOrdersAreKept = (start : Start) (past : List Happening) → Legal start past
     → begun_orders (records_of start past) ≡ taken_orders past ++ begun_orders start.records
@@ -75,7 +74,7 @@ abbrev pub QuietUntilTaken : Type 0
 QuietUntilTaken = (start : Start) (past more : List Happening)
     → Legal start (more ++ past) → is_busy start past ≡ false → NoneTaken more → NothingIsDone start more past
 
--- nor by the repeat of an order that has ended
+-- where a trace isn't busy, nothing is done by the repeat of an order that has ended, nor from there until an order is taken
 abbrev pub RepeatsAreQuiet : Type 0
 RepeatsAreQuiet = (start : Start) (past more : List Happening) (order : Contents) (code : Code) (next : Happening)
     → Contains (orders_of (records_of start past)) (order, stages.Ended code) → is_busy start past ≡ false

@@ -47,7 +47,7 @@ pub record IsGuarded (past : List Happening) (stands : Standing) (byte : ℕ) : 
   pub may : MayPut stands location byte
   pub selected : Selects unit location (sent_of past)
 
--- the frame may be sent
+-- the frame may be sent: DTR0 and DTR1, which every unit hears, while some unit is served
 abbrev pub MaySend : List Happening → Standing → Frame → Type 0
 MaySend past stands (Dtr0 byte) = (unit : ℕ) × Serves past stands unit
 MaySend past stands (Dtr1 byte) = (unit : ℕ) × Serves past stands unit

@@ -50,12 +50,14 @@ applied first address bank location [] = first
 applied first address bank location (newest ∷ older) =
     applied_to (mark_of newest.1) (byte_for newest.0 address bank location) (applied first address bank location older)
 
--- an order of this mark is no longer in doubt
-abbrev pub IsSettled : Mark → Type 0
-IsSettled InDoubt = ⊥
-IsSettled other = Unit {0}
+-- whether one byte alone is possible after an order of this mark, which has this byte for the place, given whether one was before
+abbrev pub Settles : Mark → Option ℕ → Type 0 → Type 0
+Settles Applied (Some update) before = Unit {0}
+Settles InDoubt (Some update) before = ⊥
+Settles mark other before = before
 
--- each order is done or untouched
-abbrev pub AreSettled : List (Contents × Stage) → Type 0
-AreSettled [] = Unit {0}
-AreSettled (newest ∷ older) = IsSettled (mark_of newest.1) × AreSettled older
+-- no order in doubt has a byte for the place, but before one that is done and has one
+abbrev pub IsSettled : ℕ → ℕ → ℕ → List (Contents × Stage) → Type 0
+IsSettled address bank location [] = Unit {0}
+IsSettled address bank location (newest ∷ older) =
+    Settles (mark_of newest.1) (byte_for newest.0 address bank location) (IsSettled address bank location older)

@@ -34,7 +34,7 @@ sent_of (Sent frame answer ∷ past) = record { frame = frame; answer = answer }
 sent_of (Stopped ∷ past) = []
 sent_of (other ∷ past) = sent_of past
 
--- the frames since the last order was taken, or since the last stop
+-- the frames since the last order was taken, or since the last stop, whichever is later
 abbrev pub sent_since_taken : List Happening → List Exchange
 sent_since_taken [] = []
 sent_since_taken (Sent frame answer ∷ past) = record { frame = frame; answer = answer } ∷ sent_since_taken past

@@ -22,7 +22,7 @@ ForBegun start past holds = (order : Contents) × (standing_at start past ≡ st
 abbrev pub ForOpened : Start → List Happening → (Contents → Type 0) → Type 0
 ForOpened start past holds = (order : Contents) × (standing_at start past ≡ standings.Opened order) × holds order
 
--- Opened, Short and Format: 00h, 11h and 12h are so. Done: the lock byte is FFh and each update's place holds its byte, and the unit isn't enabled. Doubt and Closed: the unit isn't enabled.
+-- Opened: the unit suits its order. Short, Format: it doesn't. Done: the lock byte is FFh and each update's place holds its byte, and the unit isn't enabled. Doubt and Closed: the unit isn't enabled.
 abbrev pub WhenKept : Start → List Happening → World → Type 0
 WhenKept start (Kept (Opened unit) ∷ past) now = ForBegun start past (λ order. Suits (Holds now order.unit) order.updates)
 WhenKept start (Kept (Ended Short) ∷ past) now = ForBegun start past (λ order. IsTooShort (Holds now order.unit) order.updates)

@@ -3,7 +3,7 @@ use Rattle.std.specs.Prelude.{◌≡◌, ◌==◌, ℕ, nat_le, false, List, [],
 use Rattle.dali_frame.specs.declared.forward.Frame.TheVariants.{Dtr0, Dtr1, Write, WriteSilent, Enable, AskDtr0, AskDtr1, Read}
 use Rattle.dali_bank.specs.Order.{Contents}
 use Rattle.dali_gear.specs.World.{Gear, World, Memory}
-use Rattle.dali_journal.specs.declared.record.Code.TheVariants.{Done, Short, DoubtOpen}
+use Rattle.dali_journal.specs.declared.record.Code.TheVariants.{Done, Short, Format, Silent, Doubt, DoubtOpen}
 use Rattle.dali_journal.specs.declared.record.Record.TheVariants.{Began, Opened, Ended, Closed}
 use Rattle.dali_writer.specs.declared.happening.Reply.TheVariants as replies
 use Rattle.dali_writer.specs.declared.happening.Happening.{Happening}
@@ -27,6 +27,10 @@ enable_twice unit past = Sent (Enable unit) None ∷ Sent (Enable unit) None ∷
 -- a checked write more, answered
 abbrev pub write_at : ℕ → ℕ → ℕ → List Happening → List Happening
 write_at unit location byte past = Sent (Write byte) (Some byte) ∷ select_at unit location (enable_twice unit past)
+
+-- a try that misses at its first query
+abbrev pub read_try : List Happening → List Happening
+read_try past = Sent (AskDtr1 5) None ∷ Sent (Dtr1 1) None ∷ past
 
 -- one after the other, the first update first
 abbrev pub read_all : ℕ → List (ℕ × ℕ) → List Happening → List Happening
@@ -134,9 +138,16 @@ another_byte = Sent (Write 0x04) (Some 0x04) ∷ select_at 5 0x03 unlocked
 abbrev pub idle_frame : List Happening
 idle_frame = Sent (Dtr1 1) None ∷ said
 
--- a frame to another unit
+-- a frame to another unit, before and after Opened
 abbrev pub frame_to_another_unit : List Happening
 frame_to_another_unit = Sent (AskDtr1 6) (Some 1) ∷ begun
+
+abbrev pub frame_to_another_unit_once_opened : List Happening
+frame_to_another_unit_once_opened = Sent (AskDtr1 6) (Some 1) ∷ opened
+
+-- another byte than 55h and FFh to the lock byte
+abbrev pub another_lock_byte : List Happening
+another_lock_byte = Sent (Write 0xAA) (Some 0xAA) ∷ select_at 5 0x02 (enable_twice 5 opened)
 
 -- a unit enabled before it is opened
 abbrev pub enabled_before_opened : List Happening
@@ -169,7 +180,10 @@ reply_to_another = Answered 2 replies.Taken ∷ asked
 abbrev pub said_before_ended : List Happening
 said_before_ended = Answered 1 (replies.Kept Done) ∷ read_back
 
--- another code than the record has
+-- another number or another code than the record has
+abbrev pub another_number_said : List Happening
+another_number_said = Answered 2 (replies.Kept Done) ∷ ended
+
 abbrev pub another_code_said : List Happening
 another_code_said = Answered 1 (replies.Kept Short) ∷ ended
 
@@ -205,6 +219,65 @@ one_of_one = record { records = Ended DoubtOpen ∷ Opened 5 ∷ Began first_ord
 abbrev pub full : List Happening
 full = Answered 2 replies.Full ∷ Asked second_order ∷ []
 
+-- The other ends of an order
+
+-- too short, silent, in doubt, and in doubt with its unit left
+abbrev pub short_ended : List Happening
+short_ended = Kept (Ended Short) ∷ read_at 5 0x00 0x07 begun
+
+abbrev pub silent_ended : List Happening
+silent_ended = Kept (Ended Silent) ∷ begun
+
+abbrev pub doubt_ended : List Happening
+doubt_ended = Kept (Ended Doubt) ∷ read_at 5 0x02 0xFF opened
+
+abbrev pub left_said : List Happening
+left_said = Answered 1 (replies.Kept DoubtOpen) ∷ Kept (Ended DoubtOpen) ∷ read_at 5 0x02 0xFF opened
+
+-- order 3 for the year of unit 5, which has another content format
+abbrev pub third_order : Contents
+third_order = record { id = 3; unit = 5; updates = (0x13, 24) ∷ [] }
+
+abbrev pub third_begun : List Happening
+third_begun = Kept (Began third_order) ∷ Answered 3 replies.Taken ∷ Asked third_order ∷ []
+
+abbrev pub format_ended : List Happening
+format_ended = Kept (Ended Format) ∷ read_at 5 0x12 0x04 (read_at 5 0x11 0x00 (read_at 5 0x00 0x77 third_begun))
+
+-- a try that missed, and the next one
+abbrev pub tried_again : List Happening
+tried_again = write_at 5 0x02 0x55 (read_try (enable_twice 5 opened))
+
+-- Stops
+
+-- before Opened is kept: the unit is read again
+abbrev pub opened_anew : List Happening
+opened_anew = Kept (Opened 5) ∷ read_at 5 0x00 0x77 (Stopped ∷ measured)
+
+-- after the unlock: all is written again
+abbrev pub written_anew : List Happening
+written_anew = write_at 5 0x02 0xFF (write_all 5 first_order.updates (write_at 5 0x02 0x55 (Stopped ∷ unlocked)))
+
+abbrev pub done_anew : List Happening
+done_anew = Answered 1 (replies.Kept Done) ∷ Kept (Ended Done) ∷ read_all 5 first_order.updates (read_at 5 0x02 0xFF written_anew)
+
+-- before Done is said: nothing is said any more, the order's repeat is answered, and another order is taken
+abbrev pub repeated_after_a_stop : List Happening
+repeated_after_a_stop = Answered 1 (replies.Kept Done) ∷ Asked first_order ∷ Stopped ∷ ended
+
+abbrev pub taken_after_a_stop : List Happening
+taken_after_a_stop = Answered 2 replies.Taken ∷ Asked second_order ∷ Stopped ∷ ended
+
+-- what may not happen after them: Opened by the read from before the stop, a write by the frames from before it, a saying
+abbrev pub opened_after_a_stop : List Happening
+opened_after_a_stop = Kept (Opened 5) ∷ Stopped ∷ measured
+
+abbrev pub written_after_a_stop : List Happening
+written_after_a_stop = Sent (Write 0x55) (Some 0x55) ∷ Stopped ∷ select_at 5 0x02 (enable_twice 5 opened)
+
+abbrev pub said_after_a_stop : List Happening
+said_after_a_stop = Answered 1 (replies.Kept Done) ∷ Stopped ∷ ended
+
 -- A second order that finds unit 5 left open
 
 -- the first order ended with its unit left open
@@ -214,10 +287,7 @@ left_open = record { records = Ended DoubtOpen ∷ Opened 5 ∷ Began first_orde
 abbrev pub second_taken : List Happening
 second_taken = Answered 2 replies.Taken ∷ Asked second_order ∷ []
 
--- no answer comes to the first query of eight tries to lock the unit, nor of eight to read it
-abbrev pub read_try : List Happening → List Happening
-read_try past = Sent (AskDtr1 5) None ∷ Sent (Dtr1 1) None ∷ past
-
+-- no answer comes in eight tries to lock the unit, nor in eight to read it
 abbrev pub lock_try : List Happening → List Happening
 lock_try past = read_try (enable_twice 5 past)
 
@@ -247,6 +317,21 @@ closed_unread = Kept (Closed 5) ∷ write_at 5 0x02 0xFF second_taken
 
 abbrev pub blocked_after_a_read : List Happening
 blocked_after_a_read = Answered 2 (replies.Blocked 5) ∷ read_at 5 0x02 0xFF second_taken
+
+-- blocked under another number, and a frame to another unit than the left one
+abbrev pub blocked_under_another_number : List Happening
+blocked_under_another_number = Answered 3 (replies.Blocked 5) ∷ unreached
+
+abbrev pub frame_past_the_left_unit : List Happening
+frame_past_the_left_unit = Sent (AskDtr1 6) (Some 1) ∷ second_taken
+
+-- closed by a read from before the second order was taken
+abbrev pub closed_by_an_old_read : List Happening
+closed_by_an_old_read = Kept (Closed 5) ∷ Answered 2 replies.Taken ∷ Asked second_order ∷ left_said
+
+-- forgotten by a stop, and taken anew
+abbrev pub taken_anew : List Happening
+taken_anew = Answered 2 replies.Taken ∷ Asked second_order ∷ Stopped ∷ second_taken
 
 -- a byte other than FFh to a left unit
 abbrev pub left_unit_unlocked : List Happening

@@ -3,8 +3,8 @@
 ghost use Rattle.dali_writer.specs.WhenKept.{WhenKept};
 ghost use Rattle.dali_writer.specs.Law.{Always, FitsAt, OnlyNamedAt, AppliedAt, RecordsAreASentence, TakenOrdersAreKept, OneReplyIsDue, RepeatsAreAnswered, RepeatsAreQuiet, QuietUntilTaken};
 
-/// Along every chain of worlds of every legal trace, from a world that fits and in which no unit but the named one is
-/// write-enabled.
+/// Along every chain of worlds of every legal trace, from a world that fits the start world and the
+/// start records and in which no unit is write-enabled but the one that they name.
 pub fn every_moment_fits()
     // each moment fits;
     ensures fits { Always FitsAt }
@@ -14,8 +14,8 @@ pub fn every_moment_fits()
     ensures kept { Always (λ zero start. WhenKept start) }
 {}
 
-/// With the same premises: where no order is in doubt, every place but the lock bytes of bank 1 holds what it held at
-/// the start, with the done orders applied once each in journal order.
+/// With the same premises: every place but the lock bytes of bank 1 that no order leaves in doubt holds what it held
+/// at the start, with the done orders applied once each in journal order.
 pub fn done_orders_are_applied_once()
     ensures { Always AppliedAt }
 {}
@@ -25,7 +25,7 @@ pub fn records_are_a_sentence()
     ensures { RecordsAreASentence }
 {}
 
-/// The orders of the journal are the taken orders, behind those that it held at the start.
+/// The orders of the journal are those that it held at the start, and then the taken ones.
 pub fn the_taken_orders_are_kept()
     ensures { TakenOrdersAreKept }
 {}

@@ -8,6 +8,8 @@ ghost use Rattle.dali_writer.specs.Parts.{AreParts};
 ghost use Rattle.dali_writer.specs.Worked.{empty, left_open, first_order, second_order, asked, begun, whole, unreached, blocked, second_begun, GoesAlong};
 ghost use Rattle.dali_writer.specs.Worked.{unguarded, bank_not_asked, written_twice, another_byte, idle_frame, frame_to_another_unit, enabled_before_opened, opened_unread, done_unread, done_with_the_lock_unread};
 ghost use Rattle.dali_writer.specs.Worked.{second_taken, one_of_one, full, busy_while_at_work, number_used_again, another_code_said, blocked_by_no_unit, silent_write};
+ghost use Rattle.dali_writer.specs.Worked.{short_ended, silent_ended, doubt_ended, left_said, format_ended, tried_again, opened_anew, done_anew, repeated_after_a_stop, taken_after_a_stop, taken_anew};
+ghost use Rattle.dali_writer.specs.Worked.{frame_to_another_unit_once_opened, frame_past_the_left_unit, another_lock_byte, written_after_a_stop, opened_after_a_stop, closed_by_an_old_read, another_number_said, blocked_under_another_number, said_after_a_stop};
 ghost use Rattle.dali_writer.specs.Worked.{begun_twice, busy_at_once, reply_to_another, said_before_ended, begun_while_left, closed_unread, blocked_after_a_read, left_unit_unlocked, begun_after_a_stop};
 
 // A GTIN order on a blank unit, 96 frames, and the same order sent again.
@@ -38,6 +40,26 @@ fn other_replies_are_legal()
     ensures full { Legal one_of_one full }
 {}
 
+// The ends of an order that the traces above don't have, and a try that missed.
+fn other_ends_are_legal()
+    ensures short { Legal empty short_ended }
+    ensures format { Legal empty format_ended }
+    ensures silent { Legal empty silent_ended }
+    ensures doubt { Legal empty doubt_ended }
+    ensures left { Legal empty left_said }
+    ensures tried { Legal empty tried_again }
+{}
+
+// Stops: an order goes on from its journal, and one that waited is forgotten.
+fn traces_with_stops_are_legal()
+    ensures opened { Legal empty opened_anew }
+    ensures done { Legal empty done_anew }
+    ensures repeated { Legal empty repeated_after_a_stop }
+    ensures taken { Legal empty taken_after_a_stop }
+    ensures forgotten { Legal left_open taken_anew }
+    ensures once { taken_orders taken_after_a_stop ≡ first_order ∷ [] }
+{}
+
 // A step keeps the record of 23 bytes that begins the order, and so does a stop that lets 23 bytes through, but not one
 // that lets 22 through. An order alone is no finished trace.
 fn traces_are_parts_of_events()
@@ -60,6 +82,10 @@ fn frames_that_are_not_legal()
     ensures enabled_before_opened { ¬ Legal empty enabled_before_opened }
     ensures left_unit_unlocked { ¬ Legal left_open left_unit_unlocked }
     ensures silent_write { ¬ Legal empty silent_write }
+    ensures frame_to_another_unit_once_opened { ¬ Legal empty frame_to_another_unit_once_opened }
+    ensures frame_past_the_left_unit { ¬ Legal left_open frame_past_the_left_unit }
+    ensures another_lock_byte { ¬ Legal empty another_lock_byte }
+    ensures written_after_a_stop { ¬ Legal empty written_after_a_stop }
 {}
 
 fn records_that_are_not_legal()
@@ -70,6 +96,8 @@ fn records_that_are_not_legal()
     ensures begun_while_left { ¬ Legal left_open begun_while_left }
     ensures begun_after_a_stop { ¬ Legal empty begun_after_a_stop }
     ensures closed_unread { ¬ Legal left_open closed_unread }
+    ensures opened_after_a_stop { ¬ Legal empty opened_after_a_stop }
+    ensures closed_by_an_old_read { ¬ Legal empty closed_by_an_old_read }
 {}
 
 fn answers_that_are_not_legal()
@@ -80,6 +108,9 @@ fn answers_that_are_not_legal()
     ensures blocked_by_no_unit { ¬ Legal empty blocked_by_no_unit }
     ensures blocked_after_a_read { ¬ Legal left_open blocked_after_a_read }
     ensures taken_when_full { ¬ Legal one_of_one second_taken }
+    ensures another_number_said { ¬ Legal empty another_number_said }
+    ensures blocked_under_another_number { ¬ Legal left_open blocked_under_another_number }
+    ensures said_after_a_stop { ¬ Legal empty said_after_a_stop }
 {}
 
 // All of it is proved: the test calls it, so that nothing is left out.
@@ -89,6 +120,8 @@ fn the_worked_traces_are_as_they_should_be() {
     a_blank_unit_goes_along();
     the_trace_with_a_left_unit_is_legal();
     other_replies_are_legal();
+    other_ends_are_legal();
+    traces_with_stops_are_legal();
     traces_are_parts_of_events();
     frames_that_are_not_legal();
     records_that_are_not_legal();

@@ -64,7 +64,8 @@ impl Order {
 
     /// The same order again.
     pub fn copy(&self) -> Order
-        ensures { result ≡ self.now }
+        ensures value { result ≡ self.now }
+        ensures valid { AreUpdates result.updates }
     {
         Order::new(self.id, self.unit, updates_from(self.updates.as_slice()))
     }

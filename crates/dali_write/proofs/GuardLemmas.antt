@@ -71,7 +71,7 @@ plan_guarded writes unit (Check (ReadFrom location) after) only = read_guarded w
 plan_guarded writes unit (Check (WriteTo location byte) after) only = write_guarded writes unit location byte only.0
 
 -- older exchanges take no guard away
-older_guarded : (writes : List (ℕ × ℕ)) (unit : ℕ) (tried older : List Exchange) (frame : Frame) → IsGuarded writes unit tried frame → IsGuarded writes unit (tried ++ older) frame
+pub older_guarded : (writes : List (ℕ × ℕ)) (unit : ℕ) (tried older : List Exchange) (frame : Frame) → IsGuarded writes unit tried frame → IsGuarded writes unit (tried ++ older) frame
 older_guarded writes unit tried older (Dtr0 byte) guarded = tt
 older_guarded writes unit tried older (Dtr1 byte) guarded = tt
 older_guarded writes unit tried older (Dtr2 byte) guarded = absurd guarded

@@ -75,6 +75,15 @@ stands_now unit location byte told ends =
     let is = (ends_reading unit location byte told ends).is in
     subst (λ (t : List Exchange). ReadStands t unit location byte) (sym is) (inl (subst (λ (t : List Exchange). EndsInRead unit location byte t) is ends))
 
+-- it stands whatever came before
+pub older_reads : (told older : List Exchange) (unit location byte : ℕ) → ReadStands told unit location byte → ReadStands (told ++ older) unit location byte
+older_reads [] older unit location byte stands = absurd stands
+older_reads (x ∷ told) older unit location byte (inl ends) =
+    let parts : (x ∷ told) ++ older ≡ ends.0 ++ (ends.1 ++ older) =
+    subst (λ (t : List Exchange). (x ∷ told) ++ older ≡ t ++ older) ends.2 refl ∙ append_assoc ends.0 ends.1 older in
+    inl (ends.0, ends.1 ++ older, parts, ends.3)
+older_reads (x ∷ told) older unit location byte (inr (passive, stands)) = inr (passive, older_reads told older unit location byte stands)
+
 -- and a read step that didn't fail ends in one
 pub read_step_shows : (unit location byte : ℕ) (after : Option ℕ → Plan) (told first last : List Exchange)
     → StepEnds unit (Check (ReadFrom location) after) (Some byte) told → After told first last → ReadStands last unit location byte

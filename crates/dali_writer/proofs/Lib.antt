@@ -14,3 +14,5 @@ pub mod LeftLemmas
 pub mod BlankLemmas
 pub mod PartLemmas
 pub mod EndingLemmas
+pub mod StepLemmas
+pub mod SayLemmas

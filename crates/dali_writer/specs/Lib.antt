@@ -10,4 +10,8 @@ pub mod Fits
 pub mod WhenKept
 pub mod Quiet
 pub mod Law
+pub mod Phases
+pub mod Held
+pub mod Inside
+pub mod Describes
 pub mod Worked

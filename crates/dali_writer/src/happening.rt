@@ -49,3 +49,16 @@ pub enum Event {
     /// Stop the program: of a record that was to be kept, at most so many bytes reach the journal.
     Stop(u16),
 }
+
+/// What a writer wants to be done next (profile).
+#[derive(Drop)]
+pub enum Want {
+    /// Nothing.
+    Idle,
+    /// Keep this record in the journal.
+    Keep(Record),
+    /// Send this frame, and tell the answer.
+    Send(Frame),
+    /// Say this of the order of this number.
+    Say(u64, Reply),
+}

@@ -3,8 +3,11 @@
 #![tactic(auto)]
 
 mod happening;
+mod phase;
+mod writer;
 pub mod laws;
 #[cfg(test)]
 mod tests;
 
-pub use happening::{Event, Happening, Reply};
+pub use happening::{Event, Happening, Reply, Want};
+pub use writer::Writer;

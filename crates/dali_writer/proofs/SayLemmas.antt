@@ -1,0 +1,142 @@
+-- What a writer wants to be said may be said, and then it is idle.
+use Rattle.std.proofs.Common.{◌≡◌, refl, sym, ap, ◌∙◌, subst, ℕ, false, List, [], ◌∷◌, Some}
+use Rattle.dali_frame.specs.declared.forward.Frame.{Frame}
+use Rattle.dali_bank.specs.Order.{Contents}
+use Rattle.dali_journal.specs.declared.standing.Standing.TheVariants as standings
+use Rattle.dali_journal.specs.Sentence.{standing_of}
+use Rattle.dali_journal.specs.Orders.{orders_of}
+use Rattle.dali_journal.specs.JournalState.{JournalState}
+use Rattle.dali_write.specs.declared.ask.Ask.{Ask}
+use Rattle.dali_write.specs.declared.ask.Ask.TheVariants as asks
+use Rattle.dali_write.specs.declared.ask.Verdict.{Verdict}
+use Rattle.dali_write.specs.declared.ask.Verdict.TheVariants as verdicts
+use Rattle.dali_write.specs.declared.session.Session.{Session}
+use Rattle.dali_write.specs.Told.{unit_of, aim_of}
+use Rattle.dali_write.specs.Verdicts.{EndsClosing}
+use Rattle.dali_write.proofs.SessionLemmas.{closing_over, closing_unreached}
+use Rattle.dali_writer.specs.declared.happening.Reply.{Reply}
+use Rattle.dali_writer.specs.declared.happening.Reply.TheVariants as replies
+use Rattle.dali_writer.specs.declared.happening.Happening.{Happening}
+use Rattle.dali_writer.specs.declared.happening.Happening.TheVariants.{Asked, Answered, Sent, Kept, Stopped}
+use Rattle.dali_writer.specs.declared.happening.Want.{Want}
+use Rattle.dali_writer.specs.declared.happening.Want.TheVariants.{Keep, Send, Say}
+use Rattle.dali_writer.specs.declared.phase.Phase.{Phase}
+use Rattle.dali_writer.specs.declared.phase.Phase.TheVariants.{Idle, Begins, Checks, Writes, Closes, Says}
+use Rattle.dali_writer.specs.Trace.{Start, records_of, standing_at, sent_since_taken, waiting, is_unsaid}
+use Rattle.dali_writer.specs.Legal.{MaySay, HasNumber, EndsAs, IsFinished}
+use Rattle.dali_writer.specs.Phases.{want_of, work_of, closing_of}
+use Rattle.dali_writer.specs.Held.{Held, IsReady}
+use Rattle.dali_writer.specs.Describes.{Describes}
+use Rattle.dali_writer.proofs.StepLemmas.{may_next, stands_so}
+
+-- what a writer may say
+abbrev IsSaying : Reply → Type 0
+IsSaying (replies.Kept code) = Unit {0}
+IsSaying (replies.Blocked unit) = Unit {0}
+IsSaying _ = ⊥
+
+-- after a saying nothing is unsaid
+all_said : (past : List Happening) (id : ℕ) (reply : Reply) → IsSaying reply → IsFinished past → is_unsaid (Answered id reply ∷ past) ≡ false
+all_said [] id (replies.Kept code) saying finished = refl
+all_said (Asked order ∷ past) id (replies.Kept code) saying finished = absurd finished
+all_said (Answered last other ∷ past) id (replies.Kept code) saying finished = refl
+all_said (Sent frame answer ∷ past) id (replies.Kept code) saying finished = refl
+all_said (Kept entry ∷ past) id (replies.Kept code) saying finished = refl
+all_said (Stopped ∷ past) id (replies.Kept code) saying finished = refl
+all_said [] id (replies.Blocked unit) saying finished = refl
+all_said (Asked order ∷ past) id (replies.Blocked unit) saying finished = absurd finished
+all_said (Answered last other ∷ past) id (replies.Blocked unit) saying finished = refl
+all_said (Sent frame answer ∷ past) id (replies.Blocked unit) saying finished = refl
+all_said (Kept entry ∷ past) id (replies.Blocked unit) saying finished = refl
+all_said (Stopped ∷ past) id (replies.Blocked unit) saying finished = refl
+all_said past id _ saying finished = absurd saying
+
+said : (start : Start) (past : List Happening) (journal : JournalState) (phase : Phase) (id : ℕ) (reply : Reply)
+    → Describes start past (record { journal = journal; phase = phase }) → IsSaying reply → MaySay start past id reply
+    → Describes start (Answered id reply ∷ past) (record { journal = journal; phase = Idle })
+said start past journal phase id reply d saying may = record {
+  legal = (d.legal, may_next start past (Answered id reply) d.finished may);
+  finished = tt;
+  same = d.same;
+  limit = d.limit;
+  place = all_said past id reply saying d.finished;
+}
+
+no_work : {A : Type 0} (unit id : ℕ) (ask : Ask) (reply : Reply) → work_of unit ask ≡ Say id reply → A
+no_work unit id (asks.Send frame) reply e = cc
+no_work unit id (asks.Ended verdict) reply e = cc
+
+-- how a closing session ended that leaves the order blocked
+record Blocks (order unit id : ℕ) (ask : Ask) (reply : Reply) : Type 0 where
+  verdict : Verdict
+  ended : ask ≡ asks.Ended verdict
+  other : verdict ≡ verdicts.Closed → ⊥
+  number : order ≡ id
+  blocked : replies.Blocked unit ≡ reply
+
+blocks : (order unit id : ℕ) (ask : Ask) (reply : Reply) → closing_of order unit ask ≡ Say id reply → Blocks order unit id ask reply
+blocks order unit id (asks.Send frame) reply e = cc
+blocks order unit id (asks.Ended verdicts.Closed) reply e = cc
+blocks order unit id (asks.Ended verdicts.MayOpen) reply e = record { verdict = verdicts.MayOpen; ended = refl; other = λ same. cc; number = cc; blocked = cc }
+blocks order unit id (asks.Ended verdicts.Done) reply e = record { verdict = verdicts.Done; ended = refl; other = λ same. cc; number = cc; blocked = cc }
+blocks order unit id (asks.Ended verdicts.Short) reply e = record { verdict = verdicts.Short; ended = refl; other = λ same. cc; number = cc; blocked = cc }
+blocks order unit id (asks.Ended verdicts.Format) reply e = record { verdict = verdicts.Format; ended = refl; other = λ same. cc; number = cc; blocked = cc }
+blocks order unit id (asks.Ended verdicts.Silent) reply e = record { verdict = verdicts.Silent; ended = refl; other = λ same. cc; number = cc; blocked = cc }
+blocks order unit id (asks.Ended verdicts.Doubt) reply e = record { verdict = verdicts.Doubt; ended = refl; other = λ same. cc; number = cc; blocked = cc }
+blocks order unit id (asks.Ended verdicts.DoubtOpen) reply e = record { verdict = verdicts.DoubtOpen; ended = refl; other = λ same. cc; number = cc; blocked = cc }
+blocks order unit id (asks.Ended verdicts.NotClosed) reply e = record { verdict = verdicts.NotClosed; ended = refl; other = λ same. cc; number = cc; blocked = cc }
+blocks order unit id (asks.Ended verdicts.Read) reply e = record { verdict = verdicts.Read; ended = refl; other = λ same. cc; number = cc; blocked = cc }
+
+-- a closing session that isn't closed ends as NotClosed
+not_closed : (verdict : Verdict) → EndsClosing verdict → (verdict ≡ verdicts.Closed → ⊥) → verdict ≡ verdicts.NotClosed
+not_closed verdicts.Closed ends other = absurd (other refl)
+not_closed verdicts.NotClosed ends other = refl
+not_closed _ ends other = absurd ends
+
+numbered : (past : List Happening) (order : Contents) (id : ℕ) → waiting past ≡ Some order → order.id ≡ id → HasNumber id (waiting past)
+numbered past order id waits number = rw waits number
+
+pub said_on : (start : Start) (past : List Happening) (journal : JournalState) (phase : Phase) (id : ℕ) (reply : Reply)
+    → Describes start past (record { journal = journal; phase = phase }) → IsReady phase journal → want_of phase ≡ Say id reply
+    → Describes start (Answered id reply ∷ past) (record { journal = journal; phase = Idle })
+said_on start past journal Idle id reply d ready e = cc
+said_on start past journal (Begins order) id reply d ready e = cc
+said_on start past journal (Checks order s) id reply d ready e = no_work (unit_of s) id (aim_of s) reply e
+said_on start past journal (Writes order s) id reply d ready e = no_work (unit_of s) id (aim_of s) reply e
+said_on start past journal (Says last code) id reply d ready e =
+    let same : last ≡ id = cc in
+    let is : replies.Kept code ≡ reply = cc in
+    let ends : EndsAs last code (orders_of (records_of start past)) = rw d.same ready.1 in
+    let may : MaySay start past last (replies.Kept code) = (d.place, ends) in
+    subst (λ (r : Reply). Describes start (Answered id r ∷ past) (record { journal = journal; phase = Idle })) is
+    (subst (λ (n : ℕ). Describes start (Answered n (replies.Kept code) ∷ past) (record { journal = journal; phase = Idle })) same
+    (said start past journal (Says last code) last (replies.Kept code) d tt may))
+said_on start past journal (Closes order s) id reply d ready e =
+    let b = blocks order.id (unit_of s) id (aim_of s) reply e in
+    let ends = (closing_over (unit_of s) (sent_since_taken past) s b.verdict ready.1 d.place.1 b.ended).0 in
+    let aim : aim_of s ≡ asks.Ended verdicts.NotClosed = b.ended ∙ ap asks.Ended (not_closed b.verdict ends b.other) in
+    let may : MaySay start past id (replies.Blocked (unit_of s)) = (
+      stands_so start past _ (standings.Left (unit_of s)) d ready.0,
+      numbered past order id d.place.0 b.number,
+      closing_unreached (unit_of s) (sent_since_taken past) s ready.1 d.place.1 aim,
+    ) in
+    subst (λ (r : Reply). Describes start (Answered id r ∷ past) (record { journal = journal; phase = Idle })) b.blocked
+    (said start past journal (Closes order s) id (replies.Blocked (unit_of s)) d tt may)
+
+-- a wanted frame is the session's
+pub work_sends : (unit : ℕ) (ask : Ask) (frame : Frame) → work_of unit ask ≡ Send frame → ask ≡ asks.Send frame
+work_sends unit (asks.Send sent) frame e = let same : sent ≡ frame = cc in ap asks.Send same
+work_sends unit (asks.Ended verdict) frame e = cc
+
+pub closing_sends_it : (id unit : ℕ) (ask : Ask) (frame : Frame) → closing_of id unit ask ≡ Send frame → ask ≡ asks.Send frame
+closing_sends_it id unit (asks.Send sent) frame e = let same : sent ≡ frame = cc in ap asks.Send same
+closing_sends_it id unit (asks.Ended verdicts.MayOpen) frame e = cc
+closing_sends_it id unit (asks.Ended verdicts.Done) frame e = cc
+closing_sends_it id unit (asks.Ended verdicts.Short) frame e = cc
+closing_sends_it id unit (asks.Ended verdicts.Format) frame e = cc
+closing_sends_it id unit (asks.Ended verdicts.Silent) frame e = cc
+closing_sends_it id unit (asks.Ended verdicts.Doubt) frame e = cc
+closing_sends_it id unit (asks.Ended verdicts.DoubtOpen) frame e = cc
+closing_sends_it id unit (asks.Ended verdicts.Closed) frame e = cc
+closing_sends_it id unit (asks.Ended verdicts.NotClosed) frame e = cc
+closing_sends_it id unit (asks.Ended verdicts.Read) frame e = cc

@@ -1,5 +1,5 @@
 -- Which lists of records a journal may hold, by the table of standings. The newest record comes first.
-use Rattle.std.specs.Prelude.{◌≡◌, ◌||◌, ◌==◌, ℕ, Bool, false, List, [], ◌∷◌, Option, Some, None, ⊤}
+use Rattle.std.specs.Prelude.{◌≡◌, ◌≤◌, ◌||◌, ◌==◌, ℕ, Bool, false, List, [], ◌∷◌, Option, Some, None, ⊤}
 use Rattle.dali_journal.specs.declared.record.Code.TheVariants.{Done, Short, Format, Silent, Doubt, DoubtOpen}
 use Rattle.dali_journal.specs.declared.record.Record.{Record}
 use Rattle.dali_journal.specs.declared.record.Record.TheVariants.{Began, Opened, Ended, Closed}
@@ -37,6 +37,11 @@ named_unit standings.Idle = None
 named_unit (standings.Began order) = None
 named_unit (standings.Opened order) = Some order.unit
 named_unit (standings.Left unit) = Some unit
+
+-- a unit that was left has a short address
+abbrev pub HasShortUnit : Standing → Type 0
+HasShortUnit (standings.Left unit) = unit ≤ 63
+HasShortUnit other = ⊤
 
 -- an order of this number was begun
 abbrev pub is_begun : ℕ → List Record → Bool

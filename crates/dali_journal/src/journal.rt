@@ -1,6 +1,6 @@
 ghost use Rattle.std.specs.Prelude.{◌≡◌, ◌+◌, ◌<◌, ◌≤◌, ◌↔◌, ◌++◌, ◌∷◌, [], length, reverse, IsTrue, IsOk, OnOk, IfOk, IfErr, vec_len, vec_capacity};
 ghost use Rattle.dali_bank.specs.Order.{Contents};
-ghost use Rattle.dali_journal.specs.Sentence.{standing_of, Allows};
+ghost use Rattle.dali_journal.specs.Sentence.{standing_of, Allows, HasShortUnit};
 ghost use Rattle.dali_journal.specs.Orders.{orders_of, kept_of, kept_at};
 ghost use Rattle.dali_journal.specs.Spelling.{journal_spelling};
 ghost use Rattle.dali_journal.specs.JournalState.{HasRoom, MayBegin, KeepsRoom, IsLimit, IsJournal, order_count};
@@ -38,7 +38,7 @@ pub struct Journal {
 impl Model for Journal {
     ghost use Rattle.std.specs.Prelude.{◌≡◌, ◌-◌, length, reverse, vec_len, vec_capacity};
     ghost use Rattle.dali_journal.specs.JournalState.{JournalState, IsJournal};
-    ghost use Rattle.dali_journal.specs.Sentence.{standing_of};
+    ghost use Rattle.dali_journal.specs.Sentence.{standing_of, HasShortUnit};
     ghost use Rattle.dali_journal.specs.Orders.{orders_of};
 
     ghost Value = { JournalState };
@@ -51,6 +51,7 @@ impl Model for Journal {
 
     ghost invariant = { λ j. record {
       standing_is : j.standing ≡ standing_of (reverse j.records.items);
+      short : HasShortUnit j.standing;
       count : j.orders ≡ length (orders_of (reverse j.records.items));
       journal : IsJournal (record {
         records = reverse j.records.items;
@@ -102,9 +103,10 @@ impl Journal {
         self.orders >= self.limit
     }
 
-    /// What the last records leave to be done.
+    /// What the last records leave to be done. A unit that was left is a short address, 0 to 63.
     pub fn standing(&self) -> Standing
-        ensures { result ≡ standing_of self.now.records }
+        ensures value { result ≡ standing_of self.now.records }
+        ensures short { HasShortUnit result }
     {
         self.standing.copy()
     }

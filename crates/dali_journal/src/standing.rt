@@ -1,5 +1,5 @@
 ghost use Rattle.std.specs.Prelude.{◌≡◌};
-ghost use Rattle.dali_journal.specs.Sentence.{next_standing};
+ghost use Rattle.dali_journal.specs.Sentence.{next_standing, HasShortUnit};
 ghost use Rattle.dali_journal.specs.JournalState.{records_due};
 
 use crate::record::{Code, Record};
@@ -33,7 +33,8 @@ impl Standing {
 
     // The standing after a record that may come.
     pub(crate) fn after(self, entry: &Record) -> Standing
-        ensures { result ≡ next_standing self entry.now }
+        ensures value { result ≡ next_standing self entry.now }
+        ensures short { HasShortUnit result }
     {
         match (self, entry) {
             (_, Record::Began(order)) => Standing::Began(order.copy()),

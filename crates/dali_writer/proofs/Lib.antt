@@ -16,3 +16,4 @@ pub mod PartLemmas
 pub mod EndingLemmas
 pub mod StepLemmas
 pub mod SayLemmas
+pub mod KeepLemmas

@@ -24,7 +24,7 @@ use Rattle.dali_writer.specs.declared.phase.Phase.{Phase}
 use Rattle.dali_writer.specs.declared.phase.Phase.TheVariants.{Idle, Begins, Checks, Writes, Closes, Says}
 use Rattle.dali_writer.specs.Trace.{Start, records_of, standing_at, sent_since_taken, waiting, is_unsaid}
 use Rattle.dali_writer.specs.Legal.{MaySay, HasNumber, EndsAs, IsFinished}
-use Rattle.dali_writer.specs.Phases.{want_of, work_of, closing_of}
+use Rattle.dali_writer.specs.Phases.{want_of, check_of, write_of, closing_of}
 use Rattle.dali_writer.specs.Held.{Held, IsReady}
 use Rattle.dali_writer.specs.Describes.{Describes}
 use Rattle.dali_writer.proofs.StepLemmas.{may_next, stands_so}
@@ -62,9 +62,14 @@ said start past journal phase id reply d saying may = record {
   place = all_said past id reply saying d.finished;
 }
 
-no_work : {A : Type 0} (unit id : ℕ) (ask : Ask) (reply : Reply) → work_of unit ask ≡ Say id reply → A
-no_work unit id (asks.Send frame) reply e = cc
-no_work unit id (asks.Ended verdict) reply e = cc
+no_check : {A : Type 0} (unit id : ℕ) (ask : Ask) (reply : Reply) → check_of unit ask ≡ Say id reply → A
+no_check unit id (asks.Send frame) reply e = cc
+no_check unit id (asks.Ended verdicts.MayOpen) reply e = cc
+no_check unit id (asks.Ended verdict) reply e = cc
+
+no_write : {A : Type 0} (id : ℕ) (ask : Ask) (reply : Reply) → write_of ask ≡ Say id reply → A
+no_write id (asks.Send frame) reply e = cc
+no_write id (asks.Ended verdict) reply e = cc
 
 -- how a closing session ended that leaves the order blocked
 record Blocks (order unit id : ℕ) (ask : Ask) (reply : Reply) : Type 0 where
@@ -101,8 +106,8 @@ pub said_on : (start : Start) (past : List Happening) (journal : JournalState) (
     → Describes start (Answered id reply ∷ past) (record { journal = journal; phase = Idle })
 said_on start past journal Idle id reply d ready e = cc
 said_on start past journal (Begins order) id reply d ready e = cc
-said_on start past journal (Checks order s) id reply d ready e = no_work (unit_of s) id (aim_of s) reply e
-said_on start past journal (Writes order s) id reply d ready e = no_work (unit_of s) id (aim_of s) reply e
+said_on start past journal (Checks order s) id reply d ready e = no_check order.unit id (aim_of s) reply e
+said_on start past journal (Writes order s) id reply d ready e = no_write id (aim_of s) reply e
 said_on start past journal (Says last code) id reply d ready e =
     let same : last ≡ id = cc in
     let is : replies.Kept code ≡ reply = cc in
@@ -124,9 +129,13 @@ said_on start past journal (Closes order s) id reply d ready e =
     (said start past journal (Closes order s) id (replies.Blocked (unit_of s)) d tt may)
 
 -- a wanted frame is the session's
-pub work_sends : (unit : ℕ) (ask : Ask) (frame : Frame) → work_of unit ask ≡ Send frame → ask ≡ asks.Send frame
-work_sends unit (asks.Send sent) frame e = let same : sent ≡ frame = cc in ap asks.Send same
-work_sends unit (asks.Ended verdict) frame e = cc
+pub check_sends : (unit : ℕ) (ask : Ask) (frame : Frame) → check_of unit ask ≡ Send frame → ask ≡ asks.Send frame
+check_sends unit (asks.Send sent) frame e = let same : sent ≡ frame = cc in ap asks.Send same
+check_sends unit (asks.Ended verdict) frame e = cc
+
+pub write_sends : (ask : Ask) (frame : Frame) → write_of ask ≡ Send frame → ask ≡ asks.Send frame
+write_sends (asks.Send sent) frame e = let same : sent ≡ frame = cc in ap asks.Send same
+write_sends (asks.Ended verdict) frame e = cc
 
 pub closing_sends_it : (id unit : ℕ) (ask : Ask) (frame : Frame) → closing_of id unit ask ≡ Send frame → ask ≡ asks.Send frame
 closing_sends_it id unit (asks.Send sent) frame e = let same : sent ≡ frame = cc in ap asks.Send same

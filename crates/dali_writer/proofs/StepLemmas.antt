@@ -39,7 +39,7 @@ use Rattle.dali_writer.specs.declared.phase.Phase.TheVariants.{Idle, Begins, Che
 use Rattle.dali_writer.specs.Trace.{Start, records_of, standing_at, sent_of, sent_since_taken, waiting, is_unsaid, has_ended, is_at_work, is_busy}
 use Rattle.dali_writer.specs.Grounds.{Grounds}
 use Rattle.dali_writer.specs.Legal.{MayPut, IsGuarded, MaySend, MayHappen, MayFollow, MayKeep, EndsAs, Legal, IsFinished}
-use Rattle.dali_writer.specs.Phases.{want_of, work_of, closing_of, is_wanting}
+use Rattle.dali_writer.specs.Phases.{want_of, check_of, write_of, closing_of, is_wanting}
 use Rattle.dali_writer.specs.Held.{Held, IsReady}
 use Rattle.dali_writer.specs.Describes.{ToldNewest, IsAt, Describes}
 use Rattle.dali_writer.proofs.StandingLemmas.{begun_order, open_order}
@@ -56,9 +56,13 @@ may_next start (Kept entry ∷ past) next finished may = may
 may_next start (Stopped ∷ past) next finished may = may
 
 -- a session always wants something
-work_wants : (unit : ℕ) (ask : Ask) → is_wanting (work_of unit ask) ≡ true
-work_wants unit (asks.Send frame) = refl
-work_wants unit (asks.Ended verdict) = refl
+check_wants : (unit : ℕ) (ask : Ask) → is_wanting (check_of unit ask) ≡ true
+check_wants unit (asks.Send frame) = refl
+check_wants unit (asks.Ended verdict) = refl
+
+write_wants : (ask : Ask) → is_wanting (write_of ask) ≡ true
+write_wants (asks.Send frame) = refl
+write_wants (asks.Ended verdict) = refl
 
 closing_wants : (id unit : ℕ) (ask : Ask) → is_wanting (closing_of id unit ask) ≡ true
 closing_wants id unit (asks.Send frame) = refl
@@ -92,9 +96,9 @@ pub busy_at : (start : Start) (past : List Happening) (journal : JournalState) (
 busy_at start past journal Idle d ready = rw (ap (λ r. is_at_work (standing_of r)) d.same ∙ ready, d.place) refl
 busy_at start past journal (Begins order) d ready = unsaid start past (waits start past order d.legal d.place).unsaid
 busy_at start past journal (Checks order s) d ready =
-    at_work start past (standings.Began order) (stands_so start past _ _ d ready.0) refl ∙ sym (work_wants (unit_of s) (aim_of s))
+    at_work start past (standings.Began order) (stands_so start past _ _ d ready.0) refl ∙ sym (check_wants order.unit (aim_of s))
 busy_at start past journal (Writes order s) d ready =
-    at_work start past (standings.Opened order) (stands_so start past _ _ d ready.0) refl ∙ sym (work_wants (unit_of s) (aim_of s))
+    at_work start past (standings.Opened order) (stands_so start past _ _ d ready.0) refl ∙ sym (write_wants (aim_of s))
 busy_at start past journal (Closes order s) d ready =
     unsaid start past (waits start past order d.legal d.place.0).unsaid ∙ sym (closing_wants order.id (unit_of s) (aim_of s))
 busy_at start past journal (Says id code) d ready = unsaid start past (ended_unsaid past d.place)
@@ -166,7 +170,7 @@ closing_may past unit (AskDtr2 to) waits guarded = absurd guarded
 closing_may past unit (Other word) waits guarded = absurd guarded
 
 -- the frames since an order was taken are the newest of those since the last stop
-since_part : (past : List Happening) → (older : List Exchange) × (sent_of past ≡ sent_since_taken past ++ older)
+pub since_part : (past : List Happening) → (older : List Exchange) × (sent_of past ≡ sent_since_taken past ++ older)
 since_part [] = ([], refl)
 since_part (Asked order ∷ past) = since_part past
 since_part (Answered id replies.Taken ∷ past) = (sent_of past, refl)

@@ -1,16 +1,21 @@
 -- What contracts see of a writer.
-use Rattle.std.specs.Prelude.{◌≡◌, ℕ, false}
+use Rattle.std.specs.Prelude.{◌≡◌, ℕ, false, []}
 use Rattle.dali_bank.specs.Order.{Contents, AreUpdates}
 use Rattle.dali_journal.specs.declared.record.Record.TheVariants.{Began}
+use Rattle.dali_journal.specs.declared.standing.Standing.{Standing}
 use Rattle.dali_journal.specs.declared.standing.Standing.TheVariants as standings
 use Rattle.dali_journal.specs.Sentence.{standing_of}
 use Rattle.dali_journal.specs.Orders.{orders_of}
 use Rattle.dali_journal.specs.JournalState.{JournalState, IsJournal, MayBegin}
-use Rattle.dali_write.specs.Told.{unit_of, IsFresh, IsOpened, IsClosing}
+use Rattle.dali_write.specs.declared.ask.Verdict.{Verdict}
+use Rattle.dali_write.specs.declared.ask.Verdict.TheVariants as verdicts
+use Rattle.dali_write.specs.declared.session.Session.{Session}
+use Rattle.dali_write.specs.Told.{Told, unit_of, IsFresh, IsOpened, IsClosing}
 use Rattle.dali_writer.specs.declared.phase.Phase.{Phase}
 use Rattle.dali_writer.specs.declared.phase.Phase.TheVariants.{Idle, Begins, Checks, Writes, Closes, Says}
 use Rattle.dali_writer.specs.Trace.{is_at_work}
 use Rattle.dali_writer.specs.Legal.{EndsAs}
+use Rattle.dali_writer.specs.Phases.{check_code}
 
 -- its journal, and what it is about to do
 pub record Held : Type 0 where
@@ -20,9 +25,19 @@ pub record Held : Type 0 where
 -- the journal stands as the phase needs it: it may begin the order that waits, the order at work is that of the session, the unit that is closed is the one that was left, and the order that ended is the newest
 abbrev pub IsReady : Phase → JournalState → Type 0
 IsReady Idle journal = is_at_work (standing_of journal.records) ≡ false
-IsReady (Begins order) journal = (standing_of journal.records ≡ standings.Idle) × MayBegin journal (Began order) × AreUpdates order.updates
+IsReady (Begins order) journal = (standing_of journal.records ≡ standings.Idle) × MayBegin journal (Began order)
 IsReady (Checks order s) journal = (standing_of journal.records ≡ standings.Began order) × IsFresh order s × AreUpdates order.updates
 IsReady (Writes order s) journal = (standing_of journal.records ≡ standings.Opened order) × IsOpened order s × AreUpdates order.updates
 IsReady (Closes order s) journal =
-    (standing_of journal.records ≡ standings.Left (unit_of s)) × IsClosing (unit_of s) s × MayBegin journal (Began order) × AreUpdates order.updates
+    (standing_of journal.records ≡ standings.Left (unit_of s)) × IsClosing (unit_of s) s × MayBegin journal (Began order)
 IsReady (Says id code) journal = (is_at_work (standing_of journal.records) ≡ false) × EndsAs id code (orders_of journal.records)
+
+-- what comes after a fresh session for the order that ended so
+abbrev pub IsAfterCheck : Contents → Verdict → Phase → Type 0
+IsAfterCheck order verdicts.MayOpen phase = (s : Session) × (phase ≡ Writes order s) × IsOpened order s × Told [] s × AreUpdates order.updates
+IsAfterCheck order verdict phase = phase ≡ Says order.id (check_code verdict)
+
+-- what comes first for an order that is taken: a unit that was left is closed
+abbrev pub IsFirst : Standing → Contents → Phase → Type 0
+IsFirst (standings.Left unit) order phase = (s : Session) × (phase ≡ Closes order s) × (unit_of s ≡ unit) × IsClosing unit s × Told [] s
+IsFirst other order phase = phase ≡ Begins order

@@ -1,5 +1,6 @@
 -- What a writer is about to do, and what it wants.
 use Rattle.std.specs.Prelude.{ℕ, Bool, true, false}
+use Rattle.dali_journal.specs.declared.record.Code.{Code}
 use Rattle.dali_journal.specs.declared.record.Code.TheVariants as codes
 use Rattle.dali_journal.specs.declared.record.Record.{Record}
 use Rattle.dali_journal.specs.declared.record.Record.TheVariants.{Began, Opened, Ended, Closed}
@@ -15,23 +16,31 @@ use Rattle.dali_writer.specs.declared.happening.Want.TheVariants as wants
 use Rattle.dali_writer.specs.declared.phase.Phase.{Phase}
 use Rattle.dali_writer.specs.declared.phase.Phase.TheVariants.{Idle, Begins, Checks, Writes, Closes, Says}
 
--- the record of a fresh or an opened session that ended so (none of them ends as Closed, NotClosed or Read)
-abbrev pub record_of : ℕ → Verdict → Record
-record_of unit verdicts.MayOpen = Opened unit
-record_of unit verdicts.Done = Ended codes.Done
-record_of unit verdicts.Short = Ended codes.Short
-record_of unit verdicts.Format = Ended codes.Format
-record_of unit verdicts.Silent = Ended codes.Silent
-record_of unit verdicts.Doubt = Ended codes.Doubt
-record_of unit verdicts.DoubtOpen = Ended codes.DoubtOpen
-record_of unit verdicts.Closed = Ended codes.Silent
-record_of unit verdicts.NotClosed = Ended codes.Silent
-record_of unit verdicts.Read = Ended codes.Silent
+-- how an order ends whose fresh session ended so (it ends as MayOpen, Short, Format or Silent)
+abbrev pub check_code : Verdict → Code
+check_code verdicts.Short = codes.Short
+check_code verdicts.Format = codes.Format
+check_code _ = codes.Silent
 
--- while a session goes on its frame, and then its record
-abbrev pub work_of : ℕ → Ask → Want
-work_of unit (asks.Send frame) = Send frame
-work_of unit (asks.Ended verdict) = Keep (record_of unit verdict)
+-- the record by which a fresh session is followed
+abbrev pub check_record : ℕ → Verdict → Record
+check_record unit verdicts.MayOpen = Opened unit
+check_record unit verdict = Ended (check_code verdict)
+
+-- how an order ends whose opened session ended so (it ends as Done, Doubt or DoubtOpen)
+abbrev pub write_code : Verdict → Code
+write_code verdicts.Done = codes.Done
+write_code verdicts.Doubt = codes.Doubt
+write_code _ = codes.DoubtOpen
+
+-- while a session goes on its frame is wanted, and then the record
+abbrev pub check_of : ℕ → Ask → Want
+check_of unit (asks.Send frame) = Send frame
+check_of unit (asks.Ended verdict) = Keep (check_record unit verdict)
+
+abbrev pub write_of : Ask → Want
+write_of (asks.Send frame) = Send frame
+write_of (asks.Ended verdict) = Keep (Ended (write_code verdict))
 
 -- the same of a session that closes a unit for the order of this number: Closed, or that the order is blocked
 abbrev pub closing_of : ℕ → ℕ → Ask → Want
@@ -43,8 +52,8 @@ closing_of id unit (asks.Ended other) = Say id (replies.Blocked unit)
 abbrev pub want_of : Phase → Want
 want_of Idle = wants.Idle
 want_of (Begins order) = Keep (Began order)
-want_of (Checks order s) = work_of (unit_of s) (aim_of s)
-want_of (Writes order s) = work_of (unit_of s) (aim_of s)
+want_of (Checks order s) = check_of order.unit (aim_of s)
+want_of (Writes order s) = write_of (aim_of s)
 want_of (Closes order s) = closing_of order.id (unit_of s) (aim_of s)
 want_of (Says id code) = Say id (replies.Kept code)
 

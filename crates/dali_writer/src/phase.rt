@@ -1,5 +1,6 @@
 ghost use Rattle.std.specs.Prelude.{◌≡◌};
-ghost use Rattle.dali_writer.specs.Phases.{want_of, record_of, is_idle};
+ghost use Rattle.dali_writer.specs.Phases.{want_of, check_record, check_code, write_code, is_idle};
+ghost use Rattle.dali_writer.specs.Held.{IsAfterCheck};
 
 use crate::happening::{Reply, Want};
 use dali_bank::Order;
@@ -37,9 +38,13 @@ impl Phase {
         match self {
             Phase::Idle => Want::Idle,
             Phase::Begins(order) => Want::Keep(Record::Began(order.copy())),
-            Phase::Checks(_, session) | Phase::Writes(_, session) => match session.want() {
+            Phase::Checks(order, session) => match session.want() {
                 Ask::Send(frame) => Want::Send(frame),
-                Ask::Ended(verdict) => Want::Keep(record_of(session.unit(), verdict)),
+                Ask::Ended(verdict) => Want::Keep(check_record(order.unit(), verdict)),
+            },
+            Phase::Writes(_, session) => match session.want() {
+                Ask::Send(frame) => Want::Send(frame),
+                Ask::Ended(verdict) => Want::Keep(Record::Ended(write_code(verdict))),
             },
             Phase::Closes(order, session) => match session.want() {
                 Ask::Send(frame) => Want::Send(frame),
@@ -51,18 +56,47 @@ impl Phase {
     }
 }
 
-// The record of a fresh or an opened session that ended so.
-pub(crate) fn record_of(unit: u8, verdict: Verdict) -> Record
-    ensures { result ≡ record_of unit verdict }
+// The record by which a fresh session is followed that ended so.
+pub(crate) fn check_record(unit: u8, verdict: Verdict) -> Record
+    ensures { result ≡ check_record unit verdict }
 {
     match verdict {
         Verdict::MayOpen => Record::Opened(unit),
-        Verdict::Done => Record::Ended(Code::Done),
-        Verdict::Short => Record::Ended(Code::Short),
-        Verdict::Format => Record::Ended(Code::Format),
-        Verdict::Doubt => Record::Ended(Code::Doubt),
-        Verdict::DoubtOpen => Record::Ended(Code::DoubtOpen),
-        // no such session ends as Closed, NotClosed or Read
-        _ => Record::Ended(Code::Silent),
+        _ => Record::Ended(check_code(verdict)),
+    }
+}
+
+// How an order ends whose fresh session ended so.
+fn check_code(verdict: Verdict) -> Code
+    ensures { result ≡ check_code verdict }
+{
+    match verdict {
+        Verdict::Short => Code::Short,
+        Verdict::Format => Code::Format,
+        _ => Code::Silent,
+    }
+}
+
+// How an order ends whose opened session ended so.
+pub(crate) fn write_code(verdict: Verdict) -> Code
+    ensures { result ≡ write_code verdict }
+{
+    match verdict {
+        Verdict::Done => Code::Done,
+        Verdict::Doubt => Code::Doubt,
+        _ => Code::DoubtOpen,
+    }
+}
+
+// What comes after a fresh session that ended so: the order is carried out, or its end is said.
+pub(crate) fn after_check(order: Order, verdict: Verdict) -> Phase
+    ensures { IsAfterCheck order verdict result }
+{
+    match verdict {
+        Verdict::MayOpen => {
+            let session = Session::opened(order.copy());
+            Phase::Writes(order, session)
+        }
+        _ => Phase::Says(order.id(), check_code(verdict)),
     }
 }

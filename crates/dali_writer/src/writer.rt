@@ -11,7 +11,7 @@ ghost use Rattle.dali_writer.specs.Phases.{want_of, is_wanting, IsKeep, IsSend, 
 ghost use Rattle.dali_writer.specs.Describes.{Describes};
 
 use crate::happening::{Reply, Want};
-use crate::phase::Phase;
+use crate::phase::{Phase, after_check, check_record, write_code};
 use dali_bank::Order;
 use dali_journal::{Code, Journal, Kept, NoMemory, Record, Standing};
 use dali_write::{Ask, Session, Verdict};
@@ -73,6 +73,42 @@ impl Writer {
         ensures busy { (start : Start) (past : List Happening) → Describes start past self.now → is_busy start past ≡ is_wanting result }
     {
         self.phase.want()
+    }
+
+    /// The record that was wanted was kept. It takes no memory.
+    ///
+    /// A record has to be wanted.
+    pub fn kept(&mut self)
+        requires { IsKeep (want_of self.old.phase) }
+        ensures { (start : Start) (past : List Happening) (entry : Record) → want_of self.old.phase ≡ Want.Keep entry
+            → Describes start past self.old → Describes start (happenings.Kept entry ∷ past) self.new }
+    {
+        match mem::replace(&mut self.phase, Phase::Idle) {
+            Phase::Begins(order) => {
+                self.journal.append(Record::Began(order.copy()));
+                let session = Session::fresh(order.copy());
+                self.phase = Phase::Checks(order, session);
+            }
+            Phase::Checks(order, session) => {
+                if let Ask::Ended(verdict) = session.want() {
+                    self.journal.append(check_record(order.unit(), verdict));
+                    self.phase = after_check(order, verdict);
+                }
+            }
+            Phase::Writes(order, session) => {
+                if let Ask::Ended(verdict) = session.want() {
+                    let code = write_code(verdict);
+                    self.journal.append(Record::Ended(code));
+                    self.phase = Phase::Says(order.id(), code);
+                }
+            }
+            Phase::Closes(order, session) => {
+                self.journal.append(Record::Closed(session.unit()));
+                self.phase = Phase::Begins(order);
+            }
+            Phase::Idle => {}
+            Phase::Says(_, _) => {}
+        }
     }
 
     /// The frame that was wanted was sent, and this is its answer or none.

@@ -5,11 +5,11 @@ use Rattle.dali_write.specs.Told.{unit_of, aim_of}
 use Rattle.dali_writer.specs.declared.happening.Want.TheVariants.{Send}
 use Rattle.dali_writer.specs.declared.happening.Want.TheVariants as wants
 use Rattle.dali_writer.specs.declared.phase.Phase.TheVariants.{Checks, Writes, Closes}
-use Rattle.dali_writer.specs.Phases.{work_of, closing_of}
+use Rattle.dali_writer.specs.Phases.{check_of, write_of, closing_of}
 use Rattle.dali_writer.specs.Held.{IsReady}
 use Rattle.dali_writer.specs.Describes.{Describes}
 use Rattle.dali_writer.proofs.StepLemmas.{checks_on, writes_on, closes_on}
-use Rattle.dali_writer.proofs.SayLemmas.{work_sends, closing_sends_it}
+use Rattle.dali_writer.proofs.SayLemmas.{check_sends, write_sends, closing_sends_it}
 use Rattle.dali_writer.proofs.writer.Writer.heard.Goals as goal
 use Rattle.dali_writer.proofs.writer.Writer.heard.Goals.{in-Checks, in-Writes, in-Closes, in-Idle, in-Begins, in-Says}
 
@@ -19,16 +19,16 @@ returns c = λ start past frame want d. elim c.match-self.branch [
       let before : Describes start past (record { journal = c.self.inside.journal; phase = Checks w.in-Checks.field-0 w.in-Checks.session }) =
       rw (← w.in-Checks.is) (rw (← c.self.view_is) at d) in
       let ready : IsReady (Checks w.in-Checks.field-0 w.in-Checks.session) c.self.inside.journal = rw w.in-Checks.is at c.self.invariant.ready in
-      let wanted : work_of (unit_of w.in-Checks.session) (aim_of w.in-Checks.session) ≡ Send frame = rw w.in-Checks.is at (rw (← c.self.view_is) at want) in
-      let aim : aim_of w.in-Checks.session ≡ asks.Send frame = work_sends (unit_of w.in-Checks.session) (aim_of w.in-Checks.session) frame wanted in
+      let wanted : check_of w.in-Checks.field-0.unit (aim_of w.in-Checks.session) ≡ Send frame = rw w.in-Checks.is at (rw (← c.self.view_is) at want) in
+      let aim : aim_of w.in-Checks.session ≡ asks.Send frame = check_sends w.in-Checks.field-0.unit (aim_of w.in-Checks.session) frame wanted in
       rw w.self-inside-is (checks_on start past c.self.inside.journal w.in-Checks.field-0 w.in-Checks.session _ frame c.args.answer before ready aim
       (λ told is_told. w.heard.ensures.told told frame aim is_told))
   | in-Writes w ↦
       let before : Describes start past (record { journal = c.self.inside.journal; phase = Writes w.in-Writes.field-0 w.in-Writes.session }) =
       rw (← w.in-Writes.is) (rw (← c.self.view_is) at d) in
       let ready : IsReady (Writes w.in-Writes.field-0 w.in-Writes.session) c.self.inside.journal = rw w.in-Writes.is at c.self.invariant.ready in
-      let wanted : work_of (unit_of w.in-Writes.session) (aim_of w.in-Writes.session) ≡ Send frame = rw w.in-Writes.is at (rw (← c.self.view_is) at want) in
-      let aim : aim_of w.in-Writes.session ≡ asks.Send frame = work_sends (unit_of w.in-Writes.session) (aim_of w.in-Writes.session) frame wanted in
+      let wanted : write_of (aim_of w.in-Writes.session) ≡ Send frame = rw w.in-Writes.is at (rw (← c.self.view_is) at want) in
+      let aim : aim_of w.in-Writes.session ≡ asks.Send frame = write_sends (aim_of w.in-Writes.session) frame wanted in
       rw w.self-inside-is (writes_on start past c.self.inside.journal w.in-Writes.field-0 w.in-Writes.session _ frame c.args.answer before ready aim
       (λ told is_told. w.heard-in-Writes.ensures.told told frame aim is_told))
   | in-Closes w ↦

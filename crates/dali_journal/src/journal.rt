@@ -107,6 +107,7 @@ impl Journal {
     pub fn standing(&self) -> Standing
         ensures value { result ≡ standing_of self.now.records }
         ensures short { HasShortUnit result }
+        ensures journal { IsJournal self.now }
     {
         self.standing.copy()
     }

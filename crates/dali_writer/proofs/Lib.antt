@@ -17,3 +17,4 @@ pub mod EndingLemmas
 pub mod StepLemmas
 pub mod SayLemmas
 pub mod KeepLemmas
+pub mod SubmitLemmas

@@ -29,7 +29,7 @@ AreDistinct [] = Unit {0}
 AreDistinct (newest ∷ older) = (kept_among newest.0.id older ≡ kepts.Absent) × AreDistinct older
 
 -- what is kept of an order is never nothing
-never_absent : {A : Type 0} (order : Contents) (stage : Stage) → kept_at order stage ≡ kepts.Absent → A
+pub never_absent : {A : Type 0} (order : Contents) (stage : Stage) → kept_at order stage ≡ kepts.Absent → A
 never_absent order stages.Begun e = cc
 never_absent order stages.Open e = cc
 never_absent order (stages.Ended code) e = cc

@@ -56,15 +56,15 @@ may_next start (Kept entry ∷ past) next finished may = may
 may_next start (Stopped ∷ past) next finished may = may
 
 -- a session always wants something
-check_wants : (unit : ℕ) (ask : Ask) → is_wanting (check_of unit ask) ≡ true
+pub check_wants : (unit : ℕ) (ask : Ask) → is_wanting (check_of unit ask) ≡ true
 check_wants unit (asks.Send frame) = refl
 check_wants unit (asks.Ended verdict) = refl
 
-write_wants : (ask : Ask) → is_wanting (write_of ask) ≡ true
+pub write_wants : (ask : Ask) → is_wanting (write_of ask) ≡ true
 write_wants (asks.Send frame) = refl
 write_wants (asks.Ended verdict) = refl
 
-closing_wants : (id unit : ℕ) (ask : Ask) → is_wanting (closing_of id unit ask) ≡ true
+pub closing_wants : (id unit : ℕ) (ask : Ask) → is_wanting (closing_of id unit ask) ≡ true
 closing_wants id unit (asks.Send frame) = refl
 closing_wants id unit (asks.Ended verdicts.MayOpen) = refl
 closing_wants id unit (asks.Ended verdicts.Done) = refl

@@ -33,3 +33,9 @@ IsReplyBy order kept busy full (replies.Blocked unit) = ⊥
 -- the reply that is due to an order at this moment
 abbrev pub IsReply : Start → List Happening → Contents → Reply → Type 0
 IsReply start past order reply = IsReplyBy order (kept_of order.id (records_of start past)) (is_busy start past) (is_full start past) reply
+
+-- the reply that the journal has for an order, whatever else is at work
+abbrev pub IsKnownReply : Contents → Kept → Reply → Type 0
+IsKnownReply order kept (replies.Kept code) = kept ≡ kepts.Ended order code
+IsKnownReply order kept replies.IdReused = IsReused order kept
+IsKnownReply order kept _ = ⊥

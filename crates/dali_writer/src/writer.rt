@@ -1,13 +1,18 @@
-ghost use Rattle.std.specs.Prelude.{◌≡◌, ◌⊎◌, ◌∷◌, [], ℕ, List, Option, IfOk, OnErr, IsOk};
+ghost use Rattle.std.specs.Prelude.{◌≡◌, ◌⊎◌, ◌∷◌, [], ℕ, List, Option, IfOk, OnErr, IsOk, IfSome, IsNone};
 ghost use Rattle.dali_frame.specs.declared.forward.Frame.{Frame};
 ghost use Rattle.dali_journal.specs.declared.record.Record.{Record};
+ghost use Rattle.dali_journal.specs.Sentence.{HasShortUnit};
+ghost use Rattle.dali_journal.specs.Orders.{kept_of};
 ghost use Rattle.dali_journal.specs.JournalState.{HasRoom};
 ghost use Rattle.dali_writer.specs.declared.happening.Happening.{Happening};
 ghost use Rattle.dali_writer.specs.declared.happening.Happening.TheVariants as happenings;
 ghost use Rattle.dali_writer.specs.declared.happening.Reply.{Reply};
+ghost use Rattle.dali_writer.specs.declared.happening.Reply.TheVariants as replies;
 ghost use Rattle.dali_writer.specs.declared.happening.Want.{Want};
 ghost use Rattle.dali_writer.specs.Trace.{Start, is_busy};
 ghost use Rattle.dali_writer.specs.Phases.{want_of, is_wanting, IsKeep, IsSend, IsSay};
+ghost use Rattle.dali_writer.specs.Replies.{IsNotEnded, IsKnownReply};
+ghost use Rattle.dali_writer.specs.Held.{IsFirst};
 ghost use Rattle.dali_writer.specs.Describes.{Describes};
 
 use crate::happening::{Reply, Want};
@@ -75,6 +80,34 @@ impl Writer {
         self.phase.want()
     }
 
+    /// Takes an order, or tells why not: the first of these replies that applies.
+    ///
+    /// 1 `Kept`: the journal has ended this same order. 2 `IdReused`: the journal has its number for
+    /// another unit or with other updates. 3 `Busy`: something is wanted. 4 `Full`: the journal holds
+    /// as many orders as it may. 5 `Taken`. `Blocked` is never given at once. `NoMemory` comes where
+    /// an order could be taken, but there is no memory for its records. Only `Taken` changes what the
+    /// writer wants.
+    pub fn submit(&mut self, order: Order) -> Result<Reply, NoMemory>
+        ensures described { IfOk result (λ reply. (start : Start) (past : List Happening) → Describes start past self.old
+            → Describes start (happenings.Answered order.id reply ∷ happenings.Asked order ∷ past) self.new) }
+        ensures only_taken { IfOk result (λ reply. (reply ≡ replies.Taken) ⊎ (self.new ≡ self.old)) }
+        ensures err { OnErr result ((start : Start) (past : List Happening) → Describes start past self.old → Describes start past self.new) }
+        ensures succeeds { HasRoom self.old.journal order → IsOk result }
+    {
+        if let Some(reply) = known_reply(&self.journal, &order) {
+            return Ok(reply);
+        }
+        if !self.phase.is_idle() {
+            return Ok(Reply::Busy);
+        }
+        if self.journal.is_full() {
+            return Ok(Reply::Full);
+        }
+        self.journal.reserve(&order)?;
+        self.phase = first_phase(self.journal.standing(), order);
+        Ok(Reply::Taken)
+    }
+
     /// The record that was wanted was kept. It takes no memory.
     ///
     /// A record has to be wanted.
@@ -138,5 +171,40 @@ impl Writer {
             → Describes start past self.old → Describes start (happenings.Answered id reply ∷ past) self.new }
     {
         self.phase = Phase::Idle;
+    }
+}
+
+// The reply that the journal has for an order, whatever else is at work: Kept or IdReused.
+fn known_reply(journal: &Journal, order: &Order) -> Option<Reply>
+    ensures some { IfSome result (λ reply. IsKnownReply order.now (kept_of order.now.id journal.now.records) reply) }
+    ensures none { IsNone result → IsNotEnded order.now (kept_of order.now.id journal.now.records) }
+{
+    match journal.kept(order.id()) {
+        Kept::Absent => None,
+        Kept::Unfinished(old) => {
+            if old.same(order) {
+                None
+            } else {
+                Some(Reply::IdReused)
+            }
+        }
+        Kept::Ended(old, code) => {
+            if old.same(order) {
+                Some(Reply::Kept(code))
+            } else {
+                Some(Reply::IdReused)
+            }
+        }
+    }
+}
+
+// What comes first for an order that is taken: a unit that was left is closed.
+fn first_phase(standing: Standing, order: Order) -> Phase
+    requires { HasShortUnit standing }
+    ensures { IsFirst standing order result }
+{
+    match standing {
+        Standing::Left(unit) => Phase::Closes(order, Session::closing(unit)),
+        _ => Phase::Begins(order),
     }
 }

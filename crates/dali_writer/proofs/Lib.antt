@@ -2,8 +2,8 @@ pub mod StandingLemmas
 pub mod FrameLemmas
 pub mod RecordLemmas
 pub mod PromiseLemmas
-pub mod MomentLemmas
 pub mod AppliedLemmas
+pub mod MomentLemmas
 pub mod ReplyLemmas
 pub mod TakenLemmas
 pub mod QuietLemmas

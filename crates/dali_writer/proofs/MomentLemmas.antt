@@ -15,9 +15,10 @@ use Rattle.dali_writer.specs.Legal.{MayFollow, MayKeep, MaySend}
 use Rattle.dali_writer.specs.Moves.{Moves}
 use Rattle.dali_writer.specs.Fits.{Fits, OnlyNamed}
 use Rattle.dali_writer.specs.WhenKept.{WhenKept}
-use Rattle.dali_writer.specs.Law.{Along, FitsAt, OnlyNamedAt}
+use Rattle.dali_writer.specs.Law.{Along, IsRight}
 use Rattle.dali_writer.proofs.FrameLemmas.{IsFine, after_sent}
 use Rattle.dali_writer.proofs.RecordLemmas.{keeps_fitting, keeps_only, grounds_too}
+use Rattle.dali_writer.proofs.AppliedLemmas.{fits_applied}
 use Rattle.dali_writer.proofs.PromiseLemmas.{when_kept}
 
 -- what is known of the world behind a legal trace
@@ -106,10 +107,6 @@ step zero old new start past Stopped may same sound =
     let still = stays zero old new start past same sound in
     (record { fine = still.fine; sentence = still.sentence; since = new; run = refl }, tt)
 
--- what is so at each moment
-abbrev pub IsRight : World → Start → List Happening → World → Type 0
-IsRight zero start moment now = FitsAt zero start moment now × OnlyNamedAt zero start moment now × WhenKept start moment now
-
 begins : (zero first last : World) (start : Start) → Fits zero start.records first → OnlyNamed start.records first → IsSentence start.records → last ≡ first
     → IsSound zero start [] last
 begins zero first last start fits only sentence same = record {
@@ -122,14 +119,14 @@ begins zero first last start fits only sentence same = record {
 pub every_moment : (zero : World) (start : Start) (first : World) (past : List Happening) (last : World) (states : List World)
     → Along zero start first past last states → IsSound zero start past last × AtEachMoment (IsRight zero start) past last states
 every_moment zero start first [] last [] along =
-    let sound = begins zero first last start along.fits along.only along.legal.0 along.chain in (sound, (sound.fine.fits, sound.fine.only, tt))
+    let sound = begins zero first last start along.fits along.only along.legal.0 along.chain in (sound, (sound.fine.fits, sound.fine.only, fits_applied zero start.records last sound.fine.fits, tt))
 every_moment zero start first [] last (state ∷ states) along = absurd along.chain
 every_moment zero start first (next ∷ past) last [] along = absurd along.chain
 every_moment zero start first (next ∷ past) last (state ∷ states) along =
     let before = every_moment zero start first past state states
     (record { legal = along.legal.0; fits = along.fits; only = along.only; chain = along.chain.1 }) in
     let now = step zero state last start past next along.legal.1 along.chain.0 before.0 in
-    (now.0, ((now.0.fine.fits, now.0.fine.only, now.1), before.1))
+    (now.0, ((now.0.fine.fits, now.0.fine.only, fits_applied zero (records_of start (next ∷ past)) last now.0.fine.fits, now.1), before.1))
 
 -- a part of what is so at each moment
 pub part_of : (P Q : List Happening → World → Type 0) → ((moment : List Happening) (now : World) → P moment now → Q moment now)

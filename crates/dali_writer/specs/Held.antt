@@ -41,3 +41,9 @@ IsAfterCheck order verdict phase = phase ≡ Says order.id (check_code verdict)
 abbrev pub IsFirst : Standing → Contents → Phase → Type 0
 IsFirst (standings.Left unit) order phase = (s : Session) × (phase ≡ Closes order s) × (unit_of s ≡ unit) × IsClosing unit s × Told [] s
 IsFirst other order phase = phase ≡ Begins order
+
+-- what comes first where the journal stands so: an order that was begun is looked at anew, one that was opened is carried out anew
+abbrev pub IsResumed : Standing → Phase → Type 0
+IsResumed (standings.Began order) phase = (s : Session) × (phase ≡ Checks order s) × IsFresh order s × Told [] s × AreUpdates order.updates
+IsResumed (standings.Opened order) phase = (s : Session) × (phase ≡ Writes order s) × IsOpened order s × Told [] s × AreUpdates order.updates
+IsResumed other phase = phase ≡ Idle

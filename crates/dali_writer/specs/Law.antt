@@ -18,6 +18,7 @@ use Rattle.dali_writer.specs.Legal.{Legal}
 use Rattle.dali_writer.specs.Taken.{taken_orders, begun_orders}
 use Rattle.dali_writer.specs.Moves.{Moves}
 use Rattle.dali_writer.specs.Fits.{Fits, OnlyNamed, IsApplied}
+use Rattle.dali_writer.specs.WhenKept.{WhenKept}
 use Rattle.dali_writer.specs.Quiet.{NoneTaken, NoneSent}
 
 -- a chain of worlds along a legal trace, from a world that fits the start world and the start records, with no unit enabled but the one that they name
@@ -43,6 +44,10 @@ OnlyNamedAt zero start moment now = OnlyNamed (records_of start moment) now
 -- every place that is in no doubt holds what it held at the start, with the done orders applied
 abbrev pub AppliedAt : World → Start → List Happening → World → Type 0
 AppliedAt zero start moment now = IsApplied zero (records_of start moment) now
+
+-- all of it: the world fits, no unit is enabled but the named one, each place that is in no doubt is as the journal says, and a record that was just kept is true
+abbrev pub IsRight : World → Start → List Happening → World → Type 0
+IsRight zero start moment now = FitsAt zero start moment now × OnlyNamedAt zero start moment now × AppliedAt zero start moment now × WhenKept start moment now
 
 -- the records are a sentence within the limit
 abbrev pub RecordsAreASentence : Type 0

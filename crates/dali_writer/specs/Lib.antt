@@ -10,6 +10,7 @@ pub mod Fits
 pub mod WhenKept
 pub mod Quiet
 pub mod Law
+pub mod Runs
 pub mod Phases
 pub mod Held
 pub mod Inside

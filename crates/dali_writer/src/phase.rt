@@ -1,10 +1,13 @@
 ghost use Rattle.std.specs.Prelude.{◌≡◌};
+ghost use Rattle.dali_frame.specs.declared.forward.Frame.{Frame};
+ghost use Rattle.dali_frame.specs.Frame.{IsProper};
+ghost use Rattle.dali_writer.specs.declared.happening.Want.{Want};
 ghost use Rattle.dali_writer.specs.Phases.{want_of, check_record, check_code, write_code, is_idle};
-ghost use Rattle.dali_writer.specs.Held.{IsAfterCheck};
+ghost use Rattle.dali_writer.specs.Held.{IsAfterCheck, IsResumed};
 
 use crate::happening::{Reply, Want};
 use dali_bank::Order;
-use dali_journal::{Code, Record};
+use dali_journal::{Code, Record, Standing};
 use dali_write::{Ask, Session, Verdict};
 
 // What a writer is about to do.
@@ -33,7 +36,8 @@ impl Phase {
 
     // What is to be done next.
     pub(crate) fn want(&self) -> Want
-        ensures { result ≡ want_of self.now }
+        ensures want { result ≡ want_of self.now }
+        ensures proper { (frame : Frame) → result ≡ Want.Send frame → IsProper frame }
     {
         match self {
             Phase::Idle => Want::Idle,
@@ -98,5 +102,23 @@ pub(crate) fn after_check(order: Order, verdict: Verdict) -> Phase
             Phase::Writes(order, session)
         }
         _ => Phase::Says(order.id(), check_code(verdict)),
+    }
+}
+
+// What comes first where the journal stands so.
+pub(crate) fn resumed_phase(standing: Standing) -> Phase
+    ensures { IsResumed standing result }
+{
+    match standing {
+        Standing::Idle => Phase::Idle,
+        Standing::Left(_) => Phase::Idle,
+        Standing::Began(order) => {
+            let session = Session::fresh(order.copy());
+            Phase::Checks(order, session)
+        }
+        Standing::Opened(order) => {
+            let session = Session::opened(order.copy());
+            Phase::Writes(order, session)
+        }
     }
 }

@@ -1,5 +1,6 @@
 ghost use Rattle.std.specs.Prelude.{◌≡◌, ◌⊎◌, ◌∷◌, [], ℕ, List, Option, IfOk, OnErr, IsOk, IfSome, IsNone};
 ghost use Rattle.dali_frame.specs.declared.forward.Frame.{Frame};
+ghost use Rattle.dali_frame.specs.Frame.{IsProper};
 ghost use Rattle.dali_journal.specs.declared.record.Record.{Record};
 ghost use Rattle.dali_journal.specs.Sentence.{HasShortUnit};
 ghost use Rattle.dali_journal.specs.Orders.{kept_of};
@@ -16,7 +17,7 @@ ghost use Rattle.dali_writer.specs.Held.{IsFirst};
 ghost use Rattle.dali_writer.specs.Describes.{Describes};
 
 use crate::happening::{Reply, Want};
-use crate::phase::{Phase, after_check, check_record, write_code};
+use crate::phase::{Phase, after_check, check_record, resumed_phase, write_code};
 use dali_bank::Order;
 use dali_journal::{Code, Journal, Kept, NoMemory, Record, Standing};
 use dali_write::{Ask, Session, Verdict};
@@ -51,18 +52,15 @@ impl Writer {
         ensures described { (start : Start) → start.records ≡ journal.records → start.limit ≡ journal.limit → Describes start [] result }
         ensures journal { result.journal ≡ journal }
     {
-        let phase = match journal.standing() {
-            Standing::Idle | Standing::Left(_) => Phase::Idle,
-            Standing::Began(order) => {
-                let session = Session::fresh(order.copy());
-                Phase::Checks(order, session)
-            }
-            Standing::Opened(order) => {
-                let session = Session::opened(order.copy());
-                Phase::Writes(order, session)
-            }
-        };
+        let phase = resumed_phase(journal.standing());
         Writer { journal, phase }
+    }
+
+    // A stop: all is lost but the journal.
+    pub(crate) fn stop(&mut self)
+        ensures { (start : Start) (past : List Happening) → Describes start past self.old → Describes start (happenings.Stopped ∷ past) self.new }
+    {
+        self.phase = resumed_phase(self.journal.standing());
     }
 
     /// The writer's journal.
@@ -76,6 +74,7 @@ impl Writer {
     pub fn want(&self) -> Want
         ensures phase { result ≡ want_of self.now.phase }
         ensures busy { (start : Start) (past : List Happening) → Describes start past self.now → is_busy start past ≡ is_wanting result }
+        ensures proper { (frame : Frame) → result ≡ Want.Send frame → IsProper frame }
     {
         self.phase.want()
     }

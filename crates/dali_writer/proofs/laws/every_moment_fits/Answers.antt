@@ -1,6 +1,6 @@
-use Rattle.dali_writer.specs.Law.{FitsAt, OnlyNamedAt}
+use Rattle.dali_writer.specs.Law.{FitsAt, OnlyNamedAt, IsRight}
 use Rattle.dali_writer.specs.WhenKept.{WhenKept}
-use Rattle.dali_writer.proofs.MomentLemmas.{IsRight, every_moment, part_of}
+use Rattle.dali_writer.proofs.MomentLemmas.{every_moment, part_of}
 use Rattle.dali_writer.proofs.laws.every_moment_fits.Goals as goal
 
 pub returns-clause-fits : goal.returns-clause-fits
@@ -13,4 +13,4 @@ returns-clause-enabled c = λ zero start first past last states along.
 
 pub returns-clause-kept : goal.returns-clause-kept
 returns-clause-kept c = λ zero start first past last states along.
-    part_of (IsRight zero start) (WhenKept start) (λ moment now right. right.2) past last states (every_moment zero start first past last states along).1
+    part_of (IsRight zero start) (WhenKept start) (λ moment now right. right.3) past last states (every_moment zero start first past last states along).1

@@ -6,4 +6,4 @@ use Rattle.dali_writer.proofs.writer.Writer.want.Goals as goal
 
 pub returns-clause-busy : goal.returns-clause-busy
 returns-clause-busy c = λ start past d.
-    busy_at start past c.self.inside.journal c.self.inside.phase (rw (← c.self.view_is) at d) c.self.invariant.ready ∙ sym (ap is_wanting c.want.ensures)
+    busy_at start past c.self.inside.journal c.self.inside.phase (rw (← c.self.view_is) at d) c.self.invariant.ready ∙ sym (ap is_wanting c.want.ensures.want)

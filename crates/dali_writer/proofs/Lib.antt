@@ -18,3 +18,5 @@ pub mod StepLemmas
 pub mod SayLemmas
 pub mod KeepLemmas
 pub mod SubmitLemmas
+pub mod ChainLemmas
+pub mod PartsLemmas

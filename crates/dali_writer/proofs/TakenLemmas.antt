@@ -1,5 +1,6 @@
 -- The orders of the records are the taken ones.
 use Rattle.std.proofs.Common.{◌≡◌, refl, ap, ◌∙◌, Bool, true, false, ◌||◌, ℕ, List, [], ◌∷◌, ◌++◌, map, Option, Some, None}
+use Rattle.std.proofs.lemmas.List.{append-nil}
 use Rattle.dali_bank.specs.Order.{Contents}
 use Rattle.dali_journal.specs.declared.record.Code.{Code}
 use Rattle.dali_journal.specs.declared.record.Record.TheVariants.{Began, Opened, Ended, Closed}
@@ -158,3 +159,7 @@ kept_are_taken start (Kept (Opened unit) ∷ past) legal = come_same stages.Open
 kept_are_taken start (Kept (Ended code) ∷ past) legal = come_same (stages.Ended code) (orders_of (records_of start past)) ∙ kept_are_taken start past legal.0
 kept_are_taken start (Kept (Closed unit) ∷ past) legal = kept_are_taken start past legal.0
 kept_are_taken start (Stopped ∷ past) legal = kept_are_taken start past legal.0
+
+pub taken_from_none : (start : Start) (past : List Happening) → start.records ≡ [] → Legal start past → begun_orders (records_of start past) ≡ taken_orders past
+taken_from_none start past none legal =
+    kept_are_taken start past legal ∙ ap (λ records. taken_orders past ++ begun_orders records) none ∙ append-nil (taken_orders past)

@@ -11,6 +11,7 @@ pub mod WhenKept
 pub mod Quiet
 pub mod Law
 pub mod Runs
+pub mod Faults
 pub mod Phases
 pub mod Held
 pub mod Inside

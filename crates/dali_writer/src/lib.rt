@@ -2,12 +2,16 @@
 //! them, whatever a bus loses and whenever the program is stopped.
 #![tactic(auto)]
 
+mod fault;
 mod happening;
 mod phase;
+mod runs;
 mod writer;
 pub mod laws;
 #[cfg(test)]
 mod tests;
 
+pub use fault::RunFault;
 pub use happening::{Event, Happening, Reply, Want};
+pub use runs::{Outcome, run};
 pub use writer::Writer;

@@ -1,0 +1,89 @@
+-- A chain goes on by one happening, and a chain of a bus is one of its worlds.
+use Rattle.std.proofs.Common.{◌≡◌, refl, sym, ap, subst, ◌∙◌, ℕ, List, [], ◌∷◌, ◌++◌, Option, Some, reverse, map}
+use Rattle.std.proofs.lemmas.List.{reverse-append}
+use Rattle.dali_gear.specs.World.{World, is_enabled}
+use Rattle.dali_gear.specs.Carry.{BusEvent, Carried, WorldStep}
+use Rattle.dali_gear.specs.Chain.{IsChain, AtEachMoment, Chain}
+use Rattle.dali_gear.specs.Unenabled.{NoneEnabled}
+use Rattle.dali_journal.specs.declared.record.Record.{Record}
+use Rattle.dali_writer.specs.declared.happening.Happening.{Happening}
+use Rattle.dali_writer.specs.declared.happening.Happening.TheVariants.{Asked, Answered, Sent, Kept, Stopped}
+use Rattle.dali_writer.specs.Trace.{Start}
+use Rattle.dali_writer.specs.Legal.{Legal}
+use Rattle.dali_writer.specs.Moves.{MovesBy, Moves}
+use Rattle.dali_writer.specs.Fits.{Fits, OnlyNamed}
+use Rattle.dali_writer.specs.Law.{Along, IsRight}
+use Rattle.dali_writer.specs.Runs.{fresh, LeadsRight}
+use Rattle.dali_writer.specs.Held.{Held}
+use Rattle.dali_writer.specs.Describes.{Describes}
+use Rattle.dali_writer.proofs.MomentLemmas.{every_moment}
+
+-- a longer trace that is written oldest first describes the same writer
+pub onto : (start : Start) (w : Held) (trace new : List Happening) (next : Happening) → new ≡ trace ++ next ∷ [] → Describes start (next ∷ reverse trace) w → Describes start (reverse new) w
+onto start w trace new next is d = subst (λ (t : List Happening). Describes start t w) (sym (ap reverse is ∙ reverse-append trace (next ∷ []))) d
+
+-- and one that is longer by a record and a stop
+pub onto_stop : (start : Start) (w : Held) (trace mid new : List Happening) (entry : Record) → mid ≡ trace ++ Kept entry ∷ [] → new ≡ mid ++ Stopped ∷ []
+    → Describes start (Stopped ∷ Kept entry ∷ reverse trace) w → Describes start (reverse new) w
+onto_stop start w trace mid new entry one two d =
+    onto start w mid new Stopped two
+    (subst (λ (t : List Happening). Describes start (Stopped ∷ t) w) (sym (ap reverse one ∙ reverse-append trace (Kept entry ∷ []))) d)
+
+module _ {S : Type 0} (world : S → World) (step : S → BusEvent → S → Type 0) where
+  -- a chain before anything happens
+  pub starts : (first : S) → Chain (MovesBy step) first [] first
+  starts first = record { states = []; steps = refl }
+
+  -- a chain goes on, where the trace is written oldest first
+  pub pushed : (first mid last : S) (trace new : List Happening) (next : Happening) → new ≡ trace ++ next ∷ [] → Chain (MovesBy step) first (reverse trace) mid
+      → MovesBy step mid next last → Chain (MovesBy step) first (reverse new) last
+  pushed first mid last trace new next is chain moved =
+      subst (λ (t : List Happening). Chain (MovesBy step) first t last) (sym (ap reverse is ∙ reverse-append trace (next ∷ [])))
+      (record { states = mid ∷ chain.states; steps = (moved, chain.steps) })
+
+  module _ (allowed : (old : S) (event : BusEvent) (new : S) → step old event new → WorldStep (world old) event (world new)) where
+    moves : (old : S) (next : Happening) (new : S) → MovesBy step old next new → Moves (world old) next (world new)
+    moves old (Asked order) new same = ap world same
+    moves old (Answered id reply) new same = ap world same
+    moves old (Sent frame answer) new moved = allowed old (Carried frame answer) new moved
+    moves old (Kept entry) new same = ap world same
+    moves old Stopped new same = ap world same
+
+    worlds : (first last : S) (past : List Happening) (states : List S) → IsChain (MovesBy step) first past last states
+        → IsChain Moves (world first) past (world last) (map world states)
+    worlds first last [] [] same = ap world same
+    worlds first last [] (state ∷ states) wrong = absurd wrong
+    worlds first last (next ∷ past) [] wrong = absurd wrong
+    worlds first last (next ∷ past) (state ∷ states) chain = (moves state next last chain.0, worlds first state past states chain.1)
+
+    moments : (P : List Happening → World → Type 0) (last : S) (past : List Happening) (states : List S) → AtEachMoment P past (world last) (map world states)
+        → AtEachMoment (λ moment now. P moment (world now)) past last states
+    moments P last [] [] here = here
+    moments P last [] (state ∷ states) wrong = absurd wrong
+    moments P last (next ∷ past) [] wrong = absurd wrong
+    moments P last (next ∷ past) (state ∷ states) each = (each.0, moments P state past states each.1)
+
+    -- each moment of a chain along a legal trace is right
+    pub right : (limit : ℕ) (first last : S) (past : List Happening) → Legal (fresh limit) past → Chain (MovesBy step) first past last
+        → LeadsRight world step limit first past last
+    right limit first last past legal chain = record {
+      states = chain.states;
+      chain = chain.steps;
+      right = λ none. moments (IsRight (world first) (fresh limit)) last past chain.states (each none);
+    } where
+      fits : Fits (world first) [] (world first)
+      fits = record {
+        places = λ address bank location. refl;
+        bytes = λ address bank location one byte lock was is. same one byte was is;
+        locks = λ address closed. refl;
+      } where
+        same : {x : Option ℕ} (one byte : ℕ) → x ≡ Some one → x ≡ Some byte → byte ≡ one
+        same one byte was is = cc
+
+      only : NoneEnabled (world first) → OnlyNamed [] (world first)
+      only none address on = let off = none address in cc
+
+      each : NoneEnabled (world first) → AtEachMoment (IsRight (world first) (fresh limit)) past (world last) (map world chain.states)
+      each none =
+          (every_moment (world first) (fresh limit) (world first) past (world last) (map world chain.states)
+          (record { legal = legal; fits = fits; only = only none; chain = worlds first last past chain.states chain.steps })).1

@@ -1,0 +1,71 @@
+use Rattle.std.proofs.Common.{◌≡◌, refl, sym, reverse, [], arith}
+use Rattle.std.proofs.lemmas.Result.{err_from_is_err_and}
+use Rattle.dali_gear.specs.Chain.{Chain}
+use Rattle.dali_writer.specs.Moves.{MovesBy}
+use Rattle.dali_writer.specs.Runs.{fresh}
+use Rattle.dali_writer.specs.Describes.{Describes}
+use Rattle.dali_writer.proofs.ChainLemmas.{starts, right}
+use Rattle.dali_writer.proofs.TakenLemmas.{taken_from_none}
+use Rattle.dali_writer.proofs.PartsLemmas.{more_parts}
+use Rattle.dali_writer.proofs.runs.run.Goals as goal
+
+pub returns-in-Err-Limit-clause-err : goal.returns-in-Err-Limit-clause-err
+returns-in-Err-Limit-clause-err g c = (
+  [],
+  0,
+  refl,
+  (tt, omega arith),
+  right g.B.Bus.world g.B.Bus.step g.met.B.Bus.allowed c.args.limit c.args.bus.now c.args.bus.now [] (tt, omega arith) (starts g.B.Bus.world g.B.Bus.step c.args.bus.now),
+)
+
+pub returns-in-Err-NoMemory-clause-err : goal.returns-in-Err-NoMemory-clause-err
+returns-in-Err-NoMemory-clause-err g c = (
+  [],
+  0,
+  refl,
+  (tt, omega arith),
+  right g.B.Bus.world g.B.Bus.step g.met.B.Bus.allowed c.args.limit c.args.bus.now c.args.bus.now [] (tt, omega arith) (starts g.B.Bus.world g.B.Bus.step c.args.bus.now),
+)
+
+pub loop-event-init : goal.loop-event-init
+loop-event-init g c = rw c.new-trace.ensures.items (record {
+  described = c.new-writer.ensures.described (fresh c.args.limit) (sym c.in-Ok.ensures.ok.0) (sym c.in-Ok.ensures.ok.1);
+  parts = refl;
+  chain = starts g.B.Bus.world g.B.Bus.step c.args.bus.now;
+})
+
+pub returns-in_err-serve-clause-err : goal.returns-in_err-serve-clause-err
+returns-in_err-serve-clause-err g c =
+    let described : Describes (fresh c.args.limit) (reverse c.serve.new.trace.items) c.serve.new.writer = c.serve.ensures.described _ c.loop-event.invariant.described in
+    let leads : Chain (MovesBy g.B.Bus.step) c.args.bus.now (reverse c.serve.new.trace.items) c.serve.new.bus = c.serve.ensures.leads _ c.loop-event.invariant.chain in
+    let p = err_from_is_err_and c.from_residual.result c.from_residual.ensures.1 in rw p.1 (
+      reverse c.serve.new.trace.items,
+      c.loop-event.event-index,
+      rw c.in_err-serve.ensures.err c.loop-event.invariant.parts,
+      described.legal,
+      right g.B.Bus.world g.B.Bus.step g.met.B.Bus.allowed c.args.limit c.args.bus.now c.serve.new.bus _ described.legal leads,
+    )
+
+pub loop-event-preserved : goal.loop-event-preserved
+loop-event-preserved g c = record {
+  described = c.serve.ensures.described _ c.loop-event.invariant.described;
+  parts = more_parts (fresh c.args.limit) _ _ _ _ _ c.loop-event-test.true c.loop-event.invariant.parts (rw c.event-item.is at (c.in_ok-serve.ensures.part _ c.loop-event.invariant.described));
+  chain = c.serve.ensures.leads _ c.loop-event.invariant.chain;
+}
+
+pub returns-in_err-to_bytes-clause-err : goal.returns-in_err-to_bytes-clause-err
+returns-in_err-to_bytes-clause-err g c =
+    let p = err_from_is_err_and c.from_residual-in_err-to_bytes.result c.from_residual-in_err-to_bytes.ensures.1 in rw p.1 (
+      reverse c.loop-event.trace.items,
+      c.loop-event.event-index,
+      c.loop-event.invariant.parts,
+      c.loop-event.invariant.described.legal,
+      right g.B.Bus.world g.B.Bus.step g.met.B.Bus.allowed c.args.limit c.args.bus.now c.loop-event.bus _ c.loop-event.invariant.described.legal c.loop-event.invariant.chain,
+    )
+
+pub returns-clause-right : goal.returns-clause-right
+returns-clause-right g c =
+    right g.B.Bus.world g.B.Bus.step g.met.B.Bus.allowed c.args.limit c.args.bus.now c.loop-event.bus _ c.loop-event.invariant.described.legal c.loop-event.invariant.chain
+
+pub returns-clause-taken : goal.returns-clause-taken
+returns-clause-taken g c = taken_from_none (fresh c.args.limit) (reverse c.loop-event.trace.items) refl c.loop-event.invariant.described.legal

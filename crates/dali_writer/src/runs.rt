@@ -1,0 +1,159 @@
+ghost use Rattle.std.specs.Prelude.{◌≡◌, ◌↔◌, ◌∷◌, ◌≤◌, [], ℕ, List, length, reverse, take, is_some, IfSome, IsNone, IfOk, OnOk, OnErr, IfErr, Err};
+ghost use Rattle.dali_journal.specs.Spelling.{spelling, journal_spelling};
+ghost use Rattle.dali_journal.specs.JournalState.{IsLimit};
+ghost use Rattle.dali_gear.specs.Chain.{Chain};
+ghost use Rattle.dali_writer.specs.declared.happening.Happening.{Happening};
+ghost use Rattle.dali_writer.specs.declared.happening.Happening.TheVariants as happenings;
+ghost use Rattle.dali_writer.specs.declared.fault.RunFault.TheVariants as faults;
+ghost use Rattle.dali_writer.specs.Trace.{Start, records_of, is_busy};
+ghost use Rattle.dali_writer.specs.Legal.{Legal, IsFinished};
+ghost use Rattle.dali_writer.specs.Parts.{IsWork, Part, AreParts};
+ghost use Rattle.dali_writer.specs.Taken.{taken_orders, begun_orders};
+ghost use Rattle.dali_writer.specs.Moves.{MovesBy};
+ghost use Rattle.dali_writer.specs.Runs.{fresh, LeadsRight};
+ghost use Rattle.dali_writer.specs.Describes.{Describes};
+
+use crate::fault::RunFault;
+use crate::happening::{Event, Happening, Want};
+use crate::writer::Writer;
+use dali_gear::Bus;
+use dali_journal::{Journal, JournalFault, Record};
+use std::alloc::Global;
+
+// Does once what the writer wants, if it wants something.
+fn advance<B: Bus>(bus: &mut B, writer: &mut Writer) -> Option<Happening>
+    ensures described { IfSome result (λ happening. (start : Start) (past : List Happening) → Describes start past writer.old → Describes start (happening ∷ past) writer.new) }
+    ensures moves { IfSome result (λ happening. MovesBy B.step bus.old happening bus.new) }
+    ensures work { IfSome result (λ happening. IsWork happening) }
+    ensures busy { (start : Start) (past : List Happening) → Describes start past writer.old → is_busy start past ≡ is_some result }
+    ensures writer { IsNone result → writer.new ≡ writer.old }
+    ensures bus { IsNone result → bus.new ≡ bus.old }
+{
+    match writer.want() {
+        Want::Idle => None,
+        Want::Keep(entry) => {
+            writer.kept();
+            Some(Happening::Kept(entry))
+        }
+        Want::Send(frame) => {
+            let answer = bus.carry(&frame);
+            writer.heard(answer);
+            Some(Happening::Sent(frame, answer))
+        }
+        Want::Say(id, reply) => {
+            writer.said();
+            Some(Happening::Answered(id, reply))
+        }
+    }
+}
+
+// Keeps the record that is wanted, where one is and no more than these bytes of it reach the journal
+// but all do.
+fn keep_within(writer: &mut Writer, bytes: u16) -> Option<Record>
+    ensures described { IfSome result (λ entry. (start : Start) (past : List Happening) → Describes start past writer.old → Describes start (happenings.Kept entry ∷ past) writer.new) }
+    ensures few { IfSome result (λ entry. length (spelling entry) ≤ bytes) }
+    ensures none { IsNone result → writer.new ≡ writer.old }
+{
+    match writer.want() {
+        Want::Keep(entry) => {
+            if entry.bytes().len() <= usize::from(bytes) {
+                writer.kept();
+                Some(entry)
+            } else {
+                None
+            }
+        }
+        _ => None,
+    }
+}
+
+// Serves one event. All memory that it takes, it takes before anything happens.
+fn serve<B: Bus>(
+    bus: &mut B,
+    writer: &mut Writer,
+    trace: &mut Vec<Happening>,
+    event: &Event,
+) -> Result<(), RunFault>
+    ensures described { (start : Start) → Describes start (reverse trace.old.items) writer.old → Describes start (reverse trace.new.items) writer.new }
+    ensures part { OnOk result ((start : Start) → Describes start (reverse trace.old.items) writer.old
+        → Part start event.now (reverse trace.old.items) (reverse trace.new.items)) }
+    ensures err { OnErr result (trace.new.items ≡ trace.old.items) }
+    ensures fault { IfErr result (λ fault. fault ≡ faults.NoMemory) }
+    ensures leads { (first : B) → Chain (MovesBy B.step) first (reverse trace.old.items) bus.old → Chain (MovesBy B.step) first (reverse trace.new.items) bus.new }
+{
+    trace.reserve(2)?;
+    match event {
+        Event::Submit(order) => {
+            let reply = writer.submit(order.copy())?;
+            trace.push_reserved(Happening::Asked(order.copy()));
+            trace.push_reserved(Happening::Answered(order.id(), reply));
+        }
+        Event::Step => {
+            if let Some(happening) = advance(bus, writer) {
+                trace.push_reserved(happening);
+            }
+        }
+        Event::Stop(bytes) => match keep_within(writer, *bytes) {
+            Some(entry) => {
+                writer.stop();
+                trace.push_reserved(Happening::Kept(entry));
+                trace.push_reserved(Happening::Stopped);
+            }
+            None => {
+                writer.stop();
+                trace.push_reserved(Happening::Stopped);
+            }
+        },
+    }
+    Ok(())
+}
+
+/// What a run over a bus gives (profile).
+#[derive(Drop)]
+pub struct Outcome {
+    /// The journal's bytes.
+    pub journal: Vec<u8>,
+    /// What happened, the oldest first.
+    pub trace: Vec<Happening>,
+}
+
+/// Serves the events in their order, over a bus and an empty journal for at most so many orders
+/// (profile).
+///
+/// A `Submit` takes an order and replies. A `Step` does the next thing, if there is one. A `Stop`
+/// begins anew from the records of the journal.
+///
+/// Fault 1 Limit where the limit is 0 or over 100000, before anything is done; 2 NoMemory where there
+/// is no memory: then the bus stands where the events so far left it.
+pub fn run<B: Bus>(
+    alloc: Global,
+    bus: &mut B,
+    limit: u32,
+    events: &[Event],
+) -> Result<Outcome, RunFault>
+    ensures legal { IfOk result (λ outcome. Legal (fresh limit) (reverse outcome.trace.items)) }
+    ensures finished { IfOk result (λ outcome. IsFinished (reverse outcome.trace.items)) }
+    ensures parts { IfOk result (λ outcome. AreParts (fresh limit) (reverse events.now) (reverse outcome.trace.items)) }
+    ensures journal { IfOk result (λ outcome. outcome.journal.items ≡ journal_spelling (records_of (fresh limit) (reverse outcome.trace.items))) }
+    ensures right { IfOk result (λ outcome. LeadsRight B.world B.step limit bus.old (reverse outcome.trace.items) bus.new) }
+    ensures taken { IfOk result (λ outcome. begun_orders (records_of (fresh limit) (reverse outcome.trace.items)) ≡ taken_orders (reverse outcome.trace.items)) }
+    ensures limited { OnOk result (IsLimit limit) }
+    ensures limit { (result ≡ Err faults.Limit) ↔ (¬ IsLimit limit) }
+    ensures untouched { result ≡ Err faults.Limit → bus.new ≡ bus.old }
+    ensures err { OnErr result ((past : List Happening) × (served : ℕ) × AreParts (fresh limit) (reverse (take served events.now)) past × Legal (fresh limit) past × LeadsRight B.world B.step limit bus.old past bus.new) }
+{
+    let journal = match Journal::new(alloc, limit) {
+        Ok(journal) => journal,
+        Err(JournalFault::Limit) => return Err(RunFault::Limit),
+        Err(JournalFault::NoMemory) => return Err(RunFault::NoMemory),
+    };
+    let mut writer = Writer::new(journal);
+    let mut trace = Vec::new(alloc);
+    for event in events {
+        serve(bus, &mut writer, &mut trace, event)?;
+    }
+    Ok(Outcome {
+        journal: writer.journal().to_bytes(alloc)?,
+        trace,
+    })
+}

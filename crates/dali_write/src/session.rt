@@ -11,6 +11,7 @@ ghost use Rattle.dali_write.specs.declared.stage.Job.{Job};
 ghost use Rattle.dali_write.specs.Stages.{plan_of, order_of, plan_at, step_of};
 ghost use Rattle.dali_write.specs.Found.{kept_after};
 ghost use Rattle.dali_write.specs.FramesLeft.{limit_at};
+ghost use Rattle.dali_write.specs.Counts.{fresh_limit, opened_limit, closing_limit};
 
 use crate::ask::{Ask, Verdict};
 use crate::line::{Line, byte_after};
@@ -56,6 +57,7 @@ impl Session {
         ensures unit { unit_of result ≡ order.unit }
         ensures job { job_of result ≡ Job.Fresh order }
         ensures told { Told [] result }
+        ensures left { frames_left result ≡ fresh_limit }
     {
         Session::begun(order.unit(), Job::Fresh(order), Stage::ReadLength)
     }
@@ -67,6 +69,7 @@ impl Session {
         ensures unit { unit_of result ≡ order.unit }
         ensures job { job_of result ≡ Job.Opened order }
         ensures told { Told [] result }
+        ensures left { frames_left result ≡ opened_limit (length order.updates) }
     {
         Session::begun(order.unit(), Job::Opened(order), Stage::Unlock)
     }
@@ -78,6 +81,7 @@ impl Session {
         ensures unit { unit_of result ≡ unit }
         ensures job { job_of result ≡ Job.Closing }
         ensures told { Told [] result }
+        ensures left { frames_left result ≡ closing_limit }
     {
         Session::begun(
             unit,
@@ -103,6 +107,7 @@ impl Session {
         ensures unit { unit_of result ≡ unit }
         ensures job { job_of result ≡ job }
         ensures told { Told [] result }
+        ensures left { frames_left result ≡ limit_at job stage }
     {
         Session {
             unit,

@@ -33,6 +33,7 @@ use Rattle.dali_writer.specs.Grounds.{Grounds, IsSeen}
 use Rattle.dali_writer.specs.Legal.{IsDue, MayKeep, EndsAs}
 use Rattle.dali_writer.specs.Phases.{want_of, closing_of, check_code, check_record, write_code}
 use Rattle.dali_writer.specs.Held.{Held, IsReady, IsAfterCheck}
+use Rattle.dali_writer.specs.WorkLeft.{work_left}
 use Rattle.dali_writer.specs.Describes.{ToldNewest, IsAt, Describes}
 use Rattle.dali_writer.proofs.StandingLemmas.{begun_order, open_order}
 use Rattle.dali_writer.proofs.RepeatLemmas.{legal_sentence}
@@ -167,7 +168,7 @@ check_none unit verdicts.NotClosed records = come_length (stages.Ended codes.Sil
 check_none unit verdicts.Read records = come_length (stages.Ended codes.Silent) (orders_of records)
 
 check_place : (past : List Happening) (order : Contents) (verdict : Verdict) (next : Phase) → IsAfterCheck order verdict next → IsAt next (Kept (check_record order.unit verdict) ∷ past)
-check_place past order verdicts.MayOpen next (s, is, opened, is_told, valid) = subst (λ (p : Phase). IsAt p (Kept (Opened order.unit) ∷ past)) (sym is) ([], sent_of past, refl, is_told)
+check_place past order verdicts.MayOpen next (s, is, opened, is_told, valid, left) = subst (λ (p : Phase). IsAt p (Kept (Opened order.unit) ∷ past)) (sym is) ([], sent_of past, refl, is_told)
 check_place past order verdicts.Done next is = subst (λ (p : Phase). IsAt p (Kept (Ended codes.Silent) ∷ past)) (sym is) refl
 check_place past order verdicts.Short next is = subst (λ (p : Phase). IsAt p (Kept (Ended codes.Short) ∷ past)) (sym is) refl
 check_place past order verdicts.Format next is = subst (λ (p : Phase). IsAt p (Kept (Ended codes.Format) ∷ past)) (sym is) refl
@@ -263,7 +264,7 @@ said_ready journal new order code stage newest idle records =
 
 pub ready_checked : (journal new : JournalState) (order : Contents) (s : Session) (verdict : Verdict) (next : Phase) → IsReady (Checks order s) journal → IsAfterCheck order verdict next
     → new.records ≡ check_record order.unit verdict ∷ journal.records → IsReady next new
-ready_checked journal new order s verdicts.MayOpen next ready (opened, is, is_opened, is_told, valid) records =
+ready_checked journal new order s verdicts.MayOpen next ready (opened, is, is_opened, is_told, valid, left) records =
     subst (λ (p : Phase). IsReady p new) (sym is) (rw records (rw ready.0 refl), is_opened, valid)
 ready_checked journal new order s verdicts.Done next ready is records =
     subst (λ (p : Phase). IsReady p new) (sym is) (said_ready journal new order codes.Silent stages.Begun (begun_order journal.records order ready.0) (rw ready.0 refl) records)
@@ -369,3 +370,27 @@ keeps_closed start past journal new old order s entry at d ready want records li
     let before : Describes start past (record { journal = journal; phase = Closes order s }) = rw (← at) at d in
     let stood : IsReady (Closes order s) journal = rw (← at) at ready in
     rw (← is.1) (closed_on start past journal new order s before stood is.0 records limit)
+
+-- after a fresh session there is less to be done
+pub check_falls : (order : Contents) (s : Session) (verdict : Verdict) (old next : Phase) → Checks order s ≡ old → IsAfterCheck order verdict next
+    → work_left next < work_left old
+check_falls order s verdicts.MayOpen old next at (opened, is, is_opened, is_told, valid, left) =
+    subst (λ (p : Phase). work_left next < work_left p) at (subst (λ (p : Phase). work_left p < work_left (Checks order s)) (sym is) (omega (arith, left)))
+check_falls order s verdicts.Done old next at is =
+    subst (λ (p : Phase). work_left next < work_left p) at (subst (λ (p : Phase). work_left p < work_left (Checks order s)) (sym is) (omega arith))
+check_falls order s verdicts.Short old next at is =
+    subst (λ (p : Phase). work_left next < work_left p) at (subst (λ (p : Phase). work_left p < work_left (Checks order s)) (sym is) (omega arith))
+check_falls order s verdicts.Format old next at is =
+    subst (λ (p : Phase). work_left next < work_left p) at (subst (λ (p : Phase). work_left p < work_left (Checks order s)) (sym is) (omega arith))
+check_falls order s verdicts.Silent old next at is =
+    subst (λ (p : Phase). work_left next < work_left p) at (subst (λ (p : Phase). work_left p < work_left (Checks order s)) (sym is) (omega arith))
+check_falls order s verdicts.Doubt old next at is =
+    subst (λ (p : Phase). work_left next < work_left p) at (subst (λ (p : Phase). work_left p < work_left (Checks order s)) (sym is) (omega arith))
+check_falls order s verdicts.DoubtOpen old next at is =
+    subst (λ (p : Phase). work_left next < work_left p) at (subst (λ (p : Phase). work_left p < work_left (Checks order s)) (sym is) (omega arith))
+check_falls order s verdicts.Closed old next at is =
+    subst (λ (p : Phase). work_left next < work_left p) at (subst (λ (p : Phase). work_left p < work_left (Checks order s)) (sym is) (omega arith))
+check_falls order s verdicts.NotClosed old next at is =
+    subst (λ (p : Phase). work_left next < work_left p) at (subst (λ (p : Phase). work_left p < work_left (Checks order s)) (sym is) (omega arith))
+check_falls order s verdicts.Read old next at is =
+    subst (λ (p : Phase). work_left next < work_left p) at (subst (λ (p : Phase). work_left p < work_left (Checks order s)) (sym is) (omega arith))

@@ -1,5 +1,5 @@
 -- What contracts see of a writer.
-use Rattle.std.specs.Prelude.{◌≡◌, ℕ, false, []}
+use Rattle.std.specs.Prelude.{◌≡◌, ℕ, false, [], length}
 use Rattle.dali_bank.specs.Order.{Contents, AreUpdates}
 use Rattle.dali_journal.specs.declared.record.Record.TheVariants.{Began}
 use Rattle.dali_journal.specs.declared.standing.Standing.{Standing}
@@ -9,8 +9,9 @@ use Rattle.dali_journal.specs.Orders.{orders_of}
 use Rattle.dali_journal.specs.JournalState.{JournalState, IsJournal, MayBegin}
 use Rattle.dali_write.specs.declared.ask.Verdict.{Verdict}
 use Rattle.dali_write.specs.declared.ask.Verdict.TheVariants as verdicts
+use Rattle.dali_write.specs.Counts.{opened_limit}
 use Rattle.dali_write.specs.declared.session.Session.{Session}
-use Rattle.dali_write.specs.Told.{Told, unit_of, IsFresh, IsOpened, IsClosing}
+use Rattle.dali_write.specs.Told.{Told, frames_left, unit_of, IsFresh, IsOpened, IsClosing}
 use Rattle.dali_writer.specs.declared.phase.Phase.{Phase}
 use Rattle.dali_writer.specs.declared.phase.Phase.TheVariants.{Idle, Begins, Checks, Writes, Closes, Says}
 use Rattle.dali_writer.specs.Trace.{is_at_work}
@@ -34,7 +35,8 @@ IsReady (Says id code) journal = (is_at_work (standing_of journal.records) ≡ f
 
 -- what comes after a fresh session for the order that ended so
 abbrev pub IsAfterCheck : Contents → Verdict → Phase → Type 0
-IsAfterCheck order verdicts.MayOpen phase = (s : Session) × (phase ≡ Writes order s) × IsOpened order s × Told [] s × AreUpdates order.updates
+IsAfterCheck order verdicts.MayOpen phase =
+    (s : Session) × (phase ≡ Writes order s) × IsOpened order s × Told [] s × AreUpdates order.updates × (frames_left s ≡ opened_limit (length order.updates))
 IsAfterCheck order verdict phase = phase ≡ Says order.id (check_code verdict)
 
 -- what comes first for an order that is taken: a unit that was left is closed

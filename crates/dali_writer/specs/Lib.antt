@@ -16,4 +16,5 @@ pub mod Phases
 pub mod Held
 pub mod Inside
 pub mod Describes
+pub mod WorkLeft
 pub mod Worked

@@ -1,4 +1,4 @@
-ghost use Rattle.std.specs.Prelude.{◌≡◌, ◌⊎◌, ◌∷◌, [], ℕ, List, Option, IfOk, OnErr, IsOk, IfSome, IsNone};
+ghost use Rattle.std.specs.Prelude.{◌≡◌, ◌<◌, ◌⊎◌, ◌∷◌, [], ℕ, List, Option, IfOk, OnErr, IsOk, IfSome, IsNone};
 ghost use Rattle.dali_frame.specs.declared.forward.Frame.{Frame};
 ghost use Rattle.dali_frame.specs.Frame.{IsProper};
 ghost use Rattle.dali_journal.specs.declared.record.Record.{Record};
@@ -14,6 +14,7 @@ ghost use Rattle.dali_writer.specs.Trace.{Start, is_busy};
 ghost use Rattle.dali_writer.specs.Phases.{want_of, is_wanting, IsKeep, IsSend, IsSay};
 ghost use Rattle.dali_writer.specs.Replies.{IsNotEnded, IsKnownReply};
 ghost use Rattle.dali_writer.specs.Held.{IsFirst};
+ghost use Rattle.dali_writer.specs.WorkLeft.{work_left};
 ghost use Rattle.dali_writer.specs.Describes.{Describes};
 
 use crate::happening::{Reply, Want};
@@ -112,7 +113,8 @@ impl Writer {
     /// A record has to be wanted.
     pub fn kept(&mut self)
         requires { IsKeep (want_of self.old.phase) }
-        ensures { (start : Start) (past : List Happening) (entry : Record) → want_of self.old.phase ≡ Want.Keep entry
+        ensures falls { work_left self.new.phase < work_left self.old.phase }
+        ensures described { (start : Start) (past : List Happening) (entry : Record) → want_of self.old.phase ≡ Want.Keep entry
             → Describes start past self.old → Describes start (happenings.Kept entry ∷ past) self.new }
     {
         match mem::replace(&mut self.phase, Phase::Idle) {
@@ -148,7 +150,8 @@ impl Writer {
     /// A frame has to be wanted.
     pub fn heard(&mut self, answer: Option<u8>)
         requires { IsSend (want_of self.old.phase) }
-        ensures { (start : Start) (past : List Happening) (frame : Frame) → want_of self.old.phase ≡ Want.Send frame
+        ensures falls { work_left self.new.phase < work_left self.old.phase }
+        ensures described { (start : Start) (past : List Happening) (frame : Frame) → want_of self.old.phase ≡ Want.Send frame
             → Describes start past self.old → Describes start (happenings.Sent frame answer ∷ past) self.new }
     {
         match &mut self.phase {
@@ -166,7 +169,8 @@ impl Writer {
     /// Something has to be wanted to be said.
     pub fn said(&mut self)
         requires { IsSay (want_of self.old.phase) }
-        ensures { (start : Start) (past : List Happening) (id : ℕ) (reply : Reply) → want_of self.old.phase ≡ Want.Say id reply
+        ensures falls { work_left self.new.phase < work_left self.old.phase }
+        ensures described { (start : Start) (past : List Happening) (id : ℕ) (reply : Reply) → want_of self.old.phase ≡ Want.Say id reply
             → Describes start past self.old → Describes start (happenings.Answered id reply ∷ past) self.new }
     {
         self.phase = Phase::Idle;

@@ -9,4 +9,5 @@ returns-in-MayOpen c = rw c.in-MayOpen.is (
   (rw c.copy.ensures.value at c.opened-session.ensures.unit, rw c.copy.ensures.value at c.opened-session.ensures.job),
   c.opened-session.ensures.told,
   rw c.copy.ensures.value at c.copy.ensures.valid,
+  rw c.copy.ensures.value at c.opened-session.ensures.left,
 )

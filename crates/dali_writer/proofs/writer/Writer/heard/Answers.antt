@@ -13,8 +13,8 @@ use Rattle.dali_writer.proofs.SayLemmas.{check_sends, write_sends, closing_sends
 use Rattle.dali_writer.proofs.writer.Writer.heard.Goals as goal
 use Rattle.dali_writer.proofs.writer.Writer.heard.Goals.{in-Checks, in-Writes, in-Closes, in-Idle, in-Begins, in-Says}
 
-pub returns : goal.returns
-returns c = λ start past frame want d. elim c.match-self.branch [
+pub returns-clause-described : goal.returns-clause-described
+returns-clause-described c = λ start past frame want d. elim c.match-self.branch [
   | in-Checks w ↦
       let before : Describes start past (record { journal = c.self.inside.journal; phase = Checks w.in-Checks.field-0 w.in-Checks.session }) =
       rw (← w.in-Checks.is) (rw (← c.self.view_is) at d) in

@@ -1,6 +1,6 @@
 use Rattle.dali_writer.proofs.SayLemmas.{said_on}
 use Rattle.dali_writer.proofs.writer.Writer.said.Goals as goal
 
-pub returns : goal.returns
-returns c = λ start past id reply want d.
+pub returns-clause-described : goal.returns-clause-described
+returns-clause-described c = λ start past id reply want d.
     said_on start past c.self.inside.journal c.self.inside.phase id reply (rw (← c.self.view_is) at d) c.self.invariant.ready (rw (← c.self.view_is) at want)

@@ -34,6 +34,7 @@ use Rattle.dali_writer.specs.declared.happening.Reply.TheVariants as replies
 use Rattle.dali_writer.specs.declared.happening.Happening.{Happening}
 use Rattle.dali_writer.specs.declared.happening.Happening.TheVariants.{Asked, Answered, Sent, Kept, Stopped}
 use Rattle.dali_writer.specs.declared.happening.Want.{Want}
+use Rattle.dali_writer.specs.declared.happening.Want.TheVariants as wants
 use Rattle.dali_writer.specs.declared.phase.Phase.{Phase}
 use Rattle.dali_writer.specs.declared.phase.Phase.TheVariants.{Idle, Begins, Checks, Writes, Closes, Says}
 use Rattle.dali_writer.specs.Trace.{Start, records_of, standing_at, sent_of, sent_since_taken, waiting, is_unsaid, has_ended, is_at_work, is_busy}
@@ -238,3 +239,20 @@ closes_on start past journal order s next frame answer d ready aim f =
     let waits : IsSome (waiting past) = rw place.0 refl in
     sent_on start past journal (Closes order s) (Closes order next) frame answer d
     (rw (stands_so start past _ _ d ready.0) (closing_may past unit frame waits all)) (place.0, f (sent_since_taken past) place.1)
+
+-- only an idle phase wants nothing
+pub idle_wanted : (phase : Phase) → want_of phase ≡ wants.Idle → phase ≡ Idle
+idle_wanted Idle e = refl
+idle_wanted (Begins order) e = cc
+idle_wanted (Checks order s) e = no_check (aim_of s) e where
+  no_check : {A : Type 0} (ask : Ask) → check_of order.unit ask ≡ wants.Idle → A
+  no_check (asks.Send frame) e = cc
+  no_check (asks.Ended verdict) e = cc
+idle_wanted (Writes order s) e = no_write (aim_of s) e where
+  no_write : {A : Type 0} (ask : Ask) → write_of ask ≡ wants.Idle → A
+  no_write (asks.Send frame) e = cc
+  no_write (asks.Ended verdict) e = cc
+idle_wanted (Closes order s) e = let true_is = closing_wants order.id (unit_of s) (aim_of s) in let false_is = ap is_wanting e in absurd (neither_is true_is false_is) where
+  neither_is : {x : Bool} → x ≡ true → x ≡ false → ⊥
+  neither_is one two = cc
+idle_wanted (Says id code) e = cc

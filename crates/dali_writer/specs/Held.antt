@@ -1,5 +1,5 @@
 -- What contracts see of a writer.
-use Rattle.std.specs.Prelude.{◌≡◌, ℕ, false, [], length}
+use Rattle.std.specs.Prelude.{◌≡◌, ◌⊎◌, ℕ, false, [], length}
 use Rattle.dali_bank.specs.Order.{Contents, AreUpdates}
 use Rattle.dali_journal.specs.declared.record.Record.TheVariants.{Began}
 use Rattle.dali_journal.specs.declared.standing.Standing.{Standing}
@@ -49,3 +49,7 @@ abbrev pub IsResumed : Standing → Phase → Type 0
 IsResumed (standings.Began order) phase = (s : Session) × (phase ≡ Checks order s) × IsFresh order s × Told [] s × AreUpdates order.updates
 IsResumed (standings.Opened order) phase = (s : Session) × (phase ≡ Writes order s) × IsOpened order s × Told [] s × AreUpdates order.updates
 IsResumed other phase = phase ≡ Idle
+
+-- the writer is at rest: nothing is to be done, or it is as it was made from its journal
+abbrev pub IsAtRest : Held → Type 0
+IsAtRest w = (w.phase ≡ Idle) ⊎ IsResumed (standing_of w.journal.records) w.phase

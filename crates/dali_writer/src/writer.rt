@@ -13,7 +13,7 @@ ghost use Rattle.dali_writer.specs.declared.happening.Want.{Want};
 ghost use Rattle.dali_writer.specs.Trace.{Start, is_busy};
 ghost use Rattle.dali_writer.specs.Phases.{want_of, is_wanting, IsKeep, IsSend, IsSay};
 ghost use Rattle.dali_writer.specs.Replies.{IsNotEnded, IsKnownReply};
-ghost use Rattle.dali_writer.specs.Held.{IsFirst};
+ghost use Rattle.dali_writer.specs.Held.{IsFirst, IsAtRest};
 ghost use Rattle.dali_writer.specs.WorkLeft.{work_left};
 ghost use Rattle.dali_writer.specs.Describes.{Describes};
 
@@ -52,6 +52,7 @@ impl Writer {
     pub fn new(journal: Journal) -> Writer
         ensures described { (start : Start) → start.records ≡ journal.records → start.limit ≡ journal.limit → Describes start [] result }
         ensures journal { result.journal ≡ journal }
+        ensures rest { IsAtRest result }
     {
         let phase = resumed_phase(journal.standing());
         Writer { journal, phase }
@@ -76,6 +77,7 @@ impl Writer {
         ensures phase { result ≡ want_of self.now.phase }
         ensures busy { (start : Start) (past : List Happening) → Describes start past self.now → is_busy start past ≡ is_wanting result }
         ensures proper { (frame : Frame) → result ≡ Want.Send frame → IsProper frame }
+        ensures rest { result ≡ Want.Idle → IsAtRest self.now }
     {
         self.phase.want()
     }

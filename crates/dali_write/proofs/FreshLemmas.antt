@@ -1,22 +1,15 @@
 -- What the verdict of a fresh session says of the world, and that reading is quiet.
-use Rattle.std.proofs.Common.{◌≡◌, refl, sym, subst, ℕ, zero, suc, ◌≤◌, min, Bool, true, false, ◌==◌, ◌&&◌, nat_lt, if◌then◌else◌, List, [], ◌∷◌, ◌++◌, Option, Some, None, arith}
-use Rattle.std.proofs.lemmas.Bool.{eqb-true, ltb-true, ltb-false}
-use Rattle.std.specs.Cmp.{first_so, second_so}
+use Rattle.std.proofs.Common.{sym, subst, ℕ, zero, suc, min, nat_lt, List, [], ◌∷◌, ◌++◌, Option}
 use Rattle.dali_gear.specs.World.{World}
 use Rattle.dali_write.specs.Exchanges.{Exchange}
 use Rattle.dali_write.specs.declared.step.Step.TheVariants.{ReadFrom, WriteTo}
 use Rattle.dali_write.specs.declared.ask.Ask.{Ask}
-use Rattle.dali_write.specs.declared.ask.Ask.TheVariants.{Ended}
-use Rattle.dali_write.specs.declared.ask.Verdict.{Verdict}
-use Rattle.dali_write.specs.declared.ask.Verdict.TheVariants.{MayOpen, Short, Format, Silent}
-use Rattle.dali_write.specs.Plans.{Plan, Finish, Check, goes_on, plan_after, either_way, greatest, judge_length, read_format, read_format_low, read_length, read_on, read_all}
+use Rattle.dali_write.specs.declared.ask.Verdict.TheVariants.{MayOpen, Short, Silent}
+use Rattle.dali_write.specs.Plans.{Plan, Finish, Check, goes_on, plan_after, greatest, judge_length, read_format, read_format_low, read_length, read_on, read_all}
 use Rattle.dali_write.specs.Tries.{StepEnds, StepsEnd, Wants, plan_lines}
-use Rattle.dali_write.specs.Worlds.{Run, Shows, KeepsAt}
-use Rattle.dali_write.specs.Verdicts.{Says}
-use Rattle.dali_write.proofs.TruthLemmas.{split, AllQuiet, run_keeps}
-use Rattle.dali_write.specs.Walks.{Walk}
-use Rattle.dali_write.proofs.WalkLemmas.{ended_walk}
-use Rattle.dali_write.proofs.VerdictLemmas.{finish_walk, read_step_shows, read_step_keeps, read_step_quiet, shows_kept, both_quiet, misses_quiet, trying_quiet, read_quiet_lines, LinesQuiet}
+use Rattle.dali_write.specs.Worlds.{Run, KeepsAt}
+use Rattle.dali_write.proofs.TruthLemmas.{AllQuiet, run_keeps}
+use Rattle.dali_write.proofs.VerdictLemmas.{read_step_quiet, both_quiet, misses_quiet, trying_quiet, read_quiet_lines, LinesQuiet}
 use Rattle.dali_write.proofs.PlanLemmas.{either_all, if_all}
 
 -- all steps of the plan are reads

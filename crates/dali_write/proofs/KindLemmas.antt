@@ -1,11 +1,11 @@
 -- With which verdicts a session may end.
-use Rattle.std.proofs.Common.{◌≡◌, subst, ℕ, Bool, ◌==◌, ◌&&◌, nat_lt, true, false, if◌then◌else◌, List, [], ◌∷◌, Option, Some, None}
+use Rattle.std.proofs.Common.{◌≡◌, subst, ℕ, Bool, ◌==◌, ◌&&◌, nat_lt, true, false, if◌then◌else◌, List, [], ◌∷◌, Option}
 use Rattle.dali_write.specs.Exchanges.{Exchange}
 use Rattle.dali_write.specs.declared.line.Line.{Line}
 use Rattle.dali_write.specs.declared.ask.Ask.TheVariants.{Ended}
 use Rattle.dali_write.specs.declared.ask.Verdict.{Verdict}
-use Rattle.dali_write.specs.declared.ask.Verdict.TheVariants.{MayOpen, Done, Short, Format, Silent, Doubt, DoubtOpen, Closed, NotClosed}
-use Rattle.dali_write.specs.Plans.{Plan, Finish, Check, goes_on, plan_after, greatest, judge_length, read_format, read_format_low, read_length, close, read_closed, give_up, expect, read_back, read_lock, write_on, unlock}
+use Rattle.dali_write.specs.declared.ask.Verdict.TheVariants.{MayOpen, Short, Format, Silent, Doubt, DoubtOpen, Closed, NotClosed}
+use Rattle.dali_write.specs.Plans.{Plan, Finish, Check, goes_on, plan_after, greatest, judge_length, read_format, read_format_low, read_length, close, give_up, expect, read_back, read_lock, write_on, unlock}
 use Rattle.dali_write.specs.Tries.{GoesOn, Wants, ask_at}
 use Rattle.dali_write.specs.Verdicts.{EndsFresh, EndsOpened, EndsClosing}
 use Rattle.dali_write.proofs.PlanLemmas.{either_all, if_all}
@@ -65,7 +65,7 @@ length_ends updates =
     (if_all (EndsSo EndsFresh) (nat_lt (greatest updates) 0x13) (Finish MayOpen) read_format tt
     (either_all (EndsSo EndsFresh) (Finish Silent) read_format_low tt
     (λ high. either_all (EndsSo EndsFresh) (Finish Silent) _ tt
-    (λ low. judged ((high == 0) && (low == 3)))))))  where
+    (λ low. judged ((high == 0) && (low == 3))))))) where
       judged : (suits : Bool) → EndsFresh (if suits then MayOpen else Format)
       judged true = tt
       judged false = tt

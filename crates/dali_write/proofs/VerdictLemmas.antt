@@ -1,23 +1,17 @@
 -- What the verdict of a session says of the world.
-use Rattle.std.proofs.Common.{◌≡◌, ◌⊎◌, inl, inr, refl, sym, ap, subst, ◌∙◌, ℕ, zero, suc, Bool, true, false, ◌==◌, if◌then◌else◌, List, [], ◌∷◌, ◌++◌, Option, Some, None}
-use Rattle.std.proofs.lemmas.Bool.{eqb-true}
+use Rattle.std.proofs.Common.{◌≡◌, inl, inr, refl, sym, ap, subst, ◌∙◌, ℕ, zero, suc, List, [], ◌∷◌, ◌++◌, Option, Some, None}
 use Rattle.dali_gear.specs.World.{World, Gear, Memory}
 use Rattle.dali_write.specs.Exchanges.{Exchange}
 use Rattle.dali_write.specs.declared.line.Line.{Line}
 use Rattle.dali_write.specs.declared.step.Step.TheVariants.{ReadFrom}
-use Rattle.dali_write.specs.declared.ask.Ask.TheVariants.{Ended}
 use Rattle.dali_write.specs.declared.ask.Verdict.{Verdict}
-use Rattle.dali_write.specs.declared.ask.Verdict.TheVariants.{Done, Doubt, DoubtOpen, Closed, NotClosed}
 use Rattle.dali_write.specs.Lines.{line, read_lines}
-use Rattle.dali_write.specs.Plans.{Plan, Finish, Check, either_way, read_closed, close, give_up, expect, read_back, read_lock, write_on, unlock}
-use Rattle.dali_write.specs.Tries.{most_tries, Trying, Missed, Misses, StepEnds, Wants}
+use Rattle.dali_write.specs.Plans.{Plan, Finish, Check}
+use Rattle.dali_write.specs.Tries.{most_tries, Trying, Missed, Misses, StepEnds}
 use Rattle.dali_write.specs.Worlds.{Run, Shows, KeepsAt, IsOff, memory_of}
-use Rattle.dali_write.specs.Findings.{ShowsAll}
-use Rattle.dali_write.specs.Verdicts.{Says}
 use Rattle.dali_write.proofs.GearLemmas.{IsQuiet}
-use Rattle.dali_write.proofs.TruthLemmas.{split, read_true, AllQuiet, run_keeps, keeps_then, keeps_none}
+use Rattle.dali_write.proofs.TruthLemmas.{split, read_true, AllQuiet, run_keeps}
 use Rattle.dali_write.specs.Walks.{Walk}
-use Rattle.dali_write.proofs.WalkLemmas.{ended_walk}
 
 -- no frame of these lines writes, or enables the unit at the address
 abbrev pub LinesQuiet : ℕ → List Line → Type 0

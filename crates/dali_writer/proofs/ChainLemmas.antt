@@ -1,7 +1,7 @@
 -- A chain goes on by one happening, and a chain of a bus is one of its worlds.
 use Rattle.std.proofs.Common.{◌≡◌, refl, sym, ap, subst, ◌∙◌, ℕ, List, [], ◌∷◌, ◌++◌, Option, Some, reverse, map}
 use Rattle.std.proofs.lemmas.List.{reverse-append}
-use Rattle.dali_gear.specs.World.{World, is_enabled}
+use Rattle.dali_gear.specs.World.{World}
 use Rattle.dali_gear.specs.Carry.{BusEvent, Carried, WorldStep}
 use Rattle.dali_gear.specs.Chain.{IsChain, AtEachMoment, Chain}
 use Rattle.dali_gear.specs.Unenabled.{NoneEnabled}
@@ -12,7 +12,7 @@ use Rattle.dali_writer.specs.Trace.{Start}
 use Rattle.dali_writer.specs.Legal.{Legal}
 use Rattle.dali_writer.specs.Moves.{MovesBy, Moves}
 use Rattle.dali_writer.specs.Fits.{Fits, OnlyNamed}
-use Rattle.dali_writer.specs.Law.{Along, IsRight}
+use Rattle.dali_writer.specs.Law.{IsRight}
 use Rattle.dali_writer.specs.Runs.{fresh, LeadsRight}
 use Rattle.dali_writer.specs.Held.{Held}
 use Rattle.dali_writer.specs.Describes.{Describes}

@@ -1,13 +1,12 @@
 -- The other ends of an order, and stops on the way, are legal.
-use Rattle.std.proofs.Common.{◌≡◌, inl, inr, refl, sym, ap, ℕ, List, [], ◌∷◌, Some, arith}
-use Rattle.dali_frame.specs.declared.forward.Frame.TheVariants.{Dtr1, AskDtr1}
+use Rattle.std.proofs.Common.{inl, inr, refl, sym, ap, List, ◌∷◌, Some, arith}
 use Rattle.dali_write.specs.Reads.{ReadStands}
 use Rattle.dali_writer.specs.declared.happening.Happening.{Happening}
-use Rattle.dali_writer.specs.declared.happening.Happening.TheVariants.{Sent, Stopped}
+use Rattle.dali_writer.specs.declared.happening.Happening.TheVariants.{Stopped}
 use Rattle.dali_writer.specs.Trace.{sent_of}
 use Rattle.dali_writer.specs.Legal.{Legal}
-use Rattle.dali_writer.specs.Worked.{read_at, write_at, write_all, read_all, read_try, enable_twice, first_order, third_order, empty, left_open, begun, measured, opened, unlocked, ended, second_taken, short_ended, silent_ended, doubt_ended, left_said, third_begun, format_ended, tried_again, opened_anew, written_anew, done_anew, repeated_after_a_stop, taken_after_a_stop, taken_anew}
-use Rattle.dali_writer.proofs.WorkedLemmas.{next, enable_legal, read_legal, write_legal, writes_legal, reads_legal, read_stands, behind_read, reads_behind, reads_stand, begun_legal, measured_legal, opened_legal, unlocked_legal, ended_legal}
+use Rattle.dali_writer.specs.Worked.{read_at, write_at, write_all, read_try, enable_twice, first_order, empty, left_open, begun, measured, opened, unlocked, short_ended, silent_ended, doubt_ended, left_said, third_begun, format_ended, tried_again, opened_anew, written_anew, done_anew, repeated_after_a_stop, taken_after_a_stop, taken_anew}
+use Rattle.dali_writer.proofs.WorkedLemmas.{enable_legal, read_legal, write_legal, writes_legal, reads_legal, read_stands, behind_read, reads_behind, reads_stand, begun_legal, measured_legal, opened_legal, unlocked_legal, ended_legal}
 use Rattle.dali_writer.proofs.LeftLemmas.{second_taken_legal}
 
 pub short_legal : Legal empty short_ended

@@ -1,5 +1,5 @@
 -- A record that a writer wants may be kept, and then the trace describes what comes next.
-use Rattle.std.proofs.Common.{◌≡◌, inl, inr, refl, sym, ap, ◌∙◌, subst, ℕ, suc, ◌≤◌, ◌<◌, true, false, List, [], ◌∷◌, ◌++◌, Option, Some, None, IsSome, length, arith}
+use Rattle.std.proofs.Common.{◌≡◌, inl, inr, refl, sym, ap, ◌∙◌, subst, ℕ, ◌<◌, false, List, [], ◌∷◌, ◌++◌, IsSome, length, arith}
 use Rattle.dali_bank.specs.Order.{Contents, AreUpdates}
 use Rattle.dali_journal.specs.declared.record.Code.{Code}
 use Rattle.dali_journal.specs.declared.record.Code.TheVariants as codes
@@ -9,16 +9,16 @@ use Rattle.dali_journal.specs.declared.standing.Standing.{Standing}
 use Rattle.dali_journal.specs.declared.standing.Standing.TheVariants as standings
 use Rattle.dali_journal.specs.declared.kept.Stage.{Stage}
 use Rattle.dali_journal.specs.declared.kept.Stage.TheVariants as stages
-use Rattle.dali_journal.specs.Sentence.{Allows, standing_of, next_standing, IsSentence, IsNew}
+use Rattle.dali_journal.specs.Sentence.{Allows, standing_of, next_standing, IsNew}
 use Rattle.dali_journal.specs.Orders.{orders_of, come_to}
-use Rattle.dali_journal.specs.JournalState.{JournalState, HasRoom, MayBegin, KeepsRoom}
+use Rattle.dali_journal.specs.JournalState.{JournalState, MayBegin, KeepsRoom}
 use Rattle.dali_write.specs.Exchanges.{Exchange}
 use Rattle.dali_write.specs.declared.ask.Ask.{Ask}
 use Rattle.dali_write.specs.declared.ask.Ask.TheVariants as asks
 use Rattle.dali_write.specs.declared.ask.Verdict.{Verdict}
 use Rattle.dali_write.specs.declared.ask.Verdict.TheVariants as verdicts
 use Rattle.dali_write.specs.declared.session.Session.{Session}
-use Rattle.dali_write.specs.Told.{Told, unit_of, aim_of, IsFresh, IsOpened, IsClosing}
+use Rattle.dali_write.specs.Told.{Told, unit_of, aim_of, IsFresh}
 use Rattle.dali_write.specs.Findings.{Rests}
 use Rattle.dali_write.specs.Reads.{ReadStands, HasRead}
 use Rattle.dali_write.proofs.RestLemmas.{older_reads, rests_too}
@@ -27,14 +27,14 @@ use Rattle.dali_writer.specs.declared.happening.Happening.{Happening}
 use Rattle.dali_writer.specs.declared.happening.Happening.TheVariants.{Kept}
 use Rattle.dali_writer.specs.declared.happening.Want.TheVariants.{Keep}
 use Rattle.dali_writer.specs.declared.phase.Phase.{Phase}
-use Rattle.dali_writer.specs.declared.phase.Phase.TheVariants.{Idle, Begins, Checks, Writes, Closes, Says}
-use Rattle.dali_writer.specs.Trace.{Start, records_of, standing_at, sent_of, sent_since_taken, waiting, is_at_work}
-use Rattle.dali_writer.specs.Grounds.{Grounds, IsSeen}
-use Rattle.dali_writer.specs.Legal.{IsDue, MayKeep, EndsAs}
-use Rattle.dali_writer.specs.Phases.{want_of, closing_of, check_code, check_record, write_code}
+use Rattle.dali_writer.specs.declared.phase.Phase.TheVariants.{Begins, Checks, Writes, Closes, Says}
+use Rattle.dali_writer.specs.Trace.{Start, records_of, sent_of, sent_since_taken, waiting, is_at_work}
+use Rattle.dali_writer.specs.Grounds.{Grounds}
+use Rattle.dali_writer.specs.Legal.{IsDue, MayKeep}
+use Rattle.dali_writer.specs.Phases.{want_of, closing_of, check_record, write_code}
 use Rattle.dali_writer.specs.Held.{Held, IsReady, IsAfterCheck}
 use Rattle.dali_writer.specs.WorkLeft.{work_left}
-use Rattle.dali_writer.specs.Describes.{ToldNewest, IsAt, Describes}
+use Rattle.dali_writer.specs.Describes.{IsAt, Describes}
 use Rattle.dali_writer.proofs.StandingLemmas.{begun_order, open_order}
 use Rattle.dali_writer.proofs.RepeatLemmas.{legal_sentence}
 use Rattle.dali_writer.proofs.StepLemmas.{may_next, stands_so, since_part}

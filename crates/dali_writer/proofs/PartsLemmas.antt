@@ -1,5 +1,5 @@
 -- Parts go on by one event.
-use Rattle.std.proofs.Common.{◌≡◌, ◌∙◌, ◌+◌, ◌<◌, ap, sym, subst, ℕ, List, [], ◌∷◌, ◌++◌, length, take, reverse, get_or}
+use Rattle.std.proofs.Common.{◌∙◌, ◌+◌, ◌<◌, ap, sym, subst, ℕ, List, [], ◌∷◌, length, take, reverse, get_or}
 use Rattle.std.proofs.lemmas.List.{take_more, reverse-append}
 use Rattle.dali_writer.specs.declared.happening.Event.{Event}
 use Rattle.dali_writer.specs.declared.happening.Happening.{Happening}

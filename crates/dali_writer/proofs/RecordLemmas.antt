@@ -12,7 +12,7 @@ use Rattle.dali_journal.specs.declared.kept.Stage.{Stage}
 use Rattle.dali_journal.specs.declared.kept.Stage.TheVariants as stages
 use Rattle.dali_journal.specs.Sentence.{Allows, next_standing, standing_of, named_unit}
 use Rattle.dali_journal.specs.Orders.{orders_of, come_to}
-use Rattle.dali_write.specs.Findings.{Suits, IsTooShort, HasOtherFormat, ShowsAll, IsWritten}
+use Rattle.dali_write.specs.Findings.{ShowsAll, IsWritten}
 use Rattle.dali_write.specs.Worlds.{Shows}
 use Rattle.dali_write.proofs.RestLemmas.{Shown, suits_too, short_too, format_too, written_too}
 use Rattle.dali_writer.specs.Grounds.{Grounds}

@@ -1,16 +1,14 @@
 -- What a writer wants to be said may be said, and then it is idle.
-use Rattle.std.proofs.Common.{◌≡◌, refl, sym, ap, ◌∙◌, subst, ℕ, false, List, [], ◌∷◌, Some}
+use Rattle.std.proofs.Common.{◌≡◌, refl, ap, ◌∙◌, subst, ℕ, false, List, [], ◌∷◌, Some}
 use Rattle.dali_frame.specs.declared.forward.Frame.{Frame}
 use Rattle.dali_bank.specs.Order.{Contents}
 use Rattle.dali_journal.specs.declared.standing.Standing.TheVariants as standings
-use Rattle.dali_journal.specs.Sentence.{standing_of}
 use Rattle.dali_journal.specs.Orders.{orders_of}
 use Rattle.dali_journal.specs.JournalState.{JournalState}
 use Rattle.dali_write.specs.declared.ask.Ask.{Ask}
 use Rattle.dali_write.specs.declared.ask.Ask.TheVariants as asks
 use Rattle.dali_write.specs.declared.ask.Verdict.{Verdict}
 use Rattle.dali_write.specs.declared.ask.Verdict.TheVariants as verdicts
-use Rattle.dali_write.specs.declared.session.Session.{Session}
 use Rattle.dali_write.specs.Told.{unit_of, aim_of}
 use Rattle.dali_write.specs.Verdicts.{EndsClosing}
 use Rattle.dali_write.proofs.SessionLemmas.{closing_over, closing_unreached}
@@ -18,14 +16,13 @@ use Rattle.dali_writer.specs.declared.happening.Reply.{Reply}
 use Rattle.dali_writer.specs.declared.happening.Reply.TheVariants as replies
 use Rattle.dali_writer.specs.declared.happening.Happening.{Happening}
 use Rattle.dali_writer.specs.declared.happening.Happening.TheVariants.{Asked, Answered, Sent, Kept, Stopped}
-use Rattle.dali_writer.specs.declared.happening.Want.{Want}
-use Rattle.dali_writer.specs.declared.happening.Want.TheVariants.{Keep, Send, Say}
+use Rattle.dali_writer.specs.declared.happening.Want.TheVariants.{Send, Say}
 use Rattle.dali_writer.specs.declared.phase.Phase.{Phase}
 use Rattle.dali_writer.specs.declared.phase.Phase.TheVariants.{Idle, Begins, Checks, Writes, Closes, Says}
-use Rattle.dali_writer.specs.Trace.{Start, records_of, standing_at, sent_since_taken, waiting, is_unsaid}
+use Rattle.dali_writer.specs.Trace.{Start, records_of, sent_since_taken, waiting, is_unsaid}
 use Rattle.dali_writer.specs.Legal.{MaySay, HasNumber, EndsAs, IsFinished}
 use Rattle.dali_writer.specs.Phases.{want_of, check_of, write_of, closing_of}
-use Rattle.dali_writer.specs.Held.{Held, IsReady}
+use Rattle.dali_writer.specs.Held.{IsReady}
 use Rattle.dali_writer.specs.Describes.{Describes}
 use Rattle.dali_writer.proofs.StepLemmas.{may_next, stands_so}
 

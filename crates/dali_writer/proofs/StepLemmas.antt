@@ -1,51 +1,35 @@
 -- Each step of a writer leaves a trace that describes it.
-use Rattle.std.proofs.Common.{◌≡◌, ◌⊎◌, inl, inr, refl, sym, ap, ◌∙◌, subst, ℕ, suc, ◌≤◌, ◌<◌, Bool, true, false, ◌||◌, ◌==◌, List, [], ◌∷◌, ◌++◌, Option, Some, None, IsSome, length, arith}
-use Rattle.std.proofs.lemmas.Bool.{eqb-true, eq-eqb, ne_eqb}
+use Rattle.std.proofs.Common.{◌≡◌, inl, inr, refl, sym, ap, ◌∙◌, subst, ℕ, ◌<◌, Bool, true, false, ◌||◌, List, [], ◌∷◌, ◌++◌, Option, Some, IsSome, arith}
+use Rattle.std.proofs.lemmas.Bool.{eq-eqb, ne_eqb}
 use Rattle.dali_frame.specs.declared.forward.Frame.{Frame}
 use Rattle.dali_frame.specs.declared.forward.Frame.TheVariants.{Dtr0, Dtr1, Dtr2, Write, WriteSilent, Enable, AskDtr0, AskDtr1, AskDtr2, Read, Other}
-use Rattle.dali_bank.specs.Order.{Contents, RisesAbove, update_at, AreUpdates}
-use Rattle.dali_journal.specs.declared.record.Code.{Code}
-use Rattle.dali_journal.specs.declared.record.Code.TheVariants as codes
-use Rattle.dali_journal.specs.declared.record.Record.{Record}
-use Rattle.dali_journal.specs.declared.record.Record.TheVariants.{Began, Opened, Ended, Closed}
+use Rattle.dali_bank.specs.Order.{Contents, RisesAbove, update_at}
 use Rattle.dali_journal.specs.declared.standing.Standing.{Standing}
 use Rattle.dali_journal.specs.declared.standing.Standing.TheVariants as standings
-use Rattle.dali_journal.specs.declared.kept.Stage.{Stage}
-use Rattle.dali_journal.specs.Sentence.{Allows, standing_of, named_unit, IsSentence, IsNew}
-use Rattle.dali_journal.specs.Orders.{orders_of, come_to}
-use Rattle.dali_journal.specs.JournalState.{JournalState, MayBegin}
+use Rattle.dali_journal.specs.Sentence.{standing_of}
+use Rattle.dali_journal.specs.JournalState.{JournalState}
 use Rattle.dali_write.specs.Exchanges.{Exchange}
 use Rattle.dali_write.specs.declared.ask.Ask.{Ask}
 use Rattle.dali_write.specs.declared.ask.Ask.TheVariants as asks
-use Rattle.dali_write.specs.declared.ask.Verdict.{Verdict}
 use Rattle.dali_write.specs.declared.ask.Verdict.TheVariants as verdicts
 use Rattle.dali_write.specs.declared.session.Session.{Session}
-use Rattle.dali_write.specs.Told.{Told, unit_of, aim_of, IsFresh, IsOpened, IsClosing}
-use Rattle.dali_write.specs.Worlds.{Selects}
+use Rattle.dali_write.specs.Told.{Told, unit_of, aim_of}
 use Rattle.dali_write.specs.Touches.{Has, writes_of}
 use Rattle.dali_write.specs.Guards.{IsGuarded as IsGuardedFrame}
-use Rattle.dali_write.specs.Findings.{Rests}
-use Rattle.dali_write.specs.Reads.{ReadStands, HasRead}
 use Rattle.dali_write.proofs.GuardLemmas.{older_guarded}
-use Rattle.dali_write.proofs.RestLemmas.{older_reads, rests_too}
-use Rattle.dali_write.proofs.SessionLemmas.{fresh_sends, opened_sends, closing_sends, fresh_over, opened_over, closing_over, closing_unreached}
-use Rattle.dali_writer.specs.declared.happening.Reply.{Reply}
+use Rattle.dali_write.proofs.SessionLemmas.{fresh_sends, opened_sends, closing_sends}
 use Rattle.dali_writer.specs.declared.happening.Reply.TheVariants as replies
 use Rattle.dali_writer.specs.declared.happening.Happening.{Happening}
 use Rattle.dali_writer.specs.declared.happening.Happening.TheVariants.{Asked, Answered, Sent, Kept, Stopped}
-use Rattle.dali_writer.specs.declared.happening.Want.{Want}
 use Rattle.dali_writer.specs.declared.happening.Want.TheVariants as wants
 use Rattle.dali_writer.specs.declared.phase.Phase.{Phase}
 use Rattle.dali_writer.specs.declared.phase.Phase.TheVariants.{Idle, Begins, Checks, Writes, Closes, Says}
-use Rattle.dali_writer.specs.Trace.{Start, records_of, standing_at, sent_of, sent_since_taken, waiting, is_unsaid, has_ended, is_at_work, is_busy}
-use Rattle.dali_writer.specs.Grounds.{Grounds}
-use Rattle.dali_writer.specs.Legal.{MayPut, IsGuarded, MaySend, MayHappen, MayFollow, MayKeep, EndsAs, Legal, IsFinished}
+use Rattle.dali_writer.specs.Trace.{Start, standing_at, sent_of, sent_since_taken, waiting, is_unsaid, is_at_work, is_busy}
+use Rattle.dali_writer.specs.Legal.{MayPut, MaySend, MayHappen, MayFollow, IsFinished}
 use Rattle.dali_writer.specs.Phases.{want_of, check_of, write_of, closing_of, is_wanting}
 use Rattle.dali_writer.specs.Held.{Held, IsReady}
 use Rattle.dali_writer.specs.Describes.{ToldNewest, IsAt, Describes}
-use Rattle.dali_writer.proofs.StandingLemmas.{begun_order, open_order}
 use Rattle.dali_writer.proofs.TakenLemmas.{waits, ended_unsaid}
-use Rattle.dali_writer.proofs.RepeatLemmas.{legal_sentence}
 
 -- what may happen may follow where no reply is due
 pub may_next : (start : Start) (past : List Happening) (next : Happening) → IsFinished past → MayHappen start past next → MayFollow start past next

@@ -1,6 +1,5 @@
 -- An order that is submitted gets the reply that is due, and the trace describes the writer.
-use Rattle.std.proofs.Common.{◌≡◌, ◌⊎◌, inl, inr, refl, sym, ap, ◌∙◌, subst, ℕ, ◌≤◌, ◌<◌, Bool, true, false, ◌==◌, ◌||◌, nat_le, List, [], ◌∷◌, Option, Some, None, length, arith}
-use Rattle.std.proofs.lemmas.Bool.{eqb-true}
+use Rattle.std.proofs.Common.{◌≡◌, ◌⊎◌, inl, inr, refl, sym, ap, ◌∙◌, subst, ℕ, ◌≤◌, ◌<◌, Bool, true, false, ◌==◌, ◌||◌, nat_le, List, [], ◌∷◌, arith}
 use Rattle.std.specs.Prelude.{◌↔◌, IsTrue}
 use Rattle.std.proofs.Math.Dec.{leb}
 use Rattle.std.proofs.lemmas.Bool.Decides.{nat_tests, leb_tells}
@@ -18,8 +17,7 @@ use Rattle.dali_journal.specs.declared.kept.Kept.TheVariants as kepts
 use Rattle.dali_journal.specs.Sentence.{Allows, standing_of, next_standing, is_begun, IsSentence}
 use Rattle.dali_journal.specs.Orders.{orders_of, come_to, kept_at, kept_among, kept_of}
 use Rattle.dali_journal.specs.JournalState.{JournalState, HasRoom, MayBegin, order_count}
-use Rattle.dali_write.specs.declared.session.Session.{Session}
-use Rattle.dali_write.specs.Told.{Told, unit_of, aim_of, IsClosing}
+use Rattle.dali_write.specs.Told.{unit_of, aim_of, IsClosing}
 use Rattle.dali_writer.specs.declared.happening.Reply.{Reply}
 use Rattle.dali_writer.specs.declared.happening.Reply.TheVariants as replies
 use Rattle.dali_writer.specs.declared.happening.Happening.{Happening}
@@ -27,7 +25,7 @@ use Rattle.dali_writer.specs.declared.happening.Happening.TheVariants.{Asked, An
 use Rattle.dali_writer.specs.declared.phase.Phase.{Phase}
 use Rattle.dali_writer.specs.declared.phase.Phase.TheVariants.{Idle, Begins, Checks, Writes, Closes, Says}
 use Rattle.dali_writer.specs.Trace.{Start, records_of, is_at_work, is_busy, is_full}
-use Rattle.dali_writer.specs.Replies.{IsReused, IsNotEnded, IsReplyBy, IsReply, IsKnownReply}
+use Rattle.dali_writer.specs.Replies.{IsNotEnded, IsReplyBy, IsReply, IsKnownReply}
 use Rattle.dali_writer.specs.Phases.{want_of, is_idle, is_wanting}
 use Rattle.dali_writer.specs.Held.{Held, IsReady, IsFirst}
 use Rattle.dali_writer.specs.Describes.{IsAt, Describes}

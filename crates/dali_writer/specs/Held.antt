@@ -1,12 +1,12 @@
 -- What contracts see of a writer.
-use Rattle.std.specs.Prelude.{◌≡◌, ◌⊎◌, ℕ, false, [], length}
+use Rattle.std.specs.Prelude.{◌≡◌, ◌⊎◌, false, [], length}
 use Rattle.dali_bank.specs.Order.{Contents, AreUpdates}
 use Rattle.dali_journal.specs.declared.record.Record.TheVariants.{Began}
 use Rattle.dali_journal.specs.declared.standing.Standing.{Standing}
 use Rattle.dali_journal.specs.declared.standing.Standing.TheVariants as standings
 use Rattle.dali_journal.specs.Sentence.{standing_of}
 use Rattle.dali_journal.specs.Orders.{orders_of}
-use Rattle.dali_journal.specs.JournalState.{JournalState, IsJournal, MayBegin}
+use Rattle.dali_journal.specs.JournalState.{JournalState, MayBegin}
 use Rattle.dali_write.specs.declared.ask.Verdict.{Verdict}
 use Rattle.dali_write.specs.declared.ask.Verdict.TheVariants as verdicts
 use Rattle.dali_write.specs.Counts.{opened_limit}

@@ -1,5 +1,4 @@
 -- What a writer keeps inside.
-use Rattle.dali_journal.specs.JournalState.{IsJournal}
 use Rattle.dali_writer.specs.declared.writer.Writer.TheInside.{Inside}
 use Rattle.dali_writer.specs.Held.{Held, IsReady}
 

@@ -4,12 +4,12 @@
 
 mod fault;
 mod happening;
+pub mod laws;
 mod phase;
 mod runs;
-mod writer;
-pub mod laws;
 #[cfg(test)]
 mod tests;
+mod writer;
 
 pub use fault::RunFault;
 pub use happening::{Event, Happening, Reply, Want};

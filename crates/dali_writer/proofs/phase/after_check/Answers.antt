@@ -1,5 +1,4 @@
 use Rattle.std.proofs.Common.{refl}
-use Rattle.dali_writer.specs.Held.{IsAfterCheck}
 use Rattle.dali_writer.proofs.phase.after_check.Goals as goal
 
 pub returns-in-MayOpen : goal.returns-in-MayOpen

@@ -1,4 +1,4 @@
-use Rattle.std.proofs.Common.{◌≡◌, refl, sym, reverse, [], arith}
+use Rattle.std.proofs.Common.{refl, sym, reverse, [], arith}
 use Rattle.std.proofs.lemmas.Result.{err_from_is_err_and}
 use Rattle.dali_gear.specs.Chain.{Chain}
 use Rattle.dali_writer.specs.Moves.{MovesBy}

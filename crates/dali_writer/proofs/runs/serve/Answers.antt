@@ -1,5 +1,5 @@
-use Rattle.std.proofs.Common.{refl, List, ◌∷◌, reverse}
-use Rattle.dali_writer.specs.declared.happening.Happening.TheVariants.{Kept, Stopped}
+use Rattle.std.proofs.Common.{refl, ◌∷◌, reverse}
+use Rattle.dali_writer.specs.declared.happening.Happening.TheVariants.{Kept}
 use Rattle.dali_writer.proofs.ChainLemmas.{pushed, onto_stop}
 use Rattle.dali_writer.proofs.runs.serve.Goals as goal
 

@@ -1,4 +1,4 @@
-use Rattle.std.proofs.Common.{refl, sym}
+use Rattle.std.proofs.Common.{refl}
 use Rattle.dali_writer.proofs.writer.first_phase.Goals as goal
 
 pub returns-in-Left : goal.returns-in-Left

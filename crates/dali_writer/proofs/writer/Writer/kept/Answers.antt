@@ -1,4 +1,4 @@
-use Rattle.std.proofs.Common.{◌≡◌, ◌∙◌, sym}
+use Rattle.std.proofs.Common.{sym}
 use Rattle.dali_writer.proofs.KeepLemmas.{ready_checked, ready_written, ready_closed, check_falls, keeps_begun, keeps_checked, keeps_written, keeps_closed}
 use Rattle.dali_writer.proofs.writer.Writer.kept.Goals as goal
 

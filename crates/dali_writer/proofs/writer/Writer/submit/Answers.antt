@@ -1,6 +1,6 @@
-use Rattle.std.proofs.Common.{◌≡◌, ◌∙◌, sym, refl}
+use Rattle.std.proofs.Common.{◌∙◌, sym, refl}
 use Rattle.dali_journal.specs.JournalState.{order_count}
-use Rattle.dali_writer.proofs.SubmitLemmas.{known_on, busy_on, full_on, taken_on, ready_taken, not_full}
+use Rattle.dali_writer.proofs.SubmitLemmas.{known_on, busy_on, ready_taken, not_full}
 use Rattle.dali_writer.proofs.writer.Writer.submit.Goals as goal
 
 pub returns-in-Some-clause-described : goal.returns-in-Some-clause-described

@@ -1,6 +1,5 @@
-use Rattle.std.proofs.Common.{◌≡◌, inl, ◌∙◌, sym, ap}
+use Rattle.std.proofs.Common.{inl, ◌∙◌, sym, ap}
 use Rattle.dali_writer.specs.Phases.{is_wanting}
-use Rattle.dali_writer.specs.Describes.{Describes}
 use Rattle.dali_writer.proofs.StepLemmas.{busy_at, idle_wanted}
 use Rattle.dali_writer.proofs.writer.Writer.want.Goals as goal
 

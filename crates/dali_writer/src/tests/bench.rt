@@ -1,0 +1,300 @@
+use crate::{Event, Happening, Outcome, Reply, RunFault, run};
+use dali_bank::{BLANK, Order};
+use dali_gear::{Fate, SimBus, Unit};
+use dali_journal::{Code, Record};
+use std::alloc::Global;
+use std::process::Abort;
+use std::test::Fail;
+
+// The updates of the GTIN 4006381333931.
+const GTIN: [(u8, u8); 6] = [
+    (0x03, 0x03),
+    (0x04, 0xA4),
+    (0x05, 0xCE),
+    (0x06, 0xEF),
+    (0x07, 0xAD),
+    (0x08, 0xAB),
+];
+
+// The updates of the GTIN 96385074.
+const OTHER_GTIN: [(u8, u8); 6] = [
+    (0x03, 0x00),
+    (0x04, 0x00),
+    (0x05, 0x05),
+    (0x06, 0xBE),
+    (0x07, 0xB8),
+    (0x08, 0x32),
+];
+
+const STORED: [u8; 6] = [0x03, 0xA4, 0xCE, 0xEF, 0xAD, 0xAB];
+
+const YEAR: [(u8, u8); 1] = [(0x13, 24)];
+const NEXT_YEAR: [(u8, u8); 1] = [(0x13, 25)];
+const YEAR_AND_WEEK: [(u8, u8); 2] = [(0x13, 0x18), (0x14, 0x35)];
+const YEAR_AND_VOLTAGE: [(u8, u8); 3] = [(0x13, 0x18), (0x19, 0x00), (0x1A, 0xDC)];
+
+// Bank 1 of 17 bytes.
+const SHORT_BANK: [u8; 17] = [
+    0x10, 0xFF, 0xFF, 0xFF, 0xFF, 0xFF, 0xFF, 0xFF, 0xFF, 0xFF, 0xFF, 0xFF, 0xFF, 0xFF, 0xFF, 0xFF,
+    0xFF,
+];
+
+// The journal of the GTIN as order 1 for unit 5.
+const GTIN_JOURNAL: [u8; 27] = [
+    0x42, 0x00, 0x00, 0x00, 0x00, 0x00, 0x00, 0x00, 0x01, 0x05, 0x06, 0x03, 0x03, 0x04, 0xA4, 0x05,
+    0xCE, 0x06, 0xEF, 0x07, 0xAD, 0x08, 0xAB, 0x4F, 0x05, 0x45, 0x00,
+];
+
+// What is done in a case, in turn.
+#[derive(Clone, Copy)]
+enum Deed<'a> {
+    // An order's number, unit and updates.
+    Submit(u64, u8, &'a [(u8, u8)]),
+    Steps(usize),
+    Stop(u16),
+}
+
+// The same, and then steps until nothing is at work.
+const ENOUGH: usize = 1_500;
+
+// Units at 5 and 6, of which the one at 5 may have another bank 1 and fixed locations.
+#[derive(Clone, Copy)]
+struct Case<'a> {
+    name: &'a str,
+    limit: u32,
+    bank: &'a [u8],
+    fixed: &'a [u8],
+    dtrs: (u8, u8, u8),
+    // First and last numbers of frames that are lost to unit 5.
+    lost: &'a [(usize, usize)],
+    // Numbers of frames whose answers are lost.
+    unanswered: &'a [usize],
+    deeds: &'a [Deed<'a>],
+    // Each answer: its order's number, what it is, and how many frames were sent before it.
+    answers: &'a [(u64, Reply, usize)],
+    frames: usize,
+    journal: usize,
+    // What unit 5 holds in bank 1 in the end: locations and bytes from there on.
+    held: &'a [(usize, &'a [u8])],
+}
+
+// A case without losses, with blank units.
+fn plain(name: &str) -> Case<'_> {
+    Case {
+        name,
+        limit: 10,
+        bank: &BLANK,
+        fixed: &[],
+        dtrs: (0, 0, 0),
+        lost: &[],
+        unanswered: &[],
+        deeds: &[],
+        answers: &[],
+        frames: 0,
+        journal: 0,
+        held: &[],
+    }
+}
+
+fn events_of(alloc: Global, deeds: &[Deed<'_>]) -> Result<Vec<Event>, Fail> {
+    let mut events = Vec::new(alloc);
+    for deed in deeds {
+        match *deed {
+            Deed::Submit(id, unit, updates) => {
+                let order = Order::from_pairs(id, unit, updates).ok_or("an order")?;
+                events.push(Event::Submit(order))?;
+            }
+            Deed::Steps(count) => {
+                for _ in 0..count {
+                    events.push(Event::Step)?;
+                }
+            }
+            Deed::Stop(bytes) => events.push(Event::Stop(bytes))?,
+        }
+    }
+    Ok(events)
+}
+
+fn fates_of(
+    alloc: Global,
+    lost: &[(usize, usize)],
+    unanswered: &[usize],
+) -> Result<Vec<Fate>, Fail> {
+    let mut fates = Vec::new(alloc);
+    for number in 1..200usize {
+        let mut fate = Fate {
+            answer_lost: unanswered.contains(&number),
+            ..Fate::default()
+        };
+        for &(first, last) in lost {
+            if first <= number && number <= last {
+                fate.lost = 1 << 5;
+            }
+        }
+        fates.push(fate)?;
+    }
+    Ok(fates)
+}
+
+fn bus_of(alloc: Global, case: &Case<'_>) -> Result<SimBus, Fail> {
+    let mut unit = Unit::with_bank1(alloc, 5, case.bank, case.fixed)?;
+    let (dtr0, dtr1, dtr2) = case.dtrs;
+    unit.set_dtrs(dtr0, dtr1, dtr2);
+    let mut units = Vec::new(alloc);
+    units.push(unit)?;
+    units.push(Unit::blank(alloc, 6)?)?;
+    let fates = fates_of(alloc, case.lost, case.unanswered)?;
+    Ok(SimBus::new(units, fates)?)
+}
+
+fn run_case(alloc: Global, bus: &mut SimBus, case: &Case<'_>) -> Result<Outcome, Fail> {
+    let events = events_of(alloc, case.deeds)?;
+    Ok(run(alloc, bus, case.limit, &events)?)
+}
+
+fn frames_of(trace: &[Happening]) -> usize {
+    let mut frames: usize = 0;
+    for happening in trace {
+        if matches!(happening, Happening::Sent(_, _)) {
+            frames = frames.saturating_add(1);
+        }
+    }
+    frames
+}
+
+// The answers, each with its order's number and how many frames were sent before it.
+fn answers_of(alloc: Global, trace: &[Happening]) -> Result<Vec<(u64, Reply, usize)>, Fail> {
+    let mut answers = Vec::new(alloc);
+    let mut frames: usize = 0;
+    for happening in trace {
+        match happening {
+            Happening::Sent(_, _) => frames = frames.saturating_add(1),
+            Happening::Answered(id, reply) => answers.push((*id, *reply, frames))?,
+            _ => {}
+        }
+    }
+    Ok(answers)
+}
+
+fn unit_at(bus: &SimBus, address: u8) -> Result<&Unit, Fail> {
+    for unit in bus.units() {
+        if unit.address() == address {
+            return Ok(unit);
+        }
+    }
+    Err("a unit".into())
+}
+
+fn holds(unit: &Unit, location: usize, bytes: &[u8]) -> bool {
+    let rest = unit.bank1().get(location..).unwrap_or_default();
+    rest.starts_with(bytes)
+}
+
+// Runs a case, and tells whether all is as it should be.
+fn judge(rt: &impl Abort, alloc: Global, case: &Case<'_>) -> Result<(), Fail> {
+    let name = case.name;
+    let mut bus = bus_of(alloc, case)?;
+    let outcome = run_case(alloc, &mut bus, case)?;
+    let answers = answers_of(alloc, &outcome.trace)?;
+    assert_eq!(rt; answers.as_slice(), case.answers, "{name}");
+    assert_eq!(rt; frames_of(&outcome.trace), case.frames, "{name}");
+    assert_eq!(rt; outcome.journal.len(), case.journal, "{name}");
+    let unit = unit_at(&bus, 5)?;
+    for &(location, bytes) in case.held {
+        assert!(rt; holds(unit, location, bytes), "{name} at {location}");
+    }
+    Ok(())
+}
+
+const TAKEN: Reply = Reply::Taken;
+const DONE: Reply = Reply::Kept(Code::Done);
+
+#[test]
+fn a_gtin(rt: HostRuntime) -> Result<(), Fail> {
+    let case = Case {
+        deeds: &[Deed::Submit(1, 5, &GTIN), Deed::Steps(ENOUGH)],
+        ..plain("a GTIN")
+    };
+    let mut bus = bus_of(rt.alloc(), &case)?;
+    let outcome = run_case(rt.alloc(), &mut bus, &case)?;
+    assert_eq!(rt; outcome.journal.as_slice(), GTIN_JOURNAL.as_slice());
+    let mut before = 0usize;
+    for happening in outcome.trace.iter() {
+        match happening {
+            Happening::Kept(Record::Opened(unit)) => assert_eq!(rt; (*unit, before), (5, 5)),
+            Happening::Sent(_, _) => before = before.saturating_add(1),
+            _ => {}
+        }
+    }
+    assert_eq!(rt; before, 96);
+    let unit = unit_at(&bus, 5)?;
+    let (dtr0, dtr1, _) = unit.dtrs();
+    assert_eq!(rt; (dtr0, dtr1, unit.is_enabled()), (0x09, 0x01, false));
+    assert!(rt; holds(unit, 0x02, &[0xFF]));
+    assert!(rt; holds(unit, 0x03, &STORED));
+    Ok(())
+}
+
+#[test]
+fn runs_without_losses(rt: HostRuntime) -> Result<(), Fail> {
+    for case in [
+        Case {
+            deeds: &[
+                Deed::Submit(1, 5, &GTIN),
+                Deed::Steps(ENOUGH),
+                Deed::Submit(1, 5, &GTIN),
+                Deed::Steps(ENOUGH),
+            ],
+            answers: &[(1, TAKEN, 0), (1, DONE, 96), (1, DONE, 96)],
+            frames: 96,
+            journal: 27,
+            held: &[(0x03, &STORED)],
+            ..plain("the same again")
+        },
+        Case {
+            deeds: &[
+                Deed::Submit(1, 5, &GTIN),
+                Deed::Steps(ENOUGH),
+                Deed::Submit(1, 5, &OTHER_GTIN),
+                Deed::Steps(ENOUGH),
+            ],
+            answers: &[(1, TAKEN, 0), (1, DONE, 96), (1, Reply::IdReused, 96)],
+            frames: 96,
+            journal: 27,
+            held: &[(0x03, &STORED)],
+            ..plain("the number used again")
+        },
+        Case {
+            deeds: &[Deed::Submit(1, 5, &YEAR_AND_WEEK), Deed::Steps(ENOUGH)],
+            answers: &[(1, TAKEN, 0), (1, DONE, 58)],
+            frames: 58,
+            journal: 19,
+            held: &[(0x13, &[0x18, 0x35])],
+            ..plain("year and week")
+        },
+        Case {
+            deeds: &[
+                Deed::Submit(1, 5, &YEAR),
+                Deed::Steps(ENOUGH),
+                Deed::Submit(2, 5, &NEXT_YEAR),
+                Deed::Steps(ENOUGH),
+                Deed::Submit(1, 5, &YEAR),
+                Deed::Steps(ENOUGH),
+            ],
+            answers: &[
+                (1, TAKEN, 0),
+                (1, DONE, 46),
+                (2, TAKEN, 46),
+                (2, DONE, 92),
+                (1, DONE, 92),
+            ],
+            frames: 92,
+            journal: 34,
+            held: &[(0x13, &[0x19])],
+            ..plain("two years")
+        },
+    ] {
+        judge(&rt, rt.alloc(), &case)?;
+    }
+    Ok(())
+}

@@ -208,6 +208,7 @@ fn judge(rt: &impl Abort, alloc: Global, case: &Case<'_>) -> Result<(), Fail> {
 
 const TAKEN: Reply = Reply::Taken;
 const DONE: Reply = Reply::Kept(Code::Done);
+const DOUBT: Reply = Reply::Kept(Code::Doubt);
 
 #[test]
 fn a_gtin(rt: HostRuntime) -> Result<(), Fail> {
@@ -297,4 +298,177 @@ fn runs_without_losses(rt: HostRuntime) -> Result<(), Fail> {
         judge(&rt, rt.alloc(), &case)?;
     }
     Ok(())
+}
+
+#[test]
+fn runs_with_losses(rt: HostRuntime) -> Result<(), Fail> {
+    let gtin = [Deed::Submit(1, 5, &GTIN), Deed::Steps(ENOUGH)];
+    let gtin_case = Case {
+        deeds: &gtin,
+        journal: 27,
+        held: &[(0x03, &STORED)],
+        ..plain("a GTIN")
+    };
+    for case in [
+        Case {
+            lost: &[(34, 34)],
+            deeds: &[Deed::Submit(1, 5, &YEAR_AND_VOLTAGE), Deed::Steps(ENOUGH)],
+            answers: &[(1, TAKEN, 0), (1, DONE, 76)],
+            frames: 76,
+            journal: 21,
+            held: &[(0x13, &[0x18, 0xFF]), (0x19, &[0x00, 0xDC])],
+            ..plain("frame 34")
+        },
+        Case {
+            name: "frame 17",
+            lost: &[(17, 17)],
+            answers: &[(1, TAKEN, 0), (1, DONE, 96)],
+            frames: 96,
+            ..gtin_case
+        },
+        Case {
+            name: "the answer of frame 19",
+            unanswered: &[19],
+            answers: &[(1, TAKEN, 0), (1, DONE, 103)],
+            frames: 103,
+            ..gtin_case
+        },
+        Case {
+            name: "seven answers",
+            unanswered: &[9, 13, 17, 21, 25, 29, 33],
+            answers: &[(1, TAKEN, 0), (1, DONE, 124)],
+            frames: 124,
+            ..gtin_case
+        },
+        Case {
+            name: "eight answers of one step",
+            unanswered: &[9, 13, 17, 21, 25, 29, 33, 37],
+            answers: &[(1, TAKEN, 0), (1, DOUBT, 49)],
+            frames: 49,
+            held: &[(0x03, &[0xFF; 6])],
+            ..gtin_case
+        },
+        Case {
+            name: "eight answers of two steps",
+            unanswered: &[9, 13, 17, 21, 25, 29, 33, 44],
+            answers: &[(1, TAKEN, 0), (1, DONE, 128)],
+            frames: 128,
+            ..gtin_case
+        },
+        Case {
+            name: "frame 1, with DTR1 02h",
+            dtrs: (0x00, 0x02, 0x00),
+            lost: &[(1, 1)],
+            answers: &[(1, TAKEN, 0), (1, DONE, 98)],
+            frames: 98,
+            ..gtin_case
+        },
+        Case {
+            name: "frames 1 and 8, with DTR1 02h",
+            dtrs: (0x00, 0x02, 0x00),
+            lost: &[(1, 1), (8, 8)],
+            answers: &[(1, TAKEN, 0), (1, DONE, 105)],
+            frames: 105,
+            ..gtin_case
+        },
+    ] {
+        judge(&rt, rt.alloc(), &case)?;
+    }
+    Ok(())
+}
+
+#[test]
+fn runs_with_other_units(rt: HostRuntime) -> Result<(), Fail> {
+    let mut another_format = BLANK;
+    another_format[0x12] = 0x04;
+    for case in [
+        Case {
+            deeds: &[Deed::Submit(1, 9, &GTIN), Deed::Steps(ENOUGH)],
+            answers: &[(1, TAKEN, 0), (1, Reply::Kept(Code::Silent), 16)],
+            frames: 16,
+            journal: 25,
+            ..plain("no unit")
+        },
+        Case {
+            bank: &SHORT_BANK,
+            deeds: &[
+                Deed::Submit(1, 5, &GTIN),
+                Deed::Steps(ENOUGH),
+                Deed::Submit(2, 5, &YEAR),
+                Deed::Steps(ENOUGH),
+            ],
+            answers: &[
+                (1, TAKEN, 0),
+                (1, DONE, 96),
+                (2, TAKEN, 96),
+                (2, Reply::Kept(Code::Short), 101),
+            ],
+            frames: 101,
+            journal: 42,
+            held: &[(0x03, &STORED)],
+            ..plain("a short bank")
+        },
+        Case {
+            bank: &another_format,
+            deeds: &[
+                Deed::Submit(1, 5, &YEAR),
+                Deed::Steps(ENOUGH),
+                Deed::Submit(2, 5, &GTIN),
+                Deed::Steps(ENOUGH),
+            ],
+            answers: &[
+                (1, TAKEN, 0),
+                (1, Reply::Kept(Code::Format), 15),
+                (2, TAKEN, 15),
+                (2, DONE, 111),
+            ],
+            frames: 111,
+            journal: 42,
+            held: &[(0x03, &STORED), (0x13, &[0xFF])],
+            ..plain("another format")
+        },
+        Case {
+            fixed: &[0x05],
+            deeds: &[Deed::Submit(1, 5, &GTIN), Deed::Steps(ENOUGH)],
+            answers: &[(1, TAKEN, 0), (1, DOUBT, 94)],
+            frames: 94,
+            journal: 27,
+            held: &[(0x03, &[0x03, 0xA4, 0xFF, 0xFF, 0xFF, 0xFF])],
+            ..plain("a fixed location")
+        },
+    ] {
+        judge(&rt, rt.alloc(), &case)?;
+    }
+    Ok(())
+}
+
+// Order 1 for a unit that is then left, and order 2 for another one, twice.
+const LEFT: [Deed<'static>; 6] = [
+    Deed::Submit(1, 5, &GTIN),
+    Deed::Steps(ENOUGH),
+    Deed::Submit(2, 6, &GTIN),
+    Deed::Steps(ENOUGH),
+    Deed::Submit(2, 6, &GTIN),
+    Deed::Steps(ENOUGH),
+];
+
+#[test]
+fn a_run_with_a_left_unit(rt: HostRuntime) -> Result<(), Fail> {
+    let case = Case {
+        lost: &[(6, 133)],
+        deeds: &LEFT,
+        answers: &[
+            (1, TAKEN, 0),
+            (1, Reply::Kept(Code::DoubtOpen), 85),
+            (2, TAKEN, 85),
+            (2, Reply::Blocked(5), 133),
+            (2, TAKEN, 133),
+            (2, DONE, 241),
+        ],
+        frames: 241,
+        journal: 56,
+        held: &[(0x03, &[0xFF; 6])],
+        ..plain("frames 6 to 133")
+    };
+    judge(&rt, rt.alloc(), &case)
 }

@@ -39,6 +39,11 @@ const SHORT_BANK: [u8; 17] = [
     0xFF,
 ];
 
+// The memory bank 2 of a new unit, which no order changes.
+const BANK_2: [u8; 16] = [
+    0x0F, 0xFF, 0xFF, 0xFF, 0xFF, 0xFF, 0xFF, 0xFF, 0xFF, 0xFF, 0xFF, 0xFF, 0xFF, 0xFF, 0xFF, 0xFF,
+];
+
 // The journal of the GTIN as order 1 for unit 5.
 const GTIN_JOURNAL: [u8; 27] = [
     0x42, 0x00, 0x00, 0x00, 0x00, 0x00, 0x00, 0x00, 0x01, 0x05, 0x06, 0x03, 0x03, 0x04, 0xA4, 0x05,
@@ -54,7 +59,7 @@ enum Deed<'a> {
     Stop(u16),
 }
 
-// The same, and then steps until nothing is at work.
+// As many steps as any order takes, and more.
 const ENOUGH: usize = 1_500;
 
 // Units at 5 and 6, of which the one at 5 may have another bank 1 and fixed locations.
@@ -74,8 +79,8 @@ struct Case<'a> {
     answers: &'a [(u64, Reply, usize)],
     frames: usize,
     journal: usize,
-    // What unit 5 holds in bank 1 in the end: locations and bytes from there on.
-    held: &'a [(usize, &'a [u8])],
+    // What bank 1 holds in the end: units, locations and the bytes from there on.
+    held: &'a [(u8, usize, &'a [u8])],
 }
 
 // A case without losses, with blank units.
@@ -199,9 +204,13 @@ fn judge(rt: &impl Abort, alloc: Global, case: &Case<'_>) -> Result<(), Fail> {
     assert_eq!(rt; answers.as_slice(), case.answers, "{name}");
     assert_eq!(rt; frames_of(&outcome.trace), case.frames, "{name}");
     assert_eq!(rt; outcome.journal.len(), case.journal, "{name}");
-    let unit = unit_at(&bus, 5)?;
-    for &(location, bytes) in case.held {
+    for &(address, location, bytes) in case.held {
+        let unit = unit_at(&bus, address)?;
         assert!(rt; holds(unit, location, bytes), "{name} at {location}");
+    }
+    for unit in bus.units() {
+        assert!(rt; !unit.is_enabled(), "{name}");
+        assert!(rt; unit.bank2().starts_with(&BANK_2), "{name}");
     }
     Ok(())
 }
@@ -249,7 +258,7 @@ fn runs_without_losses(rt: HostRuntime) -> Result<(), Fail> {
             answers: &[(1, TAKEN, 0), (1, DONE, 96), (1, DONE, 96)],
             frames: 96,
             journal: 27,
-            held: &[(0x03, &STORED)],
+            held: &[(5, 0x03, &STORED)],
             ..plain("the same again")
         },
         Case {
@@ -262,7 +271,7 @@ fn runs_without_losses(rt: HostRuntime) -> Result<(), Fail> {
             answers: &[(1, TAKEN, 0), (1, DONE, 96), (1, Reply::IdReused, 96)],
             frames: 96,
             journal: 27,
-            held: &[(0x03, &STORED)],
+            held: &[(5, 0x03, &STORED)],
             ..plain("the number used again")
         },
         Case {
@@ -270,7 +279,7 @@ fn runs_without_losses(rt: HostRuntime) -> Result<(), Fail> {
             answers: &[(1, TAKEN, 0), (1, DONE, 58)],
             frames: 58,
             journal: 19,
-            held: &[(0x13, &[0x18, 0x35])],
+            held: &[(5, 0x13, &[0x18, 0x35])],
             ..plain("year and week")
         },
         Case {
@@ -291,7 +300,7 @@ fn runs_without_losses(rt: HostRuntime) -> Result<(), Fail> {
             ],
             frames: 92,
             journal: 34,
-            held: &[(0x13, &[0x19])],
+            held: &[(5, 0x13, &[0x19])],
             ..plain("two years")
         },
     ] {
@@ -306,7 +315,7 @@ fn runs_with_losses(rt: HostRuntime) -> Result<(), Fail> {
     let gtin_case = Case {
         deeds: &gtin,
         journal: 27,
-        held: &[(0x03, &STORED)],
+        held: &[(5, 0x03, &STORED)],
         ..plain("a GTIN")
     };
     for case in [
@@ -316,7 +325,7 @@ fn runs_with_losses(rt: HostRuntime) -> Result<(), Fail> {
             answers: &[(1, TAKEN, 0), (1, DONE, 76)],
             frames: 76,
             journal: 21,
-            held: &[(0x13, &[0x18, 0xFF]), (0x19, &[0x00, 0xDC])],
+            held: &[(5, 0x13, &[0x18, 0xFF]), (5, 0x19, &[0x00, 0xDC])],
             ..plain("frame 34")
         },
         Case {
@@ -345,7 +354,7 @@ fn runs_with_losses(rt: HostRuntime) -> Result<(), Fail> {
             unanswered: &[9, 13, 17, 21, 25, 29, 33, 37],
             answers: &[(1, TAKEN, 0), (1, DOUBT, 49)],
             frames: 49,
-            held: &[(0x03, &[0xFF; 6])],
+            held: &[(5, 0x03, &[0xFF; 6])],
             ..gtin_case
         },
         Case {
@@ -405,7 +414,7 @@ fn runs_with_other_units(rt: HostRuntime) -> Result<(), Fail> {
             ],
             frames: 101,
             journal: 42,
-            held: &[(0x03, &STORED)],
+            held: &[(5, 0x03, &STORED)],
             ..plain("a short bank")
         },
         Case {
@@ -424,7 +433,7 @@ fn runs_with_other_units(rt: HostRuntime) -> Result<(), Fail> {
             ],
             frames: 111,
             journal: 42,
-            held: &[(0x03, &STORED), (0x13, &[0xFF])],
+            held: &[(5, 0x03, &STORED), (5, 0x13, &[0xFF])],
             ..plain("another format")
         },
         Case {
@@ -433,7 +442,7 @@ fn runs_with_other_units(rt: HostRuntime) -> Result<(), Fail> {
             answers: &[(1, TAKEN, 0), (1, DOUBT, 94)],
             frames: 94,
             journal: 27,
-            held: &[(0x03, &[0x03, 0xA4, 0xFF, 0xFF, 0xFF, 0xFF])],
+            held: &[(5, 0x03, &[0x03, 0xA4, 0xFF, 0xFF, 0xFF, 0xFF])],
             ..plain("a fixed location")
         },
     ] {
@@ -467,8 +476,196 @@ fn a_run_with_a_left_unit(rt: HostRuntime) -> Result<(), Fail> {
         ],
         frames: 241,
         journal: 56,
-        held: &[(0x03, &[0xFF; 6])],
+        held: &[(5, 0x03, &[0xFF; 6]), (6, 0x03, &STORED)],
         ..plain("frames 6 to 133")
     };
     judge(&rt, rt.alloc(), &case)
+}
+
+#[test]
+fn a_left_unit_that_answers_late(rt: HostRuntime) -> Result<(), Fail> {
+    let case = Case {
+        lost: &[(20, 179)],
+        deeds: &LEFT,
+        ..plain("frames 20 to 179")
+    };
+    let mut bus = bus_of(rt.alloc(), &case)?;
+    let outcome = run_case(rt.alloc(), &mut bus, &case)?;
+    assert_eq!(rt; frames_of(&outcome.trace), 280);
+    assert_eq!(rt; outcome.journal.len(), 56);
+    let answers = answers_of(rt.alloc(), &outcome.trace)?;
+    let replies = [
+        (1, TAKEN),
+        (1, Reply::Kept(Code::DoubtOpen)),
+        (2, TAKEN),
+        (2, Reply::Blocked(5)),
+        (2, TAKEN),
+        (2, DONE),
+    ];
+    assert_eq!(rt; answers.len(), replies.len());
+    for ((id, reply, _), wanted) in answers.iter().zip(replies) {
+        assert_eq!(rt; (*id, *reply), wanted);
+    }
+    for unit in bus.units() {
+        assert!(rt; !unit.is_enabled());
+    }
+    assert!(rt; holds(unit_at(&bus, 6)?, 0x03, &STORED));
+    Ok(())
+}
+
+#[test]
+fn runs_with_stops(rt: HostRuntime) -> Result<(), Fail> {
+    let mut text = Vec::new(rt.alloc());
+    for location in 0x3C..0x78u8 {
+        text.push((location, 0x42))?;
+    }
+    let gtin_case = Case {
+        journal: 27,
+        held: &[(5, 0x03, &STORED)],
+        ..plain("a GTIN")
+    };
+    for case in [
+        Case {
+            name: "a record that is cut",
+            deeds: &[
+                Deed::Submit(1, 5, &GTIN),
+                Deed::Steps(6),
+                Deed::Stop(1),
+                Deed::Steps(ENOUGH),
+            ],
+            answers: &[(1, TAKEN, 0), (1, DONE, 101)],
+            frames: 101,
+            ..gtin_case
+        },
+        Case {
+            name: "a whole record",
+            deeds: &[
+                Deed::Submit(1, 5, &GTIN),
+                Deed::Steps(6),
+                Deed::Stop(2),
+                Deed::Steps(ENOUGH),
+            ],
+            answers: &[(1, TAKEN, 0), (1, DONE, 96)],
+            frames: 96,
+            ..gtin_case
+        },
+        Case {
+            deeds: &[
+                Deed::Submit(1, 5, &text),
+                Deed::Steps(234),
+                Deed::Stop(0),
+                Deed::Submit(2, 6, &GTIN),
+                Deed::Steps(ENOUGH),
+            ],
+            answers: &[(1, TAKEN, 0), (2, Reply::Busy, 232), (1, DONE, 971)],
+            frames: 971,
+            journal: 135,
+            held: &[(5, 0x3C, &[0x42; 60]), (6, 0x00, &BLANK)],
+            ..plain("a stop amid the writes")
+        },
+    ] {
+        judge(&rt, rt.alloc(), &case)?;
+    }
+    Ok(())
+}
+
+#[test]
+fn a_full_journal(rt: HostRuntime) -> Result<(), Fail> {
+    let mut all = Vec::new(rt.alloc());
+    for location in 0x03..0x78u8 {
+        if location != 0x11 && location != 0x12 {
+            all.push((location, 0xAA))?;
+        }
+    }
+    for case in [
+        Case {
+            limit: 1,
+            deeds: &[
+                Deed::Submit(1, 5, &GTIN),
+                Deed::Steps(3),
+                Deed::Submit(2, 5, &YEAR),
+                Deed::Steps(ENOUGH),
+                Deed::Submit(2, 5, &YEAR),
+                Deed::Submit(1, 5, &GTIN),
+                Deed::Steps(ENOUGH),
+            ],
+            answers: &[
+                (1, TAKEN, 0),
+                (2, Reply::Busy, 2),
+                (1, DONE, 96),
+                (2, Reply::Full, 96),
+                (1, DONE, 96),
+            ],
+            frames: 96,
+            journal: 27,
+            held: &[(5, 0x03, &STORED), (5, 0x13, &[0xFF])],
+            ..plain("one order")
+        },
+        Case {
+            limit: 2,
+            deeds: &[
+                Deed::Submit(1, 5, &all),
+                Deed::Steps(ENOUGH),
+                Deed::Submit(2, 5, &GTIN),
+                Deed::Steps(ENOUGH),
+                Deed::Submit(3, 5, &YEAR),
+                Deed::Submit(1, 5, &all),
+                Deed::Steps(ENOUGH),
+            ],
+            answers: &[
+                (1, TAKEN, 0),
+                (1, DONE, 1_414),
+                (2, TAKEN, 1_414),
+                (2, DONE, 1_510),
+                (3, Reply::Full, 1_510),
+                (1, DONE, 1_510),
+            ],
+            frames: 1_510,
+            journal: 272,
+            held: &[
+                (5, 0x03, &STORED),
+                (5, 0x09, &[0xAA; 8]),
+                (5, 0x11, &[0x00, 0x03, 0xAA]),
+                (5, 0x13, &[0xAA; 101]),
+            ],
+            ..plain("two orders")
+        },
+    ] {
+        judge(&rt, rt.alloc(), &case)?;
+    }
+    Ok(())
+}
+
+#[test]
+fn limits(rt: HostRuntime) -> Result<(), Fail> {
+    let alloc = rt.alloc();
+    for (limit, fault, fates_left) in [
+        (0, Some(RunFault::Limit), 199),
+        (1, None, 103),
+        (100_000, None, 103),
+        (100_001, Some(RunFault::Limit), 199),
+    ] {
+        let case = Case {
+            limit,
+            deeds: &[Deed::Submit(1, 5, &GTIN), Deed::Steps(ENOUGH)],
+            ..plain("limits")
+        };
+        let events = events_of(alloc, case.deeds)?;
+        let mut bus = bus_of(alloc, &case)?;
+        let found = match run(alloc, &mut bus, limit, &events) {
+            Ok(_) => None,
+            Err(fault) => Some(fault),
+        };
+        assert_eq!(rt; found, fault, "{limit}");
+        assert_eq!(rt; bus.fates_left(), fates_left, "{limit}");
+    }
+    for (fault, number, name) in [
+        (RunFault::Limit, 1, "Limit"),
+        (RunFault::NoMemory, 2, "NoMemory"),
+    ] {
+        assert_eq!(rt; fault.number(), number);
+        let text = fault.to_string(alloc)?;
+        assert_eq!(rt; text.as_str(), name);
+    }
+    Ok(())
 }

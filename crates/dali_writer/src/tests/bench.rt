@@ -1,8 +1,8 @@
 use crate::{Event, Happening, Outcome, Reply, RunFault, run};
 use dali_bank::{BLANK, Order};
-use dali_gear::{Fate, SimBus, Unit};
+use dali_gear::{Fate, GearFault, SimBus, Unit};
 use dali_journal::{Code, Record};
-use std::alloc::Global;
+use std::alloc::{AllocError, Global};
 use std::process::Abort;
 use std::test::Fail;
 
@@ -29,8 +29,11 @@ const OTHER_GTIN: [(u8, u8); 6] = [
 const STORED: [u8; 6] = [0x03, 0xA4, 0xCE, 0xEF, 0xAD, 0xAB];
 
 const YEAR: [(u8, u8); 1] = [(0x13, 24)];
+
 const NEXT_YEAR: [(u8, u8); 1] = [(0x13, 25)];
+
 const YEAR_AND_WEEK: [(u8, u8); 2] = [(0x13, 0x18), (0x14, 0x35)];
+
 const YEAR_AND_VOLTAGE: [(u8, u8); 3] = [(0x13, 0x18), (0x19, 0x00), (0x1A, 0xDC)];
 
 // Bank 1 of 17 bytes.
@@ -50,11 +53,19 @@ const GTIN_JOURNAL: [u8; 27] = [
     0xCE, 0x06, 0xEF, 0x07, 0xAD, 0x08, 0xAB, 0x4F, 0x05, 0x45, 0x00,
 ];
 
+const TAKEN: Reply = Reply::Taken;
+
+const DONE: Reply = Reply::Kept(Code::Done);
+
+const DOUBT: Reply = Reply::Kept(Code::Doubt);
+
 // What is done in a case, in turn.
 #[derive(Clone, Copy)]
 enum Deed<'a> {
     // An order's number, unit and updates.
     Submit(u64, u8, &'a [(u8, u8)]),
+    // An order for unit 5: its number, and a byte for all places between these locations.
+    Fill(u64, u8, u8, u8),
     Steps(usize),
     Stop(u16),
 }
@@ -83,38 +94,62 @@ struct Case<'a> {
     held: &'a [(u8, usize, &'a [u8])],
 }
 
-// A case without losses, with blank units.
-fn plain(name: &str) -> Case<'_> {
-    Case {
-        name,
-        limit: 10,
-        bank: &BLANK,
-        fixed: &[],
-        dtrs: (0, 0, 0),
-        lost: &[],
-        unanswered: &[],
-        deeds: &[],
-        answers: &[],
-        frames: 0,
-        journal: 0,
-        held: &[],
-    }
+// Order 1 with the GTIN for unit 5, with blank units and no losses.
+const PLAIN: Case<'static> = Case {
+    name: "a GTIN",
+    limit: 10,
+    bank: &BLANK,
+    fixed: &[],
+    dtrs: (0, 0, 0),
+    lost: &[],
+    unanswered: &[],
+    deeds: &[Deed::Submit(1, 5, &GTIN), Deed::Steps(ENOUGH)],
+    answers: &[(1, TAKEN, 0), (1, DONE, 96)],
+    frames: 96,
+    journal: 27,
+    held: &[(5, 0x03, &STORED)],
+};
+
+// Puts one more at the end of a list.
+fn put<T: Drop>(list: &mut Vec<T>, item: T) -> Result<(), AllocError> {
+    list.reserve(1)?;
+    list.push_reserved(item);
+    Ok(())
 }
 
-fn events_of(alloc: Global, deeds: &[Deed<'_>]) -> Result<Vec<Event>, Fail> {
+// Updates with this byte of all places from the first location to the last one.
+fn filled(alloc: Global, first: u8, last: u8, byte: u8) -> Result<Vec<(u8, u8)>, RunFault> {
+    let mut updates = Vec::new(alloc);
+    for location in first..=last {
+        if location != 0x11 && location != 0x12 {
+            put(&mut updates, (location, byte))?;
+        }
+    }
+    Ok(updates)
+}
+
+// The events of the deeds. What makes no order is left out.
+fn events_of(alloc: Global, deeds: &[Deed<'_>]) -> Result<Vec<Event>, RunFault> {
     let mut events = Vec::new(alloc);
     for deed in deeds {
         match *deed {
             Deed::Submit(id, unit, updates) => {
-                let order = Order::from_pairs(id, unit, updates).ok_or("an order")?;
-                events.push(Event::Submit(order))?;
+                if let Some(order) = Order::from_pairs(id, unit, updates) {
+                    put(&mut events, Event::Submit(order))?;
+                }
+            }
+            Deed::Fill(id, first, last, byte) => {
+                let updates = filled(alloc, first, last, byte)?;
+                if let Some(order) = Order::from_pairs(id, 5, &updates) {
+                    put(&mut events, Event::Submit(order))?;
+                }
             }
             Deed::Steps(count) => {
                 for _ in 0..count {
-                    events.push(Event::Step)?;
+                    put(&mut events, Event::Step)?;
                 }
             }
-            Deed::Stop(bytes) => events.push(Event::Stop(bytes))?,
+            Deed::Stop(bytes) => put(&mut events, Event::Stop(bytes))?,
         }
     }
     Ok(events)
@@ -124,7 +159,7 @@ fn fates_of(
     alloc: Global,
     lost: &[(usize, usize)],
     unanswered: &[usize],
-) -> Result<Vec<Fate>, Fail> {
+) -> Result<Vec<Fate>, GearFault> {
     let mut fates = Vec::new(alloc);
     for number in 1..200usize {
         let mut fate = Fate {
@@ -136,25 +171,25 @@ fn fates_of(
                 fate.lost = 1 << 5;
             }
         }
-        fates.push(fate)?;
+        put(&mut fates, fate)?;
     }
     Ok(fates)
 }
 
-fn bus_of(alloc: Global, case: &Case<'_>) -> Result<SimBus, Fail> {
+fn bus_of(alloc: Global, case: &Case<'_>) -> Result<SimBus, GearFault> {
     let mut unit = Unit::with_bank1(alloc, 5, case.bank, case.fixed)?;
     let (dtr0, dtr1, dtr2) = case.dtrs;
     unit.set_dtrs(dtr0, dtr1, dtr2);
     let mut units = Vec::new(alloc);
-    units.push(unit)?;
-    units.push(Unit::blank(alloc, 6)?)?;
+    put(&mut units, unit)?;
+    put(&mut units, Unit::blank(alloc, 6)?)?;
     let fates = fates_of(alloc, case.lost, case.unanswered)?;
-    Ok(SimBus::new(units, fates)?)
+    SimBus::new(units, fates)
 }
 
-fn run_case(alloc: Global, bus: &mut SimBus, case: &Case<'_>) -> Result<Outcome, Fail> {
+fn run_case(alloc: Global, bus: &mut SimBus, case: &Case<'_>) -> Result<Outcome, RunFault> {
     let events = events_of(alloc, case.deeds)?;
-    Ok(run(alloc, bus, case.limit, &events)?)
+    run(alloc, bus, case.limit, &events)
 }
 
 fn frames_of(trace: &[Happening]) -> usize {
@@ -168,13 +203,13 @@ fn frames_of(trace: &[Happening]) -> usize {
 }
 
 // The answers, each with its order's number and how many frames were sent before it.
-fn answers_of(alloc: Global, trace: &[Happening]) -> Result<Vec<(u64, Reply, usize)>, Fail> {
+fn answers_of(alloc: Global, trace: &[Happening]) -> Result<Vec<(u64, Reply, usize)>, RunFault> {
     let mut answers = Vec::new(alloc);
     let mut frames: usize = 0;
     for happening in trace {
         match happening {
             Happening::Sent(_, _) => frames = frames.saturating_add(1),
-            Happening::Answered(id, reply) => answers.push((*id, *reply, frames))?,
+            Happening::Answered(id, reply) => put(&mut answers, (*id, *reply, frames))?,
             _ => {}
         }
     }
@@ -215,18 +250,10 @@ fn judge(rt: &impl Abort, alloc: Global, case: &Case<'_>) -> Result<(), Fail> {
     Ok(())
 }
 
-const TAKEN: Reply = Reply::Taken;
-const DONE: Reply = Reply::Kept(Code::Done);
-const DOUBT: Reply = Reply::Kept(Code::Doubt);
-
 #[test]
 fn a_gtin(rt: HostRuntime) -> Result<(), Fail> {
-    let case = Case {
-        deeds: &[Deed::Submit(1, 5, &GTIN), Deed::Steps(ENOUGH)],
-        ..plain("a GTIN")
-    };
-    let mut bus = bus_of(rt.alloc(), &case)?;
-    let outcome = run_case(rt.alloc(), &mut bus, &case)?;
+    let mut bus = bus_of(rt.alloc(), &PLAIN)?;
+    let outcome = run_case(rt.alloc(), &mut bus, &PLAIN)?;
     assert_eq!(rt; outcome.journal.as_slice(), GTIN_JOURNAL.as_slice());
     let mut before = 0usize;
     for happening in outcome.trace.iter() {
@@ -245,210 +272,301 @@ fn a_gtin(rt: HostRuntime) -> Result<(), Fail> {
     Ok(())
 }
 
+const WITHOUT_LOSSES: [Case<'static>; 5] = [
+    PLAIN,
+    Case {
+        name: "the same again",
+        deeds: &[
+            Deed::Submit(1, 5, &GTIN),
+            Deed::Steps(ENOUGH),
+            Deed::Submit(1, 5, &GTIN),
+            Deed::Steps(ENOUGH),
+        ],
+        answers: &[(1, TAKEN, 0), (1, DONE, 96), (1, DONE, 96)],
+        ..PLAIN
+    },
+    Case {
+        name: "the number used again",
+        deeds: &[
+            Deed::Submit(1, 5, &GTIN),
+            Deed::Steps(ENOUGH),
+            Deed::Submit(1, 5, &OTHER_GTIN),
+            Deed::Steps(ENOUGH),
+        ],
+        answers: &[(1, TAKEN, 0), (1, DONE, 96), (1, Reply::IdReused, 96)],
+        ..PLAIN
+    },
+    Case {
+        name: "year and week",
+        deeds: &[Deed::Submit(1, 5, &YEAR_AND_WEEK), Deed::Steps(ENOUGH)],
+        answers: &[(1, TAKEN, 0), (1, DONE, 58)],
+        frames: 58,
+        journal: 19,
+        held: &[(5, 0x13, &[0x18, 0x35])],
+        ..PLAIN
+    },
+    Case {
+        name: "two years",
+        deeds: &[
+            Deed::Submit(1, 5, &YEAR),
+            Deed::Steps(ENOUGH),
+            Deed::Submit(2, 5, &NEXT_YEAR),
+            Deed::Steps(ENOUGH),
+            Deed::Submit(1, 5, &YEAR),
+            Deed::Steps(ENOUGH),
+        ],
+        answers: &[
+            (1, TAKEN, 0),
+            (1, DONE, 46),
+            (2, TAKEN, 46),
+            (2, DONE, 92),
+            (1, DONE, 92),
+        ],
+        frames: 92,
+        journal: 34,
+        held: &[(5, 0x13, &[0x19])],
+        ..PLAIN
+    },
+];
+
+const WITH_LOSSES: [Case<'static>; 8] = [
+    Case {
+        name: "frame 34",
+        lost: &[(34, 34)],
+        deeds: &[Deed::Submit(1, 5, &YEAR_AND_VOLTAGE), Deed::Steps(ENOUGH)],
+        answers: &[(1, TAKEN, 0), (1, DONE, 76)],
+        frames: 76,
+        journal: 21,
+        held: &[(5, 0x13, &[0x18, 0xFF]), (5, 0x19, &[0x00, 0xDC])],
+        ..PLAIN
+    },
+    Case {
+        name: "frame 17",
+        lost: &[(17, 17)],
+        ..PLAIN
+    },
+    Case {
+        name: "the answer of frame 19",
+        unanswered: &[19],
+        answers: &[(1, TAKEN, 0), (1, DONE, 103)],
+        frames: 103,
+        ..PLAIN
+    },
+    Case {
+        name: "seven answers",
+        unanswered: &[9, 13, 17, 21, 25, 29, 33],
+        answers: &[(1, TAKEN, 0), (1, DONE, 124)],
+        frames: 124,
+        ..PLAIN
+    },
+    Case {
+        name: "eight answers of one step",
+        unanswered: &[9, 13, 17, 21, 25, 29, 33, 37],
+        answers: &[(1, TAKEN, 0), (1, DOUBT, 49)],
+        frames: 49,
+        held: &[(5, 0x03, &[0xFF; 6])],
+        ..PLAIN
+    },
+    Case {
+        name: "eight answers of two steps",
+        unanswered: &[9, 13, 17, 21, 25, 29, 33, 44],
+        answers: &[(1, TAKEN, 0), (1, DONE, 128)],
+        frames: 128,
+        ..PLAIN
+    },
+    Case {
+        name: "frame 1, with DTR1 02h",
+        dtrs: (0x00, 0x02, 0x00),
+        lost: &[(1, 1)],
+        answers: &[(1, TAKEN, 0), (1, DONE, 98)],
+        frames: 98,
+        ..PLAIN
+    },
+    Case {
+        name: "frames 1 and 8, with DTR1 02h",
+        dtrs: (0x00, 0x02, 0x00),
+        lost: &[(1, 1), (8, 8)],
+        answers: &[(1, TAKEN, 0), (1, DONE, 105)],
+        frames: 105,
+        ..PLAIN
+    },
+];
+
+const OTHER_UNITS: [Case<'static>; 3] = [
+    Case {
+        name: "no unit",
+        deeds: &[Deed::Submit(1, 9, &GTIN), Deed::Steps(ENOUGH)],
+        answers: &[(1, TAKEN, 0), (1, Reply::Kept(Code::Silent), 16)],
+        frames: 16,
+        journal: 25,
+        held: &[(5, 0x00, &BLANK)],
+        ..PLAIN
+    },
+    Case {
+        name: "a short bank",
+        bank: &SHORT_BANK,
+        deeds: &[
+            Deed::Submit(1, 5, &GTIN),
+            Deed::Steps(ENOUGH),
+            Deed::Submit(2, 5, &YEAR),
+            Deed::Steps(ENOUGH),
+        ],
+        answers: &[
+            (1, TAKEN, 0),
+            (1, DONE, 96),
+            (2, TAKEN, 96),
+            (2, Reply::Kept(Code::Short), 101),
+        ],
+        frames: 101,
+        journal: 42,
+        ..PLAIN
+    },
+    Case {
+        name: "a fixed location",
+        fixed: &[0x05],
+        answers: &[(1, TAKEN, 0), (1, DOUBT, 94)],
+        frames: 94,
+        held: &[(5, 0x03, &[0x03, 0xA4, 0xFF, 0xFF, 0xFF, 0xFF])],
+        ..PLAIN
+    },
+];
+
+const WITH_STOPS: [Case<'static>; 3] = [
+    Case {
+        name: "a record that is cut",
+        deeds: &[
+            Deed::Submit(1, 5, &GTIN),
+            Deed::Steps(6),
+            Deed::Stop(1),
+            Deed::Steps(ENOUGH),
+        ],
+        answers: &[(1, TAKEN, 0), (1, DONE, 101)],
+        frames: 101,
+        ..PLAIN
+    },
+    Case {
+        name: "a whole record",
+        deeds: &[
+            Deed::Submit(1, 5, &GTIN),
+            Deed::Steps(6),
+            Deed::Stop(2),
+            Deed::Steps(ENOUGH),
+        ],
+        ..PLAIN
+    },
+    Case {
+        name: "a stop amid the writes",
+        deeds: &[
+            Deed::Fill(1, 0x3C, 0x77, 0x42),
+            Deed::Steps(234),
+            Deed::Stop(0),
+            Deed::Submit(2, 6, &GTIN),
+            Deed::Steps(ENOUGH),
+        ],
+        answers: &[(1, TAKEN, 0), (2, Reply::Busy, 232), (1, DONE, 971)],
+        frames: 971,
+        journal: 135,
+        held: &[(5, 0x3C, &[0x42; 60]), (6, 0x00, &BLANK)],
+        ..PLAIN
+    },
+];
+
+const FULL_JOURNALS: [Case<'static>; 2] = [
+    Case {
+        name: "one order",
+        limit: 1,
+        deeds: &[
+            Deed::Submit(1, 5, &GTIN),
+            Deed::Steps(3),
+            Deed::Submit(2, 5, &YEAR),
+            Deed::Steps(ENOUGH),
+            Deed::Submit(2, 5, &YEAR),
+            Deed::Submit(1, 5, &GTIN),
+            Deed::Steps(ENOUGH),
+        ],
+        answers: &[
+            (1, TAKEN, 0),
+            (2, Reply::Busy, 2),
+            (1, DONE, 96),
+            (2, Reply::Full, 96),
+            (1, DONE, 96),
+        ],
+        held: &[(5, 0x03, &STORED), (5, 0x13, &[0xFF])],
+        ..PLAIN
+    },
+    Case {
+        name: "all fields, and two orders",
+        limit: 2,
+        deeds: &[
+            Deed::Fill(1, 0x03, 0x77, 0xAA),
+            Deed::Steps(ENOUGH),
+            Deed::Submit(2, 5, &GTIN),
+            Deed::Steps(ENOUGH),
+            Deed::Submit(3, 5, &YEAR),
+            Deed::Fill(1, 0x03, 0x77, 0xAA),
+            Deed::Steps(ENOUGH),
+        ],
+        answers: &[
+            (1, TAKEN, 0),
+            (1, DONE, 1_414),
+            (2, TAKEN, 1_414),
+            (2, DONE, 1_510),
+            (3, Reply::Full, 1_510),
+            (1, DONE, 1_510),
+        ],
+        frames: 1_510,
+        journal: 272,
+        held: &[
+            (5, 0x03, &STORED),
+            (5, 0x09, &[0xAA; 8]),
+            (5, 0x11, &[0x00, 0x03]),
+            (5, 0x13, &[0xAA; 101]),
+        ],
+        ..PLAIN
+    },
+];
+
 #[test]
-fn runs_without_losses(rt: HostRuntime) -> Result<(), Fail> {
-    for case in [
-        Case {
-            deeds: &[
-                Deed::Submit(1, 5, &GTIN),
-                Deed::Steps(ENOUGH),
-                Deed::Submit(1, 5, &GTIN),
-                Deed::Steps(ENOUGH),
-            ],
-            answers: &[(1, TAKEN, 0), (1, DONE, 96), (1, DONE, 96)],
-            frames: 96,
-            journal: 27,
-            held: &[(5, 0x03, &STORED)],
-            ..plain("the same again")
-        },
-        Case {
-            deeds: &[
-                Deed::Submit(1, 5, &GTIN),
-                Deed::Steps(ENOUGH),
-                Deed::Submit(1, 5, &OTHER_GTIN),
-                Deed::Steps(ENOUGH),
-            ],
-            answers: &[(1, TAKEN, 0), (1, DONE, 96), (1, Reply::IdReused, 96)],
-            frames: 96,
-            journal: 27,
-            held: &[(5, 0x03, &STORED)],
-            ..plain("the number used again")
-        },
-        Case {
-            deeds: &[Deed::Submit(1, 5, &YEAR_AND_WEEK), Deed::Steps(ENOUGH)],
-            answers: &[(1, TAKEN, 0), (1, DONE, 58)],
-            frames: 58,
-            journal: 19,
-            held: &[(5, 0x13, &[0x18, 0x35])],
-            ..plain("year and week")
-        },
-        Case {
-            deeds: &[
-                Deed::Submit(1, 5, &YEAR),
-                Deed::Steps(ENOUGH),
-                Deed::Submit(2, 5, &NEXT_YEAR),
-                Deed::Steps(ENOUGH),
-                Deed::Submit(1, 5, &YEAR),
-                Deed::Steps(ENOUGH),
-            ],
-            answers: &[
-                (1, TAKEN, 0),
-                (1, DONE, 46),
-                (2, TAKEN, 46),
-                (2, DONE, 92),
-                (1, DONE, 92),
-            ],
-            frames: 92,
-            journal: 34,
-            held: &[(5, 0x13, &[0x19])],
-            ..plain("two years")
-        },
+fn runs_are_as_they_should_be(rt: HostRuntime) -> Result<(), Fail> {
+    for cases in [
+        WITHOUT_LOSSES.as_slice(),
+        &WITH_LOSSES,
+        &OTHER_UNITS,
+        &WITH_STOPS,
+        &FULL_JOURNALS,
     ] {
-        judge(&rt, rt.alloc(), &case)?;
+        for case in cases {
+            judge(&rt, rt.alloc(), case)?;
+        }
     }
     Ok(())
 }
 
 #[test]
-fn runs_with_losses(rt: HostRuntime) -> Result<(), Fail> {
-    let gtin = [Deed::Submit(1, 5, &GTIN), Deed::Steps(ENOUGH)];
-    let gtin_case = Case {
-        deeds: &gtin,
-        journal: 27,
-        held: &[(5, 0x03, &STORED)],
-        ..plain("a GTIN")
+fn another_content_format(rt: HostRuntime) -> Result<(), Fail> {
+    let mut bank = BLANK;
+    bank[0x12] = 0x04;
+    let case = Case {
+        name: "another content format",
+        bank: &bank,
+        deeds: &[
+            Deed::Submit(1, 5, &YEAR),
+            Deed::Steps(ENOUGH),
+            Deed::Submit(2, 5, &GTIN),
+            Deed::Steps(ENOUGH),
+        ],
+        answers: &[
+            (1, TAKEN, 0),
+            (1, Reply::Kept(Code::Format), 15),
+            (2, TAKEN, 15),
+            (2, DONE, 111),
+        ],
+        frames: 111,
+        journal: 42,
+        held: &[(5, 0x03, &STORED), (5, 0x13, &[0xFF])],
+        ..PLAIN
     };
-    for case in [
-        Case {
-            lost: &[(34, 34)],
-            deeds: &[Deed::Submit(1, 5, &YEAR_AND_VOLTAGE), Deed::Steps(ENOUGH)],
-            answers: &[(1, TAKEN, 0), (1, DONE, 76)],
-            frames: 76,
-            journal: 21,
-            held: &[(5, 0x13, &[0x18, 0xFF]), (5, 0x19, &[0x00, 0xDC])],
-            ..plain("frame 34")
-        },
-        Case {
-            name: "frame 17",
-            lost: &[(17, 17)],
-            answers: &[(1, TAKEN, 0), (1, DONE, 96)],
-            frames: 96,
-            ..gtin_case
-        },
-        Case {
-            name: "the answer of frame 19",
-            unanswered: &[19],
-            answers: &[(1, TAKEN, 0), (1, DONE, 103)],
-            frames: 103,
-            ..gtin_case
-        },
-        Case {
-            name: "seven answers",
-            unanswered: &[9, 13, 17, 21, 25, 29, 33],
-            answers: &[(1, TAKEN, 0), (1, DONE, 124)],
-            frames: 124,
-            ..gtin_case
-        },
-        Case {
-            name: "eight answers of one step",
-            unanswered: &[9, 13, 17, 21, 25, 29, 33, 37],
-            answers: &[(1, TAKEN, 0), (1, DOUBT, 49)],
-            frames: 49,
-            held: &[(5, 0x03, &[0xFF; 6])],
-            ..gtin_case
-        },
-        Case {
-            name: "eight answers of two steps",
-            unanswered: &[9, 13, 17, 21, 25, 29, 33, 44],
-            answers: &[(1, TAKEN, 0), (1, DONE, 128)],
-            frames: 128,
-            ..gtin_case
-        },
-        Case {
-            name: "frame 1, with DTR1 02h",
-            dtrs: (0x00, 0x02, 0x00),
-            lost: &[(1, 1)],
-            answers: &[(1, TAKEN, 0), (1, DONE, 98)],
-            frames: 98,
-            ..gtin_case
-        },
-        Case {
-            name: "frames 1 and 8, with DTR1 02h",
-            dtrs: (0x00, 0x02, 0x00),
-            lost: &[(1, 1), (8, 8)],
-            answers: &[(1, TAKEN, 0), (1, DONE, 105)],
-            frames: 105,
-            ..gtin_case
-        },
-    ] {
-        judge(&rt, rt.alloc(), &case)?;
-    }
-    Ok(())
-}
-
-#[test]
-fn runs_with_other_units(rt: HostRuntime) -> Result<(), Fail> {
-    let mut another_format = BLANK;
-    another_format[0x12] = 0x04;
-    for case in [
-        Case {
-            deeds: &[Deed::Submit(1, 9, &GTIN), Deed::Steps(ENOUGH)],
-            answers: &[(1, TAKEN, 0), (1, Reply::Kept(Code::Silent), 16)],
-            frames: 16,
-            journal: 25,
-            ..plain("no unit")
-        },
-        Case {
-            bank: &SHORT_BANK,
-            deeds: &[
-                Deed::Submit(1, 5, &GTIN),
-                Deed::Steps(ENOUGH),
-                Deed::Submit(2, 5, &YEAR),
-                Deed::Steps(ENOUGH),
-            ],
-            answers: &[
-                (1, TAKEN, 0),
-                (1, DONE, 96),
-                (2, TAKEN, 96),
-                (2, Reply::Kept(Code::Short), 101),
-            ],
-            frames: 101,
-            journal: 42,
-            held: &[(5, 0x03, &STORED)],
-            ..plain("a short bank")
-        },
-        Case {
-            bank: &another_format,
-            deeds: &[
-                Deed::Submit(1, 5, &YEAR),
-                Deed::Steps(ENOUGH),
-                Deed::Submit(2, 5, &GTIN),
-                Deed::Steps(ENOUGH),
-            ],
-            answers: &[
-                (1, TAKEN, 0),
-                (1, Reply::Kept(Code::Format), 15),
-                (2, TAKEN, 15),
-                (2, DONE, 111),
-            ],
-            frames: 111,
-            journal: 42,
-            held: &[(5, 0x03, &STORED), (5, 0x13, &[0xFF])],
-            ..plain("another format")
-        },
-        Case {
-            fixed: &[0x05],
-            deeds: &[Deed::Submit(1, 5, &GTIN), Deed::Steps(ENOUGH)],
-            answers: &[(1, TAKEN, 0), (1, DOUBT, 94)],
-            frames: 94,
-            journal: 27,
-            held: &[(5, 0x03, &[0x03, 0xA4, 0xFF, 0xFF, 0xFF, 0xFF])],
-            ..plain("a fixed location")
-        },
-    ] {
-        judge(&rt, rt.alloc(), &case)?;
-    }
-    Ok(())
+    judge(&rt, rt.alloc(), &case)
 }
 
 // Order 1 for a unit that is then left, and order 2 for another one, twice.
@@ -461,6 +579,7 @@ const LEFT: [Deed<'static>; 6] = [
     Deed::Steps(ENOUGH),
 ];
 
+// `./test` runs this one again and again, with each allocation refused in turn.
 #[test]
 fn a_run_with_a_left_unit(rt: HostRuntime) -> Result<(), Fail> {
     let case = Case {
@@ -477,7 +596,7 @@ fn a_run_with_a_left_unit(rt: HostRuntime) -> Result<(), Fail> {
         frames: 241,
         journal: 56,
         held: &[(5, 0x03, &[0xFF; 6]), (6, 0x03, &STORED)],
-        ..plain("frames 6 to 133")
+        ..PLAIN
     };
     judge(&rt, rt.alloc(), &case)
 }
@@ -487,7 +606,7 @@ fn a_left_unit_that_answers_late(rt: HostRuntime) -> Result<(), Fail> {
     let case = Case {
         lost: &[(20, 179)],
         deeds: &LEFT,
-        ..plain("frames 20 to 179")
+        ..PLAIN
     };
     let mut bus = bus_of(rt.alloc(), &case)?;
     let outcome = run_case(rt.alloc(), &mut bus, &case)?;
@@ -514,129 +633,6 @@ fn a_left_unit_that_answers_late(rt: HostRuntime) -> Result<(), Fail> {
 }
 
 #[test]
-fn runs_with_stops(rt: HostRuntime) -> Result<(), Fail> {
-    let mut text = Vec::new(rt.alloc());
-    for location in 0x3C..0x78u8 {
-        text.push((location, 0x42))?;
-    }
-    let gtin_case = Case {
-        journal: 27,
-        held: &[(5, 0x03, &STORED)],
-        ..plain("a GTIN")
-    };
-    for case in [
-        Case {
-            name: "a record that is cut",
-            deeds: &[
-                Deed::Submit(1, 5, &GTIN),
-                Deed::Steps(6),
-                Deed::Stop(1),
-                Deed::Steps(ENOUGH),
-            ],
-            answers: &[(1, TAKEN, 0), (1, DONE, 101)],
-            frames: 101,
-            ..gtin_case
-        },
-        Case {
-            name: "a whole record",
-            deeds: &[
-                Deed::Submit(1, 5, &GTIN),
-                Deed::Steps(6),
-                Deed::Stop(2),
-                Deed::Steps(ENOUGH),
-            ],
-            answers: &[(1, TAKEN, 0), (1, DONE, 96)],
-            frames: 96,
-            ..gtin_case
-        },
-        Case {
-            deeds: &[
-                Deed::Submit(1, 5, &text),
-                Deed::Steps(234),
-                Deed::Stop(0),
-                Deed::Submit(2, 6, &GTIN),
-                Deed::Steps(ENOUGH),
-            ],
-            answers: &[(1, TAKEN, 0), (2, Reply::Busy, 232), (1, DONE, 971)],
-            frames: 971,
-            journal: 135,
-            held: &[(5, 0x3C, &[0x42; 60]), (6, 0x00, &BLANK)],
-            ..plain("a stop amid the writes")
-        },
-    ] {
-        judge(&rt, rt.alloc(), &case)?;
-    }
-    Ok(())
-}
-
-#[test]
-fn a_full_journal(rt: HostRuntime) -> Result<(), Fail> {
-    let mut all = Vec::new(rt.alloc());
-    for location in 0x03..0x78u8 {
-        if location != 0x11 && location != 0x12 {
-            all.push((location, 0xAA))?;
-        }
-    }
-    for case in [
-        Case {
-            limit: 1,
-            deeds: &[
-                Deed::Submit(1, 5, &GTIN),
-                Deed::Steps(3),
-                Deed::Submit(2, 5, &YEAR),
-                Deed::Steps(ENOUGH),
-                Deed::Submit(2, 5, &YEAR),
-                Deed::Submit(1, 5, &GTIN),
-                Deed::Steps(ENOUGH),
-            ],
-            answers: &[
-                (1, TAKEN, 0),
-                (2, Reply::Busy, 2),
-                (1, DONE, 96),
-                (2, Reply::Full, 96),
-                (1, DONE, 96),
-            ],
-            frames: 96,
-            journal: 27,
-            held: &[(5, 0x03, &STORED), (5, 0x13, &[0xFF])],
-            ..plain("one order")
-        },
-        Case {
-            limit: 2,
-            deeds: &[
-                Deed::Submit(1, 5, &all),
-                Deed::Steps(ENOUGH),
-                Deed::Submit(2, 5, &GTIN),
-                Deed::Steps(ENOUGH),
-                Deed::Submit(3, 5, &YEAR),
-                Deed::Submit(1, 5, &all),
-                Deed::Steps(ENOUGH),
-            ],
-            answers: &[
-                (1, TAKEN, 0),
-                (1, DONE, 1_414),
-                (2, TAKEN, 1_414),
-                (2, DONE, 1_510),
-                (3, Reply::Full, 1_510),
-                (1, DONE, 1_510),
-            ],
-            frames: 1_510,
-            journal: 272,
-            held: &[
-                (5, 0x03, &STORED),
-                (5, 0x09, &[0xAA; 8]),
-                (5, 0x11, &[0x00, 0x03, 0xAA]),
-                (5, 0x13, &[0xAA; 101]),
-            ],
-            ..plain("two orders")
-        },
-    ] {
-        judge(&rt, rt.alloc(), &case)?;
-    }
-    Ok(())
-}
-
-#[test]
 fn limits(rt: HostRuntime) -> Result<(), Fail> {
     let alloc = rt.alloc();
     for (limit, fault, fates_left) in [
@@ -645,14 +641,9 @@ fn limits(rt: HostRuntime) -> Result<(), Fail> {
         (100_000, None, 103),
         (100_001, Some(RunFault::Limit), 199),
     ] {
-        let case = Case {
-            limit,
-            deeds: &[Deed::Submit(1, 5, &GTIN), Deed::Steps(ENOUGH)],
-            ..plain("limits")
-        };
-        let events = events_of(alloc, case.deeds)?;
+        let case = Case { limit, ..PLAIN };
         let mut bus = bus_of(alloc, &case)?;
-        let found = match run(alloc, &mut bus, limit, &events) {
+        let found = match run_case(alloc, &mut bus, &case) {
             Ok(_) => None,
             Err(fault) => Some(fault),
         };

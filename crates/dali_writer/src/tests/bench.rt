@@ -272,273 +272,307 @@ fn a_gtin(rt: HostRuntime) -> Result<(), Fail> {
     Ok(())
 }
 
-const WITHOUT_LOSSES: [Case<'static>; 5] = [
-    PLAIN,
-    Case {
-        name: "the same again",
-        deeds: &[
-            Deed::Submit(1, 5, &GTIN),
-            Deed::Steps(ENOUGH),
-            Deed::Submit(1, 5, &GTIN),
-            Deed::Steps(ENOUGH),
-        ],
-        answers: &[(1, TAKEN, 0), (1, DONE, 96), (1, DONE, 96)],
-        ..PLAIN
-    },
-    Case {
-        name: "the number used again",
-        deeds: &[
-            Deed::Submit(1, 5, &GTIN),
-            Deed::Steps(ENOUGH),
-            Deed::Submit(1, 5, &OTHER_GTIN),
-            Deed::Steps(ENOUGH),
-        ],
-        answers: &[(1, TAKEN, 0), (1, DONE, 96), (1, Reply::IdReused, 96)],
-        ..PLAIN
-    },
-    Case {
-        name: "year and week",
-        deeds: &[Deed::Submit(1, 5, &YEAR_AND_WEEK), Deed::Steps(ENOUGH)],
-        answers: &[(1, TAKEN, 0), (1, DONE, 58)],
-        frames: 58,
-        journal: 19,
-        held: &[(5, 0x13, &[0x18, 0x35])],
-        ..PLAIN
-    },
-    Case {
-        name: "two years",
-        deeds: &[
-            Deed::Submit(1, 5, &YEAR),
-            Deed::Steps(ENOUGH),
-            Deed::Submit(2, 5, &NEXT_YEAR),
-            Deed::Steps(ENOUGH),
-            Deed::Submit(1, 5, &YEAR),
-            Deed::Steps(ENOUGH),
-        ],
-        answers: &[
-            (1, TAKEN, 0),
-            (1, DONE, 46),
-            (2, TAKEN, 46),
-            (2, DONE, 92),
-            (1, DONE, 92),
-        ],
-        frames: 92,
-        journal: 34,
-        held: &[(5, 0x13, &[0x19])],
-        ..PLAIN
-    },
-];
+const AGAIN: Case<'static> = Case {
+    name: "the same again",
+    deeds: &[
+        Deed::Submit(1, 5, &GTIN),
+        Deed::Steps(ENOUGH),
+        Deed::Submit(1, 5, &GTIN),
+        Deed::Steps(ENOUGH),
+    ],
+    answers: &[(1, TAKEN, 0), (1, DONE, 96), (1, DONE, 96)],
+    ..PLAIN
+};
 
-const WITH_LOSSES: [Case<'static>; 8] = [
-    Case {
-        name: "frame 34",
-        lost: &[(34, 34)],
-        deeds: &[Deed::Submit(1, 5, &YEAR_AND_VOLTAGE), Deed::Steps(ENOUGH)],
-        answers: &[(1, TAKEN, 0), (1, DONE, 76)],
-        frames: 76,
-        journal: 21,
-        held: &[(5, 0x13, &[0x18, 0xFF]), (5, 0x19, &[0x00, 0xDC])],
-        ..PLAIN
-    },
-    Case {
-        name: "frame 17",
-        lost: &[(17, 17)],
-        ..PLAIN
-    },
-    Case {
-        name: "the answer of frame 19",
-        unanswered: &[19],
-        answers: &[(1, TAKEN, 0), (1, DONE, 103)],
-        frames: 103,
-        ..PLAIN
-    },
-    Case {
-        name: "seven answers",
-        unanswered: &[9, 13, 17, 21, 25, 29, 33],
-        answers: &[(1, TAKEN, 0), (1, DONE, 124)],
-        frames: 124,
-        ..PLAIN
-    },
-    Case {
-        name: "eight answers of one step",
-        unanswered: &[9, 13, 17, 21, 25, 29, 33, 37],
-        answers: &[(1, TAKEN, 0), (1, DOUBT, 49)],
-        frames: 49,
-        held: &[(5, 0x03, &[0xFF; 6])],
-        ..PLAIN
-    },
-    Case {
-        name: "eight answers of two steps",
-        unanswered: &[9, 13, 17, 21, 25, 29, 33, 44],
-        answers: &[(1, TAKEN, 0), (1, DONE, 128)],
-        frames: 128,
-        ..PLAIN
-    },
-    Case {
-        name: "frame 1, with DTR1 02h",
-        dtrs: (0x00, 0x02, 0x00),
-        lost: &[(1, 1)],
-        answers: &[(1, TAKEN, 0), (1, DONE, 98)],
-        frames: 98,
-        ..PLAIN
-    },
-    Case {
-        name: "frames 1 and 8, with DTR1 02h",
-        dtrs: (0x00, 0x02, 0x00),
-        lost: &[(1, 1), (8, 8)],
-        answers: &[(1, TAKEN, 0), (1, DONE, 105)],
-        frames: 105,
-        ..PLAIN
-    },
-];
+const USED_AGAIN: Case<'static> = Case {
+    name: "the number used again",
+    deeds: &[
+        Deed::Submit(1, 5, &GTIN),
+        Deed::Steps(ENOUGH),
+        Deed::Submit(1, 5, &OTHER_GTIN),
+        Deed::Steps(ENOUGH),
+    ],
+    answers: &[(1, TAKEN, 0), (1, DONE, 96), (1, Reply::IdReused, 96)],
+    ..PLAIN
+};
 
-const OTHER_UNITS: [Case<'static>; 3] = [
-    Case {
-        name: "no unit",
-        deeds: &[Deed::Submit(1, 9, &GTIN), Deed::Steps(ENOUGH)],
-        answers: &[(1, TAKEN, 0), (1, Reply::Kept(Code::Silent), 16)],
-        frames: 16,
-        journal: 25,
-        held: &[(5, 0x00, &BLANK)],
-        ..PLAIN
-    },
-    Case {
-        name: "a short bank",
-        bank: &SHORT_BANK,
-        deeds: &[
-            Deed::Submit(1, 5, &GTIN),
-            Deed::Steps(ENOUGH),
-            Deed::Submit(2, 5, &YEAR),
-            Deed::Steps(ENOUGH),
-        ],
-        answers: &[
-            (1, TAKEN, 0),
-            (1, DONE, 96),
-            (2, TAKEN, 96),
-            (2, Reply::Kept(Code::Short), 101),
-        ],
-        frames: 101,
-        journal: 42,
-        ..PLAIN
-    },
-    Case {
-        name: "a fixed location",
-        fixed: &[0x05],
-        answers: &[(1, TAKEN, 0), (1, DOUBT, 94)],
-        frames: 94,
-        held: &[(5, 0x03, &[0x03, 0xA4, 0xFF, 0xFF, 0xFF, 0xFF])],
-        ..PLAIN
-    },
-];
+const YEAR_AND_WEEK_RUN: Case<'static> = Case {
+    name: "year and week",
+    deeds: &[Deed::Submit(1, 5, &YEAR_AND_WEEK), Deed::Steps(ENOUGH)],
+    answers: &[(1, TAKEN, 0), (1, DONE, 58)],
+    frames: 58,
+    journal: 19,
+    held: &[(5, 0x13, &[0x18, 0x35])],
+    ..PLAIN
+};
 
-const WITH_STOPS: [Case<'static>; 3] = [
-    Case {
-        name: "a record that is cut",
-        deeds: &[
-            Deed::Submit(1, 5, &GTIN),
-            Deed::Steps(6),
-            Deed::Stop(1),
-            Deed::Steps(ENOUGH),
-        ],
-        answers: &[(1, TAKEN, 0), (1, DONE, 101)],
-        frames: 101,
-        ..PLAIN
-    },
-    Case {
-        name: "a whole record",
-        deeds: &[
-            Deed::Submit(1, 5, &GTIN),
-            Deed::Steps(6),
-            Deed::Stop(2),
-            Deed::Steps(ENOUGH),
-        ],
-        ..PLAIN
-    },
-    Case {
-        name: "a stop amid the writes",
-        deeds: &[
-            Deed::Fill(1, 0x3C, 0x77, 0x42),
-            Deed::Steps(234),
-            Deed::Stop(0),
-            Deed::Submit(2, 6, &GTIN),
-            Deed::Steps(ENOUGH),
-        ],
-        answers: &[(1, TAKEN, 0), (2, Reply::Busy, 232), (1, DONE, 971)],
-        frames: 971,
-        journal: 135,
-        held: &[(5, 0x3C, &[0x42; 60]), (6, 0x00, &BLANK)],
-        ..PLAIN
-    },
-];
-
-const FULL_JOURNALS: [Case<'static>; 2] = [
-    Case {
-        name: "one order",
-        limit: 1,
-        deeds: &[
-            Deed::Submit(1, 5, &GTIN),
-            Deed::Steps(3),
-            Deed::Submit(2, 5, &YEAR),
-            Deed::Steps(ENOUGH),
-            Deed::Submit(2, 5, &YEAR),
-            Deed::Submit(1, 5, &GTIN),
-            Deed::Steps(ENOUGH),
-        ],
-        answers: &[
-            (1, TAKEN, 0),
-            (2, Reply::Busy, 2),
-            (1, DONE, 96),
-            (2, Reply::Full, 96),
-            (1, DONE, 96),
-        ],
-        held: &[(5, 0x03, &STORED), (5, 0x13, &[0xFF])],
-        ..PLAIN
-    },
-    Case {
-        name: "all fields, and two orders",
-        limit: 2,
-        deeds: &[
-            Deed::Fill(1, 0x03, 0x77, 0xAA),
-            Deed::Steps(ENOUGH),
-            Deed::Submit(2, 5, &GTIN),
-            Deed::Steps(ENOUGH),
-            Deed::Submit(3, 5, &YEAR),
-            Deed::Fill(1, 0x03, 0x77, 0xAA),
-            Deed::Steps(ENOUGH),
-        ],
-        answers: &[
-            (1, TAKEN, 0),
-            (1, DONE, 1_414),
-            (2, TAKEN, 1_414),
-            (2, DONE, 1_510),
-            (3, Reply::Full, 1_510),
-            (1, DONE, 1_510),
-        ],
-        frames: 1_510,
-        journal: 272,
-        held: &[
-            (5, 0x03, &STORED),
-            (5, 0x09, &[0xAA; 8]),
-            (5, 0x11, &[0x00, 0x03]),
-            (5, 0x13, &[0xAA; 101]),
-        ],
-        ..PLAIN
-    },
-];
+const TWO_YEARS: Case<'static> = Case {
+    name: "two years",
+    deeds: &[
+        Deed::Submit(1, 5, &YEAR),
+        Deed::Steps(ENOUGH),
+        Deed::Submit(2, 5, &NEXT_YEAR),
+        Deed::Steps(ENOUGH),
+        Deed::Submit(1, 5, &YEAR),
+        Deed::Steps(ENOUGH),
+    ],
+    answers: &[
+        (1, TAKEN, 0),
+        (1, DONE, 46),
+        (2, TAKEN, 46),
+        (2, DONE, 92),
+        (1, DONE, 92),
+    ],
+    frames: 92,
+    journal: 34,
+    held: &[(5, 0x13, &[0x19])],
+    ..PLAIN
+};
 
 #[test]
-fn runs_are_as_they_should_be(rt: HostRuntime) -> Result<(), Fail> {
-    for cases in [
-        WITHOUT_LOSSES.as_slice(),
-        &WITH_LOSSES,
-        &OTHER_UNITS,
-        &WITH_STOPS,
-        &FULL_JOURNALS,
-    ] {
-        for case in cases {
-            judge(&rt, rt.alloc(), case)?;
-        }
-    }
+fn runs_without_losses(rt: HostRuntime) -> Result<(), Fail> {
+    judge(&rt, rt.alloc(), &PLAIN)?;
+    judge(&rt, rt.alloc(), &AGAIN)?;
+    judge(&rt, rt.alloc(), &USED_AGAIN)?;
+    judge(&rt, rt.alloc(), &YEAR_AND_WEEK_RUN)?;
+    judge(&rt, rt.alloc(), &TWO_YEARS)?;
+    Ok(())
+}
+
+const FRAME_34: Case<'static> = Case {
+    name: "frame 34",
+    lost: &[(34, 34)],
+    deeds: &[Deed::Submit(1, 5, &YEAR_AND_VOLTAGE), Deed::Steps(ENOUGH)],
+    answers: &[(1, TAKEN, 0), (1, DONE, 76)],
+    frames: 76,
+    journal: 21,
+    held: &[(5, 0x13, &[0x18, 0xFF]), (5, 0x19, &[0x00, 0xDC])],
+    ..PLAIN
+};
+
+const FRAME_17: Case<'static> = Case {
+    name: "frame 17",
+    lost: &[(17, 17)],
+    ..PLAIN
+};
+
+const ANSWER_19: Case<'static> = Case {
+    name: "the answer of frame 19",
+    unanswered: &[19],
+    answers: &[(1, TAKEN, 0), (1, DONE, 103)],
+    frames: 103,
+    ..PLAIN
+};
+
+const SEVEN_ANSWERS: Case<'static> = Case {
+    name: "seven answers",
+    unanswered: &[9, 13, 17, 21, 25, 29, 33],
+    answers: &[(1, TAKEN, 0), (1, DONE, 124)],
+    frames: 124,
+    ..PLAIN
+};
+
+const ONE_STEP: Case<'static> = Case {
+    name: "eight answers of one step",
+    unanswered: &[9, 13, 17, 21, 25, 29, 33, 37],
+    answers: &[(1, TAKEN, 0), (1, DOUBT, 49)],
+    frames: 49,
+    held: &[(5, 0x03, &[0xFF; 6])],
+    ..PLAIN
+};
+
+const TWO_STEPS: Case<'static> = Case {
+    name: "eight answers of two steps",
+    unanswered: &[9, 13, 17, 21, 25, 29, 33, 44],
+    answers: &[(1, TAKEN, 0), (1, DONE, 128)],
+    frames: 128,
+    ..PLAIN
+};
+
+const FRAME_1: Case<'static> = Case {
+    name: "frame 1, with DTR1 02h",
+    dtrs: (0x00, 0x02, 0x00),
+    lost: &[(1, 1)],
+    answers: &[(1, TAKEN, 0), (1, DONE, 98)],
+    frames: 98,
+    ..PLAIN
+};
+
+const FRAMES_1_AND_8: Case<'static> = Case {
+    name: "frames 1 and 8, with DTR1 02h",
+    dtrs: (0x00, 0x02, 0x00),
+    lost: &[(1, 1), (8, 8)],
+    answers: &[(1, TAKEN, 0), (1, DONE, 105)],
+    frames: 105,
+    ..PLAIN
+};
+
+#[test]
+fn runs_with_losses(rt: HostRuntime) -> Result<(), Fail> {
+    judge(&rt, rt.alloc(), &FRAME_34)?;
+    judge(&rt, rt.alloc(), &FRAME_17)?;
+    judge(&rt, rt.alloc(), &ANSWER_19)?;
+    judge(&rt, rt.alloc(), &SEVEN_ANSWERS)?;
+    judge(&rt, rt.alloc(), &ONE_STEP)?;
+    judge(&rt, rt.alloc(), &TWO_STEPS)?;
+    judge(&rt, rt.alloc(), &FRAME_1)?;
+    judge(&rt, rt.alloc(), &FRAMES_1_AND_8)?;
+    Ok(())
+}
+
+const NO_UNIT: Case<'static> = Case {
+    name: "no unit",
+    deeds: &[Deed::Submit(1, 9, &GTIN), Deed::Steps(ENOUGH)],
+    answers: &[(1, TAKEN, 0), (1, Reply::Kept(Code::Silent), 16)],
+    frames: 16,
+    journal: 25,
+    held: &[(5, 0x00, &BLANK)],
+    ..PLAIN
+};
+
+const A_SHORT_BANK: Case<'static> = Case {
+    name: "a short bank",
+    bank: &SHORT_BANK,
+    deeds: &[
+        Deed::Submit(1, 5, &GTIN),
+        Deed::Steps(ENOUGH),
+        Deed::Submit(2, 5, &YEAR),
+        Deed::Steps(ENOUGH),
+    ],
+    answers: &[
+        (1, TAKEN, 0),
+        (1, DONE, 96),
+        (2, TAKEN, 96),
+        (2, Reply::Kept(Code::Short), 101),
+    ],
+    frames: 101,
+    journal: 42,
+    ..PLAIN
+};
+
+const A_FIXED_LOCATION: Case<'static> = Case {
+    name: "a fixed location",
+    fixed: &[0x05],
+    answers: &[(1, TAKEN, 0), (1, DOUBT, 94)],
+    frames: 94,
+    held: &[(5, 0x03, &[0x03, 0xA4, 0xFF, 0xFF, 0xFF, 0xFF])],
+    ..PLAIN
+};
+
+#[test]
+fn runs_with_other_units(rt: HostRuntime) -> Result<(), Fail> {
+    judge(&rt, rt.alloc(), &NO_UNIT)?;
+    judge(&rt, rt.alloc(), &A_SHORT_BANK)?;
+    judge(&rt, rt.alloc(), &A_FIXED_LOCATION)?;
+    Ok(())
+}
+
+const A_CUT_RECORD: Case<'static> = Case {
+    name: "a record that is cut",
+    deeds: &[
+        Deed::Submit(1, 5, &GTIN),
+        Deed::Steps(6),
+        Deed::Stop(1),
+        Deed::Steps(ENOUGH),
+    ],
+    answers: &[(1, TAKEN, 0), (1, DONE, 101)],
+    frames: 101,
+    ..PLAIN
+};
+
+const A_WHOLE_RECORD: Case<'static> = Case {
+    name: "a whole record",
+    deeds: &[
+        Deed::Submit(1, 5, &GTIN),
+        Deed::Steps(6),
+        Deed::Stop(2),
+        Deed::Steps(ENOUGH),
+    ],
+    ..PLAIN
+};
+
+const AMID_THE_WRITES: Case<'static> = Case {
+    name: "a stop amid the writes",
+    deeds: &[
+        Deed::Fill(1, 0x3C, 0x77, 0x42),
+        Deed::Steps(234),
+        Deed::Stop(0),
+        Deed::Submit(2, 6, &GTIN),
+        Deed::Steps(ENOUGH),
+    ],
+    answers: &[(1, TAKEN, 0), (2, Reply::Busy, 232), (1, DONE, 971)],
+    frames: 971,
+    journal: 135,
+    held: &[(5, 0x3C, &[0x42; 60]), (6, 0x00, &BLANK)],
+    ..PLAIN
+};
+
+#[test]
+fn runs_with_stops(rt: HostRuntime) -> Result<(), Fail> {
+    judge(&rt, rt.alloc(), &A_CUT_RECORD)?;
+    judge(&rt, rt.alloc(), &A_WHOLE_RECORD)?;
+    judge(&rt, rt.alloc(), &AMID_THE_WRITES)?;
+    Ok(())
+}
+
+const ONE_ORDER: Case<'static> = Case {
+    name: "one order",
+    limit: 1,
+    deeds: &[
+        Deed::Submit(1, 5, &GTIN),
+        Deed::Steps(3),
+        Deed::Submit(2, 5, &YEAR),
+        Deed::Steps(ENOUGH),
+        Deed::Submit(2, 5, &YEAR),
+        Deed::Submit(1, 5, &GTIN),
+        Deed::Steps(ENOUGH),
+    ],
+    answers: &[
+        (1, TAKEN, 0),
+        (2, Reply::Busy, 2),
+        (1, DONE, 96),
+        (2, Reply::Full, 96),
+        (1, DONE, 96),
+    ],
+    held: &[(5, 0x03, &STORED), (5, 0x13, &[0xFF])],
+    ..PLAIN
+};
+
+const TWO_ORDERS: Case<'static> = Case {
+    name: "all fields, and two orders",
+    limit: 2,
+    deeds: &[
+        Deed::Fill(1, 0x03, 0x77, 0xAA),
+        Deed::Steps(ENOUGH),
+        Deed::Submit(2, 5, &GTIN),
+        Deed::Steps(ENOUGH),
+        Deed::Submit(3, 5, &YEAR),
+        Deed::Fill(1, 0x03, 0x77, 0xAA),
+        Deed::Steps(ENOUGH),
+    ],
+    answers: &[
+        (1, TAKEN, 0),
+        (1, DONE, 1_414),
+        (2, TAKEN, 1_414),
+        (2, DONE, 1_510),
+        (3, Reply::Full, 1_510),
+        (1, DONE, 1_510),
+    ],
+    frames: 1_510,
+    journal: 272,
+    held: &[
+        (5, 0x03, &STORED),
+        (5, 0x09, &[0xAA; 8]),
+        (5, 0x11, &[0x00, 0x03]),
+        (5, 0x13, &[0xAA; 101]),
+    ],
+    ..PLAIN
+};
+
+#[test]
+fn full_journals(rt: HostRuntime) -> Result<(), Fail> {
+    judge(&rt, rt.alloc(), &ONE_ORDER)?;
+    judge(&rt, rt.alloc(), &TWO_ORDERS)?;
     Ok(())
 }
 

@@ -153,14 +153,21 @@ first_place past order (standings.Opened other) next is = subst (λ (p : Phase).
 first_place past order (standings.Left unit) next (s, is, at, closing, is_told) =
     subst (λ (p : Phase). IsAt p (Answered order.id replies.Taken ∷ Asked order ∷ past)) (sym is) (refl, is_told)
 
+-- where the first four replies don't apply, Taken is due
+pub taken_due : (start : Start) (past : List Happening) (journal : JournalState) (phase : Phase) (order : Contents)
+    → Describes start past (record { journal = journal; phase = phase }) → IsReady phase journal → IsNotEnded order (kept_of order.id journal.records)
+    → is_idle phase ≡ true → order_count journal < journal.limit → IsReply start past order replies.Taken
+taken_due start past journal phase order d ready fresh idle less =
+    let room : is_full start past ≡ false = rw (d.same, d.limit) (full_not journal.limit (order_count journal) less) in
+    (rw d.same fresh, idle_busy start past journal phase d ready idle, room)
+
 pub taken_on : (start : Start) (past : List Happening) (journal new : JournalState) (phase next : Phase) (order : Contents) (stands : Standing)
     → Describes start past (record { journal = journal; phase = phase }) → IsReady phase journal → IsNotEnded order (kept_of order.id journal.records)
     → is_idle phase ≡ true → order_count journal < journal.limit → new.records ≡ journal.records → new.limit ≡ journal.limit → IsFirst stands order next
     → Describes start (Answered order.id replies.Taken ∷ Asked order ∷ past) (record { journal = new; phase = next })
 taken_on start past journal new phase next order stands d ready fresh idle less records limit first =
-    let room : is_full start past ≡ false = rw (d.same, d.limit) (full_not journal.limit (order_count journal) less) in
-    let due : IsReply start past order replies.Taken = (rw d.same fresh, idle_busy start past journal phase d ready idle, room) in
-    asked start past _ _ order replies.Taken d due records limit (first_place past order stands next first)
+    asked start past _ _ order replies.Taken d (taken_due start past journal phase order d ready fresh idle less) records limit
+    (first_place past order stands next first)
 
 -- all these orders have ended
 abbrev HaveEnded : List (Contents × Stage) → Type 0

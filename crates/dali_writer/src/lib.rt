@@ -1,5 +1,5 @@
-//! What happens to a writer of orders (profile): which traces of happenings are legal, and what is so along each of
-//! them, whatever a bus loses and whenever the program is stopped.
+//! A writer of orders and runs of it over a bus (profile), which traces of happenings are legal, and what is so along
+//! each of them, whatever a bus loses and whenever the program is stopped.
 #![tactic(auto)]
 
 mod fault;

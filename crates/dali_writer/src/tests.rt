@@ -1,3 +1,4 @@
 mod bench;
 mod case;
+mod gtin;
 mod worked;

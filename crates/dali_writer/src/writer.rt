@@ -12,7 +12,7 @@ ghost use Rattle.dali_writer.specs.declared.happening.Reply.TheVariants as repli
 ghost use Rattle.dali_writer.specs.declared.happening.Want.{Want};
 ghost use Rattle.dali_writer.specs.Trace.{Start, is_busy};
 ghost use Rattle.dali_writer.specs.Phases.{want_of, is_wanting, IsKeep, IsSend, IsSay};
-ghost use Rattle.dali_writer.specs.Replies.{IsNotEnded, IsKnownReply};
+ghost use Rattle.dali_writer.specs.Replies.{IsNotEnded, IsKnownReply, IsReply};
 ghost use Rattle.dali_writer.specs.Held.{IsFirst, IsAtRest};
 ghost use Rattle.dali_writer.specs.WorkLeft.{work_left};
 ghost use Rattle.dali_writer.specs.Describes.{Describes};
@@ -93,7 +93,8 @@ impl Writer {
         ensures described { IfOk result (λ reply. (start : Start) (past : List Happening) → Describes start past self.old
             → Describes start (happenings.Answered order.id reply ∷ happenings.Asked order ∷ past) self.new) }
         ensures only_taken { IfOk result (λ reply. (reply ≡ replies.Taken) ⊎ (self.new ≡ self.old)) }
-        ensures err { OnErr result ((start : Start) (past : List Happening) → Describes start past self.old → Describes start past self.new) }
+        ensures unchanged { OnErr result ((self.new.phase ≡ self.old.phase) × (self.new.journal.records ≡ self.old.journal.records) × (self.new.journal.limit ≡ self.old.journal.limit)) }
+        ensures due { OnErr result ((start : Start) (past : List Happening) → Describes start past self.old → IsReply start past order replies.Taken) }
         ensures succeeds { HasRoom self.old.journal order → IsOk result }
     {
         if let Some(reply) = known_reply(&self.journal, &order) {

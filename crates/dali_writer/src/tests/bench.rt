@@ -1,10 +1,9 @@
 use crate::tests::case::{
-    Case, DONE, Deed, ENOUGH, GTIN, PLAIN, STORED, TAKEN, answers_of, bus_of, frames_of, holds,
-    judge, run_case, unit_at,
+    Case, DONE, Deed, ENOUGH, GTIN, PLAIN, STORED, TAKEN, bus_of, judge, run_case,
 };
-use crate::{Happening, Reply, RunFault};
-use dali_bank::{BLANK, Order};
-use dali_journal::{Code, Record};
+use crate::{Reply, RunFault};
+use dali_bank::BLANK;
+use dali_journal::Code;
 use std::test::Fail;
 
 // The updates of the GTIN 96385074.
@@ -31,35 +30,7 @@ const SHORT_BANK: [u8; 17] = [
     0xFF,
 ];
 
-// The journal of the GTIN as order 1 for unit 5.
-const GTIN_JOURNAL: [u8; 27] = [
-    0x42, 0x00, 0x00, 0x00, 0x00, 0x00, 0x00, 0x00, 0x01, 0x05, 0x06, 0x03, 0x03, 0x04, 0xA4, 0x05,
-    0xCE, 0x06, 0xEF, 0x07, 0xAD, 0x08, 0xAB, 0x4F, 0x05, 0x45, 0x00,
-];
-
 const DOUBT: Reply = Reply::Kept(Code::Doubt);
-
-#[test]
-fn a_gtin(rt: HostRuntime) -> Result<(), Fail> {
-    let mut bus = bus_of(rt.alloc(), &PLAIN)?;
-    let outcome = run_case(rt.alloc(), &mut bus, &PLAIN)?;
-    assert_eq!(rt; outcome.journal.as_slice(), GTIN_JOURNAL.as_slice());
-    let mut before = 0usize;
-    for happening in outcome.trace.iter() {
-        match happening {
-            Happening::Kept(Record::Opened(unit)) => assert_eq!(rt; (*unit, before), (5, 5)),
-            Happening::Sent(_, _) => before = before.saturating_add(1),
-            _ => {}
-        }
-    }
-    assert_eq!(rt; before, 96);
-    let unit = unit_at(&bus, 5)?;
-    let (dtr0, dtr1, _) = unit.dtrs();
-    assert_eq!(rt; (dtr0, dtr1, unit.is_enabled()), (0x09, 0x01, false));
-    assert!(rt; holds(unit, 0x02, &[0xFF]));
-    assert!(rt; holds(unit, 0x03, &STORED));
-    Ok(())
-}
 
 const AGAIN: Case<'static> = Case {
     name: "the same again",
@@ -145,14 +116,6 @@ const FRAME_17: Case<'static> = Case {
     ..PLAIN
 };
 
-const ANSWER_19: Case<'static> = Case {
-    name: "the answer of frame 19",
-    unanswered: &[19],
-    answers: &[(1, TAKEN, 0), (1, DONE, 103)],
-    frames: 103,
-    ..PLAIN
-};
-
 const SEVEN_ANSWERS: Case<'static> = Case {
     name: "seven answers",
     unanswered: &[9, 13, 17, 21, 25, 29, 33],
@@ -167,6 +130,7 @@ const ONE_STEP: Case<'static> = Case {
     answers: &[(1, TAKEN, 0), (1, DOUBT, 49)],
     frames: 49,
     held: &[(5, 0x03, &[0xFF; 6])],
+    ending: &[0x4F, 0x05, 0x45, 0x04],
     ..PLAIN
 };
 
@@ -200,7 +164,6 @@ const FRAMES_1_AND_8: Case<'static> = Case {
 fn runs_with_losses(rt: HostRuntime) -> Result<(), Fail> {
     judge(&rt, rt.alloc(), &FRAME_34)?;
     judge(&rt, rt.alloc(), &FRAME_17)?;
-    judge(&rt, rt.alloc(), &ANSWER_19)?;
     judge(&rt, rt.alloc(), &SEVEN_ANSWERS)?;
     judge(&rt, rt.alloc(), &ONE_STEP)?;
     judge(&rt, rt.alloc(), &TWO_STEPS)?;
@@ -216,6 +179,7 @@ const NO_UNIT: Case<'static> = Case {
     frames: 16,
     journal: 25,
     held: &[(5, 0x00, &BLANK)],
+    ending: &[0x08, 0xAB, 0x45, 0x03],
     ..PLAIN
 };
 
@@ -236,6 +200,7 @@ const A_SHORT_BANK: Case<'static> = Case {
     ],
     frames: 101,
     journal: 42,
+    ending: &[0x13, 0x18, 0x45, 0x01],
     ..PLAIN
 };
 
@@ -245,6 +210,7 @@ const A_FIXED_LOCATION: Case<'static> = Case {
     answers: &[(1, TAKEN, 0), (1, DOUBT, 94)],
     frames: 94,
     held: &[(5, 0x03, &[0x03, 0xA4, 0xFF, 0xFF, 0xFF, 0xFF])],
+    ending: &[0x4F, 0x05, 0x45, 0x04],
     ..PLAIN
 };
 
@@ -309,21 +275,25 @@ const ONE_ORDER: Case<'static> = Case {
     limit: 1,
     deeds: &[
         Deed::Submit(1, 5, &GTIN),
-        Deed::Steps(3),
-        Deed::Submit(2, 5, &YEAR),
-        Deed::Steps(ENOUGH),
-        Deed::Submit(2, 5, &YEAR),
+        Deed::Submit(1, 5, &OTHER_GTIN),
+        Deed::Steps(1),
+        Deed::Submit(1, 5, &OTHER_GTIN),
         Deed::Submit(1, 5, &GTIN),
-        Deed::Steps(ENOUGH),
+        Deed::Submit(2, 5, &GTIN),
+        Deed::Steps(200),
+        Deed::Submit(2, 5, &GTIN),
+        Deed::Submit(1, 5, &GTIN),
     ],
     answers: &[
         (1, TAKEN, 0),
-        (2, Reply::Busy, 2),
+        (1, Reply::Busy, 0),
+        (1, Reply::IdReused, 0),
+        (1, Reply::Busy, 0),
+        (2, Reply::Busy, 0),
         (1, DONE, 96),
         (2, Reply::Full, 96),
         (1, DONE, 96),
     ],
-    held: &[(5, 0x03, &STORED), (5, 0x13, &[0xFF])],
     ..PLAIN
 };
 
@@ -402,6 +372,12 @@ const LEFT: [Deed<'static>; 6] = [
     Deed::Steps(ENOUGH),
 ];
 
+// What the journal of these ends with: DoubtOpen, Closed, and all of order 2.
+const LEFT_ENDING: [u8; 31] = [
+    0x45, 0x05, 0x43, 0x05, 0x42, 0x00, 0x00, 0x00, 0x00, 0x00, 0x00, 0x00, 0x02, 0x06, 0x06, 0x03,
+    0x03, 0x04, 0xA4, 0x05, 0xCE, 0x06, 0xEF, 0x07, 0xAD, 0x08, 0xAB, 0x4F, 0x06, 0x45, 0x00,
+];
+
 // `./test` runs this one again and again, with each allocation refused in turn.
 #[test]
 fn a_run_with_a_left_unit(rt: HostRuntime) -> Result<(), Fail> {
@@ -419,6 +395,7 @@ fn a_run_with_a_left_unit(rt: HostRuntime) -> Result<(), Fail> {
         frames: 241,
         journal: 56,
         held: &[(5, 0x03, &[0xFF; 6]), (6, 0x03, &STORED)],
+        ending: &LEFT_ENDING,
         ..PLAIN
     };
     judge(&rt, rt.alloc(), &case)
@@ -429,30 +406,24 @@ fn a_left_unit_that_answers_late(rt: HostRuntime) -> Result<(), Fail> {
     let case = Case {
         lost: &[(20, 179)],
         deeds: &LEFT,
+        answers: &[
+            (1, TAKEN, 0),
+            (1, Reply::Kept(Code::DoubtOpen), 99),
+            (2, TAKEN, 99),
+            (2, Reply::Blocked(5), 147),
+            (2, TAKEN, 147),
+            (2, DONE, 280),
+        ],
+        frames: 280,
+        journal: 56,
+        ending: &LEFT_ENDING,
+        held: &[
+            (5, 0x03, &[0x03, 0xFF, 0xFF, 0xFF, 0xFF, 0xFF]),
+            (6, 0x03, &STORED),
+        ],
         ..PLAIN
     };
-    let mut bus = bus_of(rt.alloc(), &case)?;
-    let outcome = run_case(rt.alloc(), &mut bus, &case)?;
-    assert_eq!(rt; frames_of(&outcome.trace), 280);
-    assert_eq!(rt; outcome.journal.len(), 56);
-    let answers = answers_of(rt.alloc(), &outcome.trace)?;
-    let replies = [
-        (1, TAKEN),
-        (1, Reply::Kept(Code::DoubtOpen)),
-        (2, TAKEN),
-        (2, Reply::Blocked(5)),
-        (2, TAKEN),
-        (2, DONE),
-    ];
-    assert_eq!(rt; answers.len(), replies.len());
-    for ((id, reply, _), wanted) in answers.iter().zip(replies) {
-        assert_eq!(rt; (*id, *reply), wanted);
-    }
-    for unit in bus.units() {
-        assert!(rt; !unit.is_enabled());
-    }
-    assert!(rt; holds(unit_at(&bus, 6)?, 0x03, &STORED));
-    Ok(())
+    judge(&rt, rt.alloc(), &case)
 }
 
 #[test]

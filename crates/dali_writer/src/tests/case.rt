@@ -1,5 +1,6 @@
 use crate::{Event, Happening, Outcome, Reply, RunFault, run};
 use dali_bank::{BLANK, Order};
+use dali_frame::Frame;
 use dali_gear::{Fate, GearFault, SimBus, Unit};
 use dali_journal::Code;
 use std::alloc::{AllocError, Global};
@@ -38,7 +39,7 @@ pub(crate) enum Deed<'a> {
     Stop(u16),
 }
 
-// As many steps as any order takes, and more.
+// As many steps as any order of these cases takes, and more.
 pub(crate) const ENOUGH: usize = 1_500;
 
 // Units at 5 and 6, of which the one at 5 may have another bank 1 and fixed locations.
@@ -58,6 +59,8 @@ pub(crate) struct Case<'a> {
     pub(crate) answers: &'a [(u64, Reply, usize)],
     pub(crate) frames: usize,
     pub(crate) journal: usize,
+    // The journal's last bytes.
+    pub(crate) ending: &'a [u8],
     // What bank 1 holds in the end: units, locations and the bytes from there on.
     pub(crate) held: &'a [(u8, usize, &'a [u8])],
 }
@@ -75,6 +78,7 @@ pub(crate) const PLAIN: Case<'static> = Case {
     answers: &[(1, TAKEN, 0), (1, DONE, 96)],
     frames: 96,
     journal: 27,
+    ending: &[0x4F, 0x05, 0x45, 0x00],
     held: &[(5, 0x03, &STORED)],
 };
 
@@ -164,7 +168,7 @@ pub(crate) fn run_case(
     run(alloc, bus, case.limit, &events)
 }
 
-pub(crate) fn frames_of(trace: &[Happening]) -> usize {
+fn frames_of(trace: &[Happening]) -> usize {
     let mut frames: usize = 0;
     for happening in trace {
         if matches!(happening, Happening::Sent(_, _)) {
@@ -175,7 +179,7 @@ pub(crate) fn frames_of(trace: &[Happening]) -> usize {
 }
 
 // The answers, each with its order's number and how many frames were sent before it.
-pub(crate) fn answers_of(
+fn answers_of(
     alloc: Global,
     trace: &[Happening],
 ) -> Result<Vec<(u64, Reply, usize)>, RunFault> {
@@ -189,6 +193,20 @@ pub(crate) fn answers_of(
         }
     }
     Ok(answers)
+}
+
+// The frames and their answers.
+pub(crate) fn sent(
+    alloc: Global,
+    trace: &[Happening],
+) -> Result<Vec<(Frame, Option<u8>)>, RunFault> {
+    let mut sent = Vec::new(alloc);
+    for happening in trace {
+        if let Happening::Sent(frame, answer) = happening {
+            put(&mut sent, (*frame, *answer))?;
+        }
+    }
+    Ok(sent)
 }
 
 pub(crate) fn unit_at(bus: &SimBus, address: u8) -> Result<&Unit, Fail> {
@@ -214,6 +232,7 @@ pub(crate) fn judge(rt: &impl Abort, alloc: Global, case: &Case<'_>) -> Result<(
     assert_eq!(rt; answers.as_slice(), case.answers, "{name}");
     assert_eq!(rt; frames_of(&outcome.trace), case.frames, "{name}");
     assert_eq!(rt; outcome.journal.len(), case.journal, "{name}");
+    assert!(rt; outcome.journal.ends_with(case.ending), "{name}");
     for &(address, location, bytes) in case.held {
         let unit = unit_at(&bus, address)?;
         assert!(rt; holds(unit, location, bytes), "{name} at {location}");

@@ -179,10 +179,7 @@ fn frames_of(trace: &[Happening]) -> usize {
 }
 
 // The answers, each with its order's number and how many frames were sent before it.
-fn answers_of(
-    alloc: Global,
-    trace: &[Happening],
-) -> Result<Vec<(u64, Reply, usize)>, RunFault> {
+fn answers_of(alloc: Global, trace: &[Happening]) -> Result<Vec<(u64, Reply, usize)>, RunFault> {
     let mut answers = Vec::new(alloc);
     let mut frames: usize = 0;
     for happening in trace {

@@ -1,5 +1,5 @@
 -- The bytes of a record and of a journal.
-use Rattle.std.specs.Prelude.{ℕ, ◌<◌, ◌≤◌, ◌^◌, List, [], ◌∷◌, ◌++◌, length, ⊤}
+use Rattle.std.specs.Prelude.{ℕ, ◌<◌, ◌≤◌, ◌^◌, List, [], ◌∷◌, ◌++◌, length, codes, ⊤}
 use Rattle.std.specs.Int.{w64, to_be_bytes}
 use Rattle.std.specs.List.{flat_map, AllByRecursion}
 use Rattle.dali_bank.specs.Order.{Contents, AreUpdates}
@@ -16,6 +16,15 @@ code_number Format = 2
 code_number Silent = 3
 code_number Doubt = 4
 code_number DoubtOpen = 5
+
+-- the name of a code, in what a program prints
+abbrev pub code_name : Code → List ℕ
+code_name Done = codes "Done"
+code_name Short = codes "Short"
+code_name Format = codes "Format"
+code_name Silent = codes "Silent"
+code_name Doubt = codes "Doubt"
+code_name DoubtOpen = codes "DoubtOpen"
 
 -- each location, and behind it its byte
 abbrev pub pairs_spelling : List (ℕ × ℕ) → List ℕ

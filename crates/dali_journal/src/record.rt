@@ -4,6 +4,7 @@ ghost use Rattle.dali_journal.specs.Spelling.{spelling, order_spelling, pairs_sp
 
 use arrayvec::ArrayVec;
 use dali_bank::Order;
+use std::fmt;
 
 /// The most bytes of a record: those of an order with 115 updates.
 pub(crate) const MOST_BYTES: usize = 241;
@@ -38,6 +39,24 @@ impl Code {
             Code::Doubt => 4,
             Code::DoubtOpen => 5,
         }
+    }
+}
+
+impl fmt::Display for Code {
+    ghost use Rattle.std.specs.Prelude.{Some};
+    ghost use Rattle.dali_journal.specs.Spelling.{code_name};
+
+    ghost output = { λ code. Some (code_name code) };
+
+    fn fmt<W: fmt::Write>(&self, f: &mut fmt::Formatter<W>) -> fmt::Result {
+        f.write_str(match self {
+            Code::Done => "Done",
+            Code::Short => "Short",
+            Code::Format => "Format",
+            Code::Silent => "Silent",
+            Code::Doubt => "Doubt",
+            Code::DoubtOpen => "DoubtOpen",
+        })
     }
 }
 

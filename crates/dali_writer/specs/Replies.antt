@@ -1,9 +1,10 @@
--- Which reply is due to an order: the first of Kept, IdReused, Busy, Full and Taken that applies.
-use Rattle.std.specs.Prelude.{◌≡◌, ◌≢◌, Bool, true, false, List}
+-- Which reply is due to an order: the first of Kept, IdReused, Busy, Full and Taken that applies. And how a reply is told.
+use Rattle.std.specs.Prelude.{◌≡◌, ◌≢◌, ◌++◌, ℕ, Bool, true, false, List, codes, decimal}
 use Rattle.dali_bank.specs.Order.{Contents}
 use Rattle.dali_journal.specs.declared.kept.Kept.{Kept}
 use Rattle.dali_journal.specs.declared.kept.Kept.TheVariants as kepts
 use Rattle.dali_journal.specs.Orders.{kept_of}
+use Rattle.dali_journal.specs.Spelling.{code_number, code_name}
 use Rattle.dali_writer.specs.declared.happening.Reply.{Reply}
 use Rattle.dali_writer.specs.declared.happening.Reply.TheVariants as replies
 use Rattle.dali_writer.specs.declared.happening.Happening.{Happening}
@@ -39,3 +40,12 @@ abbrev pub IsKnownReply : Contents → Kept → Reply → Type 0
 IsKnownReply order kept (replies.Kept code) = kept ≡ kepts.Ended order code
 IsKnownReply order kept replies.IdReused = IsReused order kept
 IsKnownReply order kept _ = ⊥
+
+-- a reply, in what a program prints
+abbrev pub reply_text : Reply → List ℕ
+reply_text replies.Taken = codes "taken"
+reply_text (replies.Kept code) = codes "kept " ++ decimal (code_number code) ++ codes " " ++ code_name code
+reply_text replies.IdReused = codes "reused"
+reply_text replies.Busy = codes "busy"
+reply_text replies.Full = codes "full"
+reply_text (replies.Blocked unit) = codes "blocked " ++ decimal unit

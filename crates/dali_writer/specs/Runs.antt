@@ -1,10 +1,12 @@
 -- What is promised of a run over a bus.
-use Rattle.std.specs.Prelude.{ℕ, List, []}
+use Rattle.std.specs.Prelude.{ℕ, List, [], ◌∷◌}
+use Rattle.dali_frame.specs.Frame.{IsProper}
 use Rattle.dali_gear.specs.World.{World}
 use Rattle.dali_gear.specs.Carry.{BusEvent}
 use Rattle.dali_gear.specs.Chain.{IsChain, AtEachMoment}
 use Rattle.dali_gear.specs.Unenabled.{NoneEnabled}
 use Rattle.dali_writer.specs.declared.happening.Happening.{Happening}
+use Rattle.dali_writer.specs.declared.happening.Happening.TheVariants.{Sent}
 use Rattle.dali_writer.specs.Trace.{Start}
 use Rattle.dali_writer.specs.Moves.{MovesBy}
 use Rattle.dali_writer.specs.Law.{IsRight}
@@ -19,3 +21,13 @@ pub record LeadsRight {S : Type 0} (world : S → World) (step : S → BusEvent 
   pub chain : IsChain (MovesBy step) first past last states
   pub right : NoneEnabled (world first)
       → AtEachMoment (λ moment now. IsRight (world first) (fresh limit) moment (world now)) past last states
+
+-- a frame that was sent is one that some word spells
+abbrev pub SendsProper : Happening → Type 0
+SendsProper (Sent frame answer) = IsProper frame
+SendsProper other = Unit {0}
+
+-- and so is each of a trace
+abbrev pub SendsAllProper : List Happening → Type 0
+SendsAllProper [] = Unit {0}
+SendsAllProper (newest ∷ past) = SendsProper newest × SendsAllProper past

@@ -1,6 +1,7 @@
 use dali_bank::Order;
 use dali_frame::Frame;
 use dali_journal::{Code, Record};
+use std::fmt;
 
 /// The answer to an order, given at once, or what is said of an order that was taken (profile).
 ///
@@ -21,6 +22,27 @@ pub enum Reply {
     /// The order isn't carried out, since a unit that an order before it left open couldn't be
     /// closed: that unit's short address, 0 to 63.
     Blocked(u8),
+}
+
+impl fmt::Display for Reply {
+    ghost use Rattle.std.specs.Prelude.{Some};
+    ghost use Rattle.dali_writer.specs.Replies.{reply_text};
+
+    ghost output = { λ reply. Some (reply_text reply) };
+
+    fn fmt<W: fmt::Write>(&self, f: &mut fmt::Formatter<W>) -> fmt::Result {
+        match self {
+            Reply::Taken => f.write_str("taken"),
+            Reply::Kept(code) => {
+                let number = code.number();
+                write!(f, "kept {number} {code}")
+            }
+            Reply::IdReused => f.write_str("reused"),
+            Reply::Busy => f.write_str("busy"),
+            Reply::Full => f.write_str("full"),
+            Reply::Blocked(unit) => write!(f, "blocked {unit}"),
+        }
+    }
 }
 
 /// What happened (profile). A trace is a list of happenings.

@@ -10,7 +10,7 @@ ghost use Rattle.dali_writer.specs.Legal.{Legal, IsFinished};
 ghost use Rattle.dali_writer.specs.Parts.{IsWork, Part, AreParts};
 ghost use Rattle.dali_writer.specs.Taken.{taken_orders, begun_orders};
 ghost use Rattle.dali_writer.specs.Moves.{MovesBy};
-ghost use Rattle.dali_writer.specs.Runs.{fresh, LeadsRight};
+ghost use Rattle.dali_writer.specs.Runs.{fresh, LeadsRight, SendsProper, SendsAllProper};
 ghost use Rattle.dali_writer.specs.Describes.{Describes};
 
 use crate::fault::RunFault;
@@ -25,6 +25,7 @@ fn advance<B: Bus>(bus: &mut B, writer: &mut Writer) -> Option<Happening>
     ensures described { IfSome result (λ happening. (start : Start) (past : List Happening) → Describes start past writer.old → Describes start (happening ∷ past) writer.new) }
     ensures moves { IfSome result (λ happening. MovesBy B.step bus.old happening bus.new) }
     ensures work { IfSome result (λ happening. IsWork happening) }
+    ensures proper { IfSome result (λ happening. SendsProper happening) }
     ensures busy { (start : Start) (past : List Happening) → Describes start past writer.old → is_busy start past ≡ is_some result }
     ensures writer { IsNone result → writer.new ≡ writer.old }
     ensures bus { IsNone result → bus.new ≡ bus.old }
@@ -79,6 +80,7 @@ fn serve<B: Bus>(
         → Part start event.now (reverse trace.old.items) (reverse trace.new.items)) }
     ensures err { OnErr result (trace.new.items ≡ trace.old.items) }
     ensures fault { IfErr result (λ fault. fault ≡ faults.NoMemory) }
+    ensures proper { SendsAllProper (reverse trace.old.items) → SendsAllProper (reverse trace.new.items) }
     ensures leads { (first : B) → Chain (MovesBy B.step) first (reverse trace.old.items) bus.old → Chain (MovesBy B.step) first (reverse trace.new.items) bus.new }
 {
     trace.reserve(2)?;
@@ -137,6 +139,7 @@ pub fn run<B: Bus>(
     ensures journal { IfOk result (λ outcome. outcome.journal.items ≡ journal_spelling (records_of (fresh limit) (reverse outcome.trace.items))) }
     ensures right { IfOk result (λ outcome. LeadsRight B.world B.step limit bus.old (reverse outcome.trace.items) bus.new) }
     ensures taken { IfOk result (λ outcome. begun_orders (records_of (fresh limit) (reverse outcome.trace.items)) ≡ taken_orders (reverse outcome.trace.items)) }
+    ensures proper { IfOk result (λ outcome. SendsAllProper (reverse outcome.trace.items)) }
     ensures limited { OnOk result (IsLimit limit) }
     ensures limit { (result ≡ Err faults.Limit) ↔ (¬ IsLimit limit) }
     ensures untouched { result ≡ Err faults.Limit → bus.new ≡ bus.old }

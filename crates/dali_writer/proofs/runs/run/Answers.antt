@@ -31,6 +31,7 @@ pub loop-event-init : goal.loop-event-init
 loop-event-init g c = rw c.new-trace.ensures.items (record {
   described = c.new-writer.ensures.described (fresh c.args.limit) (sym c.in-Ok.ensures.ok.0) (sym c.in-Ok.ensures.ok.1);
   parts = refl;
+  proper = tt;
   chain = starts g.B.Bus.world g.B.Bus.step c.args.bus.now;
 })
 
@@ -50,6 +51,7 @@ pub loop-event-preserved : goal.loop-event-preserved
 loop-event-preserved g c = record {
   described = c.serve.ensures.described _ c.loop-event.invariant.described;
   parts = more_parts (fresh c.args.limit) _ _ _ _ _ c.loop-event-test.true c.loop-event.invariant.parts (rw c.event-item.is at (c.in_ok-serve.ensures.part _ c.loop-event.invariant.described));
+  proper = c.serve.ensures.proper c.loop-event.invariant.proper;
   chain = c.serve.ensures.leads _ c.loop-event.invariant.chain;
 }
 

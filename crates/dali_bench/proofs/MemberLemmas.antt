@@ -34,9 +34,9 @@ joined : (a b c : Bool) → (a && (b && c)) ≡ ((a && b) && c)
 joined true b c = refl
 joined false b c = refl
 
-known_more : (es : List Entry) (e : Entry) → list_all is_key (keys_of (members_view (es ++ e ∷ []))) ≡ (list_all is_key (keys_of (members_view es)) && is_key (string_bytes e.0))
-known_more [] e = turned (is_key (string_bytes e.0))
-known_more (x ∷ es) e = ap (λ b. is_key (string_bytes x.0) && b) (known_more es e) ∙ joined (is_key (string_bytes x.0)) _ _
+pub known_more : (is_known : List ℕ → Bool) (es : List Entry) (e : Entry) → list_all is_known (keys_of (members_view (es ++ e ∷ []))) ≡ (list_all is_known (keys_of (members_view es)) && is_known (string_bytes e.0))
+known_more is_known [] e = turned (is_known (string_bytes e.0))
+known_more is_known (x ∷ es) e = ap (λ b. is_known (string_bytes x.0) && b) (known_more is_known es e) ∙ joined (is_known (string_bytes x.0)) _ _
 
 -- one more member is taken
 taken_more : (done : List Entry) (e : Entry) (more : List Entry) (before after : Members) → IsStrictlySortedBy string_cmp (map.keys_of (done ++ e ∷ more))
@@ -45,7 +45,7 @@ taken_more : (done : List Entry) (e : Entry) (more : List Entry) (before after :
     → TakenSoFar (members_view (done ++ e ∷ [])) after
 taken_more done e more before after ordered so_far here others known = record {
   values = λ key. go key (bytes_eq (text_of key) (string_bytes e.0)) refl;
-  known = known ∙ ap (λ b. b && is_key (string_bytes e.0)) so_far.known ∙ sym (known_more done e);
+  known = known ∙ ap (λ b. b && is_key (string_bytes e.0)) so_far.known ∙ sym (known_more is_key done e);
 }
   where
     last : put (string_bytes e.0) (view e.1) (members_view done) ≡ members_view (done ++ e ∷ [])

@@ -8,3 +8,6 @@ pub mod Frames
 pub mod Shows
 pub mod Jobs
 pub mod Members
+pub mod Values
+pub mod Scenario
+pub mod Setup

@@ -11,9 +11,13 @@ mod job;
 mod key;
 mod lines;
 mod members;
+mod refusal;
+mod scenario;
+mod setup;
 mod show;
 #[cfg(test)]
 mod tests;
+mod values;
 
 use crate::check::check;
 use crate::fault::{Fault, Status};

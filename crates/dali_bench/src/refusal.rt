@@ -1,0 +1,61 @@
+ghost use Rattle.std.specs.Prelude.{◌≡◌};
+
+use crate::fault::{Fault, Status};
+use crate::item::ItemFault;
+use dali_gear::GearFault;
+use dali_writer::RunFault;
+use std::alloc::AllocFailed;
+
+/// Why a scenario isn't run (profile).
+#[derive(Clone, Copy, Debug, PartialEq, Eq)]
+pub enum Refusal {
+    /// The file as a whole.
+    Whole(Fault),
+    /// The unit of this number, counted from 1, can't be made.
+    Unit(u64, GearFault),
+    /// The units can't be on one bus.
+    Bus(GearFault),
+    /// The order of the event of this number, counted from 1, is refused.
+    Order(u64, ItemFault),
+    /// The run is refused.
+    Run(RunFault),
+}
+
+impl Refusal {
+    ghost use Rattle.dali_bench.specs.Faults.{refusal_status};
+
+    /// How the program ends at it.
+    pub fn status(&self) -> Status
+        ensures { result ≡ refusal_status self.now }
+    {
+        match self {
+            Refusal::Whole(fault) => fault.status(),
+            Refusal::Unit(_, _) | Refusal::Bus(_) | Refusal::Order(_, _) | Refusal::Run(_) => {
+                Status::Refused
+            }
+        }
+    }
+}
+
+impl From<Fault> for Refusal {
+    ghost use Rattle.std.specs.Prelude.{◌≡◌};
+    ghost use Rattle.dali_bench.specs.declared.refusal.Refusal.TheVariants.{Whole};
+
+    ghost from_gives = { λ fault refusal. refusal ≡ Whole fault };
+
+    fn from(fault: Fault) -> Refusal {
+        Refusal::Whole(fault)
+    }
+}
+
+impl<T: Drop> From<AllocFailed<T>> for Refusal {
+    ghost use Rattle.std.specs.Prelude.{◌≡◌};
+    ghost use Rattle.dali_bench.specs.declared.fault.Fault.TheVariants.{Memory};
+    ghost use Rattle.dali_bench.specs.declared.refusal.Refusal.TheVariants.{Whole};
+
+    ghost from_gives = { λ _ refusal. refusal ≡ Whole Memory };
+
+    fn from(_failed: AllocFailed<T>) -> Refusal {
+        Refusal::Whole(Fault::Memory)
+    }
+}

@@ -1,0 +1,132 @@
+ghost use Rattle.std.specs.Prelude.{◌≡◌, ◌++◌, IfOk, IfErr, OnOk, map, replicate};
+ghost use Rattle.dali_gear.specs.Faults.{IsUnitFault};
+ghost use Rattle.dali_writer.specs.declared.happening.Event.TheVariants as events;
+ghost use Rattle.dali_bench.specs.Scenario.{event_of, planned_of, unit_of};
+ghost use Rattle.dali_bench.specs.Setup.{AreEvents, AreUnits, IsMakeable, IsOrderRefusal, IsRefused, IsReady, IsUnitRefusal, fates_of as expanded, made_unit as made};
+
+use crate::fault::Fault;
+use crate::item::order_of;
+use crate::refusal::Refusal;
+use crate::scenario::{EventPlan, FatePlan, Scenario, UnitPlan};
+use dali_gear::{Fate, GearFault, SimBus, Unit};
+use dali_writer::Event;
+use std::alloc::{AllocError, Global};
+
+/// What a scenario sets up (profile).
+#[derive(Drop)]
+pub struct Setup {
+    /// The units, and the fates of the frames.
+    pub bus: SimBus,
+    pub events: Vec<Event>,
+}
+
+/// The units, the fates and the events of a scenario.
+///
+/// The first that stands: fault 13 TooBig where there are over 20000 events or fates; the fault of
+/// the first unit that can't be made, 1 Address, 2 Size or 3 Fixed; 5 SameAddress where two units are
+/// at one address; the fault of the first order that is refused. 20 Memory where there is no memory.
+pub fn setup_of(alloc: Global, scenario: &Scenario<'_>) -> Result<Setup, Refusal>
+    ensures ok { IfOk result (λ setup. IsReady (planned_of scenario.now) setup.bus.units setup.bus.fates setup.events.items) }
+    ensures err { IfErr result (IsRefused (planned_of scenario.now)) }
+{
+    if !scenario.is_small() {
+        return Err(Refusal::Whole(Fault::TooBig));
+    }
+    let units = units_of(alloc, scenario.units.as_slice())?;
+    let Ok(fates) = fates_of(alloc, scenario.fates.as_slice()) else {
+        return Err(Refusal::Whole(Fault::Memory));
+    };
+    let bus = match SimBus::new(units, fates) {
+        Ok(bus) => bus,
+        Err(fault) => return Err(Refusal::Bus(fault)),
+    };
+    let events = events_of(alloc, scenario.events.as_slice())?;
+    Ok(Setup { bus, events })
+}
+
+// The units, in their order.
+fn units_of(alloc: Global, plans: &[UnitPlan]) -> Result<Vec<Unit>, Refusal>
+    ensures ok { IfOk result (λ units. AreUnits (map unit_of plans.now) units.items) }
+    ensures err { IfErr result (IsUnitRefusal (map unit_of plans.now)) }
+{
+    let mut units = Vec::new(alloc);
+    for plan in plans {
+        match made_unit(alloc, plan) {
+            Ok(unit) => units.push(unit)?,
+            Err(GearFault::NoMemory) => return Err(Refusal::Whole(Fault::Memory)),
+            Err(fault) => return Err(Refusal::Unit(units.len() as u64 + 1, fault)),
+        }
+    }
+    Ok(units)
+}
+
+// A unit, with its registers.
+fn made_unit(alloc: Global, plan: &UnitPlan) -> Result<Unit, GearFault>
+    ensures ok { IfOk result (λ unit. IsMakeable (unit_of plan.now) × (unit ≡ made (unit_of plan.now))) }
+    ensures err { IfErr result (IsUnitFault plan.now.address plan.now.bank.items plan.now.fixed.items) }
+{
+    let (bank, fixed) = (plan.bank.as_slice(), plan.fixed.as_slice());
+    match Unit::with_bank1(alloc, plan.address, bank, fixed) {
+        Ok(mut unit) => {
+            let (dtr0, dtr1, dtr2) = plan.dtrs;
+            unit.set_dtrs(dtr0, dtr1, dtr2);
+            Ok(unit)
+        }
+        Err(fault) => Err(fault),
+    }
+}
+
+// The fates of the frames, each as often as it stands for.
+fn fates_of(alloc: Global, plans: &[FatePlan]) -> Result<Vec<Fate>, AllocError>
+    ensures { IfOk result (λ fates. fates.items ≡ expanded plans.now) }
+{
+    let mut fates = Vec::new(alloc);
+    for plan in plans {
+        push_fates(&mut fates, plan.fate, plan.times)?;
+    }
+    Ok(fates)
+}
+
+// Puts a fate at the end, so many times.
+fn push_fates(fates: &mut Vec<Fate>, fate: Fate, times: u32) -> Result<(), AllocError>
+    ensures { OnOk result (fates.new.items ≡ fates.old.items ++ replicate times fate) }
+{
+    for _ in 0..times {
+        fates.push(fate)?;
+    }
+    Ok(())
+}
+
+// The events.
+fn events_of(alloc: Global, plans: &[EventPlan<'_>]) -> Result<Vec<Event>, Refusal>
+    ensures ok { IfOk result (λ events. AreEvents (map event_of plans.now) events.items) }
+    ensures err { IfErr result (IsOrderRefusal (map event_of plans.now)) }
+{
+    let mut events = Vec::new(alloc);
+    let mut number: u64 = 0;
+    for plan in plans {
+        number += 1;
+        match plan {
+            EventPlan::Submit(source) => match order_of(source) {
+                Ok(order) => events.push(Event::Submit(order))?,
+                Err(fault) => return Err(Refusal::Order(number, fault)),
+            },
+            EventPlan::Steps(count) => {
+                if push_steps(&mut events, *count).is_err() {
+                    return Err(Refusal::Whole(Fault::Memory));
+                }
+            }
+        }
+    }
+    Ok(events)
+}
+
+// Puts so many steps at the end.
+fn push_steps(events: &mut Vec<Event>, count: u32) -> Result<(), AllocError>
+    ensures { OnOk result (events.new.items ≡ events.old.items ++ replicate count events.Step) }
+{
+    for _ in 0..count {
+        events.push(Event::Step)?;
+    }
+    Ok(())
+}

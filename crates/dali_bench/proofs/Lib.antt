@@ -6,3 +6,4 @@ pub mod ItemLemmas
 pub mod ReportLemmas
 pub mod MemberLemmas
 pub mod ValueLemmas
+pub mod SetupLemmas

@@ -15,7 +15,7 @@ fourteen_padded n =
     let padding : 14 - length (decimal n) - 0 - 0 ≡ 14 - length (decimal n) = omega arith in
     ap (λ k. replicate k 48 ++ (decimal n ++ [])) padding ∙ ap (λ t. replicate (14 - length (decimal n)) 48 ++ t) (append-nil (decimal n))
 
-all_one_more : {X : Type 0} (P : X → Type 0) (xs : List X) (x : X) → AllByRecursion P xs → P x → AllByRecursion P (xs ++ x ∷ [])
+pub all_one_more : {X : Type 0} (P : X → Type 0) (xs : List X) (x : X) → AllByRecursion P xs → P x → AllByRecursion P (xs ++ x ∷ [])
 all_one_more P [] x all holds = (holds, tt)
 all_one_more P (y ∷ xs) x all holds = (all.0, all_one_more P xs x all.1 holds)
 

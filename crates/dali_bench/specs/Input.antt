@@ -1,8 +1,10 @@
 -- What a command reads.
-use Rattle.std.specs.Prelude.{◌≡◌, ◌+◌, ◌≤◌, ℕ, List, ◌++◌, Option, Some, None, length, IsUtf8}
+use Rattle.std.specs.Prelude.{◌≡◌, ◌+◌, ◌<◌, ◌≤◌, ℕ, List, ◌++◌, Option, Some, None, length, IsUtf8, ⊤}
 use Rattle.std.specs.Io.KnownBytes.{Consumes, IsAtEnd}
 use Rattle.serde_json.specs.Data.{Data}
 use Rattle.serde_json.specs.Read.{read}
+use Rattle.dali_bench.specs.declared.fault.Fault.{Fault}
+use Rattle.dali_bench.specs.declared.fault.Fault.TheVariants.{Json, Document, TooBig, Hex, Memory, File}
 
 -- at most one byte past the limit is read
 pub record ReadsAtMost (limit : ℕ) (before after : Option (List ℕ)) : Type 0 where
@@ -20,6 +22,19 @@ pub record ReadsInput (limit : ℕ) (before after : Option (List ℕ)) (input : 
 abbrev pub IsReading : List ℕ → Option Data → Type 0
 IsReading input (Some value) = IsUtf8 input × (read input ≡ Some value)
 IsReading input None = IsUtf8 input → read input ≡ None
+
+-- the JSON of an input of at most so many bytes
+abbrev pub IsJson : ℕ → List ℕ → Data → Type 0
+IsJson limit input json = (length input ≤ limit) × IsReading input (Some json)
+
+-- why an input has no JSON; want of memory may come at any input
+abbrev pub IsNoJson : ℕ → List ℕ → Fault → Type 0
+IsNoJson limit input TooBig = limit < length input
+IsNoJson limit input Json = (length input ≤ limit) × IsReading input None
+IsNoJson limit input Memory = ⊤
+IsNoJson limit input Document = ⊥
+IsNoJson limit input Hex = ⊥
+IsNoJson limit input File = ⊥
 
 -- some bytes more are read, at most so many, and stand behind the old ones
 pub record ReadsMore (most : ℕ) (before after : Option (List ℕ)) (old new : List ℕ) : Type 0 where

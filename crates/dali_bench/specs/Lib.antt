@@ -11,3 +11,5 @@ pub mod Members
 pub mod Values
 pub mod Scenario
 pub mod Setup
+pub mod RunText
+pub mod Outcomes

@@ -9,7 +9,7 @@ use Rattle.dali_bench.specs.declared.fault.Fault.TheVariants.{Json, Document, To
 use Rattle.dali_bench.specs.declared.fault.Status.{Status}
 use Rattle.dali_bench.specs.declared.fault.Status.TheVariants.{Good, Refused, Failed}
 use Rattle.dali_bench.specs.Faults.{fault_line, status_of}
-use Rattle.dali_bench.specs.Input.{IsReading, ReadsInput}
+use Rattle.dali_bench.specs.Input.{IsJson, IsNoJson, ReadsInput}
 use Rattle.dali_bench.specs.Items.{Judges}
 use Rattle.dali_bench.specs.Lines.{item_lines}
 
@@ -48,16 +48,12 @@ report_status outcomes = if refused_count outcomes == 0 then Good else Refused
 
 -- the items of an input of at most so many bytes
 abbrev pub AreItems : ℕ → List ℕ → Items → Type 0
-AreItems limit input items = (length input ≤ limit) × ((json : Data) × IsReading input (Some json) × (as_array json ≡ Some items))
+AreItems limit input items = (json : Data) × IsJson limit input json × (as_array json ≡ Some items)
 
 -- why an input has no items; want of memory may come at any input
 abbrev pub IsInputFault : ℕ → List ℕ → Fault → Type 0
-IsInputFault limit input TooBig = limit < length input
-IsInputFault limit input Json = (length input ≤ limit) × IsReading input None
-IsInputFault limit input Document = (length input ≤ limit) × ((json : Data) × IsReading input (Some json) × (as_array json ≡ None))
-IsInputFault limit input Memory = ⊤
-IsInputFault limit input Hex = ⊥
-IsInputFault limit input File = ⊥
+IsInputFault limit input Document = (json : Data) × IsJson limit input json × (as_array json ≡ None)
+IsInputFault limit input fault = IsNoJson limit input fault
 
 -- the status and the text of an input's items
 pub record IsReport (limit : ℕ) (input : List ℕ) (status : Status) (text : List ℕ) : Type 0 where

@@ -8,7 +8,7 @@ ghost use Rattle.dali_bench.specs.Lines.{item_lines};
 ghost use Rattle.dali_bench.specs.Report.{Outcome, JudgesEach, report, report_status, AreItems, IsInputFault, IsChecked, IsAnswered};
 
 use crate::fault::{Fault, Status};
-use crate::input::read_input;
+use crate::input::{json_of, read_input};
 use crate::item::order_of;
 use crate::lines::{write_failure, write_order, write_refusal, write_tally};
 use serde_json::Value;
@@ -65,19 +65,7 @@ fn items_of(alloc: Global, input: &[u8], limit: u32) -> Result<Vec<Value>, Fault
     ensures ok { IfOk result (λ items. AreItems limit input.now (items_view items.items)) }
     ensures err { IfErr result (IsInputFault limit input.now) }
 {
-    if input.len() > limit as usize {
-        return Err(Fault::TooBig);
-    }
-    let value = match Value::from_slice(alloc, input) {
-        Ok(value) => value,
-        Err(error) => {
-            return Err(if error.is_memory() {
-                Fault::Memory
-            } else {
-                Fault::Json
-            });
-        }
-    };
+    let value = json_of(alloc, input, limit)?;
     match value {
         Value::Array(items) => Ok(items),
         _other => Err(Fault::Document),

@@ -1,9 +1,11 @@
 ghost use Rattle.std.specs.Prelude.{◌≡◌, ◌<◌, false, IfOk, IfErr, length};
 ghost use Rattle.std.specs.Io.KnownBytes.{IsAtEnd, Keeps};
+ghost use Rattle.serde_json.specs.View.{view};
 ghost use Rattle.dali_bench.specs.Faults.{status_of};
-ghost use Rattle.dali_bench.specs.Input.{ReadsInput, ReadsAtMost, ReadsMore};
+ghost use Rattle.dali_bench.specs.Input.{IsJson, IsNoJson, ReadsInput, ReadsAtMost, ReadsMore};
 
 use crate::fault::{Fault, Status};
+use serde_json::Value;
 use std::alloc::Global;
 use std::io::{ErrorKind, Read};
 
@@ -53,5 +55,26 @@ fn read_more<R: Read>(reader: &mut R, input: &mut Vec<u8>, chunk: &mut [u8]) -> 
             ErrorKind::OutOfMemory => Err(Fault::Memory),
             _ => Err(Fault::File),
         },
+    }
+}
+
+/// The JSON value of an input.
+///
+/// Fault 13 TooBig where the input has more bytes than the limit, 11 Json where they are no JSON, 20
+/// Memory where there is no memory.
+pub fn json_of(alloc: Global, input: &[u8], limit: u32) -> Result<Value, Fault>
+    ensures ok { IfOk result (λ json. IsJson limit input.now (view json)) }
+    ensures err { IfErr result (IsNoJson limit input.now) }
+{
+    if input.len() > limit as usize {
+        return Err(Fault::TooBig);
+    }
+    match Value::from_slice(alloc, input) {
+        Ok(json) => Ok(json),
+        Err(error) => Err(if error.is_memory() {
+            Fault::Memory
+        } else {
+            Fault::Json
+        }),
     }
 }

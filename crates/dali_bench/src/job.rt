@@ -1,7 +1,9 @@
 ghost use Rattle.std.specs.Prelude.{◌≡◌, ◌⊎◌, List, ℕ, IfOk, IfErr, IfSome, IfNone, false, map};
 ghost use Rattle.clap.specs.declared.builder.command.Command.TheViews.{out-Command as fields_of};
+ghost use Rattle.std.specs.Bool.{Decides};
 ghost use Rattle.clap.specs.Words.{HasKind, app_of, fault_of, subcommand_rows_of};
-ghost use Rattle.dali_bench.specs.Jobs.{HasValue, IsJobOf, NamesNoJob, bench_app, command_app};
+ghost use Rattle.dali_bench.specs.Jobs.{HasFlag, HasValue, IsJobOf, NamesNoJob, bench_app};
+ghost use Rattle.dali_bench.specs.Jobs.{command_app, run_app};
 
 use clap::error::ErrorKind;
 use clap::{Arg, ArgAction, ArgMatches, Command, Error};
@@ -12,6 +14,12 @@ use std::alloc::{AllocError, Global};
 pub enum Job<'a> {
     /// To check a file of orders.
     Check(&'a str),
+    /// To run the events of a scenario file on simulated units; with `single_frames`, each frame
+    /// has a line of its own.
+    Run {
+        scenario: &'a str,
+        single_frames: bool,
+    },
     /// To print what the word of a forward frame means.
     Frame(&'a str),
     /// To print what the bytes of a memory bank say.
@@ -32,6 +40,22 @@ or no 16 hexadecimal digits), 7 Voltage (minimum over maximum), 8 Empty (no fiel
 Faults of the file: 11 Json, 12 Document (no array), 13 TooBig (over 16777216 bytes),
 20 Memory, 21 File (can't be opened or read).
 Exit status: 0 all accepted, 1 something refused, 2 a file, the memory or the output failed.";
+
+const RUN_ABOUT: &str = "Runs the events of a scenario on simulated units and prints what happened";
+
+const SCENARIO_HELP: &str =
+    "A JSON object of limit, units, fates and events; /dev/stdin for standard input";
+
+const FRAMES_HELP: &str = "Prints a line for each frame, with its answer";
+
+const RUN_FAULTS: &str = "\
+Faults of the file: 11 Json, 12 Document (of another form), 13 TooBig (over 16777216 bytes,
+20000 events or 20000 fates), 20 Memory, 21 File (can't be opened or read).
+Faults of a unit: 1 Address (over 63), 2 Size (not 17 to 255 bytes, or 00h isn't the last location),
+3 Fixed (locations that don't rise, below 03h or past the last);
+of the units together: 5 SameAddress.
+Faults of a submitted order: as of `check`. Fault of the run: 1 Limit (0 or over 100000).
+Exit status: 0 it ran, 1 something refused, 2 a file, the memory or the output failed.";
 
 const FRAME_ABOUT: &str = "Prints what the word of a forward frame means";
 
@@ -67,6 +91,13 @@ pub fn job_of<'a>(alloc: Global, words: &'a [&'a str]) -> Result<Job<'a>, Error>
     if let Some(orders) = value_of(&matches, "check", "ORDERS") {
         return Ok(Job::Check(orders));
     }
+    if let Some(scenario) = value_of(&matches, "run", "SCENARIO") {
+        let single_frames = has_flag(&matches, "run", "frames");
+        return Ok(Job::Run {
+            scenario,
+            single_frames,
+        });
+    }
     if let Some(digits) = value_of(&matches, "frame", "HEX") {
         return Ok(Job::Frame(digits));
     }
@@ -87,16 +118,28 @@ fn value_of<'a>(matches: &ArgMatches<'a>, command: &str, id: &str) -> Option<&'a
     }
 }
 
+// Whether a parse entered the command with its flag.
+fn has_flag(matches: &ArgMatches<'_>, command: &str, id: &str) -> bool
+    ensures { Decides result (HasFlag (subcommand_rows_of matches.now) command.now id.now) }
+{
+    match matches.subcommand_matches(command) {
+        Some(found) => found.get_one(id) == Some(true),
+        None => false,
+    }
+}
+
 // The program's commands.
 fn bench_command<'a>(alloc: Global) -> Result<Command<'a>, AllocError>
     ensures { IfOk result (λ command. app_of command ≡ bench_app) }
 {
     let check = command_with(alloc, "check", "ORDERS", ORDERS_HELP)?;
+    let run = run_command(alloc)?;
     let frame = command_with(alloc, "frame", "HEX", HEX_HELP)?;
     let show = command_with(alloc, "show", "HEXFILE", HEXFILE_HELP)?;
     let top = Command::new(alloc, "dali_bench").subcommand_required(true);
     let checks = top.subcommand(check.about(CHECK_ABOUT).after_help(CHECK_FAULTS))?;
-    let frames = checks.subcommand(frame.about(FRAME_ABOUT).after_help(FRAME_FAULTS))?;
+    let runs = checks.subcommand(run.about(RUN_ABOUT).after_help(RUN_FAULTS))?;
+    let frames = runs.subcommand(frame.about(FRAME_ABOUT).after_help(FRAME_FAULTS))?;
     let shows = frames.subcommand(show.about(SHOW_ABOUT).after_help(SHOW_FAULTS))?;
     Ok(shows.about(ABOUT))
 }
@@ -116,6 +159,18 @@ fn command_with<'a>(
         .required(true)
         .action(ArgAction::Set);
     Command::new(alloc, name).arg(argument)
+}
+
+// The command that runs a scenario, with its flag.
+fn run_command<'a>(alloc: Global) -> Result<Command<'a>, AllocError>
+    ensures app { IfOk result (λ command. app_of command ≡ run_app) }
+    ensures local { IfOk result (λ command. (fields_of command).has_globals ≡ false) }
+{
+    let frames = Arg::new(alloc, "frames")
+        .long("frames")
+        .help(FRAMES_HELP)
+        .action(ArgAction::SetTrue);
+    command_with(alloc, "run", "SCENARIO", SCENARIO_HELP)?.arg(frames)
 }
 
 // The error of a command line that names no job.

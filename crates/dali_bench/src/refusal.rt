@@ -4,7 +4,7 @@ use crate::fault::{Fault, Status};
 use crate::item::ItemFault;
 use dali_gear::GearFault;
 use dali_writer::RunFault;
-use std::alloc::AllocFailed;
+use std::alloc::{AllocError, AllocFailed};
 
 /// Why a scenario isn't run (profile).
 #[derive(Clone, Copy, Debug, PartialEq, Eq)]
@@ -45,6 +45,18 @@ impl From<Fault> for Refusal {
 
     fn from(fault: Fault) -> Refusal {
         Refusal::Whole(fault)
+    }
+}
+
+impl From<AllocError> for Refusal {
+    ghost use Rattle.std.specs.Prelude.{◌≡◌};
+    ghost use Rattle.dali_bench.specs.declared.fault.Fault.TheVariants.{Memory};
+    ghost use Rattle.dali_bench.specs.declared.refusal.Refusal.TheVariants.{Whole};
+
+    ghost from_gives = { λ _ refusal. refusal ≡ Whole Memory };
+
+    fn from(_error: AllocError) -> Refusal {
+        Refusal::Whole(Fault::Memory)
     }
 }
 

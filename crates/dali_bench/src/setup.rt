@@ -1,8 +1,8 @@
-ghost use Rattle.std.specs.Prelude.{◌≡◌, ◌++◌, IfOk, IfErr, OnOk, map, replicate};
+ghost use Rattle.std.specs.Prelude.{◌≡◌, ◌≢◌, ◌++◌, List, IfOk, IfErr, OnOk, map, replicate};
 ghost use Rattle.dali_gear.specs.Faults.{IsUnitFault};
-ghost use Rattle.dali_writer.specs.declared.happening.Event.TheVariants as events;
-ghost use Rattle.dali_bench.specs.Scenario.{event_of, planned_of, unit_of};
-ghost use Rattle.dali_bench.specs.Setup.{AreEvents, AreUnits, IsMakeable, IsOrderRefusal, IsRefused, IsReady, IsUnitRefusal, fates_of as expanded, made_unit as made};
+ghost use Rattle.dali_writer.specs.declared.happening.Event.TheVariants.{Step};
+ghost use Rattle.dali_bench.specs.Scenario.{PlannedUnit, event_of, planned_of, unit_of};
+ghost use Rattle.dali_bench.specs.Setup.{AreEvents, AreUnits, IsFirstUnitFault, IsMakeable, IsOrderRefusal, IsRefused, IsReady, IsUnitRefusal, fates_of as expanded, made_unit as made};
 
 use crate::fault::Fault;
 use crate::item::order_of;
@@ -33,9 +33,7 @@ pub fn setup_of(alloc: Global, scenario: &Scenario<'_>) -> Result<Setup, Refusal
         return Err(Refusal::Whole(Fault::TooBig));
     }
     let units = units_of(alloc, scenario.units.as_slice())?;
-    let Ok(fates) = fates_of(alloc, scenario.fates.as_slice()) else {
-        return Err(Refusal::Whole(Fault::Memory));
-    };
+    let fates = fates_of(alloc, scenario.fates.as_slice())?;
     let bus = match SimBus::new(units, fates) {
         Ok(bus) => bus,
         Err(fault) => return Err(Refusal::Bus(fault)),
@@ -50,14 +48,25 @@ fn units_of(alloc: Global, plans: &[UnitPlan]) -> Result<Vec<Unit>, Refusal>
     ensures err { IfErr result (IsUnitRefusal (map unit_of plans.now)) }
 {
     let mut units = Vec::new(alloc);
+    let mut number: u64 = 0;
     for plan in plans {
+        number += 1;
         match made_unit(alloc, plan) {
             Ok(unit) => units.push(unit)?,
-            Err(GearFault::NoMemory) => return Err(Refusal::Whole(Fault::Memory)),
-            Err(fault) => return Err(Refusal::Unit(units.len() as u64 + 1, fault)),
+            Err(fault) => return Err(unit_refusal(number, fault)),
         }
     }
     Ok(units)
+}
+
+// The refusal for the fault of a unit.
+fn unit_refusal(number: u64, fault: GearFault) -> Refusal
+    ensures { (planned : List PlannedUnit) → (fault ≢ GearFault.NoMemory → IsFirstUnitFault planned number fault) → IsUnitRefusal planned result }
+{
+    match fault {
+        GearFault::NoMemory => Refusal::Whole(Fault::Memory),
+        _ => Refusal::Unit(number, fault),
+    }
 }
 
 // A unit, with its registers.
@@ -111,11 +120,7 @@ fn events_of(alloc: Global, plans: &[EventPlan<'_>]) -> Result<Vec<Event>, Refus
                 Ok(order) => events.push(Event::Submit(order))?,
                 Err(fault) => return Err(Refusal::Order(number, fault)),
             },
-            EventPlan::Steps(count) => {
-                if push_steps(&mut events, *count).is_err() {
-                    return Err(Refusal::Whole(Fault::Memory));
-                }
-            }
+            EventPlan::Steps(count) => push_steps(&mut events, *count)?,
         }
     }
     Ok(events)
@@ -123,7 +128,7 @@ fn events_of(alloc: Global, plans: &[EventPlan<'_>]) -> Result<Vec<Event>, Refus
 
 // Puts so many steps at the end.
 fn push_steps(events: &mut Vec<Event>, count: u32) -> Result<(), AllocError>
-    ensures { OnOk result (events.new.items ≡ events.old.items ++ replicate count events.Step) }
+    ensures { OnOk result (events.new.items ≡ events.old.items ++ replicate count Step) }
 {
     for _ in 0..count {
         events.push(Event::Step)?;

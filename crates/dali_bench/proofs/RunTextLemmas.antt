@@ -1,5 +1,5 @@
 -- Lemmas on what `run` prints.
-use Rattle.std.proofs.Common.{◌≡◌, ◌==◌, ◌<◌, ◌≤◌, ◌+◌, ◌∙◌, ℕ, zero, suc, List, [], ◌∷◌, ◌++◌, Option, Bool, true, false, length, drop, take, get_or, reverse, append_assoc, append-nil, drop-cons, ap, sym, subst, refl, rules, arith, add-one, drop_of_length-le}
+use Rattle.std.proofs.Common.{◌≡◌, ◌<◌, ◌≤◌, ◌+◌, ◌∙◌, ℕ, zero, suc, List, [], ◌∷◌, ◌++◌, Option, true, false, length, drop, take, get_or, reverse, append_assoc, append-nil, drop-cons, ap, sym, subst, refl, rules, arith, add-one, drop_of_length-le}
 use Rattle.std.specs.List.{AllByRecursion, flat_map, range_with_len}
 use Rattle.std.specs.Io.KnownBytes.{Appends}
 use Rattle.std.proofs.lemmas.List.{flat_map_more, reverse-append, take_more}
@@ -114,7 +114,7 @@ pub summed : (trace : List Happening) (i frames : ℕ) (before mid now : Option 
     → Appends before now (summary false trace)
 summed trace i frames before mid now all s run =
     let whole : s.text ++ run_line frames ≡ summary false trace =
-        ap (λ t. s.text ++ t) (sym (left_nothing frames)) ∙ ap (λ r. s.text ++ left_text frames r) (sym (drop_of_length-le trace all)) ∙ s.whole in
+    ap (λ t. s.text ++ t) (sym (left_nothing frames)) ∙ ap (λ r. s.text ++ left_text frames r) (sym (drop_of_length-le trace all)) ∙ s.whole in
     subst (λ t. Appends before now t) whole (appends_both before mid now s.text (run_line frames) s.appended run)
 
 pub not_sent : (happening : Happening) → ((frame : Frame) (answer : Option ℕ) → ¬ (happening ≡ Sent frame answer)) → is_sent happening ≡ false
@@ -131,6 +131,6 @@ pub units_more : (units : List UnitState) (i : ℕ) (unit : UnitState) (before m
     → Appends before mid (flat_map unit_text (take i units)) → Appends mid now (unit_text unit) → Appends before now (flat_map unit_text (take (i + 1) units))
 units_more units i unit before mid now within is told line =
     subst (λ text. Appends before now text)
-        (ap (λ u. flat_map unit_text (take i units) ++ unit_text u) is ∙ flat_map_more unit_text [] (take i units) (get_or units i unit)
-          ∙ ap (λ us. flat_map unit_text us) (sym (take_more units i unit within)))
-        (appends_both before mid now (flat_map unit_text (take i units)) (unit_text unit) told line)
+    (ap (λ u. flat_map unit_text (take i units) ++ unit_text u) is ∙ flat_map_more unit_text [] (take i units) (get_or units i unit)
+    ∙ ap (λ us. flat_map unit_text us) (sym (take_more units i unit within)))
+    (appends_both before mid now (flat_map unit_text (take i units)) (unit_text unit) told line)

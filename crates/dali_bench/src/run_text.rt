@@ -12,9 +12,8 @@ use dali_frame::{Frame, word_of};
 use dali_gear::Unit;
 use dali_journal::Record;
 use dali_writer::{Happening, Outcome};
-use std::fmt;
-use std::io;
 use std::io::Write;
+use std::{fmt, io};
 
 /// A record of the journal as a program tells it, without a line feed (profile): its letter, and
 /// then for `Began` (B) the order's number, its unit and the number of its updates, for `Opened` (O)
@@ -72,11 +71,7 @@ pub fn write_outcome<W: Write>(
 
 // Writes a trace.
 #[tactic(auto, using(crate::proofs::RunTextLemmas::proper_forward))]
-fn write_trace<W: Write>(
-    writer: &mut W,
-    single_frames: bool,
-    trace: &[Happening],
-) -> io::Result<()>
+fn write_trace<W: Write>(writer: &mut W, single_frames: bool, trace: &[Happening]) -> io::Result<()>
     requires { SendsAllProper (reverse trace.now) }
     ensures { OnOk result (Appends (W.contents writer.old) (W.contents writer.new) (trace_text single_frames trace.now)) }
 {

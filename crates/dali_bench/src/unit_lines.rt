@@ -33,7 +33,10 @@ fn write_registers<W: Write>(writer: &mut W, unit: &Unit) -> io::Result<()>
     let (dtr0, dtr1, dtr2) = unit.dtrs();
     let (dtr0, dtr1, dtr2) = (ByteDigits(dtr0), ByteDigits(dtr1), ByteDigits(dtr2));
     let enabled = yes_or_no(unit.is_enabled());
-    writeln!(writer, "unit {address} dtr {dtr0} {dtr1} {dtr2} enabled {enabled}")
+    writeln!(
+        writer,
+        "unit {address} dtr {dtr0} {dtr1} {dtr2} enabled {enabled}"
+    )
 }
 
 // A word that says whether.

@@ -219,15 +219,21 @@ bank 10 00 21FFFFFFFFFFFFFFFFFFFFFFFFFFFFFF
 bank 10 20 FF0C
 ";
 
+// A text, and then that of the units.
+fn before_units(alloc: Global, told: &str) -> Result<Vec<u8>, AllocError> {
+    let mut text = told.as_bytes().to_vec(alloc)?;
+    text.extend_from_slice(UNITS_TOLD.as_bytes())?;
+    Ok(text)
+}
+
 #[test]
 fn units_and_their_lines(rt: HostRuntime) -> Result<(), Fail> {
     let outcome = outcome_of(rt.alloc(), &[], &[])?;
     let units = units(rt.alloc())?;
     let mut written = Vec::new(rt.alloc());
     write_outcome(&mut written, false, &outcome, &units)?;
-    let (head, rest) = written.split_at("total 0\njournal 0\n".len());
-    assert_eq!(rt; head, "total 0\njournal 0\n".as_bytes());
-    assert_eq!(rt; rest, UNITS_TOLD.as_bytes());
+    let text = before_units(rt.alloc(), "total 0\njournal 0\n")?;
+    assert_eq!(rt; written.as_slice(), text.as_slice());
     Ok(())
 }
 
@@ -236,8 +242,7 @@ fn a_writer_that_fails_in_mid_text(rt: HostRuntime) -> Result<(), Fail> {
     let outcome = outcome_of(rt.alloc(), &RUNS, &[0; 27])?;
     let units = units(rt.alloc())?;
     for (single_frames, told) in [(false, RUNS_TOLD), (true, FRAMES_TOLD)] {
-        let mut text = told.as_bytes().to_vec(rt.alloc())?;
-        text.extend_from_slice(UNITS_TOLD.as_bytes())?;
+        let text = before_units(rt.alloc(), told)?;
         for room in 0..text.len() {
             let mut writer = FullWriter {
                 held: Vec::new(rt.alloc()),

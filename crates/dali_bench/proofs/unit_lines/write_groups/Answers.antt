@@ -8,7 +8,7 @@ use Rattle.dali_bench.proofs.unit_lines.write_groups.Goals as goal
 pub loop-number-preserved : goal.loop-number-preserved
 loop-number-preserved g c =
     subst (λ text. Appends (g.W.Write.contents c.args.writer.now) (g.W.Write.contents c.write_group.new.writer) text) (groups_more c.args.address c.args.bytes.now c.loop-number.number)
-        (appends_both _ _ _ _ _ c.loop-number.invariant c.in_ok-write_group.ensures)
+    (appends_both _ _ _ _ _ c.loop-number.invariant c.in_ok-write_group.ensures)
 
 pub returns : goal.returns
 unfolding bank_lines

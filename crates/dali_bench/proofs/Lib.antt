@@ -7,3 +7,4 @@ pub mod ReportLemmas
 pub mod MemberLemmas
 pub mod ValueLemmas
 pub mod SetupLemmas
+pub mod RunTextLemmas

@@ -1,5 +1,6 @@
 -- Lemmas on what a scenario sets up.
-use Rattle.std.proofs.Common.{◌≡◌, ◌≢◌, ◌<◌, ◌≤◌, ◌+◌, ℕ, zero, suc, List, [], ◌∷◌, ◌++◌, length, get_or, map, take, drop, replicate, append_assoc, append-nil, arith, refl, sym, subst, ap, ◌∙◌}
+use Rattle.std.proofs.Common.{◌≡◌, ◌≢◌, ◌<◌, ◌≤◌, ◌+◌, ℕ, zero, suc, Bool, true, false, Option, Some, None, List, [], ◌∷◌, ◌++◌, length, get_or, map, take, drop, replicate, append_assoc, append-nil, arith, refl, sym, subst, ap, ◌∙◌}
+use Rattle.std.specs.Prelude.{◌==◌, if◌then◌else◌}
 use Rattle.std.proofs.Math.Seq.{split_at}
 use Rattle.std.proofs.lemmas.List.{take_more, map-append, length-map, length-take-le}
 use Rattle.std.specs.List.{AllByRecursion}
@@ -7,8 +8,14 @@ use Rattle.dali_bank.specs.Order.{Contents}
 use Rattle.dali_gear.specs.declared.fault.GearFault.{GearFault}
 use Rattle.dali_gear.specs.declared.fault.GearFault.TheVariants.{NoMemory}
 use Rattle.dali_gear.specs.Faults.{IsUnitFault}
-use Rattle.dali_gear.specs.UnitState.{UnitState}
+use Rattle.dali_gear.specs.declared.fate.Fate.{Fate}
+use Rattle.dali_gear.specs.SimState.{SimState, world_of}
+use Rattle.dali_gear.specs.Unenabled.{NoneEnabled}
+use Rattle.dali_gear.specs.UnitState.{UnitState, gear_of}
+use Rattle.dali_gear.specs.World.{Gear, is_open}
+use Rattle.dali_journal.specs.JournalState.{IsLimit}
 use Rattle.dali_writer.specs.declared.happening.Event.{Event}
+use Rattle.dali_writer.specs.declared.happening.Happening.{Happening}
 use Rattle.dali_writer.specs.declared.happening.Event.TheVariants as events
 use Rattle.serde_json.specs.Data.{Data}
 use Rattle.dali_bench.specs.declared.fault.Fault.TheVariants.{Json, Document, TooBig, Hex, Memory, File}
@@ -19,7 +26,8 @@ use Rattle.dali_bench.specs.declared.refusal.Refusal.{Refusal}
 use Rattle.dali_bench.specs.declared.refusal.Refusal.TheVariants as refusals
 use Rattle.dali_bench.specs.Items.{IsOrderOf, IsFaultOf}
 use Rattle.dali_bench.specs.Scenario.{PlannedUnit, PlannedEvent, submit, steps, Planned, IsSmall, unit_of, event_of}
-use Rattle.dali_bench.specs.Setup.{IsMakeable, made_unit, AreUnits, IsFirstUnitFault, IsUnitRefusal, AreEvents, IsFirstOrderFault, IsOrderRefusal, HasBus, IsRefused}
+use Rattle.dali_bench.specs.Setup.{IsMakeable, made_unit, AreUnits, IsFirstUnitFault, IsUnitRefusal, AreEvents, IsFirstOrderFault, IsOrderRefusal, HasBus, IsReady, IsRefused}
+use Rattle.dali_bench.specs.Outcomes.{IsRan, IsRun}
 use Rattle.dali_bench.proofs.ShowLemmas.{all_one_more}
 
 -- the plans up to one more
@@ -137,3 +145,29 @@ orders_refused planned (refusals.Unit number fault) bus refused = absurd refused
 orders_refused planned (refusals.Bus fault) bus refused = absurd refused
 orders_refused planned (refusals.Order number fault) bus refused = (bus, refused)
 orders_refused planned (refusals.Run fault) bus refused = absurd refused
+
+-- ---- units at first
+
+none_at : (unit : PlannedUnit) (here : Bool) (rest : Option Gear) → is_open rest ≡ false → is_open (if here then Some (gear_of (made_unit unit)) else rest) ≡ false
+none_at unit true rest none = refl
+none_at unit false rest none = none
+
+none_in : (units : List PlannedUnit) (address : ℕ) → is_open (world_of (map made_unit units) address) ≡ false
+none_in [] address = refl
+none_in (unit ∷ units) address = none_at unit (address == unit.address) (world_of (map made_unit units) address) (none_in units address)
+
+-- no new unit is write-enabled
+pub none_enabled : (planned : List PlannedUnit) (units : List UnitState) → AreUnits planned units → NoneEnabled (world_of units)
+none_enabled planned units are = λ address. rw are.made (none_in planned address)
+
+-- a run with the scenario's limit is the scenario's
+pub ran_at : (planned : Planned) (limit : ℕ) (units : List UnitState) (fates : List Fate) (all : List Event) (trace : List Happening) (journal : List ℕ) (last : SimState)
+    → limit ≡ planned.limit → IsReady planned units fates all → IsLimit limit → IsRun limit all (record { units = units; fates = fates }) trace journal last → IsRan planned trace journal last
+ran_at planned limit units fates all trace journal last same ready limited run = record {
+  units = units;
+  fates = fates;
+  all = all;
+  ready = ready;
+  limited = subst IsLimit same limited;
+  run = subst (λ l. IsRun l all (record { units = units; fates = fates }) trace journal last) same run;
+}

@@ -13,7 +13,7 @@ use Rattle.dali_writer.specs.Trace.{records_of}
 use Rattle.dali_writer.specs.Legal.{Legal, IsFinished}
 use Rattle.dali_writer.specs.Parts.{AreParts}
 use Rattle.dali_writer.specs.Taken.{begun_orders, taken_orders}
-use Rattle.dali_writer.specs.Runs.{fresh, LeadsRight}
+use Rattle.dali_writer.specs.Runs.{fresh, LeadsRight, SendsAllProper}
 use Rattle.dali_bench.specs.declared.fault.Fault.{Fault}
 use Rattle.dali_bench.specs.declared.fault.Status.{Status}
 use Rattle.dali_bench.specs.declared.fault.Status.TheVariants.{Good}
@@ -29,10 +29,12 @@ use Rattle.dali_bench.specs.Values.{IsNoReading}
 
 -- A run of these events from the first state of the units and fates to the last, with its trace, the oldest happening first, and the journal's bytes.
 pub record IsRun (limit : ℕ) (all : List Event) (first : SimState) (trace : List Happening) (journal : List ℕ) (last : SimState) : Type 0 where
-  -- each happening was one that might follow those before it,
+  -- each happening was one that might follow those before it, the last one too is no order without its reply, and
+  -- each frame is one that some word spells
   pub legal : Legal (fresh limit) (reverse trace)
   pub finished : IsFinished (reverse trace)
-  -- and the trace is the joined parts of the events
+  pub proper : SendsAllProper (reverse trace)
+  -- the trace is the joined parts of the events
   pub parts : AreParts (fresh limit) (reverse all) (reverse trace)
   -- the journal's bytes are those of the records that were kept, and its orders are the taken ones
   pub journal_is : journal ≡ journal_spelling (records_of (fresh limit) (reverse trace))
@@ -41,21 +43,33 @@ pub record IsRun (limit : ℕ) (all : List Event) (first : SimState) (trace : Li
   pub leads : LeadsRight (λ (state : SimState). world_of state.units) SimStep limit first (reverse trace) last
   pub unenabled : NoneEnabled (world_of first.units)
 
--- the status and the text of a scenario that was run
-pub record IsRunReport (limit : ℕ) (single_frames : Bool) (input : List ℕ) (status : Status) (text : List ℕ) : Type 0 where
-  pub json : Data
-  pub planned : Planned
+-- a scenario was run: from its units and fates this trace and journal came, and the bus stands so after it
+pub record IsRan (planned : Planned) (trace : List Happening) (journal : List ℕ) (last : SimState) : Type 0 where
   pub units : List UnitState
   pub fates : List Fate
   pub all : List Event
-  pub trace : List Happening
-  pub journal : List ℕ
-  pub last : SimState
-  pub read : IsJson limit input json
-  pub scenario : IsScenario json planned
   pub ready : IsReady planned units fates all
   pub limited : IsLimit planned.limit
   pub run : IsRun planned.limit all (record { units = units; fates = fates }) trace journal last
+
+-- and so was that of a JSON value
+pub record IsRanOf (json : Data) (trace : List Happening) (journal : List ℕ) (last : SimState) : Type 0 where
+  pub planned : Planned
+  pub scenario : IsScenario json planned
+  pub ran : IsRan planned trace journal last
+
+-- and that of an input
+pub record IsRanFrom (limit : ℕ) (input : List ℕ) (trace : List Happening) (journal : List ℕ) (last : SimState) : Type 0 where
+  pub json : Data
+  pub is_json : IsJson limit input json
+  pub ran : IsRanOf json trace journal last
+
+-- the status and the text of a scenario that was run
+pub record IsRunReport (limit : ℕ) (single_frames : Bool) (input : List ℕ) (status : Status) (text : List ℕ) : Type 0 where
+  pub trace : List Happening
+  pub journal : List ℕ
+  pub last : SimState
+  pub ran : IsRanFrom limit input trace journal last
   pub status_is : status ≡ Good
   pub text_is : text ≡ run_text single_frames trace (length journal) last.units
 

@@ -1,12 +1,13 @@
 ghost use Rattle.std.specs.Prelude.{◌≡◌, ◌≤◌, OnOk, IfOk, Ok, Err, length};
 ghost use Rattle.std.specs.Io.KnownBytes.{Appends};
 ghost use Rattle.std.specs.List.{flat_map};
-ghost use Rattle.dali_bench.specs.Faults.{fault_line, status_of};
+ghost use Rattle.dali_bench.specs.Faults.{fault_line, no_run_line, status_of};
 ghost use Rattle.dali_bench.specs.Lines.{update_line, order_line, item_lines, refusal_line};
 ghost use Rattle.dali_bench.specs.Report.{tally_line};
 
 use crate::fault::{Fault, Status};
 use crate::item::ItemFault;
+use crate::refusal::Refusal;
 use arrayvec::ArrayVec;
 use dali_bank::{MOST_UPDATES, Order};
 use dali_frame::byte_digits;
@@ -31,6 +32,40 @@ pub fn write_failure<W: Write>(writer: &mut W, fault: Fault) -> io::Result<Statu
     write_fault(writer, fault)?;
     writer.flush()?;
     Ok(fault.status())
+}
+
+/// Writes why a scenario isn't run, and nothing after it.
+#[tactic(auto, using(crate::proofs::StreamLemmas::appends_kept))]
+pub fn write_no_run<W: Write>(writer: &mut W, refusal: Refusal) -> io::Result<()>
+    ensures { OnOk result (Appends (W.contents writer.old) (W.contents writer.new) (no_run_line refusal)) }
+{
+    write_refused(writer, refusal)?;
+    writer.flush()
+}
+
+// Writes why a scenario isn't run.
+fn write_refused<W: Write>(writer: &mut W, refusal: Refusal) -> io::Result<()>
+    ensures { OnOk result (Appends (W.contents writer.old) (W.contents writer.new) (no_run_line refusal)) }
+{
+    match refusal {
+        Refusal::Whole(fault) => write_fault(writer, fault),
+        Refusal::Unit(number, fault) => {
+            let fault_number = fault.number();
+            writeln!(writer, "unit {number} fault {fault_number} {fault}")
+        }
+        Refusal::Bus(fault) => {
+            let fault_number = fault.number();
+            writeln!(writer, "gear fault {fault_number} {fault}")
+        }
+        Refusal::Order(number, fault) => {
+            let fault_number = fault.number();
+            writeln!(writer, "event {number} fault {fault_number} {fault}")
+        }
+        Refusal::Run(fault) => {
+            let fault_number = fault.number();
+            writeln!(writer, "run fault {fault_number} {fault}")
+        }
+    }
 }
 
 /// Writes a refused item.

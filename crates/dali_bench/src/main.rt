@@ -12,11 +12,14 @@ mod key;
 mod lines;
 mod members;
 mod refusal;
+mod run_scenario;
+mod run_text;
 mod scenario;
 mod setup;
 mod show;
 #[cfg(test)]
 mod tests;
+mod unit_lines;
 mod values;
 
 use crate::check::check;
@@ -24,6 +27,7 @@ use crate::fault::{Fault, Status};
 use crate::frame::frame;
 use crate::job::{Job, job_of};
 use crate::lines::write_fault;
+use crate::run_scenario::run_scenario;
 use crate::show::show;
 use clap::error::ErrorKind;
 use std::alloc::{AllocError, Global};
@@ -56,7 +60,10 @@ fn run(rt: &HostRuntime, words: &Vec<String>) -> Status {
     };
     match job_of(rt.alloc(), words.as_slice()) {
         Ok(Job::Check(orders)) => check_file(rt, orders),
-        Ok(Job::Run { .. }) => failed(rt, Fault::Memory),
+        Ok(Job::Run {
+            scenario,
+            single_frames,
+        }) => run_file(rt, scenario, single_frames),
         Ok(Job::Frame(digits)) => frame(digits, &mut io::writer(rt)),
         Ok(Job::Show(dump)) => show_file(rt, dump),
         Err(error) if error.kind() == ErrorKind::OutOfMemory => failed(rt, Fault::Memory),
@@ -88,6 +95,20 @@ fn check_file(rt: &HostRuntime, orders: &str) -> Status {
     match fs::open(rt, orders) {
         Ok(mut reader) => check(rt.alloc(), &mut reader, &mut writer),
         Err(cause) => unopened(rt, orders, cause),
+    }
+}
+
+// Runs the scenario of a file, with the same name for standard input.
+fn run_file(rt: &HostRuntime, scenario: &str, single_frames: bool) -> Status {
+    let Ok(mut writer) = BufWriter::new(rt.alloc(), io::writer(rt)) else {
+        return failed(rt, Fault::Memory);
+    };
+    if scenario == "/dev/stdin" {
+        return run_scenario(rt.alloc(), &mut rt.reader(), &mut writer, single_frames);
+    }
+    match fs::open(rt, scenario) {
+        Ok(mut reader) => run_scenario(rt.alloc(), &mut reader, &mut writer, single_frames),
+        Err(cause) => unopened(rt, scenario, cause),
     }
 }
 

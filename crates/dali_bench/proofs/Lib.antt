@@ -5,3 +5,4 @@ pub mod JobLemmas
 pub mod ItemLemmas
 pub mod ReportLemmas
 pub mod MemberLemmas
+pub mod RunTextLemmas

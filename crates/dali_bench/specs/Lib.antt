@@ -8,3 +8,4 @@ pub mod Frames
 pub mod Shows
 pub mod Jobs
 pub mod Members
+pub mod RunText

@@ -11,9 +11,11 @@ mod job;
 mod key;
 mod lines;
 mod members;
+mod run_text;
 mod show;
 #[cfg(test)]
 mod tests;
+mod unit_lines;
 
 use crate::check::check;
 use crate::fault::{Fault, Status};

@@ -239,9 +239,9 @@ fn write_number<W: Write>(writer: &mut W, field: Field, number: u64) -> io::Resu
     }
 }
 
-// Writes the digits of each byte.
+/// Writes the digits of each byte.
 #[tactic(auto, using(crate::proofs::StreamLemmas::appends_both))]
-fn write_bytes<W: Write>(writer: &mut W, bytes: &[u8]) -> io::Result<()>
+pub fn write_bytes<W: Write>(writer: &mut W, bytes: &[u8]) -> io::Result<()>
     ensures { OnOk result (Appends (W.contents writer.old) (W.contents writer.new) (bytes_digits bytes.now)) }
 {
     for &byte in bytes {

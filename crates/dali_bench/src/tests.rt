@@ -1,5 +1,6 @@
 mod check;
 mod frame;
 mod job;
+mod run_text;
 mod show;
 mod streams;

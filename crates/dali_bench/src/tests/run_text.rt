@@ -1,0 +1,298 @@
+ghost use Rattle.std.specs.Prelude.{IfOk, reverse};
+ghost use Rattle.dali_writer.specs.Runs.{SendsAllProper, SendsProper};
+
+use super::streams::FullWriter;
+use crate::run_text::write_outcome;
+use dali_bank::Order;
+use dali_frame::{Frame, frame_of};
+use dali_gear::{SimBus, Unit};
+use dali_journal::{Code, Record};
+use dali_writer::{Event, Happening, Outcome, Reply, run};
+use std::alloc::{AllocError, Global};
+use std::test::Fail;
+
+// The updates of a GTIN, 04006381333931.
+const GTIN: [(u8, u8); 6] = [
+    (0x03, 0x03),
+    (0x04, 0xA4),
+    (0x05, 0xCE),
+    (0x06, 0xEF),
+    (0x07, 0xAD),
+    (0x08, 0xAB),
+];
+
+const LARGEST: u64 = 18446744073709551615;
+
+// What happened. Orders have the updates of the GTIN, and frames are told by their words.
+#[derive(Clone, Copy)]
+enum Told {
+    Asked(u64),
+    Answered(u64, Reply),
+    Sent(u16, Option<u8>),
+    Began(u64, u8),
+    Opened(u8),
+    Ended(Code),
+    Closed(u8),
+    Stopped,
+}
+
+// Where the order can't be made, a stop, which no case expects there.
+fn happening_of(told: Told) -> Happening
+    ensures { SendsProper result }
+{
+    match told {
+        Told::Asked(id) => match Order::from_pairs(id, 5, &GTIN) {
+            Some(order) => Happening::Asked(order),
+            None => Happening::Stopped,
+        },
+        Told::Answered(id, reply) => Happening::Answered(id, reply),
+        Told::Sent(word, answer) => Happening::Sent(frame_of(word), answer),
+        Told::Began(id, unit) => match Order::from_pairs(id, unit, &GTIN) {
+            Some(order) => Happening::Kept(Record::Began(order)),
+            None => Happening::Stopped,
+        },
+        Told::Opened(unit) => Happening::Kept(Record::Opened(unit)),
+        Told::Ended(code) => Happening::Kept(Record::Ended(code)),
+        Told::Closed(unit) => Happening::Kept(Record::Closed(unit)),
+        Told::Stopped => Happening::Stopped,
+    }
+}
+
+fn trace_of(alloc: Global, told: &[Told]) -> Result<Vec<Happening>, AllocError>
+    ensures { IfOk result (λ trace. SendsAllProper (reverse trace.items)) }
+{
+    let mut trace = Vec::new(alloc);
+    for &happening in told {
+        trace.reserve(1)?;
+        trace.push_reserved(happening_of(happening));
+    }
+    Ok(trace)
+}
+
+fn outcome_of(alloc: Global, told: &[Told], journal: &[u8]) -> Result<Outcome, AllocError>
+    ensures { IfOk result (λ outcome. SendsAllProper (reverse outcome.trace.items)) }
+{
+    Ok(Outcome {
+        journal: journal.to_vec(alloc)?,
+        trace: trace_of(alloc, told)?,
+    })
+}
+
+// Three runs of frames: a record ends the first, a reply the second, and the trace the third.
+const RUNS: [Told; 11] = [
+    Told::Asked(1),
+    Told::Answered(1, Reply::Taken),
+    Told::Began(1, 5),
+    Told::Sent(0x0B98, None),
+    Told::Sent(0x00FE, None),
+    Told::Sent(0x0BC5, Some(0x77)),
+    Told::Opened(5),
+    Told::Sent(0xA30A, None),
+    Told::Answered(1, Reply::Kept(Code::DoubtOpen)),
+    Told::Sent(0xC70F, Some(0x0F)),
+    Told::Sent(0xC9FF, None),
+];
+
+const RUNS_TOLD: &str = "\
+ask 1
+reply 1 taken
+keep B order 1 unit 5 bytes 6
+frames 3
+keep O unit 5
+frames 1
+reply 1 kept 5 DoubtOpen
+frames 2
+total 6
+journal 27
+";
+
+const FRAMES_TOLD: &str = "\
+ask 1
+reply 1 taken
+keep B order 1 unit 5 bytes 6
+send 0B98 --
+send 00FE --
+send 0BC5 77
+keep O unit 5
+send A30A --
+reply 1 kept 5 DoubtOpen
+send C70F 0F
+send C9FF --
+total 6
+journal 27
+";
+
+// Each kind of reply, record and stop, the same in both forms.
+const KINDS: [Told; 16] = [
+    Told::Stopped,
+    Told::Asked(LARGEST),
+    Told::Answered(LARGEST, Reply::IdReused),
+    Told::Answered(0, Reply::Busy),
+    Told::Answered(10, Reply::Full),
+    Told::Answered(2, Reply::Blocked(63)),
+    Told::Answered(3, Reply::Blocked(0)),
+    Told::Answered(4, Reply::Kept(Code::Done)),
+    Told::Began(LARGEST, 63),
+    Told::Ended(Code::Done),
+    Told::Ended(Code::Short),
+    Told::Ended(Code::Format),
+    Told::Ended(Code::Silent),
+    Told::Ended(Code::Doubt),
+    Told::Ended(Code::DoubtOpen),
+    Told::Closed(10),
+];
+
+const KINDS_TOLD: &str = "\
+stop
+ask 18446744073709551615
+reply 18446744073709551615 reused
+reply 0 busy
+reply 10 full
+reply 2 blocked 63
+reply 3 blocked 0
+reply 4 kept 0 Done
+keep B order 18446744073709551615 unit 63 bytes 6
+keep E 0 Done
+keep E 1 Short
+keep E 2 Format
+keep E 3 Silent
+keep E 4 Doubt
+keep E 5 DoubtOpen
+keep C unit 10
+total 0
+journal 0
+";
+
+#[test]
+fn happenings_and_their_lines(rt: HostRuntime) -> Result<(), Fail> {
+    let nothing: &[Told] = &[];
+    let cases = [
+        (false, RUNS.as_slice(), [0; 27].as_slice(), RUNS_TOLD),
+        (true, &RUNS, &[0; 27], FRAMES_TOLD),
+        (false, &KINDS, &[], KINDS_TOLD),
+        (true, &KINDS, &[], KINDS_TOLD),
+        (false, nothing, &[0], "total 0\njournal 1\n"),
+        (true, nothing, &[0; 241], "total 0\njournal 241\n"),
+    ];
+    for (single_frames, told, journal, text) in cases {
+        let outcome = outcome_of(rt.alloc(), told, journal)?;
+        let mut written = Vec::new(rt.alloc());
+        write_outcome(&mut written, single_frames, &outcome, &[])?;
+        assert_eq!(rt; written.as_slice(), text.as_bytes(), "{text}");
+    }
+    Ok(())
+}
+
+// Units with whole and shorter groups, some of them all FFh, of which one is write-enabled.
+fn units(alloc: Global) -> Result<Vec<Unit>, Fail> {
+    let mut shorter = [0xFF; 17];
+    shorter[0x00] = 0x10;
+    shorter[0x10] = 0xAB;
+    let mut with_blank_end = [0x00; 17];
+    with_blank_end[0x00] = 0x10;
+    with_blank_end[0x0F] = 0xFE;
+    with_blank_end[0x10] = 0xFF;
+    let mut with_blank_middle = [0xFF; 34];
+    with_blank_middle[0x00] = 0x21;
+    with_blank_middle[0x21] = 0x0C;
+    let mut registers = Unit::with_bank1(alloc, 63, &shorter, &[])?;
+    registers.set_dtrs(0x01, 0xA2, 0xFF);
+    let mut enabled = Unit::with_bank1(alloc, 10, &with_blank_middle, &[])?;
+    for frame in [Frame::Enable(10), Frame::Enable(10)] {
+        let _answer = enabled.hear(&frame);
+    }
+    let mut units = Vec::new(alloc);
+    units.push(registers)?;
+    units.push(Unit::with_bank1(alloc, 0, &with_blank_end, &[])?)?;
+    units.push(enabled)?;
+    Ok(units)
+}
+
+const UNITS_TOLD: &str = "\
+unit 63 dtr 01 A2 FF enabled no
+bank 63 00 10FFFFFFFFFFFFFFFFFFFFFFFFFFFFFF
+bank 63 10 AB
+unit 0 dtr 00 00 00 enabled no
+bank 0 00 100000000000000000000000000000FE
+unit 10 dtr 00 00 00 enabled yes
+bank 10 00 21FFFFFFFFFFFFFFFFFFFFFFFFFFFFFF
+bank 10 20 FF0C
+";
+
+// A text, and then that of the units.
+fn before_units(alloc: Global, told: &str) -> Result<Vec<u8>, AllocError> {
+    let mut text = told.as_bytes().to_vec(alloc)?;
+    text.extend_from_slice(UNITS_TOLD.as_bytes())?;
+    Ok(text)
+}
+
+#[test]
+fn units_and_their_lines(rt: HostRuntime) -> Result<(), Fail> {
+    let outcome = outcome_of(rt.alloc(), &[], &[])?;
+    let units = units(rt.alloc())?;
+    let mut written = Vec::new(rt.alloc());
+    write_outcome(&mut written, false, &outcome, &units)?;
+    let text = before_units(rt.alloc(), "total 0\njournal 0\n")?;
+    assert_eq!(rt; written.as_slice(), text.as_slice());
+    Ok(())
+}
+
+#[test]
+fn a_writer_that_fails_in_mid_text(rt: HostRuntime) -> Result<(), Fail> {
+    let outcome = outcome_of(rt.alloc(), &RUNS, &[0; 27])?;
+    let units = units(rt.alloc())?;
+    for (single_frames, told) in [(false, RUNS_TOLD), (true, FRAMES_TOLD)] {
+        let text = before_units(rt.alloc(), told)?;
+        for room in 0..text.len() {
+            let mut writer = FullWriter {
+                held: Vec::new(rt.alloc()),
+                room,
+            };
+            let written = write_outcome(&mut writer, single_frames, &outcome, &units);
+            assert!(rt; written.is_err(), "room for {room}");
+            assert_eq!(rt; writer.held.as_slice(), &text.as_slice()[..room]);
+        }
+    }
+    Ok(())
+}
+
+// A GTIN for a blank unit with no losses.
+const GTIN_TOLD: &str = "\
+ask 1
+reply 1 taken
+keep B order 1 unit 5 bytes 6
+frames 5
+keep O unit 5
+frames 91
+keep E 0 Done
+reply 1 kept 0 Done
+total 96
+journal 27
+unit 5 dtr 09 01 00 enabled no
+bank 5 00 77FFFF03A4CEEFADABFFFFFFFFFFFFFF
+bank 5 10 FF0003FFFFFFFFFFFFFFFFFFFFFFFFFF
+";
+
+fn gtin_events(alloc: Global) -> Result<Vec<Event>, Fail> {
+    let mut events = Vec::new(alloc);
+    if let Some(order) = Order::from_pairs(1, 5, &GTIN) {
+        events.push(Event::Submit(order))?;
+    }
+    for _ in 0..199 {
+        events.push(Event::Step)?;
+    }
+    Ok(events)
+}
+
+#[test]
+fn a_whole_run(rt: HostRuntime) -> Result<(), Fail> {
+    let mut units = Vec::new(rt.alloc());
+    units.push(Unit::blank(rt.alloc(), 5)?)?;
+    let mut bus = SimBus::new(units, Vec::new(rt.alloc()))?;
+    let events = gtin_events(rt.alloc())?;
+    let outcome = run(rt.alloc(), &mut bus, 10, &events)?;
+    let mut written = Vec::new(rt.alloc());
+    write_outcome(&mut written, false, &outcome, bus.units())?;
+    assert_eq!(rt; written.as_slice(), GTIN_TOLD.as_bytes());
+    Ok(())
+}

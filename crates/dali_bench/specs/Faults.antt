@@ -1,7 +1,6 @@
 -- The faults of the program, and how they are told.
 use Rattle.std.specs.Prelude.{ℕ, List, ◌++◌, codes, decimal}
 use Rattle.dali_bank.specs.Faults as bank
-use Rattle.dali_gear.specs.declared.fault.GearFault.{GearFault}
 use Rattle.dali_gear.specs.Faults as gear
 use Rattle.dali_writer.specs.Faults as run
 use Rattle.dali_bench.specs.declared.fault.Fault.{Fault}

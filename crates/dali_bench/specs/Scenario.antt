@@ -1,8 +1,8 @@
 -- What a scenario file says.
-use Rattle.std.specs.Prelude.{◌≡◌, ◌↔◌, ◌≤◌, ◌^◌, ◌-◌, ℕ, List, [], ◌∷◌, Bool, true, false, Option, Some, Ok, codes, length, map}
+use Rattle.std.specs.Prelude.{◌≡◌, ◌↔◌, ◌≤◌, ◌^◌, ◌-◌, ℕ, List, [], ◌∷◌, Bool, true, false, Some, Ok, codes, length, map}
 use Rattle.std.specs.Int.{bit_at}
 use Rattle.std.specs.List.{Contains, sum_by}
-use Rattle.serde_json.specs.Data.{Data, string}
+use Rattle.serde_json.specs.Data.{Data}
 use Rattle.serde_json.specs.Find.{get, as_bool, as_str}
 use Rattle.serde_json.specs.View.{view}
 use Rattle.hex.specs.Hex.{decode_of}

@@ -1,5 +1,5 @@
 -- What a scenario sets up: units, fates and events, and why one is refused.
-use Rattle.std.specs.Prelude.{◌≡◌, ◌≢◌, ◌+◌, ◌≤◌, ℕ, List, [], ◌∷◌, ◌++◌, codes, decimal, length, map, replicate, ⊤}
+use Rattle.std.specs.Prelude.{◌≡◌, ◌≢◌, ◌+◌, ◌≤◌, ℕ, List, [], ◌∷◌, ◌++◌, length, map, replicate, ⊤}
 use Rattle.std.specs.List.{AllByRecursion, flat_map}
 use Rattle.dali_bank.specs.Order.{Contents}
 use Rattle.dali_gear.specs.declared.fate.Fate.{Fate}
@@ -13,13 +13,13 @@ use Rattle.dali_writer.specs.declared.happening.Event.{Event}
 use Rattle.dali_writer.specs.declared.happening.Event.TheVariants as events
 use Rattle.dali_writer.specs.declared.fault.RunFault.TheVariants.{Limit}
 use Rattle.serde_json.specs.Data.{Data}
-use Rattle.dali_bench.specs.declared.fault.Fault.TheVariants.{Document, TooBig, Memory}
+use Rattle.dali_bench.specs.declared.fault.Fault.TheVariants.{TooBig, Memory}
 use Rattle.dali_bench.specs.declared.item.ItemFault.{ItemFault}
 use Rattle.dali_bench.specs.declared.scenario.FatePlan.{FatePlan}
 use Rattle.dali_bench.specs.declared.refusal.Refusal.{Refusal}
 use Rattle.dali_bench.specs.declared.refusal.Refusal.TheVariants as refusals
 use Rattle.dali_bench.specs.Items.{IsOrderOf, IsFaultOf}
-use Rattle.dali_bench.specs.Scenario.{PlannedUnit, PlannedEvent, submit, steps, Planned, IsScenario, IsSmall}
+use Rattle.dali_bench.specs.Scenario.{PlannedUnit, PlannedEvent, submit, steps, Planned, IsSmall}
 
 -- ---- units
 

@@ -2,7 +2,7 @@ use Rattle.std.proofs.Common.{sym}
 use Rattle.std.proofs.lemmas.List.{map-append}
 use Rattle.std.proofs.lemmas.Result.{err_from_is_err_and}
 use Rattle.serde_json.specs.View.{view}
-use Rattle.dali_bench.specs.Scenario.{IsEvent, event_of}
+use Rattle.dali_bench.specs.Scenario.{IsEvent}
 use Rattle.dali_bench.proofs.ValueLemmas.{each_more, no_array_at}
 use Rattle.dali_bench.proofs.scenario.event_plans.Goals as goal
 

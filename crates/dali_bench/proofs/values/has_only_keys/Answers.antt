@@ -1,9 +1,8 @@
-use Rattle.std.proofs.Common.{◌≡◌, ℕ, Bool, List, false, ap, map, sym, subst, ◌∙◌}
+use Rattle.std.proofs.Common.{◌≡◌, ℕ, Bool, List, false, map, sym, subst, ◌∙◌}
 use Rattle.std.specs.List.{list_any}
-use Rattle.std.specs.Option.{option_map_or}
 use Rattle.std.specs.Str.{bytes_eq}
 use Rattle.serde_json.specs.View.{view}
-use Rattle.dali_bench.proofs.ValueLemmas.{KnownSoFar, known_at_first, one_more_known, only_known, not_only_known}
+use Rattle.dali_bench.proofs.ValueLemmas.{KnownSoFar, one_more_known, not_only_known}
 use Rattle.dali_bench.proofs.values.has_only_keys.Goals as goal
 
 pub returns-then-not-is_one_of : goal.returns-then-not-is_one_of

@@ -1,6 +1,5 @@
-use Rattle.std.proofs.Common.{◌≡◌, arith}
+use Rattle.std.proofs.Common.{arith}
 use Rattle.std.proofs.lemmas.Bool.{lt-leb}
-use Rattle.dali_bench.specs.Scenario.{event_count, event_of}
 use Rattle.dali_bench.proofs.ValueLemmas.{sum_by_of_map}
 use Rattle.dali_bench.proofs.scenario.Scenario.is_small.Goals as goal
 

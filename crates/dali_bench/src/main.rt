@@ -31,7 +31,7 @@ use crate::run_scenario::run_scenario;
 use crate::show::show;
 use clap::error::ErrorKind;
 use std::alloc::{AllocError, Global};
-use std::io::BufWriter;
+use std::io::{BufWriter, Read, Write};
 use std::process::ExitCode;
 use std::{fs, io};
 
@@ -59,15 +59,15 @@ fn run(rt: &HostRuntime, words: &Vec<String>) -> Status {
         return failed(rt, Fault::Memory);
     };
     match job_of(rt.alloc(), words.as_slice()) {
-        Ok(Job::Check(orders)) => check_file(rt, orders),
+        Ok(Job::Check(orders)) => on_file(rt, orders, FileCommand::Check),
         Ok(
             Job::Run {
                 scenario,
                 single_frames,
             },
-        ) => run_file(rt, scenario, single_frames),
+        ) => on_file(rt, scenario, FileCommand::Run { single_frames }),
         Ok(Job::Frame(digits)) => frame(digits, &mut io::writer(rt)),
-        Ok(Job::Show(dump)) => show_file(rt, dump),
+        Ok(Job::Show(dump)) => on_file(rt, dump, FileCommand::Show),
         Err(error) if error.kind() == ErrorKind::OutOfMemory => failed(rt, Fault::Memory),
         Err(error) => match error.print(rt) {
             Ok(()) if error.exit_code() == 0 => Status::Good,
@@ -85,46 +85,46 @@ fn texts_of<'a>(alloc: Global, words: &'a Vec<String>) -> Result<Vec<&'a str>, A
     Ok(texts)
 }
 
-// Checks the orders of a file. The name `/dev/stdin` is read through the runtime, since a process
+// A command over what a file has.
+#[derive(Clone, Copy)]
+enum FileCommand {
+    Check,
+    Run { single_frames: bool },
+    Show,
+}
+
+impl FileCommand {
+    fn carry_out<R: Read, W: Write>(
+        &self,
+        alloc: Global,
+        reader: &mut R,
+        writer: &mut W,
+    ) -> Status {
+        match *self {
+            FileCommand::Check => check(alloc, reader, writer),
+            FileCommand::Run { single_frames } => run_scenario(
+                alloc,
+                reader,
+                writer,
+                single_frames,
+            ),
+            FileCommand::Show => show(alloc, reader, writer),
+        }
+    }
+}
+
+// Carries out a command over a file. The name `/dev/stdin` is read through the runtime, since a process
 // may lack the right to open it by name.
-fn check_file(rt: &HostRuntime, orders: &str) -> Status {
+fn on_file(rt: &HostRuntime, name: &str, command: FileCommand) -> Status {
     let Ok(mut writer) = BufWriter::new(rt.alloc(), io::writer(rt)) else {
         return failed(rt, Fault::Memory);
     };
-    if orders == "/dev/stdin" {
-        return check(rt.alloc(), &mut rt.reader(), &mut writer);
+    if name == "/dev/stdin" {
+        return command.carry_out(rt.alloc(), &mut rt.reader(), &mut writer);
     }
-    match fs::open(rt, orders) {
-        Ok(mut reader) => check(rt.alloc(), &mut reader, &mut writer),
-        Err(cause) => unopened(rt, orders, cause),
-    }
-}
-
-// Runs the scenario of a file, with the same name for standard input.
-fn run_file(rt: &HostRuntime, scenario: &str, single_frames: bool) -> Status {
-    let Ok(mut writer) = BufWriter::new(rt.alloc(), io::writer(rt)) else {
-        return failed(rt, Fault::Memory);
-    };
-    if scenario == "/dev/stdin" {
-        return run_scenario(rt.alloc(), &mut rt.reader(), &mut writer, single_frames);
-    }
-    match fs::open(rt, scenario) {
-        Ok(mut reader) => run_scenario(rt.alloc(), &mut reader, &mut writer, single_frames),
-        Err(cause) => unopened(rt, scenario, cause),
-    }
-}
-
-// Shows the bank of a file, with the same name for standard input.
-fn show_file(rt: &HostRuntime, dump: &str) -> Status {
-    let Ok(mut writer) = BufWriter::new(rt.alloc(), io::writer(rt)) else {
-        return failed(rt, Fault::Memory);
-    };
-    if dump == "/dev/stdin" {
-        return show(rt.alloc(), &mut rt.reader(), &mut writer);
-    }
-    match fs::open(rt, dump) {
-        Ok(mut reader) => show(rt.alloc(), &mut reader, &mut writer),
-        Err(cause) => unopened(rt, dump, cause),
+    match fs::open(rt, name) {
+        Ok(mut reader) => command.carry_out(rt.alloc(), &mut reader, &mut writer),
+        Err(cause) => unopened(rt, name, cause),
     }
 }
 

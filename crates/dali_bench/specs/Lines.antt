@@ -4,7 +4,7 @@ use Rattle.std.specs.List.{flat_map}
 use Rattle.dali_bank.specs.Order.{Contents}
 use Rattle.dali_frame.specs.Hex.{byte_digits}
 use Rattle.dali_bench.specs.declared.item.ItemFault.{ItemFault}
-use Rattle.dali_bench.specs.Faults.{item_number_of, item_name_of}
+use Rattle.dali_bench.specs.Faults.{counted_line, item_number_of, item_name_of}
 
 -- a location and its byte
 abbrev pub update_line : ℕ × ℕ → List ℕ
@@ -16,7 +16,7 @@ order_line number order = codes "item " ++ decimal number ++ codes " order " ++ 
 
 -- a refused item
 abbrev pub refusal_line : ℕ → ItemFault → List ℕ
-refusal_line number fault = codes "item " ++ decimal number ++ codes " fault " ++ decimal (item_number_of fault) ++ codes " " ++ item_name_of fault ++ codes "\n"
+refusal_line number fault = counted_line (codes "item") number (item_number_of fault) (item_name_of fault)
 
 -- an accepted item with its updates, or a refused one
 abbrev pub item_lines : ℕ → Result Contents ItemFault → List ℕ

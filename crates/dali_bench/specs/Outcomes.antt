@@ -27,6 +27,10 @@ use Rattle.dali_bench.specs.Scenario.{Planned, IsScenario}
 use Rattle.dali_bench.specs.Setup.{IsReady, IsRefused}
 use Rattle.dali_bench.specs.Values.{IsNoReading}
 
+-- the most bytes of a scenario
+abbrev pub scenario_limit : ℕ
+scenario_limit = 16777216
+
 -- A run of these events from the first state of the units and fates to the last, with its trace, the oldest happening first, and the journal's bytes.
 pub record IsRun (limit : ℕ) (all : List Event) (first : SimState) (trace : List Happening) (journal : List ℕ) (last : SimState) : Type 0 where
   -- each happening was one that might follow those before it, the last one too is no order without its reply, and

@@ -13,6 +13,10 @@ use Rattle.dali_bench.specs.Input.{IsJson, IsNoJson, ReadsInput}
 use Rattle.dali_bench.specs.Items.{Judges}
 use Rattle.dali_bench.specs.Lines.{item_lines}
 
+-- the most bytes of a list of orders
+abbrev pub orders_limit : ℕ
+orders_limit = 16777216
+
 -- what becomes of an item
 abbrev pub Outcome : Type 0
 Outcome = Result Contents ItemFault

@@ -53,7 +53,7 @@ frames_line count = codes "frames " ++ decimal count ++ codes "\n"
 abbrev pub run_line : ℕ → List ℕ
 run_line count = if count == 0 then [] else frames_line count
 
--- a happening, and whether one before it was a sent frame: a run of frames is told where it begins, and the others of it add nothing
+-- a happening, and whether the one just before it was a sent frame: a run of frames is told where it begins, and the others of it add nothing
 abbrev pub summary : Bool → List Happening → List ℕ
 summary in_run [] = []
 summary true (Sent frame answer ∷ rest) = summary true rest

@@ -5,7 +5,7 @@ ghost use Rattle.dali_bench.specs.Faults.{fault_line, status_of};
 ghost use Rattle.dali_bench.specs.Input.{ReadsAtMost};
 ghost use Rattle.dali_bench.specs.Items.{Judges};
 ghost use Rattle.dali_bench.specs.Lines.{item_lines};
-ghost use Rattle.dali_bench.specs.Report.{Outcome, JudgesEach, report, report_status, AreItems, IsInputFault, IsChecked, IsAnswered};
+ghost use Rattle.dali_bench.specs.Report.{Outcome, JudgesEach, report, report_status, AreItems, IsInputFault, IsChecked, IsAnswered, orders_limit};
 
 use crate::fault::{Fault, Status};
 use crate::input::{json_of, read_input};
@@ -26,9 +26,9 @@ pub const ORDERS_LIMIT: u32 = 16_777_216;
 /// 11 Json, 12 Document, 20 Memory or 21 File.
 pub fn check<R: Read, W: Write>(alloc: Global, reader: &mut R, writer: &mut W) -> Status
     ensures checked { result ≢ Status.Unwritten → (text : List ℕ)
-        × IsChecked ORDERS_LIMIT (R.remaining reader.old) (R.remaining reader.new) result text
+        × IsChecked orders_limit (R.remaining reader.old) (R.remaining reader.new) result text
         × Appends (W.contents writer.old) (W.contents writer.new) text }
-    ensures read { ReadsAtMost ORDERS_LIMIT (R.remaining reader.old) (R.remaining reader.new) }
+    ensures read { ReadsAtMost orders_limit (R.remaining reader.old) (R.remaining reader.new) }
 {
     match try_check(alloc, reader, writer) {
         Ok(status) => status,
@@ -39,9 +39,9 @@ pub fn check<R: Read, W: Write>(alloc: Global, reader: &mut R, writer: &mut W) -
 // The same, or the error of the output.
 fn try_check<R: Read, W: Write>(alloc: Global, reader: &mut R, writer: &mut W) -> io::Result<Status>
     ensures checked { IfOk result (λ status. (text : List ℕ)
-        × IsChecked ORDERS_LIMIT (R.remaining reader.old) (R.remaining reader.new) status text
+        × IsChecked orders_limit (R.remaining reader.old) (R.remaining reader.new) status text
         × Appends (W.contents writer.old) (W.contents writer.new) text) }
-    ensures read { ReadsAtMost ORDERS_LIMIT (R.remaining reader.old) (R.remaining reader.new) }
+    ensures read { ReadsAtMost orders_limit (R.remaining reader.old) (R.remaining reader.new) }
 {
     match read_input(alloc, reader, ORDERS_LIMIT) {
         Ok(input) => write_checked(alloc, input.as_slice(), writer),
@@ -51,7 +51,7 @@ fn try_check<R: Read, W: Write>(alloc: Global, reader: &mut R, writer: &mut W) -
 
 // Writes what becomes of an input.
 fn write_checked<W: Write>(alloc: Global, input: &[u8], writer: &mut W) -> io::Result<Status>
-    ensures { IfOk result (λ status. (text : List ℕ) × IsAnswered ORDERS_LIMIT input.now status text
+    ensures { IfOk result (λ status. (text : List ℕ) × IsAnswered orders_limit input.now status text
         × Appends (W.contents writer.old) (W.contents writer.new) text) }
 {
     match items_of(alloc, input, ORDERS_LIMIT) {

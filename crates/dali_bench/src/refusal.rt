@@ -37,17 +37,6 @@ impl Refusal {
     }
 }
 
-impl From<Fault> for Refusal {
-    ghost use Rattle.std.specs.Prelude.{◌≡◌};
-    ghost use Rattle.dali_bench.specs.declared.refusal.Refusal.TheVariants.{Whole};
-
-    ghost from_gives = { λ fault refusal. refusal ≡ Whole fault };
-
-    fn from(fault: Fault) -> Refusal {
-        Refusal::Whole(fault)
-    }
-}
-
 impl From<AllocError> for Refusal {
     ghost use Rattle.std.specs.Prelude.{◌≡◌};
     ghost use Rattle.dali_bench.specs.declared.fault.Fault.TheVariants.{Memory};

@@ -2,7 +2,7 @@ ghost use Rattle.std.specs.Prelude.{◌≡◌, ◌≢◌, List, ℕ, IfOk, IfErr
 ghost use Rattle.std.specs.Io.KnownBytes.{Appends};
 ghost use Rattle.serde_json.specs.View.{view};
 ghost use Rattle.dali_bench.specs.Input.{ReadsAtMost};
-ghost use Rattle.dali_bench.specs.Outcomes.{IsNoRun, IsNoScenarioRun, IsRan, IsRanFrom, IsRanOf, IsRunAnswer, IsRunOf};
+ghost use Rattle.dali_bench.specs.Outcomes.{IsNoRun, IsNoScenarioRun, IsRan, IsRanFrom, IsRanOf, IsRunAnswer, IsRunOf, scenario_limit};
 ghost use Rattle.dali_bench.specs.Scenario.{planned_of};
 ghost use Rattle.dali_bench.specs.Setup.{IsRefused};
 
@@ -23,11 +23,11 @@ use std::io::{Read, Write};
 /// The most bytes of a scenario.
 pub const SCENARIO_LIMIT: u32 = 16_777_216;
 
-/// What a run gave, and the bus as it stands after it.
+// What a run gave, and the bus as it stands after it.
 #[derive(Drop)]
-pub struct Ran {
-    pub outcome: Outcome,
-    pub bus: SimBus,
+struct Ran {
+    outcome: Outcome,
+    bus: SimBus,
 }
 
 /// Reads a JSON scenario, serves its events over its units under its fates, and writes the trace,
@@ -45,9 +45,9 @@ pub fn run_scenario<R: Read, W: Write>(
     single_frames: bool,
 ) -> Status
     ensures ran { result ≢ Status.Unwritten → (text : List ℕ)
-        × IsRunOf SCENARIO_LIMIT single_frames (R.remaining reader.old) (R.remaining reader.new) result text
+        × IsRunOf scenario_limit single_frames (R.remaining reader.old) (R.remaining reader.new) result text
         × Appends (W.contents writer.old) (W.contents writer.new) text }
-    ensures read { ReadsAtMost SCENARIO_LIMIT (R.remaining reader.old) (R.remaining reader.new) }
+    ensures read { ReadsAtMost scenario_limit (R.remaining reader.old) (R.remaining reader.new) }
 {
     match try_run(alloc, reader, writer, single_frames) {
         Ok(status) => status,
@@ -63,9 +63,9 @@ fn try_run<R: Read, W: Write>(
     single_frames: bool,
 ) -> io::Result<Status>
     ensures ran { IfOk result (λ status. (text : List ℕ)
-        × IsRunOf SCENARIO_LIMIT single_frames (R.remaining reader.old) (R.remaining reader.new) status text
+        × IsRunOf scenario_limit single_frames (R.remaining reader.old) (R.remaining reader.new) status text
         × Appends (W.contents writer.old) (W.contents writer.new) text) }
-    ensures read { ReadsAtMost SCENARIO_LIMIT (R.remaining reader.old) (R.remaining reader.new) }
+    ensures read { ReadsAtMost scenario_limit (R.remaining reader.old) (R.remaining reader.new) }
 {
     match read_input(alloc, reader, SCENARIO_LIMIT) {
         Ok(input) => write_run(alloc, input.as_slice(), writer, single_frames),
@@ -80,7 +80,7 @@ fn write_run<W: Write>(
     writer: &mut W,
     single_frames: bool,
 ) -> io::Result<Status>
-    ensures { IfOk result (λ status. (text : List ℕ) × IsRunAnswer SCENARIO_LIMIT single_frames input.now status text
+    ensures { IfOk result (λ status. (text : List ℕ) × IsRunAnswer scenario_limit single_frames input.now status text
         × Appends (W.contents writer.old) (W.contents writer.new) text) }
 {
     match ran_of(alloc, input, SCENARIO_LIMIT) {

@@ -36,7 +36,9 @@ pub struct UnitPlan {
 /// A fate, and how many frames in a row have it, 1 to 20000 (profile).
 #[derive(Clone, Copy, Debug, PartialEq, Eq)]
 pub struct FatePlan {
+    /// How many frames in a row have it.
     pub times: u32,
+    /// What becomes of each.
     pub fate: Fate,
 }
 
@@ -66,8 +68,11 @@ impl EventPlan<'_> {
 pub struct Scenario<'a> {
     /// The most orders of the journal, any number.
     pub limit: u64,
+    /// The units, in their order.
     pub units: Vec<UnitPlan>,
+    /// The fates of the frames, in their order.
     pub fates: Vec<FatePlan>,
+    /// What is done, in its order.
     pub events: Vec<EventPlan<'a>>,
 }
 
@@ -91,6 +96,7 @@ fn unit_plan(alloc: Global, json: &Json) -> Result<UnitPlan, Fault>
 fn address_in(json: Option<&Json>) -> Result<u8, Fault>
     ensures ok { IfOk result (IsRequired (IsWhole 0 255) (option_map (λ j. view j.now) json.entry)) }
     ensures err { IfErr result (IsNoReading (IsRequired (IsWhole 0 255) (option_map (λ j. view j.now) json.entry))) }
+    ensures document { IfErr result (λ fault. fault ≡ Fault.Document) }
 {
     match json {
         Some(json) => Ok(whole_within(json, 0, 255)? as u8),
@@ -165,6 +171,7 @@ fn fate_plan(alloc: Global, json: &Json) -> Result<FatePlan, Fault>
 fn times_in(json: Option<&Json>) -> Result<u32, Fault>
     ensures ok { IfOk result (IsOptional (IsWhole 1 most_events) 1 (option_map (λ j. view j.now) json.entry)) }
     ensures err { IfErr result (IsNoReading (IsOptional (IsWhole 1 most_events) 1 (option_map (λ j. view j.now) json.entry))) }
+    ensures document { IfErr result (λ fault. fault ≡ Fault.Document) }
 {
     match json {
         Some(json) => Ok(whole_within(json, 1, u64::from(MOST_EVENTS))? as u32),
@@ -199,6 +206,7 @@ fn bits_of(addresses: &[u8]) -> u64
 fn boolean_in(json: Option<&Json>) -> Result<bool, Fault>
     ensures ok { IfOk result (IsOptional IsBoolean false (option_map (λ j. view j.now) json.entry)) }
     ensures err { IfErr result (IsNoReading (IsOptional IsBoolean false (option_map (λ j. view j.now) json.entry))) }
+    ensures document { IfErr result (λ fault. fault ≡ Fault.Document) }
 {
     match json {
         Some(json) => json.as_bool().ok_or(Fault::Document),
@@ -210,6 +218,7 @@ fn boolean_in(json: Option<&Json>) -> Result<bool, Fault>
 fn event_plan(json: &Json) -> Result<EventPlan<'_>, Fault>
     ensures ok { IfOk result (λ plan. IsEvent (view json.now) (event_of plan)) }
     ensures err { IfErr result (IsNoReading (IsEvent (view json.now))) }
+    ensures document { IfErr result (λ fault. fault ≡ Fault.Document) }
 {
     if has_only_keys(json, &["submit"]) {
         if let Some(order) = json.get("submit") {
@@ -301,6 +310,7 @@ pub fn scenario_of(alloc: Global, json: &Json) -> Result<Scenario<'_>, Fault>
 fn limit_in(json: Option<&Json>) -> Result<u64, Fault>
     ensures ok { IfOk result (IsRequired (IsWhole 0 (2 ^ 64 - 1)) (option_map (λ j. view j.now) json.entry)) }
     ensures err { IfErr result (IsNoReading (IsRequired (IsWhole 0 (2 ^ 64 - 1)) (option_map (λ j. view j.now) json.entry))) }
+    ensures document { IfErr result (λ fault. fault ≡ Fault.Document) }
 {
     match json {
         Some(json) => whole_within(json, 0, u64::MAX),

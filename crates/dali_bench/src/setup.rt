@@ -17,6 +17,7 @@ use std::alloc::{AllocError, Global};
 pub struct Setup {
     /// The units, and the fates of the frames.
     pub bus: SimBus,
+    /// What is done, in its order.
     pub events: Vec<Event>,
 }
 

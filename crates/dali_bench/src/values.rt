@@ -39,6 +39,7 @@ fn is_one_of(text: &str, texts: &[&str]) -> bool
 pub fn whole_within(json: &Json, least: u64, most: u64) -> Result<u64, Fault>
     ensures ok { IfOk result (IsWhole least most (view json.now)) }
     ensures err { IfErr result (IsNoReading (IsWhole least most (view json.now))) }
+    ensures document { IfErr result (λ fault. fault ≡ Fault.Document) }
 {
     match json.as_u64() {
         Some(number) if least <= number && number <= most => Ok(number),

@@ -129,9 +129,9 @@ units_refused planned (refusals.Whole Hex) small refused = absurd refused
 units_refused planned (refusals.Whole Memory) small refused = tt
 units_refused planned (refusals.Whole File) small refused = absurd refused
 units_refused planned (refusals.Unit number fault) small refused = (small, refused)
-units_refused planned (refusals.Bus fault) small refused = absurd refused
+units_refused planned refusals.SameAddress small refused = absurd refused
 units_refused planned (refusals.Order number fault) small refused = absurd refused
-units_refused planned (refusals.Run fault) small refused = absurd refused
+units_refused planned refusals.Limit small refused = absurd refused
 
 pub orders_refused : (planned : Planned) (refusal : Refusal) → HasBus planned → IsOrderRefusal planned.events refusal → IsRefused planned refusal
 orders_refused planned (refusals.Whole Json) bus refused = absurd refused
@@ -141,9 +141,9 @@ orders_refused planned (refusals.Whole Hex) bus refused = absurd refused
 orders_refused planned (refusals.Whole Memory) bus refused = tt
 orders_refused planned (refusals.Whole File) bus refused = absurd refused
 orders_refused planned (refusals.Unit number fault) bus refused = absurd refused
-orders_refused planned (refusals.Bus fault) bus refused = absurd refused
+orders_refused planned refusals.SameAddress bus refused = absurd refused
 orders_refused planned (refusals.Order number fault) bus refused = (bus, refused)
-orders_refused planned (refusals.Run fault) bus refused = absurd refused
+orders_refused planned refusals.Limit bus refused = absurd refused
 
 -- ---- units at first
 

@@ -1,7 +1,9 @@
 -- The faults of the program, and how they are told.
 use Rattle.std.specs.Prelude.{ℕ, List, ◌++◌, codes, decimal}
 use Rattle.dali_bank.specs.Faults as bank
+use Rattle.dali_gear.specs.declared.fault.GearFault.TheVariants.{SameAddress}
 use Rattle.dali_gear.specs.Faults as gear
+use Rattle.dali_writer.specs.declared.fault.RunFault.TheVariants.{Limit}
 use Rattle.dali_writer.specs.Faults as run
 use Rattle.dali_bench.specs.declared.fault.Fault.{Fault}
 use Rattle.dali_bench.specs.declared.fault.Fault.TheVariants.{Json, Document, TooBig, Hex, Memory, File}
@@ -75,6 +77,6 @@ single_line what fault name = what ++ codes " fault " ++ decimal fault ++ codes 
 abbrev pub no_run_line : Refusal → List ℕ
 no_run_line (refusals.Whole fault) = fault_line fault
 no_run_line (refusals.Unit number fault) = counted_line (codes "unit") number (gear.number_of fault) (gear.name_of fault)
-no_run_line (refusals.Bus fault) = single_line (codes "gear") (gear.number_of fault) (gear.name_of fault)
+no_run_line refusals.SameAddress = single_line (codes "gear") (gear.number_of SameAddress) (gear.name_of SameAddress)
 no_run_line (refusals.Order number fault) = counted_line (codes "event") number (item_number_of fault) (item_name_of fault)
-no_run_line (refusals.Run fault) = single_line (codes "run") (run.number_of fault) (run.name_of fault)
+no_run_line refusals.Limit = single_line (codes "run") (run.number_of Limit) (run.name_of Limit)

@@ -4,14 +4,13 @@ use Rattle.std.specs.List.{AllByRecursion, flat_map}
 use Rattle.dali_bank.specs.Order.{Contents}
 use Rattle.dali_gear.specs.declared.fate.Fate.{Fate}
 use Rattle.dali_gear.specs.declared.fault.GearFault.{GearFault}
-use Rattle.dali_gear.specs.declared.fault.GearFault.TheVariants.{SameAddress, NoMemory}
+use Rattle.dali_gear.specs.declared.fault.GearFault.TheVariants.{NoMemory}
 use Rattle.dali_gear.specs.Faults.{IsBank, AreFixed, IsUnitFault}
 use Rattle.dali_gear.specs.SimState.{AreApart}
 use Rattle.dali_gear.specs.UnitState.{UnitState, new_unit}
 use Rattle.dali_journal.specs.JournalState.{IsLimit}
 use Rattle.dali_writer.specs.declared.happening.Event.{Event}
 use Rattle.dali_writer.specs.declared.happening.Event.TheVariants as events
-use Rattle.dali_writer.specs.declared.fault.RunFault.TheVariants.{Limit}
 use Rattle.serde_json.specs.Data.{Data}
 use Rattle.dali_bench.specs.declared.fault.Fault.TheVariants.{TooBig, Memory}
 use Rattle.dali_bench.specs.declared.item.ItemFault.{ItemFault}
@@ -118,6 +117,6 @@ IsRefused planned (refusals.Whole TooBig) = ¬ IsSmall planned
 IsRefused planned (refusals.Whole Memory) = ⊤
 IsRefused planned (refusals.Whole fault) = ⊥
 IsRefused planned (refusals.Unit number fault) = IsSmall planned × IsFirstUnitFault planned.units number fault
-IsRefused planned (refusals.Bus fault) = (fault ≡ SameAddress) × AreTogether planned
+IsRefused planned refusals.SameAddress = AreTogether planned
 IsRefused planned (refusals.Order number fault) = HasBus planned × IsFirstOrderFault planned.events number fault
-IsRefused planned (refusals.Run fault) = (fault ≡ Limit) × HasBus planned × ((all : List Event) × AreEvents planned.events all) × ¬ IsLimit planned.limit
+IsRefused planned refusals.Limit = HasBus planned × ((all : List Event) × AreEvents planned.events all) × ¬ IsLimit planned.limit

@@ -1,7 +1,8 @@
-ghost use Rattle.std.specs.Prelude.{◌≡◌, ◌≤◌, OnOk, IfOk, Ok, Err, length};
+ghost use Rattle.std.specs.Prelude.{◌≡◌, ◌≤◌, OnOk, IfOk, Ok, Err, codes, length};
 ghost use Rattle.std.specs.Io.KnownBytes.{Appends};
 ghost use Rattle.std.specs.List.{flat_map};
-ghost use Rattle.dali_bench.specs.Faults.{fault_line, no_run_line, status_of};
+ghost use Rattle.dali_gear.specs.Faults.{number_of as gear_number_of, name_of as gear_name_of};
+ghost use Rattle.dali_bench.specs.Faults.{fault_line, no_run_line, single_line, status_of};
 ghost use Rattle.dali_bench.specs.Lines.{update_line, order_line, item_lines, refusal_line};
 ghost use Rattle.dali_bench.specs.Report.{tally_line};
 
@@ -11,6 +12,8 @@ use crate::refusal::Refusal;
 use arrayvec::ArrayVec;
 use dali_bank::{MOST_UPDATES, Order};
 use dali_frame::byte_digits;
+use dali_gear::GearFault;
+use dali_writer::RunFault;
 use std::io;
 use std::io::Write;
 
@@ -53,19 +56,26 @@ fn write_refused<W: Write>(writer: &mut W, refusal: Refusal) -> io::Result<()>
             let fault_number = fault.number();
             writeln!(writer, "unit {number} fault {fault_number} {fault}")
         }
-        Refusal::Bus(fault) => {
-            let fault_number = fault.number();
-            writeln!(writer, "gear fault {fault_number} {fault}")
-        }
+        Refusal::SameAddress => write_bus_fault(writer, GearFault::SameAddress),
         Refusal::Order(number, fault) => {
             let fault_number = fault.number();
             writeln!(writer, "event {number} fault {fault_number} {fault}")
         }
-        Refusal::Run(fault) => {
+        Refusal::Limit => {
+            let fault = RunFault::Limit;
             let fault_number = fault.number();
             writeln!(writer, "run fault {fault_number} {fault}")
         }
     }
+}
+
+// Writes why there is no bus.
+fn write_bus_fault<W: Write>(writer: &mut W, fault: GearFault) -> io::Result<()>
+    ensures { OnOk result (Appends (W.contents writer.old) (W.contents writer.new)
+        (single_line (codes "gear") (gear_number_of fault) (gear_name_of fault))) }
+{
+    let fault_number = fault.number();
+    writeln!(writer, "gear fault {fault_number} {fault}")
 }
 
 /// Writes a refused item.

@@ -3,7 +3,6 @@ ghost use Rattle.std.specs.Prelude.{◌≡◌};
 use crate::fault::{Fault, Status};
 use crate::item::ItemFault;
 use dali_gear::GearFault;
-use dali_writer::RunFault;
 use std::alloc::{AllocError, AllocFailed};
 
 /// Why a scenario isn't run (profile).
@@ -13,12 +12,12 @@ pub enum Refusal {
     Whole(Fault),
     /// The unit of this number, counted from 1, can't be made.
     Unit(u64, GearFault),
-    /// The units can't be on one bus.
-    Bus(GearFault),
+    /// Two units are at one short address.
+    SameAddress,
     /// The order of the event of this number, counted from 1, is refused.
     Order(u64, ItemFault),
-    /// The run is refused.
-    Run(RunFault),
+    /// The journal can't be for so many orders.
+    Limit,
 }
 
 impl Refusal {
@@ -30,9 +29,8 @@ impl Refusal {
     {
         match self {
             Refusal::Whole(fault) => fault.status(),
-            Refusal::Unit(_, _) | Refusal::Bus(_) | Refusal::Order(_, _) | Refusal::Run(_) => {
-                Status::Refused
-            }
+            Refusal::Unit(_, _) | Refusal::SameAddress | Refusal::Order(_, _) | Refusal::Limit =>
+                Status::Refused,
         }
     }
 }

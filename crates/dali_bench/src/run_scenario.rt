@@ -125,11 +125,11 @@ fn run_planned(alloc: Global, scenario: &Scenario<'_>) -> Result<Ran, Refusal>
 {
     let Setup { mut bus, events } = setup_of(alloc, scenario)?;
     let Ok(limit) = u32::try_from(scenario.limit) else {
-        return Err(Refusal::Run(RunFault::Limit));
+        return Err(Refusal::Limit);
     };
     match run(alloc, &mut bus, limit, events.as_slice()) {
         Ok(outcome) => Ok(Ran { outcome, bus }),
-        Err(RunFault::Limit) => Err(Refusal::Run(RunFault::Limit)),
+        Err(RunFault::Limit) => Err(Refusal::Limit),
         Err(RunFault::NoMemory) => Err(Refusal::Whole(Fault::Memory)),
     }
 }

@@ -35,9 +35,8 @@ pub fn setup_of(alloc: Global, scenario: &Scenario<'_>) -> Result<Setup, Refusal
     }
     let units = units_of(alloc, scenario.units.as_slice())?;
     let fates = fates_of(alloc, scenario.fates.as_slice())?;
-    let bus = match SimBus::new(units, fates) {
-        Ok(bus) => bus,
-        Err(fault) => return Err(Refusal::Bus(fault)),
+    let Ok(bus) = SimBus::new(units, fates) else {
+        return Err(Refusal::SameAddress);
     };
     let events = events_of(alloc, scenario.events.as_slice())?;
     Ok(Setup { bus, events })

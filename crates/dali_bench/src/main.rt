@@ -60,10 +60,12 @@ fn run(rt: &HostRuntime, words: &Vec<String>) -> Status {
     };
     match job_of(rt.alloc(), words.as_slice()) {
         Ok(Job::Check(orders)) => check_file(rt, orders),
-        Ok(Job::Run {
-            scenario,
-            single_frames,
-        }) => run_file(rt, scenario, single_frames),
+        Ok(
+            Job::Run {
+                scenario,
+                single_frames,
+            },
+        ) => run_file(rt, scenario, single_frames),
         Ok(Job::Frame(digits)) => frame(digits, &mut io::writer(rt)),
         Ok(Job::Show(dump)) => show_file(rt, dump),
         Err(error) if error.kind() == ErrorKind::OutOfMemory => failed(rt, Fault::Memory),

@@ -3,13 +3,7 @@ use crate::fault::Status;
 use crate::run_scenario::run_scenario;
 use std::alloc::{AllocError, Global};
 
-const NOTHING: &str = "total 0\njournal 0\n";
-const JSON: &str = "fault 11 Json\n";
 const DOCUMENT: &str = "fault 12 Document\n";
-const TOO_BIG: &str = "fault 13 TooBig\n";
-const LIMIT: &str = "run fault 1 Limit\n";
-const SAME_ADDRESS: &str = "gear fault 5 SameAddress\n";
-const SHAPE: &str = "event 1 fault 9 Shape\n";
 
 const GTIN_ORDER: &str = r#"{"limit":10,"units":[{"address":5}],
 "events":[{"submit":{"order":1,"unit":5,"gtin":"4006381333931"}},{"steps":200}]}"#;
@@ -154,7 +148,7 @@ total 16
 journal 25
 ";
 
-// The order is busy, its number reused, and the journal full.
+// While order 1 is at work it is busy, its number with other bytes reused; then the journal is full.
 const TOLD_APART: &str = "\
 ask 1
 reply 1 taken
@@ -215,7 +209,7 @@ unit 6 dtr 09 01 00 enabled no
 bank 6 00 10FFFF03A4CEEFADABFFFFFFFFFFFFFF
 ";
 
-// A write is carried out or refused, and not answered: seven frames more.
+// One write isn't answered, which takes a try of seven frames more.
 const LOST_ANSWER: &str = "\
 ask 1
 reply 1 taken
@@ -329,152 +323,285 @@ fn told(alloc: Global, scenario: &[u8], single_frames: bool) -> (Status, Vec<u8>
     (status, written)
 }
 
+// A scenario that is refused and the line that says why, with a bar between them.
+const REFUSED: &str = r#"{"limit":0,"units":[],"events":[]}|run fault 1 Limit
+{"limit":100001,"units":[],"events":[]}|run fault 1 Limit
+{"limit":4294967296,"units":[],"events":[]}|run fault 1 Limit
+{"limit":18446744073709551615,"units":[],"events":[]}|run fault 1 Limit
+{"limit":18446744073709551616,"units":[],"events":[]}|fault 12 Document
+{"limit":-1,"units":[],"events":[]}|fault 12 Document
+{"limit":1.0,"units":[],"events":[]}|fault 12 Document
+{"limit":"10","units":[],"events":[]}|fault 12 Document
+{"units":[],"events":[]}|fault 12 Document
+{|fault 11 Json
+[]|fault 12 Document
+{"limit":10,"events":[]}|fault 12 Document
+{"limit":10,"units":[]}|fault 12 Document
+{"limit":10,"units":[],"events":[],"fates":{}}|fault 12 Document
+{"limit":10,"units":[],"events":[],"name":"a bench"}|fault 12 Document
+{"limit":10,"units":[{"address":64,"bank":"10FFFFFFFFFFFFFFFFFFFFFFFFFFFFFFFF"}],"events":[]}|unit 1 fault 1 Address
+{"limit":10,"units":[{"address":255,"bank":"10FFFFFFFFFFFFFFFFFFFFFFFFFFFFFFFF"}],"events":[]}|unit 1 fault 1 Address
+{"limit":10,"units":[{"address":256,"bank":"10FFFFFFFFFFFFFFFFFFFFFFFFFFFFFFFF"}],"events":[]}|fault 12 Document
+{"limit":10,"units":[{"address":-1,"bank":"10FFFFFFFFFFFFFFFFFFFFFFFFFFFFFFFF"}],"events":[]}|fault 12 Document
+{"limit":10,"units":[{}],"events":[]}|fault 12 Document
+{"limit":10,"units":[5],"events":[]}|fault 12 Document
+{"limit":10,"units":[{"address":5,"group":1}],"events":[]}|fault 12 Document
+{"limit":10,"units":[{"address":64,"bank":"","fixed":[2]}],"events":[]}|unit 1 fault 1 Address
+{"limit":10,"units":[{"address":5,"bank":"","fixed":[2]}],"events":[]}|unit 1 fault 2 Size
+{"limit":10,"units":[{"address":5},{"address":6,"bank":""},{"address":64}],"events":[]}|unit 2 fault 2 Size
+{"limit":10,"units":[{"address":5},{"address":5}],"events":[]}|gear fault 5 SameAddress
+{"limit":10,"units":[{"address":5,"bank":"10FFFFFFFFFFFFFFFFFFFFFFFFFFFFFFF"}],"events":[]}|fault 12 Document
+{"limit":10,"units":[{"address":5,"bank":"0FFFFFFFFFFFFFFFFFFFFFFFFFFFFFFF"}],"events":[]}|unit 1 fault 2 Size
+{"limit":10,"units":[{"address":5,"bank":"1GFFFFFFFFFFFFFFFFFFFFFFFFFFFFFFFF"}],"events":[]}|fault 12 Document
+{"limit":10,"units":[{"address":5,"bank":""}],"events":[]}|unit 1 fault 2 Size
+{"limit":10,"units":[{"address":5,"fixed":[2]}],"events":[]}|unit 1 fault 3 Fixed
+{"limit":10,"units":[{"address":5,"fixed":[120]}],"events":[]}|unit 1 fault 3 Fixed
+{"limit":10,"units":[{"address":5,"fixed":[5,5]}],"events":[]}|unit 1 fault 3 Fixed
+{"limit":10,"units":[{"address":5,"fixed":[6,5]}],"events":[]}|unit 1 fault 3 Fixed
+{"limit":10,"units":[{"address":5,"fixed":[256]}],"events":[]}|fault 12 Document
+{"limit":10,"units":[{"address":5,"bank":"10FFFFFFFFFFFFFFFFFFFFFFFFFFFFFFFF","dtr":[1,2]}],"events":[]}|fault 12 Document
+{"limit":10,"units":[{"address":5,"bank":"10FFFFFFFFFFFFFFFFFFFFFFFFFFFFFFFF","dtr":[1,2,3,4]}],"events":[]}|fault 12 Document
+{"limit":10,"units":[{"address":5,"bank":"10FFFFFFFFFFFFFFFFFFFFFFFFFFFFFFFF","dtr":[1,2,256]}],"events":[]}|fault 12 Document
+{"limit":10,"units":[],"events":[],"fates":[{"times":20000},{}]}|fault 13 TooBig
+{"limit":10,"units":[],"events":[],"fates":[{"times":0}]}|fault 12 Document
+{"limit":10,"units":[],"events":[],"fates":[{"times":20001}]}|fault 12 Document
+{"limit":10,"units":[],"events":[],"fates":[{"lost":[64]}]}|fault 12 Document
+{"limit":10,"units":[],"events":[],"fates":[{"lost":5}]}|fault 12 Document
+{"limit":10,"units":[],"events":[],"fates":[{"answer_lost":1}]}|fault 12 Document
+{"limit":10,"units":[],"events":[],"fates":[{"late":true}]}|fault 12 Document
+{"limit":10,"units":[],"events":[],"fates":[5]}|fault 12 Document
+{"limit":10,"units":[],"events":[{}]}|fault 12 Document
+{"limit":10,"units":[],"events":[5]}|fault 12 Document
+{"limit":10,"units":[],"events":[{"wait":1}]}|fault 12 Document
+{"limit":10,"units":[],"events":[{"steps":1,"submit":{"order":1,"unit":5,"gtin":null}}]}|fault 12 Document
+{"limit":10,"units":[],"events":[{"steps":0}]}|fault 12 Document
+{"limit":10,"units":[],"events":[{"steps":20001}]}|fault 12 Document
+{"limit":10,"units":[],"events":[{"steps":20000},{"steps":1}]}|fault 13 TooBig
+{"limit":10,"units":[],"events":[{"steps":19999},{"submit":{}}]}|event 2 fault 9 Shape
+{"limit":10,"units":[],"events":[{"stop":0}]}|fault 12 Document
+{"limit":10,"units":[],"events":[{"stop":65535}]}|fault 12 Document
+{"limit":10,"units":[{"address":5}],"events":[{"submit":{"order":1,"unit":5,"gtin":"4006381333931"}},{"steps":6},{"stop":1},{"steps":200}]}|fault 12 Document
+{"limit":10,"units":[],"events":[{"submit":{"order":1}}]}|event 1 fault 9 Shape
+{"limit":10,"units":[],"events":[{"submit":{}}]}|event 1 fault 9 Shape
+{"limit":10,"units":[],"events":[{"submit":5}]}|event 1 fault 9 Shape
+{"limit":10,"units":[],"events":[{"submit":{"order":1,"unit":64,"weight":1}}]}|event 1 fault 10 Key
+{"limit":10,"units":[],"events":[{"submit":{"order":1,"unit":64,"gtin":7}}]}|event 1 fault 1 Unit
+{"limit":10,"units":[],"events":[{"steps":20000},{"steps":1}]|fault 11 Json
+{"limit":10,"units":[],"events":[{"steps":20000},{"steps":1},{"steps":0}]}|fault 12 Document
+{"limit":10,"units":[],"events":[{"steps":20000},{"steps":1}],"fates":[{"times":0}]}|fault 12 Document
+{"limit":10,"units":[{"address":64}],"events":[{"steps":20000},{"steps":1}]}|fault 13 TooBig
+{"limit":10,"units":[{"address":64}],"events":[],"fates":[{"times":20000},{}]}|fault 13 TooBig
+{"limit":10,"units":[],"events":[{"submit":{}},{"steps":20000}]}|fault 13 TooBig
+{"limit":0,"units":[],"events":[{"steps":20000},{"steps":1}]}|fault 13 TooBig
+{"limit":10,"units":[{"address":5},{"address":5},{"address":64}],"events":[]}|unit 3 fault 1 Address
+{"limit":10,"units":[{"address":64}],"events":[{"submit":{"order":1}}]}|unit 1 fault 1 Address
+{"limit":0,"units":[{"address":64}],"events":[]}|unit 1 fault 1 Address
+{"limit":10,"units":[{"address":5},{"address":5}],"events":[{"submit":{"order":1}}]}|gear fault 5 SameAddress
+{"limit":0,"units":[{"address":5},{"address":5}],"events":[]}|gear fault 5 SameAddress
+{"limit":0,"units":[{"address":5}],"events":[{"submit":{"order":1}}]}|event 1 fault 9 Shape
+{"limit":4294967296,"units":[{"address":5}],"events":[{"submit":{"order":1}}]}|event 1 fault 9 Shape
+{"limit":10,"units":[{"address":5}],"events":[{"submit":{"order":2,"unit":5,"gtin":"4006381333932"}},{"submit":{"order":1}}]}|event 1 fault 4 Gtin
+{"limit":10,"units":[{"address":5}],"events":[{"submit":{"order":1,"unit":5,"gtin":"4006381333931"}},{"steps":500},{"submit":{"order":2,"unit":5,"gtin":"4006381333932"}}]}|event 3 fault 4 Gtin"#;
+
+// Scenarios with no unit, in which nothing happens.
+const QUIET: &str = r#"{"limit":1,"units":[],"events":[]}
+{"limit":100000,"units":[],"events":[]}
+{"limit":10,"units":[],"events":[],"fates":[]}
+{"limit":10,"units":[],"events":[],"fates":[{"times":20000}]}
+{"limit":10,"units":[],"events":[],"fates":[{"lost":[63]}]}
+{"limit":10,"units":[],"events":[],"fates":[{"lost":[5,5]}]}
+{"limit":10,"units":[],"events":[],"fates":[{"refuse":true}]}
+{"limit":10,"units":[],"events":[{"steps":1}]}
+{"limit":10,"units":[],"events":[{"steps":20000}]}
+{"limit":10,"units":[],"events":[{"steps":19999},{"steps":1}]}"#;
+
+#[test]
+fn scenarios_that_are_refused(rt: HostRuntime) -> Result<(), AllocError> {
+    for case in REFUSED.split('\n') {
+        let Some((scenario, line)) = case.split_once('|') else {
+            panic!(rt; "no line: {case}");
+        };
+        let mut text = line.as_bytes().to_vec(rt.alloc())?;
+        text.push(b'\n')?;
+        let (ended, written) = told(rt.alloc(), scenario.as_bytes(), false);
+        assert_eq!(rt; ended, Status::Refused, "{case}");
+        assert_eq!(rt; written.as_slice(), text.as_slice(), "{case}");
+    }
+    Ok(())
+}
+
+#[test]
+fn scenarios_in_which_nothing_happens(rt: HostRuntime) {
+    for scenario in QUIET.split('\n') {
+        let (ended, written) = told(rt.alloc(), scenario.as_bytes(), false);
+        assert_eq!(rt; ended, Status::Good, "{scenario}");
+        assert_eq!(rt;
+            written.as_slice(),
+            b"total 0\njournal 0\n".as_slice(),
+            "{scenario}"
+        );
+    }
+}
+
 #[test]
 fn scenarios(rt: HostRuntime) {
     let cases = [
-        // Runs.
-        (GTIN_ORDER, false, GTIN_RUN, Status::Good),
-        (GTIN_ORDER, true, GTIN_FRAMES, Status::Good),
-        (r#"{"limit":10,"units":[],
+        (GTIN_ORDER, false, GTIN_RUN),
+        (GTIN_ORDER, true, GTIN_FRAMES),
+        (
+            r#"{"limit":10,"units":[],
 "events":[{"submit":{"order":1,"unit":9,"gtin":"4006381333931"}},{"steps":50},
-{"submit":{"order":1,"unit":9,"gtin":"4006381333931"}}]}"#, false, SENT_AGAIN, Status::Good),
-        (r#"{"limit":1,"units":[{"address":5}],
+{"submit":{"order":1,"unit":9,"gtin":"4006381333931"}}]}"#,
+            false,
+            SENT_AGAIN,
+        ),
+        (
+            r#"{"limit":1,"units":[{"address":5}],
 "events":[{"submit":{"order":1,"unit":5,"gtin":"4006381333931"}},
 {"submit":{"order":1,"unit":5,"gtin":"96385074"}},{"steps":1},
 {"submit":{"order":1,"unit":5,"gtin":"96385074"}},
 {"submit":{"order":1,"unit":5,"gtin":"4006381333931"}},
 {"submit":{"order":2,"unit":5,"gtin":"4006381333931"}},{"steps":200},
 {"submit":{"order":2,"unit":5,"gtin":"4006381333931"}},
-{"submit":{"order":1,"unit":5,"gtin":"4006381333931"}}]}"#, false, TOLD_APART, Status::Good),
-        (r#"{"limit":10,"units":[{"address":5,"bank":"10FFFFFFFFFFFFFFFFFFFFFFFFFFFFFFFF"},
+{"submit":{"order":1,"unit":5,"gtin":"4006381333931"}}]}"#,
+            false,
+            TOLD_APART,
+        ),
+        (
+            r#"{"limit":10,"units":[{"address":5,"bank":"10FFFFFFFFFFFFFFFFFFFFFFFFFFFFFFFF"},
 {"address":6,"bank":"10FFFFFFFFFFFFFFFFFFFFFFFFFFFFFFFF"}],
 "fates":[{"times":5},{"times":128,"lost":[5]}],
 "events":[{"submit":{"order":1,"unit":5,"gtin":"4006381333931"}},{"steps":200},
 {"submit":{"order":2,"unit":6,"gtin":"4006381333931"}},{"steps":200},
-{"submit":{"order":2,"unit":6,"gtin":"4006381333931"}},{"steps":200}]}"#, false, LEFT_AND_CLOSED, Status::Good),
-        (r#"{"limit":10,"units":[{"address":5,"bank":"10FFFFFFFFFFFFFFFFFFFFFFFFFFFFFFFF"}],
-"events":[{"submit":{"order":1,"unit":5,"gtin":"4006381333931"}},{"steps":9}]}"#, false, ENABLED, Status::Good),
-        (r#"{"limit":10,"units":[{"address":5,"bank":"10FFFFFFFFFFFFFFFFFFFFFFFFFFFFFFFF"}],
+{"submit":{"order":2,"unit":6,"gtin":"4006381333931"}},{"steps":200}]}"#,
+            false,
+            LEFT_AND_CLOSED,
+        ),
+        (
+            r#"{"limit":10,"units":[{"address":5,"bank":"10FFFFFFFFFFFFFFFFFFFFFFFFFFFFFFFF"}],
+"events":[{"submit":{"order":1,"unit":5,"gtin":"4006381333931"}},{"steps":9}]}"#,
+            false,
+            ENABLED,
+        ),
+        (
+            r#"{"limit":10,"units":[{"address":5,"bank":"10FFFFFFFFFFFFFFFFFFFFFFFFFFFFFFFF"}],
 "fates":[{"times":18},{"answer_lost":true}],
-"events":[{"submit":{"order":1,"unit":5,"gtin":"4006381333931"}},{"steps":200}]}"#, false, LOST_ANSWER, Status::Good),
-        (r#"{"limit":10,"units":[{"address":5,"bank":"10FFFFFFFFFFFFFFFFFFFFFFFFFFFFFFFF"}],
+"events":[{"submit":{"order":1,"unit":5,"gtin":"4006381333931"}},{"steps":200}]}"#,
+            false,
+            LOST_ANSWER,
+        ),
+        (
+            r#"{"limit":10,"units":[{"address":5,"bank":"10FFFFFFFFFFFFFFFFFFFFFFFFFFFFFFFF"}],
 "fates":[{"times":18},{"refuse":true}],
-"events":[{"submit":{"order":1,"unit":5,"gtin":"4006381333931"}},{"steps":200}]}"#, false, LOST_ANSWER, Status::Good),
-        (r#"{"limit":10,"units":[{"address":5,"bank":"10FFFFFFFFFFFFFFFFFFFFFFFFFFFFFFFF","fixed":[5]}],
-"events":[{"submit":{"order":1,"unit":5,"gtin":"4006381333931"}},{"steps":200}]}"#, false, FIXED, Status::Good),
-        (r#"{"limit":10,"units":[{"address":5,"bank":"10FFFFFFFFFFFFFFFFFFFFFFFFFFFFFFFF","dtr":[0,2,0]}],
+"events":[{"submit":{"order":1,"unit":5,"gtin":"4006381333931"}},{"steps":200}]}"#,
+            false,
+            LOST_ANSWER,
+        ),
+        (
+            r#"{"limit":10,"units":[{"address":5,"bank":"10FFFFFFFFFFFFFFFFFFFFFFFFFFFFFFFF","dtr":[0,2,0]}],
 "fates":[{"lost":[5]},{"times":6},{"lost":[5]}],
-"events":[{"submit":{"order":1,"unit":5,"gtin":"4006381333931"}},{"steps":200}]}"#, false, "ask 1\nreply 1 taken\nkeep B order 1 unit 5 bytes 6\nframes 7\nkeep O unit 5\nframes 98\nkeep E 0 Done\nreply 1 kept 0 Done\ntotal 105\njournal 27\nunit 5 dtr 09 01 00 enabled no\nbank 5 00 10FFFF03A4CEEFADABFFFFFFFFFFFFFF\n", Status::Good),
-        (r#"{"limit":10,"units":[],
-"events":[{"submit":{"order":18446744073709551615,"unit":63,"gtin":"4006381333931"}},{"steps":50}]}"#, false, GREATEST, Status::Good),
-        (r#"{"limit":10,"units":[],
-"events":[{"submit":{"order":1,"unit":9,"gtin":"4006381333931"}},{"steps":19999}]}"#, false, "ask 1\nreply 1 taken\nkeep B order 1 unit 9 bytes 6\nframes 16\nkeep E 3 Silent\nreply 1 kept 3 Silent\ntotal 16\njournal 25\n", Status::Good),
-        (r#"{"limit":10,"units":[{"address":6,"bank":"10FFFFFFFFFFFFFFFFFFFFFFFFFFFFFFFF"},{"address":5,"bank":"10FFFFFFFFFFFFFFFFFFFFFFFFFFFFFFFF"}],
-"events":[]}"#, false, "total 0\njournal 0\nunit 6 dtr 00 00 00 enabled no\nbank 6 00 10FFFFFFFFFFFFFFFFFFFFFFFFFFFFFF\nunit 5 dtr 00 00 00 enabled no\nbank 5 00 10FFFFFFFFFFFFFFFFFFFFFFFFFFFFFF\n", Status::Good),
-        // The limit.
-        (r#"{"limit":0,"units":[],"events":[]}"#, false, LIMIT, Status::Refused),
-        (r#"{"limit":1,"units":[],"events":[]}"#, false, NOTHING, Status::Good),
-        (r#"{"limit":100000,"units":[],"events":[]}"#, false, NOTHING, Status::Good),
-        (r#"{"limit":100001,"units":[],"events":[]}"#, false, LIMIT, Status::Refused),
-        (r#"{"limit":4294967296,"units":[],"events":[]}"#, false, LIMIT, Status::Refused),
-        (r#"{"limit":18446744073709551615,"units":[],"events":[]}"#, false, LIMIT, Status::Refused),
-        (r#"{"limit":18446744073709551616,"units":[],"events":[]}"#, false, DOCUMENT, Status::Refused),
-        (r#"{"limit":-1,"units":[],"events":[]}"#, false, DOCUMENT, Status::Refused),
-        (r#"{"limit":1.0,"units":[],"events":[]}"#, false, DOCUMENT, Status::Refused),
-        (r#"{"limit":"10","units":[],"events":[]}"#, false, DOCUMENT, Status::Refused),
-        (r#"{"units":[],"events":[]}"#, false, DOCUMENT, Status::Refused),
-        // The form of the whole.
-        (r#"{"#, false, JSON, Status::Refused),
-        (r#"{"limit":10,"events":[]}"#, false, DOCUMENT, Status::Refused),
-        (r#"{"limit":10,"units":[]}"#, false, DOCUMENT, Status::Refused),
-        (r#"{"limit":10,"units":[],"events":[],"fates":{}}"#, false, DOCUMENT, Status::Refused),
-        (r#"{"limit":10,"units":[],"events":[],"fates":[]}"#, false, NOTHING, Status::Good),
-        (r#"{"limit":10,"units":[],"events":[],"name":"a bench"}"#, false, DOCUMENT, Status::Refused),
-        // Units.
-        (r#"{"limit":10,"units":[{"address":64,"bank":"10FFFFFFFFFFFFFFFFFFFFFFFFFFFFFFFF"}],
-"events":[]}"#, false, "unit 1 fault 1 Address\n", Status::Refused),
-        (r#"{"limit":10,"units":[{"address":255,"bank":"10FFFFFFFFFFFFFFFFFFFFFFFFFFFFFFFF"}],
-"events":[]}"#, false, "unit 1 fault 1 Address\n", Status::Refused),
-        (r#"{"limit":10,"units":[{"address":256,"bank":"10FFFFFFFFFFFFFFFFFFFFFFFFFFFFFFFF"}],
-"events":[]}"#, false, DOCUMENT, Status::Refused),
-        (r#"{"limit":10,"units":[{"address":-1,"bank":"10FFFFFFFFFFFFFFFFFFFFFFFFFFFFFFFF"}],
-"events":[]}"#, false, DOCUMENT, Status::Refused),
-        (r#"{"limit":10,"units":[{"address":5,"group":1}],"events":[]}"#, false, DOCUMENT, Status::Refused),
-        (r#"{"limit":10,"units":[{"address":5},{"address":5}],"events":[]}"#, false, SAME_ADDRESS, Status::Refused),
-        // Banks.
-        (r#"{"limit":10,"units":[{"address":5,"bank":"10FFFFFFFFFFFFFFFFFFFFFFFFFFFFFFF"}],
-"events":[]}"#, false, DOCUMENT, Status::Refused),
-        (r#"{"limit":10,"units":[{"address":5,"bank":"0FFFFFFFFFFFFFFFFFFFFFFFFFFFFFFF"}],
-"events":[]}"#, false, "unit 1 fault 2 Size\n", Status::Refused),
-        (r#"{"limit":10,"units":[{"address":5,"bank":"1GFFFFFFFFFFFFFFFFFFFFFFFFFFFFFFFF"}],
-"events":[]}"#, false, DOCUMENT, Status::Refused),
-        (r#"{"limit":10,"units":[{"address":5,"bank":""}],"events":[]}"#, false, "unit 1 fault 2 Size\n", Status::Refused),
-        (r#"{"limit":10,"units":[{"address":5,"bank":"10fFFfaBaBaBaBaBaBaBaBaBaBaBaBaBaB"}],
-"events":[]}"#, false, "total 0\njournal 0\nunit 5 dtr 00 00 00 enabled no\nbank 5 00 10FFFFABABABABABABABABABABABABAB\nbank 5 10 AB\n", Status::Good),
-        // Fixed locations.
-        (r#"{"limit":10,"units":[{"address":5,"fixed":[3,4,119]}],"events":[]}"#, false, "total 0\njournal 0\nunit 5 dtr 00 00 00 enabled no\nbank 5 00 77FFFFFFFFFFFFFFFFFFFFFFFFFFFFFF\nbank 5 10 FF0003FFFFFFFFFFFFFFFFFFFFFFFFFF\n", Status::Good),
-        (r#"{"limit":10,"units":[{"address":5,"fixed":[2]}],"events":[]}"#, false, "unit 1 fault 3 Fixed\n", Status::Refused),
-        (r#"{"limit":10,"units":[{"address":5,"fixed":[120]}],"events":[]}"#, false, "unit 1 fault 3 Fixed\n", Status::Refused),
-        (r#"{"limit":10,"units":[{"address":5,"fixed":[5,5]}],"events":[]}"#, false, "unit 1 fault 3 Fixed\n", Status::Refused),
-        (r#"{"limit":10,"units":[{"address":5,"fixed":[6,5]}],"events":[]}"#, false, "unit 1 fault 3 Fixed\n", Status::Refused),
-        (r#"{"limit":10,"units":[{"address":5,"fixed":[256]}],"events":[]}"#, false, DOCUMENT, Status::Refused),
-        // Registers.
-        (r#"{"limit":10,"units":[{"address":5,"bank":"10FFFFFFFFFFFFFFFFFFFFFFFFFFFFFFFF","dtr":[1,2,255]}],
-"events":[]}"#, false, "total 0\njournal 0\nunit 5 dtr 01 02 FF enabled no\nbank 5 00 10FFFFFFFFFFFFFFFFFFFFFFFFFFFFFF\n", Status::Good),
-        (r#"{"limit":10,"units":[{"address":5,"bank":"10FFFFFFFFFFFFFFFFFFFFFFFFFFFFFFFF","dtr":[1,2]}],
-"events":[]}"#, false, DOCUMENT, Status::Refused),
-        (r#"{"limit":10,"units":[{"address":5,"bank":"10FFFFFFFFFFFFFFFFFFFFFFFFFFFFFFFF","dtr":[1,2,3,4]}],
-"events":[]}"#, false, DOCUMENT, Status::Refused),
-        (r#"{"limit":10,"units":[{"address":5,"bank":"10FFFFFFFFFFFFFFFFFFFFFFFFFFFFFFFF","dtr":[1,2,256]}],
-"events":[]}"#, false, DOCUMENT, Status::Refused),
-        // Fates.
-        (r#"{"limit":10,"units":[],"events":[],"fates":[{"times":20000}]}"#, false, NOTHING, Status::Good),
-        (r#"{"limit":10,"units":[],"events":[],"fates":[{"times":20000},{}]}"#, false, TOO_BIG, Status::Refused),
-        (r#"{"limit":10,"units":[],"events":[],"fates":[{"times":20001}]}"#, false, DOCUMENT, Status::Refused),
-        (r#"{"limit":10,"units":[],"events":[],"fates":[{"lost":[63]}]}"#, false, NOTHING, Status::Good),
-        (r#"{"limit":10,"units":[],"events":[],"fates":[{"lost":[64]}]}"#, false, DOCUMENT, Status::Refused),
-        (r#"{"limit":10,"units":[],"events":[],"fates":[{"lost":[5,5]}]}"#, false, NOTHING, Status::Good),
-        (r#"{"limit":10,"units":[],"events":[],"fates":[{"lost":5}]}"#, false, DOCUMENT, Status::Refused),
-        (r#"{"limit":10,"units":[],"events":[],"fates":[{"answer_lost":1}]}"#, false, DOCUMENT, Status::Refused),
-        (r#"{"limit":10,"units":[],"events":[],"fates":[{"refuse":true}]}"#, false, NOTHING, Status::Good),
-        (r#"{"limit":10,"units":[],"events":[],"fates":[{"late":true}]}"#, false, DOCUMENT, Status::Refused),
-        (r#"{"limit":10,"units":[],"events":[],"fates":[5]}"#, false, DOCUMENT, Status::Refused),
-        // Events.
-        (r#"{"limit":10,"units":[],"events":[{}]}"#, false, DOCUMENT, Status::Refused),
-        (r#"{"limit":10,"units":[],"events":[5]}"#, false, DOCUMENT, Status::Refused),
-        (r#"{"limit":10,"units":[],"events":[{"wait":1}]}"#, false, DOCUMENT, Status::Refused),
-        (r#"{"limit":10,"units":[],"events":[{"steps":1,"submit":{"order":1,"unit":5,"gtin":null}}]}"#, false, DOCUMENT, Status::Refused),
-        (r#"{"limit":10,"units":[],"events":[{"steps":1}]}"#, false, NOTHING, Status::Good),
-        (r#"{"limit":10,"units":[],"events":[{"steps":20000}]}"#, false, NOTHING, Status::Good),
-        (r#"{"limit":10,"units":[],"events":[{"steps":0}]}"#, false, DOCUMENT, Status::Refused),
-        (r#"{"limit":10,"units":[],"events":[{"steps":20001}]}"#, false, DOCUMENT, Status::Refused),
-        (r#"{"limit":10,"units":[],"events":[{"steps":20000},{"steps":1}]}"#, false, TOO_BIG, Status::Refused),
-        (r#"{"limit":10,"units":[],"events":[{"steps":19999},{"steps":1}]}"#, false, NOTHING, Status::Good),
-        (r#"{"limit":10,"units":[],"events":[{"stop":0}]}"#, false, DOCUMENT, Status::Refused),
-        // Orders.
-        (r#"{"limit":10,"units":[],"events":[{"submit":{"order":1}}]}"#, false, SHAPE, Status::Refused),
-        (r#"{"limit":10,"units":[],"events":[{"submit":5}]}"#, false, SHAPE, Status::Refused),
-        // The order of the tests.
-        (r#"{"limit":10,"units":[],"events":[{"steps":20000},{"steps":1}]"#, false, JSON, Status::Refused),
-        (r#"{"limit":10,"units":[],"events":[{"steps":20000},{"steps":1},{"steps":0}]}"#, false, DOCUMENT, Status::Refused),
-        (r#"{"limit":10,"units":[],"events":[{"steps":20000},{"steps":1}],"fates":[{"times":0}]}"#, false, DOCUMENT, Status::Refused),
-        (r#"{"limit":10,"units":[{"address":64}],"events":[{"steps":20000},{"steps":1}]}"#, false, TOO_BIG, Status::Refused),
-        (r#"{"limit":10,"units":[{"address":64}],"events":[],"fates":[{"times":20000},{}]}"#, false, TOO_BIG, Status::Refused),
-        (r#"{"limit":10,"units":[{"address":5},{"address":5},{"address":64}],"events":[]}"#, false, "unit 3 fault 1 Address\n", Status::Refused),
-        (r#"{"limit":10,"units":[{"address":64}],"events":[{"submit":{"order":1}}]}"#, false, "unit 1 fault 1 Address\n", Status::Refused),
-        (r#"{"limit":10,"units":[{"address":5},{"address":5}],"events":[{"submit":{"order":1}}]}"#, false, SAME_ADDRESS, Status::Refused),
-        (r#"{"limit":0,"units":[{"address":5}],"events":[{"submit":{"order":1}}]}"#, false, SHAPE, Status::Refused),
-        (r#"{"limit":4294967296,"units":[{"address":5}],"events":[{"submit":{"order":1}}]}"#, false, SHAPE, Status::Refused),
-        (r#"{"limit":10,"units":[{"address":5}],
-"events":[{"submit":{"order":2,"unit":5,"gtin":"4006381333932"}},
-{"submit":{"order":1}}]}"#, false, "event 1 fault 4 Gtin\n", Status::Refused),
-        (r#"{"limit":10,"units":[{"address":5}],
-"events":[{"submit":{"order":1,"unit":5,"gtin":"4006381333931"}},{"steps":500},
-{"submit":{"order":2,"unit":5,"gtin":"4006381333932"}}]}"#, false, "event 3 fault 4 Gtin\n", Status::Refused),
+"events":[{"submit":{"order":1,"unit":5,"gtin":"4006381333931"}},{"steps":200}]}"#,
+            false,
+            "\
+ask 1
+reply 1 taken
+keep B order 1 unit 5 bytes 6
+frames 7
+keep O unit 5
+frames 98
+keep E 0 Done
+reply 1 kept 0 Done
+total 105
+journal 27
+unit 5 dtr 09 01 00 enabled no
+bank 5 00 10FFFF03A4CEEFADABFFFFFFFFFFFFFF
+",
+        ),
+        (
+            r#"{"limit":10,"units":[{"address":5,"bank":"10FFFFFFFFFFFFFFFFFFFFFFFFFFFFFFFF","fixed":[5]}],
+"events":[{"submit":{"order":1,"unit":5,"gtin":"4006381333931"}},{"steps":200}]}"#,
+            false,
+            FIXED,
+        ),
+        (
+            r#"{"limit":10,"units":[],
+"events":[{"submit":{"order":18446744073709551615,"unit":63,"gtin":"4006381333931"}},{"steps":50}]}"#,
+            false,
+            GREATEST,
+        ),
+        (
+            r#"{"limit":10,"units":[],
+"events":[{"submit":{"order":1,"unit":9,"gtin":"4006381333931"}},{"steps":19999}]}"#,
+            false,
+            "\
+ask 1
+reply 1 taken
+keep B order 1 unit 9 bytes 6
+frames 16
+keep E 3 Silent
+reply 1 kept 3 Silent
+total 16
+journal 25
+",
+        ),
     ];
-    for (scenario, single_frames, text, status) in cases {
+    for (scenario, single_frames, text) in cases {
         let (ended, written) = told(rt.alloc(), scenario.as_bytes(), single_frames);
-        assert_eq!(rt; ended, status, "{text}");
+        assert_eq!(rt; ended, Status::Good, "{text}");
+        assert_eq!(rt; written.as_slice(), text.as_bytes(), "{text}");
+    }
+}
+
+#[test]
+fn units_that_nothing_happens_to(rt: HostRuntime) {
+    let cases = [
+        (
+            r#"{"limit":10,"units":[{"address":6,"bank":"10FFFFFFFFFFFFFFFFFFFFFFFFFFFFFFFF"},{"address":5,"bank":"10FFFFFFFFFFFFFFFFFFFFFFFFFFFFFFFF"}],
+"events":[]}"#,
+            "\
+total 0
+journal 0
+unit 6 dtr 00 00 00 enabled no
+bank 6 00 10FFFFFFFFFFFFFFFFFFFFFFFFFFFFFF
+unit 5 dtr 00 00 00 enabled no
+bank 5 00 10FFFFFFFFFFFFFFFFFFFFFFFFFFFFFF
+",
+        ),
+        (
+            r#"{"limit":10,"units":[{"address":5,"bank":"10fFFfaBaBaBaBaBaBaBaBaBaBaBaBaBaB"}],
+"events":[]}"#,
+            "\
+total 0
+journal 0
+unit 5 dtr 00 00 00 enabled no
+bank 5 00 10FFFFABABABABABABABABABABABABAB
+bank 5 10 AB
+",
+        ),
+        (
+            r#"{"limit":10,"units":[{"address":5,"fixed":[3,4,119]}],"events":[]}"#,
+            "\
+total 0
+journal 0
+unit 5 dtr 00 00 00 enabled no
+bank 5 00 77FFFFFFFFFFFFFFFFFFFFFFFFFFFFFF
+bank 5 10 FF0003FFFFFFFFFFFFFFFFFFFFFFFFFF
+",
+        ),
+        (
+            r#"{"limit":10,"units":[{"address":5,"bank":"10FFFFFFFFFFFFFFFFFFFFFFFFFFFFFFFF","dtr":[1,2,255]}],
+"events":[]}"#,
+            "\
+total 0
+journal 0
+unit 5 dtr 01 02 FF enabled no
+bank 5 00 10FFFFFFFFFFFFFFFFFFFFFFFFFFFFFF
+",
+        ),
+    ];
+    for (scenario, text) in cases {
+        let (ended, written) = told(rt.alloc(), scenario.as_bytes(), false);
+        assert_eq!(rt; ended, Status::Good, "{text}");
         assert_eq!(rt; written.as_slice(), text.as_bytes(), "{text}");
     }
 }
@@ -486,7 +613,7 @@ fn fourteen_fields_and_a_full_journal(rt: HostRuntime) {
     assert_eq!(rt; written.as_slice(), FOURTEEN_FIELDS_RUN.as_bytes());
 }
 
-// The longest bank that a unit can have, and then a digit more each time; 512 are the most that a file may have.
+// The longest bank that a unit can have, and then a digit more each time: a file may have 512.
 #[test]
 fn banks_by_their_length(rt: HostRuntime) -> Result<(), AllocError> {
     let cases = [
@@ -524,7 +651,7 @@ fn an_input_over_the_limit(rt: HostRuntime) {
         run_scenario(rt.alloc(), &mut reader, &mut written, false),
         Status::Refused
     );
-    assert_eq!(rt; written.as_slice(), TOO_BIG.as_bytes());
+    assert_eq!(rt; written.as_slice(), b"fault 13 TooBig\n".as_slice());
     assert_eq!(rt; reader.given, 16_777_217);
 }
 
@@ -550,7 +677,7 @@ fn a_writer_that_fails_in_mid_text(rt: HostRuntime) {
     let cases = [
         (GTIN_ORDER, false, GTIN_RUN),
         (GTIN_ORDER, true, GTIN_FRAMES),
-        ("[", false, JSON),
+        ("[", false, "fault 11 Json\n"),
     ];
     for (scenario, single_frames, text) in cases {
         for room in 0..text.len() {

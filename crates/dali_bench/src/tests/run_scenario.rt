@@ -1,0 +1,696 @@
+use super::streams::{FailingReader, FullWriter, Spaces};
+use crate::fault::Status;
+use crate::run_scenario::run_scenario;
+use std::alloc::{AllocError, Global};
+
+const DOCUMENT: &str = "fault 12 Document\n";
+
+const GTIN_ORDER: &str = r#"{"limit":10,"units":[{"address":5}],
+"events":[{"submit":{"order":1,"unit":5,"gtin":"4006381333931"}},{"steps":200}]}"#;
+
+const GTIN_RUN: &str = "\
+ask 1
+reply 1 taken
+keep B order 1 unit 5 bytes 6
+frames 5
+keep O unit 5
+frames 91
+keep E 0 Done
+reply 1 kept 0 Done
+total 96
+journal 27
+unit 5 dtr 09 01 00 enabled no
+bank 5 00 77FFFF03A4CEEFADABFFFFFFFFFFFFFF
+bank 5 10 FF0003FFFFFFFFFFFFFFFFFFFFFFFFFF
+";
+
+const GTIN_FRAMES: &str = "\
+ask 1
+reply 1 taken
+keep B order 1 unit 5 bytes 6
+send C301 --
+send 0B9C 01
+send A300 --
+send 0B98 00
+send 0BC5 77
+keep O unit 5
+send 0B81 --
+send 0B81 --
+send C301 --
+send 0B9C 01
+send A302 --
+send 0B98 02
+send C755 55
+send 0B81 --
+send 0B81 --
+send C301 --
+send 0B9C 01
+send A303 --
+send 0B98 03
+send C703 03
+send 0B81 --
+send 0B81 --
+send C301 --
+send 0B9C 01
+send A304 --
+send 0B98 04
+send C7A4 A4
+send 0B81 --
+send 0B81 --
+send C301 --
+send 0B9C 01
+send A305 --
+send 0B98 05
+send C7CE CE
+send 0B81 --
+send 0B81 --
+send C301 --
+send 0B9C 01
+send A306 --
+send 0B98 06
+send C7EF EF
+send 0B81 --
+send 0B81 --
+send C301 --
+send 0B9C 01
+send A307 --
+send 0B98 07
+send C7AD AD
+send 0B81 --
+send 0B81 --
+send C301 --
+send 0B9C 01
+send A308 --
+send 0B98 08
+send C7AB AB
+send 0B81 --
+send 0B81 --
+send C301 --
+send 0B9C 01
+send A302 --
+send 0B98 02
+send C7FF FF
+send C301 --
+send 0B9C 01
+send A302 --
+send 0B98 02
+send 0BC5 FF
+send C301 --
+send 0B9C 01
+send A303 --
+send 0B98 03
+send 0BC5 03
+send C301 --
+send 0B9C 01
+send A304 --
+send 0B98 04
+send 0BC5 A4
+send C301 --
+send 0B9C 01
+send A305 --
+send 0B98 05
+send 0BC5 CE
+send C301 --
+send 0B9C 01
+send A306 --
+send 0B98 06
+send 0BC5 EF
+send C301 --
+send 0B9C 01
+send A307 --
+send 0B98 07
+send 0BC5 AD
+send C301 --
+send 0B9C 01
+send A308 --
+send 0B98 08
+send 0BC5 AB
+keep E 0 Done
+reply 1 kept 0 Done
+total 96
+journal 27
+unit 5 dtr 09 01 00 enabled no
+bank 5 00 77FFFF03A4CEEFADABFFFFFFFFFFFFFF
+bank 5 10 FF0003FFFFFFFFFFFFFFFFFFFFFFFFFF
+";
+
+// Unit 9 is absent.
+const SENT_AGAIN: &str = "\
+ask 1
+reply 1 taken
+keep B order 1 unit 9 bytes 6
+frames 16
+keep E 3 Silent
+reply 1 kept 3 Silent
+ask 1
+reply 1 kept 3 Silent
+total 16
+journal 25
+";
+
+// While order 1 is at work it is busy, its number with other bytes reused; then the journal is full.
+const TOLD_APART: &str = "\
+ask 1
+reply 1 taken
+ask 1
+reply 1 busy
+keep B order 1 unit 5 bytes 6
+ask 1
+reply 1 reused
+ask 1
+reply 1 busy
+ask 2
+reply 2 busy
+frames 5
+keep O unit 5
+frames 91
+keep E 0 Done
+reply 1 kept 0 Done
+ask 2
+reply 2 full
+ask 1
+reply 1 kept 0 Done
+total 96
+journal 27
+unit 5 dtr 09 01 00 enabled no
+bank 5 00 77FFFF03A4CEEFADABFFFFFFFFFFFFFF
+bank 5 10 FF0003FFFFFFFFFFFFFFFFFFFFFFFFFF
+";
+
+// Unit 5 is left open, which blocks the next order, and then closed.
+const LEFT_AND_CLOSED: &str = "\
+ask 1
+reply 1 taken
+keep B order 1 unit 5 bytes 6
+frames 5
+keep O unit 5
+frames 80
+keep E 5 DoubtOpen
+reply 1 kept 5 DoubtOpen
+ask 2
+reply 2 taken
+frames 48
+reply 2 blocked 5
+ask 2
+reply 2 taken
+frames 12
+keep C unit 5
+keep B order 2 unit 6 bytes 6
+frames 5
+keep O unit 6
+frames 91
+keep E 0 Done
+reply 2 kept 0 Done
+total 241
+journal 56
+unit 5 dtr 08 01 00 enabled no
+bank 5 00 10FFFFFFFFFFFFFFFFFFFFFFFFFFFFFF
+unit 6 dtr 09 01 00 enabled no
+bank 6 00 10FFFF03A4CEEFADABFFFFFFFFFFFFFF
+";
+
+// One write isn't answered, which takes a try of seven frames more.
+const LOST_ANSWER: &str = "\
+ask 1
+reply 1 taken
+keep B order 1 unit 5 bytes 6
+frames 5
+keep O unit 5
+frames 98
+keep E 0 Done
+reply 1 kept 0 Done
+total 103
+journal 27
+unit 5 dtr 09 01 00 enabled no
+bank 5 00 10FFFF03A4CEEFADABFFFFFFFFFFFFFF
+";
+
+const FIXED: &str = "\
+ask 1
+reply 1 taken
+keep B order 1 unit 5 bytes 6
+frames 5
+keep O unit 5
+frames 89
+keep E 4 Doubt
+reply 1 kept 4 Doubt
+total 94
+journal 27
+unit 5 dtr 03 01 00 enabled no
+bank 5 00 10FFFF03A4FFFFFFFFFFFFFFFFFFFFFF
+";
+
+const ENABLED: &str = "\
+ask 1
+reply 1 taken
+keep B order 1 unit 5 bytes 6
+frames 5
+keep O unit 5
+frames 2
+total 7
+journal 25
+unit 5 dtr 01 01 00 enabled yes
+bank 5 00 10FFFFFFFFFFFFFFFFFFFFFFFFFFFFFF
+";
+
+const GREATEST: &str = "\
+ask 18446744073709551615
+reply 18446744073709551615 taken
+keep B order 18446744073709551615 unit 63 bytes 6
+frames 16
+keep E 3 Silent
+reply 18446744073709551615 kept 3 Silent
+total 16
+journal 25
+";
+
+const FOURTEEN_FIELDS: &str = r#"{"limit":2,
+"units":[{"address":5}],
+"events":[{"submit":{"order":1,"unit":5,"gtin":"4006381333931","identification":"0011223344556677","year":24,"week":53,
+"input_power":40,"min_dim_power":4,"min_voltage":220,"max_voltage":240,
+"light_output":5000,"cri":80,"cct":4000,"distribution":1,
+"colour":"AAAAAAAAAAAAAAAAAAAAAAAA",
+"luminaire":"BBBBBBBBBBBBBBBBBBBBBBBBBBBBBBBBBBBBBBBBBBBBBBBBBBBBBBBBBBBB"}},
+{"steps":1500},
+{"submit":{"order":2,"unit":5,"gtin":"4006381333931"}},
+{"steps":200},
+{"submit":{"order":3,"unit":5,"year":24}},
+{"submit":{"order":1,"unit":5,"gtin":"4006381333931","identification":"0011223344556677","year":24,"week":53,
+"input_power":40,"min_dim_power":4,"min_voltage":220,"max_voltage":240,
+"light_output":5000,"cri":80,"cct":4000,"distribution":1,
+"colour":"AAAAAAAAAAAAAAAAAAAAAAAA",
+"luminaire":"BBBBBBBBBBBBBBBBBBBBBBBBBBBBBBBBBBBBBBBBBBBBBBBBBBBBBBBBBBBB"}}]}"#;
+
+const FOURTEEN_FIELDS_RUN: &str = "\
+ask 1
+reply 1 taken
+keep B order 1 unit 5 bytes 115
+frames 15
+keep O unit 5
+frames 1399
+keep E 0 Done
+reply 1 kept 0 Done
+ask 2
+reply 2 taken
+keep B order 2 unit 5 bytes 6
+frames 5
+keep O unit 5
+frames 91
+keep E 0 Done
+reply 2 kept 0 Done
+ask 3
+reply 3 full
+ask 1
+reply 1 kept 0 Done
+total 1510
+journal 272
+unit 5 dtr 09 01 00 enabled no
+bank 5 00 77FFFF03A4CEEFADAB00112233445566
+bank 5 10 77000318350028000400DC00F0001388
+bank 5 20 500FA001414141414141414141414141
+bank 5 30 41414141414141414141414142424242
+bank 5 40 42424242424242424242424242424242
+bank 5 50 42424242424242424242424242424242
+bank 5 60 42424242424242424242424242424242
+bank 5 70 4242424242424242
+";
+
+// How the run of a scenario ends, and what it writes.
+fn told(alloc: Global, scenario: &[u8], single_frames: bool) -> (Status, Vec<u8>) {
+    let mut reader = scenario;
+    let mut written = Vec::new(alloc);
+    let status = run_scenario(alloc, &mut reader, &mut written, single_frames);
+    (status, written)
+}
+
+// A scenario that is refused and the line that says why, with a bar between them.
+const REFUSED: &str = r#"{"limit":0,"units":[],"events":[]}|run fault 1 Limit
+{"limit":100001,"units":[],"events":[]}|run fault 1 Limit
+{"limit":4294967296,"units":[],"events":[]}|run fault 1 Limit
+{"limit":18446744073709551615,"units":[],"events":[]}|run fault 1 Limit
+{"limit":18446744073709551616,"units":[],"events":[]}|fault 12 Document
+{"limit":-1,"units":[],"events":[]}|fault 12 Document
+{"limit":1.0,"units":[],"events":[]}|fault 12 Document
+{"limit":"10","units":[],"events":[]}|fault 12 Document
+{"units":[],"events":[]}|fault 12 Document
+{|fault 11 Json
+[]|fault 12 Document
+{"limit":10,"events":[]}|fault 12 Document
+{"limit":10,"units":[]}|fault 12 Document
+{"limit":10,"units":[],"events":[],"fates":{}}|fault 12 Document
+{"limit":10,"units":[],"events":[],"name":"a bench"}|fault 12 Document
+{"limit":10,"units":[{"address":64,"bank":"10FFFFFFFFFFFFFFFFFFFFFFFFFFFFFFFF"}],"events":[]}|unit 1 fault 1 Address
+{"limit":10,"units":[{"address":255,"bank":"10FFFFFFFFFFFFFFFFFFFFFFFFFFFFFFFF"}],"events":[]}|unit 1 fault 1 Address
+{"limit":10,"units":[{"address":256,"bank":"10FFFFFFFFFFFFFFFFFFFFFFFFFFFFFFFF"}],"events":[]}|fault 12 Document
+{"limit":10,"units":[{"address":-1,"bank":"10FFFFFFFFFFFFFFFFFFFFFFFFFFFFFFFF"}],"events":[]}|fault 12 Document
+{"limit":10,"units":[{}],"events":[]}|fault 12 Document
+{"limit":10,"units":[5],"events":[]}|fault 12 Document
+{"limit":10,"units":[{"address":5,"group":1}],"events":[]}|fault 12 Document
+{"limit":10,"units":[{"address":64,"bank":"","fixed":[2]}],"events":[]}|unit 1 fault 1 Address
+{"limit":10,"units":[{"address":5,"bank":"","fixed":[2]}],"events":[]}|unit 1 fault 2 Size
+{"limit":10,"units":[{"address":5},{"address":6,"bank":""},{"address":64}],"events":[]}|unit 2 fault 2 Size
+{"limit":10,"units":[{"address":5},{"address":5}],"events":[]}|gear fault 5 SameAddress
+{"limit":10,"units":[{"address":5,"bank":"10FFFFFFFFFFFFFFFFFFFFFFFFFFFFFFF"}],"events":[]}|fault 12 Document
+{"limit":10,"units":[{"address":5,"bank":"0FFFFFFFFFFFFFFFFFFFFFFFFFFFFFFF"}],"events":[]}|unit 1 fault 2 Size
+{"limit":10,"units":[{"address":5,"bank":"1GFFFFFFFFFFFFFFFFFFFFFFFFFFFFFFFF"}],"events":[]}|fault 12 Document
+{"limit":10,"units":[{"address":5,"bank":""}],"events":[]}|unit 1 fault 2 Size
+{"limit":10,"units":[{"address":5,"fixed":[2]}],"events":[]}|unit 1 fault 3 Fixed
+{"limit":10,"units":[{"address":5,"fixed":[120]}],"events":[]}|unit 1 fault 3 Fixed
+{"limit":10,"units":[{"address":5,"fixed":[5,5]}],"events":[]}|unit 1 fault 3 Fixed
+{"limit":10,"units":[{"address":5,"fixed":[6,5]}],"events":[]}|unit 1 fault 3 Fixed
+{"limit":10,"units":[{"address":5,"fixed":[256]}],"events":[]}|fault 12 Document
+{"limit":10,"units":[{"address":5,"bank":"10FFFFFFFFFFFFFFFFFFFFFFFFFFFFFFFF","dtr":[1,2]}],"events":[]}|fault 12 Document
+{"limit":10,"units":[{"address":5,"bank":"10FFFFFFFFFFFFFFFFFFFFFFFFFFFFFFFF","dtr":[1,2,3,4]}],"events":[]}|fault 12 Document
+{"limit":10,"units":[{"address":5,"bank":"10FFFFFFFFFFFFFFFFFFFFFFFFFFFFFFFF","dtr":[1,2,256]}],"events":[]}|fault 12 Document
+{"limit":10,"units":[],"events":[],"fates":[{"times":20000},{}]}|fault 13 TooBig
+{"limit":10,"units":[],"events":[],"fates":[{"times":0}]}|fault 12 Document
+{"limit":10,"units":[],"events":[],"fates":[{"times":20001}]}|fault 12 Document
+{"limit":10,"units":[],"events":[],"fates":[{"lost":[64]}]}|fault 12 Document
+{"limit":10,"units":[],"events":[],"fates":[{"lost":5}]}|fault 12 Document
+{"limit":10,"units":[],"events":[],"fates":[{"answer_lost":1}]}|fault 12 Document
+{"limit":10,"units":[],"events":[],"fates":[{"late":true}]}|fault 12 Document
+{"limit":10,"units":[],"events":[],"fates":[5]}|fault 12 Document
+{"limit":10,"units":[],"events":[{}]}|fault 12 Document
+{"limit":10,"units":[],"events":[5]}|fault 12 Document
+{"limit":10,"units":[],"events":[{"wait":1}]}|fault 12 Document
+{"limit":10,"units":[],"events":[{"steps":1,"submit":{"order":1,"unit":5,"gtin":null}}]}|fault 12 Document
+{"limit":10,"units":[],"events":[{"steps":0}]}|fault 12 Document
+{"limit":10,"units":[],"events":[{"steps":20001}]}|fault 12 Document
+{"limit":10,"units":[],"events":[{"steps":20000},{"steps":1}]}|fault 13 TooBig
+{"limit":10,"units":[],"events":[{"steps":19999},{"submit":{}}]}|event 2 fault 9 Shape
+{"limit":10,"units":[],"events":[{"stop":0}]}|fault 12 Document
+{"limit":10,"units":[],"events":[{"stop":65535}]}|fault 12 Document
+{"limit":10,"units":[{"address":5}],"events":[{"submit":{"order":1,"unit":5,"gtin":"4006381333931"}},{"steps":6},{"stop":1},{"steps":200}]}|fault 12 Document
+{"limit":10,"units":[],"events":[{"submit":{"order":1}}]}|event 1 fault 9 Shape
+{"limit":10,"units":[],"events":[{"submit":{}}]}|event 1 fault 9 Shape
+{"limit":10,"units":[],"events":[{"submit":5}]}|event 1 fault 9 Shape
+{"limit":10,"units":[],"events":[{"submit":{"order":1,"unit":64,"weight":1}}]}|event 1 fault 10 Key
+{"limit":10,"units":[],"events":[{"submit":{"order":1,"unit":64,"gtin":7}}]}|event 1 fault 1 Unit
+{"limit":10,"units":[],"events":[{"steps":20000},{"steps":1}]|fault 11 Json
+{"limit":10,"units":[],"events":[{"steps":20000},{"steps":1},{"steps":0}]}|fault 12 Document
+{"limit":10,"units":[],"events":[{"steps":20000},{"steps":1}],"fates":[{"times":0}]}|fault 12 Document
+{"limit":10,"units":[{"address":64}],"events":[{"steps":20000},{"steps":1}]}|fault 13 TooBig
+{"limit":10,"units":[{"address":64}],"events":[],"fates":[{"times":20000},{}]}|fault 13 TooBig
+{"limit":10,"units":[],"events":[{"submit":{}},{"steps":20000}]}|fault 13 TooBig
+{"limit":0,"units":[],"events":[{"steps":20000},{"steps":1}]}|fault 13 TooBig
+{"limit":10,"units":[{"address":5},{"address":5},{"address":64}],"events":[]}|unit 3 fault 1 Address
+{"limit":10,"units":[{"address":64}],"events":[{"submit":{"order":1}}]}|unit 1 fault 1 Address
+{"limit":0,"units":[{"address":64}],"events":[]}|unit 1 fault 1 Address
+{"limit":10,"units":[{"address":5},{"address":5}],"events":[{"submit":{"order":1}}]}|gear fault 5 SameAddress
+{"limit":0,"units":[{"address":5},{"address":5}],"events":[]}|gear fault 5 SameAddress
+{"limit":0,"units":[{"address":5}],"events":[{"submit":{"order":1}}]}|event 1 fault 9 Shape
+{"limit":4294967296,"units":[{"address":5}],"events":[{"submit":{"order":1}}]}|event 1 fault 9 Shape
+{"limit":10,"units":[{"address":5}],"events":[{"submit":{"order":2,"unit":5,"gtin":"4006381333932"}},{"submit":{"order":1}}]}|event 1 fault 4 Gtin
+{"limit":10,"units":[{"address":5}],"events":[{"submit":{"order":1,"unit":5,"gtin":"4006381333931"}},{"steps":500},{"submit":{"order":2,"unit":5,"gtin":"4006381333932"}}]}|event 3 fault 4 Gtin"#;
+
+// Scenarios with no unit, in which nothing happens.
+const QUIET: &str = r#"{"limit":1,"units":[],"events":[]}
+{"limit":100000,"units":[],"events":[]}
+{"limit":10,"units":[],"events":[],"fates":[]}
+{"limit":10,"units":[],"events":[],"fates":[{"times":20000}]}
+{"limit":10,"units":[],"events":[],"fates":[{"lost":[63]}]}
+{"limit":10,"units":[],"events":[],"fates":[{"lost":[5,5]}]}
+{"limit":10,"units":[],"events":[],"fates":[{"refuse":true}]}
+{"limit":10,"units":[],"events":[{"steps":1}]}
+{"limit":10,"units":[],"events":[{"steps":20000}]}
+{"limit":10,"units":[],"events":[{"steps":19999},{"steps":1}]}"#;
+
+#[test]
+fn scenarios_that_are_refused(rt: HostRuntime) -> Result<(), AllocError> {
+    for case in REFUSED.split('\n') {
+        let Some((scenario, line)) = case.split_once('|') else {
+            panic!(rt; "no line: {case}");
+        };
+        let mut text = line.as_bytes().to_vec(rt.alloc())?;
+        text.push(b'\n')?;
+        let (ended, written) = told(rt.alloc(), scenario.as_bytes(), false);
+        assert_eq!(rt; ended, Status::Refused, "{case}");
+        assert_eq!(rt; written.as_slice(), text.as_slice(), "{case}");
+    }
+    Ok(())
+}
+
+#[test]
+fn scenarios_in_which_nothing_happens(rt: HostRuntime) {
+    for scenario in QUIET.split('\n') {
+        let (ended, written) = told(rt.alloc(), scenario.as_bytes(), false);
+        assert_eq!(rt; ended, Status::Good, "{scenario}");
+        assert_eq!(rt;
+            written.as_slice(),
+            b"total 0\njournal 0\n".as_slice(),
+            "{scenario}"
+        );
+    }
+}
+
+#[test]
+fn scenarios(rt: HostRuntime) {
+    let cases = [
+        (GTIN_ORDER, false, GTIN_RUN),
+        (GTIN_ORDER, true, GTIN_FRAMES),
+        (
+            r#"{"limit":10,"units":[],
+"events":[{"submit":{"order":1,"unit":9,"gtin":"4006381333931"}},{"steps":50},
+{"submit":{"order":1,"unit":9,"gtin":"4006381333931"}}]}"#,
+            false,
+            SENT_AGAIN,
+        ),
+        (
+            r#"{"limit":1,"units":[{"address":5}],
+"events":[{"submit":{"order":1,"unit":5,"gtin":"4006381333931"}},
+{"submit":{"order":1,"unit":5,"gtin":"96385074"}},{"steps":1},
+{"submit":{"order":1,"unit":5,"gtin":"96385074"}},
+{"submit":{"order":1,"unit":5,"gtin":"4006381333931"}},
+{"submit":{"order":2,"unit":5,"gtin":"4006381333931"}},{"steps":200},
+{"submit":{"order":2,"unit":5,"gtin":"4006381333931"}},
+{"submit":{"order":1,"unit":5,"gtin":"4006381333931"}}]}"#,
+            false,
+            TOLD_APART,
+        ),
+        (
+            r#"{"limit":10,"units":[{"address":5,"bank":"10FFFFFFFFFFFFFFFFFFFFFFFFFFFFFFFF"},
+{"address":6,"bank":"10FFFFFFFFFFFFFFFFFFFFFFFFFFFFFFFF"}],
+"fates":[{"times":5},{"times":128,"lost":[5]}],
+"events":[{"submit":{"order":1,"unit":5,"gtin":"4006381333931"}},{"steps":200},
+{"submit":{"order":2,"unit":6,"gtin":"4006381333931"}},{"steps":200},
+{"submit":{"order":2,"unit":6,"gtin":"4006381333931"}},{"steps":200}]}"#,
+            false,
+            LEFT_AND_CLOSED,
+        ),
+        (
+            r#"{"limit":10,"units":[{"address":5,"bank":"10FFFFFFFFFFFFFFFFFFFFFFFFFFFFFFFF"}],
+"events":[{"submit":{"order":1,"unit":5,"gtin":"4006381333931"}},{"steps":9}]}"#,
+            false,
+            ENABLED,
+        ),
+        (
+            r#"{"limit":10,"units":[{"address":5,"bank":"10FFFFFFFFFFFFFFFFFFFFFFFFFFFFFFFF"}],
+"fates":[{"times":18},{"answer_lost":true}],
+"events":[{"submit":{"order":1,"unit":5,"gtin":"4006381333931"}},{"steps":200}]}"#,
+            false,
+            LOST_ANSWER,
+        ),
+        (
+            r#"{"limit":10,"units":[{"address":5,"bank":"10FFFFFFFFFFFFFFFFFFFFFFFFFFFFFFFF"}],
+"fates":[{"times":18},{"refuse":true}],
+"events":[{"submit":{"order":1,"unit":5,"gtin":"4006381333931"}},{"steps":200}]}"#,
+            false,
+            LOST_ANSWER,
+        ),
+        (
+            r#"{"limit":10,"units":[{"address":5,"bank":"10FFFFFFFFFFFFFFFFFFFFFFFFFFFFFFFF","dtr":[0,2,0]}],
+"fates":[{"lost":[5]},{"times":6},{"lost":[5]}],
+"events":[{"submit":{"order":1,"unit":5,"gtin":"4006381333931"}},{"steps":200}]}"#,
+            false,
+            "\
+ask 1
+reply 1 taken
+keep B order 1 unit 5 bytes 6
+frames 7
+keep O unit 5
+frames 98
+keep E 0 Done
+reply 1 kept 0 Done
+total 105
+journal 27
+unit 5 dtr 09 01 00 enabled no
+bank 5 00 10FFFF03A4CEEFADABFFFFFFFFFFFFFF
+",
+        ),
+        (
+            r#"{"limit":10,"units":[{"address":5,"bank":"10FFFFFFFFFFFFFFFFFFFFFFFFFFFFFFFF","fixed":[5]}],
+"events":[{"submit":{"order":1,"unit":5,"gtin":"4006381333931"}},{"steps":200}]}"#,
+            false,
+            FIXED,
+        ),
+        (
+            r#"{"limit":10,"units":[],
+"events":[{"submit":{"order":18446744073709551615,"unit":63,"gtin":"4006381333931"}},{"steps":50}]}"#,
+            false,
+            GREATEST,
+        ),
+        (
+            r#"{"limit":10,"units":[],
+"events":[{"submit":{"order":1,"unit":9,"gtin":"4006381333931"}},{"steps":19999}]}"#,
+            false,
+            "\
+ask 1
+reply 1 taken
+keep B order 1 unit 9 bytes 6
+frames 16
+keep E 3 Silent
+reply 1 kept 3 Silent
+total 16
+journal 25
+",
+        ),
+    ];
+    for (scenario, single_frames, text) in cases {
+        let (ended, written) = told(rt.alloc(), scenario.as_bytes(), single_frames);
+        assert_eq!(rt; ended, Status::Good, "{text}");
+        assert_eq!(rt; written.as_slice(), text.as_bytes(), "{text}");
+    }
+}
+
+#[test]
+fn units_that_nothing_happens_to(rt: HostRuntime) {
+    let cases = [
+        (
+            r#"{"limit":10,"units":[{"address":6,"bank":"10FFFFFFFFFFFFFFFFFFFFFFFFFFFFFFFF"},{"address":5,"bank":"10FFFFFFFFFFFFFFFFFFFFFFFFFFFFFFFF"}],
+"events":[]}"#,
+            "\
+total 0
+journal 0
+unit 6 dtr 00 00 00 enabled no
+bank 6 00 10FFFFFFFFFFFFFFFFFFFFFFFFFFFFFF
+unit 5 dtr 00 00 00 enabled no
+bank 5 00 10FFFFFFFFFFFFFFFFFFFFFFFFFFFFFF
+",
+        ),
+        (
+            r#"{"limit":10,"units":[{"address":5,"bank":"10fFFfaBaBaBaBaBaBaBaBaBaBaBaBaBaB"}],
+"events":[]}"#,
+            "\
+total 0
+journal 0
+unit 5 dtr 00 00 00 enabled no
+bank 5 00 10FFFFABABABABABABABABABABABABAB
+bank 5 10 AB
+",
+        ),
+        (
+            r#"{"limit":10,"units":[{"address":5,"fixed":[3,4,119]}],"events":[]}"#,
+            "\
+total 0
+journal 0
+unit 5 dtr 00 00 00 enabled no
+bank 5 00 77FFFFFFFFFFFFFFFFFFFFFFFFFFFFFF
+bank 5 10 FF0003FFFFFFFFFFFFFFFFFFFFFFFFFF
+",
+        ),
+        (
+            r#"{"limit":10,"units":[{"address":5,"bank":"10FFFFFFFFFFFFFFFFFFFFFFFFFFFFFFFF","dtr":[1,2,255]}],
+"events":[]}"#,
+            "\
+total 0
+journal 0
+unit 5 dtr 01 02 FF enabled no
+bank 5 00 10FFFFFFFFFFFFFFFFFFFFFFFFFFFFFF
+",
+        ),
+    ];
+    for (scenario, text) in cases {
+        let (ended, written) = told(rt.alloc(), scenario.as_bytes(), false);
+        assert_eq!(rt; ended, Status::Good, "{text}");
+        assert_eq!(rt; written.as_slice(), text.as_bytes(), "{text}");
+    }
+}
+
+#[test]
+fn fourteen_fields_and_a_full_journal(rt: HostRuntime) {
+    let (ended, written) = told(rt.alloc(), FOURTEEN_FIELDS.as_bytes(), false);
+    assert_eq!(rt; ended, Status::Good);
+    assert_eq!(rt; written.as_slice(), FOURTEEN_FIELDS_RUN.as_bytes());
+}
+
+// The longest bank that a unit can have, and then a digit more each time: a file may have 512.
+#[test]
+fn banks_by_their_length(rt: HostRuntime) -> Result<(), AllocError> {
+    let cases = [
+        (
+            "FE",
+            510,
+            "total 0\njournal 0\nunit 5 dtr 00 00 00 enabled no\nbank 5 00 FEFFFFFFFFFFFFFFFFFFFFFFFFFFFFFF\n",
+            Status::Good,
+        ),
+        ("FF", 511, DOCUMENT, Status::Refused),
+        ("FF", 512, "unit 1 fault 2 Size\n", Status::Refused),
+        ("FF", 513, DOCUMENT, Status::Refused),
+        ("FF", 514, DOCUMENT, Status::Refused),
+    ];
+    for (first, digits, text, status) in cases {
+        let mut scenario = Vec::new(rt.alloc());
+        scenario.extend_from_slice(br#"{"limit":10,"units":[{"address":5,"bank":""#)?;
+        scenario.extend_from_slice(first.as_bytes())?;
+        for _ in 2..digits {
+            scenario.push(b'F')?;
+        }
+        scenario.extend_from_slice(br#""}],"events":[]}"#)?;
+        let (ended, written) = told(rt.alloc(), scenario.as_slice(), false);
+        assert_eq!(rt; ended, status, "{digits} digits");
+        assert_eq!(rt; written.as_slice(), text.as_bytes(), "{digits} digits");
+    }
+    Ok(())
+}
+
+#[test]
+fn an_input_over_the_limit(rt: HostRuntime) {
+    let mut reader = Spaces { given: 0 };
+    let mut written = Vec::new(rt.alloc());
+    assert_eq!(rt;
+        run_scenario(rt.alloc(), &mut reader, &mut written, false),
+        Status::Refused
+    );
+    assert_eq!(rt; written.as_slice(), b"fault 13 TooBig\n".as_slice());
+    assert_eq!(rt; reader.given, 16_777_217);
+}
+
+#[test]
+fn a_reader_that_fails_in_mid_stream(rt: HostRuntime) {
+    let input = GTIN_ORDER.as_bytes();
+    for count in 0..=input.len() {
+        let mut reader = FailingReader {
+            rest: &input[..count],
+            at_a_time: 7,
+        };
+        let mut written = Vec::new(rt.alloc());
+        assert_eq!(rt;
+            run_scenario(rt.alloc(), &mut reader, &mut written, false),
+            Status::Failed
+        );
+        assert_eq!(rt; written.as_slice(), b"fault 21 File\n".as_slice());
+    }
+}
+
+#[test]
+fn a_writer_that_fails_in_mid_text(rt: HostRuntime) {
+    let cases = [
+        (GTIN_ORDER, false, GTIN_RUN),
+        (GTIN_ORDER, true, GTIN_FRAMES),
+        ("[", false, "fault 11 Json\n"),
+    ];
+    for (scenario, single_frames, text) in cases {
+        for room in 0..text.len() {
+            let mut reader = scenario.as_bytes();
+            let mut writer = FullWriter {
+                held: Vec::new(rt.alloc()),
+                room,
+            };
+            assert_eq!(rt;
+                run_scenario(rt.alloc(), &mut reader, &mut writer, single_frames),
+                Status::Unwritten
+            );
+            assert_eq!(rt; writer.held.as_slice(), &text.as_bytes()[..room]);
+        }
+    }
+}

@@ -3,5 +3,6 @@ mod frame;
 mod job;
 mod run_scenario;
 mod run_text;
+mod scenario;
 mod show;
 mod streams;

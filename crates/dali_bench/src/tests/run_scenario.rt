@@ -1,9 +1,7 @@
-use super::streams::{FailingReader, FullWriter, Spaces};
+use super::streams::{FailingReader, FullWriter};
 use crate::fault::Status;
 use crate::run_scenario::run_scenario;
-use std::alloc::{AllocError, Global};
-
-const DOCUMENT: &str = "fault 12 Document\n";
+use std::alloc::Global;
 
 const GTIN_ORDER: &str = r#"{"limit":10,"units":[{"address":5}],
 "events":[{"submit":{"order":1,"unit":5,"gtin":"4006381333931"}},{"steps":200}]}"#;
@@ -315,132 +313,12 @@ bank 5 60 42424242424242424242424242424242
 bank 5 70 4242424242424242
 ";
 
-// How the run of a scenario ends, and what it writes.
-fn told(alloc: Global, scenario: &[u8], single_frames: bool) -> (Status, Vec<u8>) {
+/// How the run of a scenario ends, and what it writes.
+pub fn told(alloc: Global, scenario: &[u8], single_frames: bool) -> (Status, Vec<u8>) {
     let mut reader = scenario;
     let mut written = Vec::new(alloc);
     let status = run_scenario(alloc, &mut reader, &mut written, single_frames);
     (status, written)
-}
-
-// A scenario that is refused and the line that says why, with a bar between them.
-const REFUSED: &str = r#"{"limit":0,"units":[],"events":[]}|run fault 1 Limit
-{"limit":100001,"units":[],"events":[]}|run fault 1 Limit
-{"limit":4294967296,"units":[],"events":[]}|run fault 1 Limit
-{"limit":18446744073709551615,"units":[],"events":[]}|run fault 1 Limit
-{"limit":18446744073709551616,"units":[],"events":[]}|fault 12 Document
-{"limit":-1,"units":[],"events":[]}|fault 12 Document
-{"limit":1.0,"units":[],"events":[]}|fault 12 Document
-{"limit":"10","units":[],"events":[]}|fault 12 Document
-{"units":[],"events":[]}|fault 12 Document
-{|fault 11 Json
-[]|fault 12 Document
-{"limit":10,"events":[]}|fault 12 Document
-{"limit":10,"units":[]}|fault 12 Document
-{"limit":10,"units":[],"events":[],"fates":{}}|fault 12 Document
-{"limit":10,"units":[],"events":[],"name":"a bench"}|fault 12 Document
-{"limit":10,"units":[{"address":64,"bank":"10FFFFFFFFFFFFFFFFFFFFFFFFFFFFFFFF"}],"events":[]}|unit 1 fault 1 Address
-{"limit":10,"units":[{"address":255,"bank":"10FFFFFFFFFFFFFFFFFFFFFFFFFFFFFFFF"}],"events":[]}|unit 1 fault 1 Address
-{"limit":10,"units":[{"address":256,"bank":"10FFFFFFFFFFFFFFFFFFFFFFFFFFFFFFFF"}],"events":[]}|fault 12 Document
-{"limit":10,"units":[{"address":-1,"bank":"10FFFFFFFFFFFFFFFFFFFFFFFFFFFFFFFF"}],"events":[]}|fault 12 Document
-{"limit":10,"units":[{}],"events":[]}|fault 12 Document
-{"limit":10,"units":[5],"events":[]}|fault 12 Document
-{"limit":10,"units":[{"address":5,"group":1}],"events":[]}|fault 12 Document
-{"limit":10,"units":[{"address":64,"bank":"","fixed":[2]}],"events":[]}|unit 1 fault 1 Address
-{"limit":10,"units":[{"address":5,"bank":"","fixed":[2]}],"events":[]}|unit 1 fault 2 Size
-{"limit":10,"units":[{"address":5},{"address":6,"bank":""},{"address":64}],"events":[]}|unit 2 fault 2 Size
-{"limit":10,"units":[{"address":5},{"address":5}],"events":[]}|gear fault 5 SameAddress
-{"limit":10,"units":[{"address":5,"bank":"10FFFFFFFFFFFFFFFFFFFFFFFFFFFFFFF"}],"events":[]}|fault 12 Document
-{"limit":10,"units":[{"address":5,"bank":"0FFFFFFFFFFFFFFFFFFFFFFFFFFFFFFF"}],"events":[]}|unit 1 fault 2 Size
-{"limit":10,"units":[{"address":5,"bank":"1GFFFFFFFFFFFFFFFFFFFFFFFFFFFFFFFF"}],"events":[]}|fault 12 Document
-{"limit":10,"units":[{"address":5,"bank":""}],"events":[]}|unit 1 fault 2 Size
-{"limit":10,"units":[{"address":5,"fixed":[2]}],"events":[]}|unit 1 fault 3 Fixed
-{"limit":10,"units":[{"address":5,"fixed":[120]}],"events":[]}|unit 1 fault 3 Fixed
-{"limit":10,"units":[{"address":5,"fixed":[5,5]}],"events":[]}|unit 1 fault 3 Fixed
-{"limit":10,"units":[{"address":5,"fixed":[6,5]}],"events":[]}|unit 1 fault 3 Fixed
-{"limit":10,"units":[{"address":5,"fixed":[256]}],"events":[]}|fault 12 Document
-{"limit":10,"units":[{"address":5,"bank":"10FFFFFFFFFFFFFFFFFFFFFFFFFFFFFFFF","dtr":[1,2]}],"events":[]}|fault 12 Document
-{"limit":10,"units":[{"address":5,"bank":"10FFFFFFFFFFFFFFFFFFFFFFFFFFFFFFFF","dtr":[1,2,3,4]}],"events":[]}|fault 12 Document
-{"limit":10,"units":[{"address":5,"bank":"10FFFFFFFFFFFFFFFFFFFFFFFFFFFFFFFF","dtr":[1,2,256]}],"events":[]}|fault 12 Document
-{"limit":10,"units":[],"events":[],"fates":[{"times":20000},{}]}|fault 13 TooBig
-{"limit":10,"units":[],"events":[],"fates":[{"times":0}]}|fault 12 Document
-{"limit":10,"units":[],"events":[],"fates":[{"times":20001}]}|fault 12 Document
-{"limit":10,"units":[],"events":[],"fates":[{"lost":[64]}]}|fault 12 Document
-{"limit":10,"units":[],"events":[],"fates":[{"lost":5}]}|fault 12 Document
-{"limit":10,"units":[],"events":[],"fates":[{"answer_lost":1}]}|fault 12 Document
-{"limit":10,"units":[],"events":[],"fates":[{"late":true}]}|fault 12 Document
-{"limit":10,"units":[],"events":[],"fates":[5]}|fault 12 Document
-{"limit":10,"units":[],"events":[{}]}|fault 12 Document
-{"limit":10,"units":[],"events":[5]}|fault 12 Document
-{"limit":10,"units":[],"events":[{"wait":1}]}|fault 12 Document
-{"limit":10,"units":[],"events":[{"steps":1,"submit":{"order":1,"unit":5,"gtin":null}}]}|fault 12 Document
-{"limit":10,"units":[],"events":[{"steps":0}]}|fault 12 Document
-{"limit":10,"units":[],"events":[{"steps":20001}]}|fault 12 Document
-{"limit":10,"units":[],"events":[{"steps":20000},{"steps":1}]}|fault 13 TooBig
-{"limit":10,"units":[],"events":[{"steps":19999},{"submit":{}}]}|event 2 fault 9 Shape
-{"limit":10,"units":[],"events":[{"stop":0}]}|fault 12 Document
-{"limit":10,"units":[],"events":[{"stop":65535}]}|fault 12 Document
-{"limit":10,"units":[{"address":5}],"events":[{"submit":{"order":1,"unit":5,"gtin":"4006381333931"}},{"steps":6},{"stop":1},{"steps":200}]}|fault 12 Document
-{"limit":10,"units":[],"events":[{"submit":{"order":1}}]}|event 1 fault 9 Shape
-{"limit":10,"units":[],"events":[{"submit":{}}]}|event 1 fault 9 Shape
-{"limit":10,"units":[],"events":[{"submit":5}]}|event 1 fault 9 Shape
-{"limit":10,"units":[],"events":[{"submit":{"order":1,"unit":64,"weight":1}}]}|event 1 fault 10 Key
-{"limit":10,"units":[],"events":[{"submit":{"order":1,"unit":64,"gtin":7}}]}|event 1 fault 1 Unit
-{"limit":10,"units":[],"events":[{"steps":20000},{"steps":1}]|fault 11 Json
-{"limit":10,"units":[],"events":[{"steps":20000},{"steps":1},{"steps":0}]}|fault 12 Document
-{"limit":10,"units":[],"events":[{"steps":20000},{"steps":1}],"fates":[{"times":0}]}|fault 12 Document
-{"limit":10,"units":[{"address":64}],"events":[{"steps":20000},{"steps":1}]}|fault 13 TooBig
-{"limit":10,"units":[{"address":64}],"events":[],"fates":[{"times":20000},{}]}|fault 13 TooBig
-{"limit":10,"units":[],"events":[{"submit":{}},{"steps":20000}]}|fault 13 TooBig
-{"limit":0,"units":[],"events":[{"steps":20000},{"steps":1}]}|fault 13 TooBig
-{"limit":10,"units":[{"address":5},{"address":5},{"address":64}],"events":[]}|unit 3 fault 1 Address
-{"limit":10,"units":[{"address":64}],"events":[{"submit":{"order":1}}]}|unit 1 fault 1 Address
-{"limit":0,"units":[{"address":64}],"events":[]}|unit 1 fault 1 Address
-{"limit":10,"units":[{"address":5},{"address":5}],"events":[{"submit":{"order":1}}]}|gear fault 5 SameAddress
-{"limit":0,"units":[{"address":5},{"address":5}],"events":[]}|gear fault 5 SameAddress
-{"limit":0,"units":[{"address":5}],"events":[{"submit":{"order":1}}]}|event 1 fault 9 Shape
-{"limit":4294967296,"units":[{"address":5}],"events":[{"submit":{"order":1}}]}|event 1 fault 9 Shape
-{"limit":10,"units":[{"address":5}],"events":[{"submit":{"order":2,"unit":5,"gtin":"4006381333932"}},{"submit":{"order":1}}]}|event 1 fault 4 Gtin
-{"limit":10,"units":[{"address":5}],"events":[{"submit":{"order":1,"unit":5,"gtin":"4006381333931"}},{"steps":500},{"submit":{"order":2,"unit":5,"gtin":"4006381333932"}}]}|event 3 fault 4 Gtin"#;
-
-// Scenarios with no unit, in which nothing happens.
-const QUIET: &str = r#"{"limit":1,"units":[],"events":[]}
-{"limit":100000,"units":[],"events":[]}
-{"limit":10,"units":[],"events":[],"fates":[]}
-{"limit":10,"units":[],"events":[],"fates":[{"times":20000}]}
-{"limit":10,"units":[],"events":[],"fates":[{"lost":[63]}]}
-{"limit":10,"units":[],"events":[],"fates":[{"lost":[5,5]}]}
-{"limit":10,"units":[],"events":[],"fates":[{"refuse":true}]}
-{"limit":10,"units":[],"events":[{"steps":1}]}
-{"limit":10,"units":[],"events":[{"steps":20000}]}
-{"limit":10,"units":[],"events":[{"steps":19999},{"steps":1}]}"#;
-
-#[test]
-fn scenarios_that_are_refused(rt: HostRuntime) -> Result<(), AllocError> {
-    for case in REFUSED.split('\n') {
-        let Some((scenario, line)) = case.split_once('|') else {
-            panic!(rt; "no line: {case}");
-        };
-        let mut text = line.as_bytes().to_vec(rt.alloc())?;
-        text.push(b'\n')?;
-        let (ended, written) = told(rt.alloc(), scenario.as_bytes(), false);
-        assert_eq!(rt; ended, Status::Refused, "{case}");
-        assert_eq!(rt; written.as_slice(), text.as_slice(), "{case}");
-    }
-    Ok(())
-}
-
-#[test]
-fn scenarios_in_which_nothing_happens(rt: HostRuntime) {
-    for scenario in QUIET.split('\n') {
-        let (ended, written) = told(rt.alloc(), scenario.as_bytes(), false);
-        assert_eq!(rt; ended, Status::Good, "{scenario}");
-        assert_eq!(rt;
-            written.as_slice(),
-            b"total 0\njournal 0\n".as_slice(),
-            "{scenario}"
-        );
-    }
 }
 
 #[test]
@@ -611,48 +489,6 @@ fn fourteen_fields_and_a_full_journal(rt: HostRuntime) {
     let (ended, written) = told(rt.alloc(), FOURTEEN_FIELDS.as_bytes(), false);
     assert_eq!(rt; ended, Status::Good);
     assert_eq!(rt; written.as_slice(), FOURTEEN_FIELDS_RUN.as_bytes());
-}
-
-// The longest bank that a unit can have, and then a digit more each time: a file may have 512.
-#[test]
-fn banks_by_their_length(rt: HostRuntime) -> Result<(), AllocError> {
-    let cases = [
-        (
-            "FE",
-            510,
-            "total 0\njournal 0\nunit 5 dtr 00 00 00 enabled no\nbank 5 00 FEFFFFFFFFFFFFFFFFFFFFFFFFFFFFFF\n",
-            Status::Good,
-        ),
-        ("FF", 511, DOCUMENT, Status::Refused),
-        ("FF", 512, "unit 1 fault 2 Size\n", Status::Refused),
-        ("FF", 513, DOCUMENT, Status::Refused),
-        ("FF", 514, DOCUMENT, Status::Refused),
-    ];
-    for (first, digits, text, status) in cases {
-        let mut scenario = Vec::new(rt.alloc());
-        scenario.extend_from_slice(br#"{"limit":10,"units":[{"address":5,"bank":""#)?;
-        scenario.extend_from_slice(first.as_bytes())?;
-        for _ in 2..digits {
-            scenario.push(b'F')?;
-        }
-        scenario.extend_from_slice(br#""}],"events":[]}"#)?;
-        let (ended, written) = told(rt.alloc(), scenario.as_slice(), false);
-        assert_eq!(rt; ended, status, "{digits} digits");
-        assert_eq!(rt; written.as_slice(), text.as_bytes(), "{digits} digits");
-    }
-    Ok(())
-}
-
-#[test]
-fn an_input_over_the_limit(rt: HostRuntime) {
-    let mut reader = Spaces { given: 0 };
-    let mut written = Vec::new(rt.alloc());
-    assert_eq!(rt;
-        run_scenario(rt.alloc(), &mut reader, &mut written, false),
-        Status::Refused
-    );
-    assert_eq!(rt; written.as_slice(), b"fault 13 TooBig\n".as_slice());
-    assert_eq!(rt; reader.given, 16_777_217);
 }
 
 #[test]

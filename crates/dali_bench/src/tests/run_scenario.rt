@@ -262,57 +262,6 @@ total 16
 journal 25
 ";
 
-const FOURTEEN_FIELDS: &str = r#"{"limit":2,
-"units":[{"address":5}],
-"events":[{"submit":{"order":1,"unit":5,"gtin":"4006381333931","identification":"0011223344556677","year":24,"week":53,
-"input_power":40,"min_dim_power":4,"min_voltage":220,"max_voltage":240,
-"light_output":5000,"cri":80,"cct":4000,"distribution":1,
-"colour":"AAAAAAAAAAAAAAAAAAAAAAAA",
-"luminaire":"BBBBBBBBBBBBBBBBBBBBBBBBBBBBBBBBBBBBBBBBBBBBBBBBBBBBBBBBBBBB"}},
-{"steps":1500},
-{"submit":{"order":2,"unit":5,"gtin":"4006381333931"}},
-{"steps":200},
-{"submit":{"order":3,"unit":5,"year":24}},
-{"submit":{"order":1,"unit":5,"gtin":"4006381333931","identification":"0011223344556677","year":24,"week":53,
-"input_power":40,"min_dim_power":4,"min_voltage":220,"max_voltage":240,
-"light_output":5000,"cri":80,"cct":4000,"distribution":1,
-"colour":"AAAAAAAAAAAAAAAAAAAAAAAA",
-"luminaire":"BBBBBBBBBBBBBBBBBBBBBBBBBBBBBBBBBBBBBBBBBBBBBBBBBBBBBBBBBBBB"}}]}"#;
-
-const FOURTEEN_FIELDS_RUN: &str = "\
-ask 1
-reply 1 taken
-keep B order 1 unit 5 bytes 115
-frames 15
-keep O unit 5
-frames 1399
-keep E 0 Done
-reply 1 kept 0 Done
-ask 2
-reply 2 taken
-keep B order 2 unit 5 bytes 6
-frames 5
-keep O unit 5
-frames 91
-keep E 0 Done
-reply 2 kept 0 Done
-ask 3
-reply 3 full
-ask 1
-reply 1 kept 0 Done
-total 1510
-journal 272
-unit 5 dtr 09 01 00 enabled no
-bank 5 00 77FFFF03A4CEEFADAB00112233445566
-bank 5 10 77000318350028000400DC00F0001388
-bank 5 20 500FA001414141414141414141414141
-bank 5 30 41414141414141414141414142424242
-bank 5 40 42424242424242424242424242424242
-bank 5 50 42424242424242424242424242424242
-bank 5 60 42424242424242424242424242424242
-bank 5 70 4242424242424242
-";
-
 /// How the run of a scenario ends, and what it writes.
 pub fn told(alloc: Global, scenario: &[u8], single_frames: bool) -> (Status, Vec<u8>) {
     let mut reader = scenario;
@@ -482,13 +431,6 @@ bank 5 00 10FFFFFFFFFFFFFFFFFFFFFFFFFFFFFF
         assert_eq!(rt; ended, Status::Good, "{text}");
         assert_eq!(rt; written.as_slice(), text.as_bytes(), "{text}");
     }
-}
-
-#[test]
-fn fourteen_fields_and_a_full_journal(rt: HostRuntime) {
-    let (ended, written) = told(rt.alloc(), FOURTEEN_FIELDS.as_bytes(), false);
-    assert_eq!(rt; ended, Status::Good);
-    assert_eq!(rt; written.as_slice(), FOURTEEN_FIELDS_RUN.as_bytes());
 }
 
 #[test]

@@ -1,5 +1,5 @@
 -- Lemmas on the walk over an object's members.
-use Rattle.std.proofs.Common.{Bor, option_map, slice_index_or, replicate, ◌≡◌, ◌≢◌, ℕ, List, [], ◌∷◌, ◌++◌, Bool, true, false, ◌&&◌, Option, Some, None, option_and_then, string_bytes, append_assoc, append-nil, refl, sym, ap, subst, ◌∙◌}
+use Rattle.std.proofs.Common.{Bor, slice_index_or, replicate, ◌≡◌, ◌≢◌, ℕ, List, [], ◌∷◌, ◌++◌, Bool, true, false, ◌&&◌, Option, Some, None, option_and_then, string_bytes, append_assoc, append-nil, refl, sym, ap, subst, ◌∙◌}
 use Rattle.std.proofs.lemmas.Slice.Eq.{bytes_eq-Decides}
 use Rattle.std.specs.List.{list_all}
 use Rattle.std.specs.List.Sorted.{IsStrictlySortedBy}
@@ -20,6 +20,7 @@ use Rattle.dali_bench.specs.declared.members.Members.{Members}
 use Rattle.dali_bench.specs.Items.{is_key, keys_of, whole_at}
 use Rattle.dali_bench.specs.Keys.{key_of, text_of}
 use Rattle.dali_bench.specs.Members.{value_at, AreMembersOf}
+use Rattle.dali_bench.specs.Values.{value_if_any}
 
 -- what the members so far have at each key
 pub record TakenSoFar (ms : JsonMembers) (members : Members) : Type 0 where
@@ -77,7 +78,7 @@ pub record WalkedSoFar (source : Data) (left : List Entry) (members : Members) :
   pub taken : TakenSoFar (members_view done) members
 
 -- before the walk no key has a value
-nothing_taken : (field : Field) → option_map (λ (json : Bor Value). view json.now) (slice_index_or (replicate 14 None) (rank_of field) None) ≡ None
+nothing_taken : (field : Field) → value_if_any (slice_index_or (replicate 14 None) (rank_of field) None) ≡ None
 nothing_taken Gtin = refl
 nothing_taken Identification = refl
 nothing_taken Year = refl
@@ -139,5 +140,5 @@ whole_of source members key are = ap (λ json. option_and_then as_u64 (option_an
 
 -- what an object gives to a field is the member at its key
 pub given_at : (source : Data) (members : Members) (field : Field) → AreMembersOf source members → (json : Option (Bor Value))
-    → option_map (λ (j : Bor Value). view j.now) json ≡ value_at (Of field) members → get (key_of field) source ≡ option_map (λ (j : Bor Value). view j.now) json
+    → value_if_any json ≡ value_at (Of field) members → get (key_of field) source ≡ value_if_any json
 given_at source members field are json is = sym (is ∙ are.values (Of field))

@@ -26,7 +26,7 @@ use Rattle.dali_bench.specs.declared.refusal.Refusal.TheVariants as refusals
 use Rattle.dali_bench.specs.Items.{IsOrderOf, IsFaultOf}
 use Rattle.dali_bench.specs.Scenario.{PlannedUnit, PlannedEvent, submit, steps, Planned, IsSmall, unit_of, event_of}
 use Rattle.dali_bench.specs.Setup.{IsMakeable, made_unit, AreUnits, IsFirstUnitFault, IsUnitRefusal, AreEvents, IsFirstOrderFault, IsOrderRefusal, HasBus, IsReady, IsRefused}
-use Rattle.dali_bench.specs.Outcomes.{IsRan, IsRun}
+use Rattle.dali_bench.specs.Outcomes.{IsPlannedRun, IsRun}
 use Rattle.dali_bench.proofs.ShowLemmas.{all_one_more}
 
 -- the plans up to one more
@@ -161,7 +161,7 @@ none_enabled planned units are = λ address. rw are.made (none_in planned addres
 
 -- a run with the scenario's limit is the scenario's
 pub ran_at : (planned : Planned) (limit : ℕ) (units : List UnitState) (fates : List Fate) (all : List Event) (trace : List Happening) (journal : List ℕ) (last : SimState)
-    → limit ≡ planned.limit → IsReady planned units fates all → IsLimit limit → IsRun limit all (record { units = units; fates = fates }) trace journal last → IsRan planned trace journal last
+    → limit ≡ planned.limit → IsReady planned units fates all → IsLimit limit → IsRun limit all (record { units = units; fates = fates }) trace journal last → IsPlannedRun planned trace journal last
 ran_at planned limit units fates all trace journal last same ready limited run = record {
   units = units;
   fates = fates;

@@ -1,8 +1,7 @@
 -- What an object has at each key.
-use Rattle.std.specs.Prelude.{◌≡◌, ℕ, List, Option, Some, None, MatchOption, option_map, slice_index_or}
+use Rattle.std.specs.Prelude.{◌≡◌, ℕ, List, Option, Some, None, MatchOption, slice_index_or}
 use Rattle.serde_json.specs.Data.{Data}
 use Rattle.serde_json.specs.Find.{get}
-use Rattle.serde_json.specs.View.{view}
 use Rattle.dali_bank.specs.declared.fault.BankFault.{BankFault}
 use Rattle.dali_bank.specs.declared.fault.BankFault.TheVariants.{Kind}
 use Rattle.dali_bank.specs.declared.field.Field.{Field}
@@ -15,12 +14,13 @@ use Rattle.dali_bench.specs.declared.key.Key.TheVariants.{Order, Unit, Of}
 use Rattle.dali_bench.specs.declared.members.Members.{Members}
 use Rattle.dali_bench.specs.Items.{KnowsKeys, given}
 use Rattle.dali_bench.specs.Keys.{text_of}
+use Rattle.dali_bench.specs.Values.{value_if_any}
 
 -- the value at a key
 abbrev pub value_at : Key → Members → Option Data
-value_at Order members = option_map (λ json. view json.now) members.order
-value_at Unit members = option_map (λ json. view json.now) members.unit
-value_at (Of field) members = option_map (λ json. view json.now) (slice_index_or members.fields (rank_of field) None)
+value_at Order members = value_if_any members.order
+value_at Unit members = value_if_any members.unit
+value_at (Of field) members = value_if_any (slice_index_or members.fields (rank_of field) None)
 
 -- the members are those of the object
 pub record AreMembersOf (source : Data) (members : Members) : Type 0 where

@@ -48,7 +48,7 @@ pub record IsRun (limit : ℕ) (all : List Event) (first : SimState) (trace : Li
   pub unenabled : NoneEnabled (world_of first.units)
 
 -- a scenario was run: from its units and fates this trace and journal came, and the bus stands so after it
-pub record IsRan (planned : Planned) (trace : List Happening) (journal : List ℕ) (last : SimState) : Type 0 where
+pub record IsPlannedRun (planned : Planned) (trace : List Happening) (journal : List ℕ) (last : SimState) : Type 0 where
   pub units : List UnitState
   pub fates : List Fate
   pub all : List Event
@@ -57,42 +57,42 @@ pub record IsRan (planned : Planned) (trace : List Happening) (journal : List �
   pub run : IsRun planned.limit all (record { units = units; fates = fates }) trace journal last
 
 -- and so was that of a JSON value
-pub record IsRanOf (json : Data) (trace : List Happening) (journal : List ℕ) (last : SimState) : Type 0 where
+pub record IsJsonRun (json : Data) (trace : List Happening) (journal : List ℕ) (last : SimState) : Type 0 where
   pub planned : Planned
   pub scenario : IsScenario json planned
-  pub ran : IsRan planned trace journal last
+  pub ran : IsPlannedRun planned trace journal last
 
 -- and that of an input
-pub record IsRanFrom (limit : ℕ) (input : List ℕ) (trace : List Happening) (journal : List ℕ) (last : SimState) : Type 0 where
+pub record IsInputRun (limit : ℕ) (input : List ℕ) (trace : List Happening) (journal : List ℕ) (last : SimState) : Type 0 where
   pub json : Data
   pub is_json : IsJson limit input json
-  pub ran : IsRanOf json trace journal last
+  pub ran : IsJsonRun json trace journal last
 
 -- the status and the text of a scenario that was run
 pub record IsRunReport (limit : ℕ) (single_frames : Bool) (input : List ℕ) (status : Status) (text : List ℕ) : Type 0 where
   pub trace : List Happening
   pub journal : List ℕ
   pub last : SimState
-  pub ran : IsRanFrom limit input trace journal last
+  pub ran : IsInputRun limit input trace journal last
   pub status_is : status ≡ Good
   pub text_is : text ≡ run_text single_frames trace (length journal) last.units
 
 -- why no JSON value is run: it is no scenario, or one that is refused
-abbrev pub IsNoScenarioRun : Data → Refusal → Type 0
-IsNoScenarioRun json refusal =
+abbrev pub IsNoJsonRun : Data → Refusal → Type 0
+IsNoJsonRun json refusal =
     ((fault : Fault) × (refusal ≡ refusals.Whole fault) × IsNoReading (IsScenario json) fault)
     ⊎ ((planned : Planned) × IsScenario json planned × IsRefused planned refusal)
 
 -- why an input isn't run: it has no JSON, or such a value
-abbrev pub IsNoRun : ℕ → List ℕ → Refusal → Type 0
-IsNoRun limit input refusal =
+abbrev pub IsNoInputRun : ℕ → List ℕ → Refusal → Type 0
+IsNoInputRun limit input refusal =
     ((fault : Fault) × (refusal ≡ refusals.Whole fault) × IsNoJson limit input fault)
-    ⊎ ((json : Data) × IsJson limit input json × IsNoScenarioRun json refusal)
+    ⊎ ((json : Data) × IsJson limit input json × IsNoJsonRun json refusal)
 
 -- the status and the text of an input that isn't run: the line of its refusal alone
 pub record IsNoRunReport (limit : ℕ) (input : List ℕ) (status : Status) (text : List ℕ) : Type 0 where
   pub refusal : Refusal
-  pub stands : IsNoRun limit input refusal
+  pub stands : IsNoInputRun limit input refusal
   pub status_is : status ≡ refusal_status refusal
   pub text_is : text ≡ no_run_line refusal
 

@@ -1,13 +1,20 @@
 -- What JSON values say.
-use Rattle.std.specs.Prelude.{◌≡◌, ◌≤◌, ℕ, List, [], ◌∷◌, Bool, false, Option, Some, None, option_and_then, ⊤}
+use Rattle.std.specs.Prelude.{◌≡◌, ◌≤◌, ℕ, List, [], ◌∷◌, Bool, false, Option, Some, None, option_and_then, option_map, ⊤}
+use Rattle.std.specs.Borrow.{Bor}
 use Rattle.std.specs.Option.{option_map_or}
 use Rattle.std.specs.List.{list_all, list_any}
 use Rattle.std.specs.Str.{bytes_eq}
 use Rattle.serde_json.specs.Data.{Data, Items, no_items, item}
 use Rattle.serde_json.specs.Find.{as_array, as_number, as_object, as_u64}
+use Rattle.serde_json.specs.View.{view}
+use Rattle.serde_json.specs.declared.value.Value.{Value}
 use Rattle.dali_bench.specs.declared.fault.Fault.{Fault}
 use Rattle.dali_bench.specs.declared.fault.Fault.TheVariants.{Json, Document, TooBig, Hex, Memory, File}
 use Rattle.dali_bench.specs.Items.{keys_of}
+
+-- the value that a program holds of a key, if any
+abbrev pub value_if_any : Option (Bor Value) → Option Data
+value_if_any held = option_map (λ json. view json.now) held
 
 -- a whole number within these bounds
 pub record IsWhole (least most : ℕ) (json : Data) (number : ℕ) : Type 0 where

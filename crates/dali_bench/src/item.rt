@@ -7,6 +7,7 @@ ghost use Rattle.dali_bank.specs.Draft.{found_of, empty_draft};
 ghost use Rattle.dali_bench.specs.Keys.{key_of};
 ghost use Rattle.dali_bench.specs.Items.{given as given_value, text_given as given_text, HasNumbers, IsForUnit, HasFieldsOf, IsFieldFault, IsOrderOf, IsFaultOf};
 ghost use Rattle.dali_bench.specs.Members.{AreMembersOf, IsGivenBy, IsRefusedAs};
+ghost use Rattle.dali_bench.specs.Values.{value_if_any};
 
 use crate::members::{Members, members_of};
 use dali_bank::{BankFault, Draft, Field, Order, Value};
@@ -109,7 +110,7 @@ fn numbers_of(members: &Members<'_>) -> Result<(u64, u64), ItemFault>
 
 // The whole number that a JSON value is.
 fn whole(json: Option<&Json>) -> Option<u64>
-    ensures { result ≡ option_and_then as_u64 (option_and_then as_number (option_map (λ j. view j.now) json.entry)) }
+    ensures { result ≡ option_and_then as_u64 (option_and_then as_number (value_if_any json.entry)) }
 {
     json.and_then(Json::as_u64)
 }

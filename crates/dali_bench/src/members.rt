@@ -1,9 +1,10 @@
-ghost use Rattle.std.specs.Prelude.{◌≡◌, ◌≢◌, ◌&&◌, Some, None, IfSome, IfNone, option_map};
+ghost use Rattle.std.specs.Prelude.{◌≡◌, ◌≢◌, ◌&&◌, Some, None, IfSome, IfNone};
 ghost use Rattle.serde_json.specs.Find.{as_object};
 ghost use Rattle.serde_json.specs.View.{view};
 ghost use Rattle.dali_bench.specs.Items.{is_key};
 ghost use Rattle.dali_bench.specs.Keys.{text_of};
 ghost use Rattle.dali_bench.specs.Members.{value_at, AreMembersOf};
+ghost use Rattle.dali_bench.specs.Values.{value_if_any};
 ghost use Rattle.dali_bench.specs.declared.key.Key.{Key as KeyName};
 ghost use Rattle.dali_bench.specs.declared.key.Key.TheVariants.{Of};
 
@@ -28,7 +29,7 @@ pub struct Members<'a> {
 impl<'a> Members<'a> {
     /// What the object gives to a field.
     pub fn field(&self, field: Field) -> Option<&'a Json>
-        ensures { option_map (λ json. view json.now) result ≡ value_at (Of field) self.now }
+        ensures { value_if_any result ≡ value_at (Of field) self.now }
     {
         let fields = &self.fields[..];
         fields[field as usize]

@@ -2,7 +2,7 @@ ghost use Rattle.std.specs.Prelude.{◌≡◌, ◌≢◌, List, ℕ, IfOk, IfErr
 ghost use Rattle.std.specs.Io.KnownBytes.{Appends};
 ghost use Rattle.serde_json.specs.View.{view};
 ghost use Rattle.dali_bench.specs.Input.{ReadsAtMost};
-ghost use Rattle.dali_bench.specs.Outcomes.{IsNoRun, IsNoScenarioRun, IsRan, IsRanFrom, IsRanOf, IsRunAnswer, IsRunOf, scenario_limit};
+ghost use Rattle.dali_bench.specs.Outcomes.{IsNoInputRun, IsNoJsonRun, IsPlannedRun, IsInputRun, IsJsonRun, IsRunAnswer, IsRunOf, scenario_limit};
 ghost use Rattle.dali_bench.specs.Scenario.{planned_of};
 ghost use Rattle.dali_bench.specs.Setup.{IsRefused};
 
@@ -98,8 +98,8 @@ fn write_run<W: Write>(
 
 // What the run of an input gives.
 fn ran_of(alloc: Global, input: &[u8], limit: u32) -> Result<Ran, Refusal>
-    ensures ok { IfOk result (λ ran. IsRanFrom limit input.now ran.outcome.trace.items ran.outcome.journal.items ran.bus) }
-    ensures err { IfErr result (IsNoRun limit input.now) }
+    ensures ok { IfOk result (λ ran. IsInputRun limit input.now ran.outcome.trace.items ran.outcome.journal.items ran.bus) }
+    ensures err { IfErr result (IsNoInputRun limit input.now) }
 {
     match json_of(alloc, input, limit) {
         Ok(json) => ran_from(alloc, &json),
@@ -109,8 +109,8 @@ fn ran_of(alloc: Global, input: &[u8], limit: u32) -> Result<Ran, Refusal>
 
 // What the run of a JSON value gives.
 fn ran_from(alloc: Global, json: &Value) -> Result<Ran, Refusal>
-    ensures ok { IfOk result (λ ran. IsRanOf (view json.now) ran.outcome.trace.items ran.outcome.journal.items ran.bus) }
-    ensures err { IfErr result (IsNoScenarioRun (view json.now)) }
+    ensures ok { IfOk result (λ ran. IsJsonRun (view json.now) ran.outcome.trace.items ran.outcome.journal.items ran.bus) }
+    ensures err { IfErr result (IsNoJsonRun (view json.now)) }
 {
     match scenario_of(alloc, json) {
         Ok(scenario) => run_planned(alloc, &scenario),
@@ -120,7 +120,7 @@ fn ran_from(alloc: Global, json: &Value) -> Result<Ran, Refusal>
 
 // Runs a scenario.
 fn run_planned(alloc: Global, scenario: &Scenario<'_>) -> Result<Ran, Refusal>
-    ensures ok { IfOk result (λ ran. IsRan (planned_of scenario.now) ran.outcome.trace.items ran.outcome.journal.items ran.bus) }
+    ensures ok { IfOk result (λ ran. IsPlannedRun (planned_of scenario.now) ran.outcome.trace.items ran.outcome.journal.items ran.bus) }
     ensures err { IfErr result (IsRefused (planned_of scenario.now)) }
 {
     let Setup { mut bus, events } = setup_of(alloc, scenario)?;

@@ -1,9 +1,9 @@
-ghost use Rattle.std.specs.Prelude.{◌≡◌, ◌↔◌, ◌≤◌, ◌^◌, ◌-◌, [], ℕ, false, IfOk, IfErr, IsTrue, map, min, option_map};
+ghost use Rattle.std.specs.Prelude.{◌≡◌, ◌↔◌, ◌≤◌, ◌^◌, ◌-◌, [], ℕ, false, IfOk, IfErr, IsTrue, map, min};
 ghost use Rattle.std.specs.Int.{bit_at};
 ghost use Rattle.std.specs.List.{AllByRecursion, Contains, sum_by};
 ghost use Rattle.serde_json.specs.View.{view};
 ghost use Rattle.dali_bank.specs.Blank.{blank_bank};
-ghost use Rattle.dali_bench.specs.Values.{IsWhole, IsArrayOf, IsRequired, IsOptional, IsNoReading};
+ghost use Rattle.dali_bench.specs.Values.{IsWhole, IsArrayOf, IsRequired, IsOptional, IsNoReading, value_if_any};
 ghost use Rattle.dali_bench.specs.Scenario.{AreBytes, AreDtrs, AreLost, IsBankText, IsBoolean, IsEvent, IsFate, IsScenario, IsSmall, IsUnit, event_count, event_of, most_events, planned_of, unit_of};
 
 use crate::fault::Fault;
@@ -94,8 +94,8 @@ fn unit_plan(alloc: Global, json: &Json) -> Result<UnitPlan, Fault>
 
 // The short address of a unit, which has to be there.
 fn address_in(json: Option<&Json>) -> Result<u8, Fault>
-    ensures ok { IfOk result (IsRequired (IsWhole 0 255) (option_map (λ j. view j.now) json.entry)) }
-    ensures err { IfErr result (IsNoReading (IsRequired (IsWhole 0 255) (option_map (λ j. view j.now) json.entry))) }
+    ensures ok { IfOk result (IsRequired (IsWhole 0 255) (value_if_any json.entry)) }
+    ensures err { IfErr result (IsNoReading (IsRequired (IsWhole 0 255) (value_if_any json.entry))) }
     ensures document { IfErr result (λ fault. fault ≡ Fault.Document) }
 {
     match json {
@@ -106,8 +106,8 @@ fn address_in(json: Option<&Json>) -> Result<u8, Fault>
 
 // The bytes of a unit's bank 1: a blank one where there are none.
 fn bank_in(alloc: Global, json: Option<&Json>) -> Result<Vec<u8>, Fault>
-    ensures ok { IfOk result (λ bank. IsOptional IsBankText blank_bank (option_map (λ j. view j.now) json.entry) bank.items) }
-    ensures err { IfErr result (IsNoReading (IsOptional IsBankText blank_bank (option_map (λ j. view j.now) json.entry))) }
+    ensures ok { IfOk result (λ bank. IsOptional IsBankText blank_bank (value_if_any json.entry) bank.items) }
+    ensures err { IfErr result (IsNoReading (IsOptional IsBankText blank_bank (value_if_any json.entry))) }
 {
     let Some(json) = json else {
         return Ok(BLANK.to_vec(alloc)?);
@@ -124,8 +124,8 @@ fn bank_in(alloc: Global, json: Option<&Json>) -> Result<Vec<u8>, Fault>
 
 // The fixed locations of a unit: none where there is no list.
 fn fixed_in(alloc: Global, json: Option<&Json>) -> Result<Vec<u8>, Fault>
-    ensures ok { IfOk result (λ fixed. IsOptional AreBytes [] (option_map (λ j. view j.now) json.entry) fixed.items) }
-    ensures err { IfErr result (IsNoReading (IsOptional AreBytes [] (option_map (λ j. view j.now) json.entry))) }
+    ensures ok { IfOk result (λ fixed. IsOptional AreBytes [] (value_if_any json.entry) fixed.items) }
+    ensures err { IfErr result (IsNoReading (IsOptional AreBytes [] (value_if_any json.entry))) }
 {
     match json {
         Some(json) => numbers_of(alloc, json, 255),
@@ -135,8 +135,8 @@ fn fixed_in(alloc: Global, json: Option<&Json>) -> Result<Vec<u8>, Fault>
 
 // DTR0, DTR1 and DTR2 of a unit: zeros where there is no list.
 fn dtrs_in(alloc: Global, json: Option<&Json>) -> Result<(u8, u8, u8), Fault>
-    ensures ok { IfOk result (IsOptional AreDtrs (0, 0, 0) (option_map (λ j. view j.now) json.entry)) }
-    ensures err { IfErr result (IsNoReading (IsOptional AreDtrs (0, 0, 0) (option_map (λ j. view j.now) json.entry))) }
+    ensures ok { IfOk result (IsOptional AreDtrs (0, 0, 0) (value_if_any json.entry)) }
+    ensures err { IfErr result (IsNoReading (IsOptional AreDtrs (0, 0, 0) (value_if_any json.entry))) }
 {
     let Some(json) = json else {
         return Ok((0, 0, 0));
@@ -169,8 +169,8 @@ fn fate_plan(alloc: Global, json: &Json) -> Result<FatePlan, Fault>
 
 // How many frames have a fate: one where nothing stands there.
 fn times_in(json: Option<&Json>) -> Result<u32, Fault>
-    ensures ok { IfOk result (IsOptional (IsWhole 1 most_events) 1 (option_map (λ j. view j.now) json.entry)) }
-    ensures err { IfErr result (IsNoReading (IsOptional (IsWhole 1 most_events) 1 (option_map (λ j. view j.now) json.entry))) }
+    ensures ok { IfOk result (IsOptional (IsWhole 1 most_events) 1 (value_if_any json.entry)) }
+    ensures err { IfErr result (IsNoReading (IsOptional (IsWhole 1 most_events) 1 (value_if_any json.entry))) }
     ensures document { IfErr result (λ fault. fault ≡ Fault.Document) }
 {
     match json {
@@ -181,8 +181,8 @@ fn times_in(json: Option<&Json>) -> Result<u32, Fault>
 
 // The units that don't hear a frame: none where there is no list.
 fn lost_in(alloc: Global, json: Option<&Json>) -> Result<u64, Fault>
-    ensures ok { IfOk result (IsOptional AreLost 0 (option_map (λ j. view j.now) json.entry)) }
-    ensures err { IfErr result (IsNoReading (IsOptional AreLost 0 (option_map (λ j. view j.now) json.entry))) }
+    ensures ok { IfOk result (IsOptional AreLost 0 (value_if_any json.entry)) }
+    ensures err { IfErr result (IsNoReading (IsOptional AreLost 0 (value_if_any json.entry))) }
 {
     match json {
         Some(json) => Ok(bits_of(numbers_of(alloc, json, 63)?.as_slice())),
@@ -204,8 +204,8 @@ fn bits_of(addresses: &[u8]) -> u64
 
 // Whether something is so: not so where nothing stands there.
 fn boolean_in(json: Option<&Json>) -> Result<bool, Fault>
-    ensures ok { IfOk result (IsOptional IsBoolean false (option_map (λ j. view j.now) json.entry)) }
-    ensures err { IfErr result (IsNoReading (IsOptional IsBoolean false (option_map (λ j. view j.now) json.entry))) }
+    ensures ok { IfOk result (IsOptional IsBoolean false (value_if_any json.entry)) }
+    ensures err { IfErr result (IsNoReading (IsOptional IsBoolean false (value_if_any json.entry))) }
     ensures document { IfErr result (λ fault. fault ≡ Fault.Document) }
 {
     match json {
@@ -236,8 +236,8 @@ fn event_plan(json: &Json) -> Result<EventPlan<'_>, Fault>
 
 // What the values of an array of units say.
 fn unit_plans(alloc: Global, json: Option<&Json>) -> Result<Vec<UnitPlan>, Fault>
-    ensures ok { IfOk result (λ plans. IsRequired (IsArrayOf IsUnit) (option_map (λ j. view j.now) json.entry) (map unit_of plans.items)) }
-    ensures err { IfErr result (IsNoReading (IsRequired (IsArrayOf IsUnit) (option_map (λ j. view j.now) json.entry))) }
+    ensures ok { IfOk result (λ plans. IsRequired (IsArrayOf IsUnit) (value_if_any json.entry) (map unit_of plans.items)) }
+    ensures err { IfErr result (IsNoReading (IsRequired (IsArrayOf IsUnit) (value_if_any json.entry))) }
 {
     let Some(json) = json else {
         return Err(Fault::Document);
@@ -254,8 +254,8 @@ fn unit_plans(alloc: Global, json: Option<&Json>) -> Result<Vec<UnitPlan>, Fault
 
 // What the values of an array of fates say: no fates where there is none.
 fn fate_plans(alloc: Global, json: Option<&Json>) -> Result<Vec<FatePlan>, Fault>
-    ensures ok { IfOk result (λ plans. IsOptional (IsArrayOf IsFate) [] (option_map (λ j. view j.now) json.entry) plans.items) }
-    ensures err { IfErr result (IsNoReading (IsOptional (IsArrayOf IsFate) [] (option_map (λ j. view j.now) json.entry))) }
+    ensures ok { IfOk result (λ plans. IsOptional (IsArrayOf IsFate) [] (value_if_any json.entry) plans.items) }
+    ensures err { IfErr result (IsNoReading (IsOptional (IsArrayOf IsFate) [] (value_if_any json.entry))) }
 {
     let Some(json) = json else {
         return Ok(Vec::new(alloc));
@@ -272,8 +272,8 @@ fn fate_plans(alloc: Global, json: Option<&Json>) -> Result<Vec<FatePlan>, Fault
 
 // What the values of an array of events say.
 fn event_plans<'a>(alloc: Global, json: Option<&'a Json>) -> Result<Vec<EventPlan<'a>>, Fault>
-    ensures ok { IfOk result (λ plans. IsRequired (IsArrayOf IsEvent) (option_map (λ j. view j.now) json.entry) (map event_of plans.items)) }
-    ensures err { IfErr result (IsNoReading (IsRequired (IsArrayOf IsEvent) (option_map (λ j. view j.now) json.entry))) }
+    ensures ok { IfOk result (λ plans. IsRequired (IsArrayOf IsEvent) (value_if_any json.entry) (map event_of plans.items)) }
+    ensures err { IfErr result (IsNoReading (IsRequired (IsArrayOf IsEvent) (value_if_any json.entry))) }
 {
     let Some(json) = json else {
         return Err(Fault::Document);
@@ -308,8 +308,8 @@ pub fn scenario_of(alloc: Global, json: &Json) -> Result<Scenario<'_>, Fault>
 
 // The most orders of the journal, which has to be there.
 fn limit_in(json: Option<&Json>) -> Result<u64, Fault>
-    ensures ok { IfOk result (IsRequired (IsWhole 0 (2 ^ 64 - 1)) (option_map (λ j. view j.now) json.entry)) }
-    ensures err { IfErr result (IsNoReading (IsRequired (IsWhole 0 (2 ^ 64 - 1)) (option_map (λ j. view j.now) json.entry))) }
+    ensures ok { IfOk result (IsRequired (IsWhole 0 (2 ^ 64 - 1)) (value_if_any json.entry)) }
+    ensures err { IfErr result (IsNoReading (IsRequired (IsWhole 0 (2 ^ 64 - 1)) (value_if_any json.entry))) }
     ensures document { IfErr result (λ fault. fault ≡ Fault.Document) }
 {
     match json {

@@ -7,10 +7,10 @@ use std::fmt;
 /// Why there is no journal. Of several faults the one with the lowest number is told (profile).
 #[derive(Clone, Copy, Debug, PartialEq, Eq, Hash)]
 pub enum JournalFault {
-    /// 1: the limit is 0 or over 100000.
-    Limit,
-    /// 2: there was no memory.
-    NoMemory,
+    /// The limit is 0 or over 100000.
+    Limit = 1,
+    /// There was no memory.
+    NoMemory = 2,
 }
 
 impl JournalFault {
@@ -20,10 +20,7 @@ impl JournalFault {
     pub fn number(&self) -> u8
         ensures { result ≡ number_of self.now }
     {
-        match self {
-            JournalFault::Limit => 1,
-            JournalFault::NoMemory => 2,
-        }
+        *self as u8
     }
 }
 

@@ -12,18 +12,18 @@ pub(crate) const MOST_BYTES: usize = 241;
 /// How an order ended (profile).
 #[derive(Clone, Copy, Debug, PartialEq, Eq, Hash)]
 pub enum Code {
-    /// 0: each update's location was read back and held its byte, and the unit was closed.
-    Done,
-    /// 1: the unit's bank 1 is too short. Nothing was written.
-    Short,
-    /// 2: the content format isn't 0003h. Nothing was written.
-    Format,
-    /// 3: a checked read failed in each of its eight tries. Nothing was written.
-    Silent,
-    /// 4: each location holds its old byte or the new one, and the unit was closed.
-    Doubt,
-    /// 5: as `Doubt`, but the unit may still be write-enabled.
-    DoubtOpen,
+    /// Each update's location was read back and held its byte, and the unit was closed.
+    Done = 0,
+    /// The unit's bank 1 is too short. Nothing was written.
+    Short = 1,
+    /// The content format isn't 0003h. Nothing was written.
+    Format = 2,
+    /// A checked read failed in each of its eight tries. Nothing was written.
+    Silent = 3,
+    /// Each location holds its old byte or the new one, and the unit was closed.
+    Doubt = 4,
+    /// As `Doubt`, but the unit may still be write-enabled.
+    DoubtOpen = 5,
 }
 
 impl Code {
@@ -31,14 +31,7 @@ impl Code {
     pub fn number(&self) -> u8
         ensures { result ≡ code_number self.now }
     {
-        match self {
-            Code::Done => 0,
-            Code::Short => 1,
-            Code::Format => 2,
-            Code::Silent => 3,
-            Code::Doubt => 4,
-            Code::DoubtOpen => 5,
-        }
+        *self as u8
     }
 }
 

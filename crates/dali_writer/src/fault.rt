@@ -8,10 +8,10 @@ use std::fmt;
 /// Why a run didn't come to its end (profile).
 #[derive(Clone, Copy, Debug, PartialEq, Eq, Hash)]
 pub enum RunFault {
-    /// 1: the limit is 0 or over 100000. Nothing was done.
-    Limit,
-    /// 2: there was no memory. The bus stands where the events so far left it.
-    NoMemory,
+    /// The limit is 0 or over 100000. Nothing was done.
+    Limit = 1,
+    /// There was no memory. The bus stands where the events so far left it.
+    NoMemory = 2,
 }
 
 impl RunFault {
@@ -21,10 +21,7 @@ impl RunFault {
     pub fn number(&self) -> u8
         ensures { result ≡ number_of self.now }
     {
-        match self {
-            RunFault::Limit => 1,
-            RunFault::NoMemory => 2,
-        }
+        *self as u8
     }
 }
 

@@ -1,0 +1,150 @@
+"""Work orders for the benchmarks: always the same ones."""
+
+import itertools
+import json
+
+# Of each fifty orders one has a null, one has escapes and one is refused.
+# Even places hold full orders, odd places hold orders with a GTIN only.
+PERIOD = 50
+PLACE_OF_NULL = 12
+PLACE_OF_ESCAPES = 24
+PLACE_OF_REFUSED = 49
+
+# Changes to a full order that make it refused, by the fault that is due.
+REFUSED_CHANGES = (
+    {"unit": 64},  # Unit
+    {"unit": 2**64 - 1, "year": "24"},  # Unit, before Kind
+    {"gtin": 4006381333931},  # Kind
+    {"identification": 17},  # Kind
+    {"year": "24"},  # Kind
+    {"week": True},  # Kind
+    {"input_power": 2.5},  # Kind
+    {"cri": -1},  # Kind
+    {"cct": [4000]},  # Kind
+    {"distribution": {}},  # Kind
+    {"light_output": 2**64},  # Kind
+    {"colour": 24},  # Kind
+    {"light_output": 2**64 - 1},  # Range
+    {"year": 100},  # Range
+    {"week": 0, "colour": ""},  # Range, before Text
+    {"cct": 65534},  # Range
+    {"distribution": 255},  # Range
+    {"gtin": "4006381333932"},  # Gtin
+    {"gtin": "400638133393"},  # Gtin
+    {"gtin": "", "week": False},  # Gtin, before Kind
+    {"colour": ""},  # Text
+    {"colour": "a colour of 25 characters"},  # Text
+    {"luminaire": "x" * 61},  # Text
+    {"luminaire": "caf\u00e9"},  # Text
+    {"luminaire": "two\nlines"},  # Text
+    {"min_voltage": 240, "max_voltage": 239},  # Voltage
+    {"order": "7"},  # Shape
+    {"unit": None},  # Shape
+    {"order": 2**64, "weight": 1},  # Shape, before Key
+    {"weight": 1},  # Key
+    {"Year": 24, "unit": 64},  # Key, before Unit
+)
+
+# Whole items that are refused.
+REFUSED_ITEMS = (
+    {"order": 1, "unit": 5},  # Empty
+    {"order": 1, "gtin": "4006381333931"},  # Shape
+    {"unit": 5, "gtin": "4006381333931"},  # Shape
+    {},  # Shape
+    [],  # Shape
+    "order",  # Shape
+    None,  # Shape
+)
+
+
+def gtin_of(index):
+    """Give a correct GTIN of 8, 12, 13 or 14 digits."""
+    length = (8, 12, 13, 14)[index // 2 % 4]
+    body = str(index * 7919 + 4006381).zfill(length - 1)[-(length - 1) :]
+    weighted = sum(
+        int(digit) * weight
+        for digit, weight in zip(reversed(body), itertools.cycle((3, 1)))
+    )
+    return body + str(-weighted % 10)
+
+
+def short_order(index):
+    """Give an order that has a GTIN only."""
+    return {"order": index, "unit": index % 64, "gtin": gtin_of(index)}
+
+
+def full_order(index):
+    """Give an order that has all fourteen fields."""
+    minimum_voltage = 100 + index % 120
+    order = short_order(index)
+    order.update(
+        identification=format(index * 0x9E3779B97F4A7C15 % 2**64, "016x"),
+        year=index % 100,
+        week=1 + index % 53,
+        input_power=index * 31 % 65535,
+        min_dim_power=index * 17 % 65535,
+        min_voltage=minimum_voltage,
+        max_voltage=minimum_voltage + index % 150,
+        light_output=index * 7919 % 16777215,
+        cri=index % 101,
+        cct=index * 13 % 65534,
+        distribution=index % 255,
+        colour=f"RAL {1000 + index % 9000} white",
+        luminaire=f"Downlight {index} round, 200 mm, aluminium, IP44",
+    )
+    return order
+
+
+def order_with_null(index):
+    """Give a full order in which one field, each in its turn, is unknown."""
+    order = full_order(index)
+    names = [name for name in order if name not in ("order", "unit")]
+    order[names[index // PERIOD % len(names)]] = None
+    return order
+
+
+def order_with_escapes(index):
+    """Give a full order with escapes in a text and capitals in the hex."""
+    order = full_order(index)
+    order["identification"] = order["identification"].upper()
+    order["luminaire"] = f'Panel {index} "north\\south"'
+    return order
+
+
+def refused_item(index):
+    """Give an item that is to be refused, each kind in its turn."""
+    kinds = REFUSED_CHANGES + REFUSED_ITEMS
+    kind = index // PERIOD % len(kinds)
+    if kind < len(REFUSED_CHANGES):
+        return {**full_order(index), **REFUSED_CHANGES[kind]}
+    return REFUSED_ITEMS[kind - len(REFUSED_CHANGES)]
+
+
+def item_of(index):
+    """Give the item of this index in the array of orders."""
+    place = index % PERIOD
+    if place == PLACE_OF_REFUSED:
+        return refused_item(index)
+    if place == PLACE_OF_NULL:
+        return order_with_null(index)
+    if place == PLACE_OF_ESCAPES:
+        return order_with_escapes(index)
+    return full_order(index) if place % 2 == 0 else short_order(index)
+
+
+def write_orders(path, size):
+    """Write orders up to this many bytes and give the count of items.
+
+    The file is written in ASCII, piece by piece: a child that is started
+    would inherit the peak memory of this process.
+    """
+    end = "\n]\n"
+    room = size - len(end)
+    with open(path, "w", encoding="ascii", newline="") as file:
+        for count in itertools.count():
+            piece = (",\n" if count else "[\n") + json.dumps(item_of(count))
+            room -= len(piece)
+            if room < 0 and count:
+                file.write(end)
+                return count
+            file.write(piece)

@@ -3,8 +3,8 @@
 
     python3 benchmarks/run.py [--program FILE] [--runs N] [--keep FOLDER]
 
-It makes scenarios of 20000 events and up to 20000 fates and 63 units, always
-the same ones, and runs the built program on each. It prints the size of the
+It makes scenarios of 20000 events and up to 20000 fates and 63 units (the last
+address stays free), always the same ones, and runs the built program on each. It prints the size of the
 file, how many frames were sent, the least processor time of the runs (of the
 process and of the kernel for it), that time by frame and by event, and the
 peak memory. Then it prints how the time grows from 5000 to 20000 events.

@@ -26,7 +26,8 @@ pub enum Job<'a> {
     Show(&'a str),
 }
 
-const ABOUT: &str = "Writes luminaire data to memory bank 1 of DALI control gear";
+const ABOUT: &str =
+    "Luminaire data in memory bank 1 of DALI control gear: orders checked, and run on simulated units";
 
 const CHECK_ABOUT: &str = "Checks a file of orders and prints the bytes that each would write";
 
@@ -49,8 +50,10 @@ const SCENARIO_HELP: &str =
 const FRAMES_HELP: &str = "Prints a line for each frame, with its answer";
 
 const RUN_FAULTS: &str = "\
-Faults of the file: 11 Json, 12 Document (of another form), 13 TooBig (over 16777216 bytes,
-20000 events or 20000 fates), 20 Memory, 21 File (can't be opened or read).
+Keys of a unit: address, bank, fixed, dtr; of a fate: times, lost, answer_lost, refuse;
+of an event: submit or steps.
+Faults of the file: 11 Json, 12 Document (an unknown key, or another form), 13 TooBig (over 16777216
+bytes, 20000 events or 20000 fates), 20 Memory, 21 File (can't be opened or read).
 Faults of a unit: 1 Address (over 63), 2 Size (not 17 to 255 bytes, or 00h isn't the last location),
 3 Fixed (locations that don't rise, below 03h or past the last);
 of the units together: 5 SameAddress.
@@ -62,8 +65,8 @@ const FRAME_ABOUT: &str = "Prints what the word of a forward frame means";
 const HEX_HELP: &str = "Four hexadecimal digits, as A303";
 
 const FRAME_FAULTS: &str = "\
-Fault: 14 Hex (not four hexadecimal digits).
-Exit status: 0 printed, 1 refused, 2 the output failed.";
+Faults: 14 Hex (not four hexadecimal digits), 20 Memory.
+Exit status: 0 printed, 1 refused, 2 the memory or the output failed.";
 
 const SHOW_ABOUT: &str = "Prints what the bytes of a memory bank say";
 

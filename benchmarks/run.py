@@ -4,10 +4,11 @@
     python3 benchmarks/run.py [--program FILE] [--runs N] [--keep FOLDER]
 
 It makes scenarios of 20000 events and up to 20000 fates and 63 units (the last
-address stays free), always the same ones, and runs the built program on each. It prints the size of the
-file, how many frames were sent, the least processor time of the runs (of the
-process and of the kernel for it), that time by frame and by event, and the
-peak memory. Then it prints how the time grows from 5000 to 20000 events.
+address stays free), always the same ones, and runs the built program on each.
+It prints the size of the file, how many frames were sent, the least processor
+time of the runs (of the process and of the kernel for it), that time by frame
+and by event, and the peak memory. Then it prints how the time grows from 5000
+to 20000 events.
 
 A frame takes 15.8 milliseconds on a bus. Here it may take 20 microseconds,
 reading its part of the file included. There is no limit for scenarios of

@@ -1,4 +1,5 @@
 pub mod Layout
+pub mod Keys
 pub mod Numbers
 pub mod Gtin
 pub mod Spelling

@@ -68,6 +68,7 @@ pub(crate) struct Row {
 
 impl Field {
     ghost use Rattle.std.specs.Prelude.{◌≡◌, ◌<◌};
+    ghost use Rattle.dali_bank.specs.Keys.{key_of};
     ghost use Rattle.dali_bank.specs.Layout.{row_of, rank_of, first_of, length_of};
 
     /// The fields, by rising location.
@@ -100,6 +101,28 @@ impl Field {
         ensures { result ≡ length_of self.now }
     {
         self.row().length
+    }
+
+    /// The field's key in an order, and its word where a bank is shown (profile).
+    pub fn key(&self) -> &'static str
+        ensures { result.now ≡ key_of self.now }
+    {
+        match self {
+            Field::Gtin => "gtin",
+            Field::Identification => "identification",
+            Field::Year => "year",
+            Field::Week => "week",
+            Field::InputPower => "input_power",
+            Field::MinDimPower => "min_dim_power",
+            Field::MinVoltage => "min_voltage",
+            Field::MaxVoltage => "max_voltage",
+            Field::LightOutput => "light_output",
+            Field::Cri => "cri",
+            Field::Cct => "cct",
+            Field::Distribution => "distribution",
+            Field::Colour => "colour",
+            Field::Luminaire => "luminaire",
+        }
     }
 
     // The layout: one row for each field.

@@ -4,7 +4,7 @@ use Rattle.std.specs.Result.{result_ok}
 use Rattle.std.specs.Str.Parse.{AllDigits, ParsesUnsigned}
 use Rattle.std.proofs.lemmas.Int.Digits.{digits_value-lt}
 use Rattle.std.proofs.lemmas.Str.Parse.{without_leading_plus_none}
-use Rattle.dali_bench.specs.Frames.{AreFourDigits}
+use Rattle.dali_bench.specs.FrameAnswers.{AreFourDigits}
 
 -- what std reads of four bytes that don't begin with a plus is a word exactly where they are digits
 pub four_digits : {E : Type 0} (text : List ℕ) (r : Result ℕ E) → length text ≡ 4 → get_or text 0 0 ≢ 43 → ParsesUnsigned 16 16 text r → IsSome (result_ok r) ↔ AreFourDigits text

@@ -1,10 +1,4 @@
-pub mod StreamLemmas
 pub mod FrameLemmas
-pub mod ShowLemmas
 pub mod JobLemmas
-pub mod ItemLemmas
 pub mod ReportLemmas
-pub mod MemberLemmas
-pub mod ValueLemmas
-pub mod SetupLemmas
-pub mod RunTextLemmas
+pub mod RunLemmas

@@ -6,10 +6,9 @@ use Rattle.std.specs.Io.KnownBytes.{Appends}
 use Rattle.serde_json.specs.Data.{Data, Items}
 use Rattle.serde_json.specs.View.{view, items_view, items_of}
 use Rattle.serde_json.specs.declared.value.Value.{Value}
-use Rattle.dali_bench.specs.Items.{Judges}
-use Rattle.dali_bench.specs.Lines.{item_lines}
-use Rattle.dali_bench.specs.Report.{Outcome, JudgesEach, lines_from, refused_count}
-use Rattle.dali_bench.proofs.StreamLemmas.{appends_both}
+use Rattle.dali_input.specs.Items.{Judges}
+use Rattle.dali_bench.specs.Report.{Outcome, JudgesEach, item_lines, lines_from, refused_count}
+use Rattle.dali_text.proofs.StreamLemmas.{appends_both}
 
 -- the items so far, what became of them, and what was written of them
 pub record SoFar (ds : Items) (n accepted refused : ℕ) (before now : Option (List ℕ)) : Type 0 where

@@ -1,17 +1,18 @@
 -- What `check` finds in its input, and what it writes.
-use Rattle.std.specs.Prelude.{◌≡◌, ◌==◌, ◌⊎◌, ◌+◌, ℕ, List, [], ◌∷◌, ◌++◌, Option, Some, None, Result, codes, decimal, count_by, is_ok, not, ⊤, if◌then◌else◌}
+use Rattle.std.specs.Prelude.{◌≡◌, ◌==◌, ◌⊎◌, ◌+◌, ℕ, List, [], ◌∷◌, ◌++◌, Option, Some, None, Result, Ok, Err, count_by, is_ok, not, ⊤, if◌then◌else◌}
 use Rattle.serde_json.specs.Data.{Data, Items, no_items, item}
 use Rattle.serde_json.specs.Find.{as_array}
 use Rattle.dali_bank.specs.Order.{Contents}
-use Rattle.dali_bench.specs.declared.item.ItemFault.{ItemFault}
-use Rattle.dali_bench.specs.declared.fault.Fault.{Fault}
-use Rattle.dali_bench.specs.declared.fault.Fault.TheVariants.{Document}
+use Rattle.dali_text.specs.OrderLines.{order_lines, tally_line}
+use Rattle.dali_input.specs.declared.fault.InputFault.{InputFault}
+use Rattle.dali_input.specs.declared.fault.InputFault.TheVariants.{Document}
+use Rattle.dali_input.specs.declared.item.ItemFault.{ItemFault}
+use Rattle.dali_input.specs.Input.{IsJson, IsNoJson, ReadsInput}
+use Rattle.dali_input.specs.Items.{Judges}
+use Rattle.dali_bench.specs.declared.fault.Fault.TheVariants.{Input}
 use Rattle.dali_bench.specs.declared.fault.Status.{Status}
-use Rattle.dali_bench.specs.declared.fault.Status.TheVariants.{Good, Refused, Failed}
-use Rattle.dali_bench.specs.Faults.{fault_line, status_of}
-use Rattle.dali_bench.specs.Input.{IsJson, IsNoJson, ReadsInput}
-use Rattle.dali_bench.specs.Items.{Judges}
-use Rattle.dali_bench.specs.Lines.{item_lines}
+use Rattle.dali_bench.specs.declared.fault.Status.TheVariants.{Good, Refused}
+use Rattle.dali_bench.specs.Faults.{IsFailure, IsRefusal, item_line}
 
 -- the most bytes of a list of orders
 abbrev pub orders_limit : ℕ
@@ -28,6 +29,11 @@ JudgesEach no_items (outcome ∷ outcomes) = ⊥
 JudgesEach (item source sources) [] = ⊥
 JudgesEach (item source sources) (outcome ∷ outcomes) = Judges source outcome × JudgesEach sources outcomes
 
+-- the lines of an accepted item with its updates, or of a refused one
+abbrev pub item_lines : ℕ → Outcome → List ℕ
+item_lines number (Ok order) = order_lines number order
+item_lines number (Err fault) = item_line number fault
+
 -- the items' lines, counted from a number on
 abbrev pub lines_from : ℕ → List Outcome → List ℕ
 lines_from number [] = []
@@ -38,9 +44,6 @@ accepted_count outcomes = count_by is_ok outcomes
 
 abbrev pub refused_count : List Outcome → ℕ
 refused_count outcomes = count_by (λ outcome. not (is_ok outcome)) outcomes
-
-abbrev pub tally_line : ℕ → ℕ → List ℕ
-tally_line accepted refused = codes "accepted " ++ decimal accepted ++ codes " refused " ++ decimal refused ++ codes "\n"
 
 -- all that is written of the items
 abbrev pub report : List Outcome → List ℕ
@@ -55,7 +58,7 @@ abbrev pub AreItems : ℕ → List ℕ → Items → Type 0
 AreItems limit input items = (json : Data) × IsJson limit input json × (as_array json ≡ Some items)
 
 -- why an input has no items; want of memory may come at any input
-abbrev pub IsInputFault : ℕ → List ℕ → Fault → Type 0
+abbrev pub IsInputFault : ℕ → List ℕ → InputFault → Type 0
 IsInputFault limit input Document = (json : Data) × IsJson limit input json × (as_array json ≡ None)
 IsInputFault limit input fault = IsNoJson limit input fault
 
@@ -69,22 +72,14 @@ pub record IsReport (limit : ℕ) (input : List ℕ) (status : Status) (text : L
   pub text_is : text ≡ report outcomes
 
 -- the status and the text of an input that has no items
-pub record IsRefusal (limit : ℕ) (input : List ℕ) (status : Status) (text : List ℕ) : Type 0 where
-  pub fault : Fault
+pub record IsNoReport (limit : ℕ) (input : List ℕ) (status : Status) (text : List ℕ) : Type 0 where
+  pub fault : InputFault
   pub stands : IsInputFault limit input fault
-  pub status_is : status ≡ status_of fault
-  pub text_is : text ≡ fault_line fault
-
--- the reader or the memory failed, which may come at any time
-pub record IsFailure (status : Status) (text : List ℕ) : Type 0 where
-  pub fault : Fault
-  pub failed : status_of fault ≡ Failed
-  pub status_is : status ≡ Failed
-  pub text_is : text ≡ fault_line fault
+  pub refusal : IsRefusal (Input fault) status text
 
 -- what is answered and written of an input that was read
 abbrev pub IsAnswered : ℕ → List ℕ → Status → List ℕ → Type 0
-IsAnswered limit input status text = IsReport limit input status text ⊎ IsRefusal limit input status text
+IsAnswered limit input status text = IsReport limit input status text ⊎ IsNoReport limit input status text
 
 -- what `check` answers and writes, by what the reader had before and has after it
 abbrev pub IsChecked : ℕ → Option (List ℕ) → Option (List ℕ) → Status → List ℕ → Type 0

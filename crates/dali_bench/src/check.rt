@@ -1,16 +1,14 @@
 ghost use Rattle.std.specs.Prelude.{◌≡◌, ◌≢◌, ℕ, List, IfOk, IfErr, OnOk, is_ok};
 ghost use Rattle.std.specs.Io.KnownBytes.{Appends};
 ghost use Rattle.serde_json.specs.View.{view, items_view};
-ghost use Rattle.dali_bench.specs.Faults.{fault_line, status_of};
-ghost use Rattle.dali_bench.specs.Input.{ReadsAtMost};
-ghost use Rattle.dali_bench.specs.Items.{Judges};
-ghost use Rattle.dali_bench.specs.Lines.{item_lines};
-ghost use Rattle.dali_bench.specs.Report.{Outcome, JudgesEach, report, report_status, AreItems, IsInputFault, IsChecked, IsAnswered, orders_limit};
+ghost use Rattle.dali_input.specs.Input.{ReadsAtMost};
+ghost use Rattle.dali_input.specs.Items.{Judges};
+ghost use Rattle.dali_bench.specs.Report.{Outcome, JudgesEach, item_lines, report, report_status, AreItems, IsInputFault, IsChecked, IsAnswered, orders_limit};
 
 use crate::fault::{Fault, Status};
-use crate::input::{json_of, read_input};
-use crate::item::order_of;
-use crate::lines::{write_failure, write_order, write_refusal, write_tally};
+use crate::fault_lines::{write_failure, write_refused_item};
+use dali_input::{InputFault, json_of, order_of, read_input};
+use dali_text::{write_order, write_tally};
 use serde_json::Value;
 use std::alloc::Global;
 use std::io;
@@ -45,7 +43,7 @@ fn try_check<R: Read, W: Write>(alloc: Global, reader: &mut R, writer: &mut W) -
 {
     match read_input(alloc, reader, ORDERS_LIMIT) {
         Ok(input) => write_checked(alloc, input.as_slice(), writer),
-        Err(fault) => write_failure(writer, fault),
+        Err(fault) => write_failure(writer, Fault::Input(fault)),
     }
 }
 
@@ -56,24 +54,24 @@ fn write_checked<W: Write>(alloc: Global, input: &[u8], writer: &mut W) -> io::R
 {
     match items_of(alloc, input, ORDERS_LIMIT) {
         Ok(items) => write_report(writer, items),
-        Err(fault) => write_failure(writer, fault),
+        Err(fault) => write_failure(writer, Fault::Input(fault)),
     }
 }
 
 // The items of an input.
-fn items_of(alloc: Global, input: &[u8], limit: u32) -> Result<Vec<Value>, Fault>
+fn items_of(alloc: Global, input: &[u8], limit: u32) -> Result<Vec<Value>, InputFault>
     ensures ok { IfOk result (λ items. AreItems limit input.now (items_view items.items)) }
     ensures err { IfErr result (IsInputFault limit input.now) }
 {
     let value = json_of(alloc, input, limit)?;
     match value {
         Value::Array(items) => Ok(items),
-        _other => Err(Fault::Document),
+        _other => Err(InputFault::Document),
     }
 }
 
 // Writes what becomes of each item.
-#[tactic(auto, using(crate::proofs::StreamLemmas::appends_both, crate::proofs::StreamLemmas::appends_kept))]
+#[tactic(auto, using(dali_text::proofs::StreamLemmas::appends_both, dali_text::proofs::StreamLemmas::appends_kept))]
 fn write_report<W: Write>(writer: &mut W, items: Vec<Value>) -> io::Result<Status>
     ensures { IfOk result (λ status. (outcomes : List Outcome) × JudgesEach (items_view items.items) outcomes
         × (status ≡ report_status outcomes)
@@ -110,7 +108,7 @@ fn write_item<W: Write>(writer: &mut W, number: u64, item: Value) -> io::Result<
             Ok(true)
         }
         Err(fault) => {
-            write_refusal(writer, number, fault)?;
+            write_refused_item(writer, number, fault)?;
             Ok(false)
         }
     }

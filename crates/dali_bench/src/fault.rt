@@ -1,7 +1,8 @@
 ghost use Rattle.std.specs.Prelude.{◌≡◌};
-ghost use Rattle.dali_bench.specs.Faults.{number_of, name_of, status_of, code_of};
+ghost use Rattle.dali_bench.specs.Faults.{code_of, input_status as status_of_input, status_of};
 
-use std::alloc::{AllocError, AllocFailed};
+use dali_input::{InputFault, SetupFault};
+use dali_writer::RunFault;
 use thiserror::Error;
 
 /// How a command ended.
@@ -30,74 +31,74 @@ impl Status {
     }
 }
 
-/// Why a command gave up on its whole input.
+/// Why a command gave up on its input.
 #[derive(Clone, Copy, Debug, PartialEq, Eq, Error)]
 pub enum Fault {
-    #[error("the input is no JSON")]
-    Json = 11,
-    #[error("the input is JSON of another form")]
-    Document = 12,
-    #[error("the input is larger than its limit")]
-    TooBig = 13,
-    #[error("the text is no hexadecimal digits, or not so many")]
-    Hex = 14,
-    #[error("memory ran out")]
-    Memory = 20,
-    #[error("the input can't be opened or read")]
-    File = 21,
+    /// The input as a whole: 11 Json, 12 Document, 13 TooBig, 14 Hex, 20 Memory, 21 File.
+    #[error("{0}")]
+    Input(InputFault),
+    /// What a scenario sets up: its units and its orders.
+    #[error("the scenario can't be set up")]
+    Setup(SetupFault),
+    /// The run of a scenario: 1 Limit, 2 NoMemory.
+    #[error("{0}")]
+    Run(RunFault),
 }
 
 impl Fault {
-    /// The fault's number.
-    pub fn number(&self) -> u8
-        ensures { result ≡ number_of self.now }
-    {
-        *self as u8
-    }
-
-    /// The fault's name.
-    pub fn name(&self) -> &'static str
-        ensures { result.now ≡ name_of self.now }
-    {
-        match self {
-            Fault::Json => "Json",
-            Fault::Document => "Document",
-            Fault::TooBig => "TooBig",
-            Fault::Hex => "Hex",
-            Fault::Memory => "Memory",
-            Fault::File => "File",
-        }
-    }
-
     /// How the program ends at the fault.
     pub fn status(&self) -> Status
         ensures { result ≡ status_of self.now }
     {
         match self {
-            Fault::Json | Fault::Document | Fault::TooBig | Fault::Hex => Status::Refused,
-            Fault::Memory | Fault::File => Status::Failed,
+            Fault::Input(fault) | Fault::Setup(SetupFault::Input(fault)) => input_status(*fault),
+            Fault::Setup(_) | Fault::Run(RunFault::Limit) => Status::Refused,
+            Fault::Run(RunFault::NoMemory) => Status::Failed,
         }
     }
 }
 
-impl From<AllocError> for Fault {
-    ghost use Rattle.std.specs.Prelude.{◌≡◌};
-    ghost use Rattle.dali_bench.specs.declared.fault.Fault.TheVariants.{Memory};
-
-    ghost from_gives = { λ _ fault. fault ≡ Memory };
-
-    fn from(_error: AllocError) -> Fault {
-        Fault::Memory
+// How the program ends at a fault of a whole input.
+fn input_status(fault: InputFault) -> Status
+    ensures { result ≡ status_of_input fault }
+{
+    match fault {
+        InputFault::Json | InputFault::Document | InputFault::TooBig | InputFault::Hex => {
+            Status::Refused
+        }
+        InputFault::Memory | InputFault::File => Status::Failed,
     }
 }
 
-impl<T: Drop> From<AllocFailed<T>> for Fault {
+impl From<InputFault> for Fault {
     ghost use Rattle.std.specs.Prelude.{◌≡◌};
-    ghost use Rattle.dali_bench.specs.declared.fault.Fault.TheVariants.{Memory};
+    ghost use Rattle.dali_bench.specs.declared.fault.Fault.TheVariants.{Input};
 
-    ghost from_gives = { λ _ fault. fault ≡ Memory };
+    ghost from_gives = { λ cause fault. fault ≡ Input cause };
 
-    fn from(_failed: AllocFailed<T>) -> Fault {
-        Fault::Memory
+    fn from(cause: InputFault) -> Fault {
+        Fault::Input(cause)
+    }
+}
+
+impl From<SetupFault> for Fault {
+    ghost use Rattle.std.specs.Prelude.{◌≡◌};
+    ghost use Rattle.dali_bench.specs.declared.fault.Fault.TheVariants.{Setup};
+
+    ghost from_gives = { λ cause fault. fault ≡ Setup cause };
+
+    fn from(cause: SetupFault) -> Fault {
+        Fault::Setup(cause)
+    }
+}
+
+impl From<RunFault> for Fault {
+    ghost use Rattle.std.specs.Prelude.{◌≡◌};
+    ghost use Rattle.dali_bench.specs.declared.fault.Fault.TheVariants.{Run};
+
+    ghost from_gives = { λ cause fault. fault ≡ Run cause };
+
+    fn from(cause: RunFault) -> Fault {
+        Fault::Run(cause)
     }
 }

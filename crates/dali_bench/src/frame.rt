@@ -1,14 +1,15 @@
-ghost use Rattle.std.specs.Prelude.{◌≡◌, ◌≢◌, ◌↔◌, ℕ, List, IsSome, IfSome, IfOk, OnOk};
+ghost use Rattle.std.specs.Prelude.{◌≡◌, ◌≢◌, ◌↔◌, ℕ, List, IsSome, IfSome, IfOk};
 ghost use Rattle.std.specs.Io.KnownBytes.{Appends};
 ghost use Rattle.dali_frame.specs.Frame.{Spells};
 ghost use Rattle.dali_frame.specs.Hex.{SpellsNumber};
 ghost use Rattle.dali_frame.specs.declared.forward.Frame.{Frame};
-ghost use Rattle.dali_bench.specs.Frames.{AreFourDigits, IsFrameAnswer, special_line, command_line, frame_line};
+ghost use Rattle.dali_text.specs.FrameLine.{frame_line};
+ghost use Rattle.dali_bench.specs.FrameAnswers.{AreFourDigits, IsFrameAnswer};
 
-use crate::digits::{ByteDigits, WordDigits};
 use crate::fault::{Fault, Status};
-use crate::lines::write_failure;
-use dali_frame::{Frame, frame_of};
+use crate::fault_lines::write_failure;
+use dali_input::InputFault;
+use dali_text::write_frame;
 use std::io;
 use std::io::Write;
 
@@ -33,7 +34,7 @@ fn try_frame<W: Write>(argument: &str, writer: &mut W) -> io::Result<Status>
 {
     match word_in(argument) {
         Some(word) => write_word(writer, word),
-        None => write_failure(writer, Fault::Hex),
+        None => write_failure(writer, Fault::Input(InputFault::Hex)),
     }
 }
 
@@ -53,7 +54,7 @@ fn word_in(argument: &str) -> Option<u16>
 }
 
 // Writes a word and the frame that it spells, and nothing after it.
-#[tactic(auto, using(crate::proofs::StreamLemmas::appends_kept))]
+#[tactic(auto, using(dali_text::proofs::StreamLemmas::appends_kept))]
 fn write_word<W: Write>(writer: &mut W, word: u16) -> io::Result<Status>
     ensures { IfOk result (λ status. (status ≡ Status.Good) × (frame : Frame) × Spells frame word
         × Appends (W.contents writer.old) (W.contents writer.new) (frame_line word frame)) }
@@ -61,50 +62,4 @@ fn write_word<W: Write>(writer: &mut W, word: u16) -> io::Result<Status>
     write_frame(writer, word)?;
     writer.flush()?;
     Ok(Status::Good)
-}
-
-// Writes a word and the frame that it spells.
-fn write_frame<W: Write>(writer: &mut W, word: u16) -> io::Result<()>
-    ensures { OnOk result ((frame : Frame) × Spells frame word
-        × Appends (W.contents writer.old) (W.contents writer.new) (frame_line word frame)) }
-{
-    match frame_of(word) {
-        Frame::Dtr0(operand) => write_special(writer, word, "DTR0", operand),
-        Frame::Dtr1(operand) => write_special(writer, word, "DTR1", operand),
-        Frame::Dtr2(operand) => write_special(writer, word, "DTR2", operand),
-        Frame::Write(operand) => write_special(writer, word, "WRITE MEMORY LOCATION", operand),
-        Frame::WriteSilent(operand) => {
-            write_special(writer, word, "WRITE MEMORY LOCATION - NO REPLY", operand)
-        }
-        Frame::Enable(address) => write_command(writer, word, "ENABLE WRITE MEMORY", address),
-        Frame::AskDtr0(address) => write_command(writer, word, "QUERY CONTENT DTR0", address),
-        Frame::AskDtr1(address) => write_command(writer, word, "QUERY CONTENT DTR1", address),
-        Frame::AskDtr2(address) => write_command(writer, word, "QUERY CONTENT DTR2", address),
-        Frame::Read(address) => write_command(writer, word, "READ MEMORY LOCATION", address),
-        Frame::Other(_) => write_other(writer, word),
-    }
-}
-
-// Writes a special command.
-fn write_special<W: Write>(writer: &mut W, word: u16, name: &str, operand: u8) -> io::Result<()>
-    ensures { OnOk result (Appends (W.contents writer.old) (W.contents writer.new) (special_line word name.now operand)) }
-{
-    let (word, operand) = (WordDigits(word), ByteDigits(operand));
-    writeln!(writer, "{word} {name} {operand}")
-}
-
-// Writes a command to a short address.
-fn write_command<W: Write>(writer: &mut W, word: u16, name: &str, address: u8) -> io::Result<()>
-    ensures { OnOk result (Appends (W.contents writer.old) (W.contents writer.new) (command_line word name.now address)) }
-{
-    let word = WordDigits(word);
-    writeln!(writer, "{word} {name} unit {address}")
-}
-
-// Writes a word that spells no other frame.
-fn write_other<W: Write>(writer: &mut W, word: u16) -> io::Result<()>
-    ensures { OnOk result (Appends (W.contents writer.old) (W.contents writer.new) (frame_line word (Frame.Other word))) }
-{
-    let word = WordDigits(word);
-    writeln!(writer, "{word} OTHER")
 }

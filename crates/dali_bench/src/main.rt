@@ -2,34 +2,24 @@
 #![tactic(auto)]
 
 mod check;
-mod digits;
 mod fault;
+mod fault_lines;
 mod frame;
-mod input;
-mod item;
 mod job;
-mod key;
-mod lines;
-mod members;
-mod refusal;
 mod run_scenario;
-mod run_text;
-mod scenario;
-mod setup;
 mod show;
 #[cfg(test)]
 mod tests;
-mod unit_lines;
-mod values;
 
 use crate::check::check;
 use crate::fault::{Fault, Status};
+use crate::fault_lines::write_fault;
 use crate::frame::frame;
 use crate::job::{Job, job_of};
-use crate::lines::write_fault;
 use crate::run_scenario::run_scenario;
 use crate::show::show;
 use clap::error::ErrorKind;
+use dali_input::InputFault;
 use std::alloc::{AllocError, Global};
 use std::io::{BufWriter, Read, Write};
 use std::process::ExitCode;
@@ -39,9 +29,9 @@ fn main(rt: HostRuntime) -> ExitCode {
     let status = match std::env::args(&rt) {
         Ok(words) => match words.collect(rt.alloc()) {
             Ok(words) => run(&rt, &words),
-            Err(_) => failed(&rt, Fault::Memory),
+            Err(_) => out_of_memory(&rt),
         },
-        Err(error) if error.kind() == io::ErrorKind::OutOfMemory => failed(&rt, Fault::Memory),
+        Err(error) if error.kind() == io::ErrorKind::OutOfMemory => out_of_memory(&rt),
         Err(_) => {
             let _ = eprintln!(&rt; "error: an argument is no text in UTF-8");
             Status::Refused
@@ -56,7 +46,7 @@ fn main(rt: HostRuntime) -> ExitCode {
 // Carries out the command line.
 fn run(rt: &HostRuntime, words: &Vec<String>) -> Status {
     let Ok(words) = texts_of(rt.alloc(), words) else {
-        return failed(rt, Fault::Memory);
+        return out_of_memory(rt);
     };
     match job_of(rt.alloc(), words.as_slice()) {
         Ok(Job::Check(orders)) => on_file(rt, orders, FileCommand::Check),
@@ -68,7 +58,7 @@ fn run(rt: &HostRuntime, words: &Vec<String>) -> Status {
         ) => on_file(rt, scenario, FileCommand::Run { single_frames }),
         Ok(Job::Frame(digits)) => frame(digits, &mut io::writer(rt)),
         Ok(Job::Show(dump)) => on_file(rt, dump, FileCommand::Show),
-        Err(error) if error.kind() == ErrorKind::OutOfMemory => failed(rt, Fault::Memory),
+        Err(error) if error.kind() == ErrorKind::OutOfMemory => out_of_memory(rt),
         Err(error) => match error.print(rt) {
             Ok(()) if error.exit_code() == 0 => Status::Good,
             Ok(()) => Status::Refused,
@@ -117,7 +107,7 @@ impl FileCommand {
 // may lack the right to open it by name.
 fn on_file(rt: &HostRuntime, name: &str, command: FileCommand) -> Status {
     let Ok(mut writer) = BufWriter::new(rt.alloc(), io::writer(rt)) else {
-        return failed(rt, Fault::Memory);
+        return out_of_memory(rt);
     };
     if name == "/dev/stdin" {
         return command.carry_out(rt.alloc(), &mut rt.reader(), &mut writer);
@@ -130,17 +120,17 @@ fn on_file(rt: &HostRuntime, name: &str, command: FileCommand) -> Status {
 
 // Prints that a file can't be opened, and why.
 fn unopened(rt: &HostRuntime, name: &str, cause: io::Error) -> Status {
-    let fault = Fault::File;
-    let _ = eprintln!(rt; "error: {fault}: {name}: {cause}");
-    print_fault(rt, fault)
+    let _ = eprintln!(rt; "error: the input can't be opened or read: {name}: {cause}");
+    print_fault(rt, Fault::Input(InputFault::File))
 }
 
-// Prints a fault that comes before any command runs, and what it means.
-fn failed(rt: &HostRuntime, fault: Fault) -> Status {
-    let _ = eprintln!(rt; "error: {fault}");
-    print_fault(rt, fault)
+// Prints that memory ran out before any command ran.
+fn out_of_memory(rt: &HostRuntime) -> Status {
+    let _ = eprintln!(rt; "error: memory ran out");
+    print_fault(rt, Fault::Input(InputFault::Memory))
 }
 
+// Prints a fault that comes before any command runs.
 fn print_fault(rt: &HostRuntime, fault: Fault) -> Status {
     match write_fault(&mut io::writer(rt), fault) {
         Ok(()) => fault.status(),

@@ -1,21 +1,16 @@
-ghost use Rattle.std.specs.Prelude.{◌≡◌, ◌≢◌, List, ℕ, IfOk, IfErr};
+ghost use Rattle.std.specs.Prelude.{◌≡◌, ◌≢◌, List, ℕ, IfOk, IfErr, length, reverse};
 ghost use Rattle.std.specs.Io.KnownBytes.{Appends};
-ghost use Rattle.serde_json.specs.View.{view};
-ghost use Rattle.dali_bench.specs.Input.{ReadsAtMost};
-ghost use Rattle.dali_bench.specs.Outcomes.{IsNoInputRun, IsNoJsonRun, IsPlannedRun, IsInputRun, IsJsonRun, IsRunAnswer, IsRunOf, scenario_limit};
-ghost use Rattle.dali_bench.specs.Scenario.{planned_of};
-ghost use Rattle.dali_bench.specs.Setup.{IsRefused};
+ghost use Rattle.dali_writer.specs.Runs.{SendsAllProper};
+ghost use Rattle.dali_text.specs.RunText.{run_text};
+ghost use Rattle.dali_input.specs.Input.{ReadsAtMost};
+ghost use Rattle.dali_bench.specs.RunAnswers.{IsRan, IsRunAnswer, IsUnrun, scenario_limit};
 
 use crate::fault::{Fault, Status};
-use crate::input::{json_of, read_input};
-use crate::lines::{write_failure, write_no_run};
-use crate::refusal::Refusal;
-use crate::run_text::write_outcome;
-use crate::scenario::{Scenario, scenario_of};
-use crate::setup::{Setup, setup_of};
+use crate::fault_lines::write_failure;
 use dali_gear::SimBus;
+use dali_input::{Setup, json_of, read_input, scenario_of, setup_of};
+use dali_text::write_outcome;
 use dali_writer::{Outcome, RunFault, run};
-use serde_json::Value;
 use std::alloc::Global;
 use std::io;
 use std::io::{Read, Write};
@@ -45,7 +40,7 @@ pub fn run_scenario<R: Read, W: Write>(
     single_frames: bool,
 ) -> Status
     ensures ran { result ≢ Status.Unwritten → (text : List ℕ)
-        × IsRunOf scenario_limit single_frames (R.remaining reader.old) (R.remaining reader.new) result text
+        × IsRunAnswer single_frames (R.remaining reader.old) (R.remaining reader.new) result text
         × Appends (W.contents writer.old) (W.contents writer.new) text }
     ensures read { ReadsAtMost scenario_limit (R.remaining reader.old) (R.remaining reader.new) }
 {
@@ -63,73 +58,42 @@ fn try_run<R: Read, W: Write>(
     single_frames: bool,
 ) -> io::Result<Status>
     ensures ran { IfOk result (λ status. (text : List ℕ)
-        × IsRunOf scenario_limit single_frames (R.remaining reader.old) (R.remaining reader.new) status text
+        × IsRunAnswer single_frames (R.remaining reader.old) (R.remaining reader.new) status text
         × Appends (W.contents writer.old) (W.contents writer.new) text) }
     ensures read { ReadsAtMost scenario_limit (R.remaining reader.old) (R.remaining reader.new) }
 {
-    match read_input(alloc, reader, SCENARIO_LIMIT) {
-        Ok(input) => write_run(alloc, input.as_slice(), writer, single_frames),
+    match ran_of(alloc, reader) {
+        Ok(ran) => write_ran(writer, single_frames, &ran),
         Err(fault) => write_failure(writer, fault),
     }
 }
 
-// Writes what becomes of an input.
-fn write_run<W: Write>(
-    alloc: Global,
-    input: &[u8],
-    writer: &mut W,
-    single_frames: bool,
-) -> io::Result<Status>
-    ensures { IfOk result (λ status. (text : List ℕ) × IsRunAnswer scenario_limit single_frames input.now status text
-        × Appends (W.contents writer.old) (W.contents writer.new) text) }
+// Reads, understands, sets up and runs a scenario.
+fn ran_of<R: Read>(alloc: Global, reader: &mut R) -> Result<Ran, Fault>
+    ensures ok { IfOk result (λ ran. IsRan (R.remaining reader.old) (R.remaining reader.new)
+        ran.outcome.trace.items ran.outcome.journal.items ran.bus) }
+    ensures err { IfErr result (IsUnrun (R.remaining reader.old) (R.remaining reader.new)) }
+    ensures read { ReadsAtMost scenario_limit (R.remaining reader.old) (R.remaining reader.new) }
 {
-    match ran_of(alloc, input, SCENARIO_LIMIT) {
-        Ok(ran) => {
-            write_outcome(writer, single_frames, &ran.outcome, ran.bus.units())?;
-            writer.flush()?;
-            Ok(Status::Good)
-        }
-        Err(refusal) => {
-            write_no_run(writer, refusal)?;
-            Ok(refusal.status())
-        }
-    }
-}
-
-// What the run of an input gives.
-fn ran_of(alloc: Global, input: &[u8], limit: u32) -> Result<Ran, Refusal>
-    ensures ok { IfOk result (λ ran. IsInputRun limit input.now ran.outcome.trace.items ran.outcome.journal.items ran.bus) }
-    ensures err { IfErr result (IsNoInputRun limit input.now) }
-{
-    match json_of(alloc, input, limit) {
-        Ok(json) => ran_from(alloc, &json),
-        Err(fault) => Err(Refusal::Whole(fault)),
-    }
-}
-
-// What the run of a JSON value gives.
-fn ran_from(alloc: Global, json: &Value) -> Result<Ran, Refusal>
-    ensures ok { IfOk result (λ ran. IsJsonRun (view json.now) ran.outcome.trace.items ran.outcome.journal.items ran.bus) }
-    ensures err { IfErr result (IsNoJsonRun (view json.now)) }
-{
-    match scenario_of(alloc, json) {
-        Ok(scenario) => run_planned(alloc, &scenario),
-        Err(fault) => Err(Refusal::Whole(fault)),
-    }
-}
-
-// Runs a scenario.
-fn run_planned(alloc: Global, scenario: &Scenario<'_>) -> Result<Ran, Refusal>
-    ensures ok { IfOk result (λ ran. IsPlannedRun (planned_of scenario.now) ran.outcome.trace.items ran.outcome.journal.items ran.bus) }
-    ensures err { IfErr result (IsRefused (planned_of scenario.now)) }
-{
-    let Setup { mut bus, events } = setup_of(alloc, scenario)?;
+    let input = read_input(alloc, reader, SCENARIO_LIMIT)?;
+    let json = json_of(alloc, input.as_slice(), SCENARIO_LIMIT)?;
+    let scenario = scenario_of(alloc, &json)?;
+    let Setup { mut bus, events } = setup_of(alloc, &scenario)?;
     let Ok(limit) = u32::try_from(scenario.limit) else {
-        return Err(Refusal::Limit);
+        return Err(Fault::Run(RunFault::Limit));
     };
-    match run(alloc, &mut bus, limit, events.as_slice()) {
-        Ok(outcome) => Ok(Ran { outcome, bus }),
-        Err(RunFault::Limit) => Err(Refusal::Limit),
-        Err(RunFault::NoMemory) => Err(Refusal::Whole(Fault::Memory)),
-    }
+    let outcome = run(alloc, &mut bus, limit, events.as_slice())?;
+    Ok(Ran { outcome, bus })
+}
+
+// Tells a run.
+#[tactic(auto, using(dali_text::proofs::StreamLemmas::appends_kept))]
+fn write_ran<W: Write>(writer: &mut W, single_frames: bool, ran: &Ran) -> io::Result<Status>
+    requires { SendsAllProper (reverse ran.now.outcome.trace.items) }
+    ensures { IfOk result (λ status. (status ≡ Status.Good) × Appends (W.contents writer.old) (W.contents writer.new)
+        (run_text single_frames ran.now.outcome.trace.items (length ran.now.outcome.journal.items) ran.now.bus.units)) }
+{
+    write_outcome(writer, single_frames, &ran.outcome, ran.bus.units())?;
+    writer.flush()?;
+    Ok(Status::Good)
 }

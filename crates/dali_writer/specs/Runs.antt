@@ -1,13 +1,19 @@
 -- What is promised of a run over a bus.
-use Rattle.std.specs.Prelude.{ℕ, List, [], ◌∷◌}
+use Rattle.std.specs.Prelude.{◌≡◌, ℕ, List, [], ◌∷◌, reverse}
 use Rattle.dali_frame.specs.Frame.{IsProper}
 use Rattle.dali_gear.specs.World.{World}
 use Rattle.dali_gear.specs.Carry.{BusEvent}
 use Rattle.dali_gear.specs.Chain.{IsChain, AtEachMoment}
 use Rattle.dali_gear.specs.Unenabled.{NoneEnabled}
+use Rattle.dali_journal.specs.JournalState.{IsLimit}
+use Rattle.dali_journal.specs.Spelling.{journal_spelling}
+use Rattle.dali_writer.specs.declared.happening.Event.{Event}
 use Rattle.dali_writer.specs.declared.happening.Happening.{Happening}
 use Rattle.dali_writer.specs.declared.happening.Happening.TheVariants.{Sent}
-use Rattle.dali_writer.specs.Trace.{Start}
+use Rattle.dali_writer.specs.Trace.{Start, records_of}
+use Rattle.dali_writer.specs.Legal.{Legal, IsFinished}
+use Rattle.dali_writer.specs.Parts.{AreParts}
+use Rattle.dali_writer.specs.Taken.{begun_orders, taken_orders}
 use Rattle.dali_writer.specs.Moves.{MovesBy}
 use Rattle.dali_writer.specs.Law.{IsRight}
 
@@ -31,3 +37,17 @@ SendsProper other = Unit {0}
 abbrev pub SendsAllProper : List Happening → Type 0
 SendsAllProper [] = Unit {0}
 SendsAllProper (newest ∷ past) = SendsProper newest × SendsAllProper past
+
+-- What a run of these events is, from the first state of a bus to the last: its trace, the oldest happening first, and the journal's bytes.
+pub record IsRun {S : Type 0} (world : S → World) (step : S → BusEvent → S → Type 0) (limit : ℕ) (all : List Event) (first : S) (trace : List Happening) (journal : List ℕ) (last : S) : Type 0 where
+  pub limited : IsLimit limit
+  -- each happening was one that might follow those before it, and the last one too is no order without its reply
+  pub legal : Legal (fresh limit) (reverse trace)
+  pub finished : IsFinished (reverse trace)
+  pub proper : SendsAllProper (reverse trace)
+  -- the trace is the joined parts of the events
+  pub parts : AreParts (fresh limit) (reverse all) (reverse trace)
+  -- the journal's bytes are those of the records that were kept, and its orders are the taken ones
+  pub journal_is : journal ≡ journal_spelling (records_of (fresh limit) (reverse trace))
+  pub taken : begun_orders (records_of (fresh limit) (reverse trace)) ≡ taken_orders (reverse trace)
+  pub leads : LeadsRight world step limit first (reverse trace) last

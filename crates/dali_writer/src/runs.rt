@@ -10,7 +10,7 @@ ghost use Rattle.dali_writer.specs.Legal.{Legal, IsFinished};
 ghost use Rattle.dali_writer.specs.Parts.{IsWork, Part, AreParts};
 ghost use Rattle.dali_writer.specs.Taken.{taken_orders, begun_orders};
 ghost use Rattle.dali_writer.specs.Moves.{MovesBy};
-ghost use Rattle.dali_writer.specs.Runs.{fresh, LeadsRight, SendsProper, SendsAllProper};
+ghost use Rattle.dali_writer.specs.Runs.{fresh, IsRun, LeadsRight, SendsProper, SendsAllProper};
 ghost use Rattle.dali_writer.specs.Describes.{Describes};
 
 use crate::fault::RunFault;
@@ -133,14 +133,7 @@ pub fn run<B: Bus>(
     limit: u32,
     events: &[Event],
 ) -> Result<Outcome, RunFault>
-    ensures legal { IfOk result (λ outcome. Legal (fresh limit) (reverse outcome.trace.items)) }
-    ensures finished { IfOk result (λ outcome. IsFinished (reverse outcome.trace.items)) }
-    ensures parts { IfOk result (λ outcome. AreParts (fresh limit) (reverse events.now) (reverse outcome.trace.items)) }
-    ensures journal { IfOk result (λ outcome. outcome.journal.items ≡ journal_spelling (records_of (fresh limit) (reverse outcome.trace.items))) }
-    ensures right { IfOk result (λ outcome. LeadsRight B.world B.step limit bus.old (reverse outcome.trace.items) bus.new) }
-    ensures taken { IfOk result (λ outcome. begun_orders (records_of (fresh limit) (reverse outcome.trace.items)) ≡ taken_orders (reverse outcome.trace.items)) }
-    ensures proper { IfOk result (λ outcome. SendsAllProper (reverse outcome.trace.items)) }
-    ensures limited { OnOk result (IsLimit limit) }
+    ensures ok { IfOk result (λ outcome. IsRun B.world B.step limit events.now bus.old outcome.trace.items outcome.journal.items bus.new) }
     ensures limit { (result ≡ Err faults.Limit) ↔ (¬ IsLimit limit) }
     ensures untouched { result ≡ Err faults.Limit → bus.new ≡ bus.old }
     ensures err { OnErr result ((past : List Happening) × (served : ℕ) × AreParts (fresh limit) (reverse (take served events.now)) past × Legal (fresh limit) past × LeadsRight B.world B.step limit bus.old past bus.new) }

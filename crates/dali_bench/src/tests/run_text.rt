@@ -2,11 +2,11 @@ ghost use Rattle.std.specs.Prelude.{IfOk, reverse};
 ghost use Rattle.dali_writer.specs.Runs.{SendsAllProper, SendsProper};
 
 use super::streams::FullWriter;
-use crate::run_text::write_outcome;
 use dali_bank::Order;
 use dali_frame::{Frame, frame_of};
 use dali_gear::{SimBus, Unit};
 use dali_journal::{Code, Record};
+use dali_text::write_outcome;
 use dali_writer::{Event, Happening, Outcome, Reply, run};
 use std::alloc::{AllocError, Global};
 use std::test::Fail;

@@ -1,5 +1,7 @@
-use Rattle.std.proofs.Common.{refl, sym, reverse, [], arith}
+use Rattle.std.proofs.Common.{refl, sym, ap, ◌∙◌, reverse, [], arith}
+use Rattle.std.proofs.lemmas.List.{take_all}
 use Rattle.std.proofs.lemmas.Result.{err_from_is_err_and}
+use Rattle.dali_journal.specs.Spelling.{journal_spelling}
 use Rattle.dali_gear.specs.Chain.{Chain}
 use Rattle.dali_writer.specs.Moves.{MovesBy}
 use Rattle.dali_writer.specs.Runs.{fresh}
@@ -65,9 +67,17 @@ returns-in_err-to_bytes-clause-err g c =
       right g.B.Bus.world g.B.Bus.step g.met.B.Bus.allowed c.args.limit c.args.bus.now c.loop-event.bus _ c.loop-event.invariant.described.legal c.loop-event.invariant.chain,
     )
 
-pub returns-clause-right : goal.returns-clause-right
-returns-clause-right g c =
-    right g.B.Bus.world g.B.Bus.step g.met.B.Bus.allowed c.args.limit c.args.bus.now c.loop-event.bus _ c.loop-event.invariant.described.legal c.loop-event.invariant.chain
-
-pub returns-clause-taken : goal.returns-clause-taken
-returns-clause-taken g c = taken_from_none (fresh c.args.limit) (reverse c.loop-event.trace.items) refl c.loop-event.invariant.described.legal
+pub returns-clause-ok : goal.returns-clause-ok
+returns-clause-ok g c =
+    let at = c.loop-event.invariant in
+    let all = take_all c.loop-event.event-index c.args.events.now (omega (arith, c.loop-event-test.false)) in
+    record {
+      limited = c.in-Ok.ensures.accepted;
+      legal = at.described.legal;
+      finished = at.described.finished;
+      proper = at.proper;
+      parts = rw all at at.parts;
+      journal_is = c.in_ok-to_bytes.ensures ∙ ap journal_spelling (ap (λ j. j.records) c.journal.ensures ∙ sym at.described.same);
+      taken = taken_from_none (fresh c.args.limit) (reverse c.loop-event.trace.items) refl at.described.legal;
+      leads = right g.B.Bus.world g.B.Bus.step g.met.B.Bus.allowed c.args.limit c.args.bus.now c.loop-event.bus _ at.described.legal at.chain;
+    }

@@ -1,7 +1,0 @@
-use Rattle.serde_json.specs.Data.{Data}
-use Rattle.dali_bench.specs.Members.{AreMembersOf}
-use Rattle.dali_bench.proofs.ItemLemmas.{SetSoFar, AreUnsetFrom}
-use Rattle.dali_bench.proofs.item.set_fields.Given as goal
-
-abbrev pub invariant-loop-field : goal.invariant-loop-field
-invariant-loop-field l = ((source : Data) → AreMembersOf source l.members → SetSoFar source l.field-index l.initial.draft l.draft) × AreUnsetFrom l.field-index l.draft

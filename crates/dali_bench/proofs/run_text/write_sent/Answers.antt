@@ -1,4 +1,0 @@
-use Rattle.dali_bench.proofs.run_text.write_sent.Goals as goal
-
-pub returns-in-Some : goal.returns-in-Some
-returns-in-Some g c = rw (c.in-Some.is, ← c.word_of.ensures) c.writeln.ensures.bytes

@@ -1,8 +1,0 @@
-use Rattle.std.proofs.Common.{take}
-use Rattle.serde_json.specs.View.{items_view}
-use Rattle.dali_bench.specs.Values.{AreEach}
-use Rattle.dali_bench.specs.Scenario.{IsFate}
-use Rattle.dali_bench.proofs.scenario.fate_plans.Given as goal
-
-abbrev pub invariant-loop-item : goal.invariant-loop-item
-invariant-loop-item l = AreEach IsFate (items_view (take l.item-index l.item-items)) l.plans.items

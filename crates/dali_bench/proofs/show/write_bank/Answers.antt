@@ -1,8 +1,0 @@
-use Rattle.dali_bench.specs.Shows.{rows}
-use Rattle.dali_bench.proofs.ShowLemmas.{row_more}
-use Rattle.dali_bench.proofs.show.write_bank.Goals as goal
-
-pub loop-row-preserved : goal.loop-row-preserved
-loop-row-preserved g c =
-    let said = c.in_ok-write_row.ensures in
-    row_more c.args.bank.now rows c.loop-row.row-index _ _ _ _ said.0 c.loop-row-test.true c.loop-row.invariant said.1 said.2

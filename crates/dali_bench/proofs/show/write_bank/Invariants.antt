@@ -1,6 +1,0 @@
-use Rattle.std.proofs.Common.{take}
-use Rattle.dali_bench.proofs.ShowLemmas.{Written}
-use Rattle.dali_bench.proofs.show.write_bank.Given as goal
-
-abbrev pub invariant-loop-row : goal.invariant-loop-row
-invariant-loop-row g l = Written l.bank (take l.row-index l.row-items) (g.W.Write.contents l.initial.writer) (g.W.Write.contents l.writer)

@@ -1,0 +1,70 @@
+ghost use Rattle.std.specs.Prelude.{OnOk, IfOk, ◌≡◌};
+ghost use Rattle.std.specs.Io.KnownBytes.{Appends};
+ghost use Rattle.dali_bench.specs.Faults.{input_line, item_line, line_of, setup_line, status_of};
+
+use crate::fault::{Fault, Status};
+use dali_gear::GearFault;
+use dali_input::{InputFault, ItemFault, SetupFault};
+use dali_text::{write_counted_fault, write_single_fault};
+use dali_writer::RunFault;
+use std::io;
+use std::io::Write;
+
+/// Writes why a command gave up, and nothing after it; the status is that of the fault.
+#[tactic(auto, using(dali_text::proofs::StreamLemmas::appends_kept))]
+pub fn write_failure<W: Write>(writer: &mut W, fault: Fault) -> io::Result<Status>
+    ensures told { OnOk result (Appends (W.contents writer.old) (W.contents writer.new) (line_of fault)) }
+    ensures status { IfOk result (λ status. status ≡ status_of fault) }
+{
+    write_fault(writer, fault)?;
+    writer.flush()?;
+    Ok(fault.status())
+}
+
+/// Writes the line of a fault.
+pub fn write_fault<W: Write>(writer: &mut W, fault: Fault) -> io::Result<()>
+    ensures { OnOk result (Appends (W.contents writer.old) (W.contents writer.new) (line_of fault)) }
+{
+    match fault {
+        Fault::Input(fault) => write_input_fault(writer, fault),
+        Fault::Setup(fault) => write_setup_fault(writer, fault),
+        Fault::Run(RunFault::Limit) => {
+            let fault = RunFault::Limit;
+            write_single_fault(writer, "run", fault.number(), &fault)
+        }
+        Fault::Run(RunFault::NoMemory) => write_input_fault(writer, InputFault::Memory),
+    }
+}
+
+// Writes the fault of a whole input.
+fn write_input_fault<W: Write>(writer: &mut W, fault: InputFault) -> io::Result<()>
+    ensures { OnOk result (Appends (W.contents writer.old) (W.contents writer.new) (input_line fault)) }
+{
+    dali_text::write_fault(writer, fault.number(), &fault)
+}
+
+// Writes why a scenario can't be set up.
+fn write_setup_fault<W: Write>(writer: &mut W, fault: SetupFault) -> io::Result<()>
+    ensures { OnOk result (Appends (W.contents writer.old) (W.contents writer.new) (setup_line fault)) }
+{
+    match fault {
+        SetupFault::Input(fault) => write_input_fault(writer, fault),
+        SetupFault::Unit(unit, fault) => {
+            write_counted_fault(writer, "unit", unit, fault.number(), &fault)
+        }
+        SetupFault::SameAddress => {
+            let fault = GearFault::SameAddress;
+            write_single_fault(writer, "gear", fault.number(), &fault)
+        }
+        SetupFault::Order(event, fault) => {
+            write_counted_fault(writer, "event", event, fault.number(), &fault)
+        }
+    }
+}
+
+/// Writes a refused item of a list of orders, counted from 1.
+pub fn write_refused_item<W: Write>(writer: &mut W, item: u64, fault: ItemFault) -> io::Result<()>
+    ensures { OnOk result (Appends (W.contents writer.old) (W.contents writer.new) (item_line item fault)) }
+{
+    write_counted_fault(writer, "item", item, fault.number(), &fault)
+}

@@ -1,0 +1,4 @@
+pub mod ItemLemmas
+pub mod MemberLemmas
+pub mod ValueLemmas
+pub mod SetupLemmas

@@ -1,0 +1,158 @@
+-- Lemmas on what a scenario sets up.
+use Rattle.std.proofs.Common.{◌≡◌, ◌≢◌, ◌<◌, ◌+◌, ℕ, suc, Bool, true, false, Option, Some, List, [], ◌∷◌, ◌++◌, length, get_or, map, take, drop, replicate, append_assoc, append-nil, arith, refl, sym, subst, ap, ◌∙◌}
+use Rattle.std.specs.Prelude.{◌==◌, if◌then◌else◌}
+use Rattle.std.specs.List.{AllByRecursion}
+use Rattle.std.proofs.Math.Seq.{split_at}
+use Rattle.std.proofs.lemmas.List.{take_more, map-append, length-map, length-take-le}
+use Rattle.dali_bank.specs.Order.{Contents}
+use Rattle.dali_gear.specs.declared.fault.GearFault.{GearFault}
+use Rattle.dali_gear.specs.declared.fault.GearFault.TheVariants.{NoMemory}
+use Rattle.dali_gear.specs.Faults.{IsUnitFault}
+use Rattle.dali_gear.specs.SimState.{world_of}
+use Rattle.dali_gear.specs.Unenabled.{NoneEnabled}
+use Rattle.dali_gear.specs.UnitState.{UnitState, gear_of}
+use Rattle.dali_gear.specs.World.{Gear, is_open}
+use Rattle.dali_writer.specs.declared.happening.Event.{Event}
+use Rattle.dali_writer.specs.declared.happening.Event.TheVariants as events
+use Rattle.serde_json.specs.Data.{Data}
+use Rattle.dali_input.specs.declared.fault.InputFault.TheVariants.{Json, Document, TooBig, Hex, Memory, File}
+use Rattle.dali_input.specs.declared.item.ItemFault.{ItemFault}
+use Rattle.dali_input.specs.declared.scenario.UnitPlan.{UnitPlan}
+use Rattle.dali_input.specs.declared.scenario.EventPlan.{EventPlan}
+use Rattle.dali_input.specs.declared.setup.SetupFault.{SetupFault}
+use Rattle.dali_input.specs.declared.setup.SetupFault.TheVariants as faults
+use Rattle.dali_input.specs.Items.{IsOrderOf, IsFaultOf}
+use Rattle.dali_input.specs.Scenario.{PlannedUnit, PlannedEvent, submit, steps, Planned, IsSmall, unit_of, event_of}
+use Rattle.dali_input.specs.Setup.{IsMakeable, made_unit, AreUnits, IsFirstUnitFault, IsUnitRefusal, AreEvents, IsFirstOrderFault, IsOrderRefusal, HasBus, IsRefused}
+
+all_one_more : {X : Type 0} (P : X → Type 0) (xs : List X) (x : X) → AllByRecursion P xs → P x → AllByRecursion P (xs ++ x ∷ [])
+all_one_more P [] x all holds = (holds, tt)
+all_one_more P (y ∷ xs) x all holds = (all.0, all_one_more P xs x all.1 holds)
+
+-- the plans up to one more
+one_more : {X Y : Type 0} (f : X → Y) (xs : List X) (i : ℕ) (x : X) → i < length xs → x ≡ get_or xs i x → map f (take (i + 1) xs) ≡ map f (take i xs) ++ f x ∷ []
+one_more f xs i x within is = ap (map f) (take_more xs i x within ∙ ap (λ y. take i xs ++ y ∷ []) (sym is)) ∙ map-append f (take i xs) (x ∷ [])
+
+-- and all of them, around one
+around : {X Y : Type 0} (f : X → Y) (xs : List X) (i : ℕ) (x : X) → i < length xs → x ≡ get_or xs i x → map f xs ≡ map f (take i xs) ++ f x ∷ map f (drop (suc i) xs)
+around f xs i x within is = ap (map f) (split_at xs i x within ∙ ap (λ y. take i xs ++ y ∷ drop (suc i) xs) (sym is)) ∙ map-append f (take i xs) (x ∷ drop (suc i) xs)
+
+counted_at : {X Y : Type 0} (f : X → Y) (xs : List X) (i number : ℕ) → i < length xs → number ≡ i → number + 1 ≡ length (map f (take i xs)) + 1
+counted_at f xs i number within counted = rw (length-map, length-take-le i xs (omega (arith, within)), counted) refl
+
+-- one unit more is made
+pub units_more : (plans : List UnitPlan) (i : ℕ) (plan : UnitPlan) (units : List UnitState) → i < length plans → plan ≡ get_or plans i plan
+    → AreUnits (map unit_of (take i plans)) units → IsMakeable (unit_of plan) → AreUnits (map unit_of (take (i + 1) plans)) (units ++ made_unit (unit_of plan) ∷ [])
+units_more plans i plan units within is made makeable = rw (one_more unit_of plans i plan within is) (record {
+  makeable = all_one_more IsMakeable (map unit_of (take i plans)) (unit_of plan) made.makeable makeable;
+  made = ap (λ us. us ++ made_unit (unit_of plan) ∷ []) made.made ∙ sym (map-append made_unit (map unit_of (take i plans)) (unit_of plan ∷ []));
+})
+
+-- a unit can't be made, and those before it can
+pub first_unit_fault : (plans : List UnitPlan) (i number : ℕ) (plan : UnitPlan) (units : List UnitState) (fault : GearFault) → i < length plans → plan ≡ get_or plans i plan → number ≡ i
+    → AreUnits (map unit_of (take i plans)) units → IsUnitFault plan.address plan.bank.items plan.fixed.items fault → fault ≢ NoMemory → IsFirstUnitFault (map unit_of plans) (number + 1) fault
+first_unit_fault plans i number plan units fault within is counted made refused not_memory = record {
+  front = map unit_of (take i plans);
+  unit = unit_of plan;
+  behind = map unit_of (drop (suc i) plans);
+  split = around unit_of plans i plan within is;
+  counted = counted_at unit_of plans i number within counted;
+  makeable = made.makeable;
+  refused = refused;
+  not_memory = not_memory;
+}
+
+-- ---- events
+
+submit_more : (front : List PlannedEvent) (all : List Event) (source : Data) (order : Contents) → AreEvents front all → IsOrderOf source order
+    → AreEvents (front ++ submit source ∷ []) (all ++ events.Submit order ∷ [])
+submit_more [] all source order are is = (order, [], is, refl, ap (λ es. es ++ events.Submit order ∷ []) are)
+submit_more (submit other ∷ front) all source order are is = (
+  are.0,
+  are.1 ++ events.Submit order ∷ [],
+  are.2,
+  submit_more front are.1 source order are.3 is,
+  ap (λ es. es ++ events.Submit order ∷ []) are.4,
+)
+submit_more (steps count ∷ front) all source order are is = (
+  are.0 ++ events.Submit order ∷ [],
+  submit_more front are.0 source order are.1 is,
+  ap (λ es. es ++ events.Submit order ∷ []) are.2 ∙ append_assoc (replicate count events.Step) are.0 _,
+)
+
+steps_more : (front : List PlannedEvent) (all : List Event) (made : ℕ) → AreEvents front all → AreEvents (front ++ steps made ∷ []) (all ++ replicate made events.Step)
+steps_more [] all made are = ([], refl, ap (λ es. es ++ replicate made events.Step) are ∙ sym (append-nil _))
+steps_more (submit source ∷ front) all made are = (
+  are.0,
+  are.1 ++ replicate made events.Step,
+  are.2,
+  steps_more front are.1 made are.3,
+  ap (λ es. es ++ replicate made events.Step) are.4,
+)
+steps_more (steps count ∷ front) all made are = (
+  are.0 ++ replicate made events.Step,
+  steps_more front are.0 made are.1,
+  ap (λ es. es ++ replicate made events.Step) are.2 ∙ append_assoc (replicate count events.Step) are.0 _,
+)
+
+-- one submission more
+pub submission_more : (plans : List EventPlan) (i : ℕ) (plan : EventPlan) (all : List Event) (source : Data) (order : Contents) → i < length plans → plan ≡ get_or plans i plan → event_of plan ≡ submit source
+    → AreEvents (map event_of (take i plans)) all → IsOrderOf source order → AreEvents (map event_of (take (i + 1) plans)) (all ++ events.Submit order ∷ [])
+submission_more plans i plan all source order within is submits are order_is =
+    rw (one_more event_of plans i plan within is, submits) (submit_more (map event_of (take i plans)) all source order are order_is)
+
+-- some steps more
+pub more_steps : (plans : List EventPlan) (i : ℕ) (plan : EventPlan) (all : List Event) (made : ℕ) → i < length plans → plan ≡ get_or plans i plan → event_of plan ≡ steps made
+    → AreEvents (map event_of (take i plans)) all → AreEvents (map event_of (take (i + 1) plans)) (all ++ replicate made events.Step)
+more_steps plans i plan all made within is makes are = rw (one_more event_of plans i plan within is, makes) (steps_more (map event_of (take i plans)) all made are)
+
+-- an order is refused, and those before it aren't
+pub first_order_fault : (plans : List EventPlan) (i number : ℕ) (plan : EventPlan) (all : List Event) (source : Data) (fault : ItemFault) → i < length plans → plan ≡ get_or plans i plan → number ≡ i
+    → event_of plan ≡ submit source → AreEvents (map event_of (take i plans)) all → IsFaultOf source fault → IsFirstOrderFault (map event_of plans) (number + 1) fault
+first_order_fault plans i number plan all source fault within is counted submits are refused = record {
+  front = map event_of (take i plans);
+  source = source;
+  behind = map event_of (drop (suc i) plans);
+  split = subst (λ e. map event_of plans ≡ map event_of (take i plans) ++ e ∷ map event_of (drop (suc i) plans)) submits (around event_of plans i plan within is);
+  counted = counted_at event_of plans i number within counted;
+  accepted = (all, are);
+  refused = refused;
+}
+
+-- ---- why nothing is set up
+
+pub units_refused : (planned : Planned) (fault : SetupFault) → IsSmall planned → IsUnitRefusal planned.units fault → IsRefused planned fault
+units_refused planned (faults.Input Json) small refused = absurd refused
+units_refused planned (faults.Input Document) small refused = absurd refused
+units_refused planned (faults.Input TooBig) small refused = absurd refused
+units_refused planned (faults.Input Hex) small refused = absurd refused
+units_refused planned (faults.Input Memory) small refused = tt
+units_refused planned (faults.Input File) small refused = absurd refused
+units_refused planned (faults.Unit number fault) small refused = (small, refused)
+units_refused planned faults.SameAddress small refused = absurd refused
+units_refused planned (faults.Order number fault) small refused = absurd refused
+
+pub orders_refused : (planned : Planned) (fault : SetupFault) → HasBus planned → IsOrderRefusal planned.events fault → IsRefused planned fault
+orders_refused planned (faults.Input Json) bus refused = absurd refused
+orders_refused planned (faults.Input Document) bus refused = absurd refused
+orders_refused planned (faults.Input TooBig) bus refused = absurd refused
+orders_refused planned (faults.Input Hex) bus refused = absurd refused
+orders_refused planned (faults.Input Memory) bus refused = tt
+orders_refused planned (faults.Input File) bus refused = absurd refused
+orders_refused planned (faults.Unit number fault) bus refused = absurd refused
+orders_refused planned faults.SameAddress bus refused = absurd refused
+orders_refused planned (faults.Order number fault) bus refused = (bus, refused)
+
+-- ---- units at first
+
+none_at : (unit : PlannedUnit) (here : Bool) (rest : Option Gear) → is_open rest ≡ false → is_open (if here then Some (gear_of (made_unit unit)) else rest) ≡ false
+none_at unit true rest none = refl
+none_at unit false rest none = none
+
+none_in : (units : List PlannedUnit) (address : ℕ) → is_open (world_of (map made_unit units) address) ≡ false
+none_in [] address = refl
+none_in (unit ∷ units) address = none_at unit (address == unit.address) (world_of (map made_unit units) address) (none_in units address)
+
+-- no new unit is write-enabled
+pub none_enabled : (planned : List PlannedUnit) (units : List UnitState) → AreUnits planned units → NoneEnabled (world_of units)
+none_enabled planned units are = λ address. rw are.made (none_in planned address)

@@ -1,0 +1,9 @@
+pub mod Faults
+pub mod Input
+pub mod BankText
+pub mod Keys
+pub mod Items
+pub mod Members
+pub mod Values
+pub mod Scenario
+pub mod Setup

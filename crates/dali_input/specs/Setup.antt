@@ -1,0 +1,120 @@
+-- What a scenario sets up: units, fates and events, and why one is refused.
+use Rattle.std.specs.Prelude.{◌≡◌, ◌≢◌, ◌+◌, ◌≤◌, ℕ, List, [], ◌∷◌, ◌++◌, length, map, replicate, ⊤}
+use Rattle.std.specs.List.{AllByRecursion, flat_map}
+use Rattle.dali_bank.specs.Order.{Contents}
+use Rattle.dali_gear.specs.declared.fate.Fate.{Fate}
+use Rattle.dali_gear.specs.declared.fault.GearFault.{GearFault}
+use Rattle.dali_gear.specs.declared.fault.GearFault.TheVariants.{NoMemory}
+use Rattle.dali_gear.specs.Faults.{IsBank, AreFixed, IsUnitFault}
+use Rattle.dali_gear.specs.SimState.{AreApart}
+use Rattle.dali_gear.specs.UnitState.{UnitState, new_unit}
+use Rattle.dali_writer.specs.declared.happening.Event.{Event}
+use Rattle.dali_writer.specs.declared.happening.Event.TheVariants as events
+use Rattle.serde_json.specs.Data.{Data}
+use Rattle.dali_input.specs.declared.fault.InputFault.TheVariants.{TooBig, Memory}
+use Rattle.dali_input.specs.declared.item.ItemFault.{ItemFault}
+use Rattle.dali_input.specs.declared.scenario.FatePlan.{FatePlan}
+use Rattle.dali_input.specs.declared.setup.SetupFault.{SetupFault}
+use Rattle.dali_input.specs.declared.setup.SetupFault.TheVariants as faults
+use Rattle.dali_input.specs.Items.{IsOrderOf, IsFaultOf}
+use Rattle.dali_input.specs.Scenario.{PlannedUnit, PlannedEvent, submit, steps, Planned, IsSmall}
+
+-- ---- units
+
+-- the unit can be made
+pub record IsMakeable (unit : PlannedUnit) : Type 0 where
+  pub short : unit.address ≤ 63
+  pub bank : IsBank unit.bank
+  pub fixed : AreFixed unit.bank unit.fixed
+
+-- a new unit with these registers
+abbrev pub made_unit : PlannedUnit → UnitState
+made_unit unit = record (new_unit unit.address unit.bank unit.fixed) { dtr0 = unit.dtrs.0; dtr1 = unit.dtrs.1; dtr2 = unit.dtrs.2 }
+
+-- each unit is made, in their order
+pub record AreUnits (planned : List PlannedUnit) (units : List UnitState) : Type 0 where
+  pub makeable : AllByRecursion IsMakeable planned
+  pub made : units ≡ map made_unit planned
+
+-- the first unit that can't be made, counted from 1, and why
+pub record IsFirstUnitFault (planned : List PlannedUnit) (number : ℕ) (fault : GearFault) : Type 0 where
+  pub front : List PlannedUnit
+  pub unit : PlannedUnit
+  pub behind : List PlannedUnit
+  pub split : planned ≡ front ++ unit ∷ behind
+  pub counted : number ≡ length front + 1
+  pub makeable : AllByRecursion IsMakeable front
+  pub refused : IsUnitFault unit.address unit.bank unit.fixed fault
+  pub not_memory : fault ≢ NoMemory
+
+-- why the units aren't made; want of memory may come at any
+abbrev pub IsUnitRefusal : List PlannedUnit → SetupFault → Type 0
+IsUnitRefusal planned (faults.Input Memory) = ⊤
+IsUnitRefusal planned (faults.Unit number fault) = IsFirstUnitFault planned number fault
+IsUnitRefusal planned other = ⊥
+
+-- ---- fates
+
+-- the fates of the frames: each as often as it stands for
+abbrev pub fates_of : List FatePlan → List Fate
+fates_of plans = flat_map (λ plan. replicate plan.times plan.fate) plans
+
+-- ---- events
+
+-- the events: a submission for an order, and as many steps as are made
+abbrev pub AreEvents : List PlannedEvent → List Event → Type 0
+AreEvents [] all = all ≡ []
+AreEvents (submit source ∷ planned) all = (order : Contents) × (rest : List Event)
+    × IsOrderOf source order × AreEvents planned rest × (all ≡ events.Submit order ∷ rest)
+AreEvents (steps count ∷ planned) all = (rest : List Event) × AreEvents planned rest × (all ≡ replicate count events.Step ++ rest)
+
+-- the first event with an order that is refused, counted from 1, and why
+pub record IsFirstOrderFault (planned : List PlannedEvent) (number : ℕ) (fault : ItemFault) : Type 0 where
+  pub front : List PlannedEvent
+  pub source : Data
+  pub behind : List PlannedEvent
+  pub split : planned ≡ front ++ submit source ∷ behind
+  pub counted : number ≡ length front + 1
+  pub accepted : (all : List Event) × AreEvents front all
+  pub refused : IsFaultOf source fault
+
+-- why the events aren't made; want of memory may come at any
+abbrev pub IsOrderRefusal : List PlannedEvent → SetupFault → Type 0
+IsOrderRefusal planned (faults.Input Memory) = ⊤
+IsOrderRefusal planned (faults.Order number fault) = IsFirstOrderFault planned number fault
+IsOrderRefusal planned other = ⊥
+
+-- ---- the whole
+
+-- the units stand at addresses of their own
+pub record IsBus (planned : Planned) (units : List UnitState) : Type 0 where
+  pub small : IsSmall planned
+  pub made : AreUnits planned.units units
+  pub apart : AreApart units
+
+-- what is set up: the units, the fates of their frames, and the events
+pub record IsReady (planned : Planned) (units : List UnitState) (fates : List Fate) (all : List Event) : Type 0 where
+  pub bus : IsBus planned units
+  pub fates_are : fates ≡ fates_of planned.fates
+  pub events : AreEvents planned.events all
+
+-- the units aren't apart
+pub record AreTogether (planned : Planned) : Type 0 where
+  pub small : IsSmall planned
+  pub units : List UnitState
+  pub made : AreUnits planned.units units
+  pub together : ¬ AreApart units
+
+-- there is a bus of the units
+pub record HasBus (planned : Planned) : Type 0 where
+  pub units : List UnitState
+  pub bus : IsBus planned units
+
+-- why a scenario can't be set up: the first of these that stands, in this order; want of memory may come at any
+abbrev pub IsRefused : Planned → SetupFault → Type 0
+IsRefused planned (faults.Input TooBig) = ¬ IsSmall planned
+IsRefused planned (faults.Input Memory) = ⊤
+IsRefused planned (faults.Input fault) = ⊥
+IsRefused planned (faults.Unit number fault) = IsSmall planned × IsFirstUnitFault planned.units number fault
+IsRefused planned faults.SameAddress = AreTogether planned
+IsRefused planned (faults.Order number fault) = HasBus planned × IsFirstOrderFault planned.events number fault

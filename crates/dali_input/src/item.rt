@@ -1,0 +1,174 @@
+ghost use Rattle.std.specs.Prelude.{◌≡◌, Some, None, IfOk, IfErr, OnOk, option_map, option_and_then};
+ghost use Rattle.serde_json.specs.Data.{Data};
+ghost use Rattle.serde_json.specs.Find.{as_number, as_u64};
+ghost use Rattle.serde_json.specs.View.{view};
+ghost use Rattle.dali_bank.specs.Spelling.{plain};
+ghost use Rattle.dali_bank.specs.Draft.{found_of, empty_draft};
+ghost use Rattle.dali_input.specs.Items.{given as given_value, text_given as given_text, HasNumbers, IsForUnit, HasFieldsOf, IsFieldFault, IsOrderOf, IsFaultOf};
+ghost use Rattle.dali_input.specs.Members.{AreMembersOf, IsGivenBy, IsRefusedAs};
+ghost use Rattle.dali_input.specs.Values.{value_if_any};
+
+use crate::members::{Members, members_of};
+use dali_bank::{BankFault, Draft, Field, Order, Value};
+use serde_json::Value as Json;
+use std::error::Error;
+use std::fmt;
+
+/// Why an item of a list of orders was refused.
+#[derive(Clone, Copy, Debug, PartialEq, Eq)]
+pub enum ItemFault {
+    /// What a draft refuses.
+    Bank(BankFault),
+    /// The item is no object with a whole number as order and one as unit.
+    Shape,
+    /// The object has a key that orders don't have.
+    Key,
+}
+
+impl ItemFault {
+    ghost use Rattle.dali_input.specs.Faults.{item_number_of};
+
+    /// The fault's number.
+    pub fn number(&self) -> u8
+        ensures { result ≡ item_number_of self.now }
+    {
+        match self {
+            ItemFault::Bank(fault) => fault.number(),
+            ItemFault::Shape => 9,
+            ItemFault::Key => 10,
+        }
+    }
+}
+
+impl fmt::Display for ItemFault {
+    ghost use Rattle.std.specs.Prelude.{Some};
+    ghost use Rattle.dali_input.specs.Faults.{item_name_of};
+
+    ghost output = { λ fault. Some (item_name_of fault) };
+
+    fn fmt<W: fmt::Write>(&self, f: &mut fmt::Formatter<W>) -> fmt::Result {
+        match self {
+            ItemFault::Bank(fault) => fault.fmt(f),
+            ItemFault::Shape => f.write_str("Shape"),
+            ItemFault::Key => f.write_str("Key"),
+        }
+    }
+}
+
+impl Error for ItemFault {}
+
+/// The order that an item spells.
+///
+/// The first ItemFault that stands (profile): 9 Shape, 10 Key, 1 Unit, then 2 Kind, 3 Range, 4 Gtin and
+/// 5 Text of the fields by rising location, then 7 Voltage, 8 Empty.
+pub fn order_of(item: &Json) -> Result<Order, ItemFault>
+    ensures ok { IfOk result (IsOrderOf (view item.now)) }
+    ensures err { IfErr result (IsFaultOf (view item.now)) }
+{
+    let Some(members) = members_of(item) else {
+        return Err(ItemFault::Shape);
+    };
+    let mut draft = empty_draft_of(&members)?;
+    if let Err(fault) = set_fields(&mut draft, &members) {
+        return Err(ItemFault::Bank(fault));
+    }
+    match draft.finish() {
+        Ok(order) => Ok(order),
+        Err((_, fault)) => Err(ItemFault::Bank(fault)),
+    }
+}
+
+// The empty draft for the number and the unit of an object, where it has no other key.
+fn empty_draft_of(members: &Members<'_>) -> Result<Draft, ItemFault>
+    ensures ok { IfOk result (λ draft. (draft ≡ empty_draft draft.id draft.unit)
+        × ((source : Data) → AreMembersOf source members.now
+        → IsForUnit source draft.id draft.unit)) }
+    ensures err { IfErr result (λ fault. (source : Data) → AreMembersOf source members.now
+        → IsFaultOf source fault) }
+{
+    let (id, unit) = numbers_of(members)?;
+    if !members.are_known {
+        return Err(ItemFault::Key);
+    }
+    let Ok(unit) = u8::try_from(unit) else {
+        return Err(ItemFault::Bank(BankFault::Unit));
+    };
+    match Draft::new(id, unit) {
+        Ok(draft) => Ok(draft),
+        Err(fault) => Err(ItemFault::Bank(fault)),
+    }
+}
+
+// The object's number, and its unit's.
+fn numbers_of(members: &Members<'_>) -> Result<(u64, u64), ItemFault>
+    ensures ok { IfOk result (λ numbers. (source : Data) → AreMembersOf source members.now
+        → HasNumbers source numbers.0 numbers.1) }
+    ensures err { IfErr result (λ fault. (source : Data) → AreMembersOf source members.now
+        → IsFaultOf source fault) }
+{
+    match (whole(members.order), whole(members.unit)) {
+        (Some(id), Some(unit)) => Ok((id, unit)),
+        _ => Err(ItemFault::Shape),
+    }
+}
+
+// The whole number that a JSON value is.
+fn whole(json: Option<&Json>) -> Option<u64>
+    ensures { result ≡ option_and_then as_u64 (option_and_then as_number (value_if_any json.entry)) }
+{
+    json.and_then(Json::as_u64)
+}
+
+// Sets each field as the object gives it, by rising location.
+fn set_fields(draft: &mut Draft, members: &Members<'_>) -> Result<(), BankFault>
+    requires { draft.old ≡ empty_draft draft.old.id draft.old.unit }
+    ensures ok { OnOk result ((source : Data) → AreMembersOf source members.now
+        → HasFieldsOf source draft.old draft.new) }
+    ensures err { IfErr result (λ fault. (source : Data) → AreMembersOf source members.now
+        → IsFieldFault source fault) }
+{
+    for field in Field::ALL {
+        if let Some(json) = members.field(field) {
+            set_given(draft, field, json)?;
+        }
+    }
+    Ok(())
+}
+
+// Sets a field as a JSON value gives it.
+fn set_given(draft: &mut Draft, field: Field, json: &Json) -> Result<(), BankFault>
+    requires { found_of field draft.old ≡ None }
+    ensures ok { OnOk result (IsGivenBy (view json.now) field draft.old draft.new) }
+    ensures err { IfErr result (IsRefusedAs (view json.now) field) }
+{
+    let Some(value) = given(field, json) else {
+        return Err(BankFault::Kind);
+    };
+    draft.set(field, value)
+}
+
+// What a JSON value gives to a field, where it is of a kind that orders have.
+fn given<'a>(field: Field, json: &'a Json) -> Option<Value<'a>>
+    ensures { option_map plain result ≡ given_value field (view json.now) }
+{
+    match json {
+        Json::Null => Some(Value::Unknown),
+        Json::Number(_) => match json.as_u64() {
+            Some(number) => Some(Value::Number(number)),
+            None => None,
+        },
+        Json::String(text) => Some(text_given(field, text.as_str())),
+        Json::Bool(_) | Json::Array(_) | Json::Object(_) => None,
+    }
+}
+
+// What a text gives to a field.
+fn text_given<'a>(field: Field, text: &'a str) -> Value<'a>
+    ensures { plain result ≡ given_text field text.now }
+{
+    match field {
+        Field::Gtin => Value::Digits(text),
+        Field::Identification => Value::Hex(text),
+        _ => Value::Text(text),
+    }
+}

@@ -1,0 +1,22 @@
+//! What files say: bytes read up to a limit, banks in hexadecimal digits, JSON values, orders, and
+//! scenarios with what they set up (profile).
+//!
+//! What a file gives is never trusted: each call tells what stands there, or why it says nothing.
+#![tactic(auto)]
+
+mod bank_text;
+mod fault;
+mod input;
+mod item;
+mod key;
+mod members;
+mod scenario;
+mod setup;
+mod values;
+
+pub use bank_text::{TEXT_LIMIT, bank_of};
+pub use fault::InputFault;
+pub use input::{json_of, read_input};
+pub use item::{ItemFault, order_of};
+pub use scenario::{EventPlan, FatePlan, Scenario, UnitPlan, scenario_of};
+pub use setup::{Setup, SetupFault, setup_of};

@@ -1,0 +1,174 @@
+ghost use Rattle.std.specs.Prelude.{◌≡◌, ◌≢◌, ◌++◌, List, IfOk, IfErr, OnOk, map, replicate};
+ghost use Rattle.dali_gear.specs.Faults.{IsUnitFault};
+ghost use Rattle.dali_writer.specs.declared.happening.Event.TheVariants.{Step};
+ghost use Rattle.dali_input.specs.Scenario.{PlannedUnit, event_of, planned_of, unit_of};
+ghost use Rattle.dali_input.specs.Setup.{AreEvents, AreUnits, IsFirstUnitFault, IsMakeable, IsOrderRefusal, IsRefused, IsReady, IsUnitRefusal, fates_of as expanded, made_unit as made};
+
+use crate::fault::InputFault;
+use crate::item::{ItemFault, order_of};
+use crate::scenario::{EventPlan, FatePlan, Scenario, UnitPlan};
+use dali_gear::{Fate, GearFault, SimBus, Unit};
+use dali_writer::Event;
+use std::alloc::{AllocError, AllocFailed, Global};
+
+/// Why a scenario can't be set up (profile).
+#[derive(Clone, Copy, Debug, PartialEq, Eq)]
+pub enum SetupFault {
+    /// The file as a whole.
+    Input(InputFault),
+    /// The unit of this number, counted from 1, can't be made.
+    Unit(u64, GearFault),
+    /// Two units are at one short address.
+    SameAddress,
+    /// The order of the event of this number, counted from 1, is refused.
+    Order(u64, ItemFault),
+}
+
+impl From<AllocError> for SetupFault {
+    ghost use Rattle.std.specs.Prelude.{◌≡◌};
+    ghost use Rattle.dali_input.specs.declared.fault.InputFault.TheVariants.{Memory};
+    ghost use Rattle.dali_input.specs.declared.setup.SetupFault.TheVariants.{Input};
+
+    ghost from_gives = { λ _ fault. fault ≡ Input Memory };
+
+    fn from(_error: AllocError) -> SetupFault {
+        SetupFault::Input(InputFault::Memory)
+    }
+}
+
+impl<T: Drop> From<AllocFailed<T>> for SetupFault {
+    ghost use Rattle.std.specs.Prelude.{◌≡◌};
+    ghost use Rattle.dali_input.specs.declared.fault.InputFault.TheVariants.{Memory};
+    ghost use Rattle.dali_input.specs.declared.setup.SetupFault.TheVariants.{Input};
+
+    ghost from_gives = { λ _ fault. fault ≡ Input Memory };
+
+    fn from(_failed: AllocFailed<T>) -> SetupFault {
+        SetupFault::Input(InputFault::Memory)
+    }
+}
+
+/// What a scenario sets up (profile).
+#[derive(Drop)]
+pub struct Setup {
+    /// The units, and the fates of the frames.
+    pub bus: SimBus,
+    /// What is done, in its order.
+    pub events: Vec<Event>,
+}
+
+/// The units, the fates and the events of a scenario.
+///
+/// The first that stands: fault 13 TooBig where there are over 20000 events or fates; the fault of
+/// the first unit that can't be made, 1 Address, 2 Size or 3 Fixed; 5 SameAddress where two units are
+/// at one address; the fault of the first order that is refused. 20 Memory where there is no memory.
+pub fn setup_of(alloc: Global, scenario: &Scenario<'_>) -> Result<Setup, SetupFault>
+    ensures ok { IfOk result (λ setup. IsReady (planned_of scenario.now) setup.bus.units setup.bus.fates setup.events.items) }
+    ensures err { IfErr result (IsRefused (planned_of scenario.now)) }
+{
+    if !scenario.is_small() {
+        return Err(SetupFault::Input(InputFault::TooBig));
+    }
+    let units = units_of(alloc, scenario.units.as_slice())?;
+    let fates = fates_of(alloc, scenario.fates.as_slice())?;
+    let Ok(bus) = SimBus::new(units, fates) else {
+        return Err(SetupFault::SameAddress);
+    };
+    let events = events_of(alloc, scenario.events.as_slice())?;
+    Ok(Setup { bus, events })
+}
+
+// The units, in their order.
+fn units_of(alloc: Global, plans: &[UnitPlan]) -> Result<Vec<Unit>, SetupFault>
+    ensures ok { IfOk result (λ units. AreUnits (map unit_of plans.now) units.items) }
+    ensures err { IfErr result (IsUnitRefusal (map unit_of plans.now)) }
+{
+    let mut units = Vec::new(alloc);
+    let mut number: u64 = 0;
+    for plan in plans {
+        number += 1;
+        match made_unit(alloc, plan) {
+            Ok(unit) => units.push(unit)?,
+            Err(fault) => return Err(unit_fault(number, fault)),
+        }
+    }
+    Ok(units)
+}
+
+// Why no scenario is set up at the fault of a unit.
+fn unit_fault(number: u64, fault: GearFault) -> SetupFault
+    ensures { (planned : List PlannedUnit) → (fault ≢ GearFault.NoMemory → IsFirstUnitFault planned number fault) → IsUnitRefusal planned result }
+{
+    match fault {
+        GearFault::NoMemory => SetupFault::Input(InputFault::Memory),
+        _ => SetupFault::Unit(number, fault),
+    }
+}
+
+// A unit, with its registers.
+fn made_unit(alloc: Global, plan: &UnitPlan) -> Result<Unit, GearFault>
+    ensures ok { IfOk result (λ unit. IsMakeable (unit_of plan.now) × (unit ≡ made (unit_of plan.now))) }
+    ensures err { IfErr result (IsUnitFault plan.now.address plan.now.bank.items plan.now.fixed.items) }
+{
+    let (bank, fixed) = (plan.bank.as_slice(), plan.fixed.as_slice());
+    match Unit::with_bank1(alloc, plan.address, bank, fixed) {
+        Ok(mut unit) => {
+            let (dtr0, dtr1, dtr2) = plan.dtrs;
+            unit.set_dtrs(dtr0, dtr1, dtr2);
+            Ok(unit)
+        }
+        Err(fault) => Err(fault),
+    }
+}
+
+// The fates of the frames, each as often as it stands for.
+fn fates_of(alloc: Global, plans: &[FatePlan]) -> Result<Vec<Fate>, AllocError>
+    ensures { IfOk result (λ fates. fates.items ≡ expanded plans.now) }
+{
+    let mut fates = Vec::new(alloc);
+    for plan in plans {
+        push_fates(&mut fates, plan.fate, plan.times)?;
+    }
+    Ok(fates)
+}
+
+// Puts a fate at the end, so many times.
+fn push_fates(fates: &mut Vec<Fate>, fate: Fate, times: u32) -> Result<(), AllocError>
+    ensures { OnOk result (fates.new.items ≡ fates.old.items ++ replicate times fate) }
+{
+    for _ in 0..times {
+        fates.push(fate)?;
+    }
+    Ok(())
+}
+
+// The events.
+#[tactic(auto, using(crate::proofs::SetupLemmas::first_order_fault))]
+fn events_of(alloc: Global, plans: &[EventPlan<'_>]) -> Result<Vec<Event>, SetupFault>
+    ensures ok { IfOk result (λ events. AreEvents (map event_of plans.now) events.items) }
+    ensures err { IfErr result (IsOrderRefusal (map event_of plans.now)) }
+{
+    let mut events = Vec::new(alloc);
+    let mut number: u64 = 0;
+    for plan in plans {
+        number += 1;
+        match plan {
+            EventPlan::Submit(source) => match order_of(source) {
+                Ok(order) => events.push(Event::Submit(order))?,
+                Err(fault) => return Err(SetupFault::Order(number, fault)),
+            },
+            EventPlan::Steps(count) => push_steps(&mut events, *count)?,
+        }
+    }
+    Ok(events)
+}
+
+// Puts so many steps at the end.
+fn push_steps(events: &mut Vec<Event>, count: u32) -> Result<(), AllocError>
+    ensures { OnOk result (events.new.items ≡ events.old.items ++ replicate count Step) }
+{
+    for _ in 0..count {
+        events.push(Event::Step)?;
+    }
+    Ok(())
+}

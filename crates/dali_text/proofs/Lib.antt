@@ -1,0 +1,3 @@
+pub mod StreamLemmas
+pub mod BankLinesLemmas
+pub mod RunTextLemmas

@@ -1,0 +1,71 @@
+-- How a run is told.
+use Rattle.std.specs.Prelude.{ℕ, ◌+◌, ◌==◌, Bool, true, false, List, [], ◌∷◌, ◌++◌, Option, Some, None, codes, count_by, decimal, if◌then◌else◌}
+use Rattle.std.specs.List.{flat_map}
+use Rattle.dali_frame.specs.Frame.{spelling}
+use Rattle.dali_frame.specs.Hex.{byte_digits, word_digits}
+use Rattle.dali_gear.specs.UnitState.{UnitState}
+use Rattle.dali_writer.specs.declared.happening.Happening.{Happening}
+use Rattle.dali_writer.specs.declared.happening.Happening.TheVariants.{Asked, Answered, Sent, Kept, Stopped}
+use Rattle.dali_writer.specs.Replies.{reply_text}
+use Rattle.dali_text.specs.RecordText.{record_text}
+use Rattle.dali_text.specs.UnitLines.{unit_text}
+
+-- ---- a happening
+
+-- an answer, or that none came
+abbrev pub answer_text : Option ℕ → List ℕ
+answer_text None = codes "--"
+answer_text (Some byte) = byte_digits byte
+
+-- a happening by itself
+abbrev pub happening_line : Happening → List ℕ
+happening_line (Asked order) = codes "ask " ++ decimal order.id ++ codes "\n"
+happening_line (Answered id reply) = codes "reply " ++ decimal id ++ codes " " ++ reply_text reply ++ codes "\n"
+happening_line (Sent frame answer) =
+    codes "send " ++ word_digits (spelling frame) ++ codes " " ++ answer_text answer ++ codes "\n"
+happening_line (Kept entry) = codes "keep " ++ record_text entry ++ codes "\n"
+happening_line Stopped = codes "stop\n"
+
+-- ---- a trace, the oldest happening first
+
+abbrev pub is_sent : Happening → Bool
+is_sent (Sent frame answer) = true
+is_sent other = false
+
+-- how many sent frames in a row a trace begins with
+abbrev pub frames_ahead : List Happening → ℕ
+frames_ahead [] = 0
+frames_ahead (Sent frame answer ∷ rest) = frames_ahead rest + 1
+frames_ahead (other ∷ rest) = 0
+
+abbrev pub frames_line : ℕ → List ℕ
+frames_line count = codes "frames " ++ decimal count ++ codes "\n"
+
+-- so many frames, or nothing where there are none
+abbrev pub run_line : ℕ → List ℕ
+run_line count = if count == 0 then [] else frames_line count
+
+-- what is told of a trace, and whether the happening just before it was a sent frame: a run of frames is told where it
+-- begins, and the others of it add nothing
+abbrev pub summary : Bool → List Happening → List ℕ
+summary in_run [] = []
+summary true (Sent frame answer ∷ rest) = summary true rest
+summary false (Sent frame answer ∷ rest) = frames_line (frames_ahead (Sent frame answer ∷ rest)) ++ summary true rest
+summary in_run (other ∷ rest) = happening_line other ++ summary false rest
+
+-- a trace with a line for each frame, or with one for each run of frames
+abbrev pub trace_text : Bool → List Happening → List ℕ
+trace_text true trace = flat_map happening_line trace
+trace_text false trace = summary false trace
+
+-- all sent frames, answered or not
+abbrev pub total : List Happening → ℕ
+total trace = count_by is_sent trace
+
+-- ---- the whole
+
+-- a trace, how many bytes the journal has, and the units
+abbrev pub run_text : Bool → List Happening → ℕ → List UnitState → List ℕ
+run_text single_frames trace journal units = trace_text single_frames trace
+    ++ codes "total " ++ decimal (total trace) ++ codes "\n"
+    ++ codes "journal " ++ decimal journal ++ codes "\n" ++ flat_map unit_text units

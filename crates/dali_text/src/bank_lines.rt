@@ -1,0 +1,154 @@
+ghost use Rattle.std.specs.Prelude.{◌≡◌, ◌≤◌, ◌+◌, ℕ, List, ◌++◌, OnOk, codes, length};
+ghost use Rattle.std.specs.Io.KnownBytes.{Appends};
+ghost use Rattle.dali_bank.specs.Layout.{first_of, length_of};
+ghost use Rattle.dali_bank.specs.Shown.{IsShown, part_of};
+ghost use Rattle.dali_text.specs.BankLines.{AreLines, IsPlainText, IsRowText, number_text, rows, shown_text, word_of as row_word};
+
+use crate::digits::write_bytes;
+use dali_bank::{Field, Shown, read_field};
+use std::io;
+use std::io::Write;
+
+/// A row of what is told of a memory bank.
+#[derive(Clone, Copy, Debug, PartialEq, Eq)]
+pub enum Row {
+    /// The last location of the bank, as the bank tells it.
+    Last,
+    /// The indicator byte.
+    Indicator,
+    /// The lock byte.
+    Lock,
+    /// The content format.
+    Format,
+    /// A field.
+    Of(Field),
+}
+
+// The rows, in the order in which they are written.
+const ROWS: [Row; 18] = [
+    Row::Last,
+    Row::Indicator,
+    Row::Lock,
+    Row::Of(Field::Gtin),
+    Row::Of(Field::Identification),
+    Row::Format,
+    Row::Of(Field::Year),
+    Row::Of(Field::Week),
+    Row::Of(Field::InputPower),
+    Row::Of(Field::MinDimPower),
+    Row::Of(Field::MinVoltage),
+    Row::Of(Field::MaxVoltage),
+    Row::Of(Field::LightOutput),
+    Row::Of(Field::Cri),
+    Row::Of(Field::Cct),
+    Row::Of(Field::Distribution),
+    Row::Of(Field::Colour),
+    Row::Of(Field::Luminaire),
+];
+
+/// Writes what the bytes of a memory bank 1 say (profile): a line for each of its rows, by rising
+/// location, with the row's word and what the bank has there.
+///
+/// A bank of any length will do. A row that it ends before is absent.
+pub fn write_bank<W: Write>(writer: &mut W, bank: &[u8]) -> io::Result<()>
+    ensures { OnOk result ((text : List ℕ) × AreLines bank.now rows text
+        × Appends (W.contents writer.old) (W.contents writer.new) text) }
+{
+    for &row in &ROWS {
+        write_row(writer, bank, row)?;
+    }
+    Ok(())
+}
+
+// Writes a row.
+#[tactic(auto, using(crate::proofs::StreamLemmas::appends_both))]
+fn write_row<W: Write>(writer: &mut W, bank: &[u8], row: Row) -> io::Result<()>
+    ensures { OnOk result ((text : List ℕ) × IsRowText bank.now row text
+        × Appends (W.contents writer.old) (W.contents writer.new) (row_word row ++ codes " " ++ text ++ codes "\n")) }
+{
+    let word = word_of(row);
+    write!(writer, "{word} ")?;
+    write_text(writer, bank, row)?;
+    writeln!(writer)
+}
+
+// A row's word.
+fn word_of(row: Row) -> &'static str
+    ensures { result.now ≡ row_word row }
+{
+    match row {
+        Row::Last => "last",
+        Row::Indicator => "indicator",
+        Row::Lock => "lock",
+        Row::Format => "format",
+        Row::Of(field) => field.key(),
+    }
+}
+
+// Writes what a row says of the bank.
+fn write_text<W: Write>(writer: &mut W, bank: &[u8], row: Row) -> io::Result<()>
+    ensures { OnOk result ((text : List ℕ) × IsRowText bank.now row text
+        × Appends (W.contents writer.old) (W.contents writer.new) text) }
+{
+    match row {
+        Row::Last => write_plain(writer, bank, 0x00, 1),
+        Row::Indicator => write_plain(writer, bank, 0x01, 1),
+        Row::Lock => write_plain(writer, bank, 0x02, 1),
+        Row::Format => write_plain(writer, bank, 0x11, 2),
+        Row::Of(field) => write_field(writer, bank, field, read_field(bank, field)),
+    }
+}
+
+// Writes so many bytes of the bank as they are.
+fn write_plain<W: Write>(writer: &mut W, bank: &[u8], first: u8, count: u8) -> io::Result<()>
+    ensures { OnOk result ((text : List ℕ) × IsPlainText bank.now first count text
+        × Appends (W.contents writer.old) (W.contents writer.new) text) }
+{
+    let (first, count) = (first as usize, count as usize);
+    if bank.len() < first + count {
+        return write!(writer, "absent");
+    }
+    write_bytes(writer, &bank[first..][..count])
+}
+
+// Writes a field that is shown in this way.
+#[tactic(auto, using(crate::proofs::StreamLemmas::appends_both))]
+fn write_field<W: Write>(writer: &mut W, bank: &[u8], field: Field, shown: Shown) -> io::Result<()>
+    requires { IsShown bank.now field shown }
+    ensures { OnOk result (Appends (W.contents writer.old) (W.contents writer.new)
+        (shown_text field (part_of field bank.now) shown)) }
+{
+    match shown {
+        Shown::Absent => write!(writer, "absent"),
+        Shown::Unknown => write!(writer, "unknown"),
+        Shown::Number(number) => write_number(writer, field, number),
+        Shown::Hex => write_bytes(writer, part(bank, field)),
+        Shown::Text(count) => {
+            write!(writer, "text ")?;
+            writer.write_all(&part(bank, field)[..count as usize])
+        }
+        Shown::Raw => {
+            write!(writer, "raw ")?;
+            write_bytes(writer, part(bank, field))
+        }
+    }
+}
+
+// The bytes of a field.
+fn part(bank: &[u8], field: Field) -> &[u8]
+    requires { first_of field + length_of field ≤ length bank.now }
+    ensures { result.now ≡ part_of field bank.now }
+{
+    &bank[field.first() as usize..][..field.length() as usize]
+}
+
+// Writes a field's number.
+#[tactic(auto, using(crate::proofs::BankLinesLemmas::fourteen_padded))]
+fn write_number<W: Write>(writer: &mut W, field: Field, number: u64) -> io::Result<()>
+    ensures { OnOk result (Appends (W.contents writer.old) (W.contents writer.new) (number_text field number)) }
+{
+    match field {
+        Field::Gtin => write!(writer, "{number:014}"),
+        _ => write!(writer, "{number}"),
+    }
+}

@@ -1,0 +1,51 @@
+ghost use Rattle.std.specs.Prelude.{OnOk};
+ghost use Rattle.std.specs.Io.KnownBytes.{Appends};
+ghost use Rattle.dali_text.specs.Digits.{bytes_digits};
+
+use std::io::Write;
+use std::{fmt, io};
+
+/// The two upper-case hexadecimal digits of a byte.
+#[derive(Clone, Copy, Debug)]
+pub struct ByteDigits(pub u8);
+
+impl fmt::Display for ByteDigits {
+    ghost use Rattle.std.specs.Prelude.{Some};
+    ghost use Rattle.dali_frame.specs.Hex.{byte_digits};
+
+    ghost output = { λ digits. Some (byte_digits digits.0) };
+
+    #[tactic(auto, using(std::proofs::lemmas::Fmt::hex_byte))]
+    fn fmt<W: fmt::Write>(&self, f: &mut fmt::Formatter<W>) -> fmt::Result {
+        let byte = self.0;
+        write!(f, "{byte:02X}")
+    }
+}
+
+/// The four upper-case hexadecimal digits of a word.
+#[derive(Clone, Copy, Debug)]
+pub struct WordDigits(pub u16);
+
+impl fmt::Display for WordDigits {
+    ghost use Rattle.std.specs.Prelude.{Some};
+    ghost use Rattle.dali_frame.specs.Hex.{word_digits};
+
+    ghost output = { λ digits. Some (word_digits digits.0) };
+
+    fn fmt<W: fmt::Write>(&self, f: &mut fmt::Formatter<W>) -> fmt::Result {
+        let [first, second] = self.0.to_be_bytes().map(ByteDigits);
+        write!(f, "{first}{second}")
+    }
+}
+
+/// Writes the two upper-case hexadecimal digits of each byte, with nothing between them.
+#[tactic(auto, using(crate::proofs::StreamLemmas::appends_both))]
+pub fn write_bytes<W: Write>(writer: &mut W, bytes: &[u8]) -> io::Result<()>
+    ensures { OnOk result (Appends (W.contents writer.old) (W.contents writer.new) (bytes_digits bytes.now)) }
+{
+    for &byte in bytes {
+        let digits = ByteDigits(byte);
+        write!(writer, "{digits}")?;
+    }
+    Ok(())
+}

@@ -1,0 +1,23 @@
+//! How things are told (profile): the lines of orders, of faults, of frames, of a memory bank, of
+//! records of the journal, and of runs and the units after them.
+//!
+//! Each call writes to any writer, which it doesn't flush, and answers only the writer's own error.
+//! No call takes memory.
+#![tactic(auto)]
+
+mod bank_lines;
+mod digits;
+mod fault_lines;
+mod frame_line;
+mod order_lines;
+mod record_text;
+mod run_lines;
+mod unit_lines;
+
+pub use bank_lines::write_bank;
+pub use digits::{ByteDigits, WordDigits, write_bytes};
+pub use fault_lines::{write_counted_fault, write_fault, write_single_fault};
+pub use frame_line::write_frame;
+pub use order_lines::{write_order, write_tally};
+pub use record_text::RecordText;
+pub use run_lines::write_outcome;

@@ -9,7 +9,7 @@ use Rattle.clap.specs.Words.{App, HasMatchesOf, ReadsOne, Row, Text, first_of, i
 use Rattle.clap.specs.declared.parser.matches.ArgMatches.{ArgMatches}
 use Rattle.clap.proofs.OnLiterals.{clap_on_literals}
 use Rattle.dali_bench.specs.Jobs.{HasFlag, HasValue, NamesNoJob, bench_app}
-use Rattle.dali_bench.specs.declared.job.Job.TheVariants.{Check, Run, Frame, Show}
+use Rattle.dali_bench.specs.declared.job.Job.TheVariants.{Check, Run, Frame, Show, Journal}
 
 bench_is_simple : is_simple bench_app ≡ true
 unfolding clap_on_literals
@@ -52,11 +52,13 @@ value_none entered command id rows (Some x) e first = tt
 pub names_none : (words : List Text) → ((value : Text) → ¬ HasValue (subcommand_of bench_app words) (codes "check") (codes "ORDERS") value)
     → ((value : Text) → ¬ HasValue (subcommand_of bench_app words) (codes "run") (codes "SCENARIO") value)
     → ((value : Text) → ¬ HasValue (subcommand_of bench_app words) (codes "frame") (codes "HEX") value)
-    → ((value : Text) → ¬ HasValue (subcommand_of bench_app words) (codes "show") (codes "HEXFILE") value) → NamesNoJob words
-names_none words no_orders no_scenario no_digits no_dump (Check orders) = no_orders orders.now
-names_none words no_orders no_scenario no_digits no_dump (Run scenario _) = λ named. no_scenario scenario.now named.0
-names_none words no_orders no_scenario no_digits no_dump (Frame digits) = no_digits digits.now
-names_none words no_orders no_scenario no_digits no_dump (Show dump) = no_dump dump.now
+    → ((value : Text) → ¬ HasValue (subcommand_of bench_app words) (codes "show") (codes "HEXFILE") value)
+    → ((value : Text) → ¬ HasValue (subcommand_of bench_app words) (codes "journal") (codes "FILE") value) → NamesNoJob words
+names_none words no_orders no_scenario no_digits no_dump no_records (Check orders) = no_orders orders.now
+names_none words no_orders no_scenario no_digits no_dump no_records (Run scenario _) = λ named. no_scenario scenario.now named.0
+names_none words no_orders no_scenario no_digits no_dump no_records (Frame digits) = no_digits digits.now
+names_none words no_orders no_scenario no_digits no_dump no_records (Show dump) = no_dump dump.now
+names_none words no_orders no_scenario no_digits no_dump no_records (Journal records) = no_records records.now
 
 -- what `get_one` reads of a text as a `bool` is true exactly where the text is `true`
 read_as_true : (E : Type 0) (text : Option Text) (o : Option Bool) → (text ≡ None → o ≡ None) → ((t : Text) → text ≡ Some t → ReadsOne {E = E} ParsesBool t o)

@@ -2,6 +2,9 @@
 use Rattle.std.specs.Prelude.{◌≡◌, ℕ, List, codes}
 use Rattle.dali_gear.specs.declared.fault.GearFault.TheVariants.{SameAddress}
 use Rattle.dali_gear.specs.Faults as gear
+use Rattle.dali_journal.specs.declared.fault.JournalFault.{JournalFault}
+use Rattle.dali_journal.specs.declared.fault.JournalFault.TheVariants as journals
+use Rattle.dali_journal.specs.Faults as journal
 use Rattle.dali_writer.specs.declared.fault.RunFault.TheVariants as runs
 use Rattle.dali_writer.specs.Faults as run
 use Rattle.dali_text.specs.FaultLines as lines
@@ -13,7 +16,7 @@ use Rattle.dali_input.specs.declared.setup.SetupFault.TheVariants as setup
 use Rattle.dali_input.specs.Faults.{number_of, name_of, item_number_of, item_name_of}
 use Rattle.dali_input.specs.Input.{IsReadFailure}
 use Rattle.dali_bench.specs.declared.fault.Fault.{Fault}
-use Rattle.dali_bench.specs.declared.fault.Fault.TheVariants.{Input, Setup, Run}
+use Rattle.dali_bench.specs.declared.fault.Fault.TheVariants.{Input, Setup, Run, Journal}
 use Rattle.dali_bench.specs.declared.fault.Status.{Status}
 use Rattle.dali_bench.specs.declared.fault.Status.TheVariants.{Good, Refused, Failed, Unwritten}
 
@@ -40,6 +43,8 @@ status_of (Setup (setup.Input fault)) = input_status fault
 status_of (Setup other) = Refused
 status_of (Run runs.Limit) = Refused
 status_of (Run runs.NoMemory) = Failed
+status_of (Journal journals.NoMemory) = Failed
+status_of (Journal other) = Refused
 
 -- ---- a fault's line
 
@@ -56,11 +61,28 @@ setup_line (setup.Unit number fault) = lines.counted_line (codes "unit") number 
 setup_line setup.SameAddress = lines.single_line (codes "gear") (gear.number_of SameAddress) (gear.name_of SameAddress)
 setup_line (setup.Order number fault) = lines.counted_line (codes "event") number (item_number_of fault) (item_name_of fault)
 
+-- a fault of a journal as a whole
+abbrev pub whole_line : JournalFault → List ℕ
+whole_line fault = lines.single_line (codes "journal") (journal.number_of fault) (journal.name_of fault)
+
+-- a fault of a journal that has the place of a record
+abbrev pub record_line : JournalFault → ℕ → List ℕ
+record_line fault place = lines.placed_line (codes "journal") (journal.number_of fault) (journal.name_of fault) place
+
+abbrev pub journal_line : JournalFault → List ℕ
+journal_line journals.Limit = whole_line journals.Limit
+journal_line journals.NoMemory = input_line Memory
+journal_line (journals.Record place) = record_line (journals.Record place) place
+journal_line (journals.Sequence place) = record_line (journals.Sequence place) place
+journal_line (journals.Repeated place) = record_line (journals.Repeated place) place
+journal_line (journals.Full place) = record_line (journals.Full place) place
+
 abbrev pub line_of : Fault → List ℕ
 line_of (Input fault) = input_line fault
 line_of (Setup fault) = setup_line fault
 line_of (Run runs.Limit) = lines.single_line (codes "run") (run.number_of runs.Limit) (run.name_of runs.Limit)
 line_of (Run runs.NoMemory) = input_line Memory
+line_of (Journal fault) = journal_line fault
 
 -- ---- a command that gave up
 

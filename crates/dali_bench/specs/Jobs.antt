@@ -4,7 +4,7 @@ use Rattle.std.specs.Bool.{Decides}
 use Rattle.clap.specs.Words.{App, Row, Rule, Text, first_of, new_app, new_rule, one_of, subcommand_of, with_rule, with_subcommand}
 use Rattle.clap.specs.declared.builder.ArgAction.TheVariants.{Set, SetTrue}
 use Rattle.dali_bench.specs.declared.job.Job.{Job}
-use Rattle.dali_bench.specs.declared.job.Job.TheVariants.{Check, Run, Frame, Show}
+use Rattle.dali_bench.specs.declared.job.Job.TheVariants.{Check, Run, Frame, Show, Journal}
 
 -- an argument that has to be there, and takes one value
 abbrev pub value_rule : Text → Rule
@@ -31,7 +31,8 @@ abbrev pub bench_app : App
 bench_app = let checks = with_subcommand top_app (command_app (codes "check") (codes "ORDERS")).top in
     let runs = with_subcommand checks run_app.top in
     let frames = with_subcommand runs (command_app (codes "frame") (codes "HEX")).top in
-    with_subcommand frames (command_app (codes "show") (codes "HEXFILE")).top
+    let shows = with_subcommand frames (command_app (codes "show") (codes "HEXFILE")).top in
+    with_subcommand shows (command_app (codes "journal") (codes "FILE")).top
 
 -- a parse entered the command, and its argument has the value
 abbrev pub HasValue : Option (Text × List Row) → Text → Text → Text → Type 0
@@ -48,6 +49,7 @@ IsJob entered (Run scenario single_frames) =
     HasValue entered (codes "run") (codes "SCENARIO") scenario.now × Decides single_frames (HasFlag entered (codes "run") (codes "frames"))
 IsJob entered (Frame digits) = HasValue entered (codes "frame") (codes "HEX") digits.now
 IsJob entered (Show dump) = HasValue entered (codes "show") (codes "HEXFILE") dump.now
+IsJob entered (Journal records) = HasValue entered (codes "journal") (codes "FILE") records.now
 
 -- the job that the words name
 abbrev pub IsJobOf : List Text → Job → Type 0

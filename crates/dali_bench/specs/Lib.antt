@@ -3,4 +3,5 @@ pub mod Report
 pub mod FrameAnswers
 pub mod BankAnswers
 pub mod RunAnswers
+pub mod JournalAnswers
 pub mod Jobs

@@ -2,6 +2,7 @@ ghost use Rattle.std.specs.Prelude.{◌≡◌};
 ghost use Rattle.dali_bench.specs.Faults.{code_of, input_status as status_of_input, status_of};
 
 use dali_input::{InputFault, SetupFault};
+use dali_journal::JournalFault;
 use dali_writer::RunFault;
 use thiserror::Error;
 
@@ -43,6 +44,9 @@ pub enum Fault {
     /// The run of a scenario: 1 Limit, 2 NoMemory.
     #[error("{0}")]
     Run(RunFault),
+    /// A journal: 2 NoMemory, or with the place of a record 3 Record, 4 Sequence, 5 Repeated, 6 Full.
+    #[error("{0}")]
+    Journal(JournalFault),
 }
 
 impl Fault {
@@ -52,8 +56,10 @@ impl Fault {
     {
         match self {
             Fault::Input(fault) | Fault::Setup(SetupFault::Input(fault)) => input_status(*fault),
-            Fault::Setup(_) | Fault::Run(RunFault::Limit) => Status::Refused,
-            Fault::Run(RunFault::NoMemory) => Status::Failed,
+            Fault::Run(RunFault::NoMemory) | Fault::Journal(JournalFault::NoMemory) => {
+                Status::Failed
+            }
+            Fault::Setup(_) | Fault::Run(RunFault::Limit) | Fault::Journal(_) => Status::Refused,
         }
     }
 }

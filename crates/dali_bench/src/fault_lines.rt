@@ -1,11 +1,12 @@
 ghost use Rattle.std.specs.Prelude.{OnOk, IfOk, ◌≡◌};
 ghost use Rattle.std.specs.Io.KnownBytes.{Appends};
-ghost use Rattle.dali_bench.specs.Faults.{input_line, item_line, line_of, setup_line, status_of};
+ghost use Rattle.dali_bench.specs.Faults.{input_line, item_line, journal_line, line_of, record_line, setup_line, status_of, whole_line};
 
 use crate::fault::{Fault, Status};
 use dali_gear::GearFault;
 use dali_input::{InputFault, ItemFault, SetupFault};
-use dali_text::{write_counted_fault, write_single_fault};
+use dali_journal::JournalFault;
+use dali_text::{write_counted_fault, write_placed_fault, write_single_fault};
 use dali_writer::RunFault;
 use std::io;
 use std::io::Write;
@@ -33,6 +34,7 @@ pub fn write_fault<W: Write>(writer: &mut W, fault: Fault) -> io::Result<()>
             write_single_fault(writer, "run", fault.number(), &fault)
         }
         Fault::Run(RunFault::NoMemory) => write_input_fault(writer, InputFault::Memory),
+        Fault::Journal(fault) => write_journal_fault(writer, fault),
     }
 }
 
@@ -60,6 +62,42 @@ fn write_setup_fault<W: Write>(writer: &mut W, fault: SetupFault) -> io::Result<
             write_counted_fault(writer, "event", event, fault.number(), &fault)
         }
     }
+}
+
+// Writes why an input is no journal.
+fn write_journal_fault<W: Write>(writer: &mut W, fault: JournalFault) -> io::Result<()>
+    ensures { OnOk result (Appends (W.contents writer.old) (W.contents writer.new) (journal_line fault)) }
+{
+    match fault {
+        JournalFault::Limit => write_whole_fault(writer, JournalFault::Limit),
+        JournalFault::NoMemory => write_input_fault(writer, InputFault::Memory),
+        JournalFault::Record(place) => write_record_fault(
+            writer,
+            JournalFault::Record(place),
+            place,
+        ),
+        JournalFault::Sequence(place) => {
+            write_record_fault(writer, JournalFault::Sequence(place), place)
+        }
+        JournalFault::Repeated(place) => {
+            write_record_fault(writer, JournalFault::Repeated(place), place)
+        }
+        JournalFault::Full(place) => write_record_fault(writer, JournalFault::Full(place), place),
+    }
+}
+
+// Writes the fault of a journal as a whole.
+fn write_whole_fault<W: Write>(writer: &mut W, fault: JournalFault) -> io::Result<()>
+    ensures { OnOk result (Appends (W.contents writer.old) (W.contents writer.new) (whole_line fault)) }
+{
+    write_single_fault(writer, "journal", fault.number(), &fault)
+}
+
+// Writes the fault of a journal that has the place of a record.
+fn write_record_fault<W: Write>(writer: &mut W, fault: JournalFault, place: usize) -> io::Result<()>
+    ensures { OnOk result (Appends (W.contents writer.old) (W.contents writer.new) (record_line fault place)) }
+{
+    write_placed_fault(writer, "journal", fault.number(), &fault, place)
 }
 
 /// Writes a refused item of a list of orders, counted from 1.

@@ -24,6 +24,8 @@ pub enum Job<'a> {
     Frame(&'a str),
     /// To print what the bytes of a memory bank say.
     Show(&'a str),
+    /// To print the records of a journal.
+    Journal(&'a str),
 }
 
 const ABOUT: &str =
@@ -78,6 +80,17 @@ Faults of the file: 13 TooBig (over 4096 bytes of text, or over 255 bytes of the
 14 Hex (no hexadecimal digits, or an odd number of them), 20 Memory, 21 File (can't be opened or read).
 Exit status: 0 printed, 1 refused, 2 a file, the memory or the output failed.";
 
+const JOURNAL_ABOUT: &str = "Prints the records of a writer's journal, and how much of it counts";
+
+const FILE_HELP: &str = "The journal's bytes; /dev/stdin for standard input";
+
+const JOURNAL_FAULTS: &str = "\
+Faults of the journal, with the place of the record, counted from 0: 3 Record (no record stands there),
+4 Sequence (the records before don't allow it), 5 Repeated (its order number was there),
+6 Full (over 100000 orders). A record that is cut off at the end doesn't count, and is no fault.
+Faults of the file: 13 TooBig (over 33554432 bytes), 20 Memory, 21 File (can't be opened or read).
+Exit status: 0 printed, 1 refused, 2 a file, the memory or the output failed.";
+
 /// Reads the command line, the program's name first.
 ///
 /// The error is `clap`'s: its text for a person, which may be the help that was asked for, or want of memory.
@@ -106,6 +119,9 @@ pub fn job_of<'a>(alloc: Global, words: &'a [&'a str]) -> Result<Job<'a>, Error>
     }
     if let Some(dump) = value_of(&matches, "show", "HEXFILE") {
         return Ok(Job::Show(dump));
+    }
+    if let Some(records) = value_of(&matches, "journal", "FILE") {
+        return Ok(Job::Journal(records));
     }
     Err(missing(&mut command))
 }
@@ -139,12 +155,14 @@ fn bench_command<'a>(alloc: Global) -> Result<Command<'a>, AllocError>
     let run = run_command(alloc)?;
     let frame = command_with(alloc, "frame", "HEX", HEX_HELP)?;
     let show = command_with(alloc, "show", "HEXFILE", HEXFILE_HELP)?;
+    let journal = command_with(alloc, "journal", "FILE", FILE_HELP)?;
     let top = Command::new(alloc, "dali_bench").subcommand_required(true);
     let checks = top.subcommand(check.about(CHECK_ABOUT).after_help(CHECK_FAULTS))?;
     let runs = checks.subcommand(run.about(RUN_ABOUT).after_help(RUN_FAULTS))?;
     let frames = runs.subcommand(frame.about(FRAME_ABOUT).after_help(FRAME_FAULTS))?;
     let shows = frames.subcommand(show.about(SHOW_ABOUT).after_help(SHOW_FAULTS))?;
-    Ok(shows.about(ABOUT))
+    let journals = shows.subcommand(journal.about(JOURNAL_ABOUT).after_help(JOURNAL_FAULTS))?;
+    Ok(journals.about(ABOUT))
 }
 
 // A command with one argument, which has to be there.

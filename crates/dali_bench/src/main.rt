@@ -6,6 +6,7 @@ mod fault;
 mod fault_lines;
 mod frame;
 mod job;
+mod journal;
 mod run_scenario;
 mod show;
 #[cfg(test)]
@@ -16,6 +17,7 @@ use crate::fault::{Fault, Status};
 use crate::fault_lines::write_fault;
 use crate::frame::frame;
 use crate::job::{Job, job_of};
+use crate::journal::journal;
 use crate::run_scenario::run_scenario;
 use crate::show::show;
 use clap::error::ErrorKind;
@@ -58,6 +60,7 @@ fn run(rt: &HostRuntime, words: &Vec<String>) -> Status {
         ) => on_file(rt, scenario, FileCommand::Run { single_frames }),
         Ok(Job::Frame(digits)) => frame(digits, &mut io::writer(rt)),
         Ok(Job::Show(dump)) => on_file(rt, dump, FileCommand::Show),
+        Ok(Job::Journal(records)) => on_file(rt, records, FileCommand::Journal),
         Err(error) if error.kind() == ErrorKind::OutOfMemory => out_of_memory(rt),
         Err(error) => match error.print(rt) {
             Ok(()) if error.exit_code() == 0 => Status::Good,
@@ -81,6 +84,7 @@ enum FileCommand {
     Check,
     Run { single_frames: bool },
     Show,
+    Journal,
 }
 
 impl FileCommand {
@@ -99,6 +103,7 @@ impl FileCommand {
                 single_frames,
             ),
             FileCommand::Show => show(alloc, reader, writer),
+            FileCommand::Journal => journal(alloc, reader, writer),
         }
     }
 }

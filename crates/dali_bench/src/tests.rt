@@ -1,6 +1,7 @@
 mod check;
 mod frame;
 mod job;
+mod journal;
 mod run_scenario;
 mod run_text;
 mod scenario;

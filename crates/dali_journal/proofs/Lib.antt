@@ -1,3 +1,12 @@
-pub mod KeptLemmas
 pub mod GroupLemmas
 pub mod SpellingLemmas
+pub mod PairLemmas
+pub mod PairSteps
+pub mod PieceLemmas
+pub mod DecodeLemmas
+pub mod IndexLemmas
+pub mod JournalLemmas
+pub mod BegunLemmas
+pub mod LoadLemmas
+pub mod TornLemmas
+pub mod FaultLemmas

@@ -1,6 +1,5 @@
 -- Records are told apart by their bytes: two that agree as far as both go are one.
 use Rattle.std.proofs.Common.{◌≡◌, ℕ, List, [], ◌∷◌, ◌++◌, length, take, drop, get_or, refl, sym, ap, ◌∙◌, arith}
-use Rattle.std.specs.Prelude.{◌==◌, if◌then◌else◌}
 use Rattle.std.specs.Int.{w64, to_be_bytes, from_be_bytes}
 use Rattle.std.proofs.lemmas.List.{append-nil}
 use Rattle.std.proofs.lemmas.Nat.{from_be_bytes-to_be_bytes_8}
@@ -10,6 +9,7 @@ use Rattle.dali_journal.specs.declared.record.Code.TheVariants.{Done, Short, For
 use Rattle.dali_journal.specs.declared.record.Record.{Record}
 use Rattle.dali_journal.specs.declared.record.Record.TheVariants.{Began, Opened, Ended, Closed}
 use Rattle.dali_journal.specs.Spelling.{spelling, pairs_spelling, code_number, IsRecord}
+use Rattle.dali_journal.specs.Decoding.{code_of}
 use Rattle.dali_journal.specs.Law.{NoSpellingBeginsAnother}
 
 pairs_same : (pairs others : List (ℕ × ℕ)) (rest more : List ℕ) → length pairs ≡ length others
@@ -28,18 +28,13 @@ orders_same : (order other : Contents) (rest more : List ℕ) → IsRecord (Bega
     → spelling (Began order) ++ rest ≡ spelling (Began other) ++ more → order ≡ other
 orders_same order other rest more is other_is same =
     let ids : to_be_bytes w64 order.id ≡ to_be_bytes w64 other.id = ap (λ bytes. take 8 (drop 1 bytes)) same in
-    let id : order.id ≡ other.id = sym (from_be_bytes-to_be_bytes_8 order.id is.0) ∙ ap (from_be_bytes w64) ids ∙ from_be_bytes-to_be_bytes_8 other.id other_is.0 in
+    let id : order.id ≡ other.id =
+    sym (from_be_bytes-to_be_bytes_8 order.id is.0) ∙ ap (from_be_bytes w64) ids ∙ from_be_bytes-to_be_bytes_8 other.id other_is.0 in
     let unit : order.unit ≡ other.unit = ap (λ bytes. get_or bytes 9 0) same in
     let count : length order.updates ≡ length other.updates = ap (λ bytes. get_or bytes 10 0) same in
     let behind : pairs_spelling order.updates ++ rest ≡ pairs_spelling other.updates ++ more = ap (drop 11) same in
     let updates = pairs_same order.updates other.updates rest more count behind in
     λ i. record { id = id i; unit = unit i; updates = updates i }
-
--- the code of a number
-abbrev code_of : ℕ → Code
-code_of number =
-    if number == 0 then Done else if number == 1 then Short else if number == 2 then Format
-    else if number == 3 then Silent else if number == 4 then Doubt else DoubtOpen
 
 codes_same : (code other : Code) → code_number code ≡ code_number other → code ≡ other
 codes_same code other same = sym (of code) ∙ ap code_of same ∙ of other
@@ -52,13 +47,14 @@ codes_same code other same = sym (of code) ∙ ap code_of same ∙ of other
     of Doubt = refl
     of DoubtOpen = refl
 
-abbrev letter_of : Record → ℕ
+-- the first byte of a record
+abbrev pub letter_of : Record → ℕ
 letter_of (Began order) = 0x42
 letter_of (Opened unit) = 0x4F
 letter_of (Ended code) = 0x45
 letter_of (Closed unit) = 0x43
 
-letter_at : (entry : Record) (rest : List ℕ) → get_or (spelling entry ++ rest) 0 0 ≡ letter_of entry
+pub letter_at : (entry : Record) (rest : List ℕ) → get_or (spelling entry ++ rest) 0 0 ≡ letter_of entry
 letter_at (Began order) rest = refl
 letter_at (Opened unit) rest = refl
 letter_at (Ended code) rest = refl

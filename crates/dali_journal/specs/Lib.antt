@@ -2,6 +2,10 @@ pub mod Sentence
 pub mod Groups
 pub mod Orders
 pub mod Spelling
+pub mod Reading
+pub mod Decoding
+pub mod Index
+pub mod Loading
 pub mod JournalState
 pub mod Faults
 pub mod Law

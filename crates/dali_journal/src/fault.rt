@@ -1,16 +1,25 @@
 ghost use Rattle.std.specs.Prelude.{◌≡◌, Some};
 
-use std::alloc::AllocError;
+use std::alloc::{AllocError, AllocFailed};
 use std::error::Error;
 use std::fmt;
 
-/// Why there is no journal. Of several faults the one with the lowest number is told (profile).
+/// Why there is no journal (profile). A place is that of a record's first byte. Of several faults the
+/// first record's is told, and of these the one with the lowest number; `Limit` comes before all.
 #[derive(Clone, Copy, Debug, PartialEq, Eq, Hash)]
 pub enum JournalFault {
     /// The limit is 0 or over 100000.
-    Limit = 1,
+    Limit,
     /// There was no memory.
-    NoMemory = 2,
+    NoMemory,
+    /// Here is neither a record nor, at the end, a proper prefix of one.
+    Record(usize),
+    /// Here is a record that the standing doesn't allow.
+    Sequence(usize),
+    /// Here an order begins whose number was there.
+    Repeated(usize),
+    /// Here an order begins past the limit.
+    Full(usize),
 }
 
 impl JournalFault {
@@ -20,7 +29,14 @@ impl JournalFault {
     pub fn number(&self) -> u8
         ensures { result ≡ number_of self.now }
     {
-        *self as u8
+        match self {
+            JournalFault::Limit => 1,
+            JournalFault::NoMemory => 2,
+            JournalFault::Record(_) => 3,
+            JournalFault::Sequence(_) => 4,
+            JournalFault::Repeated(_) => 5,
+            JournalFault::Full(_) => 6,
+        }
     }
 }
 
@@ -33,6 +49,10 @@ impl fmt::Display for JournalFault {
         f.write_str(match self {
             JournalFault::Limit => "Limit",
             JournalFault::NoMemory => "NoMemory",
+            JournalFault::Record(_) => "Record",
+            JournalFault::Sequence(_) => "Sequence",
+            JournalFault::Repeated(_) => "Repeated",
+            JournalFault::Full(_) => "Full",
         })
     }
 }
@@ -57,6 +77,12 @@ impl Error for NoMemory {}
 
 impl From<AllocError> for NoMemory {
     fn from(_: AllocError) -> NoMemory {
+        NoMemory
+    }
+}
+
+impl<T: Drop> From<AllocFailed<T>> for NoMemory {
+    fn from(_: AllocFailed<T>) -> NoMemory {
         NoMemory
     }
 }

@@ -1,25 +1,36 @@
-ghost use Rattle.std.specs.Prelude.{◌≡◌, ◌+◌, ◌<◌, ◌≤◌, ◌↔◌, ◌++◌, ◌∷◌, [], length, reverse, IsTrue, IsOk, OnOk, IfOk, IfErr, vec_len, vec_capacity};
+ghost use Rattle.std.specs.Prelude.{◌≡◌, ◌+◌, ◌≤◌, ◌↔◌, ◌++◌, ◌∷◌, [], length};
+ghost use Rattle.std.specs.Prelude.{IsTrue, IsOk, OnOk, IfOk, IfErr, vec_len, vec_capacity};
 ghost use Rattle.dali_bank.specs.Order.{Contents};
-ghost use Rattle.dali_journal.specs.Sentence.{standing_of, Allows, HasShortUnit};
-ghost use Rattle.dali_journal.specs.Orders.{orders_of, kept_of, kept_at};
-ghost use Rattle.dali_journal.specs.Spelling.{journal_spelling};
-ghost use Rattle.dali_journal.specs.JournalState.{HasRoom, MayBegin, KeepsRoom, IsLimit, IsJournal, order_count};
+ghost use Rattle.dali_journal.specs.declared.record.Record.TheVariants.{Began};
+ghost use Rattle.dali_journal.specs.Sentence.{standing_of, Allows, HasShortUnit, is_begun};
+ghost use Rattle.dali_journal.specs.Orders.{kept_of};
+ghost use Rattle.dali_journal.specs.Index.{orders_begun, BeginsInRange};
+ghost use Rattle.dali_journal.specs.Spelling.{spelling, journal_spelling};
+ghost use Rattle.dali_journal.specs.JournalState.{HasRoom, MayBegin, KeepsRoom, IsLimit, IsJournal};
+ghost use Rattle.dali_journal.specs.JournalState.{order_count, bytes_due};
 ghost use Rattle.dali_journal.specs.Faults.{IsNewFault};
+ghost use Rattle.dali_journal.specs.Loading.{IsLoaded, IsLoadFault, IsRefused, IsTornWithin};
 
 use crate::fault::{JournalFault, NoMemory};
-use crate::kept::{Kept, Stage};
+use crate::index::{Place, enter, kept_at, note, place_of};
+use crate::kept::Kept;
+use crate::read::Piece;
 use crate::record::Record;
 use crate::standing::Standing;
 use dali_bank::Order;
-use std::alloc::{AllocError, Global};
+use indexmap::IndexMap;
+use std::alloc::Global;
 use std::marker::Model;
 use std::mem;
 
 // The most orders that a journal can be made for.
 const MOST_ORDERS: u32 = 100_000;
 
-// A `Began`, an `Opened`, an `Ended` and a `Closed`.
-const MOST_RECORDS_OF_AN_ORDER: usize = 4;
+// A letter, the order's number, its unit and how many updates it has.
+const BEGAN_BYTES: usize = 11;
+
+// An `Opened`, an `Ended` and a `Closed`.
+const BYTES_BEHIND_BEGAN: usize = 6;
 
 /// The journal of a writer (profile): its records, and the most orders that it may hold.
 ///
@@ -31,42 +42,41 @@ pub struct Journal {
     limit: u32,
     orders: u32,
     standing: Standing,
-    // the oldest first
-    records: Vec<Record>,
+    // the records' bytes, the oldest first
+    bytes: Vec<u8>,
+    // where the order of each number began, and how it ended; a number is here before its order begins
+    index: IndexMap<u64, Place>,
 }
 
 impl Model for Journal {
-    ghost use Rattle.std.specs.Prelude.{◌≡◌, ◌-◌, length, reverse, vec_len, vec_capacity};
-    ghost use Rattle.dali_journal.specs.JournalState.{JournalState, IsJournal};
-    ghost use Rattle.dali_journal.specs.Sentence.{standing_of, HasShortUnit};
-    ghost use Rattle.dali_journal.specs.Orders.{orders_of};
+    ghost use Rattle.std.specs.Prelude.{◌-◌, vec_len, vec_capacity};
+    ghost use Rattle.std.specs.Map.{keys_of};
+    ghost use Rattle.dali_journal.specs.Decoding.{records_in};
+    ghost use Rattle.dali_journal.specs.JournalState.{JournalState};
+    ghost use Rattle.dali_journal.specs.Index.{IsSound};
 
     ghost Value = { JournalState };
 
     ghost view = { λ j. record {
-      records = reverse j.records.items;
+      records = records_in j.bytes.items;
       limit = j.limit;
-      room = vec_capacity j.records - vec_len j.records;
+      room = vec_capacity j.bytes - vec_len j.bytes;
+      numbers = keys_of j.index.entries;
     } };
 
-    ghost invariant = { λ j. record {
-      standing_is : j.standing ≡ standing_of (reverse j.records.items);
-      short : HasShortUnit j.standing;
-      count : j.orders ≡ length (orders_of (reverse j.records.items));
-      journal : IsJournal (record {
-        records = reverse j.records.items;
-        limit = j.limit;
-        room = vec_capacity j.records - vec_len j.records;
-      });
-    } };
+    ghost invariant = { λ j.
+        IsSound j.bytes.items (records_in j.bytes.items) j.standing j.orders j.limit
+        (vec_capacity j.bytes - vec_len j.bytes) j.index.entries };
 }
 
 impl Journal {
     /// An empty journal for at most so many orders.
     ///
-    /// Fault 1 Limit where the limit is 0 or over 100000, 2 NoMemory where there is no memory.
+    /// Fault 1 Limit where the limit is 0 or over 100000. It takes no memory, so that fault 2 NoMemory
+    /// doesn't come.
     pub fn new(alloc: Global, limit: u32) -> Result<Journal, JournalFault>
         ensures accepted { OnOk result (IsLimit limit) }
+        ensures succeeds { IsLimit limit → IsOk result }
         ensures ok { IfOk result (λ journal. (journal.records ≡ []) × (journal.limit ≡ limit)) }
         ensures err { IfErr result (λ fault. IsNewFault limit fault) }
     {
@@ -77,8 +87,76 @@ impl Journal {
             limit,
             orders: 0,
             standing: Standing::Idle,
-            records: Vec::new(alloc),
+            bytes: Vec::new(alloc),
+            index: IndexMap::new(alloc),
         })
+    }
+
+    /// The journal of these bytes, and how many of them count: those of the whole records (profile).
+    ///
+    /// The bytes may end in a proper prefix of some record's, which doesn't count. Fault 1 Limit where
+    /// the limit is 0 or over 100000, before all else. Then the records are tested in their order, each
+    /// for 3 Record, where neither a record stands nor, at the end, a proper prefix of one; 4 Sequence,
+    /// where the standing doesn't allow it; 5 Repeated, where it begins an order whose number was there;
+    /// 6 Full, where it begins one past the limit. Each of these four has the place of the record's
+    /// first byte. 2 NoMemory, where there is no memory, may come in place of these and of success.
+    pub fn load(alloc: Global, limit: u32, bytes: &[u8]) -> Result<(Journal, usize), JournalFault>
+        ensures accepted { OnOk result (IsLimit limit) }
+        ensures ok { IfOk result (λ loaded. IsLoaded limit bytes.now loaded.0 loaded.1) }
+        ensures err { IfErr result (λ fault. IsLoadFault limit bytes.now fault) }
+        ensures torn { IfErr result (λ fault. IsTornWithin limit bytes.now → fault ≡ JournalFault.NoMemory) }
+    {
+        let mut journal = match Journal::new(alloc, limit) {
+            Ok(journal) => journal,
+            Err(fault) => return Err(fault),
+        };
+        let mut at = 0;
+        loop {
+            match Record::read(&bytes[at..]) {
+                Piece::Cut => return Ok((journal, at)),
+                Piece::Bad => return Err(JournalFault::Record(at)),
+                Piece::Whole(entry, len) => {
+                    if let Err(fault) = journal.take(entry, at) {
+                        return Err(fault);
+                    }
+                    at += len;
+                }
+            }
+        }
+    }
+
+    // Adds a record that was read at this place, where it may stand.
+    fn take(&mut self, entry: Record, at: usize) -> Result<(), JournalFault>
+        ensures records { OnOk result (self.new.records ≡ entry ∷ self.old.records) }
+        ensures limit { self.new.limit ≡ self.old.limit }
+        ensures journal { IsJournal self.new }
+        ensures err { IfErr result (λ fault. IsRefused fault self.old.limit at self.old.records entry) }
+    {
+        if !self.standing.allows(&entry) {
+            return Err(JournalFault::Sequence(at));
+        }
+        if let Record::Began(order) = &entry {
+            if self.has_begun(order.id()) {
+                return Err(JournalFault::Repeated(at));
+            }
+            if self.is_full() {
+                return Err(JournalFault::Full(at));
+            }
+            if self.reserve(order).is_err() {
+                return Err(JournalFault::NoMemory);
+            }
+        }
+        self.append(entry);
+        // it tells the caller what is so of every journal
+        let _limit = self.limit();
+        Ok(())
+    }
+
+    // Whether an order of this number was begun.
+    fn has_begun(&self, id: u64) -> bool
+        ensures { result ≡ is_begun id self.now.records }
+    {
+        place_of(&self.index, id).is_begun()
     }
 
     /// The most orders that the journal may hold, 1 to 100000.
@@ -116,7 +194,7 @@ impl Journal {
     pub fn kept(&self, id: u64) -> Kept
         ensures { result ≡ kept_of id self.now.records }
     {
-        kept_in(&self.records, id)
+        kept_at(&self.bytes, place_of(&self.index, id))
     }
 
     /// Whether there is room for a `Closed` of the unit that is left, for what else is due, and for
@@ -124,9 +202,8 @@ impl Journal {
     pub fn has_room(&self, order: &Order) -> bool
         ensures { IsTrue result ↔ HasRoom self.now order.now }
     {
-        // each order has at most as many records
-        self.records.capacity() - self.records.len()
-            >= self.standing.records_due() + MOST_RECORDS_OF_AN_ORDER
+        self.bytes.capacity() - self.bytes.len() >= bytes_wanted(&self.standing, order)
+            && self.index.contains_key(&order.id())
     }
 
     /// Makes room for a `Closed` of the unit that is left, for what else is due, and for all records
@@ -140,8 +217,8 @@ impl Journal {
         ensures kept_room { (other : Contents) → HasRoom self.old other → HasRoom self.new other }
         ensures succeeds { HasRoom self.old order.now → IsOk result }
     {
-        let count = self.standing.records_due() + MOST_RECORDS_OF_AN_ORDER;
-        self.records.reserve(count)?;
+        self.bytes.reserve(bytes_wanted(&self.standing, order))?;
+        enter(&mut self.index, order.id())?;
         Ok(())
     }
 
@@ -156,12 +233,13 @@ impl Journal {
         ensures limit { self.new.limit ≡ self.old.limit }
         ensures kept_room { KeepsRoom entry self.old self.new }
     {
-        if let Record::Began(_) = &entry {
-            self.orders += 1;
-        }
+        let bytes = entry.bytes();
+        tell_range(&entry, &bytes);
+        note(&mut self.index, &self.standing, &entry, self.bytes.len());
+        self.orders += orders_begun(&entry);
         let standing = mem::replace(&mut self.standing, Standing::Idle);
         self.standing = standing.after(&entry);
-        push_in_room(&mut self.records, entry);
+        put_in_room(&mut self.bytes, &bytes);
     }
 
     /// The journal's bytes (profile): those of its records, the oldest first.
@@ -170,61 +248,45 @@ impl Journal {
     pub fn to_bytes(&self, alloc: Global) -> Result<Vec<u8>, NoMemory>
         ensures { IfOk result (λ bytes. bytes.items ≡ journal_spelling self.now.records) }
     {
-        Ok(bytes_of(alloc, &self.records)?)
+        Ok(self.bytes.to_vec(alloc)?)
     }
 }
 
-// Puts a record at the end, where there is room for it.
-fn push_in_room(records: &mut Vec<Record>, entry: Record)
-    requires { vec_len records.old < vec_capacity records.old }
-    ensures items { records.new.items ≡ records.old.items ++ entry ∷ [] }
-    ensures len { vec_len records.new ≡ vec_len records.old + 1 }
-    ensures capacity { vec_capacity records.old ≤ vec_capacity records.new }
+// The bytes of what is due and of all records of the order.
+fn bytes_wanted(standing: &Standing, order: &Order) -> usize
+    ensures { result ≡ bytes_due standing.now + length (spelling (Began order.now)) + 6 }
 {
-    let _ = records.push(entry);
+    standing.bytes_due() + BEGAN_BYTES + 2 * order.updates().len() + BYTES_BEHIND_BEGAN
 }
 
-// What these records, the oldest first, have kept of the order of a number.
-fn kept_in(records: &[Record], id: u64) -> Kept
-    ensures { result ≡ kept_of id (reverse records.now) }
+// How many orders a record begins.
+fn orders_begun(entry: &Record) -> u32
+    ensures { result ≡ orders_begun entry.now }
 {
-    // how far the newest order has come that is still to be found
-    let mut stage = None;
-    let mut rest = records;
-    while let Some((newest, older)) = rest.split_last() {
-        match newest {
-            Record::Began(order) => {
-                if order.id() == id {
-                    return kept_at(order, stage.unwrap_or(Stage::Begun));
-                }
-                stage = None;
-            }
-            Record::Opened(_) => stage = stage.or(Some(Stage::Open)),
-            Record::Ended(code) => stage = stage.or(Some(Stage::Ended(*code))),
-            Record::Closed(_) => {}
-        }
-        rest = older;
-    }
-    Kept::Absent
-}
-
-// What is kept of an order that has come so far.
-fn kept_at(order: &Order, stage: Stage) -> Kept
-    ensures { result ≡ kept_at order.now stage }
-{
-    match stage {
-        Stage::Ended(code) => Kept::Ended(order.copy(), code),
-        Stage::Begun | Stage::Open => Kept::Unfinished(order.copy()),
+    match entry {
+        Record::Began(_) => 1,
+        _ => 0,
     }
 }
 
-// The bytes of these records, the oldest first.
-fn bytes_of(alloc: Global, records: &[Record]) -> Result<Vec<u8>, AllocError>
-    ensures { IfOk result (λ bytes. bytes.items ≡ journal_spelling (reverse records.now)) }
+// Where the record begins an order, the order's numbers are in range. It does nothing.
+fn tell_range(entry: &Record, bytes: &[u8])
+    requires { bytes.now ≡ spelling entry.now }
+    ensures { BeginsInRange entry.now }
 {
-    let mut bytes = Vec::new(alloc);
-    for entry in records {
-        bytes.extend_from_slice(&entry.bytes())?;
+    if let Record::Began(order) = entry {
+        let _id = order.id();
+        let _unit = order.unit();
+        let _updates = order.updates();
     }
-    Ok(bytes)
+}
+
+// Puts bytes at the end, where there is room for them.
+fn put_in_room(bytes: &mut Vec<u8>, more: &[u8])
+    requires { vec_len bytes.old + length more.now ≤ vec_capacity bytes.old }
+    ensures items { bytes.new.items ≡ bytes.old.items ++ more.now }
+    ensures len { vec_len bytes.new ≡ vec_len bytes.old + length more.now }
+    ensures capacity { vec_capacity bytes.old ≤ vec_capacity bytes.new }
+{
+    let _ = bytes.extend_from_slice(more);
 }

@@ -1,6 +1,7 @@
 //! Laws of journals. Each is the contract of a function that does nothing.
 
-ghost use Rattle.dali_journal.specs.Law.{SentencesAreGroups, NoSpellingBeginsAnother};
+ghost use Rattle.dali_journal.specs.Law.{SentencesAreGroups, NoSpellingBeginsAnother, BytesBeginWithOnePiece};
+ghost use Rattle.dali_journal.specs.Loading.{TornHasNoFault, BytesHaveOneFault, JournalsLoadAgain};
 
 /// What the table of standings allows, record by record, is a list of groups, one for each order.
 pub fn sentences_are_groups()
@@ -10,4 +11,24 @@ pub fn sentences_are_groups()
 /// No record's bytes are a prefix of another's.
 pub fn no_record_begins_another()
     ensures { NoSpellingBeginsAnother }
+{}
+
+/// Bytes begin with one piece: what is read of them is the one answer that is right.
+pub fn bytes_begin_with_one_piece()
+    ensures { BytesBeginWithOnePiece }
+{}
+
+/// Bytes that are a torn journal have no fault, and are the journal of no other records.
+pub fn torn_journals_have_no_fault()
+    ensures { TornHasNoFault }
+{}
+
+/// The bytes of a journal, whole or followed by a cut record, are a torn journal of its records.
+pub fn journals_load_again()
+    ensures { JournalsLoadAgain }
+{}
+
+/// Bytes have one fault at most, at one place.
+pub fn bytes_have_one_fault()
+    ensures { BytesHaveOneFault }
 {}

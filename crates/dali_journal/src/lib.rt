@@ -1,13 +1,15 @@
 //! The journal of a writer (profile): which orders it began, and how far each has come.
 //!
-//! A journal is a list of records. What it has begun it can always end without taking memory. Only
-//! `Journal::new`, `reserve` and `to_bytes` take memory.
+//! A journal is a list of records, held as their bytes. What it has begun it can always end without
+//! taking memory. Only `Journal::load`, `reserve` and `to_bytes` take memory.
 #![tactic(auto)]
 
 mod fault;
+mod index;
 mod journal;
 mod kept;
 pub mod laws;
+mod read;
 mod record;
 mod standing;
 #[cfg(test)]
@@ -16,5 +18,6 @@ mod tests;
 pub use fault::{JournalFault, NoMemory};
 pub use journal::Journal;
 pub use kept::{Kept, Stage};
+pub use read::Piece;
 pub use record::{Code, Record};
 pub use standing::Standing;

@@ -1,6 +1,6 @@
-ghost use Rattle.std.specs.Prelude.{◌≡◌};
-ghost use Rattle.dali_journal.specs.Sentence.{next_standing, HasShortUnit};
-ghost use Rattle.dali_journal.specs.JournalState.{records_due};
+ghost use Rattle.std.specs.Prelude.{◌≡◌, ◌↔◌, IsTrue};
+ghost use Rattle.dali_journal.specs.Sentence.{Allows, next_standing, HasShortUnit};
+ghost use Rattle.dali_journal.specs.JournalState.{bytes_due};
 
 use crate::record::{Code, Record};
 use dali_bank::Order;
@@ -31,6 +31,22 @@ impl Standing {
         }
     }
 
+    // Whether the record may come.
+    pub(crate) fn allows(&self, entry: &Record) -> bool
+        ensures { IsTrue result ↔ Allows self.now entry.now }
+    {
+        match (self, entry) {
+            (Standing::Idle, Record::Began(_)) => true,
+            (Standing::Began(order), Record::Opened(unit)) => *unit == order.unit(),
+            (Standing::Began(_), Record::Ended(Code::Short | Code::Format | Code::Silent)) => true,
+            (Standing::Opened(_), Record::Ended(Code::Done | Code::Doubt | Code::DoubtOpen)) => {
+                true
+            }
+            (Standing::Left(left), Record::Closed(unit)) => *unit == *left,
+            _ => false,
+        }
+    }
+
     // The standing after a record that may come.
     pub(crate) fn after(self, entry: &Record) -> Standing
         ensures value { result ≡ next_standing self entry.now }
@@ -46,15 +62,15 @@ impl Standing {
         }
     }
 
-    // How many records may come before the journal is idle again.
-    pub(crate) fn records_due(&self) -> usize
-        ensures { result ≡ records_due self.now }
+    // How many bytes may come before the journal is idle again.
+    pub(crate) fn bytes_due(&self) -> usize
+        ensures { result ≡ bytes_due self.now }
     {
         match self {
             Standing::Idle => 0,
-            Standing::Left(_) => 1,
-            Standing::Opened(_) => 2,
-            Standing::Began(_) => 3,
+            Standing::Left(_) => 2,
+            Standing::Opened(_) => 4,
+            Standing::Began(_) => 6,
         }
     }
 }

@@ -1,3 +1,4 @@
 pub mod StreamLemmas
 pub mod BankLinesLemmas
 pub mod RunTextLemmas
+pub mod JournalLinesLemmas

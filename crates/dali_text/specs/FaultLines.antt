@@ -13,3 +13,8 @@ single_line what number name = what ++ codes " fault " ++ decimal number ++ code
 abbrev pub counted_line : List ℕ → ℕ → ℕ → List ℕ → List ℕ
 counted_line what count number name =
     what ++ codes " " ++ decimal count ++ codes " fault " ++ decimal number ++ codes " " ++ name ++ codes "\n"
+
+-- a fault at a place in what was read
+abbrev pub placed_line : List ℕ → ℕ → List ℕ → ℕ → List ℕ
+placed_line what number name place =
+    what ++ codes " fault " ++ decimal number ++ codes " " ++ name ++ codes " at " ++ decimal place ++ codes "\n"

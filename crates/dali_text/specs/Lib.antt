@@ -4,5 +4,6 @@ pub mod FaultLines
 pub mod FrameLine
 pub mod BankLines
 pub mod RecordText
+pub mod JournalLines
 pub mod UnitLines
 pub mod RunText

@@ -1,6 +1,6 @@
 ghost use Rattle.std.specs.Prelude.{IfSome, OnOk};
 ghost use Rattle.std.specs.Io.KnownBytes.{Appends};
-ghost use Rattle.dali_text.specs.FaultLines.{counted_line, fault_line, single_line};
+ghost use Rattle.dali_text.specs.FaultLines.{counted_line, fault_line, placed_line, single_line};
 
 use std::fmt::Display;
 use std::io;
@@ -42,4 +42,19 @@ pub fn write_counted_fault<W: Write, F: Display>(
         Appends (W.contents writer.old) (W.contents writer.new) (counted_line what.now count number name_text))) }
 {
     writeln!(writer, "{what} {count} fault {number} {name}")
+}
+
+/// Writes a fault at a place in what was read (profile): what it is of, the fault's number and its
+/// name, which is what the fault displays, and the place, counted from 0.
+pub fn write_placed_fault<W: Write, F: Display>(
+    writer: &mut W,
+    what: &str,
+    number: u8,
+    name: &F,
+    place: usize,
+) -> io::Result<()>
+    ensures { OnOk result (IfSome (F.output name.now) (λ name_text.
+        Appends (W.contents writer.old) (W.contents writer.new) (placed_line what.now number name_text place))) }
+{
+    writeln!(writer, "{what} fault {number} {name} at {place}")
 }

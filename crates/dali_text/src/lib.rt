@@ -1,5 +1,5 @@
 //! How things are told (profile): the lines of orders, of faults, of frames, of a memory bank, of
-//! records of the journal, and of runs and the units after them.
+//! a journal and its records, and of runs and the units after them.
 //!
 //! Each call writes to any writer, which it doesn't flush, and answers only the writer's own error.
 //! No call takes memory.
@@ -9,6 +9,7 @@ mod bank_lines;
 mod digits;
 mod fault_lines;
 mod frame_line;
+mod journal_lines;
 mod order_lines;
 mod record_text;
 mod run_lines;
@@ -16,8 +17,9 @@ mod unit_lines;
 
 pub use bank_lines::write_bank;
 pub use digits::{ByteDigits, WordDigits, write_bytes};
-pub use fault_lines::{write_counted_fault, write_fault, write_single_fault};
+pub use fault_lines::{write_counted_fault, write_fault, write_placed_fault, write_single_fault};
 pub use frame_line::write_frame;
+pub use journal_lines::write_journal;
 pub use order_lines::{write_order, write_tally};
 pub use record_text::RecordText;
 pub use run_lines::write_outcome;

@@ -142,6 +142,8 @@ pub fn run<B: Bus>(
         Ok(journal) => journal,
         Err(JournalFault::Limit) => return Err(RunFault::Limit),
         Err(JournalFault::NoMemory) => return Err(RunFault::NoMemory),
+        // a new journal has no bytes to refuse
+        Err(_) => return Err(RunFault::NoMemory),
     };
     let mut writer = Writer::new(journal);
     let mut trace = Vec::new(alloc);

@@ -14,6 +14,7 @@ returns c =
     let check_app = command_app (codes "check") (codes "ORDERS") in
     let frame_app = command_app (codes "frame") (codes "HEX") in
     let show_app = command_app (codes "show") (codes "HEXFILE") in
+    let journal_app = command_app (codes "journal") (codes "FILE") in
     let top : app_of c.subcommand_required-top.result ≡ top_app =
     ap app_of_fields c.subcommand_required-top.ensures ∙ ap (λ (app : App). record app { top = record app.top { subcommand_required = true } }) c.new.ensures.app in
     let check : shape_of c.after_help.result ≡ check_app.top =
@@ -24,6 +25,8 @@ returns c =
     ap shape_of_fields c.after_help-3.ensures ∙ ap shape_of_fields c.about-3.ensures ∙ ap (λ (app : App). app.top) c.in_ok-frame.ensures.app in
     let show : shape_of c.after_help-4.result ≡ show_app.top =
     ap shape_of_fields c.after_help-4.ensures ∙ ap shape_of_fields c.about-4.ensures ∙ ap (λ (app : App). app.top) c.in_ok-show.ensures.app in
+    let journal : shape_of c.after_help-5.result ≡ journal_app.top =
+    ap shape_of_fields c.after_help-5.ensures ∙ ap shape_of_fields c.about-5.ensures ∙ ap (λ (app : App). app.top) c.in_ok-journal.ensures.app in
     let checks : app_of c.in_ok-checks.checks ≡ with_subcommand (app_of c.subcommand_required-top.result) (shape_of c.after_help.result) =
     c.in_ok-checks.ensures.shape (ap (λ (f : Fields). f.has_globals) c.after_help.ensures ∙ ap (λ (f : Fields). f.has_globals) c.about.ensures ∙ c.in_ok-check.ensures.local) in
     let runs : app_of c.in_ok-runs.runs ≡ with_subcommand (app_of c.in_ok-checks.checks) (shape_of c.after_help-2.result) =
@@ -32,6 +35,8 @@ returns c =
     c.in_ok-frames.ensures.shape (ap (λ (f : Fields). f.has_globals) c.after_help-3.ensures ∙ ap (λ (f : Fields). f.has_globals) c.about-3.ensures ∙ c.in_ok-frame.ensures.local) in
     let shows : app_of c.in_ok-shows.shows ≡ with_subcommand (app_of c.in_ok-frames.frames) (shape_of c.after_help-4.result) =
     c.in_ok-shows.ensures.shape (ap (λ (f : Fields). f.has_globals) c.after_help-4.ensures ∙ ap (λ (f : Fields). f.has_globals) c.about-4.ensures ∙ c.in_ok-show.ensures.local) in
+    let journals : app_of c.in_ok-journals.journals ≡ with_subcommand (app_of c.in_ok-shows.shows) (shape_of c.after_help-5.result) =
+    c.in_ok-journals.ensures.shape (ap (λ (f : Fields). f.has_globals) c.after_help-5.ensures ∙ ap (λ (f : Fields). f.has_globals) c.about-5.ensures ∙ c.in_ok-journal.ensures.local) in
     let with_check_app = with_subcommand top_app check_app.top in
     let with_check : app_of c.in_ok-checks.checks ≡ with_check_app =
     checks ∙ ap (λ (app : App). with_subcommand app (shape_of c.after_help.result)) top ∙ ap (with_subcommand top_app) check in
@@ -41,4 +46,7 @@ returns c =
     let with_frame_app = with_subcommand with_run_app frame_app.top in
     let with_frame : app_of c.in_ok-frames.frames ≡ with_frame_app =
     frames ∙ ap (λ (app : App). with_subcommand app (shape_of c.after_help-3.result)) with_run ∙ ap (with_subcommand with_run_app) frame in
-    ap app_of_fields c.about-5.ensures ∙ shows ∙ ap (λ (app : App). with_subcommand app (shape_of c.after_help-4.result)) with_frame ∙ ap (with_subcommand with_frame_app) show
+    let with_show_app = with_subcommand with_frame_app show_app.top in
+    let with_show : app_of c.in_ok-shows.shows ≡ with_show_app =
+    shows ∙ ap (λ (app : App). with_subcommand app (shape_of c.after_help-4.result)) with_frame ∙ ap (with_subcommand with_frame_app) show in
+    ap app_of_fields c.about-6.ensures ∙ journals ∙ ap (λ (app : App). with_subcommand app (shape_of c.after_help-5.result)) with_show ∙ ap (with_subcommand with_show_app) journal

@@ -1,0 +1,58 @@
+-- What the index tells of a number is whether an order of it was begun.
+use Rattle.std.proofs.Common.{◌≡◌, ℕ, Bool, true, false, cond, List, [], ◌∷◌, refl, sym, ap, ◌∙◌, ◌==◌, ◌||◌}
+use Rattle.dali_bank.specs.Order.{Contents}
+use Rattle.dali_journal.specs.declared.record.Record.{Record}
+use Rattle.dali_journal.specs.declared.record.Record.TheVariants.{Began, Opened, Ended, Closed}
+use Rattle.dali_journal.specs.declared.kept.Stage.{Stage}
+use Rattle.dali_journal.specs.declared.kept.Stage.TheVariants as stages
+use Rattle.dali_journal.specs.declared.kept.Kept.{Kept}
+use Rattle.dali_journal.specs.declared.kept.Kept.TheVariants as kepts
+use Rattle.dali_journal.specs.declared.index.Place.{Place}
+use Rattle.dali_journal.specs.declared.index.Place.TheVariants as places
+use Rattle.dali_journal.specs.Sentence.{is_begun}
+use Rattle.dali_journal.specs.Orders.{come_to, orders_of, kept_at, kept_among, kept_of}
+use Rattle.dali_journal.specs.Index.{is_begun_at, Agrees}
+
+abbrev is_kept : Kept → Bool
+is_kept kepts.Absent = false
+is_kept (kepts.Unfinished order) = true
+is_kept (kepts.Ended order code) = true
+
+abbrev is_among : ℕ → List (Contents × Stage) → Bool
+is_among id [] = false
+is_among id (newest ∷ older) = newest.0.id == id || is_among id older
+
+among_come : (id : ℕ) (stage : Stage) (orders : List (Contents × Stage)) → is_among id (come_to stage orders) ≡ is_among id orders
+among_come id stage [] = refl
+among_come id stage (newest ∷ older) = refl
+
+begun_among : (id : ℕ) (records : List Record) → is_begun id records ≡ is_among id (orders_of records)
+begun_among id [] = refl
+begun_among id (Began order ∷ older) = ap (λ b. order.id == id || b) (begun_among id older)
+begun_among id (Opened unit ∷ older) = begun_among id older ∙ sym (among_come id stages.Open (orders_of older))
+begun_among id (Ended code ∷ older) = begun_among id older ∙ sym (among_come id (stages.Ended code) (orders_of older))
+begun_among id (Closed unit ∷ older) = begun_among id older
+
+kept_stage : (order : Contents) (stage : Stage) → is_kept (kept_at order stage) ≡ true
+kept_stage order stages.Begun = refl
+kept_stage order stages.Open = refl
+kept_stage order (stages.Ended code) = refl
+
+among_kept : (id : ℕ) (orders : List (Contents × Stage)) → is_among id orders ≡ is_kept (kept_among id orders)
+among_kept id [] = refl
+among_kept id (newest ∷ older) = by (newest.0.id == id) (among_kept id older)
+  where
+    by : (test : Bool) → is_among id older ≡ is_kept (kept_among id older)
+        → (test || is_among id older) ≡ is_kept (cond test (kept_at newest.0 newest.1) (kept_among id older))
+    by true rest = sym (kept_stage newest.0 newest.1)
+    by false rest = rest
+
+agrees_begun : (bytes : List ℕ) (place : Place) (kept : Kept) → Agrees bytes place kept → is_begun_at place ≡ is_kept kept
+agrees_begun bytes places.NotBegun kept a = sym (ap is_kept a)
+agrees_begun bytes (places.Begun at) kept a = sym (ap is_kept a.1)
+agrees_begun bytes (places.Ended at code) kept a = sym (ap is_kept a.1)
+
+pub begun_told : (id : ℕ) (bytes : List ℕ) (place : Place) (records : List Record) → Agrees bytes place (kept_of id records)
+    → is_begun_at place ≡ is_begun id records
+begun_told id bytes place records a =
+    agrees_begun bytes place (kept_of id records) a ∙ sym (begun_among id records ∙ among_kept id (orders_of records))

@@ -1,0 +1,91 @@
+-- What a journal's index tells of each number, and that it agrees with the journal's bytes.
+use Rattle.std.specs.Prelude.{◌≡◌, ℕ, ◌≤◌, ◌==◌, nat_eq, IsSome, Bool, true, false, List, length, drop}
+use Rattle.std.specs.Prelude.{Option, None, Some, ⊤, if◌then◌else◌}
+use Rattle.std.specs.Map.{lookup, keys_of}
+use Rattle.dali_bank.specs.Order.{Contents}
+use Rattle.dali_journal.specs.declared.record.Code.{Code}
+use Rattle.dali_journal.specs.declared.record.Record.{Record}
+use Rattle.dali_journal.specs.declared.record.Record.TheVariants.{Began, Ended}
+use Rattle.dali_journal.specs.declared.standing.Standing.{Standing}
+use Rattle.dali_journal.specs.declared.standing.Standing.TheVariants as standings
+use Rattle.dali_journal.specs.declared.kept.Kept.{Kept}
+use Rattle.dali_journal.specs.declared.kept.Kept.TheVariants as kepts
+use Rattle.dali_journal.specs.declared.index.Place.{Place}
+use Rattle.dali_journal.specs.declared.index.Place.TheVariants as places
+use Rattle.dali_journal.specs.declared.read.Piece.{Piece}
+use Rattle.dali_journal.specs.declared.read.Piece.TheVariants.{Whole}
+use Rattle.dali_journal.specs.Sentence.{standing_of, HasShortUnit}
+use Rattle.dali_journal.specs.Orders.{orders_of, kept_of}
+use Rattle.dali_journal.specs.Spelling.{journal_spelling, IsRecord}
+use Rattle.dali_journal.specs.Reading.{BeginsWith}
+use Rattle.dali_journal.specs.JournalState.{IsJournal}
+
+-- a number that isn't in the index isn't begun
+abbrev pub place_of : Option Place → Place
+place_of None = places.NotBegun
+place_of (Some place) = place
+
+-- an order was begun
+abbrev pub is_begun_at : Place → Bool
+is_begun_at places.NotBegun = false
+is_begun_at (places.Begun at) = true
+is_begun_at (places.Ended at code) = true
+
+-- a record's bytes stand there
+abbrev pub StandsAt : List ℕ → ℕ → Record → Type 0
+StandsAt bytes at entry = (at ≤ length bytes) × BeginsWith (drop at bytes) entry
+
+-- what the index tells of a number is what the journal has kept of it
+abbrev pub Agrees : List ℕ → Place → Kept → Type 0
+Agrees bytes places.NotBegun kept = kept ≡ kepts.Absent
+Agrees bytes (places.Begun at) kept =
+    (order : Contents) × (kept ≡ kepts.Unfinished order) × StandsAt bytes at (Began order)
+Agrees bytes (places.Ended at code) kept =
+    (order : Contents) × (kept ≡ kepts.Ended order code) × StandsAt bytes at (Began order)
+
+-- what an end makes of an order's place
+abbrev pub ended_place : Code → Place → Place
+ended_place code (places.Begun at) = places.Ended at code
+ended_place code other = other
+
+-- the order that is at work has this number
+abbrev pub is_at_work : Standing → ℕ → Bool
+is_at_work (standings.Began order) id = order.id == id
+is_at_work (standings.Opened order) id = order.id == id
+is_at_work other id = false
+
+-- what a record that stands there makes of a number's place
+abbrev pub place_after : Standing → Record → ℕ → ℕ → Place → Place
+place_after standing (Began order) at id place = if order.id == id then places.Begun at else place
+place_after standing (Ended code) at id place = if is_at_work standing id then ended_place code place else place
+place_after standing other at id place = place
+
+-- an order's number is in the index before it begins
+abbrev pub EntersNumber : List (ℕ × Place) → Record → Type 0
+EntersNumber index (Began order) = IsSome (lookup (nat_eq order.id) index)
+EntersNumber index other = ⊤
+
+-- the order that a piece begins
+abbrev pub order_in : Piece → Option Contents
+order_in (Whole (Began order) len) = Some order
+order_in other = None
+
+-- where the record begins an order, the order's numbers are in range
+abbrev pub BeginsInRange : Record → Type 0
+BeginsInRange (Began order) = IsRecord (Began order)
+BeginsInRange other = ⊤
+
+-- how many orders a record begins
+abbrev pub orders_begun : Record → ℕ
+orders_begun (Began order) = 1
+orders_begun other = 0
+
+-- what is so of a journal's parts: the bytes are those of the records, and the rest tells of the records
+pub record IsSound (bytes : List ℕ) (records : List Record) (standing : Standing) (orders limit room : ℕ)
+    (index : List (ℕ × Place)) : Type 0 where
+  pub spelled : bytes ≡ journal_spelling records
+  pub standing_is : standing ≡ standing_of records
+  pub short : HasShortUnit standing
+  pub count : orders ≡ length (orders_of records)
+  pub journal : IsJournal (record { records = records; limit = limit; room = room; numbers = keys_of index })
+  pub known : (id : ℕ) → Agrees bytes (place_of (lookup (nat_eq id) index)) (kept_of id records)

@@ -1,0 +1,13 @@
+use Rattle.std.proofs.Common.{◌≡◌, ℕ, List, length}
+use Rattle.std.specs.List.{AllByRecursion, flat_map}
+use Rattle.dali_journal.specs.declared.record.Record.{Record}
+use Rattle.dali_journal.specs.Spelling.{IsRecord, spelling}
+use Rattle.dali_text.proofs.JournalLinesLemmas.{Told}
+use Rattle.dali_text.proofs.journal_lines.write_each.Given as goal
+
+abbrev pub invariant-loop-entry : goal.invariant-loop-entry
+invariant-loop-entry g l = (records : List Record) → AllByRecursion IsRecord records → l.bytes ≡ flat_map spelling records
+    → Told records l.rest (g.W.Write.contents l.initial.writer) (g.W.Write.contents l.writer)
+
+abbrev pub decreases-loop-entry : goal.decreases-loop-entry
+decreases-loop-entry g l = length l.rest

@@ -1,0 +1,30 @@
+-- How a journal is told: its records, and then how much of a file they are and what they leave to be done.
+use Rattle.std.specs.Prelude.{ℕ, List, ◌++◌, codes, decimal, length, reverse}
+use Rattle.std.specs.List.{flat_map}
+use Rattle.dali_journal.specs.declared.record.Record.{Record}
+use Rattle.dali_journal.specs.declared.standing.Standing.{Standing}
+use Rattle.dali_journal.specs.declared.standing.Standing.TheVariants.{Idle, Began, Opened, Left}
+use Rattle.dali_journal.specs.Orders.{orders_of}
+use Rattle.dali_journal.specs.Sentence.{standing_of}
+use Rattle.dali_text.specs.RecordText.{record_text}
+
+-- a record by itself
+abbrev pub record_line : Record → List ℕ
+record_line entry = record_text entry ++ codes "\n"
+
+abbrev pub standing_text : Standing → List ℕ
+standing_text Idle = codes "idle"
+standing_text (Began order) = codes "began"
+standing_text (Opened order) = codes "opened"
+standing_text (Left unit) = codes "left " ++ decimal unit
+
+-- how many bytes of how many count, how many orders they begin, and the standing that they leave
+abbrev pub counts_line : ℕ → ℕ → ℕ → Standing → List ℕ
+counts_line counted total orders standing =
+    codes "counts " ++ decimal counted ++ codes " of " ++ decimal total ++ codes " orders " ++ decimal orders
+    ++ codes " standing " ++ standing_text standing ++ codes "\n"
+
+-- the records, the oldest first, and what counts; records are listed newest first
+abbrev pub journal_text : List Record → ℕ → ℕ → List ℕ
+journal_text records counted total =
+    flat_map record_line (reverse records) ++ counts_line counted total (length (orders_of records)) (standing_of records)

@@ -1,0 +1,109 @@
+ghost use Rattle.std.specs.Prelude.{◌≡◌, ◌≤◌, List, OnOk, drop, length, reverse};
+ghost use Rattle.std.specs.Io.KnownBytes.{Appends};
+ghost use Rattle.std.specs.List.{AllByRecursion, flat_map};
+ghost use Rattle.dali_journal.specs.declared.record.Record.{Record as Entry};
+ghost use Rattle.dali_journal.specs.Spelling.{IsRecord, journal_spelling, spelling};
+ghost use Rattle.dali_text.specs.JournalLines.{counts_line, journal_text, record_line, standing_text};
+
+use crate::record_text::RecordText;
+use dali_journal::{Journal, Piece, Record, Standing};
+use std::io::Write;
+use std::{fmt, io};
+
+// A standing as a program tells it.
+#[derive(Clone, Copy)]
+struct StandingText<'a>(&'a Standing);
+
+impl fmt::Display for StandingText<'_> {
+    ghost use Rattle.std.specs.Prelude.{Some};
+    ghost use Rattle.dali_text.specs.JournalLines.{standing_text};
+
+    ghost output = { λ text. Some (standing_text text.0.now) };
+
+    fn fmt<W: fmt::Write>(&self, f: &mut fmt::Formatter<W>) -> fmt::Result {
+        match self.0 {
+            Standing::Idle => f.write_str("idle"),
+            Standing::Began(_) => f.write_str("began"),
+            Standing::Opened(_) => f.write_str("opened"),
+            Standing::Left(unit) => write!(f, "left {unit}"),
+        }
+    }
+}
+
+/// Writes a journal (profile): a line for each record, the oldest first, and then how many bytes
+/// count of all that its file has, how many orders were begun, and the standing.
+///
+/// `bytes` are the journal's, and `total` is how many the file has.
+#[tactic(auto, using(crate::proofs::StreamLemmas::appends_both))]
+pub fn write_journal<W: Write>(
+    writer: &mut W,
+    journal: &Journal,
+    bytes: &[u8],
+    total: usize,
+) -> io::Result<()>
+    requires { bytes.now ≡ journal_spelling journal.now.records }
+    ensures { OnOk result (Appends (W.contents writer.old) (W.contents writer.new)
+        (journal_text journal.now.records (length bytes.now) total)) }
+{
+    write_records(writer, journal, bytes)?;
+    let orders = journal.orders();
+    write_counts(writer, bytes.len(), total, orders, &journal.standing())
+}
+
+// Writes a line for each record of a journal, the oldest first.
+fn write_records<W: Write>(writer: &mut W, journal: &Journal, bytes: &[u8]) -> io::Result<()>
+    requires { bytes.now ≡ journal_spelling journal.now.records }
+    ensures { OnOk result (Appends (W.contents writer.old) (W.contents writer.new)
+        (flat_map record_line (reverse journal.now.records))) }
+{
+    // it tells that the records' numbers are in range
+    let _limit = journal.limit();
+    write_each(writer, bytes)
+}
+
+// Writes a line for each record that the bytes are.
+fn write_each<W: Write>(writer: &mut W, bytes: &[u8]) -> io::Result<()>
+    ensures { (records : List Entry) → AllByRecursion IsRecord records → bytes.now ≡ flat_map spelling records
+        → OnOk result (Appends (W.contents writer.old) (W.contents writer.new) (flat_map record_line records)) }
+{
+    let mut rest = bytes;
+    while let Piece::Whole(entry, len) = Record::read(rest) {
+        write_record(writer, &entry)?;
+        rest = behind(rest, len);
+    }
+    Ok(())
+}
+
+// The bytes behind so many.
+fn behind(bytes: &[u8], count: usize) -> &[u8]
+    requires { count ≤ length bytes.now }
+    ensures { result.now ≡ drop count bytes.now }
+{
+    &bytes[count..]
+}
+
+// Writes a record by itself.
+fn write_record<W: Write>(writer: &mut W, entry: &Record) -> io::Result<()>
+    ensures { OnOk result (Appends (W.contents writer.old) (W.contents writer.new) (record_line entry.now)) }
+{
+    let entry = RecordText(entry);
+    writeln!(writer, "{entry}")
+}
+
+// Writes how many bytes count, how many orders they begin, and the standing that they leave.
+fn write_counts<W: Write>(
+    writer: &mut W,
+    counted: usize,
+    total: usize,
+    orders: u32,
+    standing: &Standing,
+) -> io::Result<()>
+    ensures { OnOk result (Appends (W.contents writer.old) (W.contents writer.new)
+        (counts_line counted total orders standing.now)) }
+{
+    let standing = StandingText(standing);
+    writeln!(
+        writer,
+        "counts {counted} of {total} orders {orders} standing {standing}"
+    )
+}

@@ -17,7 +17,7 @@ use crate::fault::RunFault;
 use crate::happening::{Event, Happening, Want};
 use crate::writer::Writer;
 use dali_gear::Bus;
-use dali_journal::{Journal, JournalFault, Record};
+use dali_journal::{Journal, Record};
 use std::alloc::Global;
 
 // Does once what the writer wants, if it wants something.
@@ -138,12 +138,8 @@ pub fn run<B: Bus>(
     ensures untouched { result ≡ Err faults.Limit → bus.new ≡ bus.old }
     ensures err { OnErr result ((past : List Happening) × (served : ℕ) × AreParts (fresh limit) (reverse (take served events.now)) past × Legal (fresh limit) past × LeadsRight B.world B.step limit bus.old past bus.new) }
 {
-    let journal = match Journal::new(alloc, limit) {
-        Ok(journal) => journal,
-        Err(JournalFault::Limit) => return Err(RunFault::Limit),
-        Err(JournalFault::NoMemory) => return Err(RunFault::NoMemory),
-        // a new journal has no bytes to refuse
-        Err(_) => return Err(RunFault::NoMemory),
+    let Ok(journal) = Journal::new(alloc, limit) else {
+        return Err(RunFault::Limit);
     };
     let mut writer = Writer::new(journal);
     let mut trace = Vec::new(alloc);

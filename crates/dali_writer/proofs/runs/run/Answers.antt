@@ -11,17 +11,8 @@ use Rattle.dali_writer.proofs.TakenLemmas.{taken_from_none}
 use Rattle.dali_writer.proofs.PartsLemmas.{more_parts}
 use Rattle.dali_writer.proofs.runs.run.Goals as goal
 
-pub returns-in-Err-Limit-clause-err : goal.returns-in-Err-Limit-clause-err
-returns-in-Err-Limit-clause-err g c = (
-  [],
-  0,
-  refl,
-  (tt, omega arith),
-  right g.B.Bus.world g.B.Bus.step g.met.B.Bus.allowed c.args.limit c.args.bus.now c.args.bus.now [] (tt, omega arith) (starts g.B.Bus.world g.B.Bus.step c.args.bus.now),
-)
-
-pub returns-in-Err-NoMemory-clause-err : goal.returns-in-Err-NoMemory-clause-err
-returns-in-Err-NoMemory-clause-err g c = (
+pub returns-in_default-clause-err : goal.returns-in_default-clause-err
+returns-in_default-clause-err g c = (
   [],
   0,
   refl,

@@ -1,0 +1,155 @@
+#!/usr/bin/env python3
+"""Measure `dali_bench journal` and the calls of a journal.
+
+1. `journal FILE` on 100000 orders with all fields, and with a GTIN, beside a
+   plain Python program (journal_baseline.py), and loading alone: the same
+   file with a byte behind it that is no record, so that nothing but the fault
+   is printed.
+2. With --calls: `load`, `kept` and a whole order of a writer (submit, two
+   records, sixteen frames without an answer, the saying) over journals of 10,
+   1000 and 99000 orders, by a program (journal_speed.txt) that is proved and
+   built over the repository's crates in a copy of it.
+3. With --calls: loading numbers that were chosen to fall together in the
+   index (colliding.c).
+
+Status 0: both programs gave the same output. Status 1: an output differs.
+Status 2: a program couldn't be built or run.
+"""
+
+import pathlib
+import shutil
+import struct
+import subprocess
+import sys
+
+from measuring import (
+    MEBIBYTE,
+    REPOSITORY,
+    argument_parser,
+    best_of,
+    least_measurable_memory,
+    print_machine,
+    run,
+    start_by_fork,
+    working_folder,
+)
+
+PROGRAM = REPOSITORY / "crates" / "dali_bench" / "out" / "dali_bench"
+BASELINE = REPOSITORY / "benchmarks" / "journal_baseline.py"
+GTIN = list(zip(range(0x03, 0x09), bytes.fromhex("03A4CEEFADAB")))
+FULL = [(place, 0xA5) for place in [*range(0x03, 0x11), *range(0x13, 0x78)]]
+MOST_ORDERS = 100000
+
+
+def write_journal(path, numbers, pairs, behind=b""):
+    """Write a journal in which each order is done."""
+    tail = b"".join(bytes(pair) for pair in pairs)
+    with open(path, "wb") as file:
+        for number in numbers:
+            head = struct.pack(">QBB", number, 5, len(pairs))
+            file.write(b"B" + head + tail + b"O\x05E\x00")
+        file.write(behind)
+
+
+def compare(program, runs, folder):
+    """Run the program and the baseline on both files; whether they agree."""
+    agree = True
+    least = least_measurable_memory(folder)
+    for name, pairs in [("all fields", FULL), ("a GTIN", GTIN)]:
+        whole, ended = folder / "journal.bin", folder / "ended.bin"
+        write_journal(whole, range(MOST_ORDERS), pairs)
+        write_journal(ended, range(MOST_ORDERS), pairs, b"A")
+        size = whole.stat().st_size
+        ours, theirs = folder / "program.txt", folder / "baseline.txt"
+        told = best_of([run([program, "journal", whole], ours) for _ in range(runs)])
+        plain = best_of(
+            [run([sys.executable, BASELINE, whole], theirs) for _ in range(runs)]
+        )
+        agree = agree and ours.read_bytes() == theirs.read_bytes()
+        loaded = best_of(
+            [run([program, "journal", ended], folder / "ended.txt") for _ in range(runs)]
+        )
+        memory = max(told.peak_memory, least)
+        print(
+            f"{MOST_ORDERS} orders with {name}, {size / MEBIBYTE:.1f} MiB:"
+            f" journal {told.seconds:.3f} s, loading alone {loaded.seconds:.3f} s,"
+            f" memory {memory / MEBIBYTE:.1f} MiB ({memory / size:.1f} x file),"
+            f" baseline {plain.seconds:.2f} s ({plain.seconds / told.seconds:.0f} x,"
+            f" of loading {plain.seconds / loaded.seconds:.0f} x)"
+        )
+    return agree
+
+
+def build_calls(folder):
+    """Build the program that measures calls, in a copy of the repository."""
+    copy = folder / "repository"
+    shutil.copytree(REPOSITORY, copy, ignore=shutil.ignore_patterns(".git"))
+    crate = copy / "crates" / "journal_speed"
+    (crate / "src").mkdir(parents=True)
+    source = REPOSITORY / "benchmarks" / "journal_speed.txt"
+    shutil.copyfile(source, crate / "src" / "main.rt")
+    with open(copy / "crates.txt", "a", encoding="utf-8") as file:
+        file.write("journal_speed: dali_writer dali_journal dali_bank anyhow\n")
+    empty = folder / "empty.bin"
+    empty.write_bytes(b"")
+    subprocess.run(
+        ["rt", "run", "--", str(empty)], cwd=crate, check=True, capture_output=True
+    )
+    return crate / "out" / "journal_speed"
+
+
+def print_calls(program, path, what):
+    """Print what the calls take over a journal."""
+    words = subprocess.run(
+        [program, path], check=True, capture_output=True, text=True
+    ).stdout.split()
+    known, loaded, found, kept, begun, carried = map(int, words)
+    order = f", an order {carried / begun / 1000:.2f} us" if begun else ""
+    print(
+        f"{known} orders{what}: load {loaded / 1000:.1f} ms,"
+        f" kept {kept / 1000:.0f} ns{order}"
+    )
+
+
+def measure_calls(folder):
+    """Measure calls by the number of orders, and with chosen numbers."""
+    program = build_calls(folder)
+    path = folder / "calls.bin"
+    for count in (10, 1000, 99000):
+        write_journal(path, range(count), GTIN)
+        print_calls(program, path, "")
+    chooser = folder / "colliding"
+    source = REPOSITORY / "benchmarks" / "colliding.c"
+    subprocess.run(["cc", "-O2", "-o", chooser, source], check=True)
+    chosen = subprocess.run(
+        [chooser, "3fff", str(MOST_ORDERS)], check=True, capture_output=True, text=True
+    ).stdout.split()
+    for count in (1000, 10000, MOST_ORDERS):
+        write_journal(path, map(int, chosen[:count]), GTIN)
+        print_calls(program, path, ", numbers chosen to fall together")
+
+
+def main():
+    """Measure, and tell whether the outputs agree."""
+    parser = argument_parser(__doc__.splitlines()[0], PROGRAM, 3)
+    parser.add_argument("--calls", action="store_true", help="measure calls too")
+    arguments = parser.parse_args()
+    start_by_fork()
+    print_machine()
+    try:
+        with working_folder(arguments.keep) as folder:
+            folder = pathlib.Path(folder).resolve()
+            agree = compare(arguments.program.resolve(), arguments.runs, folder)
+            if arguments.calls:
+                measure_calls(folder)
+    except (OSError, subprocess.CalledProcessError) as error:
+        print(f"a program couldn't be built or run: {error}", file=sys.stderr)
+        return 2
+    if not agree:
+        print("the outputs differ")
+        return 1
+    return 0
+
+
+if __name__ == "__main__":
+    sys.exit(main())

@@ -1,3 +1,4 @@
+pub mod BankLemmas
 pub mod SimLemmas
 pub mod ChainLemmas
 pub mod UnenabledLemmas

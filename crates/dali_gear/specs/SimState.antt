@@ -5,6 +5,7 @@ use Rattle.dali_frame.specs.declared.forward.Frame.{Frame}
 use Rattle.dali_gear.specs.declared.fate.Fate.{Fate}
 use Rattle.dali_gear.specs.Fate.{is_lost, next_fate, fates_after}
 use Rattle.dali_gear.specs.UnitState.{UnitState, after_frame, answer_to, gear_of}
+use Rattle.dali_gear.specs.Faults.{IsBank}
 use Rattle.dali_gear.specs.World.{World}
 use Rattle.dali_gear.specs.Carry.{BusEvent, Carried}
 
@@ -22,6 +23,11 @@ world_of (unit ∷ units) address = if address == unit.address then Some (gear_o
 abbrev pub AreApart : List UnitState → Type 0
 AreApart [] = ⊤
 AreApart (unit ∷ units) = (world_of units unit.address ≡ None) × AreApart units
+
+-- bank 1 of each of the units has bytes that it may have
+abbrev pub AreBanks : List UnitState → Type 0
+AreBanks [] = ⊤
+AreBanks (unit ∷ units) = IsBank unit.bank1.bytes × AreBanks units
 
 -- a unit after a frame of this fate
 abbrev pub unit_after : Fate → Frame → UnitState → UnitState
@@ -42,6 +48,7 @@ bus_answer fate answers = if fate.answer_lost then None else only_answer answers
 -- the frame goes to each unit under the next fate, which is then used up, and this comes back
 pub record SimCarry (old : SimState) (frame : Frame) (answer : Option ℕ) (new : SimState) : Type 0 where
   pub apart : AreApart old.units
+  pub banks : AreBanks old.units
   pub units : new.units ≡ map (unit_after (next_fate old.fates) frame) old.units
   pub fates : new.fates ≡ fates_after old.fates
   pub answers : answer ≡ bus_answer (next_fate old.fates) (filter_map (unit_answer (next_fate old.fates) frame) old.units)

@@ -2,7 +2,7 @@ ghost use Rattle.std.specs.Prelude.{◌≡◌, ◌↔◌, map, length, if◌then
 ghost use Rattle.std.specs.List.{filter_map};
 ghost use Rattle.std.specs.Vec.Iter.{into_iter_items};
 ghost use Rattle.dali_gear.specs.Fate.{next_fate, fates_after};
-ghost use Rattle.dali_gear.specs.SimState.{unit_after, unit_answer, only_answer, AreApart, world_of};
+ghost use Rattle.dali_gear.specs.SimState.{unit_after, unit_answer, only_answer, AreApart, AreBanks, world_of};
 
 use crate::bus::Bus;
 use crate::fate::Fate;
@@ -24,13 +24,13 @@ pub struct SimBus {
 impl Model for SimBus {
     ghost use Rattle.std.specs.Prelude.{length};
     ghost use Rattle.std.specs.Vec.Iter.{into_iter_items};
-    ghost use Rattle.dali_gear.specs.SimState.{SimState, AreApart};
+    ghost use Rattle.dali_gear.specs.SimState.{SimState, AreApart, AreBanks};
 
     ghost Value = { SimState };
 
     ghost view = { λ bus. record { units = bus.units.items; fates = into_iter_items bus.fates } };
 
-    ghost invariant = { λ bus. AreApart bus.units.items };
+    ghost invariant = { λ bus. AreApart bus.units.items × AreBanks bus.units.items };
 }
 
 impl SimBus {
@@ -88,7 +88,8 @@ impl Bus for SimBus {
 
 // Whether no two units are at one address.
 fn are_apart(units: &[Unit]) -> bool
-    ensures { IsTrue result ↔ AreApart units.now }
+    ensures apart { IsTrue result ↔ AreApart units.now }
+    ensures banks { IsTrue result → AreBanks units.now }
 {
     match units {
         [] => true,

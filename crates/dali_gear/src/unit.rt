@@ -37,6 +37,7 @@ pub struct Unit {
 impl Model for Unit {
     ghost use Rattle.std.specs.Prelude.{◌<◌};
     ghost use Rattle.dali_gear.specs.UnitState.{UnitState};
+    ghost use Rattle.dali_gear.specs.Faults.{IsBank};
 
     ghost Value = { UnitState };
 
@@ -51,7 +52,7 @@ impl Model for Unit {
       bank2 = unit.bank2;
     } };
 
-    ghost invariant = { λ unit. unit.address < 64 };
+    ghost invariant = { λ unit. (unit.address < 64) × IsBank unit.bank1.bytes };
 }
 
 impl Unit {
@@ -103,10 +104,12 @@ impl Unit {
         })
     }
 
-    /// The unit's short address, 0 to 63.
+    /// The unit's short address, 0 to 63. Each unit that can be asked for it has bytes in bank 1 that
+    /// a bank may have.
     pub fn address(&self) -> u8
         ensures value { result ≡ self.now.address }
         ensures short { result < 64 }
+        ensures bank { IsBank self.now.bank1.bytes }
     {
         self.address
     }

@@ -119,7 +119,7 @@ most_write = most_tries * write_frames
 abbrev most_close : ℕ
 most_close = most_write + most_read
 
-close_takes : (limit : ℕ) (answered unanswered : Verdict) → most_close ≤ limit → TakesAtMost limit (close answered unanswered)
+pub close_takes : (limit : ℕ) (answered unanswered : Verdict) → most_close ≤ limit → TakesAtMost limit (close answered unanswered)
 close_takes limit answered unanswered le =
     (omega arith, λ outcome. (omega arith, either_all (TakesAtMost (limit - most_write - most_read)) (Finish unanswered) (λ byte. Finish answered) tt (λ byte. tt)))
 
@@ -153,7 +153,7 @@ write_on_takes limit updates (update ∷ left) le = (
       (λ byte. write_on_takes (limit - most_write) updates left (omega arith)),
 )
 
-unlock_takes : (limit : ℕ) (updates : List (ℕ × ℕ))
+pub unlock_takes : (limit : ℕ) (updates : List (ℕ × ℕ))
     → (length updates + 2) * most_write + (length updates + 1) * most_read + most_close ≤ limit → TakesAtMost limit (unlock updates)
 unlock_takes limit updates le = (
   omega arith,
@@ -164,7 +164,7 @@ unlock_takes limit updates le = (
 read_format_takes : TakesAtMost (2 * most_read) read_format
 read_format_takes = (omega arith, either_all (TakesAtMost most_read) _ _ tt (λ high. (omega arith, either_all (TakesAtMost 0) _ _ tt (λ low. tt))))
 
-read_length_takes : (updates : List (ℕ × ℕ)) → TakesAtMost (3 * most_read) (read_length updates)
+pub read_length_takes : (updates : List (ℕ × ℕ)) → TakesAtMost (3 * most_read) (read_length updates)
 read_length_takes updates = (
   omega arith,
   either_all (TakesAtMost (2 * most_read)) _ (judge_length updates) tt

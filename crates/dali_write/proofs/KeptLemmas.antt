@@ -12,6 +12,7 @@ use Rattle.dali_write.specs.Exchanges.{Exchange}
 use Rattle.dali_gear.specs.UnitState.{BankState, UnitState, after_frame, after_write, answer_to, is_writable, with_byte, has_bank, stores, carries_out, bank_of}
 use Rattle.dali_gear.specs.Hears.{up}
 use Rattle.dali_gear.specs.SimState.{SimState, SimCarry, unit_after}
+use Rattle.dali_gear.proofs.BankLemmas.{IsQuiet, bank_stays}
 use Rattle.dali_write.specs.declared.line.Line.{Line}
 use Rattle.dali_write.specs.declared.line.Wish.TheVariants.{Nothing, Exactly}
 use Rattle.dali_write.specs.declared.step.Step.{Step}
@@ -21,45 +22,6 @@ use Rattle.dali_write.specs.Tries.{Trying, Missed, Misses, Succeeds}
 use Rattle.dali_write.specs.Losses.{SimRun, losses, Unrefused, IsAlone}
 use Rattle.dali_write.proofs.OneFrameLemmas.{own_answer, alone_then}
 use Rattle.dali_write.proofs.LossLemmas.{AllFor, all_for}
-
--- the frame writes nothing
-abbrev IsQuiet : Frame → Type 0
-IsQuiet (Dtr0 b) = Unit {0}
-IsQuiet (Dtr1 b) = Unit {0}
-IsQuiet (Dtr2 b) = Unit {0}
-IsQuiet (Write b) = ⊥
-IsQuiet (WriteSilent b) = ⊥
-IsQuiet (Enable to) = Unit {0}
-IsQuiet (AskDtr0 to) = Unit {0}
-IsQuiet (AskDtr1 to) = Unit {0}
-IsQuiet (AskDtr2 to) = Unit {0}
-IsQuiet (Read to) = Unit {0}
-IsQuiet (Other w) = Unit {0}
-
-enable_banks : (unit : UnitState) (mine half : Bool)
-    → (if mine then (if half then record unit { enabled = true; half_pair = false } else record unit { half_pair = true }) else record unit { half_pair = false }).bank1 ≡ unit.bank1
-enable_banks unit true true = refl
-enable_banks unit true false = refl
-enable_banks unit false half_pair = refl
-
-read_banks : (unit : UnitState) (mine has : Bool) (dtr0 : ℕ)
-    → (if mine then (if has then record unit { enabled = false; dtr0 = dtr0 } else record unit { enabled = false }) else unit).bank1 ≡ unit.bank1
-read_banks unit true true dtr0 = refl
-read_banks unit true false dtr0 = refl
-read_banks unit false has dtr0 = refl
-
-bank_stays : (refuses : Bool) (unit : UnitState) (frame : Frame) → IsQuiet frame → (after_frame refuses unit frame).bank1 ≡ unit.bank1
-bank_stays refuses unit (Dtr0 b) quiet = refl
-bank_stays refuses unit (Dtr1 b) quiet = refl
-bank_stays refuses unit (Dtr2 b) quiet = refl
-bank_stays refuses unit (Write b) quiet = absurd quiet
-bank_stays refuses unit (WriteSilent b) quiet = absurd quiet
-bank_stays refuses unit (Enable to) quiet = enable_banks unit (to == unit.address) unit.half_pair
-bank_stays refuses unit (AskDtr0 to) quiet = refl
-bank_stays refuses unit (AskDtr1 to) quiet = refl
-bank_stays refuses unit (AskDtr2 to) quiet = refl
-bank_stays refuses unit (Read to) quiet = read_banks (record unit { half_pair = false }) (to == unit.address) (has_bank unit.dtr1) _
-bank_stays refuses unit (Other w) quiet = refl
 
 -- the unit hears the frame or not
 abbrev hears : Bool → Bool → UnitState → Frame → UnitState

@@ -17,3 +17,5 @@ pub mod Walks
 pub mod Touches
 pub mod Guards
 pub mod Doubts
+pub mod Misses
+pub mod Successes

@@ -23,7 +23,11 @@ ghost use Rattle.dali_write.specs.declared.step.Step.{Step};
 ghost use Rattle.dali_write.specs.declared.step.Step.TheVariants.{ReadFrom, WriteTo};
 ghost use Rattle.dali_write.specs.Lines.{step_lines};
 ghost use Rattle.dali_write.specs.Tries.{most_tries, Missed, Misses, Succeeds, Fails};
-ghost use Rattle.dali_write.specs.Walks.{Took, TookAll, Failed};
+ghost use Rattle.dali_write.specs.Walks.{Walk, misses_of, Took, TookAll, Failed};
+ghost use Rattle.dali_write.specs.Misses.{misses_in};
+ghost use Rattle.dali_write.specs.Successes.{TakesAll, found_verdict, Spared, MissesByLosses};
+ghost use Rattle.dali_bank.specs.Order.{RisesAbove};
+ghost use Rattle.dali_gear.specs.Faults.{IsBank};
 ghost use Rattle.dali_write.specs.Doubts.{read_backs, FoundAnother};
 ghost use Rattle.dali_write.specs.Losses.{SimRun, losses, Unrefused, IsAlone, CanDo, OnlyDiffers};
 ghost use Rattle.dali_write.specs.Touches.{Touches, writes_of};
@@ -237,4 +241,26 @@ pub fn wants_are_determined()
 /// Each frame that a session was told of was the one that it wanted.
 pub fn each_frame_was_wanted()
     ensures { (told : List Exchange) (x : Exchange) (unit : ℕ) (plan : Plan) (ask : Ask) → Wants unit plan (x ∷ told) ask → Wants unit plan told (Ask.Send x.frame) }
+{}
+
+/// The misses among exchanges are those of the tries of the session's steps.
+pub fn misses_are_those_of_the_tries()
+    ensures { (unit : ℕ) (plan : Plan) (outcomes : List (Option ℕ)) (told : List Exchange) (end : Plan) (walk : Walk unit plan outcomes told end)
+        → misses_in told ≡ misses_of unit plan outcomes told end walk }
+{}
+
+/// On the simulated bus, where no fate refuses, no other unit is write-enabled and the unit loses
+/// less than a step has tries, each session comes to its good end, and misses no more often than
+/// the unit loses: a fresh one ends as the bytes of bank 1 say, an opened one as `Done` if each of
+/// its locations is there and none is fixed, and a closing one as `Closed`.
+pub fn spared_sessions_succeed()
+    ensures fresh { (at : ℕ) (unit : UnitState) (updates : List (ℕ × ℕ)) (verdict : Verdict) (told : List Exchange) (first last : SimState) (spared : Spared at unit told first last)
+        → IsBank unit.bank1.bytes → Wants at (read_length updates) told (Ask.Ended verdict)
+        → (verdict ≡ found_verdict unit.bank1.bytes updates) × MissesByLosses at unit told first last spared }
+    ensures opened { (at : ℕ) (unit : UnitState) (updates : List (ℕ × ℕ)) (verdict : Verdict) (told : List Exchange) (first last : SimState) (spared : Spared at unit told first last)
+        → IsBank unit.bank1.bytes → RisesAbove 0 updates → TakesAll unit.bank1 updates → Wants at (unlock updates) told (Ask.Ended verdict)
+        → (verdict ≡ Verdict.Done) × MissesByLosses at unit told first last spared }
+    ensures closing { (at : ℕ) (unit : UnitState) (verdict : Verdict) (told : List Exchange) (first last : SimState) (spared : Spared at unit told first last)
+        → IsBank unit.bank1.bytes → Wants at (close Verdict.Closed Verdict.NotClosed) told (Ask.Ended verdict)
+        → (verdict ≡ Verdict.Closed) × MissesByLosses at unit told first last spared }
 {}

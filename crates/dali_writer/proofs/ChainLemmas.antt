@@ -29,6 +29,12 @@ onto_stop start w trace mid new entry one two d =
     onto start w mid new Stopped two
     (subst (λ (t : List Happening). Describes start (Stopped ∷ t) w) (sym (ap reverse one ∙ reverse-append trace (Kept entry ∷ []))) d)
 
+-- the same of whatever is so of the happenings
+pub all_onto_stop : (P : List Happening → Type 0) (trace mid new : List Happening) (entry : Record) → mid ≡ trace ++ Kept entry ∷ [] → new ≡ mid ++ Stopped ∷ []
+    → P (Stopped ∷ Kept entry ∷ reverse trace) → P (reverse new)
+all_onto_stop P trace mid new entry one two so =
+    subst P (sym (ap reverse two ∙ reverse-append mid (Stopped ∷ []) ∙ ap (λ (t : List Happening). Stopped ∷ t) (ap reverse one ∙ reverse-append trace (Kept entry ∷ [])))) so
+
 module _ {S : Type 0} (world : S → World) (step : S → BusEvent → S → Type 0) where
   -- a chain before anything happens
   pub starts : (first : S) → Chain (MovesBy step) first [] first

@@ -311,7 +311,7 @@ ready_closed journal new order s ready records limit room = (
 )
 
 -- the same of whatever phase wants a record to be kept
-same_entry : (entry wanted : Record) → Keep entry ≡ Keep wanted → entry ≡ wanted
+pub same_entry : (entry wanted : Record) → Keep entry ≡ Keep wanted → entry ≡ wanted
 same_entry entry wanted e = cc
 
 pub keeps_begun : (start : Start) (past : List Happening) (journal new : JournalState) (old : Phase) (order : Contents) (s : Session) (entry : Record)
@@ -347,7 +347,7 @@ keeps_written start past journal new old order s verdict entry at d ready want a
     rw (← same_entry (Ended (write_code verdict)) entry wanted) (written_on start past journal new order s verdict before stood aim records limit)
 
 -- a closing session is followed by a record only where it ended as Closed
-closing_keeps : (id unit : ℕ) (ask : Ask) (entry : Record) → closing_of id unit ask ≡ Keep entry → (ask ≡ asks.Ended verdicts.Closed) × (Closed unit ≡ entry)
+pub closing_keeps : (id unit : ℕ) (ask : Ask) (entry : Record) → closing_of id unit ask ≡ Keep entry → (ask ≡ asks.Ended verdicts.Closed) × (Closed unit ≡ entry)
 closing_keeps id unit (asks.Send frame) entry e = cc
 closing_keeps id unit (asks.Ended verdicts.Closed) entry e = (refl, same_entry (Closed unit) entry e)
 closing_keeps id unit (asks.Ended verdicts.MayOpen) entry e = cc

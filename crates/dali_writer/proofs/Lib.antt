@@ -17,6 +17,13 @@ pub mod EndingLemmas
 pub mod StepLemmas
 pub mod SayLemmas
 pub mod KeepLemmas
+pub mod FollowLemmas
+pub mod CourseLemmas
+pub mod WorkLemmas
+pub mod SparedLemmas
+pub mod ValidLemmas
+pub mod OnsetLemmas
+pub mod StepsLemmas
 pub mod SubmitLemmas
 pub mod ChainLemmas
 pub mod PartsLemmas

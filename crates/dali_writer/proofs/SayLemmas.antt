@@ -59,24 +59,24 @@ said start past journal phase id reply d saying may = record {
   place = all_said past id reply saying d.finished;
 }
 
-no_check : {A : Type 0} (unit id : ℕ) (ask : Ask) (reply : Reply) → check_of unit ask ≡ Say id reply → A
+pub no_check : {A : Type 0} (unit id : ℕ) (ask : Ask) (reply : Reply) → check_of unit ask ≡ Say id reply → A
 no_check unit id (asks.Send frame) reply e = cc
 no_check unit id (asks.Ended verdicts.MayOpen) reply e = cc
 no_check unit id (asks.Ended verdict) reply e = cc
 
-no_write : {A : Type 0} (id : ℕ) (ask : Ask) (reply : Reply) → write_of ask ≡ Say id reply → A
+pub no_write : {A : Type 0} (id : ℕ) (ask : Ask) (reply : Reply) → write_of ask ≡ Say id reply → A
 no_write id (asks.Send frame) reply e = cc
 no_write id (asks.Ended verdict) reply e = cc
 
 -- how a closing session ended that leaves the order blocked
-record Blocks (order unit id : ℕ) (ask : Ask) (reply : Reply) : Type 0 where
-  verdict : Verdict
-  ended : ask ≡ asks.Ended verdict
-  other : verdict ≡ verdicts.Closed → ⊥
-  number : order ≡ id
-  blocked : replies.Blocked unit ≡ reply
+pub record Blocks (order unit id : ℕ) (ask : Ask) (reply : Reply) : Type 0 where
+  pub verdict : Verdict
+  pub ended : ask ≡ asks.Ended verdict
+  pub other : verdict ≡ verdicts.Closed → ⊥
+  pub number : order ≡ id
+  pub blocked : replies.Blocked unit ≡ reply
 
-blocks : (order unit id : ℕ) (ask : Ask) (reply : Reply) → closing_of order unit ask ≡ Say id reply → Blocks order unit id ask reply
+pub blocks : (order unit id : ℕ) (ask : Ask) (reply : Reply) → closing_of order unit ask ≡ Say id reply → Blocks order unit id ask reply
 blocks order unit id (asks.Send frame) reply e = cc
 blocks order unit id (asks.Ended verdicts.Closed) reply e = cc
 blocks order unit id (asks.Ended verdicts.MayOpen) reply e = record { verdict = verdicts.MayOpen; ended = refl; other = λ same. cc; number = cc; blocked = cc }
@@ -90,7 +90,7 @@ blocks order unit id (asks.Ended verdicts.NotClosed) reply e = record { verdict 
 blocks order unit id (asks.Ended verdicts.Read) reply e = record { verdict = verdicts.Read; ended = refl; other = λ same. cc; number = cc; blocked = cc }
 
 -- a closing session that isn't closed ends as NotClosed
-not_closed : (verdict : Verdict) → EndsClosing verdict → (verdict ≡ verdicts.Closed → ⊥) → verdict ≡ verdicts.NotClosed
+pub not_closed : (verdict : Verdict) → EndsClosing verdict → (verdict ≡ verdicts.Closed → ⊥) → verdict ≡ verdicts.NotClosed
 not_closed verdicts.Closed ends other = absurd (other refl)
 not_closed verdicts.NotClosed ends other = refl
 not_closed _ ends other = absurd ends

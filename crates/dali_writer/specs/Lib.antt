@@ -16,5 +16,11 @@ pub mod Phases
 pub mod Held
 pub mod Inside
 pub mod Describes
+pub mod ByPlan
+pub mod Follows
+pub mod Course
+pub mod Work
+pub mod Spared
+pub mod Steps
 pub mod WorkLeft
 pub mod Worked

@@ -1,5 +1,5 @@
 -- What is promised of a run over a bus.
-use Rattle.std.specs.Prelude.{◌≡◌, ℕ, List, [], ◌∷◌, reverse}
+use Rattle.std.specs.Prelude.{◌≡◌, ℕ, List, [], ◌∷◌, ◌++◌, reverse}
 use Rattle.dali_frame.specs.Frame.{IsProper}
 use Rattle.dali_gear.specs.World.{World}
 use Rattle.dali_gear.specs.Carry.{BusEvent}
@@ -9,9 +9,13 @@ use Rattle.dali_journal.specs.JournalState.{IsLimit}
 use Rattle.dali_journal.specs.Spelling.{journal_spelling}
 use Rattle.dali_writer.specs.declared.happening.Event.{Event}
 use Rattle.dali_writer.specs.declared.happening.Happening.{Happening}
-use Rattle.dali_writer.specs.declared.happening.Happening.TheVariants.{Sent}
+use Rattle.dali_writer.specs.declared.happening.Happening.TheVariants.{Asked, Sent}
+use Rattle.dali_bank.specs.Order.{AreUpdates}
 use Rattle.dali_writer.specs.Trace.{Start, records_of}
 use Rattle.dali_writer.specs.Legal.{Legal, IsFinished}
+use Rattle.dali_writer.specs.ByPlan.{ByPlan}
+use Rattle.dali_writer.specs.Work.{IsWorked}
+use Rattle.dali_writer.specs.Steps.{SaysInTime}
 use Rattle.dali_writer.specs.Parts.{AreParts}
 use Rattle.dali_writer.specs.Taken.{begun_orders, taken_orders}
 use Rattle.dali_writer.specs.Moves.{MovesBy}
@@ -38,6 +42,16 @@ abbrev pub SendsAllProper : List Happening → Type 0
 SendsAllProper [] = Unit {0}
 SendsAllProper (newest ∷ past) = SendsProper newest × SendsAllProper past
 
+-- an order that was asked for holds what an order may hold
+abbrev pub AsksProper : Happening → Type 0
+AsksProper (Asked order) = AreUpdates order.updates
+AsksProper other = Unit {0}
+
+-- and so does each of a trace
+abbrev pub AsksAllProper : List Happening → Type 0
+AsksAllProper [] = Unit {0}
+AsksAllProper (newest ∷ past) = AsksProper newest × AsksAllProper past
+
 -- What a run of these events is, from the first state of a bus to the last: its trace, the oldest happening first, and the journal's bytes.
 pub record IsRun {S : Type 0} (world : S → World) (step : S → BusEvent → S → Type 0) (limit : ℕ) (all : List Event) (first : S) (trace : List Happening) (journal : List ℕ) (last : S) : Type 0 where
   pub limited : IsLimit limit
@@ -45,6 +59,11 @@ pub record IsRun {S : Type 0} (world : S → World) (step : S → BusEvent → S
   pub legal : Legal (fresh limit) (reverse trace)
   pub finished : IsFinished (reverse trace)
   pub proper : SendsAllProper (reverse trace)
+  pub orders : AsksAllProper (reverse trace)
+  -- each frame, record and saying is what the plan of the session at hand asks for, and so an order takes no more work than its limit, and is said in time
+  pub planned : ByPlan (fresh limit) (reverse trace)
+  pub worked : IsWorked (fresh limit) (reverse trace)
+  pub said : (newer older : List Event) → reverse all ≡ newer ++ older → SaysInTime (fresh limit) newer older (reverse trace)
   -- the trace is the joined parts of the events
   pub parts : AreParts (fresh limit) (reverse all) (reverse trace)
   -- the journal's bytes are those of the records that were kept, and its orders are the taken ones

@@ -1,6 +1,16 @@
 //! Laws of a writer, over its definitions alone. Each is the contract of a function that does nothing.
 
+ghost use Rattle.std.specs.Prelude.{◌≡◌, ◌+◌, ◌*◌, ◌<◌, ◌≤◌, ℕ, List, length};
+ghost use Rattle.dali_journal.specs.declared.standing.Standing.TheVariants as standings;
+ghost use Rattle.dali_write.specs.Plans.{greatest};
+ghost use Rattle.dali_writer.specs.Work.{work_limit, frames_from};
+ghost use Rattle.dali_writer.specs.declared.happening.Happening.{Happening};
 ghost use Rattle.dali_writer.specs.WhenKept.{WhenKept};
+ghost use Rattle.dali_writer.specs.Trace.{Start};
+ghost use Rattle.dali_writer.specs.Legal.{Legal, IsFinished};
+ghost use Rattle.dali_writer.specs.Steps.{IsSaidInTime};
+ghost use Rattle.dali_writer.specs.ByPlan.{ByPlan};
+ghost use Rattle.dali_writer.specs.Work.{IsWorked};
 ghost use Rattle.dali_writer.specs.Law.{Always, FitsAt, OnlyNamedAt, AppliedAt, RecordsAreASentence, TakenOrdersAreKept, OneReplyIsDue, RepeatsAreAnswered, RepeatsAreQuiet, QuietUntilTaken};
 
 /// Along every chain of worlds of every legal trace, from a world that fits the start world and the
@@ -45,4 +55,24 @@ pub fn repeats_are_answered_by_what_is_kept()
 /// Where nothing is at work, no frame is sent and no record kept until an order is taken, stops included.
 pub fn nothing_is_done_until_an_order_is_taken()
     ensures { QuietUntilTaken }
+{}
+
+/// Along a legal trace that keeps to the plans: from a start of an order on, no more frames are sent than its limit and at
+/// most four records kept, and what is said of it comes after as many frames and misses as it must.
+pub fn planned_work_is_limited()
+    ensures { (start : Start) (past : List Happening) → Legal start past → ByPlan start past → IsWorked start past }
+{}
+
+/// With the same premises: wherever an order is at hand, it is said in what so many steps add, with no stop among them.
+pub fn orders_are_said_in_time()
+    ensures { (start : Start) (before past : List Happening) → Legal start past → ByPlan start past → IsFinished before → IsSaidInTime start before past }
+{}
+
+/// The limit, and the frames of an order that is done: where it starts anew, with or without a left unit, and where it was
+/// opened.
+pub fn limits_are_these()
+    ensures limit { (updates : ℕ) → work_limit updates ≡ 96 * updates + 464 }
+    ensures low { (updates : List (ℕ × ℕ)) → greatest updates < 0x13 → frames_from standings.Idle updates ≡ 12 * length updates + 24 }
+    ensures high { (updates : List (ℕ × ℕ)) → 0x13 ≤ greatest updates → frames_from standings.Idle updates ≡ 12 * length updates + 34 }
+    ensures left { (unit : ℕ) (updates : List (ℕ × ℕ)) → frames_from (standings.Left unit) updates ≡ frames_from standings.Idle updates + 12 }
 {}

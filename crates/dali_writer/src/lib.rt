@@ -13,5 +13,5 @@ mod writer;
 
 pub use fault::RunFault;
 pub use happening::{Event, Happening, Reply, Want};
-pub use runs::{Outcome, run};
+pub use runs::{Outcome, run, run_sim};
 pub use writer::Writer;

@@ -1,4 +1,4 @@
-ghost use Rattle.std.specs.Prelude.{◌≡◌, ◌↔◌, ◌∷◌, ◌≤◌, [], ℕ, List, length, reverse, take, is_some, IfSome, IsNone, IfOk, OnOk, OnErr, IfErr, Err};
+ghost use Rattle.std.specs.Prelude.{◌≡◌, ◌↔◌, ◌∷◌, ◌++◌, ◌≤◌, [], ℕ, List, length, reverse, take, is_some, IfSome, IsNone, IfOk, OnOk, OnErr, IfErr, Err};
 ghost use Rattle.dali_journal.specs.Spelling.{spelling, journal_spelling};
 ghost use Rattle.dali_journal.specs.JournalState.{IsLimit};
 ghost use Rattle.dali_gear.specs.Chain.{Chain};
@@ -10,22 +10,27 @@ ghost use Rattle.dali_writer.specs.Legal.{Legal, IsFinished};
 ghost use Rattle.dali_writer.specs.Parts.{IsWork, Part, AreParts};
 ghost use Rattle.dali_writer.specs.Taken.{taken_orders, begun_orders};
 ghost use Rattle.dali_writer.specs.Moves.{MovesBy};
-ghost use Rattle.dali_writer.specs.Runs.{fresh, IsRun, LeadsRight, SendsProper, SendsAllProper};
+ghost use Rattle.dali_writer.specs.Runs.{fresh, IsRun, LeadsRight, SendsProper, SendsAllProper, AsksProper, AsksAllProper};
 ghost use Rattle.dali_writer.specs.Describes.{Describes};
+ghost use Rattle.dali_writer.specs.Follows.{Follows};
+ghost use Rattle.dali_writer.specs.Spared.{IsSimRun};
+ghost use Rattle.dali_gear.specs.SimState.{SimStep, world_of};
 
 use crate::fault::RunFault;
 use crate::happening::{Event, Happening, Want};
 use crate::writer::Writer;
-use dali_gear::Bus;
+use dali_gear::{Bus, SimBus};
 use dali_journal::{Journal, Record};
 use std::alloc::Global;
 
 // Does once what the writer wants, if it wants something.
 fn advance<B: Bus>(bus: &mut B, writer: &mut Writer) -> Option<Happening>
     ensures described { IfSome result (λ happening. (start : Start) (past : List Happening) → Describes start past writer.old → Describes start (happening ∷ past) writer.new) }
+    ensures follows { IfSome result (λ happening. (start : Start) (past : List Happening) → Describes start past writer.old → Follows start past writer.old → Follows start (happening ∷ past) writer.new) }
     ensures moves { IfSome result (λ happening. MovesBy B.step bus.old happening bus.new) }
     ensures work { IfSome result (λ happening. IsWork happening) }
     ensures proper { IfSome result (λ happening. SendsProper happening) }
+    ensures orders { IfSome result (λ happening. AsksProper happening) }
     ensures busy { (start : Start) (past : List Happening) → Describes start past writer.old → is_busy start past ≡ is_some result }
     ensures writer { IsNone result → writer.new ≡ writer.old }
     ensures bus { IsNone result → bus.new ≡ bus.old }
@@ -52,6 +57,7 @@ fn advance<B: Bus>(bus: &mut B, writer: &mut Writer) -> Option<Happening>
 // but all do.
 fn keep_within(writer: &mut Writer, bytes: u16) -> Option<Record>
     ensures described { IfSome result (λ entry. (start : Start) (past : List Happening) → Describes start past writer.old → Describes start (happenings.Kept entry ∷ past) writer.new) }
+    ensures follows { IfSome result (λ entry. (start : Start) (past : List Happening) → Describes start past writer.old → Follows start past writer.old → Follows start (happenings.Kept entry ∷ past) writer.new) }
     ensures few { IfSome result (λ entry. length (spelling entry) ≤ bytes) }
     ensures none { IsNone result → writer.new ≡ writer.old }
 {
@@ -76,11 +82,13 @@ fn serve<B: Bus>(
     event: &Event,
 ) -> Result<(), RunFault>
     ensures described { (start : Start) → Describes start (reverse trace.old.items) writer.old → Describes start (reverse trace.new.items) writer.new }
+    ensures follows { (start : Start) → Describes start (reverse trace.old.items) writer.old → Follows start (reverse trace.old.items) writer.old → Follows start (reverse trace.new.items) writer.new }
     ensures part { OnOk result ((start : Start) → Describes start (reverse trace.old.items) writer.old
         → Part start event.now (reverse trace.old.items) (reverse trace.new.items)) }
     ensures err { OnErr result (trace.new.items ≡ trace.old.items) }
     ensures fault { IfErr result (λ fault. fault ≡ faults.NoMemory) }
     ensures proper { SendsAllProper (reverse trace.old.items) → SendsAllProper (reverse trace.new.items) }
+    ensures orders { AsksAllProper (reverse trace.old.items) → AsksAllProper (reverse trace.new.items) }
     ensures leads { (first : B) → Chain (MovesBy B.step) first (reverse trace.old.items) bus.old → Chain (MovesBy B.step) first (reverse trace.new.items) bus.new }
 {
     trace.reserve(2)?;
@@ -150,4 +158,22 @@ pub fn run<B: Bus>(
         journal: writer.journal().to_bytes(alloc)?,
         trace,
     })
+}
+
+/// Serves the events as `run` does, over a simulated bus (profile).
+///
+/// Faults as of `run`.
+pub fn run_sim(
+    alloc: Global,
+    bus: &mut SimBus,
+    limit: u32,
+    events: &[Event],
+) -> Result<Outcome, RunFault>
+    ensures ok { IfOk result (λ outcome. IsSimRun limit events.now bus.old outcome.trace.items outcome.journal.items bus.new) }
+    ensures limit { (result ≡ Err faults.Limit) ↔ (¬ IsLimit limit) }
+    ensures untouched { result ≡ Err faults.Limit → bus.new ≡ bus.old }
+    ensures err { OnErr result ((past : List Happening) × (served : ℕ) × AreParts (fresh limit) (reverse (take served events.now)) past × Legal (fresh limit) past
+        × LeadsRight (λ state. world_of state.units) SimStep limit bus.old past bus.new) }
+{
+    run(alloc, bus, limit, events)
 }

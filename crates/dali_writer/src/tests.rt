@@ -1,4 +1,5 @@
 mod bench;
 mod case;
 mod gtin;
+mod losses;
 mod worked;

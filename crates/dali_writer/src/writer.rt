@@ -16,6 +16,7 @@ ghost use Rattle.dali_writer.specs.Replies.{IsNotEnded, IsKnownReply, IsReply};
 ghost use Rattle.dali_writer.specs.Held.{IsFirst, IsAtRest};
 ghost use Rattle.dali_writer.specs.WorkLeft.{work_left};
 ghost use Rattle.dali_writer.specs.Describes.{Describes};
+ghost use Rattle.dali_writer.specs.Follows.{Follows};
 
 use crate::happening::{Reply, Want};
 use crate::phase::{Phase, after_check, check_record, resumed_phase, write_code};
@@ -51,6 +52,7 @@ impl Writer {
     /// one that was opened is carried out anew, and a unit that was left stays left.
     pub fn new(journal: Journal) -> Writer
         ensures described { (start : Start) → start.records ≡ journal.records → start.limit ≡ journal.limit → Describes start [] result }
+        ensures follows { (start : Start) → Follows start [] result }
         ensures journal { result.journal ≡ journal }
         ensures rest { IsAtRest result }
     {
@@ -60,7 +62,8 @@ impl Writer {
 
     // A stop: all is lost but the journal.
     pub(crate) fn stop(&mut self)
-        ensures { (start : Start) (past : List Happening) → Describes start past self.old → Describes start (happenings.Stopped ∷ past) self.new }
+        ensures described { (start : Start) (past : List Happening) → Describes start past self.old → Describes start (happenings.Stopped ∷ past) self.new }
+        ensures follows { (start : Start) (past : List Happening) → Follows start past self.old → Follows start (happenings.Stopped ∷ past) self.new }
     {
         self.phase = resumed_phase(self.journal.standing());
     }
@@ -92,6 +95,8 @@ impl Writer {
     pub fn submit(&mut self, order: Order) -> Result<Reply, NoMemory>
         ensures described { IfOk result (λ reply. (start : Start) (past : List Happening) → Describes start past self.old
             → Describes start (happenings.Answered order.id reply ∷ happenings.Asked order ∷ past) self.new) }
+        ensures follows { IfOk result (λ reply. (start : Start) (past : List Happening) → Follows start past self.old
+            → Follows start (happenings.Answered order.id reply ∷ happenings.Asked order ∷ past) self.new) }
         ensures only_taken { IfOk result (λ reply. (reply ≡ replies.Taken) ⊎ (self.new ≡ self.old)) }
         ensures unchanged { OnErr result ((self.new.phase ≡ self.old.phase) × (self.new.journal.records ≡ self.old.journal.records) × (self.new.journal.limit ≡ self.old.journal.limit)) }
         ensures due { OnErr result ((start : Start) (past : List Happening) → Describes start past self.old → IsReply start past order replies.Taken) }
@@ -119,6 +124,8 @@ impl Writer {
         ensures falls { work_left self.new.phase < work_left self.old.phase }
         ensures described { (start : Start) (past : List Happening) (entry : Record) → want_of self.old.phase ≡ Want.Keep entry
             → Describes start past self.old → Describes start (happenings.Kept entry ∷ past) self.new }
+        ensures follows { (start : Start) (past : List Happening) (entry : Record) → want_of self.old.phase ≡ Want.Keep entry
+            → Describes start past self.old → Follows start past self.old → Follows start (happenings.Kept entry ∷ past) self.new }
     {
         match mem::replace(&mut self.phase, Phase::Idle) {
             Phase::Begins(order) => {
@@ -156,6 +163,8 @@ impl Writer {
         ensures falls { work_left self.new.phase < work_left self.old.phase }
         ensures described { (start : Start) (past : List Happening) (frame : Frame) → want_of self.old.phase ≡ Want.Send frame
             → Describes start past self.old → Describes start (happenings.Sent frame answer ∷ past) self.new }
+        ensures follows { (start : Start) (past : List Happening) (frame : Frame) → want_of self.old.phase ≡ Want.Send frame
+            → Describes start past self.old → Follows start past self.old → Follows start (happenings.Sent frame answer ∷ past) self.new }
     {
         match &mut self.phase {
             Phase::Checks(_, session) => session.heard(answer),
@@ -175,6 +184,8 @@ impl Writer {
         ensures falls { work_left self.new.phase < work_left self.old.phase }
         ensures described { (start : Start) (past : List Happening) (id : ℕ) (reply : Reply) → want_of self.old.phase ≡ Want.Say id reply
             → Describes start past self.old → Describes start (happenings.Answered id reply ∷ past) self.new }
+        ensures follows { (start : Start) (past : List Happening) (id : ℕ) (reply : Reply) → want_of self.old.phase ≡ Want.Say id reply
+            → Describes start past self.old → Follows start past self.old → Follows start (happenings.Answered id reply ∷ past) self.new }
     {
         self.phase = Phase::Idle;
     }

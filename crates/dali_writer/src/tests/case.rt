@@ -1,4 +1,4 @@
-use crate::{Event, Happening, Outcome, Reply, RunFault, run};
+use crate::{Event, Happening, Outcome, Reply, RunFault, run_sim};
 use dali_bank::{BLANK, Order};
 use dali_frame::Frame;
 use dali_gear::{Fate, GearFault, SimBus, Unit};
@@ -165,10 +165,10 @@ pub(crate) fn run_case(
     case: &Case<'_>,
 ) -> Result<Outcome, RunFault> {
     let events = events_of(alloc, case.deeds)?;
-    run(alloc, bus, case.limit, &events)
+    run_sim(alloc, bus, case.limit, &events)
 }
 
-fn frames_of(trace: &[Happening]) -> usize {
+pub(crate) fn frames_of(trace: &[Happening]) -> usize {
     let mut frames: usize = 0;
     for happening in trace {
         if matches!(happening, Happening::Sent(_, _)) {
@@ -239,4 +239,12 @@ pub(crate) fn judge(rt: &impl Abort, alloc: Global, case: &Case<'_>) -> Result<(
         assert!(rt; unit.bank2().starts_with(&BANK_2), "{name}");
     }
     Ok(())
+}
+
+// Whether the last happening is this answer.
+pub(crate) fn ends(trace: &[Happening], reply: Reply) -> bool {
+    match trace.last() {
+        Some(Happening::Answered(_, last)) => *last == reply,
+        _ => false,
+    }
 }

@@ -5,10 +5,13 @@ use Rattle.dali_journal.specs.Spelling.{journal_spelling}
 use Rattle.dali_gear.specs.Chain.{Chain}
 use Rattle.dali_writer.specs.Moves.{MovesBy}
 use Rattle.dali_writer.specs.Runs.{fresh}
+use Rattle.dali_writer.specs.Parts.{AreParts}
 use Rattle.dali_writer.specs.Describes.{Describes}
 use Rattle.dali_writer.proofs.ChainLemmas.{starts, right}
 use Rattle.dali_writer.proofs.TakenLemmas.{taken_from_none}
-use Rattle.dali_writer.proofs.PartsLemmas.{more_parts}
+use Rattle.dali_writer.proofs.PartsLemmas.{more_parts, all_parts}
+use Rattle.dali_writer.proofs.WorkLemmas.{worked}
+use Rattle.dali_writer.proofs.StepsLemmas.{says_in_time}
 use Rattle.dali_writer.proofs.runs.run.Goals as goal
 
 pub returns-in_default-clause-err : goal.returns-in_default-clause-err
@@ -23,8 +26,10 @@ returns-in_default-clause-err g c = (
 pub loop-event-init : goal.loop-event-init
 loop-event-init g c = rw c.new-trace.ensures.items (record {
   described = c.new-writer.ensures.described (fresh c.args.limit) (sym c.in-Ok.ensures.ok.0) (sym c.in-Ok.ensures.ok.1);
+  follows = c.new-writer.ensures.follows (fresh c.args.limit);
   parts = refl;
   proper = tt;
+  orders = tt;
   chain = starts g.B.Bus.world g.B.Bus.step c.args.bus.now;
 })
 
@@ -43,8 +48,10 @@ returns-in_err-serve-clause-err g c =
 pub loop-event-preserved : goal.loop-event-preserved
 loop-event-preserved g c = record {
   described = c.serve.ensures.described _ c.loop-event.invariant.described;
+  follows = c.serve.ensures.follows _ c.loop-event.invariant.described c.loop-event.invariant.follows;
   parts = more_parts (fresh c.args.limit) _ _ _ _ _ c.loop-event-test.true c.loop-event.invariant.parts (rw c.event-item.is at (c.in_ok-serve.ensures.part _ c.loop-event.invariant.described));
   proper = c.serve.ensures.proper c.loop-event.invariant.proper;
+  orders = c.serve.ensures.orders c.loop-event.invariant.orders;
   chain = c.serve.ensures.leads _ c.loop-event.invariant.chain;
 }
 
@@ -67,6 +74,14 @@ returns-clause-ok g c =
       legal = at.described.legal;
       finished = at.described.finished;
       proper = at.proper;
+      orders = at.orders;
+      planned = at.follows.planned;
+      worked = worked (fresh c.args.limit) (reverse c.loop-event.trace.items) at.described.legal at.follows.planned;
+      said =
+          let parts : AreParts (fresh c.args.limit) (reverse c.args.events.now) (reverse c.loop-event.trace.items) =
+          all_parts (fresh c.args.limit) c.args.events.now c.loop-event.event-index (reverse c.loop-event.trace.items) c.loop-event-test.false at.parts in
+          λ newer older same.
+          says_in_time (fresh c.args.limit) (reverse c.args.events.now) newer older (reverse c.loop-event.trace.items) at.described.legal at.follows.planned parts same;
       parts = rw all at at.parts;
       journal_is = c.in_ok-to_bytes.ensures ∙ ap journal_spelling (ap (λ j. j.records) c.journal.ensures ∙ sym at.described.same);
       taken = taken_from_none (fresh c.args.limit) (reverse c.loop-event.trace.items) refl at.described.legal;

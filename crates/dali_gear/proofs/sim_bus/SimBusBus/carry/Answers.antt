@@ -1,14 +1,17 @@
 use Rattle.std.proofs.Common.{◌≡◌, ◌++◌, arith, take, drop, length}
 use Rattle.dali_gear.proofs.SimLemmas.{written_back, AreApart-map}
 use Rattle.dali_gear.proofs.sim_bus.SimBusBus.carry.Goals as goal
-use Rattle.dali_gear.specs.SimState.{AreApart}
+use Rattle.dali_gear.proofs.BankLemmas.{banks_after}
+use Rattle.dali_gear.specs.SimState.{AreApart, AreBanks}
 
 pub invariant_of-self : goal.invariant_of-self
 invariant_of-self c =
     let lent : c.deref_mut.result.now ≡ c.self.inside.units.items = c.deref_mut.ensures.value in
-    let before : AreApart c.deref_mut.result.now = rw lent c.self.invariant in
+    let before : AreApart c.deref_mut.result.now × AreBanks c.deref_mut.result.now = rw lent c.self.invariant in
     let back : take c.self.inside.units.len (c.carry_to-answer.new.units ++ drop (length c.carry_to-answer.new.units) c.self.inside.units.items) ≡ c.carry_to-answer.new.units
     = written_back c.carry_to-answer.new.units c.self.inside.units.items c.self.inside.units.len (omega arith) (omega arith) in
-    let apart : AreApart c.carry_to-answer.new.units
-    = rw c.carry_to-answer.ensures.after (AreApart-map c.take_fate-fate.result c.args.frame.now c.deref_mut.result.now before) in
-    rw back apart
+    let after : AreApart c.carry_to-answer.new.units × AreBanks c.carry_to-answer.new.units
+    = rw c.carry_to-answer.ensures.after
+    (AreApart-map c.take_fate-fate.result c.args.frame.now c.deref_mut.result.now before.0,
+    banks_after c.take_fate-fate.result c.args.frame.now c.deref_mut.result.now before.1) in
+    rw back after

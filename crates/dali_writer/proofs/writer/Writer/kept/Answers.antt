@@ -1,5 +1,6 @@
 use Rattle.std.proofs.Common.{sym}
 use Rattle.dali_writer.proofs.KeepLemmas.{ready_checked, ready_written, ready_closed, check_falls, keeps_begun, keeps_checked, keeps_written, keeps_closed}
+use Rattle.dali_writer.proofs.FollowLemmas.{begun_follows, checked_follows, written_follows, closed_follows}
 use Rattle.dali_writer.proofs.writer.Writer.kept.Goals as goal
 
 pub invariant_of-self-in-Ended : goal.invariant_of-self-in-Ended
@@ -50,3 +51,25 @@ returns-in-Closes-clause-described c = λ start past entry want d.
 pub returns-in-Ended-clause-falls : goal.returns-in-Ended-clause-falls
 returns-in-Ended-clause-falls c = rw (← c.self.view_is)
     (check_falls c.in-Checks.order c.in-Checks.session c.in-Ended.verdict c.self.inside.phase c.after_check-self-inside.result c.in-Checks.ensures.value c.after_check-self-inside.ensures)
+
+pub returns-in-Begins-clause-follows : goal.returns-in-Begins-clause-follows
+returns-in-Begins-clause-follows c = λ start past entry want d f.
+    begun_follows start past c.self.inside.journal c.append.new.self c.self.inside.phase c.in-Begins.order c.fresh-session.result entry
+    c.in-Begins.ensures.value (rw (← c.self.view_is) at f) (rw (← c.self.view_is) at want) c.fresh-session.ensures.told
+
+pub returns-in-Ended-clause-follows : goal.returns-in-Ended-clause-follows
+returns-in-Ended-clause-follows c = λ start past entry want d f.
+    checked_follows start past c.self.inside.journal c.append-in-Ended.new.self c.self.inside.phase c.in-Checks.order c.in-Checks.session c.in-Ended.verdict
+    c.after_check-self-inside.result entry c.in-Checks.ensures.value (rw (← c.self.view_is) at d) (rw (← c.self.view_is) at f) c.self.invariant.ready (rw (← c.self.view_is) at want)
+    (sym c.in-Ended.ensures.aim) c.after_check-self-inside.ensures
+
+pub returns-in-Ended-want-clause-follows : goal.returns-in-Ended-want-clause-follows
+returns-in-Ended-want-clause-follows c = λ start past entry want d f.
+    rw (c.id.ensures, c.write_code-code.ensures) (written_follows start past c.self.inside.journal c.append-in-Ended-want.new.self c.self.inside.phase c.in-Writes.order c.in-Writes.session
+    c.in-Ended-want.verdict entry c.in-Writes.ensures.value (rw (← c.self.view_is) at d) (rw (← c.self.view_is) at f) c.self.invariant.ready (rw (← c.self.view_is) at want)
+    (sym c.in-Ended-want.ensures.aim))
+
+pub returns-in-Closes-clause-follows : goal.returns-in-Closes-clause-follows
+returns-in-Closes-clause-follows c = λ start past entry want d f.
+    closed_follows start past c.self.inside.journal c.append-in-Closes.new.self c.self.inside.phase c.in-Closes.order c.in-Closes.session entry
+    c.in-Closes.ensures.value (rw (← c.self.view_is) at d) (rw (← c.self.view_is) at f) c.self.invariant.ready (rw (← c.self.view_is) at want)

@@ -1,0 +1,123 @@
+-- The misses among exchanges are those of the tries.
+use Rattle.std.proofs.Common.{◌≡◌, inl, inr, refl, sym, ap, subst, ◌∙◌, ℕ, zero, suc, ◌+◌, ◌*◌, ◌≤◌, Bool, true, false, not, ◌==◌, if◌then◌else◌, List, [], ◌∷◌, ◌++◌, append_assoc, append-nil, length, Option, Some, None, is_some, IsSome, arith}
+use Rattle.std.proofs.lemmas.Bool.{eq-eqb, ne_eqb}
+use Rattle.dali_frame.specs.declared.forward.Frame.{Frame}
+use Rattle.dali_write.specs.Exchanges.{Exchange}
+use Rattle.dali_write.specs.declared.line.Line.{Line}
+use Rattle.dali_write.specs.declared.line.Wish.{Wish}
+use Rattle.dali_write.specs.declared.line.Wish.TheVariants.{Nothing, Exactly, Anything}
+use Rattle.dali_write.specs.declared.step.Step.{Step}
+use Rattle.dali_write.specs.declared.step.Step.TheVariants.{ReadFrom, WriteTo}
+use Rattle.dali_write.specs.declared.ask.Verdict.{Verdict}
+use Rattle.dali_write.specs.Lines.{Meets, line, step_lines}
+use Rattle.dali_write.specs.Frames.{try_frames}
+use Rattle.dali_write.specs.Plans.{Plan, Finish, Check, goes_on}
+use Rattle.dali_write.specs.Tries.{most_tries, Trying, Missed, Misses, StepEnds}
+use Rattle.dali_write.specs.Walks.{Walk, step_misses, misses_of, Took, Failed}
+use Rattle.dali_write.specs.Misses.{location_after, location_in, wish_of, is_missed, misses_in, IsLong}
+
+-- each line wishes what its frame asks for, where DTR0 was set so before the first one
+abbrev Apt : ℕ → List Line → Type 0
+Apt location [] = Unit {0}
+Apt location (next ∷ left) = (next.wish ≡ wish_of next.frame location) × Apt (location_after next.frame location) left
+
+apt_step : (unit : ℕ) (step : Step) (location : ℕ) → Apt location (step_lines unit step)
+apt_step unit (ReadFrom at) location = (refl, (refl, (refl, (refl, (refl, tt)))))
+apt_step unit (WriteTo at byte) location = (refl, (refl, (refl, (refl, (refl, (refl, (refl, tt)))))))
+
+met : (wish : Wish) (answer : Option ℕ) → Meets wish answer → is_missed wish answer ≡ false
+met Nothing answer meets = refl
+met (Exactly byte) None meets = cc
+met (Exactly byte) (Some got) meets = let same : got ≡ byte = cc in rw (eq-eqb got byte same) refl
+met Anything None meets = cc
+met Anything (Some got) meets = refl
+
+unmet : (wish : Wish) (answer : Option ℕ) → ¬ Meets wish answer → is_missed wish answer ≡ true
+unmet Nothing answer missed = absurd (missed tt)
+unmet (Exactly byte) None missed = refl
+unmet (Exactly byte) (Some got) missed = rw (ne_eqb got byte (λ same. missed (ap Some same))) refl
+unmet Anything None missed = refl
+unmet Anything (Some got) missed = absurd (missed refl)
+
+-- one more exchange
+more : (x : Exchange) (told : List Exchange) (wish : Wish) (b : Bool) → wish ≡ wish_of x.frame (location_in told) → is_missed wish x.answer ≡ b
+    → misses_in (x ∷ told) ≡ (if b then 1 else 0) + misses_in told
+more x told wish b same is = rw (← same, is) refl
+
+-- a part of a try has no miss
+trying : (lines : List Line) (tried : List Exchange) (left : List Line) (older : List Exchange) → Apt (location_in older) lines → Trying lines tried left
+    → (misses_in (tried ++ older) ≡ misses_in older) × Apt (location_in (tried ++ older)) left
+trying lines [] left older apt try = (refl, subst (Apt (location_in older)) (sym try) apt)
+trying lines (x ∷ tried) left older apt try =
+    let before = trying lines tried (line x.frame try.0 ∷ left) older apt try.2 in
+    let one = more x (tried ++ older) try.0 false before.1.0 (met try.0 x.answer try.1) in
+    let rest = before.0 in
+    (omega arith, before.1.1)
+
+missed : (lines : List Line) (tried older : List Exchange) → Apt (location_in older) lines → Missed lines tried → misses_in (tried ++ older) ≡ 1 + misses_in older
+missed lines [] older apt ends = absurd ends
+missed lines (x ∷ tried) older apt ends =
+    let before = trying lines tried (line x.frame ends.0 ∷ ends.1) older apt ends.3 in
+    let one = more x (tried ++ older) ends.0 true before.1.0 (unmet ends.0 x.answer ends.2) in
+    let rest = before.0 in
+    omega arith
+
+misses : (unit : ℕ) (step : Step) (count : ℕ) (told older : List Exchange) → Misses (step_lines unit step) count told → misses_in (told ++ older) ≡ count + misses_in older
+misses unit step zero told older are = rw are (omega arith)
+misses unit step (suc count) told older are =
+    let before = misses unit step count are.1 older are.4 in
+    let last = missed (step_lines unit step) are.0 (are.1 ++ older) (apt_step unit step (location_in (are.1 ++ older))) are.3 in
+    let joined = append_assoc are.0 are.1 older in
+    let same : misses_in (told ++ older) ≡ misses_in (are.0 ++ (are.1 ++ older)) = rw are.2 (ap misses_in joined) in
+    omega arith
+
+step_ends : (unit : ℕ) (plan : Plan) (outcome : Option ℕ) (told older : List Exchange) (ends : StepEnds unit plan outcome told)
+    → misses_in (told ++ older) ≡ step_misses unit plan outcome told ends + misses_in older
+step_ends unit (Finish verdict) outcome told older ends = absurd ends
+step_ends unit (Check step after) outcome told older (inl done) =
+    let before = misses unit step done.2 done.1 older done.7 in
+    let last = (trying (step_lines unit step) done.0 [] (done.1 ++ older) (apt_step unit step (location_in (done.1 ++ older))) done.4).0 in
+    let joined = append_assoc done.0 done.1 older in
+    let same : misses_in (told ++ older) ≡ misses_in (done.0 ++ (done.1 ++ older)) = rw done.3 (ap misses_in joined) in
+    omega arith
+step_ends unit (Check step after) outcome told older (inr failed) = misses unit step most_tries told older failed.1
+
+-- the misses of a walk
+pub walk_misses : (unit : ℕ) (plan : Plan) (outcomes : List (Option ℕ)) (told : List Exchange) (end : Plan) (older : List Exchange) (walk : Walk unit plan outcomes told end)
+    → misses_in (told ++ older) ≡ misses_of unit plan outcomes told end walk + misses_in older
+walk_misses unit plan [] told end older walk = rw walk.0 (omega arith)
+walk_misses unit plan (outcome ∷ outcomes) told end older walk =
+    let here = step_ends unit plan outcome walk.1 older walk.3 in
+    let rest = walk_misses unit (goes_on plan outcome) outcomes walk.0 end (walk.1 ++ older) walk.4 in
+    let joined = append_assoc walk.0 walk.1 older in
+    let same : misses_in (told ++ older) ≡ misses_in (walk.0 ++ (walk.1 ++ older)) = rw walk.2 (ap misses_in joined) in
+    omega arith
+
+pub walk_misses_in : (unit : ℕ) (plan : Plan) (outcomes : List (Option ℕ)) (told : List Exchange) (end : Plan) (walk : Walk unit plan outcomes told end)
+    → misses_in told ≡ misses_of unit plan outcomes told end walk
+walk_misses_in unit plan outcomes told end walk =
+    let all = walk_misses unit plan outcomes told end [] walk in
+    let none : misses_in (told ++ []) ≡ misses_in told = ap misses_in (append-nil told) in
+    omega arith
+
+-- a walk that is so long, and older frames that are so long
+pub took_long : (unit : ℕ) (plan : Plan) (told older : List Exchange) (verdict : Verdict) (frames before : ℕ) → Took unit plan told verdict frames → IsLong before older
+    → IsLong (frames + before) (told ++ older)
+took_long unit plan told older verdict frames before took long =
+    let all = walk_misses unit plan took.outcomes told (Finish verdict) older took.walk in
+    let length_is = took.took in
+    let few = took.few in
+    let joined = length_append told older in
+    let least = long.0 in
+    let most = long.1 in
+    (omega arith, omega arith)
+  where
+    length_append : (xs ys : List Exchange) → length (xs ++ ys) ≡ length xs + length ys
+    length_append [] ys = omega arith
+    length_append (x ∷ xs) ys = let rest = length_append xs ys in omega arith
+
+pub failed_many : (unit : ℕ) (plan : Plan) (told older : List Exchange) (verdict : Verdict) → Failed unit plan told verdict → most_tries ≤ misses_in (told ++ older)
+failed_many unit plan told older verdict failed =
+    let all = walk_misses unit plan failed.outcomes told (Finish verdict) older failed.walk in
+    let many = failed.many in
+    omega arith

@@ -1,0 +1,42 @@
+-- Answers that were asked for and didn't come, among exchanges with the newest first.
+use Rattle.std.specs.Prelude.{ℕ, ◌+◌, ◌*◌, ◌≤◌, ◌==◌, Bool, true, false, not, is_some, List, [], ◌∷◌, length, Option, Some, None, if◌then◌else◌}
+use Rattle.dali_frame.specs.declared.forward.Frame.{Frame}
+use Rattle.dali_frame.specs.declared.forward.Frame.TheVariants.{Dtr0, Write, AskDtr0, AskDtr1, Read}
+use Rattle.dali_write.specs.Exchanges.{Exchange}
+use Rattle.dali_write.specs.declared.line.Wish.{Wish}
+use Rattle.dali_write.specs.declared.line.Wish.TheVariants.{Nothing, Exactly, Anything}
+use Rattle.dali_write.specs.Frames.{try_frames}
+
+-- the location that DTR0 is set to, after a frame
+abbrev pub location_after : Frame → ℕ → ℕ
+location_after (Dtr0 location) before = location
+location_after other before = before
+
+-- the location that DTR0 was set to last
+abbrev pub location_in : List Exchange → ℕ
+location_in [] = 0
+location_in (x ∷ told) = location_after x.frame (location_in told)
+
+-- what a frame of a checked step asks for, where DTR0 was set so: that DTR1 is 01h, that DTR0 is what it was set to, any byte of a read, the byte of a write
+abbrev pub wish_of : Frame → ℕ → Wish
+wish_of (AskDtr1 unit) location = Exactly 1
+wish_of (AskDtr0 unit) location = Exactly location
+wish_of (Read unit) location = Anything
+wish_of (Write byte) location = Exactly byte
+wish_of other location = Nothing
+
+-- another answer came, or none
+abbrev pub is_missed : Wish → Option ℕ → Bool
+is_missed Nothing answer = false
+is_missed (Exactly byte) None = true
+is_missed (Exactly byte) (Some got) = not (got == byte)
+is_missed Anything answer = not (is_some answer)
+
+-- so many of the frames asked for an answer and got another one or none
+abbrev pub misses_in : List Exchange → ℕ
+misses_in [] = 0
+misses_in (x ∷ told) = (if is_missed (wish_of x.frame (location_in told)) x.answer then 1 else 0) + misses_in told
+
+-- these are so many frames, and for each miss at most the frames of a try more
+abbrev pub IsLong : ℕ → List Exchange → Type 0
+IsLong frames told = (frames ≤ length told) × (length told ≤ frames + try_frames * misses_in told)

@@ -1,0 +1,24 @@
+-- Which writers a trace leaves that keeps to the plans.
+use Rattle.std.specs.Prelude.{List}
+use Rattle.dali_write.specs.Exchanges.{Exchange}
+use Rattle.dali_write.specs.Told.{Told}
+use Rattle.dali_writer.specs.declared.happening.Happening.{Happening}
+use Rattle.dali_writer.specs.declared.phase.Phase.{Phase}
+use Rattle.dali_writer.specs.declared.phase.Phase.TheVariants.{Idle, Begins, Checks, Writes, Closes, Says}
+use Rattle.dali_writer.specs.Trace.{Start}
+use Rattle.dali_writer.specs.ByPlan.{told_in, ByPlan}
+use Rattle.dali_writer.specs.Held.{Held}
+
+-- the session of the phase was told these
+abbrev pub IsTold : Phase → List Exchange → Type 0
+IsTold Idle told = Unit {0}
+IsTold (Begins order) told = Unit {0}
+IsTold (Checks order s) told = Told told s
+IsTold (Writes order s) told = Told told s
+IsTold (Closes order s) told = Told told s
+IsTold (Says id code) told = Unit {0}
+
+-- the trace keeps to the plans, and its newest frames are those of the writer's session
+pub record Follows (start : Start) (past : List Happening) (writer : Held) : Type 0 where
+  pub planned : ByPlan start past
+  pub told : IsTold writer.phase (told_in past)

@@ -1,4 +1,4 @@
--- A session ends in doubt only after the most misses, or because a read found another byte.
+-- A session ends in doubt only because a step failed, or because a read found another byte.
 use Rattle.std.proofs.Common.{◌≡◌, ◌≢◌, ◌⊎◌, inl, inr, refl, sym, ap, ◌∙◌, ℕ, suc, ◌≤◌, Bool, true, false, ◌==◌, if◌then◌else◌, List, [], ◌∷◌, ◌++◌, append_assoc, append-nil, Option, Some, None, arith}
 use Rattle.std.specs.List.{Contains}
 use Rattle.std.proofs.lemmas.Bool.{eq-eqb}
@@ -10,23 +10,30 @@ use Rattle.dali_write.specs.declared.ask.Ask.TheVariants.{Ended}
 use Rattle.dali_write.specs.Lines.{read_lines}
 use Rattle.dali_write.specs.Plans.{Plan, Finish, Check, either_way, give_up, expect, read_back, read_lock, write_on, unlock}
 use Rattle.dali_write.specs.Tries.{most_tries, Succeeds, StepEnds, Wants}
-use Rattle.dali_write.specs.Walks.{Walk, misses_of, Failed}
-use Rattle.dali_write.specs.Doubts.{read_backs, FoundAnother}
+use Rattle.dali_write.specs.Walks.{Walk}
+use Rattle.dali_write.specs.Doubts.{HasFailed, EndsInFailure, read_backs, FoundAnother}
 use Rattle.dali_write.proofs.WalkLemmas.{ended_walk}
-use Rattle.dali_write.proofs.GiveUpLemmas.{all_missed}
+use Rattle.dali_write.proofs.GiveUpLemmas.{all_missed, failed_joined}
 
--- why a walk ended in doubt
-abbrev Cause : (unit : ℕ) (plan : Plan) (expected : List (ℕ × ℕ)) (outcomes : List (Option ℕ)) (told : List Exchange) → Walk unit plan outcomes told (Finish Doubt) → Type 0
-Cause unit plan expected outcomes told walk = (most_tries ≤ misses_of unit plan outcomes told (Finish Doubt) walk) ⊎ FoundAnother unit plan expected told
+-- why a session ended in doubt
+abbrev Cause : ℕ → Plan → List (ℕ × ℕ) → List Exchange → Type 0
+Cause unit plan expected told = HasFailed unit told ⊎ FoundAnother unit plan expected told
 
 -- each walk of the plan that ended in doubt has a cause
 abbrev HasCause : ℕ → Plan → List (ℕ × ℕ) → Type 0
-HasCause unit plan expected = (outcomes : List (Option ℕ)) (told : List Exchange) (walk : Walk unit plan outcomes told (Finish Doubt)) → Cause unit plan expected outcomes told walk
+HasCause unit plan expected = (outcomes : List (Option ℕ)) (told : List Exchange) → Walk unit plan outcomes told (Finish Doubt) → Cause unit plan expected told
 
 -- the first step failed
 failed_first : (unit : ℕ) (step : Step) (after : Option ℕ → Plan) (expected : List (ℕ × ℕ)) (outcomes : List (Option ℕ)) (told : List Exchange)
-    (walk : Walk unit (Check step after) (None ∷ outcomes) told (Finish Doubt)) → Cause unit (Check step after) expected (None ∷ outcomes) told walk
-failed_first unit step after expected outcomes told walk = let here = all_missed unit step after walk.1 walk.3 in inl (omega arith)
+    → Walk unit (Check step after) (None ∷ outcomes) told (Finish Doubt) → Cause unit (Check step after) expected told
+failed_first unit step after expected outcomes told walk =
+    inl record {
+      newer = walk.0;
+      before = walk.1;
+      parts = walk.2;
+      step = step;
+      failure = record { tries = walk.1; older = []; parts = sym (append-nil walk.1); missed = all_missed unit step after walk.1 walk.3 };
+    }
 
 append_twice : (a b c d : List Exchange) → (a ++ (b ++ c)) ++ d ≡ a ++ (b ++ (c ++ d))
 append_twice a b c d = append_assoc a (b ++ c) d ∙ ap (λ (t : List Exchange). a ++ t) (append_assoc b c d)
@@ -34,8 +41,8 @@ append_twice a b c d = append_assoc a (b ++ c) d ∙ ap (λ (t : List Exchange).
 -- the cause came after the first step
 cause_later : (unit : ℕ) (step : Step) (after : Option ℕ → Plan) (expected : List (ℕ × ℕ)) (outcome : Option ℕ) (outcomes : List (Option ℕ)) (told : List Exchange)
     (walk : Walk unit (Check step after) (outcome ∷ outcomes) told (Finish Doubt))
-    → Cause unit (after outcome) expected outcomes walk.0 walk.4 → Cause unit (Check step after) expected (outcome ∷ outcomes) told walk
-cause_later unit step after expected outcome outcomes told walk (inl many) = inl (omega arith)
+    → Cause unit (after outcome) expected walk.0 → Cause unit (Check step after) expected told
+cause_later unit step after expected outcome outcomes told walk (inl f) = inl (failed_joined unit told walk.0 walk.1 walk.2 f)
 cause_later unit step after expected outcome outcomes told walk (inr f) =
     inr record {
       newer = f.newer;
@@ -74,12 +81,12 @@ expect_cause unit location byte after expected is rest (Some found ∷ outcomes)
 
     -- it went on, or gave up because the byte was another
     by : (t : Bool) → (found == byte) ≡ t → (on : Walk unit (if t then after else give_up) outcomes walk.0 (Finish Doubt))
-        → Cause unit (if t then after else give_up) expected outcomes walk.0 on ⊎ ((found ≢ byte) × Walk unit give_up outcomes walk.0 (Finish Doubt))
+        → Cause unit (if t then after else give_up) expected walk.0 ⊎ ((found ≢ byte) × Walk unit give_up outcomes walk.0 (Finish Doubt))
     by true same on = inl (rest outcomes walk.0 on)
     by false same on = inr (λ e. let equal = eq-eqb found byte e in cc, on)
 
-    finish : Cause unit (if found == byte then after else give_up) expected outcomes walk.0 walk.4 ⊎ ((found ≢ byte) × Walk unit give_up outcomes walk.0 (Finish Doubt))
-        → Cause unit (expect location byte after) expected (Some found ∷ outcomes) told walk
+    finish : Cause unit (if found == byte then after else give_up) expected walk.0 ⊎ ((found ≢ byte) × Walk unit give_up outcomes walk.0 (Finish Doubt))
+        → Cause unit (expect location byte after) expected told
     finish (inl cause) = cause_later unit (ReadFrom location) reads expected (Some found) outcomes told walk cause
     finish (inr differs) =
         inr record {
@@ -136,11 +143,5 @@ unlock_cause : (unit : ℕ) (updates : List (ℕ × ℕ)) → HasCause unit (unl
 unlock_cause unit updates = write_cause unit 2 0x55 (write_on updates updates) (read_backs updates) (write_on_cause unit updates updates)
 
 pub doubt_cause : (told : List Exchange) (unit : ℕ) (updates : List (ℕ × ℕ)) → Wants unit (unlock updates) told (Ended Doubt)
-    → Failed unit (unlock updates) told Doubt ⊎ FoundAnother unit (unlock updates) (read_backs updates) told
-doubt_cause told unit updates wants =
-    let walk = ended_walk unit (unlock updates) told Doubt wants in by walk.0 walk.1 (unlock_cause unit updates walk.0 told walk.1)
-  where
-    by : (outcomes : List (Option ℕ)) (walk : Walk unit (unlock updates) outcomes told (Finish Doubt)) → Cause unit (unlock updates) (read_backs updates) outcomes told walk
-        → Failed unit (unlock updates) told Doubt ⊎ FoundAnother unit (unlock updates) (read_backs updates) told
-    by outcomes walk (inl many) = inl record { outcomes = outcomes; walk = walk; many = many }
-    by outcomes walk (inr found) = inr found
+    → HasFailed unit told ⊎ FoundAnother unit (unlock updates) (read_backs updates) told
+doubt_cause told unit updates wants = let walk = ended_walk unit (unlock updates) told Doubt wants in unlock_cause unit updates walk.0 told walk.1

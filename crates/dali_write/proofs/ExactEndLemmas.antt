@@ -17,7 +17,7 @@ use Rattle.dali_write.specs.Walks.{Walk, step_misses, Took, TookAll}
 use Rattle.dali_write.proofs.WalkLemmas.{ended_walk}
 use Rattle.dali_write.proofs.CountLemmas.{misses_length}
 use Rattle.dali_write.proofs.ExactLemmas.{Frames, at_most, and_rest, step_first}
-use Rattle.dali_write.proofs.GiveUpLemmas.{all_missed}
+use Rattle.dali_write.proofs.GiveUpLemmas.{has_byte}
 use Rattle.dali_write.proofs.VerdictLemmas.{finish_walk}
 
 -- each walk of the plan to the verdict takes so many frames, and more only for misses
@@ -152,10 +152,7 @@ misses_take lines (suc misses) told is =
 -- a step that failed took no fewer frames than a write that succeeds, and no more than its misses allow
 failed_frames : (unit : ℕ) (step : Step) (after : Option ℕ → Plan) (told : List Exchange) (ends : StepEnds unit (Check step after) None told)
     → (more : ℕ) × (length told ≡ write_frames + more) × (more ≤ try_frames * step_misses unit (Check step after) None told ends)
-failed_frames unit step after told (inl done) =
-    let all = all_missed unit step after told (inl done) in
-    let few = done.6 in
-    let no : ⊥ = omega arith in absurd no
+failed_frames unit step after told (inl done) = absurd (has_byte unit step told done)
 failed_frames unit step after told (inr failed) =
     let least = misses_take (step_lines unit step) most_tries told failed.1 in
     let most = misses_length (step_lines unit step) most_tries told failed.1 in

@@ -13,7 +13,8 @@ use Rattle.dali_write.specs.Lines.{Meets, line, step_lines}
 use Rattle.dali_write.specs.Frames.{try_frames}
 use Rattle.dali_write.specs.Plans.{Plan, Finish, Check, goes_on}
 use Rattle.dali_write.specs.Tries.{most_tries, Trying, Missed, Misses, StepEnds}
-use Rattle.dali_write.specs.Walks.{Walk, step_misses, misses_of, Took, Failed}
+use Rattle.dali_write.specs.Walks.{Walk, step_misses, misses_of, Took}
+use Rattle.dali_write.specs.Doubts.{EndsInFailure, HasFailed}
 use Rattle.dali_write.specs.Misses.{location_after, location_in, wish_of, is_missed, misses_in, IsLong}
 
 -- each line wishes what its frame asks for, where DTR0 was set so before the first one
@@ -116,8 +117,21 @@ took_long unit plan told older verdict frames before took long =
     length_append [] ys = omega arith
     length_append (x ∷ xs) ys = let rest = length_append xs ys in omega arith
 
-pub failed_many : (unit : ℕ) (plan : Plan) (told older : List Exchange) (verdict : Verdict) → Failed unit plan told verdict → most_tries ≤ misses_in (told ++ older)
-failed_many unit plan told older verdict failed =
-    let all = walk_misses unit plan failed.outcomes told (Finish verdict) older failed.walk in
-    let many = failed.many in
+-- older misses are among them
+more_misses : (newer older : List Exchange) → misses_in older ≤ misses_in (newer ++ older)
+more_misses [] older = omega arith
+more_misses (x ∷ newer) older = let rest = more_misses newer older in omega arith
+
+-- a step that failed missed as often as it has tries
+pub failure_misses : (unit : ℕ) (step : Step) (told : List Exchange) → EndsInFailure unit step told → most_tries ≤ misses_in told
+failure_misses unit step told f =
+    let all = misses unit step most_tries f.tries f.older f.missed in
+    let same : misses_in told ≡ misses_in (f.tries ++ f.older) = ap misses_in f.parts in
+    omega arith
+
+pub failed_misses : (unit : ℕ) (told : List Exchange) → HasFailed unit told → most_tries ≤ misses_in told
+failed_misses unit told f =
+    let here = failure_misses unit f.step f.before f.failure in
+    let more = more_misses f.newer f.before in
+    let same : misses_in told ≡ misses_in (f.newer ++ f.before) = ap misses_in f.parts in
     omega arith

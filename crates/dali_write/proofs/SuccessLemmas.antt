@@ -1,22 +1,23 @@
 -- Along the simulated bus a session that loses little goes its way.
 use Rattle.std.proofs.Common.{◌≡◌, ◌≢◌, ◌⊎◌, inl, inr, refl, sym, ap, subst, ◌∙◌, ℕ, zero, suc, ◌+◌, ◌≤◌, ◌<◌, Bool, true, false, ◌==◌, ◌&&◌, nat_lt, if◌then◌else◌, List, [], ◌∷◌, ◌++◌, length, Option, Some, None, IsTrue, arith}
-use Rattle.std.specs.Prelude.{slice_get, slice_index}
+use Rattle.std.specs.Prelude.{slice_get, slice_index, min}
 use Rattle.std.specs.List.{list_any, AllByRecursion}
 use Rattle.std.proofs.lemmas.Bool.{eq-eqb, ne_eqb, eqb-true, eqb-false, lt-ltb, le-leb, ltb-false}
+use Rattle.std.proofs.Math.Nat.{min-le_left}
 use Rattle.std.proofs.lemmas.Option.{slice_get-get_or, get_or_from_slice_get}
 use Rattle.dali_bank.specs.Order.{RisesAbove}
 use Rattle.dali_gear.specs.World.{Gear}
 use Rattle.dali_gear.specs.UnitState.{BankState, UnitState, is_writable, gear_of}
-use Rattle.dali_gear.specs.SimState.{SimState, world_of}
+use Rattle.dali_gear.specs.SimState.{SimState, AreApart, AreBanks, world_of}
 use Rattle.dali_gear.specs.Faults.{IsBank}
 use Rattle.dali_write.specs.Exchanges.{Exchange}
 use Rattle.dali_write.specs.declared.step.Step.{Step}
 use Rattle.dali_write.specs.declared.step.Step.TheVariants.{ReadFrom, WriteTo}
 use Rattle.dali_write.specs.declared.ask.Verdict.{Verdict}
-use Rattle.dali_write.specs.declared.ask.Verdict.TheVariants.{MayOpen, Done, Short, Format, Silent, Closed, NotClosed}
+use Rattle.dali_write.specs.declared.ask.Verdict.TheVariants.{MayOpen, Done, Short, Format, Silent, Closed, NotClosed, Read}
 use Rattle.dali_write.specs.declared.ask.Ask.TheVariants.{Ended}
 use Rattle.dali_write.specs.Lines.{step_lines}
-use Rattle.dali_write.specs.Plans.{Plan, Finish, Check, greatest, read_length, read_format, read_closed, close, give_up, expect, read_back, read_lock, write_on, unlock}
+use Rattle.dali_write.specs.Plans.{Plan, Finish, Check, greatest, read_length, read_format, read_closed, close, give_up, expect, read_back, read_lock, write_on, unlock, read_on, read_all}
 use Rattle.dali_write.specs.Tries.{most_tries, Succeeds, StepEnds, Wants}
 use Rattle.dali_write.specs.Walks.{Walk, step_misses, misses_of}
 use Rattle.dali_write.specs.Worlds.{Shows}
@@ -31,6 +32,7 @@ use Rattle.dali_write.proofs.OutliveLemmas.{misses_by_losses, step_succeeds}
 use Rattle.dali_write.proofs.StoredLemmas.{write_stored, read_keeps}
 use Rattle.dali_write.proofs.GiveUpLemmas.{has_byte}
 use Rattle.dali_write.proofs.WalkLemmas.{ended_walk}
+use Rattle.dali_write.proofs.NextLemmas.{none_ended}
 use Rattle.dali_write.proofs.MissLemmas.{walk_misses, walk_misses_in}
 
 -- From this bank the plan reads what is there and writes where it may, and where no step of it fails it ends so, with a bank that is so.
@@ -150,6 +152,26 @@ succeeds P verdict end at plan unit told first last spared way wants =
     let few = all.few in
     (all.ends, omega arith)
 
+-- a session that has ended sent a frame, and so its unit had a bank
+
+alone_bank : (at : ℕ) (unit : UnitState) (units : List UnitState) → IsAlone at unit units → AreBanks units → IsBank unit.bank1.bytes
+alone_bank at unit [] alone are = absurd alone
+alone_bank at unit (first ∷ units) (inl here) are = subst (λ (u : UnitState). IsBank u.bank1.bytes) here.0 are.0
+alone_bank at unit (first ∷ units) (inr further) are = alone_bank at unit units further.1 are.1
+
+-- where a frame was sent the units were apart, each with a bank
+pub starts_whole : (sent : List Exchange) (first last : SimState) → SimRun sent first last → sent ≢ [] → AreApart first.units × AreBanks first.units
+starts_whole [] first last run some = absurd (some refl)
+starts_whole (x ∷ []) first last run some = subst (λ (s : SimState). AreApart s.units × AreBanks s.units) run.1 (run.2.apart, run.2.banks)
+starts_whole (x ∷ y ∷ sent) first last run some = starts_whole (y ∷ sent) first run.0 run.1 (λ e. cc)
+
+spared_bank : (at : ℕ) (unit : UnitState) (step : Step) (after : Option ℕ → Plan) (verdict : Verdict) (told : List Exchange) (first last : SimState) → Spared at unit told first last
+    → Wants at (Check step after) told (Ended verdict) → IsBank unit.bank1.bytes
+spared_bank at unit step after verdict told first last spared wants =
+    alone_bank at unit first.units spared.alone
+    (starts_whole told first last spared.run
+    (λ none. none_ended at step after verdict (subst (λ (t : List Exchange). Wants at (Check step after) t (Ended verdict)) none wants))).1
+
 -- a closing session
 
 lock_writable : (bank : BankState) → 2 < length bank.bytes → is_writable bank 2 ≡ true
@@ -159,9 +181,9 @@ pub closing_goes : (bank : BankState) → 2 < length bank.bytes → Goes (OnlyDi
 closing_goes bank long = (lock_writable bank long, λ new echo only stored. (0xFF, stored, (refl, only)))
 
 pub closing_succeeds : (at : ℕ) (unit : UnitState) (verdict : Verdict) (told : List Exchange) (first last : SimState) (spared : Spared at unit told first last)
-    → IsBank unit.bank1.bytes → Wants at (close Closed NotClosed) told (Ended verdict) → (verdict ≡ Closed) × MissesByLosses at unit told first last spared
-closing_succeeds at unit verdict told first last spared bank wants =
-    let least = bank.least in
+    → Wants at (close Closed NotClosed) told (Ended verdict) → (verdict ≡ Closed) × MissesByLosses at unit told first last spared
+closing_succeeds at unit verdict told first last spared wants =
+    let least = (spared_bank at unit _ _ verdict told first last spared wants).least in
     succeeds (OnlyDiffers unit.bank1 2) Closed verdict at (close Closed NotClosed) unit told first last spared (closing_goes unit.bank1 (omega arith)) wants
 
 -- a fresh session
@@ -191,9 +213,29 @@ fresh_goes updates bank is =
         )
 
 pub fresh_succeeds : (at : ℕ) (unit : UnitState) (updates : List (ℕ × ℕ)) (verdict : Verdict) (told : List Exchange) (first last : SimState) (spared : Spared at unit told first last)
-    → IsBank unit.bank1.bytes → Wants at (read_length updates) told (Ended verdict) → (verdict ≡ found_verdict unit.bank1.bytes updates) × MissesByLosses at unit told first last spared
-fresh_succeeds at unit updates verdict told first last spared bank wants =
-    succeeds (λ now. now ≡ unit.bank1) (found_verdict unit.bank1.bytes updates) verdict at (read_length updates) unit told first last spared (fresh_goes updates unit.bank1 bank) wants
+    → Wants at (read_length updates) told (Ended verdict) → (verdict ≡ found_verdict unit.bank1.bytes updates) × MissesByLosses at unit told first last spared
+fresh_succeeds at unit updates verdict told first last spared wants =
+    succeeds (λ now. now ≡ unit.bank1) (found_verdict unit.bank1.bytes updates) verdict at (read_length updates) unit told first last spared
+    (fresh_goes updates unit.bank1 (spared_bank at unit _ _ verdict told first last spared wants)) wants
+
+-- a reading session
+
+read_on_goes : (location left : ℕ) (bank : BankState) → location + left ≤ length bank.bytes → Goes (λ now. now ≡ bank) Read (read_on location left) bank
+read_on_goes location zero bank few = (refl, refl)
+read_on_goes location (suc left) bank few =
+    (slice_index bank.bytes location, byte_there bank.bytes location (omega arith), read_on_goes (suc location) left bank (omega arith))
+
+read_all_goes : (bank : BankState) → IsBank bank.bytes → Goes (λ now. now ≡ bank) Read read_all bank
+read_all_goes bank is =
+    let least = is.least in
+    let last = is.last in
+    (slice_index bank.bytes 0, byte_there bank.bytes 0 (omega arith), read_on_goes 1 (min (slice_index bank.bytes 0) 0xFE) bank (omega (arith, min-le_left (slice_index bank.bytes 0) 0xFE)))
+
+pub reading_succeeds : (at : ℕ) (unit : UnitState) (verdict : Verdict) (told : List Exchange) (first last : SimState) (spared : Spared at unit told first last)
+    → Wants at read_all told (Ended verdict) → (verdict ≡ Read) × MissesByLosses at unit told first last spared
+reading_succeeds at unit verdict told first last spared wants =
+    succeeds (λ now. now ≡ unit.bank1) Read verdict at read_all unit told first last spared
+    (read_all_goes unit.bank1 (spared_bank at unit _ _ verdict told first last spared wants)) wants
 
 -- an opened session
 
@@ -308,8 +350,8 @@ unlock_goes updates bank rises long takes = (
 )
 
 pub opened_succeeds : (at : ℕ) (unit : UnitState) (updates : List (ℕ × ℕ)) (verdict : Verdict) (told : List Exchange) (first last : SimState) (spared : Spared at unit told first last)
-    → IsBank unit.bank1.bytes → RisesAbove 0 updates → TakesAll unit.bank1 updates → Wants at (unlock updates) told (Ended verdict)
+    → RisesAbove 0 updates → TakesAll unit.bank1 updates → Wants at (unlock updates) told (Ended verdict)
     → (verdict ≡ Done) × MissesByLosses at unit told first last spared
-opened_succeeds at unit updates verdict told first last spared bank rises takes wants =
-    let least = bank.least in
+opened_succeeds at unit updates verdict told first last spared rises takes wants =
+    let least = (spared_bank at unit _ _ verdict told first last spared wants).least in
     succeeds (λ now. Unit {0}) Done verdict at (unlock updates) unit told first last spared (unlock_goes updates unit.bank1 rises (omega arith) takes) wants

@@ -1,12 +1,37 @@
--- Why a session that carries an order out ends in doubt.
-use Rattle.std.specs.Prelude.{◌≡◌, ◌≢◌, ℕ, List, ◌∷◌, ◌++◌, Option, Some}
+-- Why a session gives up, and why one that carries an order out ends in doubt.
+use Rattle.std.specs.Prelude.{◌≡◌, ◌≢◌, ◌⊎◌, ℕ, List, ◌∷◌, ◌++◌, Option, Some}
 use Rattle.std.specs.List.{Contains}
 use Rattle.dali_write.specs.Exchanges.{Exchange}
 use Rattle.dali_write.specs.declared.ask.Verdict.TheVariants.{Doubt}
-use Rattle.dali_write.specs.Lines.{read_lines}
+use Rattle.dali_write.specs.declared.step.Step.{Step}
+use Rattle.dali_write.specs.declared.step.Step.TheVariants.{ReadFrom}
+use Rattle.dali_write.specs.Lines.{read_lines, step_lines}
 use Rattle.dali_write.specs.Plans.{Plan, Finish, expect, give_up}
-use Rattle.dali_write.specs.Tries.{Succeeds}
+use Rattle.dali_write.specs.Tries.{most_tries, Misses, Succeeds}
 use Rattle.dali_write.specs.Walks.{Walk}
+
+-- the newest frames are those of a step that failed: each of its most tries ended at a miss
+pub record EndsInFailure (unit : ℕ) (step : Step) (told : List Exchange) : Type 0 where
+  pub tries : List Exchange
+  pub older : List Exchange
+  pub parts : told ≡ tries ++ older
+  pub missed : Misses (step_lines unit step) most_tries tries
+
+-- at some time that was so
+pub record HasFailed (unit : ℕ) (told : List Exchange) : Type 0 where
+  pub newer : List Exchange
+  pub before : List Exchange
+  pub parts : told ≡ newer ++ before
+  pub step : Step
+  pub failure : EndsInFailure unit step before
+
+-- the newest frames are those of a checked read of the location that failed
+abbrev pub EndsUnread : ℕ → ℕ → List Exchange → Type 0
+EndsUnread unit location told = EndsInFailure unit (ReadFrom location) told
+
+-- or of one of the length or of the content format
+abbrev pub EndsUnlooked : ℕ → List Exchange → Type 0
+EndsUnlooked unit told = EndsUnread unit 0x00 told ⊎ EndsUnread unit 0x11 told ⊎ EndsUnread unit 0x12 told
 
 -- what is read back, each location with the byte that must be there: the lock byte, and the updates
 abbrev pub read_backs : List (ℕ × ℕ) → List (ℕ × ℕ)

@@ -40,9 +40,3 @@ pub record TookAll (unit : ℕ) (told : List Exchange) : Type 0 where
   pub took : Took unit read_all told Read (read_all_frames last)
   pub rest : List (Option ℕ)
   pub first : took.outcomes ≡ Some last ∷ rest
-
--- it ended so after as many misses as a step has tries
-pub record Failed (unit : ℕ) (plan : Plan) (told : List Exchange) (verdict : Verdict) : Type 0 where
-  pub outcomes : List (Option ℕ)
-  pub walk : Walk unit plan outcomes told (Finish verdict)
-  pub many : most_tries ≤ misses_of unit plan outcomes told (Finish verdict) walk

@@ -23,12 +23,11 @@ ghost use Rattle.dali_write.specs.declared.step.Step.{Step};
 ghost use Rattle.dali_write.specs.declared.step.Step.TheVariants.{ReadFrom, WriteTo};
 ghost use Rattle.dali_write.specs.Lines.{step_lines};
 ghost use Rattle.dali_write.specs.Tries.{most_tries, Missed, Misses, Succeeds, Fails};
-ghost use Rattle.dali_write.specs.Walks.{Walk, misses_of, Took, TookAll, Failed};
+ghost use Rattle.dali_write.specs.Walks.{Walk, misses_of, Took, TookAll};
 ghost use Rattle.dali_write.specs.Misses.{misses_in};
 ghost use Rattle.dali_write.specs.Successes.{TakesAll, found_verdict, Spared, MissesByLosses};
 ghost use Rattle.dali_bank.specs.Order.{RisesAbove};
-ghost use Rattle.dali_gear.specs.Faults.{IsBank};
-ghost use Rattle.dali_write.specs.Doubts.{read_backs, FoundAnother};
+ghost use Rattle.dali_write.specs.Doubts.{EndsUnread, EndsUnlooked, HasFailed, read_backs, FoundAnother};
 ghost use Rattle.dali_write.specs.Losses.{SimRun, losses, Unrefused, IsAlone, CanDo, OnlyDiffers};
 ghost use Rattle.dali_write.specs.Touches.{Touches, writes_of};
 ghost use Rattle.dali_write.specs.Findings.{Rests};
@@ -182,16 +181,17 @@ pub fn sessions_take_exactly()
     ensures read { (told : List Exchange) (unit : ℕ) → Wants unit read_all told (Ask.Ended Verdict.Read) → TookAll unit told }
 {}
 
-/// A session gives up only after as many misses as a step has tries.
+/// A session gives up only where the step that it had last failed, in each of its tries: a read of
+/// the length or of the content format, of the lock byte, or of a location.
 pub fn sessions_give_up_late()
     ensures fresh { (told : List Exchange) (unit : ℕ) (updates : List (ℕ × ℕ))
-        → Wants unit (read_length updates) told (Ask.Ended Verdict.Silent) → Failed unit (read_length updates) told Verdict.Silent }
+        → Wants unit (read_length updates) told (Ask.Ended Verdict.Silent) → EndsUnlooked unit told }
     ensures opened { (told : List Exchange) (unit : ℕ) (updates : List (ℕ × ℕ))
-        → Wants unit (unlock updates) told (Ask.Ended Verdict.DoubtOpen) → Failed unit (unlock updates) told Verdict.DoubtOpen }
+        → Wants unit (unlock updates) told (Ask.Ended Verdict.DoubtOpen) → EndsUnread unit 0x02 told }
     ensures closing { (told : List Exchange) (unit : ℕ)
-        → Wants unit (close Verdict.Closed Verdict.NotClosed) told (Ask.Ended Verdict.NotClosed) → Failed unit (close Verdict.Closed Verdict.NotClosed) told Verdict.NotClosed }
+        → Wants unit (close Verdict.Closed Verdict.NotClosed) told (Ask.Ended Verdict.NotClosed) → EndsUnread unit 0x02 told }
     ensures reading { (told : List Exchange) (unit : ℕ)
-        → Wants unit read_all told (Ask.Ended Verdict.Silent) → Failed unit read_all told Verdict.Silent }
+        → Wants unit read_all told (Ask.Ended Verdict.Silent) → (location : ℕ) × EndsUnread unit location told }
 {}
 
 /// Where a closing session ends as `NotClosed`, no checked read of its unit was answered since it began.
@@ -199,12 +199,12 @@ pub fn unreached_units_were_not_read()
     ensures { (told : List Exchange) (unit : ℕ) → Wants unit (close Verdict.Closed Verdict.NotClosed) told (Ask.Ended Verdict.NotClosed) → HasRead unit told → ⊥ }
 {}
 
-/// A session that carries an order out ends in doubt only after as many misses as a step has tries,
+/// A session that carries an order out ends in doubt only because a step failed in each of its tries,
 /// or because a checked read of the lock byte or of an update's location found another byte than
 /// must be there.
 pub fn doubts_have_a_cause()
     ensures { (told : List Exchange) (unit : ℕ) (updates : List (ℕ × ℕ)) → Wants unit (unlock updates) told (Ask.Ended Verdict.Doubt)
-        → Failed unit (unlock updates) told Verdict.Doubt ⊎ FoundAnother unit (unlock updates) (read_backs updates) told }
+        → HasFailed unit told ⊎ FoundAnother unit (unlock updates) (read_backs updates) told }
 {}
 
 /// On the simulated bus a checked write that succeeded has stored its byte and nothing else,
@@ -243,24 +243,28 @@ pub fn each_frame_was_wanted()
     ensures { (told : List Exchange) (x : Exchange) (unit : ℕ) (plan : Plan) (ask : Ask) → Wants unit plan (x ∷ told) ask → Wants unit plan told (Ask.Send x.frame) }
 {}
 
-/// The misses among exchanges are those of the tries of the session's steps.
+/// The misses among exchanges are those of the tries of the session's steps, and a step that failed
+/// missed as often as it has tries.
 pub fn misses_are_those_of_the_tries()
-    ensures { (unit : ℕ) (plan : Plan) (outcomes : List (Option ℕ)) (told : List Exchange) (end : Plan) (walk : Walk unit plan outcomes told end)
+    ensures failed { (unit : ℕ) (told : List Exchange) → HasFailed unit told → most_tries ≤ misses_in told }
+    ensures unread { (unit location : ℕ) (told : List Exchange) → EndsUnread unit location told → most_tries ≤ misses_in told }
+    ensures walk { (unit : ℕ) (plan : Plan) (outcomes : List (Option ℕ)) (told : List Exchange) (end : Plan) (walk : Walk unit plan outcomes told end)
         → misses_in told ≡ misses_of unit plan outcomes told end walk }
 {}
 
 /// On the simulated bus, where no fate refuses, no other unit is write-enabled and the unit loses
 /// less than a step has tries, each session comes to its good end, and misses no more often than
 /// the unit loses: a fresh one ends as the bytes of bank 1 say, an opened one as `Done` if each of
-/// its locations is there and none is fixed, and a closing one as `Closed`.
+/// its locations is there and none is fixed, a closing one as `Closed`, and a reading one as `Read`.
 pub fn spared_sessions_succeed()
     ensures fresh { (at : ℕ) (unit : UnitState) (updates : List (ℕ × ℕ)) (verdict : Verdict) (told : List Exchange) (first last : SimState) (spared : Spared at unit told first last)
-        → IsBank unit.bank1.bytes → Wants at (read_length updates) told (Ask.Ended verdict)
+        → Wants at (read_length updates) told (Ask.Ended verdict)
         → (verdict ≡ found_verdict unit.bank1.bytes updates) × MissesByLosses at unit told first last spared }
     ensures opened { (at : ℕ) (unit : UnitState) (updates : List (ℕ × ℕ)) (verdict : Verdict) (told : List Exchange) (first last : SimState) (spared : Spared at unit told first last)
-        → IsBank unit.bank1.bytes → RisesAbove 0 updates → TakesAll unit.bank1 updates → Wants at (unlock updates) told (Ask.Ended verdict)
+        → RisesAbove 0 updates → TakesAll unit.bank1 updates → Wants at (unlock updates) told (Ask.Ended verdict)
         → (verdict ≡ Verdict.Done) × MissesByLosses at unit told first last spared }
     ensures closing { (at : ℕ) (unit : UnitState) (verdict : Verdict) (told : List Exchange) (first last : SimState) (spared : Spared at unit told first last)
-        → IsBank unit.bank1.bytes → Wants at (close Verdict.Closed Verdict.NotClosed) told (Ask.Ended verdict)
-        → (verdict ≡ Verdict.Closed) × MissesByLosses at unit told first last spared }
+        → Wants at (close Verdict.Closed Verdict.NotClosed) told (Ask.Ended verdict) → (verdict ≡ Verdict.Closed) × MissesByLosses at unit told first last spared }
+    ensures reading { (at : ℕ) (unit : UnitState) (verdict : Verdict) (told : List Exchange) (first last : SimState) (spared : Spared at unit told first last)
+        → Wants at read_all told (Ask.Ended verdict) → (verdict ≡ Verdict.Read) × MissesByLosses at unit told first last spared }
 {}

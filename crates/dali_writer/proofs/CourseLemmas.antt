@@ -23,7 +23,6 @@ use Rattle.dali_writer.specs.declared.happening.Reply.{Reply}
 use Rattle.dali_writer.specs.declared.happening.Reply.TheVariants as replies
 use Rattle.dali_writer.specs.declared.happening.Happening.{Happening}
 use Rattle.dali_writer.specs.declared.happening.Happening.TheVariants.{Asked, Answered, Sent, Kept, Stopped}
-use Rattle.dali_writer.specs.Phases.{check_record, check_code, write_code}
 use Rattle.dali_writer.specs.Trace.{Start, records_of, standing_at, sent_since_taken, waiting, has_ended, is_unsaid, is_at_work, is_busy}
 use Rattle.dali_writer.specs.Legal.{Legal, MaySend}
 use Rattle.dali_writer.specs.ByPlan.{told_in, Asks, EndsIn, IsPlanned, ByPlan}
@@ -80,13 +79,17 @@ after_frame past first (standings.Left unit) None ended orders sent told kept x 
 
 -- a record
 
-no_started : {A : Type 0} (verdict : Verdict) (order other : Contents) → Began other ≡ check_record order.unit verdict → A
-no_started verdicts.MayOpen order other e = cc
-no_started _ order other e = cc
+opened_verdict : (order : Contents) (other : ℕ) (verdict : Verdict) → EndsIn (standings.Began order) verdict (Opened other) → verdict ≡ verdicts.MayOpen
+opened_verdict order other verdicts.MayOpen ends = refl
+opened_verdict order other verdicts.Short ends = cc
+opened_verdict order other verdicts.Format ends = cc
+opened_verdict order other verdicts.Silent ends = cc
+opened_verdict order other _ ends = absurd ends
 
-opened_verdict : (unit other : ℕ) (verdict : Verdict) → Opened other ≡ check_record unit verdict → verdict ≡ verdicts.MayOpen
-opened_verdict unit other verdicts.MayOpen e = refl
-opened_verdict unit other _ e = cc
+-- a left unit is closed, and no order ends there
+closed_verdict : (unit : ℕ) (verdict : Verdict) (entry : Record) → EndsIn (standings.Left unit) verdict entry → (verdict ≡ verdicts.Closed) × (entry ≡ Closed unit)
+closed_verdict unit verdicts.Closed entry ends = (refl, ends)
+closed_verdict unit _ entry ends = absurd ends
 
 newest_ended : (first : Standing) (order : Contents) (code : Code) (stage : Stage) (orders : List (Contents × Stage)) (sent : List Exchange)
     → (older : List (Contents × Stage)) × (orders ≡ (order, stage) ∷ older) → EndedBy first order code sent → NewestEndedBy first (come_to (stages.Ended code) orders) sent
@@ -114,7 +117,7 @@ ended_newest : (first stands : Standing) (records : List Record) (code : Code) (
     → standing_of records ≡ stands → Asks stands told (asks.Ended verdict) → EndsIn stands verdict (Ended code)
     → HasCome first stands waiter ended (orders_of records) sent told kept → NewestEndedBy first (come_to (stages.Ended code) (orders_of records)) sent × (kept ≤ 3)
 ended_newest first standings.Idle records code waiter ended sent told kept verdict at asked ends come = absurd asked
-ended_newest first (standings.Left unit) records code waiter ended sent told kept verdict at asked ends come = let no = ends.1 in cc
+ended_newest first (standings.Left unit) records code waiter ended sent told kept verdict at asked ends come = let no = (closed_verdict unit verdict (Ended code) ends).1 in cc
 ended_newest first (standings.Began order) records code waiter ended sent told kept verdict at asked ends come =
     let few = come.3 in (
       newest_ended first order code stages.Begun (orders_of records) sent (begun_order records order at)
@@ -138,7 +141,7 @@ after_ended start past code legal allowed planned come =
   where
     at_work : (stands : Standing) (verdict : Verdict) → Asks stands (told_in past) (asks.Ended verdict) → EndsIn stands verdict (Ended code) → is_at_work stands ≡ true
     at_work standings.Idle verdict asked ends = absurd asked
-    at_work (standings.Left unit) verdict asked ends = let no = ends.1 in cc
+    at_work (standings.Left unit) verdict asked ends = let no = (closed_verdict unit verdict (Ended code) ends).1 in cc
     at_work (standings.Began order) verdict asked ends = refl
     at_work (standings.Opened order) verdict asked ends = refl
     none_waits : (waiter : Option Contents) → waiting past ≡ waiter → waiting past ≡ None
@@ -155,7 +158,7 @@ after_opened first (standings.Opened order) unit waiter ended orders others sent
 after_opened first (standings.Left left) unit waiter ended orders others sent told kept verdict allowed asked ends come = absurd allowed
 after_opened first (standings.Began order) unit waiter ended orders others sent told kept verdict allowed asked ends come =
     let few = come.3 in
-    let is = opened_verdict order.unit unit verdict ends in
+    let is = opened_verdict order unit verdict ends in
     let wants : Wants order.unit (read_length order.updates) told (asks.Ended verdicts.MayOpen) = subst (λ (v : Verdict). Wants order.unit (read_length order.updates) told (asks.Ended v)) is asked in
     (sent, refl, checked first come.2 (told, come.0, come.1, wants, come.2), omega arith)
   where
@@ -175,7 +178,7 @@ after_closed first (standings.Left left) unit None ended orders sent told kept v
 after_closed first (standings.Left left) unit (Some order) ended orders sent told kept verdict allowed some asked ends come =
     let few = come.2 in
     let wants : Wants left (close verdicts.Closed verdicts.NotClosed) told (asks.Ended verdicts.Closed) =
-    subst (λ (v : Verdict). Wants left (close verdicts.Closed verdicts.NotClosed) told (asks.Ended v)) ends.0 asked in
+    subst (λ (v : Verdict). Wants left (close verdicts.Closed verdicts.NotClosed) told (asks.Ended v)) (closed_verdict left verdict (Closed unit) ends).0 asked in
     let closed : ClosedBy (standings.Left left) sent = subst (λ (t : List Exchange). Wants left (close verdicts.Closed verdicts.NotClosed) t (asks.Ended verdicts.Closed)) (sym come.1) wants in
     (refl, subst (λ (s : Standing). ClosedBy s sent) (sym come.0) closed, omega arith)
 

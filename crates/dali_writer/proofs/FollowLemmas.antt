@@ -15,6 +15,8 @@ use Rattle.dali_write.specs.declared.ask.Verdict.{Verdict}
 use Rattle.dali_write.specs.declared.ask.Verdict.TheVariants as verdicts
 use Rattle.dali_write.specs.declared.session.Session.{Session}
 use Rattle.dali_write.specs.Told.{Told, unit_of, aim_of}
+use Rattle.dali_write.specs.Verdicts.{EndsFresh, EndsOpened}
+use Rattle.dali_write.proofs.KindLemmas.{fresh_ends, opened_ends}
 use Rattle.dali_write.proofs.SessionLemmas.{fresh_wants, opened_wants, closing_wants, closing_over}
 use Rattle.dali_writer.specs.declared.happening.Reply.{Reply}
 use Rattle.dali_writer.specs.declared.happening.Reply.TheVariants as replies
@@ -113,6 +115,20 @@ ended_planned start past stands verdict (Opened unit) at asked ends = rw at (ver
 ended_planned start past stands verdict (Ended code) at asked ends = rw at (verdict, asked, ends)
 ended_planned start past stands verdict (Closed unit) at asked ends = rw at (verdict, asked, ends)
 
+-- the record that the writer keeps is the one that follows
+check_ends : (order : Contents) (verdict : Verdict) (entry : Record) → EndsFresh verdict → entry ≡ check_record order.unit verdict → EndsIn (standings.Began order) verdict entry
+check_ends order verdicts.MayOpen entry fresh is = is
+check_ends order verdicts.Short entry fresh is = is
+check_ends order verdicts.Format entry fresh is = is
+check_ends order verdicts.Silent entry fresh is = is
+check_ends order _ entry fresh is = absurd fresh
+
+write_ends : (order : Contents) (verdict : Verdict) (entry : Record) → EndsOpened verdict → entry ≡ Ended (write_code verdict) → EndsIn (standings.Opened order) verdict entry
+write_ends order verdicts.Done entry opened is = is
+write_ends order verdicts.Doubt entry opened is = is
+write_ends order verdicts.DoubtOpen entry opened is = is
+write_ends order _ entry opened is = absurd opened
+
 pub checked_follows : (start : Start) (past : List Happening) (journal new : JournalState) (old : Phase) (order : Contents) (s : Session) (verdict : Verdict) (next : Phase) (entry : Record)
     → Checks order s ≡ old → Describes start past (record { journal = journal; phase = old }) → Follows start past (record { journal = journal; phase = old }) → IsReady old journal
     → want_of old ≡ Keep entry → aim_of s ≡ asks.Ended verdict → IsAfterCheck order verdict next → Follows start (Kept entry ∷ past) (record { journal = new; phase = next })
@@ -125,7 +141,7 @@ checked_follows start past journal new old order s verdict next entry at d f rea
     let wants : Asks (standings.Began order) (told_in past) (asks.Ended verdict) = fresh_wants order (told_in past) s (asks.Ended verdict) stood.1 follows.told aim in
     record {
       planned = (follows.planned, ended_planned start past (standings.Began order) verdict entry (stands_so start past _ _ before stood.0) wants
-          (sym (same_entry (check_record order.unit verdict) entry wanted)));
+          (check_ends order verdict entry (fresh_ends (told_in past) order.unit order.updates verdict wants) (sym (same_entry (check_record order.unit verdict) entry wanted))));
       told = after_told order verdict next after;
     }
 
@@ -141,7 +157,7 @@ written_follows start past journal new old order s verdict entry at d f ready wa
     let wants : Asks (standings.Opened order) (told_in past) (asks.Ended verdict) = opened_wants order (told_in past) s (asks.Ended verdict) stood.1 follows.told aim in
     record {
       planned = (follows.planned, ended_planned start past (standings.Opened order) verdict entry (stands_so start past _ _ before stood.0) wants
-          (sym (same_entry (Ended (write_code verdict)) entry wanted)));
+          (write_ends order verdict entry (opened_ends (told_in past) order.unit order.updates verdict wants) (sym (same_entry (Ended (write_code verdict)) entry wanted))));
       told = tt;
     }
 
@@ -156,7 +172,7 @@ closed_follows start past journal new old order s entry at d f ready want =
     let stood : IsReady (Closes order s) journal = rw (← at) at ready in
     let wants : Asks (standings.Left (unit_of s)) (told_in past) (asks.Ended verdicts.Closed) = closing_wants (unit_of s) (told_in past) s (asks.Ended verdicts.Closed) stood.1 follows.told is.0 in
     record {
-      planned = (follows.planned, ended_planned start past (standings.Left (unit_of s)) verdicts.Closed entry (stands_so start past _ _ before stood.0) wants (refl, sym is.1));
+      planned = (follows.planned, ended_planned start past (standings.Left (unit_of s)) verdicts.Closed entry (stands_so start past _ _ before stood.0) wants (sym is.1));
       told = tt;
     }
 

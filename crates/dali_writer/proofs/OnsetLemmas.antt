@@ -33,6 +33,7 @@ use Rattle.dali_write.specs.Worlds.{IsOff}
 use Rattle.dali_write.specs.Losses.{SimRun}
 use Rattle.dali_write.specs.Successes.{HasBank}
 use Rattle.dali_write.proofs.NextLemmas.{none_ended}
+use Rattle.dali_write.proofs.SuccessLemmas.{starts_whole}
 use Rattle.dali_writer.specs.declared.happening.Reply.TheVariants as replies
 use Rattle.dali_writer.specs.declared.happening.Happening.{Happening}
 use Rattle.dali_writer.specs.declared.happening.Happening.TheVariants.{Asked, Answered, Sent, Kept, Stopped}
@@ -78,12 +79,6 @@ ended_sent first order code sent (verdict, told, older, parts, inr (ends, wants,
 pub blocked_sent : (unit : ℕ) (sent : List Exchange) → Wants unit (close verdicts.Closed verdicts.NotClosed) sent (asks.Ended verdicts.NotClosed) → sent ≢ []
 blocked_sent unit sent wants none =
     closing_at_least unit verdicts.NotClosed (subst (λ (t : List Exchange). Wants unit (close verdicts.Closed verdicts.NotClosed) t (asks.Ended verdicts.NotClosed)) none wants)
-
--- and so the units were apart there, each with a bank
-pub starts_whole : (sent : List Exchange) (first last : SimState) → SimRun sent first last → sent ≢ [] → AreApart first.units × AreBanks first.units
-starts_whole [] first last run some = absurd (some refl)
-starts_whole (x ∷ []) first last run some = subst (λ (s : SimState). AreApart s.units × AreBanks s.units) run.1 (run.2.apart, run.2.banks)
-starts_whole (x ∷ y ∷ sent) first last run some = starts_whole (y ∷ sent) first run.0 run.1 (λ e. cc)
 
 -- what was so at the last start
 

@@ -35,7 +35,6 @@ use Rattle.dali_write.proofs.ElseLemmas.{closing_keeps_bank, run_apart, none_on,
 use Rattle.dali_writer.specs.declared.happening.Reply.TheVariants as replies
 use Rattle.dali_writer.specs.declared.happening.Happening.{Happening}
 use Rattle.dali_writer.specs.declared.happening.Happening.TheVariants.{Asked, Answered, Sent, Kept, Stopped}
-use Rattle.dali_writer.specs.Phases.{check_record, write_code}
 use Rattle.dali_writer.specs.Trace.{Start, records_of, standing_at, sent_since_taken, waiting, has_ended, is_at_work}
 use Rattle.dali_writer.specs.Legal.{Legal, MaySay, HasNumber}
 use Rattle.dali_journal.specs.declared.kept.Stage.{Stage}
@@ -237,10 +236,10 @@ like_takes bank now [] like takes = tt
 like_takes bank now (update ∷ updates) like takes = (takes_still bank 2 now update.0 like takes.0, like_takes bank now updates like takes.1)
 
 -- how a fresh session that ended an order says its code
-short_code : (unit : ℕ) (code : Code) (bytes : List ℕ) (updates : List (ℕ × ℕ)) → Ended code ≡ check_record unit (found_verdict bytes updates) → code ≡ due_code bytes updates
-short_code unit code bytes updates e = by (nat_lt (slice_index bytes 0) (greatest updates)) (nat_lt (greatest updates) 0x13) (has_format bytes) e
+short_code : (order : Contents) (code : Code) (bytes : List ℕ) (updates : List (ℕ × ℕ)) → EndsIn (standings.Began order) (found_verdict bytes updates) (Ended code) → code ≡ due_code bytes updates
+short_code order code bytes updates e = by (nat_lt (slice_index bytes 0) (greatest updates)) (nat_lt (greatest updates) 0x13) (has_format bytes) e
   where
-    by : (short low format : Bool) → Ended code ≡ check_record unit (if short then verdicts.Short else (if low then verdicts.MayOpen else (if format then verdicts.MayOpen else verdicts.Format)))
+    by : (short low format : Bool) → EndsIn (standings.Began order) (if short then verdicts.Short else (if low then verdicts.MayOpen else (if format then verdicts.MayOpen else verdicts.Format))) (Ended code)
         → code ≡ (if short then codes.Short else (if low then codes.Done else (if format then codes.Done else codes.Format)))
     by true low format e = cc
     by false true format e = cc
@@ -301,8 +300,9 @@ pub spared_end : (first : Standing) (order : Contents) (code : Code) (bank : Ban
     → (code ≡ due_code bank.bytes order.updates) × (misses_in sent ≤ losses_to order.unit (named_unit first) sent begun last run)
 spared_end first order code bank sent begun last run idle onset rises kind few takes (verdict, told, older, same, inl (ends, wants, closed)) =
     let look = looked first order bank verdict sent told older begun last run idle onset kind few same wants closed in
-    let is : Ended code ≡ check_record order.unit (found_verdict bank.bytes order.updates) = subst (λ (v : Verdict). Ended code ≡ check_record order.unit v) look.verdict_is ends in
-    (short_code order.unit code bank.bytes order.updates is, look.few)
+    let is : EndsIn (standings.Began order) (found_verdict bank.bytes order.updates) (Ended code) =
+    subst (λ (v : Verdict). EndsIn (standings.Began order) v (Ended code)) look.verdict_is ends in
+    (short_code order code bank.bytes order.updates is, look.few)
 spared_end first order code bank sent begun last run idle onset rises kind few takes (verdict, told, older, same, inr (ends, wants, opened)) =
     let two = halves order.unit (named_unit first) sent told older begun last run same in
     let sum = two.sum in
@@ -320,7 +320,7 @@ spared_end first order code bank sent begun last run idle onset rises kind few t
     let less = end.2.few in
     let before = look.few in
     let all : misses_in sent ≡ misses_in (told ++ older) = ap misses_in same in
-    let done : Ended code ≡ Ended codes.Done = subst (λ (v : Verdict). Ended code ≡ Ended (write_code v)) end.2.ends ends in
+    let done : Ended code ≡ Ended codes.Done = subst (λ (v : Verdict). EndsIn (standings.Opened order) v (Ended code)) end.2.ends ends in
     (done_code code done ∙ sym due, omega arith)
   where
     checked : (first : Standing) → is_at_work first ≡ false → OpenedBy first order older → CheckedBy first order older

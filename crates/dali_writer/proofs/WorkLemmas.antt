@@ -1,5 +1,5 @@
 -- What a trace that is on course costs.
-use Rattle.std.proofs.Common.{◌≡◌, ◌⊎◌, inl, inr, refl, sym, ap, ◌∙◌, subst, ℕ, suc, ◌+◌, ◌*◌, ◌≤◌, ◌<◌, Bool, true, false, nat_lt, if◌then◌else◌, List, [], ◌∷◌, ◌++◌, length, length-append, append-nil, Option, Some, None, IfSome, arith}
+use Rattle.std.proofs.Common.{◌≡◌, ◌⊎◌, inl, inr, refl, sym, ap, ◌∙◌, subst, ℕ, suc, ◌+◌, ◌*◌, ◌≤◌, ◌<◌, Bool, true, false, nat_lt, if◌then◌else◌, List, [], ◌∷◌, ◌++◌, length, length-append, append-nil, append_assoc, Option, Some, None, IfSome, arith}
 use Rattle.std.proofs.lemmas.Bool.{ltb-true, ltb-false}
 use Rattle.dali_frame.specs.declared.forward.Frame.{Frame}
 use Rattle.dali_bank.specs.Order.{Contents}
@@ -18,29 +18,26 @@ use Rattle.dali_write.specs.declared.ask.Ask.TheVariants as asks
 use Rattle.dali_write.specs.declared.ask.Verdict.{Verdict}
 use Rattle.dali_write.specs.declared.ask.Verdict.TheVariants as verdicts
 use Rattle.dali_write.specs.Plans.{Plan, greatest, read_length, unlock, close}
-use Rattle.dali_write.specs.Tries.{most_tries, Wants}
-use Rattle.dali_write.specs.Walks.{Took, Failed}
-use Rattle.dali_write.specs.Doubts.{read_backs, FoundAnother}
+use Rattle.dali_write.specs.Tries.{Wants}
+use Rattle.dali_write.specs.Walks.{Took}
+use Rattle.dali_write.specs.Doubts.{HasFailed, EndsUnread, read_backs, FoundAnother}
 use Rattle.dali_write.specs.Frames.{read_frames, write_frames}
 use Rattle.dali_write.specs.Counts.{closing_limit, fresh_limit, opened_limit, done_frames}
-use Rattle.dali_write.specs.Verdicts.{EndsFresh, EndsOpened}
 use Rattle.dali_write.specs.Misses.{misses_in, IsLong}
 use Rattle.dali_write.proofs.NextLemmas.{first_wanted, next_wanted, fresh_few, opened_few, closing_few}
-use Rattle.dali_write.proofs.MissLemmas.{took_long, failed_many}
+use Rattle.dali_write.proofs.MissLemmas.{took_long}
 use Rattle.dali_write.proofs.ExactLemmas.{done_took}
 use Rattle.dali_write.proofs.ExactEndLemmas.{low_took, high_took, closed_took}
-use Rattle.dali_write.proofs.GiveUpLemmas.{fresh_late, opened_late, closing_late}
+use Rattle.dali_write.proofs.GiveUpLemmas.{fresh_late, opened_late, closing_late, unread_joined, unlooked_joined, failed_joined}
 use Rattle.dali_write.proofs.DoubtLemmas.{doubt_cause}
-use Rattle.dali_write.proofs.KindLemmas.{fresh_ends, opened_ends}
 use Rattle.dali_writer.specs.declared.happening.Reply.TheVariants as replies
 use Rattle.dali_writer.specs.declared.happening.Happening.{Happening}
 use Rattle.dali_writer.specs.declared.happening.Happening.TheVariants.{Asked, Answered, Sent, Kept, Stopped}
 use Rattle.dali_writer.specs.Trace.{Start, records_of, standing_at, sent_since_taken, waiting, has_ended, is_at_work}
 use Rattle.dali_writer.specs.Legal.{Legal, MaySay, EndsAs, HasNumber}
-use Rattle.dali_writer.specs.Phases.{check_record, write_code}
 use Rattle.dali_writer.specs.ByPlan.{told_in, Asks, EndsIn, ByPlan}
 use Rattle.dali_writer.specs.Course.{stood_at, kept_since, ClosedBy, CheckedBy, OpenedBy, EndedBy, NewestEndedBy, HasCome, IsOnCourse}
-use Rattle.dali_writer.specs.Work.{work_limit, look_frames, frames_from, FindsAnother, Cost, order_at, IsWithinLimit, IsSaidSo, AtEach, IsWorked}
+use Rattle.dali_writer.specs.Work.{work_limit, look_frames, frames_from, FindsAnother, IsEarned, order_at, IsWithinLimit, IsSaidSo, AtEach, IsWorked}
 use Rattle.dali_writer.proofs.CourseLemmas.{on_course, idle_next}
 use Rattle.dali_writer.proofs.TakenLemmas.{none_waits_ended}
 use Rattle.dali_writer.proofs.MomentLemmas.{may_keep}
@@ -193,88 +190,40 @@ done_long (standings.Opened other) order sent told older parts wants opened =
     joined_long order.unit (done_frames (length order.updates)) 0 (done_frames (length order.updates)) sent told older verdicts.Done (unlock order.updates) parts
     (done_took told order.unit order.updates wants) (none_long older opened.1) (omega arith)
 
--- the verdict behind a code
-checked_silent : (unit : ℕ) (verdict : Verdict) → EndsFresh verdict → Ended codes.Silent ≡ check_record unit verdict → verdict ≡ verdicts.Silent
-checked_silent unit verdicts.MayOpen fresh e = cc
-checked_silent unit verdicts.Short fresh e = cc
-checked_silent unit verdicts.Format fresh e = cc
-checked_silent unit verdicts.Silent fresh e = refl
-checked_silent unit _ fresh e = absurd fresh
+-- what a session's end earns
 
--- a fresh session ends in none of these
-abbrev IsWritten : Code → Type 0
-IsWritten codes.Done = Unit {0}
-IsWritten codes.Doubt = Unit {0}
-IsWritten codes.DoubtOpen = Unit {0}
-IsWritten _ = ⊥
+-- the code that was kept
+same_code : (one other : Code) → Ended one ≡ Ended other → other ≡ one
+same_code one other e = cc
 
-checked_not : {A : Type 0} (unit : ℕ) (code : Code) (verdict : Verdict) → IsWritten code → Ended code ≡ check_record unit verdict → A
-checked_not unit codes.Done verdicts.MayOpen is e = cc
-checked_not unit codes.Done verdicts.Short is e = cc
-checked_not unit codes.Done verdicts.Format is e = cc
-checked_not unit codes.Done _ is e = cc
-checked_not unit codes.Doubt verdicts.MayOpen is e = cc
-checked_not unit codes.Doubt verdicts.Short is e = cc
-checked_not unit codes.Doubt verdicts.Format is e = cc
-checked_not unit codes.Doubt _ is e = cc
-checked_not unit codes.DoubtOpen verdicts.MayOpen is e = cc
-checked_not unit codes.DoubtOpen verdicts.Short is e = cc
-checked_not unit codes.DoubtOpen verdicts.Format is e = cc
-checked_not unit codes.DoubtOpen _ is e = cc
-checked_not unit _ verdict is e = absurd is
+fresh_earned : (first : Standing) (order : Contents) (code : Code) (sent told older : List Exchange) (verdict : Verdict) → sent ≡ told ++ older
+    → EndsIn (standings.Began order) verdict (Ended code) → Wants order.unit (read_length order.updates) told (asks.Ended verdict) → IsEarned first order code sent
+fresh_earned first order code sent told older verdicts.MayOpen parts ends wants = cc
+fresh_earned first order code sent told older verdicts.Short parts ends wants = subst (λ (c : Code). IsEarned first order c sent) (same_code code codes.Short ends) tt
+fresh_earned first order code sent told older verdicts.Format parts ends wants = subst (λ (c : Code). IsEarned first order c sent) (same_code code codes.Format ends) tt
+fresh_earned first order code sent told older verdicts.Silent parts ends wants =
+    subst (λ (c : Code). IsEarned first order c sent) (same_code code codes.Silent ends)
+    (unlooked_joined order.unit sent told older parts (fresh_late told order.unit order.updates wants))
+fresh_earned first order code sent told older _ parts ends wants = absurd ends
 
--- an opened session's verdict is told by its code
-abbrev code_verdict : Code → Verdict
-code_verdict codes.Done = verdicts.Done
-code_verdict codes.Doubt = verdicts.Doubt
-code_verdict _ = verdicts.DoubtOpen
-
-same_ended : (one other : Code) → Ended one ≡ Ended other → other ≡ one
-same_ended one other e = cc
-
-told_by_code : (verdict : Verdict) → EndsOpened verdict → verdict ≡ code_verdict (write_code verdict)
-told_by_code verdicts.Done opened = refl
-told_by_code verdicts.Doubt opened = refl
-told_by_code verdicts.DoubtOpen opened = refl
-told_by_code _ opened = absurd opened
-
-opened_as : (code : Code) (order : Contents) (told : List Exchange) (verdict : Verdict) → Ended code ≡ Ended (write_code verdict) → Wants order.unit (unlock order.updates) told (asks.Ended verdict)
-    → Wants order.unit (unlock order.updates) told (asks.Ended (code_verdict code))
-opened_as code order told verdict e wants =
-    let is : verdict ≡ code_verdict code = told_by_code verdict (opened_ends told order.unit order.updates verdict wants) ∙ ap code_verdict (same_ended code (write_code verdict) e) in
-    subst (λ (v : Verdict). Wants order.unit (unlock order.updates) told (asks.Ended v)) is wants
-
-no_silent : {A : Type 0} (verdict : Verdict) → Ended codes.Silent ≡ Ended (write_code verdict) → A
-no_silent verdicts.Done e = cc
-no_silent verdicts.Doubt e = cc
-no_silent _ e = cc
-
-many_joined : (sent told older : List Exchange) → sent ≡ told ++ older → most_tries ≤ misses_in (told ++ older) → most_tries ≤ misses_in sent
-many_joined sent told older parts many = rw parts many
-
-pub ended_cost : (first : Standing) (order : Contents) (code : Code) (sent : List Exchange) → EndedBy first order code sent → Cost first order code sent
-ended_cost first order codes.Short sent ended = tt
-ended_cost first order codes.Format sent ended = tt
-ended_cost first order codes.Done sent (verdict, told, older, parts, inl (ends, wants, closed)) = checked_not order.unit codes.Done verdict tt ends
-ended_cost first order codes.Done sent (verdict, told, older, parts, inr (ends, wants, opened)) =
-    done_long first order sent told older parts (opened_as codes.Done order told verdict ends wants) opened
-ended_cost first order codes.Silent sent (verdict, told, older, parts, inl (ends, wants, closed)) =
-    let is = checked_silent order.unit verdict (fresh_ends told order.unit order.updates verdict wants) ends in
-    let silent : Wants order.unit (read_length order.updates) told (asks.Ended verdicts.Silent) = subst (λ (v : Verdict). Wants order.unit (read_length order.updates) told (asks.Ended v)) is wants in
-    many_joined sent told older parts (failed_many order.unit (read_length order.updates) told older verdicts.Silent (fresh_late told order.unit order.updates silent))
-ended_cost first order codes.Silent sent (verdict, told, older, parts, inr (ends, wants, opened)) = no_silent verdict ends
-ended_cost first order codes.DoubtOpen sent (verdict, told, older, parts, inl (ends, wants, closed)) = checked_not order.unit codes.DoubtOpen verdict tt ends
-ended_cost first order codes.DoubtOpen sent (verdict, told, older, parts, inr (ends, wants, opened)) =
-    many_joined sent told older parts (failed_many order.unit (unlock order.updates) told older verdicts.DoubtOpen
-    (opened_late told order.unit order.updates (opened_as codes.DoubtOpen order told verdict ends wants)))
-ended_cost first order codes.Doubt sent (verdict, told, older, parts, inl (ends, wants, closed)) = checked_not order.unit codes.Doubt verdict tt ends
-ended_cost first order codes.Doubt sent (verdict, told, older, parts, inr (ends, wants, opened)) =
-    by (doubt_cause told order.unit order.updates (opened_as codes.Doubt order told verdict ends wants))
+opened_earned : (first : Standing) (order : Contents) (code : Code) (sent told older : List Exchange) (verdict : Verdict) → sent ≡ told ++ older
+    → EndsIn (standings.Opened order) verdict (Ended code) → Wants order.unit (unlock order.updates) told (asks.Ended verdict) → OpenedBy first order older → IsEarned first order code sent
+opened_earned first order code sent told older verdicts.Done parts ends wants opened =
+    subst (λ (c : Code). IsEarned first order c sent) (same_code code codes.Done ends) (done_long first order sent told older parts wants opened)
+opened_earned first order code sent told older verdicts.Doubt parts ends wants opened =
+    subst (λ (c : Code). IsEarned first order c sent) (same_code code codes.Doubt ends) (by (doubt_cause told order.unit order.updates wants))
   where
-    by : Failed order.unit (unlock order.updates) told verdicts.Doubt ⊎ FoundAnother order.unit (unlock order.updates) (read_backs order.updates) told
-        → (most_tries ≤ misses_in sent) ⊎ FindsAnother order sent
-    by (inl failed) = inl (many_joined sent told older parts (failed_many order.unit (unlock order.updates) told older verdicts.Doubt failed))
+    by : HasFailed order.unit told ⊎ FoundAnother order.unit (unlock order.updates) (read_backs order.updates) told → HasFailed order.unit sent ⊎ FindsAnother order sent
+    by (inl failed) = inl (failed_joined order.unit sent told older parts failed)
     by (inr found) = inr (told, older, parts, found)
+opened_earned first order code sent told older verdicts.DoubtOpen parts ends wants opened =
+    subst (λ (c : Code). IsEarned first order c sent) (same_code code codes.DoubtOpen ends)
+    (unread_joined order.unit 0x02 sent told older parts (opened_late told order.unit order.updates wants))
+opened_earned first order code sent told older _ parts ends wants opened = absurd ends
+
+ended_earned : (first : Standing) (order : Contents) (code : Code) (sent : List Exchange) → EndedBy first order code sent → IsEarned first order code sent
+ended_earned first order code sent (verdict, told, older, parts, inl (ends, wants, closed)) = fresh_earned first order code sent told older verdict parts ends wants
+ended_earned first order code sent (verdict, told, older, parts, inr (ends, wants, opened)) = opened_earned first order code sent told older verdict parts ends wants opened
 
 -- where an order has just ended, none is at work
 ended_idle : (start : Start) (past : List Happening) → Legal start past → has_ended past ≡ true → is_at_work (standing_at start past) ≡ false
@@ -325,9 +274,10 @@ said_end start past id code legal planned may =
 
 -- the saying that an order is blocked
 blocked_by : (first now : Standing) (waiter : Option Contents) (ended : Bool) (orders : List (Contents × Stage)) (sent told : List Exchange) (kept id unit : ℕ) → now ≡ standings.Left unit
-    → HasNumber id waiter → Asks now told (asks.Ended verdicts.NotClosed) → HasCome first now waiter ended orders sent told kept → most_tries ≤ misses_in sent
+    → HasNumber id waiter → Asks now told (asks.Ended verdicts.NotClosed) → HasCome first now waiter ended orders sent told kept → EndsUnread unit 0x02 sent
 blocked_by first (standings.Left left) (Some order) ended orders sent told kept id unit at number asked come =
-    many_joined sent told [] (come.1 ∙ sym (append-nil told)) (failed_many left (close verdicts.Closed verdicts.NotClosed) told [] verdicts.NotClosed (closing_late told left asked))
+    let same : left ≡ unit = cc in
+    subst (λ (u : ℕ). EndsUnread u 0x02 sent) same (unread_joined left 0x02 sent told [] (come.1 ∙ sym (append-nil told)) (closing_late told left asked))
 blocked_by first (standings.Left left) None ended orders sent told kept id unit at number asked come = absurd number
 blocked_by first standings.Idle waiter ended orders sent told kept id unit at number asked come = absurd asked
 blocked_by first (standings.Began order) waiter ended orders sent told kept id unit at number asked come = cc
@@ -338,7 +288,7 @@ said_so start [] legal planned = tt
 said_so start (Asked order ∷ past) legal planned = tt
 said_so start (Answered id reply ∷ Asked order ∷ past) legal planned = tt
 said_so start (Answered id (replies.Kept code) ∷ past) legal planned =
-    let said = said_end start past id code legal.0 planned.0 legal.1 in (said.0, said.1, said.2, ended_cost (stood_at start past) said.0 code (sent_since_taken past) said.3)
+    let said = said_end start past id code legal.0 planned.0 legal.1 in (said.0, said.1, said.2, ended_earned (stood_at start past) said.0 code (sent_since_taken past) said.3)
 said_so start (Answered id (replies.Blocked unit) ∷ past) legal planned =
     blocked_by (stood_at start past) (standing_at start past) (waiting past) (has_ended past) (orders_of (records_of start past)) (sent_since_taken past) (told_in past) (kept_since past) id unit
     legal.1.0 legal.1.1 planned.1 (on_course start past legal.0 planned.0)

@@ -2,8 +2,9 @@
 --
 -- So each frame belongs to a try of a checked step, a try ends at its first miss or with its last frame, and a step has a further try exactly where its last one ended in a miss and it has had fewer than eight. A stop cuts off the try at hand, and the session begins anew.
 use Rattle.std.specs.Prelude.{◌≡◌, List, [], ◌∷◌}
+use Rattle.dali_journal.specs.declared.record.Code.TheVariants as codes
 use Rattle.dali_journal.specs.declared.record.Record.{Record}
-use Rattle.dali_journal.specs.declared.record.Record.TheVariants.{Began, Ended, Closed}
+use Rattle.dali_journal.specs.declared.record.Record.TheVariants.{Began, Opened, Ended, Closed}
 use Rattle.dali_journal.specs.declared.standing.Standing.{Standing}
 use Rattle.dali_journal.specs.declared.standing.Standing.TheVariants as standings
 use Rattle.dali_write.specs.Exchanges.{Exchange}
@@ -16,7 +17,6 @@ use Rattle.dali_write.specs.Tries.{Wants}
 use Rattle.dali_writer.specs.declared.happening.Reply.TheVariants as replies
 use Rattle.dali_writer.specs.declared.happening.Happening.{Happening}
 use Rattle.dali_writer.specs.declared.happening.Happening.TheVariants.{Answered, Sent, Kept, Stopped}
-use Rattle.dali_writer.specs.Phases.{check_record, write_code}
 use Rattle.dali_writer.specs.Trace.{Start, standing_at}
 
 -- the frames of the session at hand: those since an order was taken, a record was kept or a stop, whichever is latest
@@ -35,12 +35,17 @@ Asks (standings.Began order) told ask = Wants order.unit (read_length order.upda
 Asks (standings.Opened order) told ask = Wants order.unit (unlock order.updates) told ask
 Asks (standings.Left unit) told ask = Wants unit (close verdicts.Closed verdicts.NotClosed) told ask
 
--- the record that follows the end of the session
+-- The record that follows the end of the session: the order's unit is opened where it may be, the left one is closed, and an order ends with the code of the verdict's name.
 abbrev pub EndsIn : Standing → Verdict → Record → Type 0
-EndsIn standings.Idle verdict entry = ⊥
-EndsIn (standings.Began order) verdict entry = entry ≡ check_record order.unit verdict
-EndsIn (standings.Opened order) verdict entry = entry ≡ Ended (write_code verdict)
-EndsIn (standings.Left unit) verdict entry = (verdict ≡ verdicts.Closed) × (entry ≡ Closed unit)
+EndsIn (standings.Began order) verdicts.MayOpen entry = entry ≡ Opened order.unit
+EndsIn (standings.Began order) verdicts.Short entry = entry ≡ Ended codes.Short
+EndsIn (standings.Began order) verdicts.Format entry = entry ≡ Ended codes.Format
+EndsIn (standings.Began order) verdicts.Silent entry = entry ≡ Ended codes.Silent
+EndsIn (standings.Opened order) verdicts.Done entry = entry ≡ Ended codes.Done
+EndsIn (standings.Opened order) verdicts.Doubt entry = entry ≡ Ended codes.Doubt
+EndsIn (standings.Opened order) verdicts.DoubtOpen entry = entry ≡ Ended codes.DoubtOpen
+EndsIn (standings.Left unit) verdicts.Closed entry = entry ≡ Closed unit
+EndsIn stands verdict entry = ⊥
 
 -- the happening is what the plan asks for. An order is begun, and an end is said, without any frame
 abbrev pub IsPlanned : Start → List Happening → Happening → Type 0

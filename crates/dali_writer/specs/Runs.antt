@@ -1,5 +1,5 @@
 -- What is promised of a run over a bus.
-use Rattle.std.specs.Prelude.{◌≡◌, ℕ, List, [], ◌∷◌, ◌++◌, reverse}
+use Rattle.std.specs.Prelude.{◌≡◌, ℕ, List, [], ◌∷◌, ◌++◌, reverse, take}
 use Rattle.dali_frame.specs.Frame.{IsProper}
 use Rattle.dali_gear.specs.World.{World}
 use Rattle.dali_gear.specs.Carry.{BusEvent}
@@ -70,3 +70,12 @@ pub record IsRun {S : Type 0} (world : S → World) (step : S → BusEvent → S
   pub journal_is : journal ≡ journal_spelling (records_of (fresh limit) (reverse trace))
   pub taken : begun_orders (records_of (fresh limit) (reverse trace)) ≡ taken_orders (reverse trace)
   pub leads : LeadsRight world step limit first (reverse trace) last
+
+-- What a run of these events was that ended for want of memory, from the first state of the bus to the last: so many events were served, as in any run.
+pub record IsCutShort {S : Type 0} (world : S → World) (step : S → BusEvent → S → Type 0) (limit : ℕ) (all : List Event) (first last : S) : Type 0 where
+  pub past : List Happening
+  pub served : ℕ
+  pub parts : AreParts (fresh limit) (reverse (take served all)) past
+  pub legal : Legal (fresh limit) past
+  pub planned : ByPlan (fresh limit) past
+  pub leads : LeadsRight world step limit first past last

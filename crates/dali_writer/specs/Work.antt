@@ -9,11 +9,10 @@ use Rattle.dali_journal.specs.declared.kept.Stage.{Stage}
 use Rattle.dali_journal.specs.Orders.{orders_of}
 use Rattle.dali_write.specs.Exchanges.{Exchange}
 use Rattle.dali_write.specs.Plans.{greatest, unlock}
-use Rattle.dali_write.specs.Tries.{most_tries}
 use Rattle.dali_write.specs.Frames.{read_frames, write_frames}
 use Rattle.dali_write.specs.Counts.{done_frames, closing_limit, fresh_limit, opened_limit}
-use Rattle.dali_write.specs.Misses.{misses_in, IsLong}
-use Rattle.dali_write.specs.Doubts.{read_backs, FoundAnother}
+use Rattle.dali_write.specs.Misses.{IsLong}
+use Rattle.dali_write.specs.Doubts.{HasFailed, EndsUnread, EndsUnlooked, read_backs, FoundAnother}
 use Rattle.dali_writer.specs.declared.happening.Reply.TheVariants as replies
 use Rattle.dali_writer.specs.declared.happening.Happening.{Happening}
 use Rattle.dali_writer.specs.declared.happening.Happening.TheVariants.{Asked, Answered}
@@ -40,14 +39,15 @@ abbrev pub FindsAnother : Contents → List Exchange → Type 0
 FindsAnother order sent =
     (told : List Exchange) × (older : List Exchange) × (sent ≡ told ++ older) × FoundAnother order.unit (unlock order.updates) (read_backs order.updates) told
 
--- An order that ended so sent frames like these from its start on. Done: exactly these, and for each miss at most those of a try more. Silent, DoubtOpen: as many misses as a step has tries. Doubt: so many, or another byte was found.
-abbrev pub Cost : Standing → Contents → Code → List Exchange → Type 0
-Cost first order codes.Done sent = IsLong (frames_from first order.updates) sent
-Cost first order codes.Short sent = Unit {0}
-Cost first order codes.Format sent = Unit {0}
-Cost first order codes.Silent sent = most_tries ≤ misses_in sent
-Cost first order codes.Doubt sent = (most_tries ≤ misses_in sent) ⊎ FindsAnother order sent
-Cost first order codes.DoubtOpen sent = most_tries ≤ misses_in sent
+-- What earns an order its code, among the frames from its start on. Done: exactly so many, and for each miss at most those of a try more. Silent: the last step, which read the length or the content format, failed. DoubtOpen: the last step, which read the lock byte, failed. Doubt: a step failed, or another byte was found.
+-- (What Done, Short, Format and Doubt besides rest on, checked reads, is a rule of legal traces.)
+abbrev pub IsEarned : Standing → Contents → Code → List Exchange → Type 0
+IsEarned first order codes.Done sent = IsLong (frames_from first order.updates) sent
+IsEarned first order codes.Short sent = Unit {0}
+IsEarned first order codes.Format sent = Unit {0}
+IsEarned first order codes.Silent sent = EndsUnlooked order.unit sent
+IsEarned first order codes.Doubt sent = HasFailed order.unit sent ⊎ FindsAnother order sent
+IsEarned first order codes.DoubtOpen sent = EndsUnread order.unit 0x02 sent
 
 -- the order at hand: the one at work, the one that waits, or the one that has ended and isn't said yet
 abbrev pub order_at : Standing → Option Contents → Bool → List (Contents × Stage) → Option Contents
@@ -64,12 +64,12 @@ order_at_hand start past = order_at (standing_at start past) (waiting past) (has
 abbrev pub IsWithinLimit : Start → List Happening → Type 0
 IsWithinLimit start past = IfSome (order_at_hand start past) (λ order. (length (sent_since_taken past) ≤ work_limit (length order.updates)) × (kept_since past ≤ 4))
 
--- what was said last of an order that was taken comes after frames like these
+-- What was said last of an order that was taken was earned by the frames from its start on: how it ended, or that the left unit's lock byte wasn't told.
 abbrev pub IsSaidSo : Start → List Happening → Type 0
 IsSaidSo start (Answered id reply ∷ Asked order ∷ past) = Unit {0}
 IsSaidSo start (Answered id (replies.Kept code) ∷ past) =
-    (order : Contents) × (order.id ≡ id) × (order_at_hand start past ≡ Some order) × Cost (stood_at start past) order code (sent_since_taken past)
-IsSaidSo start (Answered id (replies.Blocked unit) ∷ past) = most_tries ≤ misses_in (sent_since_taken past)
+    (order : Contents) × (order.id ≡ id) × (order_at_hand start past ≡ Some order) × IsEarned (stood_at start past) order code (sent_since_taken past)
+IsSaidSo start (Answered id (replies.Blocked unit) ∷ past) = EndsUnread unit 0x02 (sent_since_taken past)
 IsSaidSo start other = Unit {0}
 
 -- it holds at each moment of a trace
@@ -77,6 +77,6 @@ abbrev pub AtEach : (List Happening → Type 0) → List Happening → Type 0
 AtEach holds [] = holds []
 AtEach holds (newest ∷ past) = holds (newest ∷ past) × AtEach holds past
 
--- at each moment the frames and records since the start of the order at hand are within the limit, and what is said comes after as many frames and misses as it must
+-- at each moment the frames and records since the start of the order at hand are within the limit, and what is said was earned
 abbrev pub IsWorked : Start → List Happening → Type 0
 IsWorked start past = AtEach (λ moment. IsWithinLimit start moment × IsSaidSo start moment) past

@@ -10,7 +10,7 @@ ghost use Rattle.dali_writer.specs.Legal.{Legal, IsFinished};
 ghost use Rattle.dali_writer.specs.Parts.{IsWork, Part, AreParts};
 ghost use Rattle.dali_writer.specs.Taken.{taken_orders, begun_orders};
 ghost use Rattle.dali_writer.specs.Moves.{MovesBy};
-ghost use Rattle.dali_writer.specs.Runs.{fresh, IsRun, LeadsRight, SendsProper, SendsAllProper, AsksProper, AsksAllProper};
+ghost use Rattle.dali_writer.specs.Runs.{fresh, IsRun, IsCutShort, SendsProper, SendsAllProper, AsksProper, AsksAllProper};
 ghost use Rattle.dali_writer.specs.Describes.{Describes};
 ghost use Rattle.dali_writer.specs.Follows.{Follows};
 ghost use Rattle.dali_writer.specs.Spared.{IsSimRun};
@@ -144,7 +144,7 @@ pub fn run<B: Bus>(
     ensures ok { IfOk result (λ outcome. IsRun B.world B.step limit events.now bus.old outcome.trace.items outcome.journal.items bus.new) }
     ensures limit { (result ≡ Err faults.Limit) ↔ (¬ IsLimit limit) }
     ensures untouched { result ≡ Err faults.Limit → bus.new ≡ bus.old }
-    ensures err { OnErr result ((past : List Happening) × (served : ℕ) × AreParts (fresh limit) (reverse (take served events.now)) past × Legal (fresh limit) past × LeadsRight B.world B.step limit bus.old past bus.new) }
+    ensures err { OnErr result (IsCutShort B.world B.step limit events.now bus.old bus.new) }
 {
     let Ok(journal) = Journal::new(alloc, limit) else {
         return Err(RunFault::Limit);
@@ -172,8 +172,7 @@ pub fn run_sim(
     ensures ok { IfOk result (λ outcome. IsSimRun limit events.now bus.old outcome.trace.items outcome.journal.items bus.new) }
     ensures limit { (result ≡ Err faults.Limit) ↔ (¬ IsLimit limit) }
     ensures untouched { result ≡ Err faults.Limit → bus.new ≡ bus.old }
-    ensures err { OnErr result ((past : List Happening) × (served : ℕ) × AreParts (fresh limit) (reverse (take served events.now)) past × Legal (fresh limit) past
-        × LeadsRight (λ state. world_of state.units) SimStep limit bus.old past bus.new) }
+    ensures err { OnErr result (IsCutShort (λ state. world_of state.units) SimStep limit events.now bus.old bus.new) }
 {
     run(alloc, bus, limit, events)
 }

@@ -15,13 +15,14 @@ use Rattle.dali_writer.proofs.StepsLemmas.{says_in_time}
 use Rattle.dali_writer.proofs.runs.run.Goals as goal
 
 pub returns-in_default-clause-err : goal.returns-in_default-clause-err
-returns-in_default-clause-err g c = (
-  [],
-  0,
-  refl,
-  (tt, omega arith),
-  right g.B.Bus.world g.B.Bus.step g.met.B.Bus.allowed c.args.limit c.args.bus.now c.args.bus.now [] (tt, omega arith) (starts g.B.Bus.world g.B.Bus.step c.args.bus.now),
-)
+returns-in_default-clause-err g c = record {
+  past = [];
+  served = 0;
+  parts = refl;
+  legal = (tt, omega arith);
+  planned = tt;
+  leads = right g.B.Bus.world g.B.Bus.step g.met.B.Bus.allowed c.args.limit c.args.bus.now c.args.bus.now [] (tt, omega arith) (starts g.B.Bus.world g.B.Bus.step c.args.bus.now);
+}
 
 pub loop-event-init : goal.loop-event-init
 loop-event-init g c = rw c.new-trace.ensures.items (record {
@@ -37,13 +38,14 @@ pub returns-in_err-serve-clause-err : goal.returns-in_err-serve-clause-err
 returns-in_err-serve-clause-err g c =
     let described : Describes (fresh c.args.limit) (reverse c.serve.new.trace.items) c.serve.new.writer = c.serve.ensures.described _ c.loop-event.invariant.described in
     let leads : Chain (MovesBy g.B.Bus.step) c.args.bus.now (reverse c.serve.new.trace.items) c.serve.new.bus = c.serve.ensures.leads _ c.loop-event.invariant.chain in
-    let p = err_from_is_err_and c.from_residual.result c.from_residual.ensures.1 in rw p.1 (
-      reverse c.serve.new.trace.items,
-      c.loop-event.event-index,
-      rw c.in_err-serve.ensures.err c.loop-event.invariant.parts,
-      described.legal,
-      right g.B.Bus.world g.B.Bus.step g.met.B.Bus.allowed c.args.limit c.args.bus.now c.serve.new.bus _ described.legal leads,
-    )
+    let p = err_from_is_err_and c.from_residual.result c.from_residual.ensures.1 in rw p.1 (record {
+      past = reverse c.serve.new.trace.items;
+      served = c.loop-event.event-index;
+      parts = rw c.in_err-serve.ensures.err c.loop-event.invariant.parts;
+      legal = described.legal;
+      planned = (c.serve.ensures.follows _ c.loop-event.invariant.described c.loop-event.invariant.follows).planned;
+      leads = right g.B.Bus.world g.B.Bus.step g.met.B.Bus.allowed c.args.limit c.args.bus.now c.serve.new.bus _ described.legal leads;
+    })
 
 pub loop-event-preserved : goal.loop-event-preserved
 loop-event-preserved g c = record {
@@ -57,13 +59,14 @@ loop-event-preserved g c = record {
 
 pub returns-in_err-to_bytes-clause-err : goal.returns-in_err-to_bytes-clause-err
 returns-in_err-to_bytes-clause-err g c =
-    let p = err_from_is_err_and c.from_residual-in_err-to_bytes.result c.from_residual-in_err-to_bytes.ensures.1 in rw p.1 (
-      reverse c.loop-event.trace.items,
-      c.loop-event.event-index,
-      c.loop-event.invariant.parts,
-      c.loop-event.invariant.described.legal,
-      right g.B.Bus.world g.B.Bus.step g.met.B.Bus.allowed c.args.limit c.args.bus.now c.loop-event.bus _ c.loop-event.invariant.described.legal c.loop-event.invariant.chain,
-    )
+    let p = err_from_is_err_and c.from_residual-in_err-to_bytes.result c.from_residual-in_err-to_bytes.ensures.1 in rw p.1 (record {
+      past = reverse c.loop-event.trace.items;
+      served = c.loop-event.event-index;
+      parts = c.loop-event.invariant.parts;
+      legal = c.loop-event.invariant.described.legal;
+      planned = c.loop-event.invariant.follows.planned;
+      leads = right g.B.Bus.world g.B.Bus.step g.met.B.Bus.allowed c.args.limit c.args.bus.now c.loop-event.bus _ c.loop-event.invariant.described.legal c.loop-event.invariant.chain;
+    })
 
 pub returns-clause-ok : goal.returns-clause-ok
 returns-clause-ok g c =

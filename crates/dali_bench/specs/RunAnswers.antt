@@ -2,14 +2,14 @@
 use Rattle.std.specs.Prelude.{◌≡◌, ◌⊎◌, ℕ, List, Bool, Option, length, ⊤}
 use Rattle.serde_json.specs.Data.{Data}
 use Rattle.dali_gear.specs.declared.fate.Fate.{Fate}
-use Rattle.dali_gear.specs.SimState.{SimState, SimStep, world_of}
+use Rattle.dali_gear.specs.SimState.{SimState, world_of}
 use Rattle.dali_gear.specs.UnitState.{UnitState}
 use Rattle.dali_gear.specs.Unenabled.{NoneEnabled}
 use Rattle.dali_journal.specs.JournalState.{IsLimit}
 use Rattle.dali_writer.specs.declared.fault.RunFault.TheVariants.{Limit, NoMemory}
 use Rattle.dali_writer.specs.declared.happening.Event.{Event}
 use Rattle.dali_writer.specs.declared.happening.Happening.{Happening}
-use Rattle.dali_writer.specs.Runs.{IsRun}
+use Rattle.dali_writer.specs.Spared.{IsSimRun}
 use Rattle.dali_text.specs.RunText.{run_text}
 use Rattle.dali_input.specs.Input.{IsJson, IsNoJson, IsReadFailure, ReadsInput}
 use Rattle.dali_input.specs.declared.fault.InputFault.{InputFault}
@@ -40,7 +40,7 @@ pub record IsScenarioRun (planned : Planned) (trace : List Happening) (journal :
   pub all : List Event
   pub ready : IsReady planned first.units first.fates all
   pub unenabled : NoneEnabled (world_of first.units)
-  pub run : IsRun (λ (state : SimState). world_of state.units) SimStep planned.limit all first trace journal last
+  pub run : IsSimRun planned.limit all first trace journal last
 
 -- what a run that was read, understood, set up and made gives
 abbrev pub IsRan : Option (List ℕ) → Option (List ℕ) → List Happening → List ℕ → SimState → Type 0

@@ -10,7 +10,7 @@ use crate::fault_lines::write_failure;
 use dali_gear::SimBus;
 use dali_input::{Setup, json_of, read_input, scenario_of, setup_of};
 use dali_text::write_outcome;
-use dali_writer::{Outcome, RunFault, run};
+use dali_writer::{Outcome, RunFault, run_sim};
 use std::alloc::Global;
 use std::io;
 use std::io::{Read, Write};
@@ -82,7 +82,7 @@ fn ran_of<R: Read>(alloc: Global, reader: &mut R) -> Result<Ran, Fault>
     let Ok(limit) = u32::try_from(scenario.limit) else {
         return Err(Fault::Run(RunFault::Limit));
     };
-    let outcome = run(alloc, &mut bus, limit, events.as_slice())?;
+    let outcome = run_sim(alloc, &mut bus, limit, events.as_slice())?;
     Ok(Ran { outcome, bus })
 }
 

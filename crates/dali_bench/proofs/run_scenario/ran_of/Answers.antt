@@ -1,9 +1,8 @@
 use Rattle.std.proofs.Common.{inl, inr, ap, subst, Err}
 use Rattle.std.proofs.lemmas.Result.{err_from_is_err_and}
 use Rattle.serde_json.specs.View.{view}
-use Rattle.dali_gear.specs.SimState.{SimState, SimStep, world_of}
 use Rattle.dali_journal.specs.JournalState.{IsLimit}
-use Rattle.dali_writer.specs.Runs.{IsRun}
+use Rattle.dali_writer.specs.Spared.{IsSimRun}
 use Rattle.dali_input.specs.Scenario.{planned_of}
 use Rattle.dali_input.proofs.SetupLemmas.{none_enabled}
 use Rattle.dali_bench.proofs.RunLemmas.{not_run}
@@ -54,8 +53,8 @@ returns-clause-ok g c =
         ready = ready;
         unenabled = none_enabled _ _ ready.bus.made;
         run = subst
-            (λ limit. IsRun (λ (state : SimState). world_of state.units) SimStep limit c.in_ok-bus.field-0.events.items c.in_ok-bus.field-0.bus
-            c.in_ok-outcome.outcome.trace.items c.in_ok-outcome.outcome.journal.items c.run.new.bus)
+            (λ limit. IsSimRun limit c.in_ok-bus.field-0.events.items c.in_ok-bus.field-0.bus
+            c.in_ok-outcome.outcome.trace.items c.in_ok-outcome.outcome.journal.items c.run_sim.new.bus)
             c.in-Ok.ensures.1
             (rw c.as_slice-2.ensures.value at c.in_ok-outcome.ensures.ok);
       },

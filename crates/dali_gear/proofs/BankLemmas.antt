@@ -1,6 +1,6 @@
 -- What frames leave of bank 1.
-use Rattle.std.proofs.Common.{◌≡◌, refl, sym, subst, ℕ, ◌+◌, ◌≤◌, ◌<◌, Bool, true, false, ◌&&◌, ◌||◌, not, ◌==◌, nat_lt, nat_le, if◌then◌else◌, List, [], ◌∷◌, length, map, arith}
-use Rattle.std.specs.Prelude.{slice_set, slice_index}
+use Rattle.std.proofs.Common.{◌≡◌, refl, sym, subst, ℕ, Bool, true, false, ◌&&◌, ◌||◌, not, ◌==◌, nat_lt, nat_le, if◌then◌else◌, List, [], ◌∷◌, length, map, arith}
+use Rattle.std.specs.Prelude.{slice_index}
 use Rattle.std.specs.List.{list_any}
 use Rattle.std.specs.Cmp.{first_so, second_so}
 use Rattle.std.proofs.lemmas.Bool.{eqb-true, leb-true}
@@ -11,7 +11,7 @@ use Rattle.dali_gear.specs.declared.fate.Fate.{Fate}
 use Rattle.dali_gear.specs.Fate.{is_lost}
 use Rattle.dali_gear.specs.Hears.{up}
 use Rattle.dali_gear.specs.Faults.{IsBank}
-use Rattle.dali_gear.specs.UnitState.{BankState, UnitState, is_writable, with_byte, bank_of, has_bank, carries_out, stores, after_write, after_read, after_frame}
+use Rattle.dali_gear.specs.UnitState.{BankState, UnitState, is_writable, with_byte, bank_of, has_bank, carries_out, stores, after_write, after_frame}
 use Rattle.dali_gear.specs.SimState.{AreBanks, unit_after}
 
 -- the frame writes nothing

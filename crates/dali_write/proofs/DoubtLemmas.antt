@@ -1,5 +1,5 @@
 -- A session ends in doubt only because a step failed, or because a read found another byte.
-use Rattle.std.proofs.Common.{◌≡◌, ◌≢◌, ◌⊎◌, inl, inr, refl, sym, ap, ◌∙◌, ℕ, suc, ◌≤◌, Bool, true, false, ◌==◌, if◌then◌else◌, List, [], ◌∷◌, ◌++◌, append_assoc, append-nil, Option, Some, None, arith}
+use Rattle.std.proofs.Common.{◌≡◌, ◌≢◌, ◌⊎◌, inl, inr, refl, sym, ap, ◌∙◌, ℕ, suc, Bool, true, false, ◌==◌, if◌then◌else◌, List, [], ◌∷◌, ◌++◌, append_assoc, append-nil, Option, Some, None, arith}
 use Rattle.std.specs.List.{Contains}
 use Rattle.std.proofs.lemmas.Bool.{eq-eqb}
 use Rattle.dali_write.specs.Exchanges.{Exchange}
@@ -9,9 +9,9 @@ use Rattle.dali_write.specs.declared.ask.Verdict.TheVariants.{Doubt}
 use Rattle.dali_write.specs.declared.ask.Ask.TheVariants.{Ended}
 use Rattle.dali_write.specs.Lines.{read_lines}
 use Rattle.dali_write.specs.Plans.{Plan, Finish, Check, either_way, give_up, expect, read_back, read_lock, write_on, unlock}
-use Rattle.dali_write.specs.Tries.{most_tries, Succeeds, StepEnds, Wants}
+use Rattle.dali_write.specs.Tries.{Succeeds, StepEnds, Wants}
 use Rattle.dali_write.specs.Walks.{Walk}
-use Rattle.dali_write.specs.Doubts.{HasFailed, EndsInFailure, read_backs, FoundAnother}
+use Rattle.dali_write.specs.Doubts.{HasFailed, read_backs, FoundAnother}
 use Rattle.dali_write.proofs.WalkLemmas.{ended_walk}
 use Rattle.dali_write.proofs.GiveUpLemmas.{all_missed, failed_joined}
 

@@ -1,21 +1,21 @@
 -- What becomes of the other units while a session is at work with one.
-use Rattle.std.proofs.Common.{◌≡◌, ◌≢◌, ◌⊎◌, inl, inr, refl, sym, ap, subst, ◌∙◌, ℕ, Bool, true, false, List, [], ◌∷◌, map, Option, Some, None}
+use Rattle.std.proofs.Common.{◌≡◌, ◌≢◌, inl, inr, refl, sym, ap, subst, ◌∙◌, ℕ, Bool, true, false, List, [], ◌∷◌, map, Some}
 use Rattle.std.specs.Prelude.{◌==◌, if◌then◌else◌}
-use Rattle.std.proofs.lemmas.Bool.{eqb-true, eqb-false, eq-eqb, ne_eqb}
+use Rattle.std.proofs.lemmas.Bool.{eqb-false, ne_eqb}
 use Rattle.dali_frame.specs.declared.forward.Frame.{Frame}
 use Rattle.dali_frame.specs.declared.forward.Frame.TheVariants.{Dtr0, Dtr1, Dtr2, Write, WriteSilent, Enable, AskDtr0, AskDtr1, AskDtr2, Read, Other}
 use Rattle.dali_gear.specs.declared.fate.Fate.{Fate}
 use Rattle.dali_gear.specs.Fate.{is_lost, next_fate}
 use Rattle.dali_gear.specs.World.{Gear}
 use Rattle.dali_gear.specs.UnitState.{BankState, UnitState, after_frame, gear_of}
-use Rattle.dali_gear.specs.SimState.{SimState, SimCarry, unit_after, world_of, AreApart}
+use Rattle.dali_gear.specs.SimState.{SimState, unit_after, world_of, AreApart}
 use Rattle.dali_gear.specs.SimSteps.{fate_keeps}
 use Rattle.dali_gear.proofs.SimLemmas.{AreApart-map}
 use Rattle.dali_write.specs.Exchanges.{Exchange}
 use Rattle.dali_write.specs.declared.ask.Ask.{Ask}
-use Rattle.dali_write.specs.declared.ask.Ask.TheVariants.{Send, Ended}
+use Rattle.dali_write.specs.declared.ask.Ask.TheVariants.{Send}
 use Rattle.dali_write.specs.declared.ask.Verdict.TheVariants.{Closed, NotClosed}
-use Rattle.dali_write.specs.Plans.{Plan, close}
+use Rattle.dali_write.specs.Plans.{close}
 use Rattle.dali_write.specs.Tries.{Wants}
 use Rattle.dali_write.specs.Worlds.{IsOff, OnlyEnabled}
 use Rattle.dali_write.specs.Guards.{IsGuarded}

@@ -6,10 +6,10 @@ use Rattle.std.specs.Cmp.{first_so, second_so}
 use Rattle.std.proofs.lemmas.Grind.{common_steps}
 use Rattle.std.proofs.lemmas.Option.{gets}
 use Rattle.dali_frame.specs.declared.forward.Frame.{Frame}
-use Rattle.dali_frame.specs.declared.forward.Frame.TheVariants.{Dtr0, Dtr1, Dtr2, Write, WriteSilent, Enable, AskDtr0, AskDtr1, AskDtr2, Read, Other}
+use Rattle.dali_frame.specs.declared.forward.Frame.TheVariants.{Dtr0, Dtr1, Write, Enable, AskDtr0, AskDtr1}
 use Rattle.dali_gear.specs.Fate.{is_lost, next_fate}
 use Rattle.dali_write.specs.Exchanges.{Exchange}
-use Rattle.dali_gear.specs.UnitState.{BankState, UnitState, after_frame, after_write, answer_to, is_writable, with_byte, has_bank, stores, carries_out, bank_of}
+use Rattle.dali_gear.specs.UnitState.{BankState, UnitState, after_frame, after_write, answer_to, is_writable, with_byte, stores, carries_out, bank_of}
 use Rattle.dali_gear.specs.Hears.{up}
 use Rattle.dali_gear.specs.SimState.{SimState, SimCarry, unit_after}
 use Rattle.dali_gear.proofs.BankLemmas.{IsQuiet, bank_stays}

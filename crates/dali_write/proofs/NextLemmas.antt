@@ -1,5 +1,5 @@
 -- After each answer a session wants something, and it sends no more frames than its plan takes.
-use Rattle.std.proofs.Common.{◌≡◌, ◌⊎◌, inl, inr, refl, sym, subst, ℕ, suc, ◌≤◌, ◌<◌, Bool, true, false, List, [], ◌∷◌, length, ◌==◌, ap, Option, Some, None, arith}
+use Rattle.std.proofs.Common.{◌≡◌, ◌⊎◌, inl, inr, refl, subst, ℕ, ◌≤◌, ◌<◌, Bool, true, false, List, [], ◌∷◌, length, ◌==◌, ap, Option, Some, None, arith}
 use Rattle.std.proofs.lemmas.Bool.{eqb-true, eqb-false}
 use Rattle.std.proofs.lemmas.Bool.Decides.{leb_tells}
 use Rattle.std.proofs.Math.Dec.{leb}
@@ -14,13 +14,13 @@ use Rattle.dali_write.specs.declared.ask.Verdict.TheVariants.{Closed, NotClosed}
 use Rattle.dali_write.specs.declared.ask.Verdict.{Verdict}
 use Rattle.dali_write.specs.declared.step.Step.{Step}
 use Rattle.dali_write.specs.declared.step.Step.TheVariants.{ReadFrom, WriteTo}
-use Rattle.dali_write.specs.Lines.{Meets, line, byte_after, step_lines}
+use Rattle.dali_write.specs.Lines.{Meets, step_lines}
 use Rattle.dali_write.proofs.DeterminedLemmas.{wants_one}
-use Rattle.dali_write.specs.Plans.{Plan, Finish, Check, goes_on, read_length, close, unlock}
-use Rattle.dali_write.specs.Tries.{most_tries, plan_lines, ask_at, Stands, Wants}
+use Rattle.dali_write.specs.Plans.{Plan, Finish, Check, read_length, close, unlock}
+use Rattle.dali_write.specs.Tries.{plan_lines, ask_at, Stands, Wants}
 use Rattle.dali_write.specs.Counts.{fresh_limit, opened_limit, closing_limit}
 use Rattle.dali_write.proofs.ShapeLemmas.{none_left}
-use Rattle.dali_write.proofs.StandingLemmas.{goes_first, stands_at_first, stands_on, stands_again, stands_done, stands_failed}
+use Rattle.dali_write.proofs.StandingLemmas.{stands_at_first, stands_on, stands_again, stands_done, stands_failed}
 use Rattle.dali_write.proofs.CountLemmas.{stands_takes, close_takes, unlock_takes, read_length_takes}
 
 -- the answer is as wished, or it isn't

@@ -1,7 +1,6 @@
 -- Along the simulated bus a session that loses little goes its way.
-use Rattle.std.proofs.Common.{◌≡◌, ◌≢◌, ◌⊎◌, inl, inr, refl, sym, ap, subst, ◌∙◌, ℕ, zero, suc, ◌+◌, ◌≤◌, ◌<◌, Bool, true, false, ◌==◌, ◌&&◌, nat_lt, if◌then◌else◌, List, [], ◌∷◌, ◌++◌, length, Option, Some, None, IsTrue, arith}
+use Rattle.std.proofs.Common.{◌≡◌, ◌≢◌, ◌⊎◌, inl, inr, refl, sym, ap, subst, ◌∙◌, ℕ, zero, suc, ◌+◌, ◌≤◌, ◌<◌, Bool, true, false, ◌==◌, nat_lt, if◌then◌else◌, List, [], ◌∷◌, ◌++◌, length, Option, Some, None, IsTrue, arith}
 use Rattle.std.specs.Prelude.{slice_get, slice_index, min}
-use Rattle.std.specs.List.{list_any, AllByRecursion}
 use Rattle.std.proofs.lemmas.Bool.{eq-eqb, ne_eqb, eqb-true, eqb-false, lt-ltb, le-leb, ltb-false}
 use Rattle.std.proofs.Math.Nat.{min-le_left}
 use Rattle.std.proofs.lemmas.Option.{slice_get-get_or, get_or_from_slice_get}
@@ -14,14 +13,12 @@ use Rattle.dali_write.specs.Exchanges.{Exchange}
 use Rattle.dali_write.specs.declared.step.Step.{Step}
 use Rattle.dali_write.specs.declared.step.Step.TheVariants.{ReadFrom, WriteTo}
 use Rattle.dali_write.specs.declared.ask.Verdict.{Verdict}
-use Rattle.dali_write.specs.declared.ask.Verdict.TheVariants.{MayOpen, Done, Short, Format, Silent, Closed, NotClosed, Read}
+use Rattle.dali_write.specs.declared.ask.Verdict.TheVariants.{MayOpen, Done, Short, Format, Closed, NotClosed, Read}
 use Rattle.dali_write.specs.declared.ask.Ask.TheVariants.{Ended}
-use Rattle.dali_write.specs.Lines.{step_lines}
-use Rattle.dali_write.specs.Plans.{Plan, Finish, Check, greatest, read_length, read_format, read_closed, close, give_up, expect, read_back, read_lock, write_on, unlock, read_on, read_all}
-use Rattle.dali_write.specs.Tries.{most_tries, Succeeds, StepEnds, Wants}
+use Rattle.dali_write.specs.Plans.{Plan, Finish, Check, greatest, read_length, read_format, close, read_back, write_on, unlock, read_on, read_all}
+use Rattle.dali_write.specs.Tries.{most_tries, StepEnds, Wants}
 use Rattle.dali_write.specs.Walks.{Walk, step_misses, misses_of}
-use Rattle.dali_write.specs.Worlds.{Shows}
-use Rattle.dali_write.specs.Losses.{SimRun, losses, Unrefused, IsElse, AllElse, IsAlone, CanDo, OnlyDiffers}
+use Rattle.dali_write.specs.Losses.{SimRun, losses, Unrefused, IsAlone, CanDo, OnlyDiffers}
 use Rattle.dali_write.specs.Misses.{misses_in}
 use Rattle.dali_write.specs.Touches.{Has}
 use Rattle.dali_write.specs.Successes.{Takes, TakesAll, has_format, found_verdict, Spared, MissesByLosses}
@@ -136,8 +133,7 @@ pub gone : (P : BankState → Type 0) (verdict end : Verdict) (at : ℕ) (plan :
     → Goes P verdict plan unit.bank1 → Wants at plan told (Ended end)
     → (misses : ℕ) × (misses_in (told ++ older) ≡ misses + misses_in older) × Gone P verdict end at misses (losses at told first last spared.run) last
 gone P verdict end at plan unit told older first last spared way wants =
-    let walk = ended_walk at plan told end wants in
-    (
+    let walk = ended_walk at plan told end wants in (
       misses_of at plan walk.0 told (Finish end) walk.1,
       walk_misses at plan walk.0 told (Finish end) older walk.1,
       goes P verdict end at plan walk.0 unit told first last spared.run spared.alone way spared.kind spared.few walk.1,
@@ -303,6 +299,7 @@ written_on updates left update old new rises going only stored =
         let same : update.1 ≡ byte = one_byte 0 updates location update.1 byte rises mine has in
         rw here (stored ∙ ap Some same)
     other_kept location byte false e has was = only.others location (eqb-false location update.0 e) ∙ was
+
     by : (location byte : ℕ) → Has updates location byte → Has (update ∷ left) location byte ⊎ (slice_get old.bytes location ≡ Some byte)
         → Has left location byte ⊎ (slice_get new.bytes location ≡ Some byte)
     by location byte has (inl (inl here)) = inr (subst (λ (b : ℕ). slice_get new.bytes location ≡ Some b) here.1 (subst (λ (l : ℕ). slice_get new.bytes l ≡ Some update.1) here.0 stored))
@@ -341,12 +338,12 @@ pub unlock_goes : (updates : List (ℕ × ℕ)) (bank : BankState) → RisesAbov
 unlock_goes updates bank rises long takes = (
   lock_writable bank long,
   λ new echo only stored. write_on_goes updates updates new rises (record {
-      lock = stored;
-      long = rw only.lengths long;
-      takes = λ location byte has. takes_still bank 2 new location only (takes_of bank updates location byte takes has);
-      part = λ location byte has. has;
-      there = λ location byte has. inl has;
-    }),
+    lock = stored;
+    long = rw only.lengths long;
+    takes = λ location byte has. takes_still bank 2 new location only (takes_of bank updates location byte takes has);
+    part = λ location byte has. has;
+    there = λ location byte has. inl has;
+  }),
 )
 
 pub opened_succeeds : (at : ℕ) (unit : UnitState) (updates : List (ℕ × ℕ)) (verdict : Verdict) (told : List Exchange) (first last : SimState) (spared : Spared at unit told first last)

@@ -1,5 +1,5 @@
 -- A legal trace that keeps to the plans is on course.
-use Rattle.std.proofs.Common.{◌≡◌, ◌⊎◌, inl, inr, refl, sym, ap, ◌∙◌, subst, ℕ, zero, suc, ◌≤◌, Bool, true, false, ◌||◌, List, [], ◌∷◌, ◌++◌, Option, Some, None, IsSome, arith}
+use Rattle.std.proofs.Common.{◌≡◌, inl, inr, refl, sym, ap, subst, ℕ, suc, ◌≤◌, Bool, true, false, List, [], ◌∷◌, Option, Some, None, IsSome, arith}
 use Rattle.dali_frame.specs.declared.forward.Frame.{Frame}
 use Rattle.dali_frame.specs.declared.forward.Frame.TheVariants.{Dtr0, Dtr1, Dtr2, Write, WriteSilent, Enable, AskDtr0, AskDtr1, AskDtr2, Read, Other}
 use Rattle.dali_bank.specs.Order.{Contents}
@@ -19,15 +19,14 @@ use Rattle.dali_write.specs.declared.ask.Verdict.{Verdict}
 use Rattle.dali_write.specs.declared.ask.Verdict.TheVariants as verdicts
 use Rattle.dali_write.specs.Plans.{read_length, close}
 use Rattle.dali_write.specs.Tries.{Wants}
-use Rattle.dali_writer.specs.declared.happening.Reply.{Reply}
 use Rattle.dali_writer.specs.declared.happening.Reply.TheVariants as replies
 use Rattle.dali_writer.specs.declared.happening.Happening.{Happening}
 use Rattle.dali_writer.specs.declared.happening.Happening.TheVariants.{Asked, Answered, Sent, Kept, Stopped}
-use Rattle.dali_writer.specs.Trace.{Start, records_of, standing_at, sent_since_taken, waiting, has_ended, is_unsaid, is_at_work, is_busy}
+use Rattle.dali_writer.specs.Trace.{Start, records_of, standing_at, sent_since_taken, waiting, has_ended, is_unsaid, is_at_work}
 use Rattle.dali_writer.specs.Legal.{Legal, MaySend}
 use Rattle.dali_writer.specs.ByPlan.{told_in, Asks, EndsIn, IsPlanned, ByPlan}
 use Rattle.dali_writer.specs.Course.{stood_at, kept_since, ClosedBy, CheckedBy, OpenedBy, EndedBy, NewestEndedBy, HasCome, IsOnCourse}
-use Rattle.dali_writer.proofs.TakenLemmas.{neither, waits, none_waits_ended}
+use Rattle.dali_writer.proofs.TakenLemmas.{neither, waits}
 use Rattle.dali_writer.proofs.MomentLemmas.{may_keep, may_send}
 use Rattle.dali_writer.proofs.StandingLemmas.{begun_order, open_order}
 
@@ -144,6 +143,7 @@ after_ended start past code legal allowed planned come =
     at_work (standings.Left unit) verdict asked ends = let no = (closed_verdict unit verdict (Ended code) ends).1 in cc
     at_work (standings.Began order) verdict asked ends = refl
     at_work (standings.Opened order) verdict asked ends = refl
+
     none_waits : (waiter : Option Contents) → waiting past ≡ waiter → waiting past ≡ None
     none_waits None e = e
     none_waits (Some order) e =

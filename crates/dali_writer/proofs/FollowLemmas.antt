@@ -1,5 +1,5 @@
 -- Each step of a writer leaves a trace that keeps to the plans.
-use Rattle.std.proofs.Common.{◌≡◌, refl, sym, ap, ◌∙◌, subst, ℕ, List, [], ◌∷◌, Option, Some}
+use Rattle.std.proofs.Common.{◌≡◌, sym, ap, ◌∙◌, subst, ℕ, List, [], ◌∷◌, Option}
 use Rattle.dali_frame.specs.declared.forward.Frame.{Frame}
 use Rattle.dali_bank.specs.Order.{Contents}
 use Rattle.dali_journal.specs.declared.record.Record.{Record}
@@ -9,7 +9,6 @@ use Rattle.dali_journal.specs.declared.standing.Standing.TheVariants as standing
 use Rattle.dali_journal.specs.JournalState.{JournalState}
 use Rattle.dali_journal.specs.declared.kept.Kept.{Kept as KeptOf}
 use Rattle.dali_write.specs.Exchanges.{Exchange}
-use Rattle.dali_write.specs.declared.ask.Ask.{Ask}
 use Rattle.dali_write.specs.declared.ask.Ask.TheVariants as asks
 use Rattle.dali_write.specs.declared.ask.Verdict.{Verdict}
 use Rattle.dali_write.specs.declared.ask.Verdict.TheVariants as verdicts
@@ -21,16 +20,16 @@ use Rattle.dali_write.proofs.SessionLemmas.{fresh_wants, opened_wants, closing_w
 use Rattle.dali_writer.specs.declared.happening.Reply.{Reply}
 use Rattle.dali_writer.specs.declared.happening.Reply.TheVariants as replies
 use Rattle.dali_writer.specs.declared.happening.Happening.{Happening}
-use Rattle.dali_writer.specs.declared.happening.Happening.TheVariants.{Asked, Answered, Sent, Kept, Stopped}
+use Rattle.dali_writer.specs.declared.happening.Happening.TheVariants.{Asked, Answered, Sent, Kept}
 use Rattle.dali_writer.specs.declared.happening.Want.TheVariants.{Keep, Say}
 use Rattle.dali_writer.specs.declared.phase.Phase.{Phase}
 use Rattle.dali_writer.specs.declared.phase.Phase.TheVariants.{Idle, Begins, Checks, Writes, Closes, Says}
 use Rattle.dali_writer.specs.Trace.{Start, standing_at}
 use Rattle.dali_writer.specs.Replies.{IsKnownReply}
-use Rattle.dali_writer.specs.Phases.{want_of, closing_of, check_record, write_code}
+use Rattle.dali_writer.specs.Phases.{want_of, check_record, write_code}
 use Rattle.dali_writer.specs.Held.{Held, IsReady, IsAfterCheck, IsFirst, IsResumed}
 use Rattle.dali_writer.specs.Describes.{Describes}
-use Rattle.dali_writer.specs.ByPlan.{told_in, Asks, EndsIn, IsPlanned, ByPlan}
+use Rattle.dali_writer.specs.ByPlan.{told_in, Asks, EndsIn, IsPlanned}
 use Rattle.dali_writer.specs.Follows.{IsTold, Follows}
 use Rattle.dali_writer.proofs.StepLemmas.{stands_so}
 use Rattle.dali_writer.proofs.SayLemmas.{no_check, no_write, blocks, not_closed}
@@ -140,8 +139,11 @@ checked_follows start past journal new old order s verdict next entry at d f rea
     let stood : IsReady (Checks order s) journal = rw (← at) at ready in
     let wants : Asks (standings.Began order) (told_in past) (asks.Ended verdict) = fresh_wants order (told_in past) s (asks.Ended verdict) stood.1 follows.told aim in
     record {
-      planned = (follows.planned, ended_planned start past (standings.Began order) verdict entry (stands_so start past _ _ before stood.0) wants
-          (check_ends order verdict entry (fresh_ends (told_in past) order.unit order.updates verdict wants) (sym (same_entry (check_record order.unit verdict) entry wanted))));
+      planned = (
+        follows.planned,
+        ended_planned start past (standings.Began order) verdict entry (stands_so start past _ _ before stood.0) wants
+            (check_ends order verdict entry (fresh_ends (told_in past) order.unit order.updates verdict wants) (sym (same_entry (check_record order.unit verdict) entry wanted))),
+      );
       told = after_told order verdict next after;
     }
 
@@ -156,8 +158,11 @@ written_follows start past journal new old order s verdict entry at d f ready wa
     let stood : IsReady (Writes order s) journal = rw (← at) at ready in
     let wants : Asks (standings.Opened order) (told_in past) (asks.Ended verdict) = opened_wants order (told_in past) s (asks.Ended verdict) stood.1 follows.told aim in
     record {
-      planned = (follows.planned, ended_planned start past (standings.Opened order) verdict entry (stands_so start past _ _ before stood.0) wants
-          (write_ends order verdict entry (opened_ends (told_in past) order.unit order.updates verdict wants) (sym (same_entry (Ended (write_code verdict)) entry wanted))));
+      planned = (
+        follows.planned,
+        ended_planned start past (standings.Opened order) verdict entry (stands_so start past _ _ before stood.0) wants
+            (write_ends order verdict entry (opened_ends (told_in past) order.unit order.updates verdict wants) (sym (same_entry (Ended (write_code verdict)) entry wanted))),
+      );
       told = tt;
     }
 

@@ -1,28 +1,16 @@
 -- What is so of the simulated bus where an order starts.
-use Rattle.std.proofs.Common.{◌≡◌, ◌≢◌, ◌⊎◌, inl, inr, refl, sym, ap, ◌∙◌, subst, ℕ, ◌+◌, ◌≤◌, ◌<◌, Bool, true, false, ◌&&◌, ◌||◌, not, ◌==◌, nat_lt, nat_le, if◌then◌else◌, List, [], ◌∷◌, ◌++◌, length, map, Option, Some, None, is_some, IsSome, arith}
-use Rattle.std.specs.Prelude.{slice_get, slice_set, slice_index}
-use Rattle.std.specs.List.{list_any}
-use Rattle.std.specs.Cmp.{first_so, second_so}
-use Rattle.std.proofs.lemmas.Bool.{eqb-true, eqb-false, leb-true}
-use Rattle.std.proofs.lemmas.List.{length-set, get_or-set_other}
-use Rattle.dali_frame.specs.declared.forward.Frame.{Frame}
-use Rattle.dali_frame.specs.declared.forward.Frame.TheVariants.{Dtr0, Dtr1, Dtr2, Write, WriteSilent, Enable, AskDtr0, AskDtr1, AskDtr2, Read, Other}
-use Rattle.dali_bank.specs.Order.{Contents, AreUpdates}
-use Rattle.dali_gear.specs.declared.fate.Fate.{Fate}
-use Rattle.dali_gear.specs.Fate.{is_lost, next_fate}
+use Rattle.std.proofs.Common.{◌≡◌, ◌≢◌, inl, inr, refl, sym, ap, ◌∙◌, subst, ℕ, Bool, true, false, ◌==◌, if◌then◌else◌, List, [], ◌∷◌, ◌++◌, Option, Some, None, is_some}
+use Rattle.std.proofs.lemmas.Bool.{eqb-true}
+use Rattle.dali_bank.specs.Order.{Contents}
 use Rattle.dali_gear.specs.Chain.{IsChain, AtEachMoment}
-use Rattle.dali_gear.specs.Unenabled.{NoneEnabled}
-use Rattle.dali_gear.specs.World.{World, Gear, byte_in, byte_at, is_open, is_enabled}
-use Rattle.dali_gear.specs.Hears.{up}
-use Rattle.dali_gear.specs.UnitState.{BankState, UnitState, is_writable, with_byte, bank_of, has_bank, carries_out, stores, after_write, after_read, after_frame, gear_of}
-use Rattle.dali_gear.specs.SimState.{SimState, SimStep, AreApart, AreBanks, unit_after, world_of}
+use Rattle.dali_gear.specs.World.{World, Gear, byte_in, byte_at, is_open}
+use Rattle.dali_gear.specs.UnitState.{BankState, UnitState, gear_of}
+use Rattle.dali_gear.specs.SimState.{SimState, SimStep, AreApart, AreBanks, world_of}
 use Rattle.dali_gear.specs.Faults.{IsBank}
 use Rattle.dali_journal.specs.declared.record.Code.{Code}
-use Rattle.dali_journal.specs.declared.record.Record.{Record}
 use Rattle.dali_journal.specs.declared.record.Record.TheVariants.{Began, Opened, Ended, Closed}
 use Rattle.dali_journal.specs.declared.standing.Standing.{Standing}
-use Rattle.dali_journal.specs.declared.standing.Standing.TheVariants as standings
-use Rattle.dali_journal.specs.Sentence.{Allows, standing_of, named_unit, IsSentence}
+use Rattle.dali_journal.specs.Sentence.{named_unit}
 use Rattle.dali_write.specs.Exchanges.{Exchange}
 use Rattle.dali_write.specs.declared.ask.Ask.TheVariants as asks
 use Rattle.dali_write.specs.declared.ask.Verdict.{Verdict}
@@ -30,7 +18,6 @@ use Rattle.dali_write.specs.declared.ask.Verdict.TheVariants as verdicts
 use Rattle.dali_write.specs.Plans.{read_length, unlock, close}
 use Rattle.dali_write.specs.Tries.{Wants}
 use Rattle.dali_write.specs.Worlds.{IsOff}
-use Rattle.dali_write.specs.Losses.{SimRun}
 use Rattle.dali_write.specs.Successes.{HasBank}
 use Rattle.dali_write.proofs.NextLemmas.{none_ended}
 use Rattle.dali_write.proofs.SuccessLemmas.{starts_whole}
@@ -40,7 +27,7 @@ use Rattle.dali_writer.specs.declared.happening.Happening.TheVariants.{Asked, An
 use Rattle.dali_writer.specs.Trace.{Start, records_of, standing_at, sent_since_taken, waiting, has_ended}
 use Rattle.dali_writer.specs.Legal.{Legal}
 use Rattle.dali_writer.specs.Moves.{MovesBy}
-use Rattle.dali_writer.specs.Fits.{Fits, OnlyNamed, IsOpened}
+use Rattle.dali_writer.specs.Fits.{OnlyNamed, IsOpened}
 use Rattle.dali_writer.specs.Law.{IsRight}
 use Rattle.dali_writer.specs.Course.{stood_at, kept_since, EndedBy}
 use Rattle.dali_writer.specs.Spared.{state_at_start, IsSpared, AtEachState}

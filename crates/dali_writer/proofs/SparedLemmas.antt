@@ -1,5 +1,5 @@
 -- Over the simulated bus an order that loses little ends as its unit's bytes say.
-use Rattle.std.proofs.Common.{◌≡◌, ◌≢◌, ◌⊎◌, inl, inr, refl, sym, ap, ◌∙◌, subst, ℕ, ◌+◌, ◌≤◌, ◌<◌, Bool, true, false, ◌||◌, ◌==◌, nat_lt, if◌then◌else◌, List, [], ◌∷◌, ◌++◌, length, append-nil, Option, Some, None, arith}
+use Rattle.std.proofs.Common.{◌≡◌, ◌≢◌, inl, inr, refl, sym, ap, ◌∙◌, subst, ℕ, ◌+◌, ◌≤◌, ◌<◌, Bool, true, false, ◌||◌, ◌==◌, nat_lt, if◌then◌else◌, List, [], ◌∷◌, ◌++◌, append-nil, Option, Some, None, arith}
 use Rattle.std.specs.Prelude.{slice_get, slice_index}
 use Rattle.std.proofs.lemmas.Bool.{eqb-true, eqb-false}
 use Rattle.std.proofs.lemmas.Option.{unwrap_or-slice_get}
@@ -23,14 +23,14 @@ use Rattle.dali_write.specs.declared.ask.Verdict.{Verdict}
 use Rattle.dali_write.specs.declared.ask.Verdict.TheVariants as verdicts
 use Rattle.dali_write.specs.Plans.{greatest, read_length, unlock, close}
 use Rattle.dali_write.specs.Tries.{most_tries, Wants}
-use Rattle.dali_write.specs.Worlds.{IsOff, OnlyEnabled, Shows}
+use Rattle.dali_write.specs.Worlds.{IsOff, OnlyEnabled}
 use Rattle.dali_write.specs.Losses.{SimRun, is_loss, losses, Unrefused, IsAlone, OnlyDiffers}
 use Rattle.dali_write.specs.Misses.{misses_in}
-use Rattle.dali_write.specs.Successes.{HasBank, Takes, TakesAll, has_format, found_verdict, Spared}
+use Rattle.dali_write.specs.Successes.{HasBank, TakesAll, has_format, found_verdict, Spared}
 use Rattle.dali_write.proofs.RunLemmas.{sim_run}
 use Rattle.dali_write.proofs.StandingReadLemmas.{stands_true}
 use Rattle.dali_write.proofs.RestLemmas.{closing_rests}
-use Rattle.dali_write.proofs.SuccessLemmas.{Gone, gone, closing_goes, fresh_goes, unlock_goes, world_alone, takes_still}
+use Rattle.dali_write.proofs.SuccessLemmas.{gone, closing_goes, fresh_goes, unlock_goes, world_alone, takes_still}
 use Rattle.dali_write.proofs.ElseLemmas.{closing_keeps_bank, run_apart, none_on, same_bank, alone_with}
 use Rattle.dali_writer.specs.declared.happening.Reply.TheVariants as replies
 use Rattle.dali_writer.specs.declared.happening.Happening.{Happening}
@@ -358,9 +358,11 @@ pub blocked_never : (first now : Standing) (waiter : Option Contents) (ended : B
     → HasNumber id waiter → Asks now told (asks.Ended verdicts.NotClosed) → HasCome first now waiter ended orders sent told kept
     → (first ≡ standings.Left left) × Wants left (close verdicts.Closed verdicts.NotClosed) sent (asks.Ended verdicts.NotClosed)
 blocked_never first (standings.Left other) (Some order) ended orders sent told kept id left at number asked come =
-    let same : other ≡ left = cc in
-    (come.0 ∙ at, subst (λ (l : ℕ). Wants l (close verdicts.Closed verdicts.NotClosed) sent (asks.Ended verdicts.NotClosed)) same
-        (subst (λ (t : List Exchange). Wants other (close verdicts.Closed verdicts.NotClosed) t (asks.Ended verdicts.NotClosed)) (sym come.1) asked))
+    let same : other ≡ left = cc in (
+      come.0 ∙ at,
+      subst (λ (l : ℕ). Wants l (close verdicts.Closed verdicts.NotClosed) sent (asks.Ended verdicts.NotClosed)) same
+          (subst (λ (t : List Exchange). Wants other (close verdicts.Closed verdicts.NotClosed) t (asks.Ended verdicts.NotClosed)) (sym come.1) asked),
+    )
 blocked_never first (standings.Left other) None ended orders sent told kept id left at number asked come = absurd number
 blocked_never first standings.Idle waiter ended orders sent told kept id left at number asked come = absurd asked
 blocked_never first (standings.Began order) waiter ended orders sent told kept id left at number asked come = cc
@@ -389,4 +391,3 @@ blocked_spared start past id left state states legal planned may asked since uni
     id left may.0 may.1 asked (on_course start past legal planned) in
     let count = since.losses unit (named_unit (stood_at start past)) in
     spared_closed (stood_at start past) left unit bank (sent_since_taken past) (state_at_start past state states) state since.run never.0 onset (since.kind kind) (omega arith) never.1
-

@@ -2,7 +2,6 @@
 use Rattle.std.proofs.Common.{◌≡◌, ◌⊎◌, inl, inr, refl, sym, ap, ◌∙◌, subst, ℕ, suc, ◌+◌, ◌≤◌, Bool, true, false, ◌||◌, List, [], ◌∷◌, ◌++◌, length, Option, Some, None, IfSome, IsSome, arith}
 use Rattle.dali_bank.specs.Order.{Contents}
 use Rattle.dali_journal.specs.declared.record.Code.{Code}
-use Rattle.dali_journal.specs.declared.record.Code.TheVariants as codes
 use Rattle.dali_journal.specs.declared.record.Record.{Record}
 use Rattle.dali_journal.specs.declared.record.Record.TheVariants.{Began, Opened, Ended, Closed}
 use Rattle.dali_journal.specs.declared.standing.Standing.{Standing}
@@ -24,7 +23,7 @@ use Rattle.dali_writer.specs.Parts.{IsWork, Part, AreParts}
 use Rattle.dali_writer.specs.Course.{stood_at, kept_since}
 use Rattle.dali_writer.specs.Work.{work_limit, order_at, order_at_hand, IsWithinLimit}
 use Rattle.dali_writer.specs.Steps.{steps_in, NoneStops, IsSaid, PartsSince, IsSaidInTime, SaysInTime}
-use Rattle.dali_writer.proofs.TakenLemmas.{waits, ended_unsaid, neither}
+use Rattle.dali_writer.proofs.TakenLemmas.{waits, ended_unsaid}
 use Rattle.dali_writer.proofs.MomentLemmas.{may_keep}
 use Rattle.dali_writer.proofs.StandingLemmas.{begun_order, open_order}
 use Rattle.dali_writer.proofs.CourseLemmas.{idle_next}
@@ -173,14 +172,14 @@ one_step start before mid order steps (Kept entry) is legal planned at =
 one_step start before mid order steps (Answered id reply) is legal planned at =
     let number = said_number start mid id reply order legal.0 planned.0 (may_say start mid id reply at.finished legal) at.hand in
     inl (record {
-        later = [];
-        reply = reply;
-        since = at.more;
-        parts = ap (λ (t : List Happening). Answered id reply ∷ t) at.parts ∙ ap (λ (n : ℕ). Answered n reply ∷ (at.more ++ before)) number;
-        finished = subst IsFinished at.parts at.finished;
-        hand = subst (λ (t : List Happening). order_at_hand start t ≡ Some order) at.parts at.hand;
-        start_is = subst (λ (t : List Happening). stood_at start t ≡ stood_at start before) at.parts at.start_is;
-      })
+      later = [];
+      reply = reply;
+      since = at.more;
+      parts = ap (λ (t : List Happening). Answered id reply ∷ t) at.parts ∙ ap (λ (n : ℕ). Answered n reply ∷ (at.more ++ before)) number;
+      finished = subst IsFinished at.parts at.finished;
+      hand = subst (λ (t : List Happening). order_at_hand start t ≡ Some order) at.parts at.hand;
+      start_is = subst (λ (t : List Happening). stood_at start t ≡ stood_at start before) at.parts at.start_is;
+    })
 one_step start before mid order steps (Asked other) is legal planned at = absurd is
 one_step start before mid order steps Stopped is legal planned at = absurd is
 
@@ -209,13 +208,37 @@ reply_on : (start : Start) (before mid : List Happening) (order asked : Contents
     → IsAtHand start before mid order steps → IsAtHand start before (Answered asked.id reply ∷ Asked asked ∷ mid) order steps
 reply_on start before mid order asked steps replies.Taken legal at = not_idle (is_busy start mid) (busy start mid order legal.0.0 at.hand) legal.1.1.1
 reply_on start before mid order asked steps (replies.Kept code) legal at = record {
-  more = Answered asked.id (replies.Kept code) ∷ Asked asked ∷ at.more; parts = ap (λ (t : List Happening). Answered asked.id (replies.Kept code) ∷ Asked asked ∷ t) at.parts; finished = tt; hand = at.hand; start_is = at.start_is; work = at.work; }
+  more = Answered asked.id (replies.Kept code) ∷ Asked asked ∷ at.more;
+  parts = ap (λ (t : List Happening). Answered asked.id (replies.Kept code) ∷ Asked asked ∷ t) at.parts;
+  finished = tt;
+  hand = at.hand;
+  start_is = at.start_is;
+  work = at.work;
+}
 reply_on start before mid order asked steps replies.IdReused legal at = record {
-  more = Answered asked.id replies.IdReused ∷ Asked asked ∷ at.more; parts = ap (λ (t : List Happening). Answered asked.id replies.IdReused ∷ Asked asked ∷ t) at.parts; finished = tt; hand = at.hand; start_is = at.start_is; work = at.work; }
+  more = Answered asked.id replies.IdReused ∷ Asked asked ∷ at.more;
+  parts = ap (λ (t : List Happening). Answered asked.id replies.IdReused ∷ Asked asked ∷ t) at.parts;
+  finished = tt;
+  hand = at.hand;
+  start_is = at.start_is;
+  work = at.work;
+}
 reply_on start before mid order asked steps replies.Busy legal at = record {
-  more = Answered asked.id replies.Busy ∷ Asked asked ∷ at.more; parts = ap (λ (t : List Happening). Answered asked.id replies.Busy ∷ Asked asked ∷ t) at.parts; finished = tt; hand = at.hand; start_is = at.start_is; work = at.work; }
+  more = Answered asked.id replies.Busy ∷ Asked asked ∷ at.more;
+  parts = ap (λ (t : List Happening). Answered asked.id replies.Busy ∷ Asked asked ∷ t) at.parts;
+  finished = tt;
+  hand = at.hand;
+  start_is = at.start_is;
+  work = at.work;
+}
 reply_on start before mid order asked steps replies.Full legal at = record {
-  more = Answered asked.id replies.Full ∷ Asked asked ∷ at.more; parts = ap (λ (t : List Happening). Answered asked.id replies.Full ∷ Asked asked ∷ t) at.parts; finished = tt; hand = at.hand; start_is = at.start_is; work = at.work; }
+  more = Answered asked.id replies.Full ∷ Asked asked ∷ at.more;
+  parts = ap (λ (t : List Happening). Answered asked.id replies.Full ∷ Asked asked ∷ t) at.parts;
+  finished = tt;
+  hand = at.hand;
+  start_is = at.start_is;
+  work = at.work;
+}
 reply_on start before mid order asked steps (replies.Blocked unit) legal at = absurd legal.1.1
 
 after_submit : (start : Start) (before mid after : List Happening) (order asked : Contents) (steps : ℕ) → Part start (Submit asked) mid after → Legal start after → ByPlan start after

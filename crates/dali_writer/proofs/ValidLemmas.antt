@@ -1,5 +1,5 @@
 -- The order at hand holds what an order may hold.
-use Rattle.std.proofs.Common.{◌≡◌, refl, sym, ap, ◌∙◌, subst, inl, inr, ℕ, ◌≤◌, ◌<◌, max, nat_lt, if◌then◌else◌, length, arith, Bool, true, false, List, [], ◌∷◌, Option, Some, None}
+use Rattle.std.proofs.Common.{◌≡◌, refl, sym, subst, inl, inr, ℕ, ◌≤◌, ◌<◌, max, nat_lt, if◌then◌else◌, length, arith, Bool, true, false, List, [], ◌∷◌, Option, Some, None}
 use Rattle.std.specs.Prelude.{slice_index}
 use Rattle.std.specs.List.{AllByRecursion}
 use Rattle.std.proofs.lemmas.Bool.{ltb-false}
@@ -104,8 +104,10 @@ rest_below bytes bank (update ∷ updates) places below free =
     past : IsWritable update.0 → 3 ≤ update.0
     past (inl low) = low.0
     past (inr high) = let up = high.0 in omega arith
+
     max_left : (a b : ℕ) → a ≤ max a b
     max_left a b = omega arith
+
     max_right : (a b : ℕ) → b ≤ max a b
     max_right a b = omega arith
 

@@ -1,5 +1,5 @@
 -- What a trace that is on course costs.
-use Rattle.std.proofs.Common.{◌≡◌, ◌⊎◌, inl, inr, refl, sym, ap, ◌∙◌, subst, ℕ, suc, ◌+◌, ◌*◌, ◌≤◌, ◌<◌, Bool, true, false, nat_lt, if◌then◌else◌, List, [], ◌∷◌, ◌++◌, length, length-append, append-nil, append_assoc, Option, Some, None, IfSome, arith}
+use Rattle.std.proofs.Common.{◌≡◌, ◌⊎◌, inl, inr, refl, sym, ap, ◌∙◌, subst, ℕ, ◌+◌, ◌*◌, ◌≤◌, Bool, true, false, nat_lt, if◌then◌else◌, List, [], ◌∷◌, ◌++◌, length, length-append, append-nil, Option, Some, None, IfSome, arith}
 use Rattle.std.proofs.lemmas.Bool.{ltb-true, ltb-false}
 use Rattle.dali_frame.specs.declared.forward.Frame.{Frame}
 use Rattle.dali_bank.specs.Order.{Contents}
@@ -23,7 +23,7 @@ use Rattle.dali_write.specs.Walks.{Took}
 use Rattle.dali_write.specs.Doubts.{HasFailed, EndsUnread, read_backs, FoundAnother}
 use Rattle.dali_write.specs.Frames.{read_frames, write_frames}
 use Rattle.dali_write.specs.Counts.{closing_limit, fresh_limit, opened_limit, done_frames}
-use Rattle.dali_write.specs.Misses.{misses_in, IsLong}
+use Rattle.dali_write.specs.Misses.{IsLong}
 use Rattle.dali_write.proofs.NextLemmas.{first_wanted, next_wanted, fresh_few, opened_few, closing_few}
 use Rattle.dali_write.proofs.MissLemmas.{took_long}
 use Rattle.dali_write.proofs.ExactLemmas.{done_took}
@@ -36,8 +36,8 @@ use Rattle.dali_writer.specs.declared.happening.Happening.TheVariants.{Asked, An
 use Rattle.dali_writer.specs.Trace.{Start, records_of, standing_at, sent_since_taken, waiting, has_ended, is_at_work}
 use Rattle.dali_writer.specs.Legal.{Legal, MaySay, EndsAs, HasNumber}
 use Rattle.dali_writer.specs.ByPlan.{told_in, Asks, EndsIn, ByPlan}
-use Rattle.dali_writer.specs.Course.{stood_at, kept_since, ClosedBy, CheckedBy, OpenedBy, EndedBy, NewestEndedBy, HasCome, IsOnCourse}
-use Rattle.dali_writer.specs.Work.{work_limit, look_frames, frames_from, FindsAnother, IsEarned, order_at, IsWithinLimit, IsSaidSo, AtEach, IsWorked}
+use Rattle.dali_writer.specs.Course.{stood_at, kept_since, ClosedBy, CheckedBy, OpenedBy, EndedBy, NewestEndedBy, HasCome}
+use Rattle.dali_writer.specs.Work.{work_limit, look_frames, frames_from, FindsAnother, IsEarned, order_at, IsWithinLimit, IsSaidSo, IsWorked}
 use Rattle.dali_writer.proofs.CourseLemmas.{on_course, idle_next}
 use Rattle.dali_writer.proofs.TakenLemmas.{none_waits_ended}
 use Rattle.dali_writer.proofs.MomentLemmas.{may_keep}

@@ -5,7 +5,7 @@ use Rattle.dali_frame.specs.declared.forward.Frame.{Frame}
 use Rattle.dali_bank.specs.Order.{Contents}
 use Rattle.dali_gear.specs.Chain.{IsChain}
 use Rattle.dali_gear.specs.Fate.{next_fate}
-use Rattle.dali_gear.specs.UnitState.{BankState, UnitState}
+use Rattle.dali_gear.specs.UnitState.{BankState}
 use Rattle.dali_gear.specs.SimState.{SimState, SimStep, world_of}
 use Rattle.dali_gear.specs.Unenabled.{NoneEnabled}
 use Rattle.dali_journal.specs.declared.record.Code.{Code}

@@ -1,10 +1,10 @@
 -- How many steps lead to what is said of an order.
-use Rattle.std.specs.Prelude.{◌≡◌, ◌⊎◌, ◌≤◌, ℕ, suc, ◌+◌, List, [], ◌∷◌, ◌++◌, length, Some}
+use Rattle.std.specs.Prelude.{◌≡◌, ◌≤◌, ℕ, suc, ◌+◌, List, [], ◌∷◌, ◌++◌, length, Some}
 use Rattle.dali_bank.specs.Order.{Contents}
 use Rattle.dali_writer.specs.declared.happening.Event.{Event}
-use Rattle.dali_writer.specs.declared.happening.Event.TheVariants.{Submit, Step, Stop}
+use Rattle.dali_writer.specs.declared.happening.Event.TheVariants.{Step, Stop}
 use Rattle.dali_writer.specs.declared.happening.Happening.{Happening}
-use Rattle.dali_writer.specs.declared.happening.Happening.TheVariants.{Asked, Answered}
+use Rattle.dali_writer.specs.declared.happening.Happening.TheVariants.{Answered}
 use Rattle.dali_writer.specs.Trace.{Start}
 use Rattle.dali_writer.specs.Parts.{Part, AreParts}
 use Rattle.dali_writer.specs.declared.happening.Reply.{Reply}

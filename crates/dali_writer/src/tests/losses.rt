@@ -1,5 +1,7 @@
 use crate::Reply;
-use crate::tests::case::{Case, DONE, Deed, ENOUGH, GTIN, PLAIN, STORED, TAKEN, bus_of, frames_of, judge, run_case, ends};
+use crate::tests::case::{
+    Case, DONE, Deed, ENOUGH, GTIN, PLAIN, STORED, TAKEN, bus_of, ends, frames_of, judge, run_case,
+};
 use dali_journal::Code;
 use std::test::Fail;
 
@@ -42,7 +44,10 @@ fn several_losses(rt: HostRuntime) -> Result<(), Fail> {
 fn one_loss(rt: HostRuntime) -> Result<(), Fail> {
     for number in 1..=96usize {
         let lost = [(number, number)];
-        let case = Case { lost: &lost, ..PLAIN };
+        let case = Case {
+            lost: &lost,
+            ..PLAIN
+        };
         let mut bus = bus_of(rt.alloc(), &case)?;
         let outcome = run_case(rt.alloc(), &mut bus, &case)?;
         let done = ends(&outcome.trace, DONE);
@@ -50,7 +55,10 @@ fn one_loss(rt: HostRuntime) -> Result<(), Fail> {
         let few = frames_of(&outcome.trace) <= 103;
         assert!(rt; few, "{number}");
         let unanswered = [number];
-        let case = Case { unanswered: &unanswered, ..PLAIN };
+        let case = Case {
+            unanswered: &unanswered,
+            ..PLAIN
+        };
         let mut bus = bus_of(rt.alloc(), &case)?;
         let outcome = run_case(rt.alloc(), &mut bus, &case)?;
         let done = ends(&outcome.trace, DONE);

@@ -1,4 +1,4 @@
-use Rattle.std.proofs.Common.{◌≡◌, ℕ, List, length}
+use Rattle.std.proofs.Common.{◌≡◌, List, length}
 use Rattle.std.specs.List.{AllByRecursion, flat_map}
 use Rattle.dali_journal.specs.declared.record.Record.{Record}
 use Rattle.dali_journal.specs.Spelling.{IsRecord, spelling}

@@ -11,7 +11,8 @@ invariant_of-self c =
     let back : take c.self.inside.units.len (c.carry_to-answer.new.units ++ drop (length c.carry_to-answer.new.units) c.self.inside.units.items) ≡ c.carry_to-answer.new.units
     = written_back c.carry_to-answer.new.units c.self.inside.units.items c.self.inside.units.len (omega arith) (omega arith) in
     let after : AreApart c.carry_to-answer.new.units × AreBanks c.carry_to-answer.new.units
-    = rw c.carry_to-answer.ensures.after
-    (AreApart-map c.take_fate-fate.result c.args.frame.now c.deref_mut.result.now before.0,
-    banks_after c.take_fate-fate.result c.args.frame.now c.deref_mut.result.now before.1) in
+    = rw c.carry_to-answer.ensures.after (
+      AreApart-map c.take_fate-fate.result c.args.frame.now c.deref_mut.result.now before.0,
+      banks_after c.take_fate-fate.result c.args.frame.now c.deref_mut.result.now before.1,
+    ) in
     rw back after

@@ -25,7 +25,8 @@ use Rattle.dali_writer.specs.declared.happening.Happening.TheVariants.{Asked, An
 use Rattle.dali_writer.specs.Trace.{Start, records_of, standing_at, sent_since_taken, waiting, has_ended, is_unsaid, is_at_work}
 use Rattle.dali_writer.specs.Legal.{Legal, MaySend}
 use Rattle.dali_writer.specs.ByPlan.{told_in, Asks, EndsIn, IsPlanned, ByPlan}
-use Rattle.dali_writer.specs.Course.{stood_at, kept_since, ClosedBy, CheckedBy, OpenedBy, EndedBy, NewestEndedBy, HasCome, IsOnCourse}
+use Rattle.dali_writer.specs.Work.{stood_at, kept_since}
+use Rattle.dali_writer.proofs.Courses.{ClosedBy, CheckedBy, OpenedBy, EndedBy, NewestEndedBy, HasCome, IsOnCourse}
 use Rattle.dali_writer.proofs.TakenLemmas.{neither, waits}
 use Rattle.dali_writer.proofs.MomentLemmas.{may_keep, may_send}
 use Rattle.dali_writer.proofs.StandingLemmas.{begun_order, open_order}

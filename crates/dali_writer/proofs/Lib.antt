@@ -18,6 +18,7 @@ pub mod StepLemmas
 pub mod SayLemmas
 pub mod KeepLemmas
 pub mod FollowLemmas
+pub mod Courses
 pub mod CourseLemmas
 pub mod WorkLemmas
 pub mod SparedLemmas

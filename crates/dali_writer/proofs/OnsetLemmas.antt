@@ -29,7 +29,8 @@ use Rattle.dali_writer.specs.Legal.{Legal}
 use Rattle.dali_writer.specs.Moves.{MovesBy}
 use Rattle.dali_writer.specs.Fits.{OnlyNamed, IsOpened}
 use Rattle.dali_writer.specs.Law.{IsRight}
-use Rattle.dali_writer.specs.Course.{stood_at, kept_since, EndedBy}
+use Rattle.dali_writer.specs.Work.{stood_at, kept_since}
+use Rattle.dali_writer.proofs.Courses.{EndedBy}
 use Rattle.dali_writer.specs.Spared.{state_at_start, IsSpared, AtEachState}
 use Rattle.dali_writer.proofs.MomentLemmas.{may_keep}
 use Rattle.dali_writer.proofs.StandingLemmas.{named_opened}

@@ -41,11 +41,16 @@ use Rattle.dali_journal.specs.declared.kept.Stage.{Stage}
 use Rattle.dali_journal.specs.Orders.{orders_of}
 use Rattle.dali_writer.specs.Moves.{MovesBy}
 use Rattle.dali_writer.specs.ByPlan.{told_in, Asks, EndsIn, IsPlanned, ByPlan}
-use Rattle.dali_writer.specs.Course.{stood_at, kept_since, ClosedBy, CheckedBy, OpenedBy, EndedBy, HasCome}
-use Rattle.dali_writer.specs.Work.{order_at_hand}
+use Rattle.dali_writer.proofs.Courses.{ClosedBy, CheckedBy, OpenedBy, EndedBy, HasCome}
+use Rattle.dali_writer.specs.Work.{stood_at, kept_since, order_at_hand}
 use Rattle.dali_writer.proofs.CourseLemmas.{on_course}
 use Rattle.dali_writer.proofs.WorkLemmas.{said_end}
-use Rattle.dali_writer.specs.Spared.{is_lost_to, losses_to, state_at_start, losses_since, UnrefusedSince, due_code}
+use Rattle.dali_writer.specs.Spared.{is_lost_to, state_at_start, losses_since, UnrefusedSince, due_code}
+
+-- so many of the exchanges are: one that is lost to both counts once
+abbrev pub losses_to : ℕ → Option ℕ → (told : List Exchange) (first last : SimState) → SimRun told first last → ℕ
+losses_to unit left [] first last run = 0
+losses_to unit left (x ∷ told) first last run = (if is_lost_to unit left run.0 x.frame then 1 else 0) + losses_to unit left told first run.0 run.1
 
 -- exchanges as a run of the simulated bus, with so many losses, and unrefused where it is so
 pub record RunSo (told : List Exchange) (first last : SimState) (count : ℕ → Option ℕ → ℕ) (Kind : Type 0) : Type 0 where

@@ -20,8 +20,7 @@ use Rattle.dali_writer.specs.Trace.{Start, records_of, standing_at, sent_since_t
 use Rattle.dali_writer.specs.Legal.{Legal, MaySay, HasNumber, IsFinished}
 use Rattle.dali_writer.specs.ByPlan.{ByPlan}
 use Rattle.dali_writer.specs.Parts.{IsWork, Part, AreParts}
-use Rattle.dali_writer.specs.Course.{stood_at, kept_since}
-use Rattle.dali_writer.specs.Work.{work_limit, order_at, order_at_hand, IsWithinLimit}
+use Rattle.dali_writer.specs.Work.{stood_at, kept_since, work_limit, order_at, order_at_hand, IsWithinLimit}
 use Rattle.dali_writer.specs.Steps.{steps_in, NoneStops, IsSaid, PartsSince, IsSaidInTime, SaysInTime}
 use Rattle.dali_writer.proofs.TakenLemmas.{waits, ended_unsaid}
 use Rattle.dali_writer.proofs.MomentLemmas.{may_keep}

@@ -36,8 +36,8 @@ use Rattle.dali_writer.specs.declared.happening.Happening.TheVariants.{Asked, An
 use Rattle.dali_writer.specs.Trace.{Start, records_of, standing_at, sent_since_taken, waiting, has_ended, is_at_work}
 use Rattle.dali_writer.specs.Legal.{Legal, MaySay, EndsAs, HasNumber}
 use Rattle.dali_writer.specs.ByPlan.{told_in, Asks, EndsIn, ByPlan}
-use Rattle.dali_writer.specs.Course.{stood_at, kept_since, ClosedBy, CheckedBy, OpenedBy, EndedBy, NewestEndedBy, HasCome}
-use Rattle.dali_writer.specs.Work.{work_limit, look_frames, frames_from, FindsAnother, IsEarned, order_at, IsWithinLimit, IsSaidSo, IsWorked}
+use Rattle.dali_writer.proofs.Courses.{ClosedBy, CheckedBy, OpenedBy, EndedBy, NewestEndedBy, HasCome}
+use Rattle.dali_writer.specs.Work.{stood_at, kept_since, work_limit, look_frames, frames_from, FindsAnother, IsEarned, order_at, IsWithinLimit, IsSaidSo, IsWorked}
 use Rattle.dali_writer.proofs.CourseLemmas.{on_course, idle_next}
 use Rattle.dali_writer.proofs.TakenLemmas.{none_waits_ended}
 use Rattle.dali_writer.proofs.MomentLemmas.{may_keep}

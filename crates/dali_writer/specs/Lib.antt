@@ -18,7 +18,6 @@ pub mod Inside
 pub mod Describes
 pub mod ByPlan
 pub mod Follows
-pub mod Course
 pub mod Work
 pub mod Spared
 pub mod Steps

@@ -10,10 +10,9 @@ use Rattle.dali_gear.specs.SimState.{SimState, SimStep, world_of}
 use Rattle.dali_gear.specs.Unenabled.{NoneEnabled}
 use Rattle.dali_journal.specs.declared.record.Code.{Code}
 use Rattle.dali_journal.specs.declared.record.Code.TheVariants as codes
-use Rattle.dali_write.specs.Exchanges.{Exchange}
 use Rattle.dali_write.specs.Plans.{greatest}
 use Rattle.dali_write.specs.Tries.{most_tries}
-use Rattle.dali_write.specs.Losses.{SimRun, is_loss}
+use Rattle.dali_write.specs.Losses.{is_loss}
 use Rattle.dali_write.specs.Successes.{HasBank, has_format}
 use Rattle.dali_write.specs.Misses.{misses_in}
 use Rattle.dali_writer.specs.declared.happening.Reply.TheVariants as replies
@@ -24,18 +23,12 @@ use Rattle.dali_journal.specs.Sentence.{named_unit}
 use Rattle.dali_writer.specs.Trace.{Start, sent_since_taken, is_at_work}
 use Rattle.dali_writer.specs.Moves.{MovesBy}
 use Rattle.dali_writer.specs.Runs.{fresh, IsRun}
-use Rattle.dali_writer.specs.Course.{stood_at}
-use Rattle.dali_writer.specs.Work.{order_at_hand}
+use Rattle.dali_writer.specs.Work.{stood_at, order_at_hand}
 
 -- the frame is a loss to the unit, or to the one that was left
 abbrev pub is_lost_to : ℕ → Option ℕ → SimState → Frame → Bool
 is_lost_to unit None state frame = is_loss unit state frame
 is_lost_to unit (Some left) state frame = is_loss unit state frame || is_loss left state frame
-
--- so many of the exchanges are: one that is lost to both counts once
-abbrev pub losses_to : ℕ → Option ℕ → (told : List Exchange) (first last : SimState) → SimRun told first last → ℕ
-losses_to unit left [] first last run = 0
-losses_to unit left (x ∷ told) first last run = (if is_lost_to unit left run.0 x.frame then 1 else 0) + losses_to unit left told first run.0 run.1
 
 -- The states of the bus along a trace are listed newest first, each the one before its happening.
 

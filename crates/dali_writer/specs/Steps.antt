@@ -9,8 +9,7 @@ use Rattle.dali_writer.specs.Trace.{Start}
 use Rattle.dali_writer.specs.Parts.{Part, AreParts}
 use Rattle.dali_writer.specs.declared.happening.Reply.{Reply}
 use Rattle.dali_writer.specs.Legal.{IsFinished}
-use Rattle.dali_writer.specs.Course.{stood_at}
-use Rattle.dali_writer.specs.Work.{work_limit, order_at_hand}
+use Rattle.dali_writer.specs.Work.{stood_at, work_limit, order_at_hand}
 
 -- so many of the events are steps
 abbrev pub steps_in : List Event → ℕ

@@ -1,4 +1,4 @@
--- What an order sends from its start on. An order starts when it is taken, and when a stop leaves it begun or opened.
+-- How an order has come along since its start: the frames that it sent, joined from those of its sessions.
 use Rattle.std.specs.Prelude.{◌≡◌, ◌⊎◌, ◌≤◌, ℕ, suc, Bool, true, false, List, [], ◌∷◌, ◌++◌, Option, Some, None}
 use Rattle.dali_bank.specs.Order.{Contents}
 use Rattle.dali_journal.specs.declared.record.Code.{Code}
@@ -20,21 +20,7 @@ use Rattle.dali_writer.specs.declared.happening.Happening.{Happening}
 use Rattle.dali_writer.specs.declared.happening.Happening.TheVariants.{Answered, Kept, Stopped}
 use Rattle.dali_writer.specs.Trace.{Start, records_of, standing_at, sent_since_taken, waiting, has_ended}
 use Rattle.dali_writer.specs.ByPlan.{told_in, EndsIn}
-
--- where the records stood at the last start
-abbrev pub stood_at : Start → List Happening → Standing
-stood_at start [] = standing_of start.records
-stood_at start (Answered id replies.Taken ∷ past) = standing_at start past
-stood_at start (Stopped ∷ past) = standing_at start past
-stood_at start (other ∷ past) = stood_at start past
-
--- so many records were kept since then
-abbrev pub kept_since : List Happening → ℕ
-kept_since [] = 0
-kept_since (Kept entry ∷ past) = suc (kept_since past)
-kept_since (Answered id replies.Taken ∷ past) = 0
-kept_since (Stopped ∷ past) = 0
-kept_since (other ∷ past) = kept_since past
+use Rattle.dali_writer.specs.Work.{stood_at, kept_since}
 
 -- these frames closed the unit that was left at the start; where none was left, there are none, and there was no need of any where an order was opened
 abbrev pub ClosedBy : Standing → List Exchange → Type 0

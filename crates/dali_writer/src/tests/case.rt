@@ -240,11 +240,3 @@ pub(crate) fn judge(rt: &impl Abort, alloc: Global, case: &Case<'_>) -> Result<(
     }
     Ok(())
 }
-
-// Whether the last happening is this answer.
-pub(crate) fn ends(trace: &[Happening], reply: Reply) -> bool {
-    match trace.last() {
-        Some(Happening::Answered(_, last)) => *last == reply,
-        _ => false,
-    }
-}

@@ -26,7 +26,7 @@ ghost use Rattle.dali_write.specs.Tries.{most_tries, Missed, Misses, Succeeds, F
 ghost use Rattle.dali_write.specs.Walks.{Walk, misses_of, Took, TookAll};
 ghost use Rattle.dali_write.specs.Misses.{misses_in};
 ghost use Rattle.dali_write.specs.Successes.{TakesAll, found_verdict, Spared, MissesByLosses};
-ghost use Rattle.dali_bank.specs.Order.{RisesAbove};
+ghost use Rattle.dali_bank.specs.Order.{Contents, RisesAbove};
 ghost use Rattle.dali_write.specs.Doubts.{EndsUnread, EndsUnlooked, HasFailed, read_backs, FoundAnother};
 ghost use Rattle.dali_write.specs.Losses.{SimRun, losses, Unrefused, IsAlone, CanDo, OnlyDiffers};
 ghost use Rattle.dali_write.specs.Touches.{Touches, writes_of};
@@ -155,6 +155,17 @@ pub fn steps_outlive_losses()
     ensures succeeds { (at : ℕ) (step : Step) (unit : UnitState) (outcome : Option ℕ) (told : List Exchange) (first last : SimState) (run : SimRun told first last)
         → IsAlone at unit first.units → CanDo step unit → Unrefused told first last run → losses at told first last run < most_tries
         → Succeeds (step_lines at step) outcome told ⊎ Fails (step_lines at step) outcome told → Succeeds (step_lines at step) outcome told }
+{}
+
+/// The limits and the exact counts of sessions, as numbers.
+pub fn counts_are_these()
+    ensures tries { most_tries ≡ 8 }
+    ensures fresh { (order : Contents) → frame_limit (Job.Fresh order) ≡ 120 }
+    ensures opened { (order : Contents) → frame_limit (Job.Opened order) ≡ 96 * length order.updates + 248 }
+    ensures closing { frame_limit Job.Closing ≡ 96 }
+    ensures reading { frame_limit Job.Reading ≡ 10200 }
+    ensures done { (updates : ℕ) → done_frames updates ≡ 12 * updates + 19 }
+    ensures steps { (read_frames ≡ 5) × (write_frames ≡ 7) }
 {}
 
 /// How many frames an opened session took that ended Done.

@@ -59,7 +59,7 @@ pub record IsRun {S : Type 0} (world : S → World) (step : S → BusEvent → S
   pub legal : Legal (fresh limit) (reverse trace)
   pub finished : IsFinished (reverse trace)
   pub proper : SendsAllProper (reverse trace)
-  pub orders : AsksAllProper (reverse trace)
+  pub asked : AsksAllProper (reverse trace)
   -- each frame, record and saying is what the plan of the session at hand asks for, and so an order takes no more work than its limit, and is said in time
   pub planned : ByPlan (fresh limit) (reverse trace)
   pub worked : IsWorked (fresh limit) (reverse trace)

@@ -18,7 +18,7 @@ returns-clause-ok c =
       spared = record {
         states = ran.leads.states;
         chain = ran.leads.chain;
-        spared = λ none. all_spared (fresh c.args.limit) (world_of c.args.bus.now.units) c.args.bus.now (reverse outcome.trace.items) c.run.new.bus ran.leads.states refl ran.legal ran.planned ran.leads.chain ran.orders (ran.leads.right none);
+        spared = λ none. all_spared (fresh c.args.limit) (world_of c.args.bus.now.units) c.args.bus.now (reverse outcome.trace.items) c.run.new.bus ran.leads.states refl ran.legal ran.planned ran.leads.chain ran.asked (ran.leads.right none);
       };
     })
     c.run.ensures.ok

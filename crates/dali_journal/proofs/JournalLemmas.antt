@@ -16,7 +16,7 @@ use Rattle.dali_journal.specs.declared.kept.Stage.TheVariants as stages
 use Rattle.dali_journal.specs.declared.index.Place.{Place}
 use Rattle.dali_journal.specs.Sentence.{Allows, next_standing, standing_of, IsSentence, IsNew, HasShortUnit}
 use Rattle.dali_journal.specs.Orders.{come_to, orders_of, kept_of}
-use Rattle.dali_journal.specs.Spelling.{spelling, pairs_spelling, IsRecord}
+use Rattle.dali_journal.specs.Spelling.{spelling, pairs_spelling, NamesShortUnit, IsRecord}
 use Rattle.dali_journal.specs.Decoding.{records_in}
 use Rattle.dali_journal.specs.JournalState.{JournalState, bytes_due, HasRoom, MayBegin, KeepsRoom}
 use Rattle.dali_journal.specs.Index.{place_of, place_after, Agrees, EntersNumber, BeginsInRange, orders_begun, IsSound}
@@ -206,11 +206,17 @@ pairs_in_range : (pairs : List (ℕ × ℕ)) → AreBytes (pairs_spelling pairs)
 pairs_in_range [] bytes = tt
 pairs_in_range (pair ∷ pairs) bytes = (bytes.1.0, pairs_in_range pairs bytes.1.1)
 
-pub order_in_range : (bytes : List ℕ) (entry : Record) (order : Contents) → AreBytes bytes → bytes ≡ spelling entry → entry ≡ Began order
-    → order.id < 2 ^ 64 → order.unit ≤ 63 → AreUpdates order.updates → BeginsInRange entry
-order_in_range bytes entry order are same is id unit updates =
-    let spelled : AreBytes (spelling (Began order)) = subst AreBytes (same ∙ ap spelling is) are in
-    subst BeginsInRange (sym is) (id, unit, updates, pairs_in_range order.updates (bytes-drop 11 (spelling (Began order)) spelled))
+pub order_in_range : (bytes : List ℕ) (order : Contents) → AreBytes bytes → bytes ≡ spelling (Began order) → order.id < 2 ^ 64 → order.unit ≤ 63 → AreUpdates order.updates
+    → IsRecord (Began order)
+order_in_range bytes order are same id unit updates =
+    let spelled : AreBytes (spelling (Began order)) = subst AreBytes same are in
+    (id, unit, updates, pairs_in_range order.updates (bytes-drop 11 (spelling (Began order)) spelled))
+
+pub begins_in_range : (entry : Record) → (NamesShortUnit entry → IsRecord entry) → BeginsInRange entry
+begins_in_range (Began order) tells = tells tt
+begins_in_range (Opened unit) tells = tt
+begins_in_range (Ended code) tells = tt
+begins_in_range (Closed unit) tells = tt
 
 -- a number is in the index where a look-up finds it
 pub found_in : (id : ℕ) (index : List (ℕ × Place)) → is_some (lookup (nat_eq id) index) ≡ list_any (nat_eq id) (keys_of index)

@@ -1,5 +1,5 @@
 -- One step of a load.
-use Rattle.std.proofs.Common.{◌≡◌, ℕ, List, ◌++◌, length, drop, subst, arith}
+use Rattle.std.proofs.Common.{refl, ◌≡◌, ℕ, List, ◌++◌, length, drop, subst, arith}
 use Rattle.dali_journal.specs.declared.record.Record.{Record}
 use Rattle.dali_journal.specs.declared.fault.JournalFault.{JournalFault}
 use Rattle.dali_journal.specs.declared.fault.JournalFault.TheVariants as faults
@@ -7,7 +7,7 @@ use Rattle.dali_journal.specs.Spelling.{journal_spelling}
 use Rattle.dali_journal.specs.Reading.{BeginsWith}
 use Rattle.dali_journal.specs.JournalState.{JournalState, IsLimit, IsJournal}
 use Rattle.dali_journal.specs.Faults.{IsNewFault}
-use Rattle.dali_journal.specs.Loading.{AreKept, MayNotStand, IsRefused, IsFault, HasFault, IsLoadFault}
+use Rattle.dali_journal.specs.Loading.{AreKept, MayNotStand, IsRefused, IsFault, HasFault, IsLoadFault, JournalsLoadAgain}
 
 -- a fault behind records that are kept
 behind_records : (limit : ℕ) (bytes : List ℕ) (records : List Record) (at : ℕ) (fault : JournalFault)
@@ -50,3 +50,11 @@ new_fault (faults.Full place) limit bytes f = absurd f
 -- a journal's records are those of a journal with its limit
 pub journal_kept : (journal : JournalState) (limit : ℕ) → IsJournal journal → journal.limit ≡ limit → AreKept limit journal.records
 journal_kept journal limit is same = record { in_range = is.in_range; sentence = is.sentence; within = let w = is.within in omega arith }
+
+-- what a journal's bytes were, with a cut behind them, loads again
+pub loads_again : JournalsLoadAgain
+loads_again journal last cut is torn = (
+  is.limited,
+  journal_kept journal journal.limit is refl,
+  record { rest = cut; spelled = refl; cut = (last, torn); counts = refl },
+)

@@ -46,6 +46,12 @@ abbrev pub journal_spelling : List Record → List ℕ
 journal_spelling [] = []
 journal_spelling (newest ∷ older) = journal_spelling older ++ spelling newest
 
+-- a unit that the record names has a short address
+abbrev pub NamesShortUnit : Record → Type 0
+NamesShortUnit (Opened unit) = unit ≤ 63
+NamesShortUnit (Closed unit) = unit ≤ 63
+NamesShortUnit entry = ⊤
+
 -- a record whose numbers are in their ranges
 abbrev pub IsRecord : Record → Type 0
 IsRecord (Began order) = (order.id < 2 ^ 64) × (order.unit ≤ 63) × AreUpdates order.updates × AllByRecursion (λ update. update.1 < 256) order.updates

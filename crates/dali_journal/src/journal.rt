@@ -4,7 +4,7 @@ ghost use Rattle.dali_bank.specs.Order.{Contents};
 ghost use Rattle.dali_journal.specs.declared.record.Record.TheVariants.{Began};
 ghost use Rattle.dali_journal.specs.Sentence.{standing_of, Allows, HasShortUnit, is_begun};
 ghost use Rattle.dali_journal.specs.Orders.{kept_of};
-ghost use Rattle.dali_journal.specs.Index.{orders_begun, BeginsInRange};
+ghost use Rattle.dali_journal.specs.Index.{orders_begun};
 ghost use Rattle.dali_journal.specs.Spelling.{spelling, journal_spelling};
 ghost use Rattle.dali_journal.specs.JournalState.{HasRoom, MayBegin, KeepsRoom, IsLimit, IsJournal};
 ghost use Rattle.dali_journal.specs.JournalState.{order_count, bytes_due};
@@ -234,7 +234,6 @@ impl Journal {
         ensures kept_room { KeepsRoom entry self.old self.new }
     {
         let bytes = entry.bytes();
-        tell_range(&entry, &bytes);
         note(&mut self.index, &self.standing, &entry, self.bytes.len());
         self.orders += orders_begun(&entry);
         let standing = mem::replace(&mut self.standing, Standing::Idle);
@@ -266,18 +265,6 @@ fn orders_begun(entry: &Record) -> u32
     match entry {
         Record::Began(_) => 1,
         _ => 0,
-    }
-}
-
-// Where the record begins an order, the order's numbers are in range. It does nothing.
-fn tell_range(entry: &Record, bytes: &[u8])
-    requires { bytes.now ≡ spelling entry.now }
-    ensures { BeginsInRange entry.now }
-{
-    if let Record::Began(order) = entry {
-        let _id = order.id();
-        let _unit = order.unit();
-        let _updates = order.updates();
     }
 }
 

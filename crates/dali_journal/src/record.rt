@@ -1,6 +1,7 @@
 ghost use Rattle.std.specs.Prelude.{◌≡◌, ◌+◌, ◌*◌, ◌≤◌, ◌++◌, ◌∷◌, [], length};
 ghost use Rattle.arrayvec.specs.ArrayVec.{array_vec_len};
-ghost use Rattle.dali_journal.specs.Spelling.{spelling, order_spelling, pairs_spelling, code_number};
+ghost use Rattle.dali_journal.specs.declared.record.Record.TheVariants.{Began};
+ghost use Rattle.dali_journal.specs.Spelling.{spelling, order_spelling, pairs_spelling, code_number, NamesShortUnit, IsRecord};
 
 use arrayvec::ArrayVec;
 use dali_bank::Order;
@@ -71,11 +72,18 @@ impl Record {
     /// number in 8 bytes, the most significant first, its unit, the number of its updates and each
     /// update's location and byte; for `Opened` (O, 4Fh) and `Closed` (C, 43h) the unit; for `Ended`
     /// (E, 45h) the code's number.
+    ///
+    /// A record that names no unit over 63 has its numbers in their ranges: the types tell the rest.
     pub fn bytes(&self) -> ArrayVec<u8, MOST_BYTES>
-        ensures { result.items ≡ spelling self.now }
+        ensures spelled { result.items ≡ spelling self.now }
+        ensures in_range { NamesShortUnit self.now → IsRecord self.now }
     {
         match self {
-            Record::Began(order) => began_bytes(order),
+            Record::Began(order) => {
+                let bytes = began_bytes(order);
+                tell_range(order, &bytes);
+                bytes
+            }
             Record::Opened(unit) => two_bytes(b'O', *unit),
             Record::Ended(code) => two_bytes(b'E', code.number()),
             Record::Closed(unit) => two_bytes(b'C', *unit),
@@ -105,6 +113,16 @@ fn began_bytes(order: &Order) -> ArrayVec<u8, MOST_BYTES>
     bytes.push(updates.len() as u8);
     push_pairs(&mut bytes, updates);
     bytes
+}
+
+// The numbers of an order that these bytes spell are in their ranges. It does nothing.
+fn tell_range(order: &Order, bytes: &[u8])
+    requires { bytes.now ≡ spelling (Began order.now) }
+    ensures { IsRecord (Began order.now) }
+{
+    let _id = order.id();
+    let _unit = order.unit();
+    let _updates = order.updates();
 }
 
 // Puts each location and its byte at the end.

@@ -30,6 +30,9 @@ onto_stop start w trace mid new entry one two d =
     (subst (λ (t : List Happening). Describes start (Stopped ∷ t) w) (sym (ap reverse one ∙ reverse-append trace (Kept entry ∷ []))) d)
 
 -- the same of whatever is so of the happenings
+pub all_onto : (P : List Happening → Type 0) (trace new : List Happening) (next : Happening) → new ≡ trace ++ next ∷ [] → P (next ∷ reverse trace) → P (reverse new)
+all_onto P trace new next is so = subst P (sym (ap reverse is ∙ reverse-append trace (next ∷ []))) so
+
 pub all_onto_stop : (P : List Happening → Type 0) (trace mid new : List Happening) (entry : Record) → mid ≡ trace ++ Kept entry ∷ [] → new ≡ mid ++ Stopped ∷ []
     → P (Stopped ∷ Kept entry ∷ reverse trace) → P (reverse new)
 all_onto_stop P trace mid new entry one two so =

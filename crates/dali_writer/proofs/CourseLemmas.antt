@@ -87,7 +87,7 @@ opened_verdict order other verdicts.Silent ends = cc
 opened_verdict order other _ ends = absurd ends
 
 -- a left unit is closed, and no order ends there
-closed_verdict : (unit : ℕ) (verdict : Verdict) (entry : Record) → EndsIn (standings.Left unit) verdict entry → (verdict ≡ verdicts.Closed) × (entry ≡ Closed unit)
+pub closed_verdict : (unit : ℕ) (verdict : Verdict) (entry : Record) → EndsIn (standings.Left unit) verdict entry → (verdict ≡ verdicts.Closed) × (entry ≡ Closed unit)
 closed_verdict unit verdicts.Closed entry ends = (refl, ends)
 closed_verdict unit _ entry ends = absurd ends
 

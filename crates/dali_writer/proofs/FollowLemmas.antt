@@ -115,14 +115,14 @@ ended_planned start past stands verdict (Ended code) at asked ends = rw at (verd
 ended_planned start past stands verdict (Closed unit) at asked ends = rw at (verdict, asked, ends)
 
 -- the record that the writer keeps is the one that follows
-check_ends : (order : Contents) (verdict : Verdict) (entry : Record) → EndsFresh verdict → entry ≡ check_record order.unit verdict → EndsIn (standings.Began order) verdict entry
+pub check_ends : (order : Contents) (verdict : Verdict) (entry : Record) → EndsFresh verdict → entry ≡ check_record order.unit verdict → EndsIn (standings.Began order) verdict entry
 check_ends order verdicts.MayOpen entry fresh is = is
 check_ends order verdicts.Short entry fresh is = is
 check_ends order verdicts.Format entry fresh is = is
 check_ends order verdicts.Silent entry fresh is = is
 check_ends order _ entry fresh is = absurd fresh
 
-write_ends : (order : Contents) (verdict : Verdict) (entry : Record) → EndsOpened verdict → entry ≡ Ended (write_code verdict) → EndsIn (standings.Opened order) verdict entry
+pub write_ends : (order : Contents) (verdict : Verdict) (entry : Record) → EndsOpened verdict → entry ≡ Ended (write_code verdict) → EndsIn (standings.Opened order) verdict entry
 write_ends order verdicts.Done entry opened is = is
 write_ends order verdicts.Doubt entry opened is = is
 write_ends order verdicts.DoubtOpen entry opened is = is

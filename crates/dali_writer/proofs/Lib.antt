@@ -20,11 +20,13 @@ pub mod KeepLemmas
 pub mod FollowLemmas
 pub mod Courses
 pub mod CourseLemmas
+pub mod NextRecordLemmas
 pub mod WorkLemmas
 pub mod SparedLemmas
 pub mod ValidLemmas
 pub mod OnsetLemmas
 pub mod StepsLemmas
 pub mod SubmitLemmas
+pub mod StopLemmas
 pub mod ChainLemmas
 pub mod PartsLemmas

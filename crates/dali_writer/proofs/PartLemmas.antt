@@ -18,10 +18,10 @@ stopped_is : (before : List Happening) → Stopped ∷ begun ≡ Stopped ∷ bef
 stopped_is before e = cc
 
 pub not_cut : AreParts empty (Stop 22 ∷ Submit first_order ∷ []) (Stopped ∷ begun) → ⊥
-not_cut (before, inl stopped, (first, (reply, after), none)) =
+not_cut (before, inl (stopped, none), (first, (reply, after), start)) =
     let is : before ≡ begun = stopped_is before stopped in
     let never : begun ≡ Answered 1 reply ∷ Asked first_order ∷ first = sym is ∙ after in cc
-not_cut (before, inr (entry, few, stopped), rest) =
+not_cut (before, inr (entry, next, few, stopped), rest) =
     let is : Began first_order ≡ entry = kept_is entry before stopped in
     let long : length (spelling (Began first_order)) ≤ 22 = subst (λ (r : Record). length (spelling r) ≤ 22) (sym is) few in
     omega (arith, long)

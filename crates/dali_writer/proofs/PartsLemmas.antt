@@ -1,10 +1,14 @@
 -- Parts go on by one event.
-use Rattle.std.proofs.Common.{◌∙◌, ◌+◌, ◌<◌, ◌≤◌, ◌≡◌, refl, zero, suc, arith, ap, sym, subst, ℕ, List, [], ◌∷◌, length, take, reverse, get_or}
+use Rattle.std.proofs.Common.{◌∙◌, ◌+◌, ◌<◌, ◌≤◌, ◌≡◌, ◌++◌, inl, inr, refl, zero, suc, arith, ap, sym, subst, ℕ, List, [], ◌∷◌, length, take, reverse, get_or}
 use Rattle.std.proofs.lemmas.List.{take_more, reverse-append}
 use Rattle.dali_writer.specs.declared.happening.Event.{Event}
 use Rattle.dali_writer.specs.declared.happening.Happening.{Happening}
 use Rattle.dali_writer.specs.Trace.{Start}
-use Rattle.dali_writer.specs.Parts.{Part, AreParts}
+use Rattle.dali_journal.specs.declared.record.Record.{Record}
+use Rattle.dali_journal.specs.Spelling.{spelling}
+use Rattle.dali_writer.specs.declared.happening.Event.TheVariants.{Stop}
+use Rattle.dali_writer.specs.declared.happening.Happening.TheVariants.{Kept, Stopped}
+use Rattle.dali_writer.specs.Parts.{IsKeptNext, Part, AreParts}
 
 pub more_parts : (start : Start) (events : List Event) (i : ℕ) (d : Event) (before after : List Happening) → i < length events → AreParts start (reverse (take i events)) before
     → Part start (get_or events i d) before after → AreParts start (reverse (take (i + 1) events)) after
@@ -20,3 +24,16 @@ all_parts start events i trace end parts = subst (λ (es : List Event). AreParts
     take_all [] (suc i) end = refl
     take_all (x ∷ xs) zero end = absurd (omega arith)
     take_all (x ∷ xs) (suc i) end = ap (λ (t : List Event). x ∷ t) (take_all xs i (omega arith))
+
+-- the part of a stop, where the traces are written oldest first
+
+pub stop_kept : (start : Start) (event : Event) (bytes : ℕ) (trace mid new : List Happening) (entry : Record) → event ≡ Stop bytes → mid ≡ trace ++ Kept entry ∷ [] → new ≡ mid ++ Stopped ∷ []
+    → IsKeptNext start (reverse trace) entry → length (spelling entry) ≤ bytes → Part start event (reverse trace) (reverse new)
+stop_kept start event bytes trace mid new entry is one two next few =
+    subst (λ (e : Event). Part start e (reverse trace) (reverse new)) (sym is)
+    (inr (entry, next, few, ap reverse two ∙ reverse-append mid (Stopped ∷ []) ∙ ap (λ (past : List Happening). Stopped ∷ past) (ap reverse one ∙ reverse-append trace (Kept entry ∷ []))))
+
+pub stop_cut : (start : Start) (event : Event) (bytes : ℕ) (trace new : List Happening) → event ≡ Stop bytes → new ≡ trace ++ Stopped ∷ []
+    → ((entry : Record) → IsKeptNext start (reverse trace) entry → bytes < length (spelling entry)) → Part start event (reverse trace) (reverse new)
+stop_cut start event bytes trace new is one none =
+    subst (λ (e : Event). Part start e (reverse trace) (reverse new)) (sym is) (inl (ap reverse one ∙ reverse-append trace (Stopped ∷ []), none))

@@ -304,8 +304,8 @@ part_finished start Step before after (inl (due, (work, is, same))) finished = s
     by (Asked other) is = absurd is
     by Stopped is = absurd is
 part_finished start Step before after (inr (due, same)) finished = subst IsFinished (sym same) finished
-part_finished start (Stop bytes) before after (inl same) finished = subst IsFinished (sym same) tt
-part_finished start (Stop bytes) before after (inr (entry, few, same)) finished = subst IsFinished (sym same) tt
+part_finished start (Stop bytes) before after (inl (same, none)) finished = subst IsFinished (sym same) tt
+part_finished start (Stop bytes) before after (inr (entry, next, few, same)) finished = subst IsFinished (sym same) tt
 
 parts_finished : (start : Start) (events : List Event) (trace : List Happening) → AreParts start events trace → IsFinished trace
 parts_finished start [] trace same = subst IsFinished (sym same) tt

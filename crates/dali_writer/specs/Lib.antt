@@ -2,7 +2,6 @@ pub mod Trace
 pub mod Replies
 pub mod Grounds
 pub mod Legal
-pub mod Parts
 pub mod Taken
 pub mod Possible
 pub mod Moves
@@ -17,6 +16,7 @@ pub mod Held
 pub mod Inside
 pub mod Describes
 pub mod ByPlan
+pub mod Parts
 pub mod Follows
 pub mod Work
 pub mod Spared

@@ -7,6 +7,7 @@ mod happening;
 pub mod laws;
 mod phase;
 mod runs;
+mod stops;
 #[cfg(test)]
 mod tests;
 mod writer;

@@ -1,7 +1,9 @@
-ghost use Rattle.std.specs.Prelude.{◌≡◌};
+ghost use Rattle.std.specs.Prelude.{◌≡◌, ◌≤◌};
 ghost use Rattle.dali_frame.specs.declared.forward.Frame.{Frame};
 ghost use Rattle.dali_frame.specs.Frame.{IsProper};
 ghost use Rattle.dali_writer.specs.declared.happening.Want.{Want};
+ghost use Rattle.dali_journal.specs.declared.record.Record.{Record};
+ghost use Rattle.dali_journal.specs.Spelling.{NamesShortUnit};
 ghost use Rattle.dali_writer.specs.Phases.{want_of, check_record, check_code, write_code, is_idle};
 ghost use Rattle.dali_writer.specs.Held.{IsAfterCheck, IsResumed};
 
@@ -38,6 +40,7 @@ impl Phase {
     pub(crate) fn want(&self) -> Want
         ensures want { result ≡ want_of self.now }
         ensures proper { (frame : Frame) → result ≡ Want.Send frame → IsProper frame }
+        ensures short { (entry : Record) → result ≡ Want.Keep entry → NamesShortUnit entry }
     {
         match self {
             Phase::Idle => Want::Idle,
@@ -62,7 +65,8 @@ impl Phase {
 
 // The record by which a fresh session is followed that ended so.
 pub(crate) fn check_record(unit: u8, verdict: Verdict) -> Record
-    ensures { result ≡ check_record unit verdict }
+    ensures record { result ≡ check_record unit verdict }
+    ensures short { unit ≤ 63 → NamesShortUnit result }
 {
     match verdict {
         Verdict::MayOpen => Record::Opened(unit),

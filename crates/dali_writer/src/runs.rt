@@ -18,9 +18,10 @@ ghost use Rattle.dali_gear.specs.SimState.{SimStep, world_of};
 
 use crate::fault::RunFault;
 use crate::happening::{Event, Happening, Want};
+use crate::stops::{keep_within, left_by, loaded_again};
 use crate::writer::Writer;
 use dali_gear::{Bus, SimBus};
-use dali_journal::{Journal, Record};
+use dali_journal::Journal;
 use std::alloc::Global;
 
 // Does once what the writer wants, if it wants something.
@@ -53,37 +54,18 @@ fn advance<B: Bus>(bus: &mut B, writer: &mut Writer) -> Option<Happening>
     }
 }
 
-// Keeps the record that is wanted, where one is and no more than these bytes of it reach the journal
-// but all do.
-fn keep_within(writer: &mut Writer, bytes: u16) -> Option<Record>
-    ensures described { IfSome result (λ entry. (start : Start) (past : List Happening) → Describes start past writer.old → Describes start (happenings.Kept entry ∷ past) writer.new) }
-    ensures follows { IfSome result (λ entry. (start : Start) (past : List Happening) → Describes start past writer.old → Follows start past writer.old → Follows start (happenings.Kept entry ∷ past) writer.new) }
-    ensures few { IfSome result (λ entry. length (spelling entry) ≤ bytes) }
-    ensures none { IsNone result → writer.new ≡ writer.old }
-{
-    match writer.want() {
-        Want::Keep(entry) => {
-            if entry.bytes().len() <= usize::from(bytes) {
-                writer.kept();
-                Some(entry)
-            } else {
-                None
-            }
-        }
-        _ => None,
-    }
-}
-
-// Serves one event. All memory that it takes, it takes before anything happens.
+// Serves one event. All memory that it takes, it takes before anything is added to the trace.
 fn serve<B: Bus>(
+    alloc: Global,
     bus: &mut B,
     writer: &mut Writer,
     trace: &mut Vec<Happening>,
     event: &Event,
 ) -> Result<(), RunFault>
-    ensures described { (start : Start) → Describes start (reverse trace.old.items) writer.old → Describes start (reverse trace.new.items) writer.new }
-    ensures follows { (start : Start) → Describes start (reverse trace.old.items) writer.old → Follows start (reverse trace.old.items) writer.old → Follows start (reverse trace.new.items) writer.new }
-    ensures part { OnOk result ((start : Start) → Describes start (reverse trace.old.items) writer.old
+    ensures described { OnOk result ((start : Start) → Describes start (reverse trace.old.items) writer.old → Describes start (reverse trace.new.items) writer.new) }
+    ensures follows { OnOk result ((start : Start) → Describes start (reverse trace.old.items) writer.old → Follows start (reverse trace.old.items) writer.old
+        → Follows start (reverse trace.new.items) writer.new) }
+    ensures part { OnOk result ((start : Start) → Describes start (reverse trace.old.items) writer.old → Follows start (reverse trace.old.items) writer.old
         → Part start event.now (reverse trace.old.items) (reverse trace.new.items)) }
     ensures err { OnErr result (trace.new.items ≡ trace.old.items) }
     ensures fault { IfErr result (λ fault. fault ≡ faults.NoMemory) }
@@ -105,12 +87,14 @@ fn serve<B: Bus>(
         }
         Event::Stop(bytes) => match keep_within(writer, *bytes) {
             Some(entry) => {
-                writer.stop();
+                let journal = loaded_again(alloc, writer.journal(), &[])?;
+                *writer = Writer::new(journal);
                 trace.push_reserved(Happening::Kept(entry));
                 trace.push_reserved(Happening::Stopped);
             }
             None => {
-                writer.stop();
+                let journal = left_by(alloc, writer, *bytes)?;
+                *writer = Writer::new(journal);
                 trace.push_reserved(Happening::Stopped);
             }
         },
@@ -130,8 +114,9 @@ pub struct Outcome {
 /// Serves the events in their order, over a bus and an empty journal for at most so many orders
 /// (profile).
 ///
-/// A `Submit` takes an order and replies. A `Step` does the next thing, if there is one. A `Stop`
-/// begins anew from the records of the journal.
+/// A `Submit` takes an order and replies. A `Step` does the next thing, if there is one. A `Stop` leaves
+/// the journal's bytes, with the first ones of the record that was to be kept next, and all goes on from
+/// the journal that is loaded from them.
 ///
 /// Fault 1 Limit where the limit is 0 or over 100000, before anything is done; 2 NoMemory where there
 /// is no memory: then the bus stands where the events so far left it.
@@ -152,7 +137,7 @@ pub fn run<B: Bus>(
     let mut writer = Writer::new(journal);
     let mut trace = Vec::new(alloc);
     for event in events {
-        serve(bus, &mut writer, &mut trace, event)?;
+        serve(alloc, bus, &mut writer, &mut trace, event)?;
     }
     Ok(Outcome {
         journal: writer.journal().to_bytes(alloc)?,

@@ -1,4 +1,4 @@
-ghost use Rattle.std.specs.Prelude.{◌≡◌, ◌<◌, ◌⊎◌, ◌∷◌, [], ℕ, List, Option, IfOk, OnErr, IsOk, IfSome, IsNone};
+ghost use Rattle.std.specs.Prelude.{◌≡◌, ◌↔◌, ◌<◌, ◌⊎◌, ◌∷◌, [], ℕ, List, Option, IfOk, OnErr, IsOk, IfSome, IsNone};
 ghost use Rattle.dali_frame.specs.declared.forward.Frame.{Frame};
 ghost use Rattle.dali_frame.specs.Frame.{IsProper};
 ghost use Rattle.dali_journal.specs.declared.record.Record.{Record};
@@ -13,7 +13,9 @@ ghost use Rattle.dali_writer.specs.declared.happening.Want.{Want};
 ghost use Rattle.dali_writer.specs.Trace.{Start, is_busy};
 ghost use Rattle.dali_writer.specs.Phases.{want_of, is_wanting, IsKeep, IsSend, IsSay};
 ghost use Rattle.dali_writer.specs.Replies.{IsNotEnded, IsKnownReply, IsReply};
-ghost use Rattle.dali_writer.specs.Held.{IsFirst, IsAtRest};
+ghost use Rattle.dali_writer.specs.Held.{Held, IsFirst, IsAtRest};
+ghost use Rattle.dali_writer.specs.Parts.{IsKeptNext};
+ghost use Rattle.dali_journal.specs.Spelling.{NamesShortUnit};
 ghost use Rattle.dali_writer.specs.WorkLeft.{work_left};
 ghost use Rattle.dali_writer.specs.Describes.{Describes};
 ghost use Rattle.dali_writer.specs.Follows.{Follows};
@@ -49,23 +51,19 @@ impl Model for Writer {
 
 impl Writer {
     /// A writer that goes on from what the journal says: an order that was begun is looked at anew,
-    /// one that was opened is carried out anew, and a unit that was left stays left.
+    /// one that was opened is carried out anew, and a unit that was left stays left. So does a program
+    /// that was stopped, from the journal that it loads: `stopped`.
     pub fn new(journal: Journal) -> Writer
         ensures described { (start : Start) → start.records ≡ journal.records → start.limit ≡ journal.limit → Describes start [] result }
         ensures follows { (start : Start) → Follows start [] result }
         ensures journal { result.journal ≡ journal }
         ensures rest { IsAtRest result }
+        ensures stopped { (start : Start) (past : List Happening) (before : Held) → Describes start past before → before.journal.records ≡ journal.records → before.journal.limit ≡ journal.limit
+            → Describes start (happenings.Stopped ∷ past) result }
+        ensures stopped_follows { (start : Start) (past : List Happening) (before : Held) → Follows start past before → Follows start (happenings.Stopped ∷ past) result }
     {
         let phase = resumed_phase(journal.standing());
         Writer { journal, phase }
-    }
-
-    // A stop: all is lost but the journal.
-    pub(crate) fn stop(&mut self)
-        ensures described { (start : Start) (past : List Happening) → Describes start past self.old → Describes start (happenings.Stopped ∷ past) self.new }
-        ensures follows { (start : Start) (past : List Happening) → Follows start past self.old → Follows start (happenings.Stopped ∷ past) self.new }
-    {
-        self.phase = resumed_phase(self.journal.standing());
     }
 
     /// The writer's journal.
@@ -81,6 +79,9 @@ impl Writer {
         ensures busy { (start : Start) (past : List Happening) → Describes start past self.now → is_busy start past ≡ is_wanting result }
         ensures proper { (frame : Frame) → result ≡ Want.Send frame → IsProper frame }
         ensures rest { result ≡ Want.Idle → IsAtRest self.now }
+        ensures short { (entry : Record) → result ≡ Want.Keep entry → NamesShortUnit entry }
+        ensures next { (start : Start) (past : List Happening) → Describes start past self.now → Follows start past self.now
+            → (entry : Record) → (result ≡ Want.Keep entry) ↔ IsKeptNext start past entry }
     {
         self.phase.want()
     }

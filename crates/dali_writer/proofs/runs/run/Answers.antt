@@ -36,22 +36,22 @@ loop-event-init g c = rw c.new-trace.ensures.items (record {
 
 pub returns-in_err-serve-clause-err : goal.returns-in_err-serve-clause-err
 returns-in_err-serve-clause-err g c =
-    let described : Describes (fresh c.args.limit) (reverse c.serve.new.trace.items) c.serve.new.writer = c.serve.ensures.described _ c.loop-event.invariant.described in
-    let leads : Chain (MovesBy g.B.Bus.step) c.args.bus.now (reverse c.serve.new.trace.items) c.serve.new.bus = c.serve.ensures.leads _ c.loop-event.invariant.chain in
+    let at = c.loop-event.invariant in
+    let leads : Chain (MovesBy g.B.Bus.step) c.args.bus.now (reverse c.loop-event.trace.items) c.serve.new.bus = rw c.in_err-serve.ensures.err at (c.serve.ensures.leads _ at.chain) in
     let p = err_from_is_err_and c.from_residual.result c.from_residual.ensures.1 in rw p.1 (record {
-      past = reverse c.serve.new.trace.items;
+      past = reverse c.loop-event.trace.items;
       served = c.loop-event.event-index;
-      parts = rw c.in_err-serve.ensures.err c.loop-event.invariant.parts;
-      legal = described.legal;
-      planned = (c.serve.ensures.follows _ c.loop-event.invariant.described c.loop-event.invariant.follows).planned;
-      leads = right g.B.Bus.world g.B.Bus.step g.met.B.Bus.allowed c.args.limit c.args.bus.now c.serve.new.bus _ described.legal leads;
+      parts = at.parts;
+      legal = at.described.legal;
+      planned = at.follows.planned;
+      leads = right g.B.Bus.world g.B.Bus.step g.met.B.Bus.allowed c.args.limit c.args.bus.now c.serve.new.bus _ at.described.legal leads;
     })
 
 pub loop-event-preserved : goal.loop-event-preserved
 loop-event-preserved g c = record {
-  described = c.serve.ensures.described _ c.loop-event.invariant.described;
-  follows = c.serve.ensures.follows _ c.loop-event.invariant.described c.loop-event.invariant.follows;
-  parts = more_parts (fresh c.args.limit) _ _ _ _ _ c.loop-event-test.true c.loop-event.invariant.parts (rw c.event-item.is at (c.in_ok-serve.ensures.part _ c.loop-event.invariant.described));
+  described = c.in_ok-serve.ensures.described _ c.loop-event.invariant.described;
+  follows = c.in_ok-serve.ensures.follows _ c.loop-event.invariant.described c.loop-event.invariant.follows;
+  parts = more_parts (fresh c.args.limit) _ _ _ _ _ c.loop-event-test.true c.loop-event.invariant.parts (rw c.event-item.is at (c.in_ok-serve.ensures.part _ c.loop-event.invariant.described c.loop-event.invariant.follows));
   proper = c.serve.ensures.proper c.loop-event.invariant.proper;
   orders = c.serve.ensures.orders c.loop-event.invariant.orders;
   chain = c.serve.ensures.leads _ c.loop-event.invariant.chain;

@@ -7,7 +7,7 @@ pub invariant_of-self-in-Ended : goal.invariant_of-self-in-Ended
 invariant_of-self-in-Ended c = record {
   ready = ready_checked c.self.inside.journal c.append-in-Ended.new.self c.in-Checks.order c.in-Checks.session c.in-Ended.verdict c.after_check-self-inside.result
       (rw (← c.in-Checks.ensures.value) at c.self.invariant.ready) c.after_check-self-inside.ensures
-      (rw (c.check_record.ensures, c.unit.ensures.value) at c.append-in-Ended.ensures.records);
+      (rw (c.check_record.ensures.record, c.unit.ensures.value) at c.append-in-Ended.ensures.records);
 }
 
 pub invariant_of-self-in-Ended-want : goal.invariant_of-self-in-Ended-want
@@ -34,7 +34,7 @@ returns-in-Ended-clause-described c = λ start past entry want d.
     keeps_checked start past c.self.inside.journal c.append-in-Ended.new.self c.self.inside.phase c.in-Checks.order c.in-Checks.session c.in-Ended.verdict
     c.after_check-self-inside.result entry c.in-Checks.ensures.value (rw (← c.self.view_is) at d) c.self.invariant.ready (rw (← c.self.view_is) at want)
     (sym c.in-Ended.ensures.aim) c.after_check-self-inside.ensures
-    (rw (c.check_record.ensures, c.unit.ensures.value) at c.append-in-Ended.ensures.records) c.append-in-Ended.ensures.limit
+    (rw (c.check_record.ensures.record, c.unit.ensures.value) at c.append-in-Ended.ensures.records) c.append-in-Ended.ensures.limit
 
 pub returns-in-Ended-want-clause-described : goal.returns-in-Ended-want-clause-described
 returns-in-Ended-want-clause-described c = λ start past entry want d.

@@ -1,6 +1,7 @@
 use Rattle.std.proofs.Common.{inl, ◌∙◌, sym, ap}
 use Rattle.dali_writer.specs.Phases.{is_wanting}
 use Rattle.dali_writer.proofs.StepLemmas.{busy_at, idle_wanted}
+use Rattle.dali_writer.proofs.NextRecordLemmas.{next_record}
 use Rattle.dali_writer.proofs.writer.Writer.want.Goals as goal
 
 pub returns-clause-busy : goal.returns-clause-busy
@@ -9,3 +10,8 @@ returns-clause-busy c = λ start past d.
 
 pub returns-clause-rest : goal.returns-clause-rest
 returns-clause-rest c = λ is. inl (rw (← c.self.view_is) (idle_wanted c.self.inside.phase (sym c.want.ensures.want ∙ is)))
+
+pub returns-clause-next : goal.returns-clause-next
+returns-clause-next c = λ start past d f entry.
+    let next = next_record start past c.self.inside.journal c.self.inside.phase entry (rw (← c.self.view_is) at d) (rw (← c.self.view_is) at f) c.self.invariant.ready in
+    (λ is. next.0 (sym c.want.ensures.want ∙ is), λ is. c.want.ensures.want ∙ next.1 is)

@@ -1,0 +1,117 @@
+-- A writer wants a record kept exactly where that is the one that is to be kept next.
+use Rattle.std.proofs.Common.{◌≡◌, ◌↔◌, refl, sym, ap, ◌∙◌, subst, ℕ, Bool, true, false, List, [], ◌∷◌, Option, Some, None}
+use Rattle.dali_bank.specs.Order.{Contents}
+use Rattle.dali_journal.specs.declared.record.Record.{Record}
+use Rattle.dali_journal.specs.declared.record.Record.TheVariants.{Began, Opened, Ended, Closed}
+use Rattle.dali_journal.specs.declared.standing.Standing.{Standing}
+use Rattle.dali_journal.specs.declared.standing.Standing.TheVariants as standings
+use Rattle.dali_journal.specs.JournalState.{JournalState}
+use Rattle.dali_write.specs.Exchanges.{Exchange}
+use Rattle.dali_write.specs.declared.ask.Ask.{Ask}
+use Rattle.dali_write.specs.declared.ask.Ask.TheVariants as asks
+use Rattle.dali_write.specs.declared.ask.Verdict.{Verdict}
+use Rattle.dali_write.specs.declared.ask.Verdict.TheVariants as verdicts
+use Rattle.dali_write.specs.declared.session.Session.{Session}
+use Rattle.dali_write.specs.Plans.{read_length, unlock, close}
+use Rattle.dali_write.specs.Told.{unit_of, aim_of}
+use Rattle.dali_write.proofs.DeterminedLemmas.{wants_one}
+use Rattle.dali_write.proofs.KindLemmas.{fresh_ends, opened_ends}
+use Rattle.dali_write.proofs.SessionLemmas.{fresh_wants, opened_wants, closing_wants}
+use Rattle.dali_writer.specs.declared.happening.Happening.{Happening}
+use Rattle.dali_writer.specs.declared.happening.Want.TheVariants.{Keep}
+use Rattle.dali_writer.specs.declared.phase.Phase.{Phase}
+use Rattle.dali_writer.specs.declared.phase.Phase.TheVariants.{Idle, Begins, Checks, Writes, Closes, Says}
+use Rattle.dali_writer.specs.Trace.{Start, standing_at, waiting, is_at_work}
+use Rattle.dali_writer.specs.Phases.{want_of, check_of, write_of, closing_of, check_record, write_code}
+use Rattle.dali_writer.specs.Held.{IsReady}
+use Rattle.dali_writer.specs.Describes.{Describes}
+use Rattle.dali_writer.specs.ByPlan.{told_in, Asks, EndsIn}
+use Rattle.dali_writer.specs.Follows.{Follows}
+use Rattle.dali_writer.specs.Parts.{NextRecord, IsKeptNext}
+use Rattle.dali_writer.proofs.StepLemmas.{stands_so}
+use Rattle.dali_writer.proofs.TakenLemmas.{none_waits, none_waits_ended}
+use Rattle.dali_writer.proofs.KeepLemmas.{same_entry, closing_keeps}
+use Rattle.dali_writer.proofs.CourseLemmas.{closed_verdict}
+use Rattle.dali_writer.proofs.FollowLemmas.{check_ends, write_ends}
+
+-- what is wanted is next
+
+check_next : (order : Contents) (told : List Exchange) (waits : Option Contents) (entry : Record) (ask : Ask) → Asks (standings.Began order) told ask
+    → check_of order.unit ask ≡ Keep entry → NextRecord (standings.Began order) waits told entry
+check_next order told waits entry (asks.Send frame) asked want = cc
+check_next order told waits entry (asks.Ended verdict) asked want =
+    (verdict, asked, check_ends order verdict entry (fresh_ends told order.unit order.updates verdict asked) (sym (same_entry (check_record order.unit verdict) entry want)))
+
+write_next : (order : Contents) (told : List Exchange) (waits : Option Contents) (entry : Record) (ask : Ask) → Asks (standings.Opened order) told ask
+    → write_of ask ≡ Keep entry → NextRecord (standings.Opened order) waits told entry
+write_next order told waits entry (asks.Send frame) asked want = cc
+write_next order told waits entry (asks.Ended verdict) asked want =
+    (verdict, asked, write_ends order verdict entry (opened_ends told order.unit order.updates verdict asked) (sym (same_entry (Ended (write_code verdict)) entry want)))
+
+wanted_next : (start : Start) (past : List Happening) (journal : JournalState) (phase : Phase) (entry : Record) → Describes start past (record { journal = journal; phase = phase })
+    → Follows start past (record { journal = journal; phase = phase }) → IsReady phase journal → want_of phase ≡ Keep entry → IsKeptNext start past entry
+wanted_next start past journal Idle entry d f ready want = cc
+wanted_next start past journal (Says id code) entry d f ready want = cc
+wanted_next start past journal (Begins order) entry d f ready want =
+    rw (stands_so start past _ _ d ready.0, d.place) (sym (same_entry (Began order) entry want))
+wanted_next start past journal (Checks order s) entry d f ready want =
+    rw (stands_so start past _ _ d ready.0) (check_next order (told_in past) (waiting past) entry (aim_of s) (fresh_wants order (told_in past) s (aim_of s) ready.1 f.told refl) want)
+wanted_next start past journal (Writes order s) entry d f ready want =
+    rw (stands_so start past _ _ d ready.0) (write_next order (told_in past) (waiting past) entry (aim_of s) (opened_wants order (told_in past) s (aim_of s) ready.1 f.told refl) want)
+wanted_next start past journal (Closes order s) entry d f ready want =
+    let is = closing_keeps order.id (unit_of s) (aim_of s) entry want in
+    let asked : Asks (standings.Left (unit_of s)) (told_in past) (asks.Ended verdicts.Closed) =
+    closing_wants (unit_of s) (told_in past) s (asks.Ended verdicts.Closed) ready.1 f.told is.0 in
+    rw (stands_so start past _ _ d ready.0, d.place.0) (verdicts.Closed, asked, sym is.1)
+
+-- what is next is wanted
+
+none_next : (stands : Standing) (waits : Option Contents) (told : List Exchange) (entry : Record) → is_at_work stands ≡ false → waits ≡ None → NextRecord stands waits told entry → ⊥
+none_next standings.Idle None told entry idle none next = next
+none_next standings.Idle (Some order) told entry idle none next = cc
+none_next (standings.Left unit) None told entry idle none next = next
+none_next (standings.Left unit) (Some order) told entry idle none next = cc
+none_next (standings.Began order) waits told entry idle none next = cc
+none_next (standings.Opened order) waits told entry idle none next = cc
+
+ends_check : (order : Contents) (verdict : Verdict) (entry : Record) → EndsIn (standings.Began order) verdict entry → Keep (check_record order.unit verdict) ≡ Keep entry
+ends_check order verdicts.MayOpen entry ends = ap Keep (sym ends)
+ends_check order verdicts.Short entry ends = ap Keep (sym ends)
+ends_check order verdicts.Format entry ends = ap Keep (sym ends)
+ends_check order verdicts.Silent entry ends = ap Keep (sym ends)
+ends_check order _ entry ends = absurd ends
+
+ends_write : (order : Contents) (verdict : Verdict) (entry : Record) → EndsIn (standings.Opened order) verdict entry → Keep (Ended (write_code verdict)) ≡ Keep entry
+ends_write order verdicts.Done entry ends = ap Keep (sym ends)
+ends_write order verdicts.Doubt entry ends = ap Keep (sym ends)
+ends_write order verdicts.DoubtOpen entry ends = ap Keep (sym ends)
+ends_write order _ entry ends = absurd ends
+
+next_wanted : (start : Start) (past : List Happening) (journal : JournalState) (phase : Phase) (entry : Record) → Describes start past (record { journal = journal; phase = phase })
+    → Follows start past (record { journal = journal; phase = phase }) → IsReady phase journal → IsKeptNext start past entry → want_of phase ≡ Keep entry
+next_wanted start past journal Idle entry d f ready next =
+    absurd (none_next (standing_at start past) (waiting past) (told_in past) entry (ap is_at_work (stands_so start past _ _ d refl) ∙ ready) (none_waits start past d.legal d.place) next)
+next_wanted start past journal (Says id code) entry d f ready next =
+    absurd (none_next (standing_at start past) (waiting past) (told_in past) entry (ap is_at_work (stands_so start past _ _ d refl) ∙ ready.0) (none_waits_ended start past d.legal d.place) next)
+next_wanted start past journal (Begins order) entry d f ready next =
+    let is : NextRecord standings.Idle (Some order) (told_in past) entry = rw (stands_so start past _ _ d ready.0, d.place) at next in
+    ap Keep (sym is)
+next_wanted start past journal (Checks order s) entry d f ready next =
+    let is : NextRecord (standings.Began order) (waiting past) (told_in past) entry = rw (stands_so start past _ _ d ready.0) at next in
+    let aim = wants_one (told_in past) order.unit (read_length order.updates) (aim_of s) (asks.Ended is.0) (fresh_wants order (told_in past) s (aim_of s) ready.1 f.told refl) is.1 in
+    rw aim (ends_check order is.0 entry is.2)
+next_wanted start past journal (Writes order s) entry d f ready next =
+    let is : NextRecord (standings.Opened order) (waiting past) (told_in past) entry = rw (stands_so start past _ _ d ready.0) at next in
+    let aim = wants_one (told_in past) order.unit (unlock order.updates) (aim_of s) (asks.Ended is.0) (opened_wants order (told_in past) s (aim_of s) ready.1 f.told refl) is.1 in
+    rw aim (ends_write order is.0 entry is.2)
+next_wanted start past journal (Closes order s) entry d f ready next =
+    let is : NextRecord (standings.Left (unit_of s)) (Some order) (told_in past) entry = rw (stands_so start past _ _ d ready.0, d.place.0) at next in
+    let closed = closed_verdict (unit_of s) is.0 entry is.2 in
+    let aim = wants_one (told_in past) (unit_of s) (close verdicts.Closed verdicts.NotClosed) (aim_of s) (asks.Ended is.0) (closing_wants (unit_of s) (told_in past) s (aim_of s) ready.1 f.told refl) is.1 in
+    let ended : aim_of s ≡ asks.Ended verdicts.Closed = aim ∙ ap asks.Ended closed.0 in
+    rw ended (ap Keep (sym closed.1))
+
+pub next_record : (start : Start) (past : List Happening) (journal : JournalState) (phase : Phase) (entry : Record) → Describes start past (record { journal = journal; phase = phase })
+    → Follows start past (record { journal = journal; phase = phase }) → IsReady phase journal → (want_of phase ≡ Keep entry) ↔ IsKeptNext start past entry
+next_record start past journal phase entry d f ready =
+    (λ want. wanted_next start past journal phase entry d f ready want, λ next. next_wanted start past journal phase entry d f ready next)

@@ -1,4 +1,5 @@
 pub mod ItemLemmas
 pub mod MemberLemmas
 pub mod ValueLemmas
+pub mod KeyLemmas
 pub mod SetupLemmas

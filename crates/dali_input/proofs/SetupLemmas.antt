@@ -22,7 +22,7 @@ use Rattle.dali_input.specs.declared.scenario.EventPlan.{EventPlan}
 use Rattle.dali_input.specs.declared.setup.SetupFault.{SetupFault}
 use Rattle.dali_input.specs.declared.setup.SetupFault.TheVariants as faults
 use Rattle.dali_input.specs.Items.{IsOrderOf, IsFaultOf}
-use Rattle.dali_input.specs.Scenario.{PlannedUnit, PlannedEvent, submit, steps, Planned, IsSmall, unit_of, event_of}
+use Rattle.dali_input.specs.Scenario.{PlannedUnit, PlannedEvent, submit, steps, stop, Planned, IsSmall, unit_of, event_of}
 use Rattle.dali_input.specs.Setup.{IsMakeable, made_unit, AreUnits, IsFirstUnitFault, IsUnitRefusal, AreEvents, IsFirstOrderFault, IsOrderRefusal, HasBus, IsRefused}
 
 all_one_more : {X : Type 0} (P : X → Type 0) (xs : List X) (x : X) → AllByRecursion P xs → P x → AllByRecursion P (xs ++ x ∷ [])
@@ -64,47 +64,19 @@ first_unit_fault plans i number plan units fault within is counted made refused 
 
 -- ---- events
 
-submit_more : (front : List PlannedEvent) (all : List Event) (source : Data) (order : Contents) → AreEvents front all → IsOrderOf source order
-    → AreEvents (front ++ submit source ∷ []) (all ++ events.Submit order ∷ [])
-submit_more [] all source order are is = (order, [], is, refl, ap (λ es. es ++ events.Submit order ∷ []) are)
-submit_more (submit other ∷ front) all source order are is = (
-  are.0,
-  are.1 ++ events.Submit order ∷ [],
-  are.2,
-  submit_more front are.1 source order are.3 is,
-  ap (λ es. es ++ events.Submit order ∷ []) are.4,
-)
-submit_more (steps count ∷ front) all source order are is = (
-  are.0 ++ events.Submit order ∷ [],
-  submit_more front are.0 source order are.1 is,
-  ap (λ es. es ++ events.Submit order ∷ []) are.2 ∙ append_assoc (replicate count events.Step) are.0 _,
-)
+events_more : (front : List PlannedEvent) (last : PlannedEvent) (all more : List Event) → AreEvents front all → AreEvents (last ∷ []) more → AreEvents (front ++ last ∷ []) (all ++ more)
+events_more [] last all more are is = rw are is
+events_more (submit source ∷ front) last all more are is =
+    (are.0, are.1 ++ more, are.2, events_more front last are.1 more are.3 is, ap (λ es. es ++ more) are.4)
+events_more (steps count ∷ front) last all more are is =
+    (are.0 ++ more, events_more front last are.0 more are.1 is, ap (λ es. es ++ more) are.2 ∙ append_assoc (replicate count events.Step) are.0 more)
+events_more (stop bytes ∷ front) last all more are is = (are.0 ++ more, events_more front last are.0 more are.1 is, ap (λ es. es ++ more) are.2)
 
-steps_more : (front : List PlannedEvent) (all : List Event) (made : ℕ) → AreEvents front all → AreEvents (front ++ steps made ∷ []) (all ++ replicate made events.Step)
-steps_more [] all made are = ([], refl, ap (λ es. es ++ replicate made events.Step) are ∙ sym (append-nil _))
-steps_more (submit source ∷ front) all made are = (
-  are.0,
-  are.1 ++ replicate made events.Step,
-  are.2,
-  steps_more front are.1 made are.3,
-  ap (λ es. es ++ replicate made events.Step) are.4,
-)
-steps_more (steps count ∷ front) all made are = (
-  are.0 ++ replicate made events.Step,
-  steps_more front are.0 made are.1,
-  ap (λ es. es ++ replicate made events.Step) are.2 ∙ append_assoc (replicate count events.Step) are.0 _,
-)
-
--- one submission more
-pub submission_more : (plans : List EventPlan) (i : ℕ) (plan : EventPlan) (all : List Event) (source : Data) (order : Contents) → i < length plans → plan ≡ get_or plans i plan → event_of plan ≡ submit source
-    → AreEvents (map event_of (take i plans)) all → IsOrderOf source order → AreEvents (map event_of (take (i + 1) plans)) (all ++ events.Submit order ∷ [])
-submission_more plans i plan all source order within is submits are order_is =
-    rw (one_more event_of plans i plan within is, submits) (submit_more (map event_of (take i plans)) all source order are order_is)
-
--- some steps more
-pub more_steps : (plans : List EventPlan) (i : ℕ) (plan : EventPlan) (all : List Event) (made : ℕ) → i < length plans → plan ≡ get_or plans i plan → event_of plan ≡ steps made
-    → AreEvents (map event_of (take i plans)) all → AreEvents (map event_of (take (i + 1) plans)) (all ++ replicate made events.Step)
-more_steps plans i plan all made within is makes are = rw (one_more event_of plans i plan within is, makes) (steps_more (map event_of (take i plans)) all made are)
+-- what one plan more adds
+pub more_events : (plans : List EventPlan) (i : ℕ) (plan : EventPlan) (all more : List Event) (last : PlannedEvent) → i < length plans → plan ≡ get_or plans i plan → event_of plan ≡ last
+    → AreEvents (map event_of (take i plans)) all → AreEvents (last ∷ []) more → AreEvents (map event_of (take (i + 1) plans)) (all ++ more)
+more_events plans i plan all more last within is plans_it are adds =
+    rw (one_more event_of plans i plan within is, plans_it) (events_more (map event_of (take i plans)) last all more are adds)
 
 -- an order is refused, and those before it aren't
 pub first_order_fault : (plans : List EventPlan) (i number : ℕ) (plan : EventPlan) (all : List Event) (source : Data) (fault : ItemFault) → i < length plans → plan ≡ get_or plans i plan → number ≡ i

@@ -10,7 +10,7 @@ use Rattle.dali_bank.specs.Blank.{blank_bank}
 use Rattle.dali_input.specs.declared.scenario.UnitPlan.{UnitPlan}
 use Rattle.dali_input.specs.declared.scenario.FatePlan.{FatePlan}
 use Rattle.dali_input.specs.declared.scenario.EventPlan.{EventPlan}
-use Rattle.dali_input.specs.declared.scenario.EventPlan.TheVariants.{Submit, Steps}
+use Rattle.dali_input.specs.declared.scenario.EventPlan.TheVariants.{Submit, Steps, Stop}
 use Rattle.dali_input.specs.declared.scenario.Scenario.{Scenario}
 use Rattle.dali_input.specs.Values.{IsWhole, IsArrayOf, IsRequired, IsOptional, has_only_keys}
 
@@ -69,16 +69,19 @@ pub record IsFate (json : Data) (plan : FatePlan) : Type 0 where
 
 -- ---- events
 
--- an order is submitted, whatever stands there; or so many steps are made
+-- an order is submitted, whatever stands there; so many steps are made; or the program stops, and so many bytes of a record reach the journal
 pub data PlannedEvent : Type 0 where
   submit : Data → PlannedEvent
   steps : ℕ → PlannedEvent
+  stop : ℕ → PlannedEvent
 
 -- an object with one key
 abbrev pub IsEvent : Data → PlannedEvent → Type 0
 IsEvent json (submit order) = (has_only_keys (codes "submit" ∷ []) json ≡ true) × (get (codes "submit") json ≡ Some order)
 IsEvent json (steps count) = (has_only_keys (codes "steps" ∷ []) json ≡ true)
     × IsRequired (IsWhole 1 most_events) (get (codes "steps") json) count
+IsEvent json (stop bytes) = (has_only_keys (codes "stop" ∷ []) json ≡ true)
+    × IsRequired (IsWhole 0 65535) (get (codes "stop") json) bytes
 
 -- ---- the whole
 
@@ -99,6 +102,7 @@ pub record IsScenario (json : Data) (planned : Planned) : Type 0 where
 abbrev pub event_count : PlannedEvent → ℕ
 event_count (submit order) = 1
 event_count (steps count) = count
+event_count (stop bytes) = 1
 
 -- there are no more events and fates than there may be
 pub record IsSmall (planned : Planned) : Type 0 where
@@ -113,6 +117,7 @@ unit_of plan = record { address = plan.address; bank = plan.bank.items; fixed = 
 abbrev pub event_of : EventPlan → PlannedEvent
 event_of (Submit order) = submit (view order.now)
 event_of (Steps count) = steps count
+event_of (Stop bytes) = stop bytes
 
 abbrev pub planned_of : Scenario → Planned
 planned_of scenario = record {

@@ -49,6 +49,8 @@ pub enum EventPlan<'a> {
     Submit(&'a Json),
     /// So many steps are made, 1 to 20000.
     Steps(u32),
+    /// The program stops, and at most so many bytes of the record that was to be kept reach the journal.
+    Stop(u16),
 }
 
 impl EventPlan<'_> {
@@ -59,6 +61,7 @@ impl EventPlan<'_> {
         match self {
             EventPlan::Submit(_order) => 1,
             EventPlan::Steps(count) => u64::from(*count),
+            EventPlan::Stop(_bytes) => 1,
         }
     }
 }
@@ -230,6 +233,12 @@ fn event_plan(json: &Json) -> Result<EventPlan<'_>, InputFault>
         if let Some(count) = json.get("steps") {
             let count = whole_within(count, 1, u64::from(MOST_EVENTS))?;
             return Ok(EventPlan::Steps(count as u32));
+        }
+    }
+    if has_only_keys(json, &["stop"]) {
+        if let Some(bytes) = json.get("stop") {
+            let bytes = whole_within(bytes, 0, u64::from(u16::MAX))?;
+            return Ok(EventPlan::Stop(bytes as u16));
         }
     }
     Err(InputFault::Document)

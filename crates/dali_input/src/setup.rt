@@ -158,6 +158,7 @@ fn events_of(alloc: Global, plans: &[EventPlan<'_>]) -> Result<Vec<Event>, Setup
                 Err(fault) => return Err(SetupFault::Order(number, fault)),
             },
             EventPlan::Steps(count) => push_steps(&mut events, *count)?,
+            EventPlan::Stop(bytes) => events.push(Event::Stop(*bytes))?,
         }
     }
     Ok(events)

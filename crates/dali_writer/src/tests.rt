@@ -2,4 +2,5 @@ mod bench;
 mod case;
 mod gtin;
 mod losses;
+mod stops;
 mod worked;

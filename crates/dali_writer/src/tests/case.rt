@@ -83,7 +83,7 @@ pub(crate) const PLAIN: Case<'static> = Case {
 };
 
 // Puts one more at the end of a list.
-fn put<T: Drop>(list: &mut Vec<T>, item: T) -> Result<(), AllocError> {
+pub(crate) fn put<T: Drop>(list: &mut Vec<T>, item: T) -> Result<(), AllocError> {
     list.reserve(1)?;
     list.push_reserved(item);
     Ok(())

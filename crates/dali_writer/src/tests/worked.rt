@@ -5,7 +5,7 @@ ghost use Rattle.dali_writer.specs.Trace.{sent_of};
 ghost use Rattle.dali_writer.specs.Taken.{taken_orders};
 ghost use Rattle.dali_writer.specs.Legal.{Legal, IsFinished};
 ghost use Rattle.dali_writer.specs.Parts.{AreParts};
-ghost use Rattle.dali_writer.specs.Worked.{empty, left_open, first_order, second_order, asked, begun, whole, unreached, blocked, second_begun, GoesAlong};
+ghost use Rattle.dali_writer.specs.Worked.{empty, left_open, first_order, second_order, asked, taken, begun, whole, unreached, blocked, second_begun, GoesAlong};
 ghost use Rattle.dali_writer.specs.Worked.{unguarded, bank_not_asked, written_twice, another_byte, idle_frame, frame_to_another_unit, enabled_before_opened, opened_unread, done_unread, done_with_the_lock_unread};
 ghost use Rattle.dali_writer.specs.Worked.{second_taken, one_of_one, full, busy_while_at_work, number_used_again, another_code_said, blocked_by_no_unit, silent_write};
 ghost use Rattle.dali_writer.specs.Worked.{short_ended, silent_ended, doubt_ended, left_said, format_ended, tried_again, opened_anew, done_anew, repeated_after_a_stop, taken_after_a_stop, taken_anew};
@@ -60,13 +60,14 @@ fn traces_with_stops_are_legal()
     ensures once { taken_orders taken_after_a_stop ≡ first_order ∷ [] }
 {}
 
-// A step keeps the record of 23 bytes that begins the order, and so does a stop that lets 23 bytes through, but not one
-// that lets 22 through. An order alone is no finished trace.
+// A step keeps the record of 23 bytes that begins the order, and so does a stop that lets 23 bytes through, whatever
+// comes, but not one that lets 22 through. An order alone is no finished trace.
 fn traces_are_parts_of_events()
     ensures stepped { AreParts empty (Step ∷ Submit first_order ∷ []) begun }
     ensures stopped { AreParts empty (Stop 22 ∷ Step ∷ Submit first_order ∷ []) (Stopped ∷ begun) }
     ensures kept { AreParts empty (Stop 23 ∷ Submit first_order ∷ []) (Stopped ∷ begun) }
     ensures cut { ¬ AreParts empty (Stop 22 ∷ Submit first_order ∷ []) (Stopped ∷ begun) }
+    ensures lost { ¬ AreParts empty (Stop 23 ∷ Submit first_order ∷ []) (Stopped ∷ taken) }
     ensures idle { ¬ AreParts empty (Step ∷ []) asked }
     ensures unfinished { ¬ IsFinished asked }
 {}

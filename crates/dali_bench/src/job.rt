@@ -53,7 +53,7 @@ const FRAMES_HELP: &str = "Prints a line for each frame, with its answer";
 
 const RUN_FAULTS: &str = "\
 Keys of a unit: address, bank, fixed, dtr; of a fate: times, lost, answer_lost, refuse;
-of an event: submit or steps.
+of an event: submit, steps or stop.
 Faults of the file: 11 Json, 12 Document (an unknown key, or another form), 13 TooBig (over 16777216
 bytes, 20000 events or 20000 fates), 20 Memory, 21 File (can't be opened or read).
 Faults of a unit: 1 Address (over 63), 2 Size (not 17 to 255 bytes, or 00h isn't the last location),

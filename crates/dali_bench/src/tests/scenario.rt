@@ -63,9 +63,12 @@ const REFUSED: &str = r#"{"limit":0,"units":[],"events":[]}|run fault 1 Limit
 {"limit":10,"units":[],"events":[{"steps":20001}]}|fault 12 Document
 {"limit":10,"units":[],"events":[{"steps":20000},{"steps":1}]}|fault 13 TooBig
 {"limit":10,"units":[],"events":[{"steps":19999},{"submit":{}}]}|event 2 fault 9 Shape
-{"limit":10,"units":[],"events":[{"stop":0}]}|fault 12 Document
-{"limit":10,"units":[],"events":[{"stop":65535}]}|fault 12 Document
-{"limit":10,"units":[{"address":5}],"events":[{"submit":{"order":1,"unit":5,"gtin":"4006381333931"}},{"steps":6},{"stop":1},{"steps":200}]}|fault 12 Document
+{"limit":10,"units":[],"events":[{"stop":65536}]}|fault 12 Document
+{"limit":10,"units":[],"events":[{"stop":-1}]}|fault 12 Document
+{"limit":10,"units":[],"events":[{"stop":1.0}]}|fault 12 Document
+{"limit":10,"units":[],"events":[{"stop":0,"steps":1}]}|fault 12 Document
+{"limit":10,"units":[],"events":[{"steps":20000},{"stop":0}]}|fault 13 TooBig
+{"limit":10,"units":[],"events":[{"stop":0},{"stop":65535},{"submit":{}}]}|event 3 fault 9 Shape
 {"limit":10,"units":[],"events":[{"submit":{"order":1}}]}|event 1 fault 9 Shape
 {"limit":10,"units":[],"events":[{"submit":{}}]}|event 1 fault 9 Shape
 {"limit":10,"units":[],"events":[{"submit":5}]}|event 1 fault 9 Shape

@@ -1,5 +1,7 @@
 use super::BEGAN;
 use crate::{Code, Piece, Record};
+use std::alloc::Global;
+use std::process::Abort;
 use std::test::Fail;
 
 // A byte behind each front of that record, from its letter on: the least that may come, and the greatest.
@@ -73,31 +75,54 @@ fn is_right(front: &mut Vec<u8>, byte: u8, may_come: bool, len: usize) -> Result
     Ok(right)
 }
 
-#[test]
-fn the_longest_record_at_each_length(rt: HostRuntime) -> Result<(), Fail> {
-    let whole = super::longest(&rt)?;
-    assert_eq!(rt; whole.len(), 241);
-    let mut front = Vec::new(rt.alloc());
+// Puts each byte behind the front of that record, of which those from the least to the greatest may come, and
+// then the one that is next.
+fn judge_front(
+    rt: &impl Abort,
+    front: &mut Vec<u8>,
+    next: u8,
+    least: u8,
+    greatest: u8,
+) -> Result<(), Fail> {
+    assert!(rt; matches!(Record::read(front), Piece::Cut));
+    for byte in 0..=255u8 {
+        let may_come = least <= byte && byte <= greatest;
+        let right = is_right(front, byte, may_come, 241)?;
+        assert!(rt; right, "{byte} behind {} bytes", front.len());
+    }
+    front.push(next)?;
+    Ok(())
+}
+
+// Whether the bytes are that record, and are read as it with another byte behind them too.
+fn is_longest(bytes: &mut Vec<u8>) -> Result<bool, Fail> {
+    let alone = matches!(Record::read(bytes), Piece::Whole(Record::Began(_), 241));
+    bytes.push(0x00)?;
+    Ok(alone && matches!(Record::read(bytes), Piece::Whole(Record::Began(_), 241)))
+}
+
+// Puts each letter at the front of no byte.
+fn judge_letters(rt: &impl Abort, alloc: Global) -> Result<(), Fail> {
+    let mut front = Vec::new(alloc);
     for letter in 0..=255u8 {
         let may_come = matches!(letter, 0x42 | 0x43 | 0x45 | 0x4F);
-        assert!(rt;
-            is_right(&mut front, letter, may_come, 241)?,
-            "letter {letter}"
-        );
+        let right = is_right(&mut front, letter, may_come, 241)?;
+        assert!(rt; right, "letter {letter}");
     }
+    Ok(())
+}
+
+#[test]
+fn the_longest_record_at_each_length(rt: HostRuntime) -> Result<(), Fail> {
+    judge_letters(&rt, rt.alloc())?;
+    let whole = super::longest(rt.alloc())?;
+    assert_eq!(rt; whole.len(), 241);
+    let mut front = Vec::new(rt.alloc());
     front.push(0x42)?;
     for ((&next, &least), &greatest) in whole[1..].iter().zip(&LEAST).zip(&GREATEST) {
-        assert!(rt; matches!(Record::read(&front), Piece::Cut));
-        for byte in 0..=255u8 {
-            let may_come = least <= byte && byte <= greatest;
-            let right = is_right(&mut front, byte, may_come, 241)?;
-            assert!(rt; right, "{byte} behind {} bytes", front.len());
-        }
-        front.push(next)?;
+        judge_front(&rt, &mut front, next, least, greatest)?;
     }
-    assert!(rt; matches!(Record::read(&front), Piece::Whole(Record::Began(_), 241)));
-    front.push(0x00)?;
-    assert!(rt; matches!(Record::read(&front), Piece::Whole(Record::Began(_), 241)));
+    assert!(rt; is_longest(&mut front)?);
     Ok(())
 }
 
@@ -118,23 +143,38 @@ fn locations_leave_room_for_those_to_come(rt: HostRuntime) -> Result<(), Fail> {
     Ok(())
 }
 
+// Whether two bytes are a whole record. They may not be the first two of a longer one.
+fn are_whole(letter: u8, byte: u8) -> Option<bool> {
+    match Record::read(&[letter, byte]) {
+        Piece::Whole(_, 2) => Some(true),
+        Piece::Bad => Some(false),
+        _ => None,
+    }
+}
+
+// The code of an `Ended` of two bytes.
+fn code_of(bytes: &[u8]) -> Option<Code> {
+    match Record::read(bytes) {
+        Piece::Whole(Record::Ended(code), 2) => Some(code),
+        _ => None,
+    }
+}
+
 #[test]
 fn records_of_two_bytes(rt: HostRuntime) {
-    for (bytes, whole) in [
-        ([0x4F, 0], true),
-        ([0x4F, 63], true),
-        ([0x4F, 64], false),
-        ([0x43, 63], true),
-        ([0x43, 64], false),
-        ([0x45, 6], false),
-        ([0x41, 0], false),
-        ([0x44, 0], false),
-        ([0x46, 0], false),
-        ([0x00, 0], false),
+    for (letter, byte, whole) in [
+        (0x4F, 0, true),
+        (0x4F, 63, true),
+        (0x4F, 64, false),
+        (0x43, 63, true),
+        (0x43, 64, false),
+        (0x45, 6, false),
+        (0x41, 0, false),
+        (0x44, 0, false),
+        (0x46, 0, false),
+        (0x00, 0, false),
     ] {
-        let read = Record::read(&bytes);
-        assert_eq!(rt; matches!(read, Piece::Whole(_, 2)), whole);
-        assert_eq!(rt; matches!(read, Piece::Bad), !whole);
+        assert!(rt; are_whole(letter, byte) == Some(whole), "{letter} {byte}");
     }
     for (number, code) in [
         (0, Code::Done),
@@ -144,22 +184,17 @@ fn records_of_two_bytes(rt: HostRuntime) {
         (4, Code::Doubt),
         (5, Code::DoubtOpen),
     ] {
-        let read = Record::read(&[0x45, number]);
-        assert!(rt; matches!(read, Piece::Whole(Record::Ended(read), 2) if read == code));
+        assert!(rt; code_of(&[0x45, number]) == Some(code), "{number}");
     }
     assert!(rt; matches!(Record::read(&[]), Piece::Cut));
-    assert!(rt;
-        matches!(
-            Record::read(&[0x4F, 5, 0x41]),
-            Piece::Whole(Record::Opened(5), 2)
-        )
-    );
-    assert!(rt;
-        matches!(
-            Record::read(&[0x43, 6, 0x41]),
-            Piece::Whole(Record::Closed(6), 2)
-        )
-    );
+}
+
+#[test]
+fn records_of_two_bytes_behind_which_another_byte_stands(rt: HostRuntime) {
+    let opened = Record::read(&[0x4F, 5, 0x41]);
+    assert!(rt; matches!(opened, Piece::Whole(Record::Opened(5), 2)));
+    let closed = Record::read(&[0x43, 6, 0x41]);
+    assert!(rt; matches!(closed, Piece::Whole(Record::Closed(6), 2)));
 }
 
 #[test]

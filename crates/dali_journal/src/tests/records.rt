@@ -1,17 +1,20 @@
 use super::BEGAN;
 use crate::{Code, JournalFault, NoMemory, Record};
 use dali_bank::Order;
+use std::alloc::Global;
 use std::test::Fail;
+
+// Whether the record's bytes are these.
+fn has_bytes(entry: Record, bytes: &[u8]) -> bool {
+    entry.bytes().as_slice() == bytes
+}
 
 #[test]
 fn bytes_of_records(rt: HostRuntime) -> Result<(), Fail> {
     let order = Order::from_pairs(1, 5, &super::GTIN).ok_or("an order")?;
-    assert_eq!(rt; Record::Began(order).bytes().as_slice(), BEGAN.as_slice());
-    assert_eq!(rt;
-        Record::Opened(63).bytes().as_slice(),
-        [0x4F, 63].as_slice()
-    );
-    assert_eq!(rt; Record::Closed(6).bytes().as_slice(), [0x43, 6].as_slice());
+    assert!(rt; has_bytes(Record::Began(order), &BEGAN));
+    assert!(rt; has_bytes(Record::Opened(63), &[0x4F, 63]));
+    assert!(rt; has_bytes(Record::Closed(6), &[0x43, 6]));
     for (code, number) in [
         (Code::Done, 0),
         (Code::Short, 1),
@@ -20,35 +23,37 @@ fn bytes_of_records(rt: HostRuntime) -> Result<(), Fail> {
         (Code::Doubt, 4),
         (Code::DoubtOpen, 5),
     ] {
-        assert_eq!(rt;
-            Record::Ended(code).bytes().as_slice(),
-            [0x45, number].as_slice()
-        );
+        assert!(rt; has_bytes(Record::Ended(code), &[0x45, number]), "{code:?}");
     }
     Ok(())
 }
 
-#[test]
-fn the_longest_record(rt: HostRuntime) -> Result<(), Fail> {
-    let whole = super::longest(&rt)?;
-    let mut pairs = Vec::new(rt.alloc());
+// The bytes of the order for this unit with all 115 updates, each to FFh.
+fn longest_of(alloc: Global, id: u64, unit: u8) -> Result<Vec<u8>, Fail> {
+    let mut pairs = Vec::new(alloc);
     for location in 0x03..=0x77u8 {
         if location != 0x11 && location != 0x12 {
             pairs.push((location, 0xFF))?;
         }
     }
-    let order = Order::from_pairs(1, 5, &pairs).ok_or("an order")?;
-    let bytes = Record::Began(order).bytes();
+    let order = Order::from_pairs(id, unit, &pairs).ok_or("an order")?;
+    Ok(Record::Began(order).bytes().as_slice().to_vec(alloc)?)
+}
+
+#[test]
+fn the_longest_record(rt: HostRuntime) -> Result<(), Fail> {
+    let bytes = longest_of(rt.alloc(), 1, 5)?;
     assert_eq!(rt; bytes.len(), 241);
-    assert_eq!(rt; bytes.as_slice(), whole.as_slice());
-    let order = Order::from_pairs(u64::MAX, 63, &pairs).ok_or("an order")?;
-    let bytes = Record::Began(order).bytes();
-    assert!(rt;
-        bytes
-            .as_slice()
-            .starts_with(&[0x42, 255, 255, 255, 255, 255, 255, 255, 255, 63, 115])
-    );
+    assert!(rt; bytes == super::longest(rt.alloc())?);
+    let bytes = longest_of(rt.alloc(), u64::MAX, 63)?;
+    assert!(rt; bytes.starts_with(&[0x42, 255, 255, 255, 255, 255, 255, 255, 255, 63, 115]));
     Ok(())
+}
+
+// Whether the fault has this number and is told so.
+fn is_told(alloc: Global, fault: JournalFault, number: u8, name: &str) -> Result<bool, Fail> {
+    let text = fault.to_string(alloc)?;
+    Ok(fault.number() == number && text.as_str() == name)
 }
 
 #[test]
@@ -61,9 +66,7 @@ fn faults_have_numbers_and_names(rt: HostRuntime) -> Result<(), Fail> {
         (JournalFault::Repeated(7), 5, "Repeated"),
         (JournalFault::Full(7), 6, "Full"),
     ] {
-        assert_eq!(rt; fault.number(), number);
-        let text = fault.to_string(rt.alloc())?;
-        assert_eq!(rt; text.as_str(), name);
+        assert!(rt; is_told(rt.alloc(), fault, number, name)?, "{name}");
     }
     let text = NoMemory.to_string(rt.alloc())?;
     assert_eq!(rt; text.as_str(), "NoMemory");

@@ -1,10 +1,9 @@
 -- Lemmas on what a scenario sets up.
-use Rattle.std.proofs.Common.{◌≡◌, ◌≢◌, ◌<◌, ◌+◌, ℕ, suc, Bool, true, false, Option, Some, List, [], ◌∷◌, ◌++◌, length, get_or, map, take, drop, replicate, append_assoc, append-nil, arith, refl, sym, subst, ap, ◌∙◌}
+use Rattle.std.proofs.Common.{◌≡◌, ◌≢◌, ◌<◌, ◌+◌, ℕ, suc, Bool, true, false, Option, Some, List, [], ◌∷◌, ◌++◌, length, get_or, map, take, drop, replicate, append_assoc, arith, refl, sym, subst, ap, ◌∙◌}
 use Rattle.std.specs.Prelude.{◌==◌, if◌then◌else◌}
 use Rattle.std.specs.List.{AllByRecursion}
 use Rattle.std.proofs.Math.Seq.{split_at}
 use Rattle.std.proofs.lemmas.List.{take_more, map-append, length-map, length-take-le}
-use Rattle.dali_bank.specs.Order.{Contents}
 use Rattle.dali_gear.specs.declared.fault.GearFault.{GearFault}
 use Rattle.dali_gear.specs.declared.fault.GearFault.TheVariants.{NoMemory}
 use Rattle.dali_gear.specs.Faults.{IsUnitFault}
@@ -21,7 +20,7 @@ use Rattle.dali_input.specs.declared.scenario.UnitPlan.{UnitPlan}
 use Rattle.dali_input.specs.declared.scenario.EventPlan.{EventPlan}
 use Rattle.dali_input.specs.declared.setup.SetupFault.{SetupFault}
 use Rattle.dali_input.specs.declared.setup.SetupFault.TheVariants as faults
-use Rattle.dali_input.specs.Items.{IsOrderOf, IsFaultOf}
+use Rattle.dali_input.specs.Items.{IsFaultOf}
 use Rattle.dali_input.specs.Scenario.{PlannedUnit, PlannedEvent, submit, steps, stop, Planned, IsSmall, unit_of, event_of}
 use Rattle.dali_input.specs.Setup.{IsMakeable, made_unit, AreUnits, IsFirstUnitFault, IsUnitRefusal, AreEvents, IsFirstOrderFault, IsOrderRefusal, HasBus, IsRefused}
 

@@ -1,8 +1,8 @@
 -- A writer wants a record kept exactly where that is the one that is to be kept next.
-use Rattle.std.proofs.Common.{◌≡◌, ◌↔◌, refl, sym, ap, ◌∙◌, subst, ℕ, Bool, true, false, List, [], ◌∷◌, Option, Some, None}
+use Rattle.std.proofs.Common.{◌≡◌, ◌↔◌, refl, sym, ap, ◌∙◌, false, List, Option, Some, None}
 use Rattle.dali_bank.specs.Order.{Contents}
 use Rattle.dali_journal.specs.declared.record.Record.{Record}
-use Rattle.dali_journal.specs.declared.record.Record.TheVariants.{Began, Opened, Ended, Closed}
+use Rattle.dali_journal.specs.declared.record.Record.TheVariants.{Began, Ended}
 use Rattle.dali_journal.specs.declared.standing.Standing.{Standing}
 use Rattle.dali_journal.specs.declared.standing.Standing.TheVariants as standings
 use Rattle.dali_journal.specs.JournalState.{JournalState}
@@ -11,7 +11,6 @@ use Rattle.dali_write.specs.declared.ask.Ask.{Ask}
 use Rattle.dali_write.specs.declared.ask.Ask.TheVariants as asks
 use Rattle.dali_write.specs.declared.ask.Verdict.{Verdict}
 use Rattle.dali_write.specs.declared.ask.Verdict.TheVariants as verdicts
-use Rattle.dali_write.specs.declared.session.Session.{Session}
 use Rattle.dali_write.specs.Plans.{read_length, unlock, close}
 use Rattle.dali_write.specs.Told.{unit_of, aim_of}
 use Rattle.dali_write.proofs.DeterminedLemmas.{wants_one}
@@ -22,7 +21,7 @@ use Rattle.dali_writer.specs.declared.happening.Want.TheVariants.{Keep}
 use Rattle.dali_writer.specs.declared.phase.Phase.{Phase}
 use Rattle.dali_writer.specs.declared.phase.Phase.TheVariants.{Idle, Begins, Checks, Writes, Closes, Says}
 use Rattle.dali_writer.specs.Trace.{Start, standing_at, waiting, is_at_work}
-use Rattle.dali_writer.specs.Phases.{want_of, check_of, write_of, closing_of, check_record, write_code}
+use Rattle.dali_writer.specs.Phases.{want_of, check_of, write_of, check_record, write_code}
 use Rattle.dali_writer.specs.Held.{IsReady}
 use Rattle.dali_writer.specs.Describes.{Describes}
 use Rattle.dali_writer.specs.ByPlan.{told_in, Asks, EndsIn}

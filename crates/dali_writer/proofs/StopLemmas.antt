@@ -1,5 +1,5 @@
 -- What a stop leaves loads again as the same journal.
-use Rattle.std.proofs.Common.{◌≡◌, ◌≢◌, refl, sym, ap, ◌∙◌, subst, ℕ, ◌<◌, List, [], ◌∷◌, ◌++◌, length, take, drop, arith}
+use Rattle.std.proofs.Common.{◌≡◌, ◌≢◌, refl, sym, ap, ◌∙◌, subst, ℕ, ◌<◌, List, [], ◌++◌, length, take, drop, arith}
 use Rattle.std.proofs.lemmas.List.{take-append-drop, length-drop}
 use Rattle.dali_journal.specs.declared.record.Code.TheVariants.{Done}
 use Rattle.dali_journal.specs.declared.record.Record.{Record}

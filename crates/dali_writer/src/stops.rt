@@ -57,7 +57,11 @@ pub(crate) fn left_by(alloc: Global, writer: &Writer, bytes: u16) -> Result<Jour
 }
 
 // The journal that is loaded from the bytes of this one, with those of a cut record behind them.
-pub(crate) fn loaded_again(alloc: Global, journal: &Journal, cut: &[u8]) -> Result<Journal, NoMemory>
+pub(crate) fn loaded_again(
+    alloc: Global,
+    journal: &Journal,
+    cut: &[u8],
+) -> Result<Journal, NoMemory>
     requires { (last : Record) × IsCutOf cut.now last }
     ensures { IfOk result (λ again. (again.records ≡ journal.now.records) × (again.limit ≡ journal.now.limit)) }
 {

@@ -48,7 +48,10 @@ fn judge_one(rt: &impl Abort, alloc: Global, number: usize, case: &Case<'_>) -> 
 fn one_loss_at_each_frame(rt: HostRuntime) -> Result<(), Fail> {
     for number in 1..=96usize {
         let lost = [(number, number)];
-        let case = Case { lost: &lost, ..PLAIN };
+        let case = Case {
+            lost: &lost,
+            ..PLAIN
+        };
         judge_one(&rt, rt.alloc(), number, &case)?;
         let unanswered = [number];
         let case = Case {

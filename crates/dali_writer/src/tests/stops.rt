@@ -1,4 +1,6 @@
-use crate::tests::case::{Case, DONE, Deed, ENOUGH, GTIN, PLAIN, STORED, TAKEN, bus_of, judge, put};
+use crate::tests::case::{
+    Case, DONE, Deed, ENOUGH, GTIN, PLAIN, STORED, TAKEN, bus_of, judge, put,
+};
 use crate::{Event, Happening, Outcome, RunFault, run_sim};
 use dali_bank::{BLANK, Order};
 use dali_gear::{Bus, SimBus, Unit};
@@ -156,7 +158,12 @@ impl Allowed {
 
 // Carries the frames of a trace again, and tells whether each unit holds at each moment what the
 // records so far allow.
-fn judge_moments(rt: &impl Abort, alloc: Global, outcome: &Outcome, place: usize) -> Result<(), Fail> {
+fn judge_moments(
+    rt: &impl Abort,
+    alloc: Global,
+    outcome: &Outcome,
+    place: usize,
+) -> Result<(), Fail> {
     let mut bus = bus_of(alloc, &LEFT)?;
     let mut allowed = [5, 6].map(|unit| Allowed {
         unit,

@@ -6,7 +6,6 @@ use Rattle.dali_gear.specs.Chain.{Chain}
 use Rattle.dali_writer.specs.Moves.{MovesBy}
 use Rattle.dali_writer.specs.Runs.{fresh}
 use Rattle.dali_writer.specs.Parts.{AreParts}
-use Rattle.dali_writer.specs.Describes.{Describes}
 use Rattle.dali_writer.proofs.ChainLemmas.{starts, right}
 use Rattle.dali_writer.proofs.TakenLemmas.{taken_from_none}
 use Rattle.dali_writer.proofs.PartsLemmas.{more_parts, all_parts}

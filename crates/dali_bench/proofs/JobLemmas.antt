@@ -8,7 +8,7 @@ use Rattle.std.proofs.lemmas.Bool.Decides.{Decides-like}
 use Rattle.clap.specs.Words.{App, HasMatchesOf, ReadsOne, Row, Text, first_of, is_simple, is_simple_and_free, one_of, subcommand_of, subcommand_rows_of}
 use Rattle.clap.specs.declared.parser.matches.ArgMatches.{ArgMatches}
 use Rattle.clap.proofs.OnLiterals.{clap_on_literals}
-use Rattle.dali_bench.specs.Jobs.{HasFlag, HasValue, NamesNoJob, bench_app}
+use Rattle.dali_bench.specs.Jobs.{HasFlag, HasValue, IsNoJob, bench_app}
 use Rattle.dali_bench.specs.declared.job.Job.TheVariants.{Check, Run, Frame, Show, Journal}
 
 bench_is_simple : is_simple bench_app ≡ true
@@ -48,17 +48,15 @@ pub value_none : (entered : Option (Text × List Row)) (command id : Text) (rows
 value_none entered command id rows None e first = λ value has. no_value (first_of id) command value entered rows has.0 e first has.1 has.2
 value_none entered command id rows (Some x) e first = tt
 
--- where no command has its value, the words name no job
-pub names_none : (words : List Text) → ((value : Text) → ¬ HasValue (subcommand_of bench_app words) (codes "check") (codes "ORDERS") value)
-    → ((value : Text) → ¬ HasValue (subcommand_of bench_app words) (codes "run") (codes "SCENARIO") value)
-    → ((value : Text) → ¬ HasValue (subcommand_of bench_app words) (codes "frame") (codes "HEX") value)
-    → ((value : Text) → ¬ HasValue (subcommand_of bench_app words) (codes "show") (codes "HEXFILE") value)
-    → ((value : Text) → ¬ HasValue (subcommand_of bench_app words) (codes "journal") (codes "FILE") value) → NamesNoJob words
-names_none words no_orders no_scenario no_digits no_dump no_records (Check orders) = no_orders orders.now
-names_none words no_orders no_scenario no_digits no_dump no_records (Run scenario _) = λ named. no_scenario scenario.now named.0
-names_none words no_orders no_scenario no_digits no_dump no_records (Frame digits) = no_digits digits.now
-names_none words no_orders no_scenario no_digits no_dump no_records (Show dump) = no_dump dump.now
-names_none words no_orders no_scenario no_digits no_dump no_records (Journal records) = no_records records.now
+-- where no command has its value, the parse entered no job's
+pub no_job : (entered : Option (Text × List Row)) → ((value : Text) → ¬ HasValue entered (codes "check") (codes "ORDERS") value)
+    → ((value : Text) → ¬ HasValue entered (codes "run") (codes "SCENARIO") value) → ((value : Text) → ¬ HasValue entered (codes "frame") (codes "HEX") value)
+    → ((value : Text) → ¬ HasValue entered (codes "show") (codes "HEXFILE") value) → ((value : Text) → ¬ HasValue entered (codes "journal") (codes "FILE") value) → IsNoJob entered
+no_job entered no_orders no_scenario no_digits no_dump no_records (Check orders) = no_orders orders.now
+no_job entered no_orders no_scenario no_digits no_dump no_records (Run scenario _) = λ named. no_scenario scenario.now named.0
+no_job entered no_orders no_scenario no_digits no_dump no_records (Frame digits) = no_digits digits.now
+no_job entered no_orders no_scenario no_digits no_dump no_records (Show dump) = no_dump dump.now
+no_job entered no_orders no_scenario no_digits no_dump no_records (Journal records) = no_records records.now
 
 -- what `get_one` reads of a text as a `bool` is true exactly where the text is `true`
 read_as_true : (E : Type 0) (text : Option Text) (o : Option Bool) → (text ≡ None → o ≡ None) → ((t : Text) → text ≡ Some t → ReadsOne {E = E} ParsesBool t o)

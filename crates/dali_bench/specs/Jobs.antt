@@ -51,10 +51,14 @@ IsJob entered (Frame digits) = HasValue entered (codes "frame") (codes "HEX") di
 IsJob entered (Show dump) = HasValue entered (codes "show") (codes "HEXFILE") dump.now
 IsJob entered (Journal records) = HasValue entered (codes "journal") (codes "FILE") records.now
 
+-- no job is that of the command that a parse entered
+abbrev pub IsNoJob : Option (Text × List Row) → Type 0
+IsNoJob entered = (job : Job) → ¬ IsJob entered job
+
 -- the job that the words name
 abbrev pub IsJobOf : List Text → Job → Type 0
 IsJobOf words job = IsJob (subcommand_of bench_app words) job
 
 -- the words name no job
 abbrev pub NamesNoJob : List Text → Type 0
-NamesNoJob words = (job : Job) → ¬ IsJobOf words job
+NamesNoJob words = IsNoJob (subcommand_of bench_app words)

@@ -1,8 +1,8 @@
-ghost use Rattle.std.specs.Prelude.{◌≡◌, ◌⊎◌, List, ℕ, IfOk, IfErr, IfSome, IfNone, false, map};
+ghost use Rattle.std.specs.Prelude.{◌≡◌, ◌⊎◌, List, ℕ, IfOk, IfErr, IfSome, IfNone, codes, false, map};
 ghost use Rattle.clap.specs.declared.builder.command.Command.TheViews.{out-Command as fields_of};
 ghost use Rattle.std.specs.Bool.{Decides};
 ghost use Rattle.clap.specs.Words.{HasKind, app_of, fault_of, subcommand_rows_of};
-ghost use Rattle.dali_bench.specs.Jobs.{HasFlag, HasValue, IsJobOf, NamesNoJob, bench_app};
+ghost use Rattle.dali_bench.specs.Jobs.{HasFlag, HasValue, IsJob, IsJobOf, IsNoJob, NamesNoJob, bench_app};
 ghost use Rattle.dali_bench.specs.Jobs.{command_app, run_app};
 
 use clap::error::ErrorKind;
@@ -104,26 +104,37 @@ pub fn job_of<'a>(alloc: Global, words: &'a [&'a str]) -> Result<Job<'a>, Error>
         Ok(matches) => matches,
         Err(error) => return Err(error),
     };
-    if let Some(orders) = value_of(&matches, "check", "ORDERS") {
-        return Ok(Job::Check(orders));
+    match job_in(&matches) {
+        Some(job) => Ok(job),
+        None => Err(missing(&mut command)),
     }
-    if let Some(scenario) = value_of(&matches, "run", "SCENARIO") {
-        let single_frames = has_flag(&matches, "run", "frames");
-        return Ok(Job::Run {
+}
+
+// The job of the command that a parse entered.
+fn job_in<'a>(matches: &ArgMatches<'a>) -> Option<Job<'a>>
+    ensures named { IfSome result (IsJob (subcommand_rows_of matches.now)) }
+    ensures none { IfNone result (IsNoJob (subcommand_rows_of matches.now)) }
+{
+    if let Some(orders) = value_of(matches, "check", "ORDERS") {
+        return Some(Job::Check(orders));
+    }
+    if let Some(scenario) = value_of(matches, "run", "SCENARIO") {
+        let single_frames = has_flag(matches, "run", "frames");
+        return Some(Job::Run {
             scenario,
             single_frames,
         });
     }
-    if let Some(digits) = value_of(&matches, "frame", "HEX") {
-        return Ok(Job::Frame(digits));
+    if let Some(digits) = value_of(matches, "frame", "HEX") {
+        return Some(Job::Frame(digits));
     }
-    if let Some(dump) = value_of(&matches, "show", "HEXFILE") {
-        return Ok(Job::Show(dump));
+    if let Some(dump) = value_of(matches, "show", "HEXFILE") {
+        return Some(Job::Show(dump));
     }
-    if let Some(records) = value_of(&matches, "journal", "FILE") {
-        return Ok(Job::Journal(records));
+    if let Some(records) = value_of(matches, "journal", "FILE") {
+        return Some(Job::Journal(records));
     }
-    Err(missing(&mut command))
+    None
 }
 
 // The value of a command's argument, where a parse entered that command.
@@ -151,18 +162,63 @@ fn has_flag(matches: &ArgMatches<'_>, command: &str, id: &str) -> bool
 fn bench_command<'a>(alloc: Global) -> Result<Command<'a>, AllocError>
     ensures { IfOk result (λ command. app_of command ≡ bench_app) }
 {
-    let check = command_with(alloc, "check", "ORDERS", ORDERS_HELP)?;
-    let run = run_command(alloc)?;
-    let frame = command_with(alloc, "frame", "HEX", HEX_HELP)?;
-    let show = command_with(alloc, "show", "HEXFILE", HEXFILE_HELP)?;
-    let journal = command_with(alloc, "journal", "FILE", FILE_HELP)?;
-    let top = Command::new(alloc, "dali_bench").subcommand_required(true);
-    let checks = top.subcommand(check.about(CHECK_ABOUT).after_help(CHECK_FAULTS))?;
-    let runs = checks.subcommand(run.about(RUN_ABOUT).after_help(RUN_FAULTS))?;
-    let frames = runs.subcommand(frame.about(FRAME_ABOUT).after_help(FRAME_FAULTS))?;
-    let shows = frames.subcommand(show.about(SHOW_ABOUT).after_help(SHOW_FAULTS))?;
-    let journals = shows.subcommand(journal.about(JOURNAL_ABOUT).after_help(JOURNAL_FAULTS))?;
-    Ok(journals.about(ABOUT))
+    let top = Command::new(alloc, "dali_bench")
+        .about(ABOUT)
+        .subcommand_required(true);
+    let checks = top.subcommand(check_command(alloc)?)?;
+    let runs = checks.subcommand(run_command(alloc)?)?;
+    let frames = runs.subcommand(frame_command(alloc)?)?;
+    let shows = frames.subcommand(show_command(alloc)?)?;
+    shows.subcommand(journal_command(alloc)?)
+}
+
+// The command that checks a file of orders.
+fn check_command<'a>(alloc: Global) -> Result<Command<'a>, AllocError>
+    ensures app { IfOk result (λ command. app_of command ≡ command_app (codes "check") (codes "ORDERS")) }
+    ensures local { IfOk result (λ command. (fields_of command).has_globals ≡ false) }
+{
+    let command = command_with(alloc, "check", "ORDERS", ORDERS_HELP)?;
+    Ok(told(command, CHECK_ABOUT, CHECK_FAULTS))
+}
+
+// The command that runs a scenario, with its flag.
+fn run_command<'a>(alloc: Global) -> Result<Command<'a>, AllocError>
+    ensures app { IfOk result (λ command. app_of command ≡ run_app) }
+    ensures local { IfOk result (λ command. (fields_of command).has_globals ≡ false) }
+{
+    let frames = Arg::new(alloc, "frames")
+        .long("frames")
+        .help(FRAMES_HELP)
+        .action(ArgAction::SetTrue);
+    let command = command_with(alloc, "run", "SCENARIO", SCENARIO_HELP)?.arg(frames)?;
+    Ok(told(command, RUN_ABOUT, RUN_FAULTS))
+}
+
+// The command that says what a frame means.
+fn frame_command<'a>(alloc: Global) -> Result<Command<'a>, AllocError>
+    ensures app { IfOk result (λ command. app_of command ≡ command_app (codes "frame") (codes "HEX")) }
+    ensures local { IfOk result (λ command. (fields_of command).has_globals ≡ false) }
+{
+    let command = command_with(alloc, "frame", "HEX", HEX_HELP)?;
+    Ok(told(command, FRAME_ABOUT, FRAME_FAULTS))
+}
+
+// The command that says what a memory bank holds.
+fn show_command<'a>(alloc: Global) -> Result<Command<'a>, AllocError>
+    ensures app { IfOk result (λ command. app_of command ≡ command_app (codes "show") (codes "HEXFILE")) }
+    ensures local { IfOk result (λ command. (fields_of command).has_globals ≡ false) }
+{
+    let command = command_with(alloc, "show", "HEXFILE", HEXFILE_HELP)?;
+    Ok(told(command, SHOW_ABOUT, SHOW_FAULTS))
+}
+
+// The command that prints a journal's records.
+fn journal_command<'a>(alloc: Global) -> Result<Command<'a>, AllocError>
+    ensures app { IfOk result (λ command. app_of command ≡ command_app (codes "journal") (codes "FILE")) }
+    ensures local { IfOk result (λ command. (fields_of command).has_globals ≡ false) }
+{
+    let command = command_with(alloc, "journal", "FILE", FILE_HELP)?;
+    Ok(told(command, JOURNAL_ABOUT, JOURNAL_FAULTS))
 }
 
 // A command with one argument, which has to be there.
@@ -182,16 +238,12 @@ fn command_with<'a>(
     Command::new(alloc, name).arg(argument)
 }
 
-// The command that runs a scenario, with its flag.
-fn run_command<'a>(alloc: Global) -> Result<Command<'a>, AllocError>
-    ensures app { IfOk result (λ command. app_of command ≡ run_app) }
-    ensures local { IfOk result (λ command. (fields_of command).has_globals ≡ false) }
+// The command, with what it does and its faults in its help.
+fn told<'a>(command: Command<'a>, about: &'a str, faults: &'a str) -> Command<'a>
+    ensures app { app_of result ≡ app_of command.entry }
+    ensures local { (fields_of result).has_globals ≡ (fields_of command.entry).has_globals }
 {
-    let frames = Arg::new(alloc, "frames")
-        .long("frames")
-        .help(FRAMES_HELP)
-        .action(ArgAction::SetTrue);
-    command_with(alloc, "run", "SCENARIO", SCENARIO_HELP)?.arg(frames)
+    command.about(about).after_help(faults)
 }
 
 // The error of a command line that names no job.

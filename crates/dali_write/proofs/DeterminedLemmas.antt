@@ -14,40 +14,40 @@ use Rattle.dali_write.specs.Tries.{Trying, Missed, Misses, byte_of, StepEnds, St
 use Rattle.dali_write.proofs.ShapeLemmas.{none_left}
 
 -- where a session stands: its plan from the step at hand on, the missed tries of that step, what is left of the try at hand, and its byte
-record Place : Type 0 where
+pub record Place : Type 0 where
   pub now : Plan
   pub misses : ℕ
   pub left : List Line
   pub byte : Option ℕ
 
 -- before the first frame of a try
-abbrev begins : ℕ → Plan → ℕ → Place
+abbrev pub begins : ℕ → Plan → ℕ → Place
 begins unit now misses = record { now = now; misses = misses; left = plan_lines unit now; byte = None }
 
 -- whether the answer is as wished
-abbrev is_met : Wish → Option ℕ → Bool
+abbrev pub is_met : Wish → Option ℕ → Bool
 is_met Nothing answer = true
 is_met (Exactly byte) None = false
 is_met (Exactly byte) (Some other) = other == byte
 is_met Anything answer = is_some answer
 
 -- the answer was as wished: the next frame of the try, or the next step of the plan
-abbrev met_then : ℕ → Plan → ℕ → List Line → Option ℕ → Place
+abbrev pub met_then : ℕ → Plan → ℕ → List Line → Option ℕ → Place
 met_then unit now misses [] byte = begins unit (goes_on now byte) 0
 met_then unit now misses (next ∷ left) byte = record { now = now; misses = misses; left = next ∷ left; byte = byte }
 
 -- the answer was not as wished: another try of the step, or after the eighth the next step of the plan
-abbrev missed_then : ℕ → Plan → ℕ → Place
+abbrev pub missed_then : ℕ → Plan → ℕ → Place
 missed_then unit now misses = if nat_lt (suc misses) 8 then begins unit now (suc misses) else begins unit (goes_on now None) 0
 
 -- where one more exchange leads (from an ended plan, which has no frame left, it stays)
-abbrev moved : ℕ → Exchange → Plan → ℕ → List Line → Option ℕ → Place
+abbrev pub moved : ℕ → Exchange → Plan → ℕ → List Line → Option ℕ → Place
 moved unit x now misses [] byte = record { now = now; misses = misses; left = []; byte = byte }
 moved unit x now misses (next ∷ left) byte =
     if is_met next.wish x.answer then met_then unit now misses left (byte_after x.frame x.answer byte) else missed_then unit now misses
 
 -- where the exchanges lead
-abbrev place_after : ℕ → Plan → List Exchange → Place
+abbrev pub place_after : ℕ → Plan → List Exchange → Place
 place_after unit plan [] = begins unit plan 0
 place_after unit plan (x ∷ told) = let at = place_after unit plan told in moved unit x at.now at.misses at.left at.byte
 
@@ -218,10 +218,10 @@ place_is unit plan (x ∷ told) place (inr p) =
     ∙ ap (λ (y : Exchange). moved unit y p.now p.misses (line p.newest.frame p.wish ∷ p.left) p.byte) newest ∙ p.leads
 
 -- what is wanted at a place
-abbrev ask_from : Place → Ask
+abbrev pub ask_from : Place → Ask
 ask_from at = ask_at at.now at.left
 
-ask_is : (unit : ℕ) (plan : Plan) (told : List Exchange) (ask : Ask) → Wants unit plan told ask → ask_from (place_after unit plan told) ≡ ask
+pub ask_is : (unit : ℕ) (plan : Plan) (told : List Exchange) (ask : Ask) → Wants unit plan told ask → ask_from (place_after unit plan told) ≡ ask
 ask_is unit plan told ask w =
     ap ask_from (place_is unit plan told _ (peel unit plan told w.now w.misses w.left w.byte w.stands)) ∙ w.ask_is
 

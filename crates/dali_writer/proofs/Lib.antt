@@ -9,6 +9,7 @@ pub mod TakenLemmas
 pub mod QuietLemmas
 pub mod RepeatLemmas
 pub mod WorkedLemmas
+pub mod WorkedPlanLemmas
 pub mod RefusedLemmas
 pub mod LeftLemmas
 pub mod BlankLemmas

@@ -23,3 +23,4 @@ pub mod Spared
 pub mod Steps
 pub mod WorkLeft
 pub mod Worked
+pub mod WorkedPlans

@@ -4,3 +4,4 @@ mod gtin;
 mod losses;
 mod stops;
 mod worked;
+mod worked_plans;

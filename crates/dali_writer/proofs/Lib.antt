@@ -10,6 +10,9 @@ pub mod QuietLemmas
 pub mod RepeatLemmas
 pub mod WorkedLemmas
 pub mod WorkedPlanLemmas
+pub mod WorkedWorkLemmas
+pub mod WorkedStepLemmas
+pub mod WorkedLossLemmas
 pub mod RefusedLemmas
 pub mod LeftLemmas
 pub mod BlankLemmas

@@ -24,3 +24,4 @@ pub mod Steps
 pub mod WorkLeft
 pub mod Worked
 pub mod WorkedPlans
+pub mod WorkedLosses

@@ -1,12 +1,14 @@
--- Worked traces near the edges of the plans: legal ones that keep to them, and legal neighbours that don't.
-use Rattle.std.specs.Prelude.{List, ◌∷◌, Some, None}
+-- Worked traces near the edges of what is promised besides legality: by plan and not, at the limits of the work, and with as much lost as may be.
+use Rattle.std.specs.Prelude.{ℕ, zero, suc, List, [], ◌∷◌, Some, None}
 use Rattle.dali_frame.specs.declared.forward.Frame.TheVariants.{Dtr0, Dtr1, Enable, AskDtr1}
-use Rattle.dali_journal.specs.declared.record.Code.TheVariants.{Silent, DoubtOpen}
-use Rattle.dali_journal.specs.declared.record.Record.TheVariants.{Ended}
+use Rattle.dali_journal.specs.declared.record.Code.{Code}
+use Rattle.dali_journal.specs.declared.record.Code.TheVariants.{Done, Silent, DoubtOpen}
+use Rattle.dali_journal.specs.declared.record.Record.TheVariants.{Began, Opened, Ended}
 use Rattle.dali_writer.specs.declared.happening.Reply.TheVariants as replies
 use Rattle.dali_writer.specs.declared.happening.Happening.{Happening}
-use Rattle.dali_writer.specs.declared.happening.Happening.TheVariants.{Answered, Sent, Kept, Stopped}
-use Rattle.dali_writer.specs.Worked.{read_at, read_try, eight_times, begun, opened, second_taken}
+use Rattle.dali_writer.specs.declared.happening.Happening.TheVariants.{Asked, Answered, Sent, Kept, Stopped}
+use Rattle.dali_writer.specs.Trace.{Start}
+use Rattle.dali_writer.specs.Worked.{read_at, read_try, eight_times, first_order, second_order, begun, opened, said, second_taken}
 
 -- the first frame of a checked read, and another one
 abbrev pub first_frame : List Happening
@@ -66,3 +68,50 @@ left_at_once = Kept (Ended DoubtOpen) ∷ opened
 -- Blocked with no frame to the left unit
 abbrev pub blocked_at_once : List Happening
 blocked_at_once = Answered 2 (replies.Blocked 5) ∷ second_taken
+
+-- Near the limits of the work
+
+-- so many frames more that ask for no answer, tries that miss, and records
+abbrev pub frames_more : ℕ → List Happening → List Happening
+frames_more zero past = past
+frames_more (suc frames) past = Sent (Dtr1 1) None ∷ frames_more frames past
+
+abbrev pub tries_more : ℕ → List Happening → List Happening
+tries_more zero past = past
+tries_more (suc tries) past = read_try (tries_more tries past)
+
+abbrev pub records_more : ℕ → List Happening → List Happening
+records_more zero past = past
+records_more (suc records) past = Kept (Began first_order) ∷ records_more records past
+
+-- how the first order ended that was begun, or opened
+abbrev pub begun_said : Code → List Happening → List Happening
+begun_said code past = Answered 1 (replies.Kept code) ∷ Kept (Ended code) ∷ past
+
+abbrev pub opened_said : Code → List Happening → List Happening
+opened_said code past = begun_said code (Kept (Opened 5) ∷ past)
+
+-- the second order is blocked
+abbrev pub blocked_said : List Happening → List Happening
+blocked_said past = Answered 2 (replies.Blocked 5) ∷ past
+
+-- the second order is taken behind others
+abbrev pub second_taken_behind : List Happening → List Happening
+second_taken_behind past = Answered 2 replies.Taken ∷ Asked second_order ∷ past
+
+-- a journal in which the first order was begun
+abbrev pub at_work : Start
+at_work = record { records = Began first_order ∷ []; limit = 10 }
+
+-- What doesn't say the order that is begun: a reply to a repeat of it, a saying of another number, one behind a stop, and one where no order is at hand.
+abbrev pub repeated : List Happening
+repeated = Answered 1 replies.Busy ∷ Asked first_order ∷ begun
+
+abbrev pub another_said : List Happening
+another_said = Answered 2 (replies.Kept Done) ∷ begun
+
+abbrev pub said_behind_a_stop : List Happening
+said_behind_a_stop = Answered 1 (replies.Kept Done) ∷ Stopped ∷ begun
+
+abbrev pub said_again : List Happening
+said_again = Answered 1 (replies.Kept Done) ∷ said

@@ -1,8 +1,23 @@
+ghost use Rattle.std.specs.Prelude.{◌≡◌, ◌≤◌, ◌↔◌, ℕ, replicate, List, [], ◌∷◌, length, Some, None};
+ghost use Rattle.dali_gear.specs.SimState.{SimState};
+ghost use Rattle.dali_journal.specs.declared.record.Code.TheVariants as Code;
+ghost use Rattle.dali_journal.specs.declared.standing.Standing.TheVariants as Standing;
+ghost use Rattle.dali_writer.specs.declared.happening.Event.TheVariants.{Submit, Step, Stop};
+ghost use Rattle.dali_writer.specs.declared.happening.Happening.{Happening};
+ghost use Rattle.dali_writer.specs.declared.happening.Happening.TheVariants.{Stopped};
+ghost use Rattle.dali_writer.specs.Trace.{Start, sent_since_taken};
 ghost use Rattle.dali_writer.specs.Legal.{Legal};
 ghost use Rattle.dali_writer.specs.ByPlan.{ByPlan};
-ghost use Rattle.dali_writer.specs.Worked.{empty, left_open, short_ended, silent_ended, blocked};
+ghost use Rattle.dali_writer.specs.Work.{stood_at, kept_since, order_at_hand, IsWithinLimit, IsSaidSo, IsWorked};
+ghost use Rattle.dali_writer.specs.Steps.{steps_in, NoneStops, IsSaid, PartsSince, IsSaidInTime, SaysInTime};
+ghost use Rattle.dali_writer.specs.Spared.{losses_since, UnrefusedSince, state_at_start, due_code, NoneFixed, IsSpared, AtEachState};
+ghost use Rattle.dali_writer.specs.Worked.{empty, left_open, first_order, second_order, short_ended, silent_ended, blocked};
+ghost use Rattle.dali_writer.specs.Worked.{taken, begun, opened, unlocked, ended, said, left_said, second_taken, unreached, taken_again};
 ghost use Rattle.dali_writer.specs.WorkedPlans.{first_frame, next_try, next_frame, begun_anew, enabled_first, silent_after_eight};
 ghost use Rattle.dali_writer.specs.WorkedPlans.{another_first_frame, frame_past_a_miss, try_without_a_miss, try_through_a_stop, read_once_opened, silent_after_seven, silent_where_short, left_at_once, blocked_at_once};
+ghost use Rattle.dali_writer.specs.WorkedPlans.{frames_more, tries_more, records_more, begun_said, opened_said, blocked_said, second_taken_behind, at_work};
+ghost use Rattle.dali_writer.specs.WorkedPlans.{repeated, another_said, said_behind_a_stop, said_again};
+ghost use Rattle.dali_writer.specs.WorkedLosses.{losing, refusing, clear, one_since, start_taken, of_format, fixed_beside, fixed_there, SparesSeven};
 
 // Each frame is the next of its try, a try ends at its first miss, and the session begins anew after a stop and once a
 // record is kept.
@@ -49,6 +64,90 @@ fn but_they_are_legal()
     ensures blocked_at_once { Legal left_open blocked_at_once }
 {}
 
+// The limit of the first order is 1040 frames and four records, and Done comes after 96 frames of which none was missed.
+fn limits_of_the_work()
+    ensures frames { (n : ℕ) → IsWithinLimit empty (frames_more n begun) ↔ (n ≤ 1040) }
+    ensures records { (n : ℕ) → IsWithinLimit empty (records_more n taken) ↔ (n ≤ 4) }
+    ensures done { (n : ℕ) → IsSaidSo empty (opened_said Code.Done (frames_more n begun)) ↔ (n ≡ 96) }
+    ensures earlier { (start : Start) (next : Happening) (past : List Happening) → IsWorked start (next ∷ past)
+        → (IsWithinLimit start (next ∷ past) × IsSaidSo start (next ∷ past)) × IsWorked start past }
+{}
+
+// What is said for want of an answer comes after eight tries that missed, at least.
+fn no_sooner_than_the_eighth_miss()
+    ensures silent { (n : ℕ) → IsSaidSo empty (begun_said Code.Silent (tries_more n begun)) → 8 ≤ n }
+    ensures doubt { (n : ℕ) → IsSaidSo empty (opened_said Code.Doubt (tries_more n begun)) → 8 ≤ n }
+    ensures left { (n : ℕ) → IsSaidSo empty (opened_said Code.DoubtOpen (tries_more n begun)) → 8 ≤ n }
+    ensures blocked { (n : ℕ) → IsSaidSo left_open (blocked_said (tries_more n second_taken)) → 8 ≤ n }
+{}
+
+// What counts is what came since an order was taken or the program stopped, and an order is at hand until it is said.
+fn what_counts_as_work()
+    ensures frames { length (sent_since_taken begun_anew) ≡ 1 }
+    ensures frames_anew { sent_since_taken taken_again ≡ [] }
+    ensures records { kept_since opened ≡ 2 }
+    ensures records_from_a_stop { kept_since begun_anew ≡ 0 }
+    ensures records_anew { kept_since (second_taken_behind left_said) ≡ 0 }
+    ensures stood { stood_at empty first_frame ≡ Standing.Idle }
+    ensures stood_at_a_stop { stood_at empty begun_anew ≡ Standing.Began first_order }
+    ensures stood_left { stood_at empty (second_taken_behind left_said) ≡ Standing.Left 5 }
+    ensures waits { order_at_hand left_open unreached ≡ Some second_order }
+    ensures opened { order_at_hand empty unlocked ≡ Some first_order }
+    ensures ended { order_at_hand empty ended ≡ Some first_order }
+    ensures said { order_at_hand empty said ≡ None }
+    ensures forgotten { order_at_hand left_open (Stopped ∷ second_taken) ≡ None }
+{}
+
+// The first order is said by the 1045th step, 5 more than its limit.
+fn said_by_the_1045th_step()
+    ensures says { (n : ℕ) (trace : List Happening) → 1045 ≤ n → SaysInTime at_work (replicate n Step) [] trace → IsSaid at_work first_order [] trace }
+    ensures said { (n : ℕ) (trace : List Happening) → 1045 ≤ n → IsSaidInTime empty taken trace → PartsSince empty (replicate n Step) taken trace
+        → IsSaid empty first_order taken trace }
+    ensures steps { steps_in (Step ∷ Submit second_order ∷ Stop 0 ∷ Step ∷ []) ≡ 2 }
+    ensures submits { NoneStops (Step ∷ Submit second_order ∷ Step ∷ []) }
+    ensures stops { ¬ NoneStops (Step ∷ Stop 0 ∷ Step ∷ []) }
+{}
+
+// What says nothing of an order that is at hand.
+fn what_does_not_say_it()
+    ensures not_yet { ¬ IsSaid empty first_order begun begun }
+    ensures reply { ¬ IsSaid empty first_order begun repeated }
+    ensures another { ¬ IsSaid empty first_order begun another_said }
+    ensures stopped { ¬ IsSaid empty first_order begun said_behind_a_stop }
+    ensures again { ¬ IsSaid empty first_order said said_again }
+{}
+
+// A loss counts once, whichever of the two units it is to, and only where it came since the start. So does a refusal.
+fn what_counts_as_a_loss()
+    ensures both { losses_since 5 (Some 7) (one_since start_taken) (losing 0xA0 ∷ clear ∷ losing 0xA0 ∷ []) ≡ 1 }
+    ensures left { losses_since 5 (Some 7) (one_since start_taken) (losing 0x80 ∷ clear ∷ losing 0xA0 ∷ []) ≡ 1 }
+    ensures own { losses_since 5 (Some 7) (one_since Stopped) (losing 0x20 ∷ clear ∷ losing 0xA0 ∷ []) ≡ 1 }
+    ensures another { losses_since 5 (Some 7) (one_since Stopped) (losing 0x40 ∷ clear ∷ losing 0xA0 ∷ []) ≡ 0 }
+    ensures unrefused { UnrefusedSince (one_since start_taken) (clear ∷ clear ∷ refusing ∷ []) }
+    ensures unrefused_since_a_stop { UnrefusedSince (one_since Stopped) (clear ∷ clear ∷ refusing ∷ []) }
+    ensures refused { ¬ UnrefusedSince (one_since Stopped) (refusing ∷ clear ∷ clear ∷ []) }
+    ensures first { state_at_start (one_since start_taken) clear (losing 1 ∷ losing 2 ∷ losing 3 ∷ []) ≡ losing 1 }
+{}
+
+// How an order is to end, at the edges of what its bank has, and which of its locations are fixed.
+fn how_an_order_is_to_end()
+    ensures long { due_code (0x08 ∷ []) ((0x08, 0) ∷ []) ≡ Code.Done }
+    ensures short { due_code (0x08 ∷ []) ((0x08, 0) ∷ (0x09, 0) ∷ []) ≡ Code.Short }
+    ensures below { due_code (of_format 0x00 0x04) ((0x12, 0) ∷ []) ≡ Code.Done }
+    ensures low { due_code (of_format 0x00 0x04) ((0x13, 0) ∷ []) ≡ Code.Format }
+    ensures high { due_code (of_format 0x01 0x03) ((0x13, 0) ∷ []) ≡ Code.Format }
+    ensures format { due_code (of_format 0x00 0x03) ((0x13, 0) ∷ []) ≡ Code.Done }
+    ensures other_fixed { NoneFixed fixed_beside ((0x08, 0) ∷ (0x09, 0) ∷ []) }
+    ensures one_fixed { ¬ NoneFixed fixed_there ((0x08, 0) ∷ (0x09, 0) ∷ []) }
+{}
+
+// Seven losses are few, and what is promised is so at each moment.
+fn little_loss_is_spared()
+    ensures seven { SparesSeven }
+    ensures earlier { (start : Start) (next : Happening) (past : List Happening) (last state : SimState) (states : List SimState) → AtEachState (IsSpared start) (next ∷ past) last (state ∷ states)
+        → IsSpared start (next ∷ past) last (state ∷ states) × AtEachState (IsSpared start) past state states }
+{}
+
 // All of it is proved: the test calls it, so that nothing is left out.
 #[test]
 fn the_worked_plans_are_as_they_should_be() {
@@ -56,4 +155,12 @@ fn the_worked_plans_are_as_they_should_be() {
     ends_by_plan();
     traces_that_are_not_by_plan();
     but_they_are_legal();
+    limits_of_the_work();
+    no_sooner_than_the_eighth_miss();
+    what_counts_as_work();
+    said_by_the_1045th_step();
+    what_does_not_say_it();
+    what_counts_as_a_loss();
+    how_an_order_is_to_end();
+    little_loss_is_spared();
 }

@@ -1,0 +1,75 @@
+-- Small buses and banks near the edges of what is promised where little is lost.
+use Rattle.std.proofs.Common.{◌≡◌, refl, sym, ap, ◌∙◌, subst, ℕ, ◌≤◌, true, false, List, [], ◌∷◌, Some, None, arith}
+use Rattle.dali_gear.specs.SimState.{SimState}
+use Rattle.dali_gear.specs.UnitState.{BankState}
+use Rattle.dali_journal.specs.declared.record.Code.TheVariants as codes
+use Rattle.dali_writer.specs.declared.happening.Happening.{Happening}
+use Rattle.dali_writer.specs.declared.happening.Happening.TheVariants.{Stopped}
+use Rattle.dali_writer.specs.Trace.{Start}
+use Rattle.dali_writer.specs.Spared.{state_at_start, losses_since, UnrefusedSince, due_code, NoneFixed, IsSpared, AtEachState}
+use Rattle.dali_writer.specs.WorkedLosses.{losing, refusing, clear, one_since, start_taken, of_format, fixed_beside, fixed_there, SparesSeven}
+
+-- A frame that is lost to the order's unit, to the left one, or to both of them, is one loss; one that is lost to another is none. What was lost before the start isn't counted.
+pub lost_to_both : losses_since 5 (Some 7) (one_since start_taken) (losing 0xA0 ∷ clear ∷ losing 0xA0 ∷ []) ≡ 1
+lost_to_both = refl
+
+pub lost_to_the_left : losses_since 5 (Some 7) (one_since start_taken) (losing 0x80 ∷ clear ∷ losing 0xA0 ∷ []) ≡ 1
+lost_to_the_left = refl
+
+pub lost_to_its_unit : losses_since 5 (Some 7) (one_since Stopped) (losing 0x20 ∷ clear ∷ losing 0xA0 ∷ []) ≡ 1
+lost_to_its_unit = refl
+
+pub lost_to_another : losses_since 5 (Some 7) (one_since Stopped) (losing 0x40 ∷ clear ∷ losing 0xA0 ∷ []) ≡ 0
+lost_to_another = refl
+
+-- nor is what was refused before it
+pub unrefused_since : UnrefusedSince (one_since start_taken) (clear ∷ clear ∷ refusing ∷ [])
+unrefused_since = (refl, tt)
+
+pub unrefused_since_a_stop : UnrefusedSince (one_since Stopped) (clear ∷ clear ∷ refusing ∷ [])
+unrefused_since_a_stop = (refl, tt)
+
+pub refused_since : UnrefusedSince (one_since Stopped) (refusing ∷ clear ∷ clear ∷ []) → ⊥
+refused_since kind = let never : true ≡ false = kind.0 in cc
+
+-- the state at the start
+pub state_then : state_at_start (one_since start_taken) clear (losing 1 ∷ losing 2 ∷ losing 3 ∷ []) ≡ losing 1
+state_then = refl
+
+-- how an order is to end
+pub long_enough : due_code (0x08 ∷ []) ((0x08, 0) ∷ []) ≡ codes.Done
+long_enough = refl
+
+pub too_short : due_code (0x08 ∷ []) ((0x08, 0) ∷ (0x09, 0) ∷ []) ≡ codes.Short
+too_short = refl
+
+pub below_the_formats : due_code (of_format 0x00 0x04) ((0x12, 0) ∷ []) ≡ codes.Done
+below_the_formats = refl
+
+pub another_low : due_code (of_format 0x00 0x04) ((0x13, 0) ∷ []) ≡ codes.Format
+another_low = refl
+
+pub another_high : due_code (of_format 0x01 0x03) ((0x13, 0) ∷ []) ≡ codes.Format
+another_high = refl
+
+pub of_the_format : due_code (of_format 0x00 0x03) ((0x13, 0) ∷ []) ≡ codes.Done
+of_the_format = refl
+
+-- another location is fixed, or an update's
+pub another_fixed : NoneFixed fixed_beside ((0x08, 0) ∷ (0x09, 0) ∷ [])
+another_fixed = (refl, (refl, tt))
+
+pub one_fixed : NoneFixed fixed_there ((0x08, 0) ∷ (0x09, 0) ∷ []) → ⊥
+one_fixed none = let never : true ≡ false = none.1.0 in cc
+
+-- seven losses are few
+pub seven_spared : SparesSeven
+seven_spared start id reply frame answer older last state states order bank spared hand idle has kind seven free =
+    let so = spared order bank hand idle has kind (omega arith) free in
+    let few = so.1 in
+    (so.0, omega arith)
+
+-- what is promised at each state of a chain, is so at those before
+pub spared_before : (start : Start) (next : Happening) (past : List Happening) (last state : SimState) (states : List SimState) → AtEachState (IsSpared start) (next ∷ past) last (state ∷ states)
+    → IsSpared start (next ∷ past) last (state ∷ states) × AtEachState (IsSpared start) past state states
+spared_before start next past last state states each = each

@@ -1,0 +1,8 @@
+use Rattle.dali_writer.proofs.WorkedLossLemmas.{seven_spared, spared_before}
+use Rattle.dali_writer.proofs.tests.worked_plans.little_loss_is_spared.Goals as goal
+
+pub returns-clause-seven : goal.returns-clause-seven
+returns-clause-seven c = seven_spared
+
+pub returns-clause-earlier : goal.returns-clause-earlier
+returns-clause-earlier c = spared_before

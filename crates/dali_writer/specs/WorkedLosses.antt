@@ -1,0 +1,58 @@
+-- Small buses and banks near the edges of what is promised where little is lost.
+use Rattle.std.specs.Prelude.{◌≡◌, ◌≤◌, ℕ, true, false, replicate, List, [], ◌∷◌, ◌++◌, Option, Some, None}
+use Rattle.dali_frame.specs.declared.forward.Frame.{Frame}
+use Rattle.dali_frame.specs.declared.forward.Frame.TheVariants.{Dtr1}
+use Rattle.dali_bank.specs.Order.{Contents}
+use Rattle.dali_gear.specs.Fate.{whole}
+use Rattle.dali_gear.specs.SimState.{SimState}
+use Rattle.dali_gear.specs.UnitState.{BankState}
+use Rattle.dali_journal.specs.declared.record.Code.TheVariants as codes
+use Rattle.dali_journal.specs.Sentence.{named_unit}
+use Rattle.dali_write.specs.Misses.{misses_in}
+use Rattle.dali_write.specs.Successes.{HasBank}
+use Rattle.dali_writer.specs.declared.happening.Reply.{Reply}
+use Rattle.dali_writer.specs.declared.happening.Reply.TheVariants as replies
+use Rattle.dali_writer.specs.declared.happening.Happening.{Happening}
+use Rattle.dali_writer.specs.declared.happening.Happening.TheVariants.{Answered, Sent}
+use Rattle.dali_writer.specs.Trace.{Start, sent_since_taken, is_at_work}
+use Rattle.dali_writer.specs.Work.{stood_at, order_at_hand}
+use Rattle.dali_writer.specs.Spared.{state_at_start, losses_since, UnrefusedSince, due_code, NoneFixed, IsSpared}
+use Rattle.dali_writer.specs.Worked.{taken}
+
+-- a bus whose next frame is lost to the units of these bits, and one whose next frame is refused
+abbrev pub losing : ℕ → SimState
+losing bits = record { units = []; fates = record whole { lost = bits } ∷ [] }
+
+abbrev pub refusing : SimState
+refusing = record { units = []; fates = record whole { refuse = true } ∷ [] }
+
+abbrev pub clear : SimState
+clear = record { units = []; fates = [] }
+
+-- one frame since an order was taken, or since a stop, and one before that
+abbrev pub one_since : Happening → List Happening
+one_since start = Sent (Dtr1 1) None ∷ start ∷ Sent (Dtr1 1) None ∷ taken
+
+abbrev pub start_taken : Happening
+start_taken = Answered 2 replies.Taken
+
+-- bank 1 up to 12h, which 00h says to reach to 77h, with this content format
+abbrev pub of_format : ℕ → ℕ → List ℕ
+of_format high low = 0x77 ∷ (replicate 0x10 0xFF ++ high ∷ low ∷ [])
+
+-- banks with fixed locations beside 08h and 09h, and at 09h
+abbrev pub fixed_beside : BankState
+fixed_beside = record { bytes = []; fixed = 0x07 ∷ 0x0A ∷ [] }
+
+abbrev pub fixed_there : BankState
+fixed_there = record { bytes = []; fixed = 0x07 ∷ 0x09 ∷ [] }
+
+-- With seven losses an order whose unit is on the bus ends as it is to end, and misses no more often.
+abbrev pub SparesSeven : Type 0
+SparesSeven =
+    (start : Start) (id : ℕ) (reply : Reply) (frame : Frame) (answer : Option ℕ) (older : List Happening) (last state : SimState) (states : List SimState) (order : Contents) (bank : BankState)
+    → IsSpared start (Answered id reply ∷ Sent frame answer ∷ older) last (state ∷ states) → order_at_hand start (Sent frame answer ∷ older) ≡ Some order
+    → is_at_work (stood_at start (Sent frame answer ∷ older)) ≡ false → HasBank order.unit bank (state_at_start (Sent frame answer ∷ older) state states).units
+    → UnrefusedSince (Sent frame answer ∷ older) states → losses_since order.unit (named_unit (stood_at start (Sent frame answer ∷ older))) (Sent frame answer ∷ older) states ≡ 7
+    → (due_code bank.bytes order.updates ≡ codes.Done → NoneFixed bank order.updates)
+    → (reply ≡ replies.Kept (due_code bank.bytes order.updates)) × (misses_in (sent_since_taken (Sent frame answer ∷ older)) ≤ 7)

@@ -19,3 +19,4 @@ pub mod Guards
 pub mod Doubts
 pub mod Misses
 pub mod Successes
+pub mod WorkedSteps

@@ -1,3 +1,5 @@
+mod worked_steps;
+
 use crate::{Ask, Session, Verdict, laws};
 use dali_bank::{BLANK, Order};
 use dali_frame::{Frame, word_of};

@@ -1,12 +1,16 @@
 -- Small buses and banks near the edges of what is promised where little is lost.
 use Rattle.std.proofs.Common.{◌≡◌, refl, sym, ap, ◌∙◌, subst, ℕ, ◌≤◌, true, false, List, [], ◌∷◌, Some, None, arith}
-use Rattle.dali_gear.specs.SimState.{SimState}
+use Rattle.dali_gear.specs.SimState.{SimState, SimStep, world_of}
+use Rattle.dali_gear.specs.Chain.{IsChain}
+use Rattle.dali_gear.specs.Unenabled.{NoneEnabled}
 use Rattle.dali_gear.specs.UnitState.{BankState}
 use Rattle.dali_journal.specs.declared.record.Code.TheVariants as codes
 use Rattle.dali_writer.specs.declared.happening.Happening.{Happening}
 use Rattle.dali_writer.specs.declared.happening.Happening.TheVariants.{Stopped}
 use Rattle.dali_writer.specs.Trace.{Start}
-use Rattle.dali_writer.specs.Spared.{state_at_start, losses_since, UnrefusedSince, due_code, NoneFixed, IsSpared, AtEachState}
+use Rattle.dali_writer.specs.Moves.{MovesBy}
+use Rattle.dali_writer.specs.Runs.{fresh}
+use Rattle.dali_writer.specs.Spared.{state_at_start, losses_since, UnrefusedSince, due_code, NoneFixed, IsSpared, AtEachState, LeadsSpared}
 use Rattle.dali_writer.specs.WorkedLosses.{losing, refusing, clear, one_since, start_taken, of_format, fixed_beside, fixed_there, SparesSeven}
 
 -- A frame that is lost to the order's unit, to the left one, or to both of them, is one loss; one that is lost to another is none. What was lost before the start isn't counted.
@@ -73,3 +77,7 @@ seven_spared start id reply frame answer older last state states order bank spar
 pub spared_before : (start : Start) (next : Happening) (past : List Happening) (last state : SimState) (states : List SimState) → AtEachState (IsSpared start) (next ∷ past) last (state ∷ states)
     → IsSpared start (next ∷ past) last (state ∷ states) × AtEachState (IsSpared start) past state states
 spared_before start next past last state states each = each
+
+pub leads_spared : (limit : ℕ) (first : SimState) (past : List Happening) (last : SimState) (leads : LeadsSpared limit first past last) → NoneEnabled (world_of first.units)
+    → IsChain (MovesBy SimStep) first past last leads.states × AtEachState (IsSpared (fresh limit)) past last leads.states
+leads_spared limit first past last leads none = (leads.chain, leads.spared none)

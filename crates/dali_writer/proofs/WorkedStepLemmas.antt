@@ -11,6 +11,7 @@ use Rattle.dali_writer.specs.declared.happening.Happening.{Happening}
 use Rattle.dali_writer.specs.declared.happening.Happening.TheVariants.{Asked, Answered, Stopped}
 use Rattle.dali_writer.specs.Trace.{Start}
 use Rattle.dali_writer.specs.Legal.{IsFinished}
+use Rattle.dali_writer.specs.Parts.{AreParts}
 use Rattle.dali_writer.specs.Work.{stood_at, order_at_hand}
 use Rattle.dali_writer.specs.Steps.{steps_in, NoneStops, IsSaid, PartsSince, IsSaidInTime, SaysInTime}
 use Rattle.dali_writer.specs.Worked.{empty, first_order, second_order, taken, begun, said}
@@ -43,6 +44,14 @@ says_by_then n trace many (before, older, newer, says) =
 pub said_by_then : (n : ℕ) (trace : List Happening) → 1045 ≤ n → IsSaidInTime empty taken trace → PartsSince empty (replicate n Step) taken trace → IsSaid empty first_order taken trace
 said_by_then n trace many in_time parts =
     let count = count_steps n in in_time (replicate n Step) first_order parts refl (none_stops n) (omega arith)
+
+-- the parts of newer events behind those of older ones are the parts of all of them
+parts_join : (start : Start) (newer older : List Event) (before trace : List Happening) → AreParts start older before → PartsSince start newer before trace → AreParts start (newer ++ older) trace
+parts_join start [] older before trace parts same = subst (λ (t : List Happening). AreParts start older t) (sym same) parts
+parts_join start (event ∷ newer) older before trace parts (mid, part, rest) = (mid, part, parts_join start newer older before mid parts rest)
+
+pub says_parts : (start : Start) (newer older : List Event) (trace : List Happening) → SaysInTime start newer older trace → AreParts start (newer ++ older) trace
+says_parts start newer older trace (before, parts, since, says) = parts_join start newer older before trace parts since
 
 -- where one happening was added, it is the saying; where two were, one of them is
 length_append : (xs ys : List Happening) → length (xs ++ ys) ≡ length xs + length ys

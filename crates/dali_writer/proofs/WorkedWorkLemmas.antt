@@ -13,12 +13,13 @@ use Rattle.dali_write.specs.Tries.{Succeeds}
 use Rattle.dali_write.specs.Doubts.{HasFailed, EndsUnlooked, read_backs, FoundAnother}
 use Rattle.dali_write.specs.Misses.{misses_in, IsLong}
 use Rattle.dali_write.proofs.MissLemmas.{failure_misses, failed_misses}
+use Rattle.dali_writer.specs.declared.happening.Reply.TheVariants as replies
 use Rattle.dali_writer.specs.declared.happening.Happening.{Happening}
-use Rattle.dali_writer.specs.declared.happening.Happening.TheVariants.{Kept, Stopped}
+use Rattle.dali_writer.specs.declared.happening.Happening.TheVariants.{Answered, Kept, Stopped}
 use Rattle.dali_writer.specs.Trace.{Start, sent_since_taken}
 use Rattle.dali_writer.specs.Work.{stood_at, kept_since, frames_from, order_at_hand, FindsAnother, IsWithinLimit, IsSaidSo, IsWorked}
-use Rattle.dali_writer.specs.Worked.{empty, left_open, first_order, second_order, taken, begun, opened, unlocked, ended, said, left_said, second_taken, unreached, taken_again}
-use Rattle.dali_writer.specs.WorkedPlans.{first_frame, begun_anew, second_taken_behind, frames_more, tries_more, records_more, begun_said, opened_said, blocked_said}
+use Rattle.dali_writer.specs.Worked.{empty, left_open, first_order, second_order, taken, begun, opened, unlocked, short_ended, ended, said, left_said, second_taken, unreached, taken_again}
+use Rattle.dali_writer.specs.WorkedPlans.{first_frame, begun_anew, said_again, second_taken_behind, frames_more, tries_more, records_more, begun_said, opened_said, blocked_said}
 use Rattle.dali_writer.proofs.RefusedLemmas.{none_read, has_none}
 
 -- so many frames were sent, and one record kept
@@ -106,6 +107,17 @@ done_after_96 =
 
 pub done_so : (n : ℕ) → n ≡ 96 → IsSaidSo empty (opened_said codes.Done (frames_more n begun))
 done_so n is = subst (λ (m : ℕ). IsSaidSo empty (opened_said codes.Done (frames_more m begun))) (sym is) done_after_96
+
+-- It is the order at hand that is said, by its number.
+pub not_said_so_of_another : IsSaidSo empty (Answered 2 (replies.Kept codes.Short) ∷ short_ended) → ⊥
+not_said_so_of_another (order, number, hand, earned) =
+    let both : Some first_order ≡ Some order = hand in
+    let same : first_order ≡ order = cc in
+    let one : ◌≡◌ {A = ℕ} 1 2 = ap (λ (o : Contents). o.id) same ∙ number in
+    omega (arith, one)
+
+pub not_said_so_again : IsSaidSo empty said_again → ⊥
+not_said_so_again (order, number, hand, earned) = let never : None ≡ Some order = hand in cc
 
 -- What is said for want of an answer comes after at least eight tries that missed.
 tries_missed : (n : ℕ) → misses_in (sent_since_taken (tries_more n begun)) ≡ n
@@ -198,6 +210,13 @@ stood_at_a_stop = refl
 
 pub stood_left : stood_at empty (second_taken_behind left_said) ≡ standings.Left 5
 stood_left = refl
+
+-- the frames of the first order, from where it starts
+pub frames_of_begun : frames_from (standings.Began first_order) first_order.updates ≡ 96
+frames_of_begun = refl
+
+pub frames_of_opened : frames_from (standings.Opened first_order) first_order.updates ≡ 91
+frames_of_opened = refl
 
 -- the order at hand
 pub waiting_at_hand : order_at_hand left_open unreached ≡ Some second_order

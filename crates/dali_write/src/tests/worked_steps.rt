@@ -38,19 +38,26 @@ fn what_a_bank_takes()
 
 // Seven losses are few, and with none nothing was missed.
 fn little_loss_is_spared()
-    ensures seven { (at : ℕ) (unit : UnitState) (told : List Exchange) (first last : SimState) (run : SimRun told first last)
-        → IsAlone at unit first.units → Unrefused told first last run → losses at told first last run ≡ 7 → Spared at unit told first last }
-    ensures none { (at : ℕ) (unit : UnitState) (told : List Exchange) (first last : SimState) (spared : Spared at unit told first last)
-        → MissesByLosses at unit told first last spared → losses at told first last spared.run ≡ 0 → misses_in told ≡ 0 }
+    ensures seven { (at : ℕ) (unit : UnitState) (told : List Exchange) (first last : SimState)
+        (run : SimRun told first last)
+        → IsAlone at unit first.units → Unrefused told first last run → losses at told first last run ≡ 7
+        → Spared at unit told first last }
+    ensures none { (at : ℕ) (unit : UnitState) (told : List Exchange) (first last : SimState)
+        (spared : Spared at unit told first last)
+        → MissesByLosses at unit told first last spared → losses at told first last spared.run ≡ 0
+        → misses_in told ≡ 0 }
 {}
 
 // A read that failed names its unit and its location, and where another byte was found the session has ended in doubt.
 fn what_a_failure_names()
-    ensures unread { (unit location other place : ℕ) (told : List Exchange) → EndsUnread other place (missed_read unit location told)
+    ensures unread { (unit location other place : ℕ) (told : List Exchange)
+        → EndsUnread other place (missed_read unit location told)
         → (other ≡ unit) × (place ≡ location) }
-    ensures unlooked { (unit location other : ℕ) (told : List Exchange) → EndsUnlooked other (missed_read unit location told)
+    ensures unlooked { (unit location other : ℕ) (told : List Exchange)
+        → EndsUnlooked other (missed_read unit location told)
         → (location ≡ 0x00) ⊎ ((location ≡ 0x11) ⊎ (location ≡ 0x12)) }
-    ensures found { (unit : ℕ) (plan : Plan) (expected : List (ℕ × ℕ)) (told : List Exchange) → FoundAnother unit plan expected told
+    ensures found { (unit : ℕ) (plan : Plan) (expected : List (ℕ × ℕ)) (told : List Exchange)
+        → FoundAnother unit plan expected told
         → Wants unit plan told (Ask.Ended Verdict.Doubt) }
 {}
 

@@ -1,23 +1,39 @@
-ghost use Rattle.std.specs.Prelude.{◌≡◌, ◌≤◌, ◌↔◌, ℕ, replicate, List, [], ◌∷◌, length, Some, None};
-ghost use Rattle.dali_gear.specs.SimState.{SimState};
+ghost use Rattle.std.specs.Prelude.{◌≡◌, ◌≤◌, ◌↔◌, ℕ, replicate, List, [], ◌∷◌, ◌++◌, length, Some, None};
+ghost use Rattle.dali_gear.specs.Chain.{IsChain};
+ghost use Rattle.dali_gear.specs.SimState.{SimState, SimStep, world_of};
+ghost use Rattle.dali_gear.specs.Unenabled.{NoneEnabled};
 ghost use Rattle.dali_journal.specs.declared.record.Code.TheVariants as Code;
 ghost use Rattle.dali_journal.specs.declared.standing.Standing.TheVariants as Standing;
+ghost use Rattle.dali_writer.specs.declared.happening.Reply.TheVariants as Reply;
+ghost use Rattle.dali_writer.specs.declared.happening.Event.{Event};
 ghost use Rattle.dali_writer.specs.declared.happening.Event.TheVariants.{Submit, Step, Stop};
 ghost use Rattle.dali_writer.specs.declared.happening.Happening.{Happening};
-ghost use Rattle.dali_writer.specs.declared.happening.Happening.TheVariants.{Stopped};
+ghost use Rattle.dali_writer.specs.declared.happening.Happening.TheVariants.{Answered, Stopped};
 ghost use Rattle.dali_writer.specs.Trace.{Start, sent_since_taken};
 ghost use Rattle.dali_writer.specs.Legal.{Legal};
+ghost use Rattle.dali_writer.specs.Moves.{MovesBy};
+ghost use Rattle.dali_writer.specs.Parts.{AreParts};
+ghost use Rattle.dali_writer.specs.Runs.{fresh};
 ghost use Rattle.dali_writer.specs.ByPlan.{ByPlan};
-ghost use Rattle.dali_writer.specs.Work.{stood_at, kept_since, order_at_hand, IsWithinLimit, IsSaidSo, IsWorked};
+ghost use Rattle.dali_writer.specs.Work.{stood_at, kept_since, frames_from, order_at_hand, IsWithinLimit, IsSaidSo};
+ghost use Rattle.dali_writer.specs.Work.{IsWorked};
 ghost use Rattle.dali_writer.specs.Steps.{steps_in, NoneStops, IsSaid, PartsSince, IsSaidInTime, SaysInTime};
-ghost use Rattle.dali_writer.specs.Spared.{losses_since, UnrefusedSince, state_at_start, due_code, NoneFixed, IsSpared, AtEachState};
-ghost use Rattle.dali_writer.specs.Worked.{empty, left_open, first_order, second_order, short_ended, silent_ended, blocked};
-ghost use Rattle.dali_writer.specs.Worked.{taken, begun, opened, unlocked, ended, said, left_said, second_taken, unreached, taken_again};
-ghost use Rattle.dali_writer.specs.WorkedPlans.{first_frame, next_try, next_frame, begun_anew, enabled_first, silent_after_eight};
-ghost use Rattle.dali_writer.specs.WorkedPlans.{another_first_frame, frame_past_a_miss, try_without_a_miss, try_through_a_stop, read_once_opened, silent_after_seven, silent_where_short, left_at_once, blocked_at_once};
-ghost use Rattle.dali_writer.specs.WorkedPlans.{frames_more, tries_more, records_more, begun_said, opened_said, blocked_said, second_taken_behind, at_work};
+ghost use Rattle.dali_writer.specs.Spared.{losses_since, UnrefusedSince, state_at_start, due_code, NoneFixed};
+ghost use Rattle.dali_writer.specs.Spared.{IsSpared, AtEachState, LeadsSpared};
+ghost use Rattle.dali_writer.specs.Worked.{empty, left_open, first_order, second_order, short_ended, silent_ended};
+ghost use Rattle.dali_writer.specs.Worked.{blocked};
+ghost use Rattle.dali_writer.specs.Worked.{taken, begun, opened, unlocked, ended, said, left_said, second_taken};
+ghost use Rattle.dali_writer.specs.Worked.{unreached, taken_again};
+ghost use Rattle.dali_writer.specs.WorkedPlans.{first_frame, next_try, next_frame, begun_anew, enabled_first};
+ghost use Rattle.dali_writer.specs.WorkedPlans.{silent_after_eight};
+ghost use Rattle.dali_writer.specs.WorkedPlans.{another_first_frame, frame_past_a_miss, try_without_a_miss};
+ghost use Rattle.dali_writer.specs.WorkedPlans.{try_through_a_stop, read_once_opened, silent_after_seven};
+ghost use Rattle.dali_writer.specs.WorkedPlans.{silent_where_short, left_at_once, blocked_at_once};
+ghost use Rattle.dali_writer.specs.WorkedPlans.{frames_more, tries_more, records_more, begun_said, opened_said};
+ghost use Rattle.dali_writer.specs.WorkedPlans.{blocked_said, second_taken_behind, at_work};
 ghost use Rattle.dali_writer.specs.WorkedPlans.{repeated, another_said, said_behind_a_stop, said_again};
-ghost use Rattle.dali_writer.specs.WorkedLosses.{losing, refusing, clear, one_since, start_taken, of_format, fixed_beside, fixed_there, SparesSeven};
+ghost use Rattle.dali_writer.specs.WorkedLosses.{losing, refusing, clear, one_since, start_taken, of_format};
+ghost use Rattle.dali_writer.specs.WorkedLosses.{fixed_beside, fixed_there, SparesSeven};
 
 // Each frame is the next of its try, a try ends at its first miss, and the session begins anew after a stop and once a
 // record is kept.
@@ -64,11 +80,13 @@ fn but_they_are_legal()
     ensures blocked_at_once { Legal left_open blocked_at_once }
 {}
 
-// The limit of the first order is 1040 frames and four records, and Done comes after 96 frames of which none was missed.
+// The limit of the first order is 1040 frames and four records, and Done comes after 96 frames where none missed.
 fn limits_of_the_work()
     ensures frames { (n : ℕ) → IsWithinLimit empty (frames_more n begun) ↔ (n ≤ 1040) }
     ensures records { (n : ℕ) → IsWithinLimit empty (records_more n taken) ↔ (n ≤ 4) }
     ensures done { (n : ℕ) → IsSaidSo empty (opened_said Code.Done (frames_more n begun)) ↔ (n ≡ 96) }
+    ensures another { ¬ IsSaidSo empty (Answered 2 (Reply.Kept Code.Short) ∷ short_ended) }
+    ensures again { ¬ IsSaidSo empty said_again }
     ensures earlier { (start : Start) (next : Happening) (past : List Happening) → IsWorked start (next ∷ past)
         → (IsWithinLimit start (next ∷ past) × IsSaidSo start (next ∷ past)) × IsWorked start past }
 {}
@@ -91,6 +109,8 @@ fn what_counts_as_work()
     ensures stood { stood_at empty first_frame ≡ Standing.Idle }
     ensures stood_at_a_stop { stood_at empty begun_anew ≡ Standing.Began first_order }
     ensures stood_left { stood_at empty (second_taken_behind left_said) ≡ Standing.Left 5 }
+    ensures from_begun { frames_from (Standing.Began first_order) first_order.updates ≡ 96 }
+    ensures from_opened { frames_from (Standing.Opened first_order) first_order.updates ≡ 91 }
     ensures waits { order_at_hand left_open unreached ≡ Some second_order }
     ensures opened { order_at_hand empty unlocked ≡ Some first_order }
     ensures ended { order_at_hand empty ended ≡ Some first_order }
@@ -100,9 +120,14 @@ fn what_counts_as_work()
 
 // The first order is said by the 1045th step, 5 more than its limit.
 fn said_by_the_1045th_step()
-    ensures says { (n : ℕ) (trace : List Happening) → 1045 ≤ n → SaysInTime at_work (replicate n Step) [] trace → IsSaid at_work first_order [] trace }
-    ensures said { (n : ℕ) (trace : List Happening) → 1045 ≤ n → IsSaidInTime empty taken trace → PartsSince empty (replicate n Step) taken trace
+    ensures says { (n : ℕ) (trace : List Happening) → 1045 ≤ n → SaysInTime at_work (replicate n Step) [] trace
+        → IsSaid at_work first_order [] trace }
+    ensures said { (n : ℕ) (trace : List Happening) → 1045 ≤ n → IsSaidInTime empty taken trace
+        → PartsSince empty (replicate n Step) taken trace
         → IsSaid empty first_order taken trace }
+    ensures parts { (start : Start) (newer older : List Event) (trace : List Happening)
+        → SaysInTime start newer older trace
+        → AreParts start (newer ++ older) trace }
     ensures steps { steps_in (Step ∷ Submit second_order ∷ Stop 0 ∷ Step ∷ []) ≡ 2 }
     ensures submits { NoneStops (Step ∷ Submit second_order ∷ Step ∷ []) }
     ensures stops { ¬ NoneStops (Step ∷ Stop 0 ∷ Step ∷ []) }
@@ -144,8 +169,13 @@ fn how_an_order_is_to_end()
 // Seven losses are few, and what is promised is so at each moment.
 fn little_loss_is_spared()
     ensures seven { SparesSeven }
-    ensures earlier { (start : Start) (next : Happening) (past : List Happening) (last state : SimState) (states : List SimState) → AtEachState (IsSpared start) (next ∷ past) last (state ∷ states)
+    ensures earlier { (start : Start) (next : Happening) (past : List Happening) (last state : SimState) (states : List SimState)
+        → AtEachState (IsSpared start) (next ∷ past) last (state ∷ states)
         → IsSpared start (next ∷ past) last (state ∷ states) × AtEachState (IsSpared start) past state states }
+    ensures leads { (limit : ℕ) (first : SimState) (past : List Happening) (last : SimState)
+        (leads : LeadsSpared limit first past last) → NoneEnabled (world_of first.units)
+        → IsChain (MovesBy SimStep) first past last leads.states
+        × AtEachState (IsSpared (fresh limit)) past last leads.states }
 {}
 
 // All of it is proved: the test calls it, so that nothing is left out.

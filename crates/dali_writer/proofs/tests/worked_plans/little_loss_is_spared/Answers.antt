@@ -1,4 +1,4 @@
-use Rattle.dali_writer.proofs.WorkedLossLemmas.{seven_spared, spared_before}
+use Rattle.dali_writer.proofs.WorkedLossLemmas.{seven_spared, spared_before, leads_spared}
 use Rattle.dali_writer.proofs.tests.worked_plans.little_loss_is_spared.Goals as goal
 
 pub returns-clause-seven : goal.returns-clause-seven
@@ -6,3 +6,6 @@ returns-clause-seven c = seven_spared
 
 pub returns-clause-earlier : goal.returns-clause-earlier
 returns-clause-earlier c = spared_before
+
+pub returns-clause-leads : goal.returns-clause-leads
+returns-clause-leads c = leads_spared

@@ -1,4 +1,4 @@
-use Rattle.dali_writer.proofs.WorkedWorkLemmas.{frames_counted, frames_counted_anew, records_counted, records_counted_from_a_stop, records_counted_anew, stood_when_taken, stood_at_a_stop, stood_left, waiting_at_hand, opened_at_hand, ended_at_hand, none_once_said, none_behind_a_stop}
+use Rattle.dali_writer.proofs.WorkedWorkLemmas.{frames_counted, frames_counted_anew, records_counted, records_counted_from_a_stop, records_counted_anew, stood_when_taken, stood_at_a_stop, stood_left, waiting_at_hand, opened_at_hand, ended_at_hand, none_once_said, none_behind_a_stop, frames_of_begun, frames_of_opened}
 use Rattle.dali_writer.proofs.tests.worked_plans.what_counts_as_work.Goals as goal
 
 pub returns-clause-frames : goal.returns-clause-frames
@@ -39,3 +39,9 @@ returns-clause-said c = none_once_said
 
 pub returns-clause-forgotten : goal.returns-clause-forgotten
 returns-clause-forgotten c = none_behind_a_stop
+
+pub returns-clause-from_begun : goal.returns-clause-from_begun
+returns-clause-from_begun c = frames_of_begun
+
+pub returns-clause-from_opened : goal.returns-clause-from_opened
+returns-clause-from_opened c = frames_of_opened

@@ -33,7 +33,7 @@ left_legal = (
   (refl, (refl, refl)),
 )
 
-third_begun_legal : Legal empty third_begun
+pub third_begun_legal : Legal empty third_begun
 third_begun_legal = ((((tt, omega arith), tt), (refl, (tt, refl, refl))), record { sentence = (tt, tt, refl); within = omega arith; due = refl; grounds = tt })
 
 pub format_legal : Legal empty format_ended

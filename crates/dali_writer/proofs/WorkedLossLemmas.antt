@@ -1,17 +1,32 @@
 -- Small buses and banks near the edges of what is promised where little is lost.
-use Rattle.std.proofs.Common.{◌≡◌, refl, sym, ap, ◌∙◌, subst, ℕ, ◌≤◌, true, false, List, [], ◌∷◌, Some, None, arith}
-use Rattle.dali_gear.specs.SimState.{SimState, SimStep, world_of}
+use Rattle.std.proofs.Common.{◌≡◌, ◌==◌, inl, inr, refl, sym, ap, ◌∙◌, subst, ℕ, ◌≤◌, Bool, true, false, if◌then◌else◌, List, [], ◌∷◌, Option, Some, None, arith}
+use Rattle.std.specs.List.{filter_map}
+use Rattle.dali_frame.specs.declared.forward.Frame.{Frame}
+use Rattle.dali_frame.specs.declared.forward.Frame.TheVariants.{Dtr0, Dtr1, AskDtr0, AskDtr1, Read}
+use Rattle.dali_gear.specs.Fate.{next_fate}
+use Rattle.dali_gear.specs.Faults.{IsBank}
+use Rattle.dali_gear.specs.SimState.{SimState, SimStep, SimCarry, AreApart, AreBanks, unit_answer, bus_answer, world_of}
 use Rattle.dali_gear.specs.Chain.{IsChain}
 use Rattle.dali_gear.specs.Unenabled.{NoneEnabled}
-use Rattle.dali_gear.specs.UnitState.{BankState}
+use Rattle.dali_gear.specs.UnitState.{BankState, new_unit, gear_of}
 use Rattle.dali_journal.specs.declared.record.Code.TheVariants as codes
 use Rattle.dali_writer.specs.declared.happening.Happening.{Happening}
-use Rattle.dali_writer.specs.declared.happening.Happening.TheVariants.{Stopped}
+use Rattle.dali_writer.specs.declared.happening.Happening.TheVariants.{Sent, Stopped}
+use Rattle.dali_write.specs.declared.ask.Ask.TheVariants as asks
+use Rattle.dali_write.specs.declared.ask.Verdict.TheVariants as verdicts
+use Rattle.dali_write.specs.Plans.{read_length}
+use Rattle.dali_writer.proofs.WorkedLemmas.{read_legal, read_stands}
+use Rattle.dali_writer.proofs.EndingLemmas.{third_begun_legal}
+use Rattle.dali_writer.proofs.WorkedPlanLemmas.{Onset, Keeps, wants_so, frames_planned}
+use Rattle.dali_gear.specs.World.{is_open}
 use Rattle.dali_writer.specs.Trace.{Start}
+use Rattle.dali_writer.specs.Legal.{Legal}
+use Rattle.dali_writer.specs.ByPlan.{told_in, ByPlan}
 use Rattle.dali_writer.specs.Moves.{MovesBy}
 use Rattle.dali_writer.specs.Runs.{fresh}
 use Rattle.dali_writer.specs.Spared.{state_at_start, losses_since, UnrefusedSince, due_code, NoneFixed, IsSpared, AtEachState, LeadsSpared}
-use Rattle.dali_writer.specs.WorkedLosses.{losing, refusing, clear, one_since, start_taken, of_format, fixed_beside, fixed_there, SparesSeven}
+use Rattle.dali_writer.specs.WorkedLosses.{losing, refusing, clear, one_since, start_taken, of_format, fixed_beside, fixed_there, short_bank, short_bus, short_sent, short_said, bus_after, buses_along, MeetsAll, SparesSeven}
+use Rattle.dali_writer.specs.Worked.{read_at, read_try, third_order, third_begun}
 
 -- A frame that is lost to the order's unit, to the left one, or to both of them, is one loss; one that is lost to another is none. What was lost before the start isn't counted.
 pub lost_to_both : losses_since 5 (Some 7) (one_since start_taken) (losing 0xA0 ∷ clear ∷ losing 0xA0 ∷ []) ≡ 1
@@ -81,3 +96,70 @@ spared_before start next past last state states each = each
 pub leads_spared : (limit : ℕ) (first : SimState) (past : List Happening) (last : SimState) (leads : LeadsSpared limit first past last) → NoneEnabled (world_of first.units)
     → IsChain (MovesBy SimStep) first past last leads.states × AtEachState (IsSpared (fresh limit)) past last leads.states
 leads_spared limit first past last leads none = (leads.chain, leads.spared none)
+
+-- An order that ends Short after one answer was lost meets all that is asked for.
+is_bank : IsBank short_bank.bytes
+is_bank = record { least = omega arith; most = omega arith; last = refl }
+
+carries : (past : List Happening) (frame : Frame) (answer : Option ℕ) → AreApart (bus_after short_bus past).units → AreBanks (bus_after short_bus past).units
+    → answer ≡ bus_answer (next_fate (bus_after short_bus past).fates) (filter_map (unit_answer (next_fate (bus_after short_bus past).fates) frame) (bus_after short_bus past).units)
+    → SimCarry (bus_after short_bus past) frame answer (bus_after short_bus (Sent frame answer ∷ past))
+carries past frame answer apart banks answers = record { apart = apart; banks = banks; units = refl; fates = refl; answers = answers }
+
+short_chain : IsChain (MovesBy SimStep) short_bus short_said (bus_after short_bus short_said) (buses_along short_bus short_said)
+short_chain =
+    let p0 : List Happening = third_begun in
+    let p1 : List Happening = Sent (Dtr1 1) None ∷ p0 in
+    let p2 : List Happening = read_try third_begun in
+    let p3 : List Happening = Sent (Dtr1 1) None ∷ p2 in
+    let p4 : List Happening = Sent (AskDtr1 5) (Some 1) ∷ p3 in
+    let p5 : List Happening = Sent (Dtr0 0) None ∷ p4 in
+    let p6 : List Happening = Sent (AskDtr0 5) (Some 0) ∷ p5 in (
+      refl,
+      (
+        refl,
+        (
+          carries p6 (Read 5) (Some 0x10) (refl, tt) (is_bank, tt) refl,
+          (
+            carries p5 (AskDtr0 5) (Some 0) (refl, tt) (is_bank, tt) refl,
+            (
+              carries p4 (Dtr0 0) None (refl, tt) (is_bank, tt) refl,
+              (
+                carries p3 (AskDtr1 5) (Some 1) (refl, tt) (is_bank, tt) refl,
+                (
+                  carries p2 (Dtr1 1) None (refl, tt) (is_bank, tt) refl,
+                  (carries p1 (AskDtr1 5) None (refl, tt) (is_bank, tt) refl, (carries p0 (Dtr1 1) None (refl, tt) (is_bank, tt) refl, (refl, (refl, (refl, refl))))),
+                ),
+              ),
+            ),
+          ),
+        ),
+      ),
+    )
+
+none_enabled : NoneEnabled (world_of short_bus.units)
+none_enabled address = elim (address == 5) as (λ b. is_open (if b then Some (gear_of (new_unit 5 short_bank.bytes [])) else None) ≡ false) [ true ↦ refl | false ↦ refl ]
+
+short_sent_legal : Legal (fresh 10) short_sent
+short_sent_legal = (
+  read_legal (fresh 10) (read_try third_begun) 5 0x00 0x10 ((third_begun_legal, (5, refl)), refl) (5, refl) refl,
+  record { sentence = ((tt, tt, refl), tt, tt); within = omega arith; due = tt; grounds = (0x10, read_stands (read_try third_begun) 5 0x00 0x10, omega arith) },
+)
+
+short_by_plan : ByPlan (fresh 10) short_said
+short_by_plan =
+    let onset : Onset (fresh 10) third_begun 5 (read_length third_order.updates) = record { planned = (((tt, tt), tt), tt); untold = refl; asks = λ told ask wants. wants } in
+    let told = told_in (read_at 5 0x00 0x10 (read_try third_begun)) in
+    let keeps : Keeps 5 (read_length third_order.updates) told = (((((((tt, refl), refl), refl), refl), refl), refl), refl) in (
+      (
+        frames_planned (fresh 10) third_begun 5 (read_length third_order.updates) onset told keeps,
+        (verdicts.Short, wants_so 5 (read_length third_order.updates) told (asks.Ended verdicts.Short) keeps refl, refl),
+      ),
+      tt,
+    )
+
+unrefused : UnrefusedSince short_sent (buses_along short_bus short_sent)
+unrefused = (refl, (refl, (refl, (refl, (refl, (refl, (refl, tt)))))))
+
+pub meets_all : MeetsAll
+meets_all = ((short_sent_legal, (refl, (refl, refl))), short_by_plan, short_chain, none_enabled, refl, refl, inl (refl, refl), unrefused, refl, refl, refl)

@@ -22,9 +22,9 @@ use Rattle.dali_writer.specs.Trace.{Start, records_of, standing_at}
 use Rattle.dali_writer.specs.Legal.{Legal}
 use Rattle.dali_writer.specs.ByPlan.{told_in, Asks, EndsIn, ByPlan}
 use Rattle.dali_writer.specs.Worked.{read_at, read_try, eight_times, empty, left_open, first_order, begun, opened, measured, short_ended, silent_ended, second_taken, unreached, blocked}
-use Rattle.dali_writer.specs.WorkedPlans.{first_frame, another_first_frame, next_try, frame_past_a_miss, half_tried, next_frame, try_without_a_miss, begun_anew, try_through_a_stop, enabled_first, read_once_opened, seven_times, silent_after_eight, silent_after_seven, silent_where_short, left_at_once, blocked_at_once}
+use Rattle.dali_writer.specs.WorkedPlans.{first_frame, another_first_frame, next_try, frame_past_a_miss, half_tried, next_frame, try_without_a_miss, begun_anew, try_through_a_stop, enabled_first, read_once_opened, seven_times, silent_after_eight, silent_after_seven, silent_where_short, left_at_once, blocked_at_once, try_past_the_end, closed_anew}
 use Rattle.dali_writer.proofs.WorkedLemmas.{read_legal, begun_legal, opened_legal}
-use Rattle.dali_writer.proofs.LeftLemmas.{second_taken_legal}
+use Rattle.dali_writer.proofs.LeftLemmas.{second_taken_legal, blocked_legal}
 
 -- each of the frames is the one that was wanted after those before it
 abbrev pub Keeps : ℕ → Plan → List Exchange → Type 0
@@ -55,12 +55,12 @@ told_sent [] past none = none
 told_sent (x ∷ told) past none = ap (λ (t : List Exchange). x ∷ t) (told_sent told past none)
 
 -- where a session of the plan is about to begin
-record Onset (start : Start) (past : List Happening) (unit : ℕ) (plan : Plan) : Type 0 where
-  planned : ByPlan start past
-  untold : told_in past ≡ []
-  asks : (told : List Exchange) (ask : Ask) → Wants unit plan told ask → Asks (standing_at start past) told ask
+pub record Onset (start : Start) (past : List Happening) (unit : ℕ) (plan : Plan) : Type 0 where
+  pub planned : ByPlan start past
+  pub untold : told_in past ≡ []
+  pub asks : (told : List Exchange) (ask : Ask) → Wants unit plan told ask → Asks (standing_at start past) told ask
 
-frames_planned : (start : Start) (past : List Happening) (unit : ℕ) (plan : Plan) → Onset start past unit plan → (told : List Exchange) → Keeps unit plan told → ByPlan start (sent told past)
+pub frames_planned : (start : Start) (past : List Happening) (unit : ℕ) (plan : Plan) → Onset start past unit plan → (told : List Exchange) → Keeps unit plan told → ByPlan start (sent told past)
 frames_planned start past unit plan onset [] keeps = onset.planned
 frames_planned start past unit plan onset (x ∷ told) keeps = (
   frames_planned start past unit plan onset told keeps.0,
@@ -190,3 +190,12 @@ not_blocked_at_once planned = let e = ask_is 5 (close verdicts.Closed verdicts.N
 
 pub blocked_at_once_legal : Legal left_open blocked_at_once
 blocked_at_once_legal = (second_taken_legal, (refl, refl, λ read. read))
+
+pub closed_anew_planned : ByPlan left_open closed_anew
+closed_anew_planned = (((blocked_planned, tt), tt), wants_so 5 (close verdicts.Closed verdicts.NotClosed) [] (asks.Send (Enable 5)) tt refl)
+
+pub not_past_the_end : ByPlan left_open try_past_the_end → ⊥
+not_past_the_end planned = let e = ask_is 5 (close verdicts.Closed verdicts.NotClosed) (told_in unreached) (asks.Send (Enable 5)) planned.1 in cc
+
+pub past_the_end_legal : Legal left_open try_past_the_end
+past_the_end_legal = (blocked_legal.0, ((refl, refl), refl))

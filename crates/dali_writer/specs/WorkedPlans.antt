@@ -8,7 +8,7 @@ use Rattle.dali_writer.specs.declared.happening.Reply.TheVariants as replies
 use Rattle.dali_writer.specs.declared.happening.Happening.{Happening}
 use Rattle.dali_writer.specs.declared.happening.Happening.TheVariants.{Asked, Answered, Sent, Kept, Stopped}
 use Rattle.dali_writer.specs.Trace.{Start}
-use Rattle.dali_writer.specs.Worked.{read_at, read_try, eight_times, first_order, second_order, begun, opened, said, second_taken}
+use Rattle.dali_writer.specs.Worked.{read_at, read_try, eight_times, first_order, second_order, begun, opened, said, second_taken, unreached, taken_again}
 
 -- the first frame of a checked read, and another one
 abbrev pub first_frame : List Happening
@@ -68,6 +68,13 @@ left_at_once = Kept (Ended DoubtOpen) ∷ opened
 -- Blocked with no frame to the left unit
 abbrev pub blocked_at_once : List Happening
 blocked_at_once = Answered 2 (replies.Blocked 5) ∷ second_taken
+
+-- after the last try of closing a left unit: a further one, or another order is taken and the closing begins anew
+abbrev pub try_past_the_end : List Happening
+try_past_the_end = Sent (Enable 5) None ∷ unreached
+
+abbrev pub closed_anew : List Happening
+closed_anew = Sent (Enable 5) None ∷ taken_again
 
 -- Near the limits of the work
 

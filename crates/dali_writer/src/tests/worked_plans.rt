@@ -33,16 +33,17 @@ ghost use Rattle.dali_writer.specs.WorkedPlans.{frames_more, tries_more, records
 ghost use Rattle.dali_writer.specs.WorkedPlans.{blocked_said, second_taken_behind, at_work};
 ghost use Rattle.dali_writer.specs.WorkedPlans.{repeated, another_said, said_behind_a_stop, said_again};
 ghost use Rattle.dali_writer.specs.WorkedLosses.{losing, refusing, clear, one_since, start_taken, of_format};
-ghost use Rattle.dali_writer.specs.WorkedLosses.{fixed_beside, fixed_there, SparesSeven};
+ghost use Rattle.dali_writer.specs.WorkedLosses.{fixed_beside, fixed_there, MeetsAll, SparesSeven};
 
-// Each frame is the next of its try, a try ends at its first miss, and the session begins anew after a stop and once a
-// record is kept.
+// Each frame is the next of its try, a try ends at its first miss, and the session begins anew after a stop, once a
+// record is kept, and where an order is taken.
 fn frames_by_plan()
     ensures first { ByPlan empty first_frame }
     ensures next_try { ByPlan empty next_try }
     ensures next_frame { ByPlan empty next_frame }
     ensures anew { ByPlan empty begun_anew }
     ensures enabled { ByPlan empty enabled_first }
+    ensures closed_anew { ByPlan left_open closed_anew }
 {}
 
 // A record and a saying where their session has come to its end, after eight tries that missed or a read.
@@ -64,6 +65,7 @@ fn traces_that_are_not_by_plan()
     ensures silent_where_short { ¬ ByPlan empty silent_where_short }
     ensures left_at_once { ¬ ByPlan empty left_at_once }
     ensures blocked_at_once { ¬ ByPlan left_open blocked_at_once }
+    ensures past_the_end { ¬ ByPlan left_open try_past_the_end }
 {}
 
 // though a legal one may.
@@ -78,6 +80,7 @@ fn but_they_are_legal()
     ensures silent_where_short { Legal empty silent_where_short }
     ensures left_at_once { Legal empty left_at_once }
     ensures blocked_at_once { Legal left_open blocked_at_once }
+    ensures past_the_end { Legal left_open try_past_the_end }
 {}
 
 // The limit of the first order is 1040 frames and four records, and Done comes after 96 frames where none missed.
@@ -166,16 +169,18 @@ fn how_an_order_is_to_end()
     ensures one_fixed { ¬ NoneFixed fixed_there ((0x08, 0) ∷ (0x09, 0) ∷ []) }
 {}
 
-// Seven losses are few, and what is promised is so at each moment.
+// Seven losses are few, what is promised is so at each moment, and all that it asks for is met together by an order that
+// ends Short after one loss.
 fn little_loss_is_spared()
     ensures seven { SparesSeven }
-    ensures earlier { (start : Start) (next : Happening) (past : List Happening) (last state : SimState) (states : List SimState)
-        → AtEachState (IsSpared start) (next ∷ past) last (state ∷ states)
+    ensures earlier { (start : Start) (next : Happening) (past : List Happening) (last state : SimState)
+        (states : List SimState) → AtEachState (IsSpared start) (next ∷ past) last (state ∷ states)
         → IsSpared start (next ∷ past) last (state ∷ states) × AtEachState (IsSpared start) past state states }
     ensures leads { (limit : ℕ) (first : SimState) (past : List Happening) (last : SimState)
         (leads : LeadsSpared limit first past last) → NoneEnabled (world_of first.units)
         → IsChain (MovesBy SimStep) first past last leads.states
         × AtEachState (IsSpared (fresh limit)) past last leads.states }
+    ensures met { MeetsAll }
 {}
 
 // All of it is proved: the test calls it, so that nothing is left out.

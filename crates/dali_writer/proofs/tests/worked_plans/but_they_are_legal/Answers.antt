@@ -1,5 +1,5 @@
 use Rattle.dali_writer.proofs.EndingLemmas.{silent_legal}
-use Rattle.dali_writer.proofs.WorkedPlanLemmas.{another_first_legal, past_a_miss_legal, without_a_miss_legal, through_a_stop_legal, read_once_opened_legal, silent_after_seven_legal, silent_where_short_legal, left_at_once_legal, blocked_at_once_legal}
+use Rattle.dali_writer.proofs.WorkedPlanLemmas.{another_first_legal, past_a_miss_legal, without_a_miss_legal, through_a_stop_legal, read_once_opened_legal, silent_after_seven_legal, silent_where_short_legal, left_at_once_legal, blocked_at_once_legal, past_the_end_legal}
 use Rattle.dali_writer.proofs.tests.worked_plans.but_they_are_legal.Goals as goal
 
 pub returns-clause-another_first : goal.returns-clause-another_first
@@ -31,3 +31,6 @@ returns-clause-left_at_once c = left_at_once_legal
 
 pub returns-clause-blocked_at_once : goal.returns-clause-blocked_at_once
 returns-clause-blocked_at_once c = blocked_at_once_legal
+
+pub returns-clause-past_the_end : goal.returns-clause-past_the_end
+returns-clause-past_the_end c = past_the_end_legal

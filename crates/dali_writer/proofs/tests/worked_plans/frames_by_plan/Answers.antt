@@ -1,4 +1,4 @@
-use Rattle.dali_writer.proofs.WorkedPlanLemmas.{first_planned, next_try_planned, next_frame_planned, begun_anew_planned, enabled_first_planned}
+use Rattle.dali_writer.proofs.WorkedPlanLemmas.{first_planned, next_try_planned, next_frame_planned, begun_anew_planned, enabled_first_planned, closed_anew_planned}
 use Rattle.dali_writer.proofs.tests.worked_plans.frames_by_plan.Goals as goal
 
 pub returns-clause-first : goal.returns-clause-first
@@ -15,3 +15,6 @@ returns-clause-anew c = begun_anew_planned
 
 pub returns-clause-enabled : goal.returns-clause-enabled
 returns-clause-enabled c = enabled_first_planned
+
+pub returns-clause-closed_anew : goal.returns-clause-closed_anew
+returns-clause-closed_anew c = closed_anew_planned

@@ -31,6 +31,7 @@ ghost use Rattle.dali_writer.specs.WorkedPlans.{try_through_a_stop, read_once_op
 ghost use Rattle.dali_writer.specs.WorkedPlans.{silent_where_short, left_at_once, blocked_at_once};
 ghost use Rattle.dali_writer.specs.WorkedPlans.{frames_more, tries_more, records_more, begun_said, opened_said};
 ghost use Rattle.dali_writer.specs.WorkedPlans.{blocked_said, second_taken_behind, at_work};
+ghost use Rattle.dali_writer.specs.WorkedPlans.{closed_anew, try_past_the_end};
 ghost use Rattle.dali_writer.specs.WorkedPlans.{repeated, another_said, said_behind_a_stop, said_again};
 ghost use Rattle.dali_writer.specs.WorkedLosses.{losing, refusing, clear, one_since, start_taken, of_format};
 ghost use Rattle.dali_writer.specs.WorkedLosses.{fixed_beside, fixed_there, MeetsAll, SparesSeven};
@@ -102,7 +103,7 @@ fn no_sooner_than_the_eighth_miss()
     ensures blocked { (n : ℕ) → IsSaidSo left_open (blocked_said (tries_more n second_taken)) → 8 ≤ n }
 {}
 
-// What counts is what came since an order was taken or the program stopped, and an order is at hand until it is said.
+// What counts came since an order was taken or the program stopped, and an order is at hand until it is said.
 fn what_counts_as_work()
     ensures frames { length (sent_since_taken begun_anew) ≡ 1 }
     ensures frames_anew { sent_since_taken taken_again ≡ [] }
@@ -145,7 +146,7 @@ fn what_does_not_say_it()
     ensures again { ¬ IsSaid empty first_order said said_again }
 {}
 
-// A loss counts once, whichever of the two units it is to, and only where it came since the start. So does a refusal.
+// A loss counts once, whichever of the two units it is to, and only since the start. So does a refusal.
 fn what_counts_as_a_loss()
     ensures both { losses_since 5 (Some 7) (one_since start_taken) (losing 0xA0 ∷ clear ∷ losing 0xA0 ∷ []) ≡ 1 }
     ensures left { losses_since 5 (Some 7) (one_since start_taken) (losing 0x80 ∷ clear ∷ losing 0xA0 ∷ []) ≡ 1 }
@@ -169,8 +170,8 @@ fn how_an_order_is_to_end()
     ensures one_fixed { ¬ NoneFixed fixed_there ((0x08, 0) ∷ (0x09, 0) ∷ []) }
 {}
 
-// Seven losses are few, what is promised is so at each moment, and all that it asks for is met together by an order that
-// ends Short after one loss.
+// Seven losses are few, what is promised is so at each moment, and all that it asks for is met together by an order
+// that ends Short after one loss.
 fn little_loss_is_spared()
     ensures seven { SparesSeven }
     ensures earlier { (start : Start) (next : Happening) (past : List Happening) (last state : SimState)

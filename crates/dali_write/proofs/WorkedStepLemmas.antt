@@ -1,5 +1,5 @@
 -- Near the edges of what is promised of steps and sessions.
-use Rattle.std.proofs.Common.{◌≡◌, ◌≢◌, ◌⊎◌, inl, inr, refl, sym, ap, subst, ◌∙◌, ℕ, zero, suc, ◌+◌, ◌<◌, ◌≤◌, ◌==◌, Bool, true, false, ne_eqb, List, [], ◌∷◌, ◌++◌, append_assoc, append-nil, length, Option, Some, None, arith}
+use Rattle.std.proofs.Common.{◌≡◌, ◌⊎◌, inl, inr, refl, sym, ap, subst, ◌∙◌, ℕ, zero, suc, ◌+◌, ◌≤◌, true, false, ne_eqb, List, [], ◌∷◌, ◌++◌, append_assoc, append-nil, length, Option, Some, None, arith}
 use Rattle.dali_frame.specs.declared.forward.Frame.TheVariants.{Dtr0, Dtr1, AskDtr0, AskDtr1, Read}
 use Rattle.dali_gear.specs.UnitState.{UnitState}
 use Rattle.dali_gear.specs.SimState.{SimState}
@@ -11,8 +11,8 @@ use Rattle.dali_write.specs.declared.ask.Ask.TheVariants.{Ended}
 use Rattle.dali_write.specs.declared.ask.Verdict.{Verdict}
 use Rattle.dali_write.specs.declared.ask.Verdict.TheVariants.{Doubt}
 use Rattle.dali_write.specs.Lines.{line, read_lines}
-use Rattle.dali_write.specs.Plans.{Plan, Finish, Check, goes_on, plan_after, expect, give_up}
-use Rattle.dali_write.specs.Tries.{most_tries, Trying, Missed, Misses, StepEnds, StepsEnd, Wants}
+use Rattle.dali_write.specs.Plans.{Plan, Finish, goes_on, plan_after, expect, give_up}
+use Rattle.dali_write.specs.Tries.{Trying, Missed, StepEnds, StepsEnd, Wants}
 use Rattle.dali_write.specs.Walks.{Walk}
 use Rattle.dali_write.specs.Misses.{is_missed, misses_in, IsLong}
 use Rattle.dali_write.specs.Losses.{SimRun, losses, Unrefused, IsAlone}

@@ -1,5 +1,5 @@
 -- Small lists of exchanges and units near the edges of what is promised of steps and sessions.
-use Rattle.std.specs.Prelude.{ℕ, zero, suc, false, replicate, List, [], ◌∷◌, Option, Some, None}
+use Rattle.std.specs.Prelude.{ℕ, zero, suc, replicate, List, [], ◌∷◌, Option, Some, None}
 use Rattle.dali_frame.specs.declared.forward.Frame.{Frame}
 use Rattle.dali_frame.specs.declared.forward.Frame.TheVariants.{Dtr0, Dtr1, AskDtr0, AskDtr1}
 use Rattle.dali_gear.specs.UnitState.{BankState, UnitState, new_unit}

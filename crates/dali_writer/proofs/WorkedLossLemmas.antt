@@ -1,5 +1,5 @@
 -- Small buses and banks near the edges of what is promised where little is lost.
-use Rattle.std.proofs.Common.{◌≡◌, ◌==◌, inl, inr, refl, sym, ap, ◌∙◌, subst, ℕ, ◌≤◌, Bool, true, false, if◌then◌else◌, List, [], ◌∷◌, Option, Some, None, arith}
+use Rattle.std.proofs.Common.{◌≡◌, ◌==◌, inl, refl, ℕ, true, false, if◌then◌else◌, List, [], ◌∷◌, Option, Some, None, arith}
 use Rattle.std.specs.List.{filter_map}
 use Rattle.dali_frame.specs.declared.forward.Frame.{Frame}
 use Rattle.dali_frame.specs.declared.forward.Frame.TheVariants.{Dtr0, Dtr1, AskDtr0, AskDtr1, Read}
@@ -8,7 +8,7 @@ use Rattle.dali_gear.specs.Faults.{IsBank}
 use Rattle.dali_gear.specs.SimState.{SimState, SimStep, SimCarry, AreApart, AreBanks, unit_answer, bus_answer, world_of}
 use Rattle.dali_gear.specs.Chain.{IsChain}
 use Rattle.dali_gear.specs.Unenabled.{NoneEnabled}
-use Rattle.dali_gear.specs.UnitState.{BankState, new_unit, gear_of}
+use Rattle.dali_gear.specs.UnitState.{new_unit, gear_of}
 use Rattle.dali_journal.specs.declared.record.Code.TheVariants as codes
 use Rattle.dali_writer.specs.declared.happening.Happening.{Happening}
 use Rattle.dali_writer.specs.declared.happening.Happening.TheVariants.{Sent, Stopped}

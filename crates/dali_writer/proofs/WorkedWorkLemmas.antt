@@ -1,5 +1,5 @@
 -- Near the limits of the work: what a trace within them can't be.
-use Rattle.std.proofs.Common.{◌≡◌, ◌⊎◌, inl, inr, refl, sym, ap, subst, ◌∙◌, ℕ, zero, suc, ◌+◌, ◌≤◌, Bool, true, false, List, [], ◌∷◌, ◌++◌, append_assoc, length, Option, Some, None, arith}
+use Rattle.std.proofs.Common.{◌≡◌, inl, inr, refl, sym, ap, subst, ◌∙◌, ℕ, zero, suc, ◌≤◌, true, List, [], ◌∷◌, ◌++◌, append_assoc, length, Some, None, arith}
 use Rattle.dali_bank.specs.Order.{Contents}
 use Rattle.dali_journal.specs.declared.record.Code.TheVariants as codes
 use Rattle.dali_journal.specs.declared.record.Record.TheVariants.{Opened, Ended}
@@ -10,14 +10,14 @@ use Rattle.dali_write.specs.Lines.{read_lines}
 use Rattle.dali_write.specs.Plans.{Plan, unlock}
 use Rattle.dali_write.specs.Reads.{EndsInRead, HasRead}
 use Rattle.dali_write.specs.Tries.{Succeeds}
-use Rattle.dali_write.specs.Doubts.{HasFailed, EndsUnlooked, read_backs, FoundAnother}
+use Rattle.dali_write.specs.Doubts.{EndsUnlooked, read_backs, FoundAnother}
 use Rattle.dali_write.specs.Misses.{misses_in, IsLong}
 use Rattle.dali_write.proofs.MissLemmas.{failure_misses, failed_misses}
 use Rattle.dali_writer.specs.declared.happening.Reply.TheVariants as replies
 use Rattle.dali_writer.specs.declared.happening.Happening.{Happening}
 use Rattle.dali_writer.specs.declared.happening.Happening.TheVariants.{Answered, Kept, Stopped}
 use Rattle.dali_writer.specs.Trace.{Start, sent_since_taken}
-use Rattle.dali_writer.specs.Work.{stood_at, kept_since, frames_from, order_at_hand, FindsAnother, IsWithinLimit, IsSaidSo, IsWorked}
+use Rattle.dali_writer.specs.Work.{stood_at, kept_since, frames_from, order_at_hand, IsWithinLimit, IsSaidSo, IsWorked}
 use Rattle.dali_writer.specs.Worked.{empty, left_open, first_order, second_order, taken, begun, opened, unlocked, short_ended, ended, said, left_said, second_taken, unreached, taken_again}
 use Rattle.dali_writer.specs.WorkedPlans.{first_frame, begun_anew, said_again, second_taken_behind, frames_more, tries_more, records_more, begun_said, opened_said, blocked_said}
 use Rattle.dali_writer.proofs.RefusedLemmas.{none_read, has_none}

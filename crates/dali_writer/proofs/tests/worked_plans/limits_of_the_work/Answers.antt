@@ -1,4 +1,3 @@
-use Rattle.std.proofs.Common.{subst, sym, ℕ}
 use Rattle.dali_writer.proofs.WorkedWorkLemmas.{frames_within, frames_enough, records_within, records_enough, done_after, done_so, worked_before, not_said_so_of_another, not_said_so_again}
 use Rattle.dali_writer.proofs.tests.worked_plans.limits_of_the_work.Goals as goal
 

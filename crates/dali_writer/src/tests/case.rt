@@ -101,7 +101,7 @@ fn filled(alloc: Global, first: u8, last: u8, byte: u8) -> Result<Vec<(u8, u8)>,
 }
 
 // The events of the deeds. What makes no order is left out.
-fn events_of(alloc: Global, deeds: &[Deed<'_>]) -> Result<Vec<Event>, RunFault> {
+pub(crate) fn events_of(alloc: Global, deeds: &[Deed<'_>]) -> Result<Vec<Event>, RunFault> {
     let mut events = Vec::new(alloc);
     for deed in deeds {
         match *deed {

@@ -1,5 +1,5 @@
 use crate::tests::case::{
-    Case, DONE, Deed, ENOUGH, GTIN, PLAIN, STORED, TAKEN, bus_of, judge, put,
+    Case, DONE, Deed, ENOUGH, GTIN, PLAIN, STORED, TAKEN, bus_of, events_of, frames_of, judge, put,
 };
 use crate::{Event, Happening, Outcome, RunFault, run_sim};
 use dali_bank::{BLANK, Order};
@@ -213,4 +213,49 @@ fn a_stop_after_each_step(rt: HostRuntime) -> Result<(), Fail> {
         }
     }
     Ok(())
+}
+
+const CUT: Case<'static> = Case {
+    deeds: &[
+        Deed::Submit(1, 5, &GTIN),
+        Deed::Steps(6),
+        Deed::Stop(1),
+        Deed::Steps(100),
+        Deed::Stop(2),
+    ],
+    ..PLAIN
+};
+
+// Whether the units of two buses are in the same state.
+fn are_same(one: &SimBus, other: &SimBus) -> bool {
+    for (mine, theirs) in one.units().iter().zip(other.units()) {
+        if mine.bank1() != theirs.bank1() || mine.dtrs() != theirs.dtrs() {
+            return false;
+        }
+    }
+    true
+}
+
+// `./test` runs this one again and again, with each allocation refused in turn: a run that ends for
+// want of memory leaves the bus as some of the events leave it, the first of which send as many frames.
+#[test]
+fn a_refused_run_leaves_the_bus_there(rt: HostRuntime) -> Result<(), Fail> {
+    let alloc = rt.alloc();
+    let events = events_of(alloc, CUT.deeds)?;
+    let mut bus = bus_of(alloc, &CUT)?;
+    let fates = bus.fates_left();
+    let Err(fault) = run_sim(alloc, &mut bus, CUT.limit, &events) else {
+        return Ok(());
+    };
+    let sent = fates.saturating_sub(bus.fates_left());
+    for served in 0..=events.len() {
+        let mut again = bus_of(alloc, &CUT)?;
+        let first = events.get(..served).unwrap_or_default();
+        let outcome = run_sim(alloc, &mut again, CUT.limit, first)?;
+        if frames_of(&outcome.trace) == sent {
+            assert!(rt; are_same(&bus, &again), "{served}");
+            return Err(fault.into());
+        }
+    }
+    Err("no events leave the bus so".into())
 }

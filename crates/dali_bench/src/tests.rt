@@ -1,4 +1,5 @@
 mod check;
+mod commands;
 mod frame;
 mod job;
 mod journal;

@@ -1,7 +1,6 @@
-use super::streams::{FailingReader, FullWriter, Spaces};
-use crate::check::check;
+use super::commands::{answers, answers_each, fails_to_read, fails_to_write, refuses_past};
+use crate::FileCommand;
 use crate::fault::Status;
-use std::test::Fail;
 
 const ONE_ORDER: &str = r#"[{"order":1,"unit":5,"gtin":"4006381333931"}]"#;
 
@@ -16,15 +15,45 @@ item 1 order 1 unit 5 bytes 6
 accepted 1 refused 0
 ";
 
-const SIX_ITEMS: &str = r#"[
+// Lists of which all is accepted: equal voltages, an unknown one, and keys in another order than that of the
+// locations; then a list of nothing.
+const ACCEPTED: &str = r#"[
+{"order":1,"unit":5,"min_voltage":230,"max_voltage":230},
+{"order":2,"unit":5,"max_voltage":220,"min_voltage":null},
+{"cct":65533,"unit":0,"order":3,"cri":0}]
+----
+item 1 order 1 unit 5 bytes 4
+19 00
+1A E6
+1B 00
+1C E6
+item 2 order 2 unit 5 bytes 4
+19 FF
+1A FF
+1B 00
+1C DC
+item 3 order 3 unit 0 bytes 3
+20 00
+21 FF
+22 FD
+accepted 3 refused 0
+====
+[]
+----
+accepted 0 refused 0
+"#;
+
+// Of the second list each item has two faults, of which the first in the order of the tests is told; then the ends of
+// the ranges. Of the third, refused values and drafts; of two faults the one of the lower location is told, and of the
+// voltages after all others. The others are no lists.
+const REFUSED: &str = r#"[
 {"order":1,"unit":5,"gtin":"4006381333932"},
 {"order":2,"unit":64,"year":24},
 {"order":3,"unit":5},
 {"order":4,"unit":5,"weight":1},
 {"unit":5},
-{"order":5,"unit":5,"week":null}]"#;
-
-const SIX_ITEMS_CHECKED: &str = "\
+{"order":5,"unit":5,"week":null}]
+----
 item 1 fault 4 Gtin
 item 2 fault 1 Unit
 item 3 fault 8 Empty
@@ -33,10 +62,8 @@ item 5 fault 9 Shape
 item 6 order 5 unit 5 bytes 1
 14 FF
 accepted 1 refused 5
-";
-
-// Each item has two faults, of which the first in the order of the tests is told; then the ends of the ranges.
-const ORDER_OF_TESTS: &str = r#"[
+====
+[
 {"order":1.0,"unit":5,"weight":1},
 {"order":1,"unit":64,"weight":1},
 {"order":1,"unit":300,"gtin":7},
@@ -49,9 +76,8 @@ const ORDER_OF_TESTS: &str = r#"[
 {"order":1,"unit":63,"gtin":[]},
 {"order":1,"unit":63,"gtin":"4006381333931\u0000"},
 7,
-[]]"#;
-
-const ORDER_OF_TESTS_CHECKED: &str = "\
+[]]
+----
 item 1 fault 9 Shape
 item 2 fault 10 Key
 item 3 fault 1 Unit
@@ -72,10 +98,8 @@ item 11 fault 4 Gtin
 item 12 fault 9 Shape
 item 13 fault 9 Shape
 accepted 1 refused 12
-";
-
-// Refused values and drafts; of two faults the one of the lower location is told, and of the voltages after all others.
-const REFUSED_FIELDS: &str = r#"[
+====
+[
 {"order":1,"unit":5,"week":54},
 {"order":1,"unit":5,"year":100},
 {"order":1,"unit":5,"cct":65534},
@@ -87,9 +111,8 @@ const REFUSED_FIELDS: &str = r#"[
 {"order":1,"unit":5,"cri":101,"gtin":7},
 {"order":1,"unit":5,"min_voltage":277,"max_voltage":220,"luminaire":"\u00e9"},
 {"order":1,"unit":5,"year":"24"},
-{"order":1,"unit":5,"colour":24}]"#;
-
-const REFUSED_FIELDS_CHECKED: &str = "\
+{"order":1,"unit":5,"colour":24}]
+----
 item 1 fault 3 Range
 item 2 fault 3 Range
 item 3 fault 3 Range
@@ -103,119 +126,78 @@ item 10 fault 5 Text
 item 11 fault 2 Kind
 item 12 fault 2 Kind
 accepted 0 refused 12
-";
+====
 
-// Equal voltages, an unknown one, and keys in another order than that of the locations.
-const ACCEPTED_FIELDS: &str = r#"[
-{"order":1,"unit":5,"min_voltage":230,"max_voltage":230},
-{"order":2,"unit":5,"max_voltage":220,"min_voltage":null},
-{"cct":65533,"unit":0,"order":3,"cri":0}]"#;
-
-const ACCEPTED_FIELDS_CHECKED: &str = "\
-item 1 order 1 unit 5 bytes 4
-19 00
-1A E6
-1B 00
-1C E6
-item 2 order 2 unit 5 bytes 4
-19 FF
-1A FF
-1B 00
-1C DC
-item 3 order 3 unit 0 bytes 3
-20 00
-21 FF
-22 FD
-accepted 3 refused 0
-";
+----
+fault 11 Json
+====
+[
+----
+fault 11 Json
+====
+[] []
+----
+fault 11 Json
+====
+{}
+----
+fault 12 Document
+====
+null
+----
+fault 12 Document
+"#;
 
 #[test]
-fn inputs_and_what_becomes_of_them(rt: HostRuntime) -> Result<(), Fail> {
+fn inputs_and_what_becomes_of_them(rt: HostRuntime) {
+    let check = FileCommand::Check;
+    answers(
+        &rt,
+        rt.alloc(),
+        check,
+        ONE_ORDER.as_bytes(),
+        Status::Good,
+        ONE_ORDER_CHECKED,
+    );
+    answers_each(&rt, rt.alloc(), check, Status::Good, ACCEPTED);
+    answers_each(&rt, rt.alloc(), check, Status::Refused, REFUSED);
+}
+
+#[test]
+fn inputs_that_are_no_text_or_too_deep(rt: HostRuntime) {
     let mut brackets = [b'['; 400];
     brackets[200..].fill(b']');
-    let cases = [
-        (ONE_ORDER.as_bytes(), Status::Good, ONE_ORDER_CHECKED),
-        (SIX_ITEMS.as_bytes(), Status::Refused, SIX_ITEMS_CHECKED),
-        (
-            ORDER_OF_TESTS.as_bytes(),
+    for input in [b"\xff".as_slice(), &brackets] {
+        answers(
+            &rt,
+            rt.alloc(),
+            FileCommand::Check,
+            input,
             Status::Refused,
-            ORDER_OF_TESTS_CHECKED,
-        ),
-        (
-            REFUSED_FIELDS.as_bytes(),
-            Status::Refused,
-            REFUSED_FIELDS_CHECKED,
-        ),
-        (
-            ACCEPTED_FIELDS.as_bytes(),
-            Status::Good,
-            ACCEPTED_FIELDS_CHECKED,
-        ),
-        (b"[]".as_slice(), Status::Good, "accepted 0 refused 0\n"),
-        (b"".as_slice(), Status::Refused, "fault 11 Json\n"),
-        (b"[".as_slice(), Status::Refused, "fault 11 Json\n"),
-        (b"[] []".as_slice(), Status::Refused, "fault 11 Json\n"),
-        (b"\xff".as_slice(), Status::Refused, "fault 11 Json\n"),
-        (brackets.as_slice(), Status::Refused, "fault 11 Json\n"),
-        (b"{}".as_slice(), Status::Refused, "fault 12 Document\n"),
-        (b"null".as_slice(), Status::Refused, "fault 12 Document\n"),
-    ];
-    for (input, status, text) in cases {
-        let mut reader = input;
-        let mut written = Vec::new(rt.alloc());
-        assert_eq!(rt;
-            check(rt.alloc(), &mut reader, &mut written),
-            status,
-            "{text}"
+            "fault 11 Json\n",
         );
-        assert_eq!(rt; written.as_slice(), text.as_bytes(), "{text}");
     }
-    Ok(())
 }
 
 #[test]
 fn an_input_over_the_limit(rt: HostRuntime) {
-    let mut reader = Spaces { given: 0 };
-    let mut written = Vec::new(rt.alloc());
-    assert_eq!(rt;
-        check(rt.alloc(), &mut reader, &mut written),
-        Status::Refused
-    );
-    assert_eq!(rt; written.as_slice(), b"fault 13 TooBig\n".as_slice());
-    assert_eq!(rt; reader.given, 16_777_217);
+    refuses_past(&rt, rt.alloc(), FileCommand::Check, 16_777_217);
 }
 
 #[test]
 fn a_reader_that_fails_in_mid_stream(rt: HostRuntime) {
-    let input = ONE_ORDER.as_bytes();
-    for count in 0..=input.len() {
-        let mut reader = FailingReader {
-            rest: &input[..count],
-            at_a_time: 7,
-        };
-        let mut written = Vec::new(rt.alloc());
-        assert_eq!(rt;
-            check(rt.alloc(), &mut reader, &mut written),
-            Status::Failed
-        );
-        assert_eq!(rt; written.as_slice(), b"fault 21 File\n".as_slice());
-    }
+    fails_to_read(&rt, rt.alloc(), FileCommand::Check, ONE_ORDER.as_bytes());
 }
 
 #[test]
 fn a_writer_that_fails_in_mid_text(rt: HostRuntime) {
-    for (input, text) in [(ONE_ORDER, ONE_ORDER_CHECKED), ("[", "fault 11 Json\n")] {
-        for room in 0..text.len() {
-            let mut reader = input.as_bytes();
-            let mut writer = FullWriter {
-                held: Vec::new(rt.alloc()),
-                room,
-            };
-            assert_eq!(rt;
-                check(rt.alloc(), &mut reader, &mut writer),
-                Status::Unwritten
-            );
-            assert_eq!(rt; writer.held.as_slice(), &text.as_bytes()[..room]);
-        }
-    }
+    let check = FileCommand::Check;
+    fails_to_write(
+        &rt,
+        rt.alloc(),
+        check,
+        ONE_ORDER.as_bytes(),
+        ONE_ORDER_CHECKED,
+    );
+    fails_to_write(&rt, rt.alloc(), check, b"[", "fault 11 Json\n");
 }

@@ -1,7 +1,16 @@
-use super::streams::{FailingReader, FullWriter};
+use super::commands::{answers, answers_each, fails_to_read, fails_to_write};
+use crate::FileCommand;
 use crate::fault::Status;
-use crate::run_scenario::run_scenario;
-use std::alloc::Global;
+
+/// The command, with a line for each run of frames.
+pub const RUN: FileCommand = FileCommand::Run {
+    single_frames: false,
+};
+
+// The command, with a line for each frame.
+const RUN_FRAMES: FileCommand = FileCommand::Run {
+    single_frames: true,
+};
 
 const GTIN_ORDER: &str = r#"{"limit":10,"units":[{"address":5}],
 "events":[{"submit":{"order":1,"unit":5,"gtin":"4006381333931"}},{"steps":200}]}"#;
@@ -132,8 +141,14 @@ bank 5 00 77FFFF03A4CEEFADABFFFFFFFFFFFFFF
 bank 5 10 FF0003FFFFFFFFFFFFFFFFFFFFFFFFFF
 ";
 
-// Unit 9 is absent.
-const SENT_AGAIN: &str = "\
+// In turn: unit 9 is absent; while order 1 is at work it is busy, its number with other bytes reused, and then the
+// journal is full; unit 5 is left open, which blocks the next order, and then closed; the run ends while unit 5 is
+// enabled; one write isn't answered, which takes a try of seven frames more: its answer is lost, or the unit refuses;
+// frames are lost to a unit with other registers; a location is fixed; the largest order number; many steps.
+const RUNS: &str = r#"{"limit":10,"units":[],
+"events":[{"submit":{"order":1,"unit":9,"gtin":"4006381333931"}},{"steps":50},
+{"submit":{"order":1,"unit":9,"gtin":"4006381333931"}}]}
+----
 ask 1
 reply 1 taken
 keep B order 1 unit 9 bytes 6
@@ -144,10 +159,16 @@ ask 1
 reply 1 kept 3 Silent
 total 16
 journal 25
-";
-
-// While order 1 is at work it is busy, its number with other bytes reused; then the journal is full.
-const TOLD_APART: &str = "\
+====
+{"limit":1,"units":[{"address":5}],
+"events":[{"submit":{"order":1,"unit":5,"gtin":"4006381333931"}},
+{"submit":{"order":1,"unit":5,"gtin":"96385074"}},{"steps":1},
+{"submit":{"order":1,"unit":5,"gtin":"96385074"}},
+{"submit":{"order":1,"unit":5,"gtin":"4006381333931"}},
+{"submit":{"order":2,"unit":5,"gtin":"4006381333931"}},{"steps":200},
+{"submit":{"order":2,"unit":5,"gtin":"4006381333931"}},
+{"submit":{"order":1,"unit":5,"gtin":"4006381333931"}}]}
+----
 ask 1
 reply 1 taken
 ask 1
@@ -173,10 +194,14 @@ journal 27
 unit 5 dtr 09 01 00 enabled no
 bank 5 00 77FFFF03A4CEEFADABFFFFFFFFFFFFFF
 bank 5 10 FF0003FFFFFFFFFFFFFFFFFFFFFFFFFF
-";
-
-// Unit 5 is left open, which blocks the next order, and then closed.
-const LEFT_AND_CLOSED: &str = "\
+====
+{"limit":10,"units":[{"address":5,"bank":"10FFFFFFFFFFFFFFFFFFFFFFFFFFFFFFFF"},
+{"address":6,"bank":"10FFFFFFFFFFFFFFFFFFFFFFFFFFFFFFFF"}],
+"fates":[{"times":5},{"times":128,"lost":[5]}],
+"events":[{"submit":{"order":1,"unit":5,"gtin":"4006381333931"}},{"steps":200},
+{"submit":{"order":2,"unit":6,"gtin":"4006381333931"}},{"steps":200},
+{"submit":{"order":2,"unit":6,"gtin":"4006381333931"}},{"steps":200}]}
+----
 ask 1
 reply 1 taken
 keep B order 1 unit 5 bytes 6
@@ -205,10 +230,25 @@ unit 5 dtr 08 01 00 enabled no
 bank 5 00 10FFFFFFFFFFFFFFFFFFFFFFFFFFFFFF
 unit 6 dtr 09 01 00 enabled no
 bank 6 00 10FFFF03A4CEEFADABFFFFFFFFFFFFFF
-";
-
-// One write isn't answered, which takes a try of seven frames more.
-const LOST_ANSWER: &str = "\
+====
+{"limit":10,"units":[{"address":5,"bank":"10FFFFFFFFFFFFFFFFFFFFFFFFFFFFFFFF"}],
+"events":[{"submit":{"order":1,"unit":5,"gtin":"4006381333931"}},{"steps":9}]}
+----
+ask 1
+reply 1 taken
+keep B order 1 unit 5 bytes 6
+frames 5
+keep O unit 5
+frames 2
+total 7
+journal 25
+unit 5 dtr 01 01 00 enabled yes
+bank 5 00 10FFFFFFFFFFFFFFFFFFFFFFFFFFFFFF
+====
+{"limit":10,"units":[{"address":5,"bank":"10FFFFFFFFFFFFFFFFFFFFFFFFFFFFFFFF"}],
+"fates":[{"times":18},{"answer_lost":true}],
+"events":[{"submit":{"order":1,"unit":5,"gtin":"4006381333931"}},{"steps":200}]}
+----
 ask 1
 reply 1 taken
 keep B order 1 unit 5 bytes 6
@@ -221,115 +261,28 @@ total 103
 journal 27
 unit 5 dtr 09 01 00 enabled no
 bank 5 00 10FFFF03A4CEEFADABFFFFFFFFFFFFFF
-";
-
-const FIXED: &str = "\
-ask 1
-reply 1 taken
-keep B order 1 unit 5 bytes 6
-frames 5
-keep O unit 5
-frames 89
-keep E 4 Doubt
-reply 1 kept 4 Doubt
-total 94
-journal 27
-unit 5 dtr 03 01 00 enabled no
-bank 5 00 10FFFF03A4FFFFFFFFFFFFFFFFFFFFFF
-";
-
-const ENABLED: &str = "\
-ask 1
-reply 1 taken
-keep B order 1 unit 5 bytes 6
-frames 5
-keep O unit 5
-frames 2
-total 7
-journal 25
-unit 5 dtr 01 01 00 enabled yes
-bank 5 00 10FFFFFFFFFFFFFFFFFFFFFFFFFFFFFF
-";
-
-const GREATEST: &str = "\
-ask 18446744073709551615
-reply 18446744073709551615 taken
-keep B order 18446744073709551615 unit 63 bytes 6
-frames 16
-keep E 3 Silent
-reply 18446744073709551615 kept 3 Silent
-total 16
-journal 25
-";
-
-/// How the run of a scenario ends, and what it writes.
-pub fn told(alloc: Global, scenario: &[u8], single_frames: bool) -> (Status, Vec<u8>) {
-    let mut reader = scenario;
-    let mut written = Vec::new(alloc);
-    let status = run_scenario(alloc, &mut reader, &mut written, single_frames);
-    (status, written)
-}
-
-#[test]
-fn scenarios(rt: HostRuntime) {
-    let cases = [
-        (GTIN_ORDER, false, GTIN_RUN),
-        (GTIN_ORDER, true, GTIN_FRAMES),
-        (
-            r#"{"limit":10,"units":[],
-"events":[{"submit":{"order":1,"unit":9,"gtin":"4006381333931"}},{"steps":50},
-{"submit":{"order":1,"unit":9,"gtin":"4006381333931"}}]}"#,
-            false,
-            SENT_AGAIN,
-        ),
-        (
-            r#"{"limit":1,"units":[{"address":5}],
-"events":[{"submit":{"order":1,"unit":5,"gtin":"4006381333931"}},
-{"submit":{"order":1,"unit":5,"gtin":"96385074"}},{"steps":1},
-{"submit":{"order":1,"unit":5,"gtin":"96385074"}},
-{"submit":{"order":1,"unit":5,"gtin":"4006381333931"}},
-{"submit":{"order":2,"unit":5,"gtin":"4006381333931"}},{"steps":200},
-{"submit":{"order":2,"unit":5,"gtin":"4006381333931"}},
-{"submit":{"order":1,"unit":5,"gtin":"4006381333931"}}]}"#,
-            false,
-            TOLD_APART,
-        ),
-        (
-            r#"{"limit":10,"units":[{"address":5,"bank":"10FFFFFFFFFFFFFFFFFFFFFFFFFFFFFFFF"},
-{"address":6,"bank":"10FFFFFFFFFFFFFFFFFFFFFFFFFFFFFFFF"}],
-"fates":[{"times":5},{"times":128,"lost":[5]}],
-"events":[{"submit":{"order":1,"unit":5,"gtin":"4006381333931"}},{"steps":200},
-{"submit":{"order":2,"unit":6,"gtin":"4006381333931"}},{"steps":200},
-{"submit":{"order":2,"unit":6,"gtin":"4006381333931"}},{"steps":200}]}"#,
-            false,
-            LEFT_AND_CLOSED,
-        ),
-        (
-            r#"{"limit":10,"units":[{"address":5,"bank":"10FFFFFFFFFFFFFFFFFFFFFFFFFFFFFFFF"}],
-"events":[{"submit":{"order":1,"unit":5,"gtin":"4006381333931"}},{"steps":9}]}"#,
-            false,
-            ENABLED,
-        ),
-        (
-            r#"{"limit":10,"units":[{"address":5,"bank":"10FFFFFFFFFFFFFFFFFFFFFFFFFFFFFFFF"}],
-"fates":[{"times":18},{"answer_lost":true}],
-"events":[{"submit":{"order":1,"unit":5,"gtin":"4006381333931"}},{"steps":200}]}"#,
-            false,
-            LOST_ANSWER,
-        ),
-        (
-            r#"{"limit":10,"units":[{"address":5,"bank":"10FFFFFFFFFFFFFFFFFFFFFFFFFFFFFFFF"}],
+====
+{"limit":10,"units":[{"address":5,"bank":"10FFFFFFFFFFFFFFFFFFFFFFFFFFFFFFFF"}],
 "fates":[{"times":18},{"refuse":true}],
-"events":[{"submit":{"order":1,"unit":5,"gtin":"4006381333931"}},{"steps":200}]}"#,
-            false,
-            LOST_ANSWER,
-        ),
-        (
-            r#"{"limit":10,"units":[{"address":5,"bank":"10FFFFFFFFFFFFFFFFFFFFFFFFFFFFFFFF","dtr":[0,2,0]}],
+"events":[{"submit":{"order":1,"unit":5,"gtin":"4006381333931"}},{"steps":200}]}
+----
+ask 1
+reply 1 taken
+keep B order 1 unit 5 bytes 6
+frames 5
+keep O unit 5
+frames 98
+keep E 0 Done
+reply 1 kept 0 Done
+total 103
+journal 27
+unit 5 dtr 09 01 00 enabled no
+bank 5 00 10FFFF03A4CEEFADABFFFFFFFFFFFFFF
+====
+{"limit":10,"units":[{"address":5,"bank":"10FFFFFFFFFFFFFFFFFFFFFFFFFFFFFFFF","dtr":[0,2,0]}],
 "fates":[{"lost":[5]},{"times":6},{"lost":[5]}],
-"events":[{"submit":{"order":1,"unit":5,"gtin":"4006381333931"}},{"steps":200}]}"#,
-            false,
-            "\
+"events":[{"submit":{"order":1,"unit":5,"gtin":"4006381333931"}},{"steps":200}]}
+----
 ask 1
 reply 1 taken
 keep B order 1 unit 5 bytes 6
@@ -342,25 +295,38 @@ total 105
 journal 27
 unit 5 dtr 09 01 00 enabled no
 bank 5 00 10FFFF03A4CEEFADABFFFFFFFFFFFFFF
-",
-        ),
-        (
-            r#"{"limit":10,"units":[{"address":5,"bank":"10FFFFFFFFFFFFFFFFFFFFFFFFFFFFFFFF","fixed":[5]}],
-"events":[{"submit":{"order":1,"unit":5,"gtin":"4006381333931"}},{"steps":200}]}"#,
-            false,
-            FIXED,
-        ),
-        (
-            r#"{"limit":10,"units":[],
-"events":[{"submit":{"order":18446744073709551615,"unit":63,"gtin":"4006381333931"}},{"steps":50}]}"#,
-            false,
-            GREATEST,
-        ),
-        (
-            r#"{"limit":10,"units":[],
-"events":[{"submit":{"order":1,"unit":9,"gtin":"4006381333931"}},{"steps":19999}]}"#,
-            false,
-            "\
+====
+{"limit":10,"units":[{"address":5,"bank":"10FFFFFFFFFFFFFFFFFFFFFFFFFFFFFFFF","fixed":[5]}],
+"events":[{"submit":{"order":1,"unit":5,"gtin":"4006381333931"}},{"steps":200}]}
+----
+ask 1
+reply 1 taken
+keep B order 1 unit 5 bytes 6
+frames 5
+keep O unit 5
+frames 89
+keep E 4 Doubt
+reply 1 kept 4 Doubt
+total 94
+journal 27
+unit 5 dtr 03 01 00 enabled no
+bank 5 00 10FFFF03A4FFFFFFFFFFFFFFFFFFFFFF
+====
+{"limit":10,"units":[],
+"events":[{"submit":{"order":18446744073709551615,"unit":63,"gtin":"4006381333931"}},{"steps":50}]}
+----
+ask 18446744073709551615
+reply 18446744073709551615 taken
+keep B order 18446744073709551615 unit 63 bytes 6
+frames 16
+keep E 3 Silent
+reply 18446744073709551615 kept 3 Silent
+total 16
+journal 25
+====
+{"limit":10,"units":[],
+"events":[{"submit":{"order":1,"unit":9,"gtin":"4006381333931"}},{"steps":19999}]}
+----
 ask 1
 reply 1 taken
 keep B order 1 unit 9 bytes 6
@@ -369,106 +335,75 @@ keep E 3 Silent
 reply 1 kept 3 Silent
 total 16
 journal 25
-",
-        ),
-    ];
-    for (scenario, single_frames, text) in cases {
-        let (ended, written) = told(rt.alloc(), scenario.as_bytes(), single_frames);
-        assert_eq!(rt; ended, Status::Good, "{text}");
-        assert_eq!(rt; written.as_slice(), text.as_bytes(), "{text}");
-    }
-}
+"#;
 
-#[test]
-fn units_that_nothing_happens_to(rt: HostRuntime) {
-    let cases = [
-        (
-            r#"{"limit":10,"units":[{"address":6,"bank":"10FFFFFFFFFFFFFFFFFFFFFFFFFFFFFFFF"},{"address":5,"bank":"10FFFFFFFFFFFFFFFFFFFFFFFFFFFFFFFF"}],
-"events":[]}"#,
-            "\
+// Units that nothing happens to.
+const STILL: &str =
+    r#"{"limit":10,"units":[{"address":6,"bank":"10FFFFFFFFFFFFFFFFFFFFFFFFFFFFFFFF"},{"address":5,"bank":"10FFFFFFFFFFFFFFFFFFFFFFFFFFFFFFFF"}],
+"events":[]}
+----
 total 0
 journal 0
 unit 6 dtr 00 00 00 enabled no
 bank 6 00 10FFFFFFFFFFFFFFFFFFFFFFFFFFFFFF
 unit 5 dtr 00 00 00 enabled no
 bank 5 00 10FFFFFFFFFFFFFFFFFFFFFFFFFFFFFF
-",
-        ),
-        (
-            r#"{"limit":10,"units":[{"address":5,"bank":"10fFFfaBaBaBaBaBaBaBaBaBaBaBaBaBaB"}],
-"events":[]}"#,
-            "\
+====
+{"limit":10,"units":[{"address":5,"bank":"10fFFfaBaBaBaBaBaBaBaBaBaBaBaBaBaB"}],
+"events":[]}
+----
 total 0
 journal 0
 unit 5 dtr 00 00 00 enabled no
 bank 5 00 10FFFFABABABABABABABABABABABABAB
 bank 5 10 AB
-",
-        ),
-        (
-            r#"{"limit":10,"units":[{"address":5,"fixed":[3,4,119]}],"events":[]}"#,
-            "\
+====
+{"limit":10,"units":[{"address":5,"fixed":[3,4,119]}],"events":[]}
+----
 total 0
 journal 0
 unit 5 dtr 00 00 00 enabled no
 bank 5 00 77FFFFFFFFFFFFFFFFFFFFFFFFFFFFFF
 bank 5 10 FF0003FFFFFFFFFFFFFFFFFFFFFFFFFF
-",
-        ),
-        (
-            r#"{"limit":10,"units":[{"address":5,"bank":"10FFFFFFFFFFFFFFFFFFFFFFFFFFFFFFFF","dtr":[1,2,255]}],
-"events":[]}"#,
-            "\
+====
+{"limit":10,"units":[{"address":5,"bank":"10FFFFFFFFFFFFFFFFFFFFFFFFFFFFFFFF","dtr":[1,2,255]}],
+"events":[]}
+----
 total 0
 journal 0
 unit 5 dtr 01 02 FF enabled no
 bank 5 00 10FFFFFFFFFFFFFFFFFFFFFFFFFFFFFF
-",
-        ),
-    ];
-    for (scenario, text) in cases {
-        let (ended, written) = told(rt.alloc(), scenario.as_bytes(), false);
-        assert_eq!(rt; ended, Status::Good, "{text}");
-        assert_eq!(rt; written.as_slice(), text.as_bytes(), "{text}");
-    }
+"#;
+
+#[test]
+fn scenarios(rt: HostRuntime) {
+    let order = GTIN_ORDER.as_bytes();
+    answers(&rt, rt.alloc(), RUN, order, Status::Good, GTIN_RUN);
+    answers(
+        &rt,
+        rt.alloc(),
+        RUN_FRAMES,
+        order,
+        Status::Good,
+        GTIN_FRAMES,
+    );
+    answers_each(&rt, rt.alloc(), RUN, Status::Good, RUNS);
+}
+
+#[test]
+fn units_that_nothing_happens_to(rt: HostRuntime) {
+    answers_each(&rt, rt.alloc(), RUN, Status::Good, STILL);
 }
 
 #[test]
 fn a_reader_that_fails_in_mid_stream(rt: HostRuntime) {
-    let input = GTIN_ORDER.as_bytes();
-    for count in 0..=input.len() {
-        let mut reader = FailingReader {
-            rest: &input[..count],
-            at_a_time: 7,
-        };
-        let mut written = Vec::new(rt.alloc());
-        assert_eq!(rt;
-            run_scenario(rt.alloc(), &mut reader, &mut written, false),
-            Status::Failed
-        );
-        assert_eq!(rt; written.as_slice(), b"fault 21 File\n".as_slice());
-    }
+    fails_to_read(&rt, rt.alloc(), RUN, GTIN_ORDER.as_bytes());
 }
 
 #[test]
 fn a_writer_that_fails_in_mid_text(rt: HostRuntime) {
-    let cases = [
-        (GTIN_ORDER, false, GTIN_RUN),
-        (GTIN_ORDER, true, GTIN_FRAMES),
-        ("[", false, "fault 11 Json\n"),
-    ];
-    for (scenario, single_frames, text) in cases {
-        for room in 0..text.len() {
-            let mut reader = scenario.as_bytes();
-            let mut writer = FullWriter {
-                held: Vec::new(rt.alloc()),
-                room,
-            };
-            assert_eq!(rt;
-                run_scenario(rt.alloc(), &mut reader, &mut writer, single_frames),
-                Status::Unwritten
-            );
-            assert_eq!(rt; writer.held.as_slice(), &text.as_bytes()[..room]);
-        }
-    }
+    let order = GTIN_ORDER.as_bytes();
+    fails_to_write(&rt, rt.alloc(), RUN, order, GTIN_RUN);
+    fails_to_write(&rt, rt.alloc(), RUN_FRAMES, order, GTIN_FRAMES);
+    fails_to_write(&rt, rt.alloc(), RUN, b"[", "fault 11 Json\n");
 }

@@ -9,6 +9,7 @@ use dali_journal::{Code, Record};
 use dali_text::write_outcome;
 use dali_writer::{Event, Happening, Outcome, Reply, run};
 use std::alloc::{AllocError, Global};
+use std::process::Abort;
 use std::test::Fail;
 
 // The updates of a GTIN, 04006381333931.
@@ -163,48 +164,87 @@ total 0
 journal 0
 ";
 
-#[test]
-fn happenings_and_their_lines(rt: HostRuntime) -> Result<(), Fail> {
-    let nothing: &[Told] = &[];
-    let cases = [
-        (false, RUNS.as_slice(), [0; 27].as_slice(), RUNS_TOLD),
-        (true, &RUNS, &[0; 27], FRAMES_TOLD),
-        (false, &KINDS, &[], KINDS_TOLD),
-        (true, &KINDS, &[], KINDS_TOLD),
-        (false, nothing, &[0], "total 0\njournal 1\n"),
-        (true, nothing, &[0; 241], "total 0\njournal 241\n"),
-    ];
-    for (single_frames, told, journal, text) in cases {
-        let outcome = outcome_of(rt.alloc(), told, journal)?;
-        let mut written = Vec::new(rt.alloc());
-        write_outcome(&mut written, single_frames, &outcome, &[])?;
-        assert_eq!(rt; written.as_slice(), text.as_bytes(), "{text}");
-    }
-    Ok(())
+// What is written of happenings and a journal, with no units.
+fn written_of(
+    alloc: Global,
+    single_frames: bool,
+    told: &[Told],
+    journal: &[u8],
+) -> Result<Vec<u8>, Fail> {
+    let outcome = outcome_of(alloc, told, journal)?;
+    let mut written = Vec::new(alloc);
+    write_outcome(&mut written, single_frames, &outcome, &[])?;
+    Ok(written)
 }
 
-// Units with whole and shorter groups, some of them all FFh, of which one is write-enabled.
-fn units(alloc: Global) -> Result<Vec<Unit>, Fail> {
-    let mut shorter = [0xFF; 17];
-    shorter[0x00] = 0x10;
-    shorter[0x10] = 0xAB;
-    let mut with_blank_end = [0x00; 17];
-    with_blank_end[0x00] = 0x10;
-    with_blank_end[0x0F] = 0xFE;
-    with_blank_end[0x10] = 0xFF;
-    let mut with_blank_middle = [0xFF; 34];
-    with_blank_middle[0x00] = 0x21;
-    with_blank_middle[0x21] = 0x0C;
-    let mut registers = Unit::with_bank1(alloc, 63, &shorter, &[])?;
-    registers.set_dtrs(0x01, 0xA2, 0xFF);
-    let mut enabled = Unit::with_bank1(alloc, 10, &with_blank_middle, &[])?;
-    for frame in [Frame::Enable(10), Frame::Enable(10)] {
-        let _answer = enabled.hear(&frame);
+// Tests what is written of them.
+fn writes(
+    rt: &impl Abort,
+    alloc: Global,
+    single_frames: bool,
+    told: &[Told],
+    journal: &[u8],
+    text: &str,
+) {
+    match written_of(alloc, single_frames, told, journal) {
+        Ok(written) => assert_eq!(rt; written.as_slice(), text.as_bytes(), "{text}"),
+        Err(_) => panic!(rt; "not written: {text}"),
     }
+}
+
+#[test]
+fn happenings_and_their_lines(rt: HostRuntime) {
+    writes(&rt, rt.alloc(), false, &RUNS, &[0; 27], RUNS_TOLD);
+    writes(&rt, rt.alloc(), true, &RUNS, &[0; 27], FRAMES_TOLD);
+    writes(&rt, rt.alloc(), false, &KINDS, &[], KINDS_TOLD);
+    writes(&rt, rt.alloc(), true, &KINDS, &[], KINDS_TOLD);
+    writes(&rt, rt.alloc(), false, &[], &[0], "total 0\njournal 1\n");
+    writes(
+        &rt,
+        rt.alloc(),
+        true,
+        &[],
+        &[0; 241],
+        "total 0\njournal 241\n",
+    );
+}
+
+// A unit with a whole group and a shorter one, and with registers.
+fn unit_with_registers(alloc: Global) -> Result<Unit, Fail> {
+    let mut bank = [0xFF; 17];
+    bank[0x00] = 0x10;
+    bank[0x10] = 0xAB;
+    let mut unit = Unit::with_bank1(alloc, 63, &bank, &[])?;
+    unit.set_dtrs(0x01, 0xA2, 0xFF);
+    Ok(unit)
+}
+
+// A unit whose last group is all FFh.
+fn unit_with_blank_end(alloc: Global) -> Result<Unit, Fail> {
+    let mut bank = [0x00; 17];
+    bank[0x00] = 0x10;
+    bank[0x0F] = 0xFE;
+    bank[0x10] = 0xFF;
+    Ok(Unit::with_bank1(alloc, 0, &bank, &[])?)
+}
+
+// A unit whose middle group is all FFh, write-enabled.
+fn enabled_unit(alloc: Global) -> Result<Unit, Fail> {
+    let mut bank = [0xFF; 34];
+    bank[0x00] = 0x21;
+    bank[0x21] = 0x0C;
+    let mut unit = Unit::with_bank1(alloc, 10, &bank, &[])?;
+    for frame in [Frame::Enable(10), Frame::Enable(10)] {
+        let _answer = unit.hear(&frame);
+    }
+    Ok(unit)
+}
+
+fn units(alloc: Global) -> Result<Vec<Unit>, Fail> {
     let mut units = Vec::new(alloc);
-    units.push(registers)?;
-    units.push(Unit::with_bank1(alloc, 0, &with_blank_end, &[])?)?;
-    units.push(enabled)?;
+    units.push(unit_with_registers(alloc)?)?;
+    units.push(unit_with_blank_end(alloc)?)?;
+    units.push(enabled_unit(alloc)?)?;
     Ok(units)
 }
 
@@ -237,21 +277,35 @@ fn units_and_their_lines(rt: HostRuntime) -> Result<(), Fail> {
     Ok(())
 }
 
+// Tests a writer that fails at each place of what is written.
+fn fails_to_write(
+    rt: &impl Abort,
+    alloc: Global,
+    single_frames: bool,
+    outcome: &Outcome,
+    units: &[Unit],
+    text: &[u8],
+)
+    requires { SendsAllProper (reverse outcome.now.trace.items) }
+{
+    for room in 0..text.len() {
+        let mut writer = FullWriter {
+            held: Vec::new(alloc),
+            room,
+        };
+        let written = write_outcome(&mut writer, single_frames, outcome, units);
+        assert!(rt; written.is_err(), "room for {room}");
+        assert_eq!(rt; writer.held.as_slice(), &text[..room]);
+    }
+}
+
 #[test]
 fn a_writer_that_fails_in_mid_text(rt: HostRuntime) -> Result<(), Fail> {
     let outcome = outcome_of(rt.alloc(), &RUNS, &[0; 27])?;
     let units = units(rt.alloc())?;
     for (single_frames, told) in [(false, RUNS_TOLD), (true, FRAMES_TOLD)] {
         let text = before_units(rt.alloc(), told)?;
-        for room in 0..text.len() {
-            let mut writer = FullWriter {
-                held: Vec::new(rt.alloc()),
-                room,
-            };
-            let written = write_outcome(&mut writer, single_frames, &outcome, &units);
-            assert!(rt; written.is_err(), "room for {room}");
-            assert_eq!(rt; writer.held.as_slice(), &text.as_slice()[..room]);
-        }
+        fails_to_write(&rt, rt.alloc(), single_frames, &outcome, &units, &text);
     }
     Ok(())
 }
@@ -284,11 +338,15 @@ fn gtin_events(alloc: Global) -> Result<Vec<Event>, Fail> {
     Ok(events)
 }
 
+fn blank_bus(alloc: Global) -> Result<SimBus, Fail> {
+    let mut units = Vec::new(alloc);
+    units.push(Unit::blank(alloc, 5)?)?;
+    Ok(SimBus::new(units, Vec::new(alloc))?)
+}
+
 #[test]
 fn a_whole_run(rt: HostRuntime) -> Result<(), Fail> {
-    let mut units = Vec::new(rt.alloc());
-    units.push(Unit::blank(rt.alloc(), 5)?)?;
-    let mut bus = SimBus::new(units, Vec::new(rt.alloc()))?;
+    let mut bus = blank_bus(rt.alloc())?;
     let events = gtin_events(rt.alloc())?;
     let outcome = run(rt.alloc(), &mut bus, 10, &events)?;
     let mut written = Vec::new(rt.alloc());

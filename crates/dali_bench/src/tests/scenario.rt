@@ -1,12 +1,10 @@
 //! Which scenarios are refused, and by which line.
 
-use super::run_scenario::told;
-use super::streams::Spaces;
+use super::commands::{answers, answers_lines, refuses_past};
+use super::run_scenario::RUN;
 use crate::fault::Status;
-use crate::run_scenario::run_scenario;
-use std::alloc::AllocError;
-
-const DOCUMENT: &str = "fault 12 Document\n";
+use std::alloc::{AllocError, Global};
+use std::process::Abort;
 
 // A scenario that is refused and the line that says why, with a bar between them.
 const REFUSED: &str = r#"{"limit":0,"units":[],"events":[]}|run fault 1 Limit
@@ -89,7 +87,8 @@ const REFUSED: &str = r#"{"limit":0,"units":[],"events":[]}|run fault 1 Limit
 {"limit":0,"units":[{"address":5}],"events":[{"submit":{"order":1}}]}|event 1 fault 9 Shape
 {"limit":4294967296,"units":[{"address":5}],"events":[{"submit":{"order":1}}]}|event 1 fault 9 Shape
 {"limit":10,"units":[{"address":5}],"events":[{"submit":{"order":2,"unit":5,"gtin":"4006381333932"}},{"submit":{"order":1}}]}|event 1 fault 4 Gtin
-{"limit":10,"units":[{"address":5}],"events":[{"submit":{"order":1,"unit":5,"gtin":"4006381333931"}},{"steps":500},{"submit":{"order":2,"unit":5,"gtin":"4006381333932"}}]}|event 3 fault 4 Gtin"#;
+{"limit":10,"units":[{"address":5}],"events":[{"submit":{"order":1,"unit":5,"gtin":"4006381333931"}},{"steps":500},{"submit":{"order":2,"unit":5,"gtin":"4006381333932"}}]}|event 3 fault 4 Gtin
+"#;
 
 // Scenarios with no unit, in which nothing happens.
 const QUIET: &str = r#"{"limit":1,"units":[],"events":[]}
@@ -103,72 +102,85 @@ const QUIET: &str = r#"{"limit":1,"units":[],"events":[]}
 {"limit":10,"units":[],"events":[{"steps":20000}]}
 {"limit":10,"units":[],"events":[{"steps":19999},{"steps":1}]}"#;
 
+// The longest bank that a unit can have.
+const LONGEST_TOLD: &str = "\
+total 0
+journal 0
+unit 5 dtr 00 00 00 enabled no
+bank 5 00 FEFFFFFFFFFFFFFFFFFFFFFFFFFFFFFF
+";
+
 #[test]
-fn scenarios_that_are_refused(rt: HostRuntime) -> Result<(), AllocError> {
-    for case in REFUSED.split('\n') {
-        let Some((scenario, line)) = case.split_once('|') else {
-            panic!(rt; "no line: {case}");
-        };
-        let mut text = line.as_bytes().to_vec(rt.alloc())?;
-        text.push(b'\n')?;
-        let (ended, written) = told(rt.alloc(), scenario.as_bytes(), false);
-        assert_eq!(rt; ended, Status::Refused, "{case}");
-        assert_eq!(rt; written.as_slice(), text.as_slice(), "{case}");
-    }
-    Ok(())
+fn scenarios_that_are_refused(rt: HostRuntime) {
+    answers_lines(&rt, rt.alloc(), RUN, Status::Refused, REFUSED);
 }
 
 #[test]
 fn scenarios_in_which_nothing_happens(rt: HostRuntime) {
     for scenario in QUIET.split('\n') {
-        let (ended, written) = told(rt.alloc(), scenario.as_bytes(), false);
-        assert_eq!(rt; ended, Status::Good, "{scenario}");
-        assert_eq!(rt;
-            written.as_slice(),
-            b"total 0\njournal 0\n".as_slice(),
-            "{scenario}"
+        answers(
+            &rt,
+            rt.alloc(),
+            RUN,
+            scenario.as_bytes(),
+            Status::Good,
+            "total 0\njournal 0\n",
         );
     }
 }
 
-// The longest bank that a unit can have, and then a digit more each time: a file may have 512.
-#[test]
-fn banks_by_their_length(rt: HostRuntime) -> Result<(), AllocError> {
-    let cases = [
-        (
-            "FE",
-            510,
-            "total 0\njournal 0\nunit 5 dtr 00 00 00 enabled no\nbank 5 00 FEFFFFFFFFFFFFFFFFFFFFFFFFFFFFFF\n",
-            Status::Good,
-        ),
-        ("FF", 511, DOCUMENT, Status::Refused),
-        ("FF", 512, "unit 1 fault 2 Size\n", Status::Refused),
-        ("FF", 513, DOCUMENT, Status::Refused),
-        ("FF", 514, DOCUMENT, Status::Refused),
-    ];
-    for (first, digits, text, status) in cases {
-        let mut scenario = Vec::new(rt.alloc());
-        scenario.extend_from_slice(br#"{"limit":10,"units":[{"address":5,"bank":""#)?;
-        scenario.extend_from_slice(first.as_bytes())?;
-        for _ in 2..digits {
-            scenario.push(b'F')?;
-        }
-        scenario.extend_from_slice(br#""}],"events":[]}"#)?;
-        let (ended, written) = told(rt.alloc(), scenario.as_slice(), false);
-        assert_eq!(rt; ended, status, "{digits} digits");
-        assert_eq!(rt; written.as_slice(), text.as_bytes(), "{digits} digits");
+// A scenario with a unit whose bank has so many digits, these and then each an F.
+fn with_bank(alloc: Global, first: &str, digits: u32) -> Result<Vec<u8>, AllocError> {
+    let mut scenario = Vec::new(alloc);
+    scenario.extend_from_slice(br#"{"limit":10,"units":[{"address":5,"bank":""#)?;
+    scenario.extend_from_slice(first.as_bytes())?;
+    for _ in 2..digits {
+        scenario.push(b'F')?;
     }
-    Ok(())
+    scenario.extend_from_slice(br#""}],"events":[]}"#)?;
+    Ok(scenario)
+}
+
+// Tests what is said of such a scenario.
+fn bank_answers(
+    rt: &impl Abort,
+    alloc: Global,
+    first: &str,
+    digits: u32,
+    status: Status,
+    text: &str,
+) {
+    match with_bank(alloc, first, digits) {
+        Ok(scenario) => answers(rt, alloc, RUN, scenario.as_slice(), status, text),
+        Err(_) => panic!(rt; "no memory for {digits} digits"),
+    }
+}
+
+// The longest bank, and then a digit more each time: a file may have 512.
+#[test]
+fn banks_by_their_length(rt: HostRuntime) {
+    bank_answers(&rt, rt.alloc(), "FE", 510, Status::Good, LONGEST_TOLD);
+    bank_answers(
+        &rt,
+        rt.alloc(),
+        "FF",
+        512,
+        Status::Refused,
+        "unit 1 fault 2 Size\n",
+    );
+    for digits in [511, 513, 514] {
+        bank_answers(
+            &rt,
+            rt.alloc(),
+            "FF",
+            digits,
+            Status::Refused,
+            "fault 12 Document\n",
+        );
+    }
 }
 
 #[test]
 fn an_input_over_the_limit(rt: HostRuntime) {
-    let mut reader = Spaces { given: 0 };
-    let mut written = Vec::new(rt.alloc());
-    assert_eq!(rt;
-        run_scenario(rt.alloc(), &mut reader, &mut written, false),
-        Status::Refused
-    );
-    assert_eq!(rt; written.as_slice(), b"fault 13 TooBig\n".as_slice());
-    assert_eq!(rt; reader.given, 16_777_217);
+    refuses_past(&rt, rt.alloc(), RUN, 16_777_217);
 }

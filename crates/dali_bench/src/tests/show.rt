@@ -1,4 +1,5 @@
-use super::streams::{FailingReader, FullWriter, Spaces};
+use super::commands::{answers, fails_to_read, fails_to_write, refuses_past};
+use crate::FileCommand;
 use crate::fault::Status;
 use crate::show::show;
 
@@ -76,106 +77,106 @@ colour absent
 luminaire absent
 ";
 
+// Texts that spell no bytes.
+const NO_BYTES: &str = "0|14 F|1G|0x14|14\x0c|é";
+
 #[test]
 fn texts_and_what_they_say(rt: HostRuntime) {
-    let cases = [
-        (SHORT, Status::Good, SHORT_SHOWN),
-        (WHOLE, Status::Good, WHOLE_SHOWN),
-        ("", Status::Good, NOTHING_SHOWN),
-        (" \t\r\n", Status::Good, NOTHING_SHOWN),
-        ("0", Status::Refused, "fault 14 Hex\n"),
-        ("14 F", Status::Refused, "fault 14 Hex\n"),
-        ("1G", Status::Refused, "fault 14 Hex\n"),
-        ("0x14", Status::Refused, "fault 14 Hex\n"),
-        ("14\x0c", Status::Refused, "fault 14 Hex\n"),
-        ("é", Status::Refused, "fault 14 Hex\n"),
-    ];
-    for (input, status, text) in cases {
-        let mut reader = input.as_bytes();
-        let mut written = Vec::new(rt.alloc());
-        assert_eq!(rt;
-            show(rt.alloc(), &mut reader, &mut written),
-            status,
-            "{input}"
+    let show = FileCommand::Show;
+    answers(
+        &rt,
+        rt.alloc(),
+        show,
+        SHORT.as_bytes(),
+        Status::Good,
+        SHORT_SHOWN,
+    );
+    answers(
+        &rt,
+        rt.alloc(),
+        show,
+        WHOLE.as_bytes(),
+        Status::Good,
+        WHOLE_SHOWN,
+    );
+    answers(&rt, rt.alloc(), show, b"", Status::Good, NOTHING_SHOWN);
+    answers(
+        &rt,
+        rt.alloc(),
+        show,
+        b" \t\r\n",
+        Status::Good,
+        NOTHING_SHOWN,
+    );
+}
+
+#[test]
+fn texts_that_spell_no_bytes(rt: HostRuntime) {
+    for input in NO_BYTES.split('|') {
+        answers(
+            &rt,
+            rt.alloc(),
+            FileCommand::Show,
+            input.as_bytes(),
+            Status::Refused,
+            "fault 14 Hex\n",
         );
-        assert_eq!(rt; written.as_slice(), text.as_bytes(), "{input}");
     }
 }
 
 #[test]
-fn texts_up_to_the_limits_and_past_them(rt: HostRuntime) {
-    let spaces = [b' '; 4097];
-    let digits = [b'0'; 514];
-    let letters = [b'g'; 4097];
-    let cases = [
-        (&spaces[..4096], Status::Good),
-        (&spaces[..], Status::Refused),
-        (&digits[..510], Status::Good),
-        (&digits[..512], Status::Refused),
-        (&letters[..], Status::Refused),
-    ];
-    for (input, status) in cases {
+fn texts_up_to_the_limits(rt: HostRuntime) {
+    let spaces = [b' '; 4096];
+    let digits = [b'0'; 510];
+    for input in [spaces.as_slice(), &digits] {
         let mut reader = input;
         let mut written = Vec::new(rt.alloc());
-        assert_eq!(rt; show(rt.alloc(), &mut reader, &mut written), status);
-        if status == Status::Refused {
-            assert_eq!(rt; written.as_slice(), b"fault 13 TooBig\n".as_slice());
-        }
+        assert_eq!(rt; show(rt.alloc(), &mut reader, &mut written), Status::Good);
+    }
+}
+
+#[test]
+fn texts_past_the_limits(rt: HostRuntime) {
+    let spaces = [b' '; 4097];
+    let digits = [b'0'; 512];
+    let letters = [b'g'; 4097];
+    for input in [spaces.as_slice(), &digits, &letters] {
+        answers(
+            &rt,
+            rt.alloc(),
+            FileCommand::Show,
+            input,
+            Status::Refused,
+            "fault 13 TooBig\n",
+        );
     }
 }
 
 #[test]
 fn an_odd_number_of_too_many_digits(rt: HostRuntime) {
-    let digits = [b'0'; 513];
-    let mut reader = digits.as_slice();
-    let mut written = Vec::new(rt.alloc());
-    assert_eq!(rt;
-        show(rt.alloc(), &mut reader, &mut written),
-        Status::Refused
+    answers(
+        &rt,
+        rt.alloc(),
+        FileCommand::Show,
+        &[b'0'; 513],
+        Status::Refused,
+        "fault 14 Hex\n",
     );
-    assert_eq!(rt; written.as_slice(), b"fault 14 Hex\n".as_slice());
 }
 
 #[test]
 fn a_text_without_end(rt: HostRuntime) {
-    let mut reader = Spaces { given: 0 };
-    let mut written = Vec::new(rt.alloc());
-    assert_eq!(rt;
-        show(rt.alloc(), &mut reader, &mut written),
-        Status::Refused
-    );
-    assert_eq!(rt; written.as_slice(), b"fault 13 TooBig\n".as_slice());
-    assert_eq!(rt; reader.given, 4097);
+    refuses_past(&rt, rt.alloc(), FileCommand::Show, 4097);
 }
 
 #[test]
 fn a_bank_whose_reader_fails_in_mid_stream(rt: HostRuntime) {
-    let input = SHORT.as_bytes();
-    for count in 0..=input.len() {
-        let mut reader = FailingReader {
-            rest: &input[..count],
-            at_a_time: 7,
-        };
-        let mut written = Vec::new(rt.alloc());
-        assert_eq!(rt; show(rt.alloc(), &mut reader, &mut written), Status::Failed);
-        assert_eq!(rt; written.as_slice(), b"fault 21 File\n".as_slice());
-    }
+    fails_to_read(&rt, rt.alloc(), FileCommand::Show, SHORT.as_bytes());
 }
 
 #[test]
 fn a_bank_whose_writer_fails_in_mid_line(rt: HostRuntime) {
-    for (input, text) in [(WHOLE, WHOLE_SHOWN), ("0", "fault 14 Hex\n")] {
-        for room in 0..text.len() {
-            let mut reader = input.as_bytes();
-            let mut writer = FullWriter {
-                held: Vec::new(rt.alloc()),
-                room,
-            };
-            assert_eq!(rt;
-                show(rt.alloc(), &mut reader, &mut writer),
-                Status::Unwritten
-            );
-            assert_eq!(rt; writer.held.as_slice(), &text.as_bytes()[..room]);
-        }
-    }
+    let show = FileCommand::Show;
+    fails_to_write(&rt, rt.alloc(), show, WHOLE.as_bytes(), WHOLE_SHOWN);
+    fails_to_write(&rt, rt.alloc(), show, b"0", "fault 14 Hex\n");
 }

@@ -9,16 +9,13 @@ use Rattle.dali_gear.specs.SimState.{SimState, SimStep, SimCarry, AreApart, AreB
 use Rattle.dali_gear.specs.Chain.{IsChain}
 use Rattle.dali_gear.specs.Unenabled.{NoneEnabled}
 use Rattle.dali_gear.specs.UnitState.{new_unit, gear_of}
+use Rattle.dali_gear.specs.World.{is_open}
 use Rattle.dali_journal.specs.declared.record.Code.TheVariants as codes
-use Rattle.dali_writer.specs.declared.happening.Happening.{Happening}
-use Rattle.dali_writer.specs.declared.happening.Happening.TheVariants.{Sent, Stopped}
 use Rattle.dali_write.specs.declared.ask.Ask.TheVariants as asks
 use Rattle.dali_write.specs.declared.ask.Verdict.TheVariants as verdicts
 use Rattle.dali_write.specs.Plans.{read_length}
-use Rattle.dali_writer.proofs.WorkedLemmas.{read_legal, read_stands}
-use Rattle.dali_writer.proofs.EndingLemmas.{third_begun_legal}
-use Rattle.dali_writer.proofs.WorkedPlanLemmas.{Onset, Keeps, wants_so, frames_planned}
-use Rattle.dali_gear.specs.World.{is_open}
+use Rattle.dali_writer.specs.declared.happening.Happening.{Happening}
+use Rattle.dali_writer.specs.declared.happening.Happening.TheVariants.{Sent, Stopped}
 use Rattle.dali_writer.specs.Trace.{Start}
 use Rattle.dali_writer.specs.Legal.{Legal}
 use Rattle.dali_writer.specs.ByPlan.{told_in, ByPlan}
@@ -27,6 +24,9 @@ use Rattle.dali_writer.specs.Runs.{fresh}
 use Rattle.dali_writer.specs.Spared.{state_at_start, losses_since, UnrefusedSince, due_code, NoneFixed, IsSpared, AtEachState, LeadsSpared}
 use Rattle.dali_writer.specs.WorkedLosses.{losing, refusing, clear, one_since, start_taken, of_format, fixed_beside, fixed_there, short_bank, short_bus, short_sent, short_said, bus_after, buses_along, MeetsAll, SparesSeven}
 use Rattle.dali_writer.specs.Worked.{read_at, read_try, third_order, third_begun}
+use Rattle.dali_writer.proofs.WorkedLemmas.{read_legal, read_stands}
+use Rattle.dali_writer.proofs.EndingLemmas.{third_begun_legal}
+use Rattle.dali_writer.proofs.WorkedPlanLemmas.{Onset, Keeps, wants_so, frames_planned}
 
 -- A frame that is lost to the order's unit, to the left one, or to both of them, is one loss; one that is lost to another is none. What was lost before the start isn't counted.
 pub lost_to_both : losses_since 5 (Some 7) (one_since start_taken) (losing 0xA0 ∷ clear ∷ losing 0xA0 ∷ []) ≡ 1

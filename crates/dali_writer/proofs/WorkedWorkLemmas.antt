@@ -1,5 +1,6 @@
 -- Near the limits of the work: what a trace within them can't be.
 use Rattle.std.proofs.Common.{◌≡◌, inl, inr, refl, sym, ap, subst, ◌∙◌, ℕ, zero, suc, ◌≤◌, true, List, [], ◌∷◌, ◌++◌, append_assoc, length, Some, None, arith}
+use Rattle.dali_frame.specs.declared.forward.Frame.TheVariants.{Enable}
 use Rattle.dali_bank.specs.Order.{Contents}
 use Rattle.dali_journal.specs.declared.record.Code.TheVariants as codes
 use Rattle.dali_journal.specs.declared.record.Record.TheVariants.{Opened, Ended}
@@ -8,18 +9,23 @@ use Rattle.dali_journal.specs.declared.standing.Standing.TheVariants as standing
 use Rattle.dali_write.specs.Exchanges.{Exchange}
 use Rattle.dali_write.specs.Lines.{read_lines}
 use Rattle.dali_write.specs.Plans.{Plan, unlock}
-use Rattle.dali_write.specs.Reads.{EndsInRead, HasRead}
-use Rattle.dali_write.specs.Tries.{Succeeds}
+use Rattle.dali_write.specs.Reads.{IsPassive, EndsInRead, HasRead}
+use Rattle.dali_write.specs.Tries.{Succeeds, Wants}
 use Rattle.dali_write.specs.Doubts.{EndsUnlooked, read_backs, FoundAnother}
 use Rattle.dali_write.specs.Misses.{misses_in, IsLong}
+use Rattle.dali_write.specs.declared.ask.Ask.{Ask}
+use Rattle.dali_write.specs.declared.ask.Ask.TheVariants as asks
+use Rattle.dali_write.specs.declared.ask.Verdict.TheVariants as verdicts
 use Rattle.dali_write.proofs.MissLemmas.{failure_misses, failed_misses}
+use Rattle.dali_write.proofs.DeterminedLemmas.{ask_is, frame_wanted}
+use Rattle.dali_write.proofs.WorkedStepLemmas.{found_doubts}
 use Rattle.dali_writer.specs.declared.happening.Reply.TheVariants as replies
 use Rattle.dali_writer.specs.declared.happening.Happening.{Happening}
 use Rattle.dali_writer.specs.declared.happening.Happening.TheVariants.{Answered, Kept, Stopped}
 use Rattle.dali_writer.specs.Trace.{Start, sent_since_taken}
 use Rattle.dali_writer.specs.Work.{stood_at, kept_since, frames_from, order_at_hand, IsWithinLimit, IsSaidSo, IsWorked}
 use Rattle.dali_writer.specs.Worked.{empty, left_open, first_order, second_order, taken, begun, opened, unlocked, short_ended, ended, said, left_said, second_taken, unreached, taken_again}
-use Rattle.dali_writer.specs.WorkedPlans.{first_frame, begun_anew, said_again, second_taken_behind, frames_more, tries_more, records_more, begun_said, opened_said, blocked_said}
+use Rattle.dali_writer.specs.WorkedPlans.{first_frame, begun_anew, said_again, second_taken_behind, frames_more, tries_more, reads_more, records_more, begun_said, opened_said, blocked_said}
 use Rattle.dali_writer.proofs.RefusedLemmas.{none_read, has_none}
 
 -- so many frames were sent, and one record kept
@@ -185,6 +191,50 @@ doubt_after n (order, number, hand, inr (told, older, parts, found)) = absurd (b
         let sent = sent_since_taken (tries_more n begun) in
         let none : none_read (told ++ older) ≡ true = subst (λ (t : List Exchange). none_read t ≡ true) parts (tries_unread n) in
         has_none order.unit (told ++ older) none (has_earlier order.unit told older has)
+
+-- nor where each read was answered
+reads_met : (n : ℕ) → misses_in (sent_since_taken (reads_more n begun)) ≡ 0
+reads_met zero = refl
+reads_met (suc n) = let rest = reads_met n in omega arith
+
+pub not_silent_after_reads : (n : ℕ) → IsSaidSo empty (begun_said codes.Silent (reads_more n begun)) → ⊥
+not_silent_after_reads n (order, number, hand, earned) =
+    let many = unlooked_misses order.unit (sent_since_taken (reads_more n begun)) earned in let count = reads_met n in omega arith
+
+pub not_left_after_reads : (n : ℕ) → IsSaidSo empty (opened_said codes.DoubtOpen (reads_more n begun)) → ⊥
+not_left_after_reads n (order, number, hand, earned) =
+    let many = failure_misses order.unit _ (sent_since_taken (reads_more n begun)) earned in let count = reads_met n in omega arith
+
+-- none of the frames enables a unit or writes
+abbrev AllPassive : List Exchange → Type 0
+AllPassive [] = Unit {0}
+AllPassive (x ∷ told) = IsPassive x.frame × AllPassive told
+
+reads_passive : (n : ℕ) → AllPassive (sent_since_taken (reads_more n begun))
+reads_passive zero = tt
+reads_passive (suc n) = (tt, (tt, (tt, (tt, (tt, reads_passive n)))))
+
+front_passive : (told older : List Exchange) → AllPassive (told ++ older) → AllPassive told
+front_passive [] older passive = tt
+front_passive (x ∷ told) older passive = (passive.0, front_passive told older passive.1)
+
+-- an opened session begins with a frame that enables its unit
+enables_first : (unit : ℕ) (updates : List (ℕ × ℕ)) (told : List Exchange) (ask : Ask) → Wants unit (unlock updates) told ask → AllPassive told → told ≡ []
+enables_first unit updates [] ask wants passive = refl
+enables_first unit updates (x ∷ []) ask wants passive =
+    let first = ask_is unit (unlock updates) [] (asks.Send x.frame) (frame_wanted [] x unit (unlock updates) ask wants) in
+    let enables : Enable unit ≡ x.frame = cc in
+    absurd (subst IsPassive (sym enables) passive.0)
+enables_first unit updates (x ∷ y ∷ told) ask wants passive =
+    let none = enables_first unit updates (y ∷ told) (asks.Send x.frame) (frame_wanted (y ∷ told) x unit (unlock updates) ask wants) passive.1 in cc
+
+pub not_doubt_after_reads : (n : ℕ) → IsSaidSo empty (opened_said codes.Doubt (reads_more n begun)) → ⊥
+not_doubt_after_reads n (order, number, hand, inl failed) =
+    let many = failed_misses order.unit (sent_since_taken (reads_more n begun)) failed in let count = reads_met n in omega arith
+not_doubt_after_reads n (order, number, hand, inr (told, older, parts, found)) =
+    let wants = found_doubts order.unit (unlock order.updates) (read_backs order.updates) told found in
+    let none = enables_first order.unit order.updates told (asks.Ended verdicts.Doubt) wants (front_passive told older (subst AllPassive parts (reads_passive n))) in
+    let doubt = ask_is order.unit (unlock order.updates) [] (asks.Ended verdicts.Doubt) (subst (λ (t : List Exchange). Wants order.unit (unlock order.updates) t (asks.Ended verdicts.Doubt)) none wants) in cc
 
 -- what counts: the frames and records since an order was taken or the program stopped, and where the records stood then
 pub frames_counted : length (sent_since_taken begun_anew) ≡ 1

@@ -78,7 +78,7 @@ closed_anew = Sent (Enable 5) None ∷ taken_again
 
 -- Near the limits of the work
 
--- so many frames more that ask for no answer, tries that miss, and records
+-- so many frames more that ask for no answer, tries that miss, reads that are answered, and records
 abbrev pub frames_more : ℕ → List Happening → List Happening
 frames_more zero past = past
 frames_more (suc frames) past = Sent (Dtr1 1) None ∷ frames_more frames past
@@ -86,6 +86,10 @@ frames_more (suc frames) past = Sent (Dtr1 1) None ∷ frames_more frames past
 abbrev pub tries_more : ℕ → List Happening → List Happening
 tries_more zero past = past
 tries_more (suc tries) past = read_try (tries_more tries past)
+
+abbrev pub reads_more : ℕ → List Happening → List Happening
+reads_more zero past = past
+reads_more (suc reads) past = read_at 5 0x00 0x77 (reads_more reads past)
 
 abbrev pub records_more : ℕ → List Happening → List Happening
 records_more zero past = past

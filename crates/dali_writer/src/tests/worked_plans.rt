@@ -31,7 +31,7 @@ ghost use Rattle.dali_writer.specs.WorkedPlans.{try_through_a_stop, read_once_op
 ghost use Rattle.dali_writer.specs.WorkedPlans.{silent_where_short, left_at_once, blocked_at_once};
 ghost use Rattle.dali_writer.specs.WorkedPlans.{frames_more, tries_more, records_more, begun_said, opened_said};
 ghost use Rattle.dali_writer.specs.WorkedPlans.{blocked_said, second_taken_behind, at_work};
-ghost use Rattle.dali_writer.specs.WorkedPlans.{closed_anew, try_past_the_end};
+ghost use Rattle.dali_writer.specs.WorkedPlans.{reads_more, closed_anew, try_past_the_end};
 ghost use Rattle.dali_writer.specs.WorkedPlans.{repeated, another_said, said_behind_a_stop, said_again};
 ghost use Rattle.dali_writer.specs.WorkedLosses.{losing, refusing, clear, one_since, start_taken, of_format};
 ghost use Rattle.dali_writer.specs.WorkedLosses.{fixed_beside, fixed_there, MeetsAll, SparesSeven};
@@ -101,6 +101,13 @@ fn no_sooner_than_the_eighth_miss()
     ensures doubt { (n : ℕ) → IsSaidSo empty (opened_said Code.Doubt (tries_more n begun)) → 8 ≤ n }
     ensures left { (n : ℕ) → IsSaidSo empty (opened_said Code.DoubtOpen (tries_more n begun)) → 8 ≤ n }
     ensures blocked { (n : ℕ) → IsSaidSo left_open (blocked_said (tries_more n second_taken)) → 8 ≤ n }
+{}
+
+// Nor is it said where each read was answered.
+fn nothing_wanting_after_reads()
+    ensures silent { (n : ℕ) → ¬ IsSaidSo empty (begun_said Code.Silent (reads_more n begun)) }
+    ensures doubt { (n : ℕ) → ¬ IsSaidSo empty (opened_said Code.Doubt (reads_more n begun)) }
+    ensures left { (n : ℕ) → ¬ IsSaidSo empty (opened_said Code.DoubtOpen (reads_more n begun)) }
 {}
 
 // What counts came since an order was taken or the program stopped, and an order is at hand until it is said.
@@ -193,6 +200,7 @@ fn the_worked_plans_are_as_they_should_be() {
     but_they_are_legal();
     limits_of_the_work();
     no_sooner_than_the_eighth_miss();
+    nothing_wanting_after_reads();
     what_counts_as_work();
     said_by_the_1045th_step();
     what_does_not_say_it();

@@ -7,7 +7,7 @@ use Rattle.dali_journal.specs.declared.record.Record.TheVariants.{Ended}
 use Rattle.dali_journal.specs.Spelling.{spelling, journal_spelling, IsRecord}
 use Rattle.dali_journal.specs.Reading.{IsCutOf}
 use Rattle.dali_journal.specs.JournalState.{JournalState, IsJournal}
-use Rattle.dali_journal.specs.Loading.{IsLoaded, IsTorn, IsTornWithin}
+use Rattle.dali_journal.specs.Loading.{IsLoaded, IsTorn}
 use Rattle.dali_journal.proofs.LoadLemmas.{loads_again}
 use Rattle.dali_journal.proofs.TornLemmas.{torn_no_fault}
 
@@ -23,14 +23,7 @@ cut_of_some entry spelled reached same ranged more =
     some : drop reached spelled ≢ []
     some none = let long = ap (λ (bytes : List ℕ). length bytes) none in let all = ap (λ (bytes : List ℕ). length bytes) same in omega (arith, length-drop reached spelled)
 
--- the bytes of a journal with a cut behind them
-pub left_torn : (journal : JournalState) (last : Record) (cut bytes : List ℕ) (limit : ℕ) → IsJournal journal → IsCutOf cut last → limit ≡ journal.limit
-    → bytes ≡ journal_spelling journal.records ++ cut → IsTornWithin limit bytes
-left_torn journal last cut bytes limit is cut_is same spelled =
-    let all = loads_again journal last cut is cut_is in
-    rw (same, spelled) (all.0, journal.records, length (journal_spelling journal.records), all.1, all.2)
-
--- what is loaded from them
+-- what is loaded from the bytes of a journal with a cut behind them
 pub left_same : (journal again : JournalState) (last : Record) (cut bytes : List ℕ) (limit len : ℕ) → IsJournal journal → IsCutOf cut last → limit ≡ journal.limit
     → bytes ≡ journal_spelling journal.records ++ cut → IsLoaded limit bytes again len → (again.records ≡ journal.records) × (again.limit ≡ journal.limit)
 left_same journal again last cut bytes limit len is cut_is same spelled loaded =

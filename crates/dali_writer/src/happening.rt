@@ -68,7 +68,8 @@ pub enum Event {
     /// Do the next thing that is to be done: keep one record, send one frame, or say how an order
     /// ended. Where nothing is at work nothing is done.
     Step,
-    /// Stop the program: of a record that was to be kept, at most so many bytes reach the journal.
+    /// Stop the program: of the record that is to be kept next, if there is one, the first so many
+    /// bytes reach the journal, or all. It goes on from the journal that is loaded from these bytes.
     Stop(u16),
 }
 

@@ -1,10 +1,9 @@
-ghost use Rattle.std.specs.Prelude.{◌≡◌, ◌≢◌, ℕ, ◌<◌, ◌≤◌, ◌↔◌, codes, length, take, true, Option, IfOk, MatchResult};
+ghost use Rattle.std.specs.Prelude.{◌≡◌, ℕ, ◌<◌, ◌≤◌, ◌↔◌, length, take, true, Option, IfOk, MatchResult};
 ghost use Rattle.std.specs.Char.{digit_value};
 ghost use Rattle.std.specs.Fmt.{digit_glyph};
-ghost use Rattle.std.specs.Str.Parse.{AllDigits};
 ghost use Rattle.dali_frame.specs.Frame.{spelling, IsProper};
 ghost use Rattle.dali_frame.specs.Hex.{SpellsNumber, byte_digits as digits_of};
-ghost use Rattle.dali_frame.specs.Line.{word_line, SpellsAnswer};
+ghost use Rattle.dali_frame.specs.Line.{word_line, SpellsAnswer, HasFault};
 
 use crate::{Frame, LineFault, word_of};
 
@@ -34,9 +33,8 @@ pub fn byte_digits(byte: u8) -> [u8; 2]
 pub fn answer_of(line: &[u8]) -> Result<Option<u8>, LineFault>
     ensures ok { IfOk result (λ answer. SpellsAnswer line.now answer) }
     ensures only { (answer : Option ℕ) → SpellsAnswer line.now answer → result ≡ Ok answer }
-    ensures length { (result ≡ Err LineFault.Length) ↔ (length line.now ≢ 2) }
-    ensures digit { (result ≡ Err LineFault.Digit)
-        ↔ ((length line.now ≡ 2) × (line.now ≢ codes "--") × ¬ (AllDigits 16 line.now)) }
+    ensures length { (result ≡ Err LineFault.Length) ↔ HasFault LineFault.Length line.now }
+    ensures digit { (result ≡ Err LineFault.Digit) ↔ HasFault LineFault.Digit line.now }
 {
     match *line {
         [b'-', b'-'] => Ok(None),

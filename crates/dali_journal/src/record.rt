@@ -1,7 +1,7 @@
 ghost use Rattle.std.specs.Prelude.{◌≡◌, ◌+◌, ◌*◌, ◌≤◌, ◌++◌, ◌∷◌, [], length};
 ghost use Rattle.arrayvec.specs.ArrayVec.{array_vec_len};
 ghost use Rattle.dali_journal.specs.declared.record.Record.TheVariants.{Began};
-ghost use Rattle.dali_journal.specs.Spelling.{spelling, order_spelling, pairs_spelling, code_number, NamesShortUnit, IsRecord};
+ghost use Rattle.dali_journal.specs.Spelling.{spelling, order_spelling, pairs_spelling, code_number, code_name, NamesShortUnit, IsRecord};
 
 use arrayvec::ArrayVec;
 use dali_bank::Order;
@@ -34,23 +34,30 @@ impl Code {
     {
         *self as u8
     }
-}
 
-impl fmt::Display for Code {
-    ghost use Rattle.std.specs.Prelude.{Some};
-    ghost use Rattle.dali_journal.specs.Spelling.{code_name};
-
-    ghost output = { λ code. Some (code_name code) };
-
-    fn fmt<W: fmt::Write>(&self, f: &mut fmt::Formatter<W>) -> fmt::Result {
-        f.write_str(match self {
+    /// The code's name, at most nine bytes.
+    pub fn name(&self) -> &'static str
+        ensures name { result.now ≡ code_name self.now }
+        ensures short { length result.now ≤ 9 }
+    {
+        match self {
             Code::Done => "Done",
             Code::Short => "Short",
             Code::Format => "Format",
             Code::Silent => "Silent",
             Code::Doubt => "Doubt",
             Code::DoubtOpen => "DoubtOpen",
-        })
+        }
+    }
+}
+
+impl fmt::Display for Code {
+    ghost use Rattle.std.specs.Prelude.{Some};
+
+    ghost output = { λ code. Some (code_name code) };
+
+    fn fmt<W: fmt::Write>(&self, f: &mut fmt::Formatter<W>) -> fmt::Result {
+        f.write_str(self.name())
     }
 }
 

@@ -70,21 +70,26 @@ goes_on start past w entry stands d at allowed is_new none due grounds =
       grounds = rw stood grounds;
     }
 
+-- an order that was taken may begin
+pub begun_may : (start : Start) (past : List Happening) (journal : JournalState) (order : Contents)
+    → Describes start past (record { journal = journal; phase = Begins order }) → IsReady (Begins order) journal → MayKeep start past (Began order)
+begun_may start past journal order d ready =
+    let before = legal_sentence start past d.legal in
+    let stood = stands_so start past _ standings.Idle d ready.0 in
+    let few : length (orders_of (records_of start past)) < start.limit = rw (d.same, d.limit) ready.1.1 in record {
+      sentence = (before.0, rw stood tt, rw d.same ready.1.2);
+      within = omega (arith, few);
+      due = d.place;
+      grounds = rw stood tt;
+    }
+
 -- an order that was taken is begun
 pub begun_on : (start : Start) (past : List Happening) (journal new : JournalState) (order : Contents) (s : Session)
     → Describes start past (record { journal = journal; phase = Begins order }) → IsReady (Begins order) journal → Told [] s
     → new.records ≡ Began order ∷ journal.records → new.limit ≡ journal.limit
     → Describes start (Kept (Began order) ∷ past) (record { journal = new; phase = Checks order s })
 begun_on start past journal new order s d ready is_told records limit =
-    let before = legal_sentence start past d.legal in
-    let stood = stands_so start past _ standings.Idle d ready.0 in
-    let few : length (orders_of (records_of start past)) < start.limit = rw (d.same, d.limit) ready.1.1 in
-    let may : MayKeep start past (Began order) = record {
-      sentence = (before.0, rw stood tt, rw d.same ready.1.2);
-      within = omega (arith, few);
-      due = d.place;
-      grounds = rw stood tt;
-    } in
+    let may = begun_may start past journal order d ready in
     kept_on start past journal new (Begins order) (Checks order s) (Began order) d may records limit ([], sent_of past, refl, is_told)
 
 -- what the reads of a session show, the frames since the last stop show
@@ -179,17 +184,24 @@ check_place past order verdicts.Closed next is = subst (λ (p : Phase). IsAt p (
 check_place past order verdicts.NotClosed next is = subst (λ (p : Phase). IsAt p (Kept (Ended codes.Silent) ∷ past)) (sym is) refl
 check_place past order verdicts.Read next is = subst (λ (p : Phase). IsAt p (Kept (Ended codes.Silent) ∷ past)) (sym is) refl
 
+-- the record by which a fresh session is followed may be kept
+pub checked_may : (start : Start) (past : List Happening) (journal : JournalState) (order : Contents) (s : Session) (verdict : Verdict)
+    → Describes start past (record { journal = journal; phase = Checks order s }) → IsReady (Checks order s) journal → aim_of s ≡ asks.Ended verdict
+    → MayKeep start past (check_record order.unit verdict)
+checked_may start past journal order s verdict d ready aim =
+    let place = d.place in
+    let over = fresh_over order place.0 s verdict ready.1 place.3 aim in
+    let rests = newest_rests (sent_of past) place.0 place.1 order.unit order.updates verdict place.2 over.1 in
+    goes_on start past _ (check_record order.unit verdict) (standings.Began order) d ready.0 (check_allowed order verdict) (check_new order.unit verdict (records_of start past))
+    (check_none order.unit verdict (records_of start past)) (check_due past order.unit verdict) (fresh_grounds (sent_of past) order verdict rests)
+
 -- a fresh session has ended
 pub checked_on : (start : Start) (past : List Happening) (journal new : JournalState) (order : Contents) (s : Session) (verdict : Verdict) (next : Phase)
     → Describes start past (record { journal = journal; phase = Checks order s }) → IsReady (Checks order s) journal → aim_of s ≡ asks.Ended verdict
     → IsAfterCheck order verdict next → new.records ≡ check_record order.unit verdict ∷ journal.records → new.limit ≡ journal.limit
     → Describes start (Kept (check_record order.unit verdict) ∷ past) (record { journal = new; phase = next })
 checked_on start past journal new order s verdict next d ready aim after records limit =
-    let place = d.place in
-    let over = fresh_over order place.0 s verdict ready.1 place.3 aim in
-    let rests = newest_rests (sent_of past) place.0 place.1 order.unit order.updates verdict place.2 over.1 in
-    let may = goes_on start past _ (check_record order.unit verdict) (standings.Began order) d ready.0 (check_allowed order verdict) (check_new order.unit verdict (records_of start past))
-    (check_none order.unit verdict (records_of start past)) (check_due past order.unit verdict) (fresh_grounds (sent_of past) order verdict rests) in
+    let may = checked_may start past journal order s verdict d ready aim in
     kept_on start past journal new (Checks order s) next (check_record order.unit verdict) d may records limit (check_place past order verdict next after)
 
 opened_grounds : (sent : List Exchange) (order : Contents) (verdict : Verdict) → Rests (ReadStands sent order.unit) order.updates verdict

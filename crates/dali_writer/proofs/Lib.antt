@@ -25,6 +25,8 @@ pub mod FollowLemmas
 pub mod Courses
 pub mod CourseLemmas
 pub mod NextRecordLemmas
+pub mod WantLemmas
+pub mod DriveLemmas
 pub mod WorkLemmas
 pub mod SparedLemmas
 pub mod ValidLemmas
@@ -32,5 +34,7 @@ pub mod OnsetLemmas
 pub mod StepsLemmas
 pub mod SubmitLemmas
 pub mod StopLemmas
+pub mod JoinLemmas
 pub mod ChainLemmas
 pub mod PartsLemmas
+pub mod PutLemmas

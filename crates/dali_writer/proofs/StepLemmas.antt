@@ -108,7 +108,7 @@ may_put order location byte rises (inr (inl (lock, closes))) = inr (sym lock, in
 may_put order location byte rises (inr (inr has)) = inl (has_found 0 order.updates location byte rises has).1
 
 -- the frames of a fresh, an opened and a closing session may be sent
-fresh_may : (past : List Happening) (order : Contents) (told : List Exchange) (frame : Frame) → IsGuardedFrame [] order.unit told frame → MaySend past (standings.Began order) frame
+pub fresh_may : (past : List Happening) (order : Contents) (told : List Exchange) (frame : Frame) → IsGuardedFrame [] order.unit told frame → MaySend past (standings.Began order) frame
 fresh_may past order told (Dtr0 byte) guarded = (order.unit, refl)
 fresh_may past order told (Dtr1 byte) guarded = (order.unit, refl)
 fresh_may past order told (AskDtr0 to) guarded = guarded
@@ -121,7 +121,7 @@ fresh_may past order told (WriteSilent byte) guarded = absurd guarded
 fresh_may past order told (AskDtr2 to) guarded = absurd guarded
 fresh_may past order told (Other word) guarded = absurd guarded
 
-opened_may : (past : List Happening) (order : Contents) (frame : Frame) → RisesAbove 0 order.updates → IsGuardedFrame (writes_of order.updates) order.unit (sent_of past) frame
+pub opened_may : (past : List Happening) (order : Contents) (frame : Frame) → RisesAbove 0 order.updates → IsGuardedFrame (writes_of order.updates) order.unit (sent_of past) frame
     → MaySend past (standings.Opened order) frame
 opened_may past order (Dtr0 byte) rises guarded = (order.unit, refl)
 opened_may past order (Dtr1 byte) rises guarded = (order.unit, refl)
@@ -136,7 +136,7 @@ opened_may past order (WriteSilent byte) rises guarded = absurd guarded
 opened_may past order (AskDtr2 to) rises guarded = absurd guarded
 opened_may past order (Other word) rises guarded = absurd guarded
 
-closing_may : (past : List Happening) (unit : ℕ) (frame : Frame) → IsSome (waiting past) → IsGuardedFrame ((2, 0xFF) ∷ []) unit (sent_of past) frame
+pub closing_may : (past : List Happening) (unit : ℕ) (frame : Frame) → IsSome (waiting past) → IsGuardedFrame ((2, 0xFF) ∷ []) unit (sent_of past) frame
     → MaySend past (standings.Left unit) frame
 closing_may past unit (Dtr0 byte) waits guarded = (unit, (refl, waits))
 closing_may past unit (Dtr1 byte) waits guarded = (unit, (refl, waits))

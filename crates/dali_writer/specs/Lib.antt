@@ -21,7 +21,14 @@ pub mod Follows
 pub mod Work
 pub mod Spared
 pub mod Steps
+pub mod Joined
 pub mod WorkLeft
 pub mod Worked
 pub mod WorkedPlans
 pub mod WorkedLosses
+pub mod Next
+pub mod Streams
+pub mod Lines
+pub mod Transcript
+pub mod Driven
+pub mod WorkedOn

@@ -10,6 +10,7 @@ ghost use Rattle.dali_writer.specs.Trace.{Start};
 ghost use Rattle.dali_writer.specs.Legal.{Legal, IsFinished};
 ghost use Rattle.dali_writer.specs.Steps.{IsSaidInTime};
 ghost use Rattle.dali_writer.specs.ByPlan.{ByPlan};
+ghost use Rattle.dali_writer.specs.Joined.{Sitting, FollowOn, IsOneTrace, SittingsAreRight};
 ghost use Rattle.dali_writer.specs.Work.{IsWorked};
 ghost use Rattle.dali_writer.specs.Law.{Always, FitsAt, OnlyNamedAt, AppliedAt, RecordsAreASentence, TakenOrdersAreKept, OneReplyIsDue, RepeatsAreAnswered, RepeatsAreQuiet, QuietUntilTaken};
 
@@ -75,4 +76,17 @@ pub fn limits_are_these()
     ensures low { (updates : List (ℕ × ℕ)) → greatest updates < 0x13 → frames_from standings.Idle updates ≡ 12 * length updates + 24 }
     ensures high { (updates : List (ℕ × ℕ)) → 0x13 ≤ greatest updates → frames_from standings.Idle updates ≡ 12 * length updates + 34 }
     ensures left { (unit : ℕ) (updates : List (ℕ × ℕ)) → frames_from (standings.Left unit) updates ≡ frames_from standings.Idle updates + 12 }
+{}
+
+/// Sittings one after another, each from the records that those before it left, are one legal trace that keeps to the plans,
+/// with a stop between them. So whatever holds along such a trace holds along all of them.
+pub fn sittings_are_one_trace()
+    ensures { (start : Start) (sittings : List Sitting) → FollowOn start sittings → IsOneTrace start sittings }
+{}
+
+/// Along every chain of worlds of such sittings, from a world that fits the start world and the start records and in which no
+/// unit is write-enabled but the one that they name: each moment fits, no unit but the named one is enabled, every place
+/// that is in no doubt is as the journal says, and when a record is kept, what it says is so.
+pub fn every_moment_of_sittings_is_right()
+    ensures { SittingsAreRight }
 {}

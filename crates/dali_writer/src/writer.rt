@@ -19,6 +19,8 @@ ghost use Rattle.dali_journal.specs.Spelling.{NamesShortUnit};
 ghost use Rattle.dali_writer.specs.WorkLeft.{work_left};
 ghost use Rattle.dali_writer.specs.Describes.{Describes};
 ghost use Rattle.dali_writer.specs.Follows.{Follows};
+ghost use Rattle.dali_writer.specs.Next.{IsNext, IsDone};
+ghost use Rattle.dali_writer.specs.Driven.{start_of};
 
 use crate::happening::{Reply, Want};
 use crate::phase::{Phase, after_check, check_record, resumed_phase, write_code};
@@ -73,7 +75,16 @@ impl Writer {
         &self.journal
     }
 
-    /// What is to be done next.
+    // Does nothing. At rest the empty trace describes the writer.
+    pub(crate) fn rest(&self)
+        requires { IsAtRest self.now }
+        ensures described { Describes (start_of self.now) [] self.now }
+        ensures follows { Follows (start_of self.now) [] self.now }
+    {
+        let _limit = self.journal.limit();
+    }
+
+    /// What is to be done next: the one thing that may come next by the rules and by the plan, if the trace is busy.
     pub fn want(&self) -> Want
         ensures phase { result ≡ want_of self.now.phase }
         ensures busy { (start : Start) (past : List Happening) → Describes start past self.now → is_busy start past ≡ is_wanting result }
@@ -82,6 +93,8 @@ impl Writer {
         ensures short { (entry : Record) → result ≡ Want.Keep entry → NamesShortUnit entry }
         ensures next { (start : Start) (past : List Happening) → Describes start past self.now → Follows start past self.now
             → (entry : Record) → (result ≡ Want.Keep entry) ↔ IsKeptNext start past entry }
+        ensures done { (start : Start) (past : List Happening) → Describes start past self.now → Follows start past self.now
+            → (next : Happening) → IsDone result next → IsNext start past next }
     {
         self.phase.want()
     }

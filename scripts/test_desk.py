@@ -1,0 +1,415 @@
+#!/usr/bin/env python3
+"""Test examples/desk: the simulated link and the serial link, with stand-in commands and no dali_bench.
+
+The last line is `N passed, M failed`, and the status is 0 only where none failed.
+"""
+
+import concurrent.futures
+import importlib.util
+import os
+import pathlib
+import pty
+import re
+import select
+import signal
+import subprocess
+import sys
+import tempfile
+import threading
+import time
+import traceback
+import tty
+
+ROOT = pathlib.Path(__file__).resolve().parent.parent
+DESK = ROOT / "examples" / "desk"
+SIMULATED = DESK / "simulated_link.py"
+SERIAL = DESK / "serial_link.py"
+
+# A stand-in command. Each of its words is a frame that it sends, or what it does: `pause`, `kill` itself, `close` its
+# input, `cut` a line. At its end it prints the answers to standard error, and ends with status 7; it ends with
+# status 4 where its input ends.
+PLAYER = """
+import os, signal, sys, time
+answers, closed = [], False
+for word in sys.argv[1:]:
+    if word == "pause":
+        time.sleep(0.2)
+    elif word == "kill":
+        os.kill(os.getpid(), signal.SIGKILL)
+    elif word == "close":
+        os.close(0)
+        closed = True
+    elif word == "cut":
+        os.write(1, b"A3")
+        break
+    else:
+        os.write(1, word.encode() + b"\\n")
+        if closed:
+            break
+        line = sys.stdin.readline()
+        if not line.endswith("\\n"):
+            answers.append("end")
+            break
+        answers.append(line.strip())
+os.write(2, ("answers " + " ".join(answers) + "\\n").encode())
+sys.exit(4 if answers[-1:] == ["end"] else 7)
+"""
+
+OPENED = "0B81 0B81 C301 A302 C755".split()
+
+
+def load(path):
+    """Import a script without leaving compiled code beside it."""
+    sys.dont_write_bytecode = True
+    spec = importlib.util.spec_from_file_location(path.stem, path)
+    module = importlib.util.module_from_spec(spec)
+    spec.loader.exec_module(module)
+    return module
+
+
+simulated_link = load(SIMULATED)
+
+
+def player(words):
+    """Make the command line of a stand-in command."""
+    return [sys.executable, "-S", "-E", "-c", PLAYER, *words]
+
+
+def run(script, options, words):
+    """Run a script with a stand-in command; return its status, the answers and all of standard error."""
+    command = [sys.executable, script, *map(str, options), "--", *player(words)]
+    ended = subprocess.run(command, stdin=subprocess.DEVNULL, capture_output=True, text=True, timeout=9)
+    assert ended.stdout == "", ended.stdout
+    answers = re.search("^answers (.*)$", ended.stderr, re.MULTILINE)
+    return ended.returncode, answers[1].split() if answers else None, ended.stderr
+
+
+def want(found, wanted):
+    """Raise unless both are equal."""
+    assert found == wanted, f"found {found!r}, wanted {wanted!r}"
+
+
+def saved(folder, short_address=5):
+    """Return the bytes of a unit's file."""
+    return bytes.fromhex((folder / f"unit_{short_address}.hex").read_text())
+
+
+def blank(**changes):
+    """Return the blank bank with changed locations, as x03=0x12."""
+    bank = bytearray(simulated_link.BLANK_BANK_1)
+    for location, byte in changes.items():
+        bank[int(location[1:], 16)] = byte
+    return bytes(bank)
+
+
+def answers_of(bus, words):
+    """Carry frames over a bus in this process, and return the answers as text."""
+    answers = (bus.carry(int(word, 16)) for word in words)
+    return " ".join("--" if answer is None else f"{answer:02X}" for answer in answers)
+
+
+def one_unit(*words, **losses):
+    """Carry frames to one blank unit at 5; return the answers and the unit."""
+    unit = simulated_link.Unit(5)
+    return answers_of(simulated_link.Bus([unit], **losses), " ".join(words).split()), unit
+
+
+# Units and the bus, as docs/GEAR.md has them
+
+
+def test_blank_bank(folder):
+    bank = simulated_link.BLANK_BANK_1
+    want(len(bank), 0x78)
+    want({at: byte for at, byte in enumerate(bank) if byte != 0xFF}, {0x00: 0x77, 0x11: 0x00, 0x12: 0x03})
+
+
+def test_registers_are_set_and_asked(folder):
+    want(one_unit("A312 C334 C556 0B98 0B9C 0B9D 0D98")[0], "-- -- -- 12 34 56 --")
+
+
+def test_reads(folder):
+    want(one_unit("C301 A300 0BC5 0BC5 0BC5 0B98")[0], "-- -- 77 FF FF 03")
+    want(one_unit("C301 A377 0BC5 0BC5 0B98")[0], "-- -- FF -- 79")
+    want(one_unit("C301 A3FF 0BC5 0B98")[0], "-- -- -- FF")
+    want(one_unit("C302 A300 0BC5 A30F 0BC5 0BC5")[0], "-- -- 0F -- FF --")
+    want(one_unit("C307 A303 0BC5 0B98")[0], "-- -- -- 03")
+
+
+def test_only_a_pair_write_enables(folder):
+    for before, answer in [("0B81 0B81 C301 A302", "55"), ("0B81 C301 A302", "--"), ("0B81 A302 0B81 C301", "--"),
+                           ("0B81 0D98 0B81 C301 A302", "--"), ("0B81 0B81 0BC5 C301 A302", "--"),
+                           ("0B81 0B81 FE00 C301 A302", "--"), ("0B81 0B81 0B90 C301 A302", "--"),
+                           ("0B81 0B81 0DC5 C301 A302", "55"), ("0D81 0D81 C301 A302", "--")]:
+        want(one_unit(before, "C755")[0].split()[-1], answer)
+
+
+def test_the_lock_byte_guards(folder):
+    want(one_unit("0B81 0B81 C301 A303 C712 0B98 0BC5")[0], "-- -- -- -- -- 04 FF")
+    found, unit = one_unit(*OPENED, "C712 0B98 A301 C712 A312 C701 0B98")
+    want(found, "-- -- -- -- 55 12 04 -- -- -- 01 13")
+    want(bytes(unit.banks[1]), blank(x02=0x55, x03=0x12, x12=0x01))
+    found, unit = one_unit(*OPENED, "C302 A303 C712 A302 C755 C713 C712 A303 0BC5")
+    want(found.split()[4:], "55 -- -- -- -- 55 13 12 -- 13".split())
+    want(bytes(unit.banks[1]), blank(x02=0x55))
+
+
+def test_a_write_without_reply(folder):
+    found, unit = one_unit(*OPENED, "C912 C9FF A302 C9FF")
+    want(found.split()[4:], "55 -- -- -- --".split())
+    want(bytes(unit.banks[1]), blank(x03=0x12))
+
+
+def test_losses_and_refusals(folder):
+    found, unit = one_unit(*OPENED, "C712 0B98", lost_frames=[6])
+    want((found.split()[5:], unit.banks[1][3]), (["--", "03"], 0xFF))
+    found, unit = one_unit(*OPENED, "C712 0B98", lost_answers=[6])
+    want((found.split()[5:], unit.banks[1][3]), (["--", "04"], 0x12))
+    found, unit = one_unit(*OPENED, "C712 0B98", refused=[6])
+    want((found.split()[5:], unit.banks[1][3]), (["--", "04"], 0xFF))
+
+
+def test_two_units(folder):
+    units = [simulated_link.Unit(5), simulated_link.Unit(6, fixed=[0x04])]
+    bus = simulated_link.Bus(units)
+    want(answers_of(bus, "0B81 0B81 0D81 0D81 C301 A302 C755 C712 C713 0B98 0D98".split()),
+         "-- -- -- -- -- -- -- -- 13 05 05")
+    want([bytes(unit.banks[1][3:5]) for unit in units], [b"\x12\x13", b"\x12\xff"])
+
+
+def test_a_powered_unit_serves_one_command_after_another(folder):
+    unit = simulated_link.Unit(5)
+    bus = simulated_link.Bus([unit])
+    quiet = ["sh", "-c", 'exec "$@" 2>/dev/null', "sh"]
+    want(simulated_link.serve(bus, [*quiet, *player([*OPENED, "kill"])]), 137)
+    want(simulated_link.serve(bus, [*quiet, *player(["C712", "close", "A377"])]), 7)
+    want((unit.banks[1][2], unit.banks[1][3], unit.is_enabled, bus.frames), (0x55, 0x12, True, 7))
+    unit.power_up()
+    want((unit.banks[1][2], unit.registers, unit.is_enabled), (0xFF, [0, 0, 0], False))
+
+
+def test_units_that_cannot_be(folder):
+    for arguments in [(64,), (-1,), (5, b"\x0f" * 16), (5, b"\x77" * 17), (5, blank(), [2]), (5, blank(), [0x78])]:
+        try:
+            simulated_link.Unit(*arguments)
+        except ValueError:
+            continue
+        raise AssertionError(f"made of {arguments}")
+
+
+# The simulated link with a command
+
+
+def test_stored_runs(folder):
+    for name, options in [("run_gtin_frames", []), ("run_retry_frames", ["--lose-answer", "19"])]:
+        sent = re.findall("^send (....) (..)$", (ROOT / "examples" / f"{name}.stdout").read_text(), re.MULTILINE)
+        assert len(sent) > 90
+        status, answers, _ = run(SIMULATED, ["--folder", folder, *options], [frame for frame, _ in sent])
+        want((status, answers), (7, [answer for _, answer in sent]))
+        want(saved(folder), blank(x03=0x03, x04=0xA4, x05=0xCE, x06=0xEF, x07=0xAD, x08=0xAB))
+        (folder / "unit_5.hex").unlink()
+
+
+def test_the_file_is_as_after_power_down(folder):
+    (folder / "unit_5.hex").write_text(blank(x02=0x55, x03=0x12).hex("\n"))
+    want(run(SIMULATED, ["--folder", folder], "C301 A302 0BC5 0BC5".split())[1], "-- -- FF 12".split())
+    want(run(SIMULATED, ["--folder", folder], [*OPENED, "C713"])[1][-2:], ["55", "13"])
+    want(saved(folder), blank(x03=0x13))
+    want(run(SIMULATED, ["--folder", folder], "0B98 C301 A303 C714 0BC5".split())[1], "00 -- -- -- 13".split())
+    lines = (folder / "unit_5.hex").read_text().splitlines()
+    want((len(lines), lines[0]), (8, "77 FF FF 13 FF FF FF FF FF FF FF FF FF FF FF FF"))
+    want(os.listdir(folder), ["unit_5.hex"])
+
+
+def test_options(folder):
+    options = ["--folder", folder, "--unit", "5", "--unit", "6", "--lose-frame", "8,9", "--lose-frame", "14",
+               "--lose-answer", "10", "--refuse", "11", "--fixed", "5:07", "--frames"]
+    words = [*OPENED, *"C701 C702 0B98 0B98 C703 C704 C705 C706 A300 0B98".split()]
+    status, answers, told = run(SIMULATED, options, words)
+    want((status, answers[5:]), (7, "01 02 -- -- -- -- -- 06 -- 09".split()))
+    want((saved(folder), saved(folder, 6)), (blank(x03=1, x04=2, x05=3, x08=6), blank()))
+    for line in ["frame 6 C701 01\n", "frame 8 0B98 --\n", "frame 15 0B98 09\n"]:
+        assert line in told, told
+
+
+def test_a_killed_command(folder):
+    status, _, _ = run(SIMULATED, ["--folder", folder], [*OPENED, "C712", "kill"])
+    want((status, saved(folder)), (137, blank(x03=0x12)))
+    status, _, told = run(SIMULATED, ["--folder", folder, "--frames"], ["close", "A312"])
+    want((status, told.count("frame")), (7, 1))
+    want(run(SIMULATED, ["--folder", folder], ["A312", "cut"])[0], 7)
+
+
+def test_lines_that_are_no_frame(folder):
+    for line in ["a303", "A30", "A3033", "", "A303 ", " A303", "A303\r", "A" * 200]:
+        status, _, told = run(SIMULATED, ["--folder", folder, "--frames"], ["A312", line, "A313"])
+        assert status == 1 and "isn't four upper-case" in told and told.count("frame ") == 1, (line, status, told)
+
+
+def test_what_cannot_start(folder):
+    (folder / "unit_7.hex").write_text("77 FF F")
+    (folder / "unit_8.hex").write_text("77 FF")
+    for options in [["--unit", "64"], ["--unit", "5", "--unit", "5"], ["--unit", "7"], ["--unit", "8"],
+                    ["--fixed", "6:03"], ["--fixed", "5:02"], ["--fixed", "503"], ["--lose-frame", "0"],
+                    ["--refuse", "x"], ["--folder", folder / "none"]]:
+        status, answers, told = run(SIMULATED, ["--folder", folder, *options], ["A312"])
+        assert status == 2 and answers is None and told and "Traceback" not in told, (options, status, told)
+    want(subprocess.run([SIMULATED, "--folder", folder], stderr=subprocess.DEVNULL).returncode, 2)
+    want(subprocess.run([SIMULATED, "--folder", folder, "--", "/none"], stderr=subprocess.DEVNULL).returncode, 2)
+
+
+def test_a_stopped_link_saves(folder):
+    command = [SIMULATED, "--folder", folder, "--frames", "--", *player([*OPENED, "C712", *50 * ["pause"]])]
+    link = subprocess.Popen(command, stderr=subprocess.PIPE, text=True)
+    assert any("C712" in line for line in link.stderr)
+    link.send_signal(signal.SIGTERM)
+    want(link.wait(5), 130)
+    link.stderr.close()
+    want(saved(folder), blank(x03=0x12))
+
+
+# The serial link with an interface
+
+
+class Interface:
+    """Plays a serial interface on a pseudo-terminal. Each reply is bytes, seconds to wait, or `close` to be gone."""
+
+    def __init__(self, replies):
+        self.line, self.far_line = pty.openpty()
+        tty.setraw(self.far_line)
+        self.device = os.ttyname(self.far_line)
+        self.replies = replies
+        self.heard = []
+        self.thread = threading.Thread(target=self._play, daemon=True)
+        self.thread.start()
+
+    def _play(self):
+        for turn in self.replies:
+            if not self._hear():
+                return
+            for what in turn:
+                if what == "close":
+                    os.close(self.far_line)
+                    os.close(self.line)
+                    self.line = None
+                    return
+                if isinstance(what, bytes):
+                    os.write(self.line, what)
+                else:
+                    time.sleep(what)
+        self._hear(0.3)
+
+    def _hear(self, seconds=3):
+        """Read one line of a frame, where one comes."""
+        text = b""
+        while not text.endswith(b"\r") and select.select([self.line], [], [], seconds)[0]:
+            text += os.read(self.line, 1)
+        if text:
+            self.heard.append(text.decode())
+        return text.endswith(b"\r")
+
+    def close(self):
+        """Wait for the end of what is played, and close the pseudo-terminal."""
+        self.thread.join()
+        if self.line is not None:
+            os.close(self.line)
+            os.close(self.far_line)
+
+
+def over_serial(replies, words):
+    """Run a stand-in command over the serial link; return its status, the answers, what was heard, the text."""
+    interface = Interface(replies)
+    status, answers, told = run(SERIAL, [interface.device], words)
+    interface.close()
+    assert "Traceback" not in told, told
+    return status, answers, interface.heard, told
+
+
+def test_serial_answers(folder):
+    replies = [[b"N\r"], [b"J01\r"], [b"X\r"], [b"J", 0.1, b"aF", 0.1, b"\r"], [0.3, b"N\r"]]
+    words = "C301 0B9C 0B98 0BC5 C712".split()
+    heard = [f"S{word}\r" for word in words]
+    want(over_serial(replies, words), (7, "-- 01 -- aF --".split(), heard, "answers -- 01 -- aF --\n"))
+
+
+def test_serial_silence(folder):
+    status, answers, heard, told = over_serial([[b"N\r"], []], "C301 0B9C A303".split())
+    want((status, answers, heard), (4, ["--", "end"], ["SC301\r", "S0B9C\r"]))
+    assert "no reply" in told, told
+
+
+def test_serial_device_gone(folder):
+    status, answers, heard, _ = over_serial([[b"N\r"], ["close"]], "C301 0B9C A303".split())
+    want((status, answers, heard), (4, ["--", "end"], ["SC301\r", "S0B9C\r"]))
+    status, answers, heard, _ = over_serial([[b"N\r", 0.1, "close"]], "C301 pause 0B9C A303".split())
+    want((status, answers, heard), (4, ["--", "end"], ["SC301\r"]))
+
+
+def test_serial_other_replies(folder):
+    def found(reply):
+        return reply, over_serial([[reply]], "0B9C A303".split())
+
+    replies = [b"J0\r", b"J033\r", b"J01\rN\r", b"\r", b"J01\n\r", b"F\r", b"JG1\r", b"J" * 40]
+    for reply, (status, answers, heard, told) in concurrent.futures.ThreadPoolExecutor(8).map(found, replies):
+        want((reply, status, answers, heard), (reply, 4, ["end"], ["S0B9C\r"]))
+        assert "is none that it may give" in told, told
+
+
+def test_serial_late_answer(folder):
+    interface = Interface([[0.7, b"J55\r"], [b"N\r"], [b"J01\r"]])
+    want(run(SERIAL, [interface.device], ["0B9C", "A303"])[:2], (4, ["end"]))
+    want(run(SERIAL, [interface.device], ["0B98", "0BC5"])[:2], (7, ["--", "01"]))
+    interface.close()
+    want(interface.heard, ["S0B9C\r", "S0B98\r", "S0BC5\r"])
+
+
+def test_serial_stray_reply(folder):
+    want(over_serial([[b"J01\r", 0.05, b"J02\r"], [b"N\r"]], "0B9C pause A303".split())[:2], (7, ["01", "--"]))
+
+
+def test_serial_command_gone(folder):
+    want(over_serial([[b"N\r"]], ["C301", "kill"])[0], 137)
+    want(over_serial([[b"N\r"]], ["close", "C301"]), (7, [], ["SC301\r"], "answers \n"))
+    for line in ["a303", "A30", "A3033"]:
+        status, answers, heard, told = over_serial([[b"N\r"]], ["C301", line])
+        want((status, answers, heard), (4, ["--", "end"], ["SC301\r"]))
+        assert "isn't four upper-case" in told, told
+
+
+def test_serial_cannot_start(folder):
+    interface = Interface([])
+    held = subprocess.Popen([SERIAL, interface.device, "--", *player(["pause"] * 50)], stderr=subprocess.PIPE)
+    time.sleep(0.4)
+    status, answers, told = run(SERIAL, [interface.device], ["A303"])
+    held.terminate()
+    held.wait()
+    held.stderr.close()
+    interface.close()
+    want((status, answers, interface.heard), (2, None, []))
+    assert told.startswith("serial_link: "), told
+    want(run(SERIAL, ["/dev/null"], ["A303"])[:2], (2, None))
+    want(run(SERIAL, [folder / "none"], ["A303"])[:2], (2, None))
+    want(subprocess.run([SERIAL], stderr=subprocess.DEVNULL).returncode, 2)
+
+
+def passes(name):
+    """Run one test in a folder of its own; tell whether it passed."""
+    try:
+        with tempfile.TemporaryDirectory() as folder:
+            globals()[name](pathlib.Path(folder))
+        return True
+    except Exception:
+        print(f"FAILED: {name}\n{traceback.format_exc()}")
+        return False
+
+
+def main():
+    """Run all tests beside each other, and return the status."""
+    names = [name for name in globals() if name.startswith("test_")]
+    with concurrent.futures.ThreadPoolExecutor(8) as pool:
+        results = list(pool.map(passes, names))
+    print(f"{results.count(True)} passed, {results.count(False)} failed")
+    return 0 if all(results) else 1
+
+
+if __name__ == "__main__":
+    sys.exit(main())

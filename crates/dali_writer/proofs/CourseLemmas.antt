@@ -53,7 +53,7 @@ after_saying first (standings.Began order) waits ended orders sent told kept com
 after_saying first (standings.Opened order) waits ended orders sent told kept come = come
 
 -- a frame may be sent to a left unit only while an order waits
-waits_on : (past : List Happening) (unit : ℕ) (frame : Frame) → MaySend past (standings.Left unit) frame → IsSome (waiting past)
+pub waits_on : (past : List Happening) (unit : ℕ) (frame : Frame) → MaySend past (standings.Left unit) frame → IsSome (waiting past)
 waits_on past unit (Dtr0 byte) may = may.1.1
 waits_on past unit (Dtr1 byte) may = may.1.1
 waits_on past unit (AskDtr0 to) may = may.1

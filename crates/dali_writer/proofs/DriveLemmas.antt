@@ -6,7 +6,7 @@ use Rattle.std.proofs.KnownBytes.{Appends-trans, Appends-nil, Consumes-trans, Co
 use Rattle.dali_frame.specs.declared.forward.Frame.{Frame}
 use Rattle.dali_bank.specs.Order.{Contents}
 use Rattle.dali_journal.specs.declared.record.Record.{Record}
-use Rattle.dali_journal.specs.Spelling.{spelling}
+use Rattle.dali_journal.specs.Spelling.{spelling, IsRecord}
 use Rattle.dali_writer.specs.declared.happening.Reply.{Reply}
 use Rattle.dali_writer.specs.declared.happening.Reply.TheVariants as replies
 use Rattle.dali_writer.specs.declared.happening.Happening.{Happening}
@@ -15,7 +15,7 @@ use Rattle.dali_writer.specs.declared.fault.DriveFault.{DriveFault}
 use Rattle.dali_writer.specs.declared.fault.DriveFault.TheVariants.{Journal, Link, Line, End, NoMemory, TooLong, Out}
 use Rattle.dali_writer.specs.Trace.{Start, is_busy}
 use Rattle.dali_writer.specs.Replies.{IsReply}
-use Rattle.dali_writer.specs.Legal.{Legal}
+use Rattle.dali_writer.specs.Legal.{Legal, IsFinished}
 use Rattle.dali_writer.specs.ByPlan.{ByPlan}
 use Rattle.dali_writer.specs.Next.{IsNext}
 use Rattle.dali_writer.specs.Held.{Held}
@@ -24,7 +24,7 @@ use Rattle.dali_writer.specs.Follows.{Follows}
 use Rattle.dali_writer.specs.WorkedOn.{IsDrivenAt}
 use Rattle.dali_writer.specs.Lines.{frame_line, reply_line, TakesLine}
 use Rattle.dali_writer.specs.Transcript.{Streams, Transcript, shown}
-use Rattle.dali_writer.specs.Driven.{IsInTurn, IsDriven, IsNextFrame, BrokenOff, AppendsPart}
+use Rattle.dali_writer.specs.Driven.{IsInTurn, KeepsRecords, IsDriven, IsNextFrame, BrokenOff, AppendsPart}
 
 -- nothing has happened yet
 driven_nothing : (start : Start) (j l a o : Option (List ℕ)) → Legal start [] → IsDriven start [] (shown j l a o) (shown j l a o)
@@ -32,6 +32,7 @@ driven_nothing start j l a o legal = record {
   legal = legal;
   planned = tt;
   in_turn = tt;
+  in_range = tt;
   text = record { heard = []; lines = refl; journal = Appends-nil j; link = Appends-nil l; answers = Consumes-nil a; out = Appends-nil o };
 }
 
@@ -41,19 +42,19 @@ begun_at start writer j l a o described follows = record { driven = driven_nothi
 
 -- what is next was done, and its text written and read
 goes_on : (start : Start) (past : List Happening) (next : Happening) (first old new : Streams) → IsDriven start past first old → IsNext start past next
-    → (IsInTurn start past → IsInTurn start (next ∷ past)) → Transcript (next ∷ past) first new → IsDriven start (next ∷ past) first new
-goes_on start past next first old new d is turn text =
-    record { legal = (d.legal, is.may); planned = (d.planned, is.planned); in_turn = turn d.in_turn; text = text }
+    → (IsInTurn start past → IsInTurn start (next ∷ past)) → (KeepsRecords past → KeepsRecords (next ∷ past)) → Transcript (next ∷ past) first new → IsDriven start (next ∷ past) first new
+goes_on start past next first old new d is turn range text =
+    record { legal = (d.legal, is.may); planned = (d.planned, is.planned); in_turn = turn d.in_turn; in_range = range d.in_range; text = text }
 
 pub keeps_on : (start : Start) (past : List Happening) (first : Streams) (j more l a o : Option (List ℕ)) (entry : Record) → IsDriven start past first (shown j l a o)
-    → IsNext start past (Kept entry) → Appends j more (spelling entry) → IsDriven start (Kept entry ∷ past) first (shown more l a o)
-keeps_on start past first j more l a o entry d next added = goes_on start past (Kept entry) first (shown j l a o) (shown more l a o) d next (λ t. t)
+    → IsNext start past (Kept entry) → IsRecord entry → Appends j more (spelling entry) → IsDriven start (Kept entry ∷ past) first (shown more l a o)
+keeps_on start past first j more l a o entry d next range added = goes_on start past (Kept entry) first (shown j l a o) (shown more l a o) d next (λ t. t) (λ t. (range, t))
     (record { heard = d.text.heard; lines = d.text.lines; journal = Appends-trans _ _ _ _ _ d.text.journal added; link = d.text.link; answers = d.text.answers; out = d.text.out })
 
 pub sends_on : (start : Start) (past : List Happening) (first : Streams) (j l more a less o : Option (List ℕ)) (frame : Frame) (answer : Option ℕ)
     → IsDriven start past first (shown j l a o) → IsNext start past (Sent frame answer) → Appends l more (frame_line frame) → TakesLine a less (Ok answer)
     → IsDriven start (Sent frame answer ∷ past) first (shown j more less o)
-sends_on start past first j l more a less o frame answer d next added taken = goes_on start past (Sent frame answer) first (shown j l a o) (shown j more less o) d next (λ t. t) (record {
+sends_on start past first j l more a less o frame answer d next added taken = goes_on start past (Sent frame answer) first (shown j l a o) (shown j more less o) d next (λ t. t) (λ t. t) (record {
   heard = d.text.heard ++ taken.0;
   lines = (d.text.heard, taken.0, d.text.lines, taken.1, refl);
   journal = d.text.journal;
@@ -64,7 +65,7 @@ sends_on start past first j l more a less o frame answer d next added taken = go
 
 pub says_on : (start : Start) (past : List Happening) (first : Streams) (j l a o more : Option (List ℕ)) (id : ℕ) (reply : Reply) → IsDriven start past first (shown j l a o)
     → IsNext start past (Answered id reply) → Appends o more (reply_line id reply) → IsDriven start (Answered id reply ∷ past) first (shown j l a more)
-says_on start past first j l a o more id reply d next added = goes_on start past (Answered id reply) first (shown j l a o) (shown j l a more) d next (λ t. t)
+says_on start past first j l a o more id reply d next added = goes_on start past (Answered id reply) first (shown j l a o) (shown j l a more) d next (λ t. t) (λ t. t)
     (record { heard = d.text.heard; lines = d.text.lines; journal = d.text.journal; link = d.text.link; answers = d.text.answers; out = Appends-trans _ _ _ _ _ d.text.out added })
 
 -- an order was asked, and nothing written
@@ -74,6 +75,7 @@ asks_on start past first now order d quiet legal = record {
   legal = legal;
   planned = (d.planned, tt);
   in_turn = (quiet, d.in_turn);
+  in_range = d.in_range;
   text = record { heard = d.text.heard; lines = d.text.lines; journal = d.text.journal; link = d.text.link; answers = d.text.answers; out = d.text.out };
 }
 
@@ -122,9 +124,9 @@ part_of_it : (old new : Option (List ℕ)) (bytes : List ℕ) → IsCut old new 
 part_of_it old new bytes cut = record { count = cut.0; within = cut.1; part = cut.2 }
 
 pub breaks_record : (start : Start) (past : List Happening) (rest : List Contents) (j more l a o : Option (List ℕ)) (entry : Record) → IsNext start past (Kept entry)
-    → IsCut j more (spelling entry) → BrokenOff start past rest Journal (shown j l a o) (shown more l a o)
-breaks_record start past rest j more l a o entry next cut =
-    (entry, next, record { journal = part_of_it j more (spelling entry) cut; link = Keeps-refl l; answers = Keeps-refl a; out = Keeps-refl o })
+    → IsRecord entry → IsCut j more (spelling entry) → BrokenOff start past rest Journal (shown j l a o) (shown more l a o)
+breaks_record start past rest j more l a o entry next range cut =
+    (entry, next, record { in_range = range; journal = part_of_it j more (spelling entry) cut; link = Keeps-refl l; answers = Keeps-refl a; out = Keeps-refl o })
 
 pub breaks_frame : (start : Start) (past : List Happening) (rest : List Contents) (j l more a o : Option (List ℕ)) (frame : Frame) → IsNextFrame start past frame
     → IsCut l more (frame_line frame) → BrokenOff start past rest Link (shown j l a o) (shown j more a o)
@@ -136,9 +138,9 @@ pub breaks_saying : (start : Start) (past : List Happening) (rest : List Content
 breaks_saying start past rest j l a o more id reply next cut =
     (id, reply, next, record { journal = Keeps-refl j; link = Keeps-refl l; answers = Keeps-refl a; out = part_of_it o more (reply_line id reply) cut })
 
-pub breaks_memory : (start : Start) (past : List Happening) (order : Contents) (rest : List Contents) (j l a o : Option (List ℕ)) → is_busy start past ≡ false
-    → IsReply start past order replies.Taken → BrokenOff start past (order ∷ rest) NoMemory (shown j l a o) (shown j l a o)
-breaks_memory start past order rest j l a o quiet due = (quiet, due, record { journal = Keeps-refl j; link = Keeps-refl l; answers = Keeps-refl a; out = Keeps-refl o })
+pub breaks_memory : (start : Start) (past : List Happening) (order : Contents) (rest : List Contents) (j l a o : Option (List ℕ)) → IsFinished past
+    → is_busy start past ≡ false → IsReply start past order replies.Taken → BrokenOff start past (order ∷ rest) NoMemory (shown j l a o) (shown j l a o)
+breaks_memory start past order rest j l a o finished quiet due = (finished, quiet, due, record { journal = Keeps-refl j; link = Keeps-refl l; answers = Keeps-refl a; out = Keeps-refl o })
 
 pub breaks_reading : (fault : DriveFault) (start : Start) (past : List Happening) (rest : List Contents) (j l more a less o : Option (List ℕ)) (frame : Frame) → IsNextFrame start past frame
     → Appends l more (frame_line frame) → TakesLine a less (Err fault) → BrokenOff start past rest fault (shown j l a o) (shown j more less o)

@@ -198,9 +198,10 @@ joined_legal start next past (newest ∷ more) legal finished records limit afte
 pub joined_planned : (start next : Start) (past more : List Happening) → ByPlan start past → next.records ≡ records_of start past → ByPlan next more
     → ByPlan start (more ++ Stopped ∷ past)
 joined_planned start next past [] planned same after = (planned, tt)
-joined_planned start next past (newest ∷ more) planned same after =
-    (joined_planned start next past more planned same after.0,
-    planned_too start next (more ++ Stopped ∷ past) more newest (joined_records start next past more same) (joined_told past more) after.1)
+joined_planned start next past (newest ∷ more) planned same after = (
+  joined_planned start next past more planned same after.0,
+  planned_too start next (more ++ Stopped ∷ past) more newest (joined_records start next past more same) (joined_told past more) after.1,
+)
 
 pub joined_finished : (past more : List Happening) → IsFinished more → IsFinished (more ++ Stopped ∷ past)
 joined_finished past [] finished = tt
@@ -220,8 +221,7 @@ joined_sittings start [] follow = (follow, tt, tt)
 joined_sittings start (first ∷ []) follow = first_sitting start first follow
 joined_sittings start (newest ∷ last ∷ older) follow =
     let before = joined_sittings start (last ∷ older) follow.5 in
-    let past = joined (last ∷ older) in
-    (
+    let past = joined (last ∷ older) in (
       joined_legal start newest.start past newest.past before.0 before.2 follow.3 follow.4 follow.0,
       joined_planned start newest.start past newest.past before.1 follow.3 follow.1,
       joined_finished past newest.past follow.2,

@@ -27,7 +27,9 @@ pub mod CourseLemmas
 pub mod NextRecordLemmas
 pub mod WantLemmas
 pub mod DriveLemmas
+pub mod SittingLemmas
 pub mod WorkLemmas
+pub mod NextLemmas
 pub mod SparedLemmas
 pub mod ValidLemmas
 pub mod OnsetLemmas

@@ -73,14 +73,14 @@ none_next (standings.Left unit) (Some order) told entry idle none next = cc
 none_next (standings.Began order) waits told entry idle none next = cc
 none_next (standings.Opened order) waits told entry idle none next = cc
 
-ends_check : (order : Contents) (verdict : Verdict) (entry : Record) → EndsIn (standings.Began order) verdict entry → Keep (check_record order.unit verdict) ≡ Keep entry
+pub ends_check : (order : Contents) (verdict : Verdict) (entry : Record) → EndsIn (standings.Began order) verdict entry → Keep (check_record order.unit verdict) ≡ Keep entry
 ends_check order verdicts.MayOpen entry ends = ap Keep (sym ends)
 ends_check order verdicts.Short entry ends = ap Keep (sym ends)
 ends_check order verdicts.Format entry ends = ap Keep (sym ends)
 ends_check order verdicts.Silent entry ends = ap Keep (sym ends)
 ends_check order _ entry ends = absurd ends
 
-ends_write : (order : Contents) (verdict : Verdict) (entry : Record) → EndsIn (standings.Opened order) verdict entry → Keep (Ended (write_code verdict)) ≡ Keep entry
+pub ends_write : (order : Contents) (verdict : Verdict) (entry : Record) → EndsIn (standings.Opened order) verdict entry → Keep (Ended (write_code verdict)) ≡ Keep entry
 ends_write order verdicts.Done entry ends = ap Keep (sym ends)
 ends_write order verdicts.Doubt entry ends = ap Keep (sym ends)
 ends_write order verdicts.DoubtOpen entry ends = ap Keep (sym ends)

@@ -226,7 +226,7 @@ ended_earned first order code sent (verdict, told, older, parts, inl (ends, want
 ended_earned first order code sent (verdict, told, older, parts, inr (ends, wants, opened)) = opened_earned first order code sent told older verdict parts ends wants opened
 
 -- where an order has just ended, none is at work
-ended_idle : (start : Start) (past : List Happening) → Legal start past → has_ended past ≡ true → is_at_work (standing_at start past) ≡ false
+pub ended_idle : (start : Start) (past : List Happening) → Legal start past → has_ended past ≡ true → is_at_work (standing_at start past) ≡ false
 ended_idle start [] legal e = cc
 ended_idle start (Asked order ∷ past) legal e = ended_idle start past legal.0 e
 ended_idle start (Answered id reply ∷ Asked order ∷ past) legal e = ended_idle start past legal.0.0 e

@@ -4,7 +4,7 @@ use Rattle.std.specs.Io.KnownBytes.{Appends, Keeps}
 use Rattle.dali_frame.specs.declared.forward.Frame.{Frame}
 use Rattle.dali_bank.specs.Order.{Contents}
 use Rattle.dali_journal.specs.declared.record.Record.{Record}
-use Rattle.dali_journal.specs.Spelling.{spelling}
+use Rattle.dali_journal.specs.Spelling.{spelling, IsRecord}
 use Rattle.dali_writer.specs.declared.happening.Reply.{Reply}
 use Rattle.dali_writer.specs.declared.happening.Reply.TheVariants as replies
 use Rattle.dali_writer.specs.declared.happening.Happening.{Happening}
@@ -13,7 +13,7 @@ use Rattle.dali_writer.specs.declared.fault.DriveFault.{DriveFault}
 use Rattle.dali_writer.specs.declared.fault.DriveFault.TheVariants.{Journal, Link, Line, End, NoMemory, TooLong, Out}
 use Rattle.dali_writer.specs.Trace.{Start, is_busy}
 use Rattle.dali_writer.specs.Replies.{IsReply}
-use Rattle.dali_writer.specs.Legal.{Legal}
+use Rattle.dali_writer.specs.Legal.{Legal, IsFinished}
 use Rattle.dali_writer.specs.ByPlan.{ByPlan}
 use Rattle.dali_writer.specs.Next.{IsNext}
 use Rattle.dali_writer.specs.Held.{Held, IsAtRest}
@@ -39,11 +39,18 @@ IsInTurn start (Asked order ∷ past) = (is_busy start past ≡ false) × IsInTu
 IsInTurn start (Stopped ∷ past) = ⊥
 IsInTurn start (other ∷ past) = IsInTurn start past
 
+-- the numbers of each record that was kept are in their ranges
+abbrev pub KeepsRecords : List Happening → Type 0
+KeepsRecords [] = Unit {0}
+KeepsRecords (Kept entry ∷ past) = IsRecord entry × KeepsRecords past
+KeepsRecords (other ∷ past) = KeepsRecords past
+
 -- this trace was driven: each happening was one that might follow those before it and that the plan asked for, and the trace's text was written and read
 pub record IsDriven (start : Start) (past : List Happening) (first last : Streams) : Type 0 where
   pub legal : Legal start past
   pub planned : ByPlan start past
   pub in_turn : IsInTurn start past
+  pub in_range : KeepsRecords past
   pub text : Transcript past first last
 
 -- A step that a fault broke off
@@ -63,6 +70,7 @@ pub record NoMore (old new : Streams) : Type 0 where
 
 -- a part of a record was written
 pub record CutRecord (entry : Record) (old new : Streams) : Type 0 where
+  pub in_range : IsRecord entry
   pub journal : AppendsPart old.journal new.journal (spelling entry)
   pub link : Keeps old.link new.link
   pub answers : Keeps old.answers new.answers
@@ -97,7 +105,7 @@ IsNextFrame start past frame = (answer : Option ℕ) → IsNext start past (Sent
 abbrev pub BrokenOff : Start → List Happening → List Contents → DriveFault → Streams → Streams → Type 0
 BrokenOff start past rest Journal old new = (entry : Record) × IsNext start past (Kept entry) × CutRecord entry old new
 BrokenOff start past rest Link old new = (frame : Frame) × IsNextFrame start past frame × (CutFrame frame old new ⊎ Unanswered frame Link old new)
-BrokenOff start past (order ∷ rest) NoMemory old new = (is_busy start past ≡ false) × IsReply start past order replies.Taken × NoMore old new
+BrokenOff start past (order ∷ rest) NoMemory old new = IsFinished past × (is_busy start past ≡ false) × IsReply start past order replies.Taken × NoMore old new
 BrokenOff start past [] NoMemory old new = ⊥
 BrokenOff start past rest Out old new = (id : ℕ) × (reply : Reply) × IsNext start past (Answered id reply) × CutReply id reply old new
 BrokenOff start past rest fault old new = (frame : Frame) × IsNextFrame start past frame × Unanswered frame fault old new

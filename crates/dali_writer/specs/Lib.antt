@@ -32,3 +32,4 @@ pub mod Lines
 pub mod Transcript
 pub mod Driven
 pub mod WorkedOn
+pub mod Sittings

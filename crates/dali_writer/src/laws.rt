@@ -1,16 +1,25 @@
 //! Laws of a writer, over its definitions alone. Each is the contract of a function that does nothing.
 
-ghost use Rattle.std.specs.Prelude.{◌≡◌, ◌+◌, ◌*◌, ◌<◌, ◌≤◌, ℕ, List, length};
+ghost use Rattle.std.specs.Prelude.{◌≡◌, ◌+◌, ◌*◌, ◌<◌, ◌≤◌, ℕ, List, Some, length};
 ghost use Rattle.dali_journal.specs.declared.standing.Standing.TheVariants as standings;
 ghost use Rattle.dali_write.specs.Plans.{greatest};
 ghost use Rattle.dali_writer.specs.Work.{work_limit, frames_from};
 ghost use Rattle.dali_writer.specs.declared.happening.Happening.{Happening};
+ghost use Rattle.dali_bank.specs.Order.{Contents};
+ghost use Rattle.dali_journal.specs.Spelling.{journal_spelling};
+ghost use Rattle.dali_journal.specs.Loading.{AreKept};
+ghost use Rattle.dali_writer.specs.declared.fault.DriveFault.{DriveFault};
 ghost use Rattle.dali_writer.specs.WhenKept.{WhenKept};
+ghost use Rattle.dali_writer.specs.Held.{Held};
+ghost use Rattle.dali_writer.specs.Transcript.{Streams};
+ghost use Rattle.dali_writer.specs.Driven.{IsDrive, IsBrokenDrive};
+ghost use Rattle.dali_writer.specs.Sittings.{IsFileOf, after, AreSittings, LeavesFile};
 ghost use Rattle.dali_writer.specs.Trace.{Start};
 ghost use Rattle.dali_writer.specs.Legal.{Legal, IsFinished};
 ghost use Rattle.dali_writer.specs.Steps.{IsSaidInTime};
 ghost use Rattle.dali_writer.specs.ByPlan.{ByPlan};
-ghost use Rattle.dali_writer.specs.Joined.{Sitting, FollowOn, IsOneTrace, SittingsAreRight};
+ghost use Rattle.dali_writer.specs.Joined.{Sitting, joined, FollowOn, IsOneTrace, SittingsAreRight};
+ghost use Rattle.dali_writer.specs.Next.{IsNext, IsSameBut};
 ghost use Rattle.dali_writer.specs.Work.{IsWorked};
 ghost use Rattle.dali_writer.specs.Law.{Always, FitsAt, OnlyNamedAt, AppliedAt, RecordsAreASentence, TakenOrdersAreKept, OneReplyIsDue, RepeatsAreAnswered, RepeatsAreQuiet, QuietUntilTaken};
 
@@ -89,4 +98,27 @@ pub fn sittings_are_one_trace()
 /// that is in no doubt is as the journal says, and when a record is kept, what it says is so.
 pub fn every_moment_of_sittings_is_right()
     ensures { SittingsAreRight }
+{}
+
+/// After a legal trace one thing is next at most: one record, one frame, one saying, or the reply that is due.
+pub fn one_thing_is_next()
+    ensures { (start : Start) (past : List Happening) (one other : Happening)
+        → Legal start past → IsNext start past one → IsNext start past other → IsSameBut one other }
+{}
+
+/// A drive from the bytes of its start's records leaves the journal's file with whole records, and behind them at most a cut
+/// one: those of its trace where it came to its end, and else those of what may have happened.
+pub fn drives_leave_their_journal()
+    ensures driven { (start : Start) (orders : List Contents) (writer : Held) (first last : Streams) (d : IsDrive start orders first writer last)
+        → AreKept start.limit start.records → first.journal ≡ Some (journal_spelling start.records) → LeavesFile start d.past last }
+    ensures broken { (start : Start) (orders : List Contents) (fault : DriveFault) (first last : Streams) (b : IsBrokenDrive start orders fault first last)
+        → AreKept start.limit start.records → first.journal ≡ Some (journal_spelling start.records) → LeavesFile start b.past last }
+{}
+
+/// Drives one after another, however many and however each ended, each from the journal that is loaded from the file that the
+/// one before it left, are sittings that follow on. So together they are one legal trace that keeps to the plans, every
+/// moment of it is right, and the file is again that of its records.
+pub fn drives_follow_on()
+    ensures { (start : Start) (first last : List ℕ) (len : ℕ) (sittings : List Sitting) → IsFileOf first start len → AreSittings start.limit first sittings last
+        → FollowOn start sittings × (count : ℕ) × IsFileOf last (after start (joined sittings)) count }
 {}

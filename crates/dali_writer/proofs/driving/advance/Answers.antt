@@ -9,7 +9,7 @@ use Rattle.dali_writer.proofs.driving.advance.Goals as goal
 pub returns-then-not-send-clause-worked : goal.returns-then-not-send-clause-worked
 returns-then-not-send-clause-worked g c = λ start past first d.
     let next = c.in-Keep.ensures.done start past d.described d.follows (Kept c.in-Keep.entry) refl in
-    (past, _, d.driven, λ rest. breaks_record start past rest _ _ _ _ _ c.in-Keep.entry next (subst (IsCut _ _) (c.deref.ensures.0 ∙ c.bytes.ensures.spelled) (c.if-not-send.ensures.cut refl)), refl)
+    (past, _, d.driven, λ rest. breaks_record start past rest _ _ _ _ _ c.in-Keep.entry next (c.bytes.ensures.in_range (c.in-Keep.ensures.short c.in-Keep.entry refl)) (subst (IsCut _ _) (c.deref.ensures.0 ∙ c.bytes.ensures.spelled) (c.if-not-send.ensures.cut refl)), refl)
 
 pub returns-then-not-send-2-clause-worked : goal.returns-then-not-send-2-clause-worked
 returns-then-not-send-2-clause-worked g c = λ start past first d. (
@@ -48,6 +48,7 @@ returns-else-not-send-clause-worked g c = λ start past first d. (
   Kept c.in-Keep.entry ∷ past,
   record {
     driven = keeps_on start past first _ _ _ _ _ c.in-Keep.entry d.driven (c.in-Keep.ensures.done start past d.described d.follows (Kept c.in-Keep.entry) refl)
+        (c.bytes.ensures.in_range (c.in-Keep.ensures.short c.in-Keep.entry refl))
         (subst (Appends _ _) (c.deref.ensures.0 ∙ c.bytes.ensures.spelled) (c.if-not-send.ensures.whole refl));
     described = c.kept.ensures.described start past c.in-Keep.entry (sym c.in-Keep.ensures.phase) d.described;
     follows = c.kept.ensures.follows start past c.in-Keep.entry (sym c.in-Keep.ensures.phase) d.described d.follows;

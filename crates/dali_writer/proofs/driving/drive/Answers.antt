@@ -57,7 +57,7 @@ returns-in_default-clause-broken g c =
       middle = _;
       driven = i.driven.driven;
       asked = asked_then _ _ c.loop-order.order-index _ _ c.loop-order-test.true c.order-item.is i.orders;
-      broken = breaks_memory start i.past order rest _ _ _ _ i.quiet due;
+      broken = breaks_memory start i.past order rest _ _ _ _ i.driven.described.finished i.quiet due;
     }
 
 pub returns-then-not-put_all-clause-broken : goal.returns-then-not-put_all-clause-broken

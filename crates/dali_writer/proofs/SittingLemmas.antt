@@ -7,6 +7,8 @@ use Rattle.std.specs.List.{AllByRecursion}
 use Rattle.std.specs.Io.KnownBytes.{Appends, Keeps}
 use Rattle.dali_bank.specs.Order.{Contents}
 use Rattle.dali_frame.specs.declared.forward.Frame.{Frame}
+use Rattle.dali_gear.specs.World.{World}
+use Rattle.dali_gear.specs.Chain.{IsChain}
 use Rattle.dali_journal.specs.declared.record.Code.TheVariants.{Done}
 use Rattle.dali_journal.specs.declared.record.Record.{Record}
 use Rattle.dali_journal.specs.declared.record.Record.TheVariants.{Ended}
@@ -27,8 +29,11 @@ use Rattle.dali_writer.specs.Held.{Held}
 use Rattle.dali_writer.specs.Transcript.{Streams, recorded}
 use Rattle.dali_writer.specs.Driven.{KeepsRecords, IsDriven, IsDrive, IsBrokenDrive, BrokenOff, AppendsPart, CutFrame, Unanswered}
 use Rattle.dali_writer.specs.Joined.{Sitting, joined, FollowOn}
-use Rattle.dali_writer.specs.Sittings.{IsFileOf, after, MayHaveHappened, WasDriven, IsSitting, AreSittings, LeavesFile}
-use Rattle.dali_writer.proofs.JoinLemmas.{joined_records}
+use Rattle.dali_writer.specs.Moves.{Moves}
+use Rattle.dali_writer.specs.Fits.{Fits, OnlyNamed}
+use Rattle.dali_writer.specs.Sittings.{IsFileOf, after, MayHaveHappened, WasDriven, IsSitting, AreSittings, LeavesFile, ActOnce}
+use Rattle.dali_writer.proofs.JoinLemmas.{joined_records, joined_sittings, sittings_right}
+use Rattle.dali_writer.proofs.TakenLemmas.{kept_are_taken}
 use Rattle.dali_writer.proofs.RepeatLemmas.{legal_sentence}
 use Rattle.dali_writer.proofs.StopLemmas.{cut_of_none, cut_of_some}
 
@@ -230,3 +235,16 @@ sittings_follow start first last len (newest ∷ older) is (before, sat, limit, 
       one.count,
       subst (λ (s : Start). IsFileOf last s one.count) now one.file,
     )
+
+pub act_once : (zero : World) (start : Start) (first left : List ℕ) (len : ℕ) (sittings : List Sitting) (now last : World) (states : List World) → IsFileOf first start len
+    → AreSittings start.limit first sittings left → Fits zero start.records now → OnlyNamed start.records now → IsChain Moves now (joined sittings) last states
+    → ActOnce zero start sittings left last states
+act_once zero start first left len sittings now last states is sat fits only chain =
+    let all = sittings_follow start first left len sittings is sat in
+    let one = joined_sittings start sittings all.0 in record {
+      trace = one;
+      count = all.1;
+      file = all.2;
+      once = kept_are_taken start (joined sittings) one.0;
+      right = sittings_right zero start sittings now last states all.0 fits only chain;
+    }

@@ -1,6 +1,8 @@
 -- Drives one after another, each from the journal that is loaded from what the one before it left in the file.
-use Rattle.std.specs.Prelude.{◌≡◌, ◌⊎◌, ℕ, List, [], ◌∷◌, Some, take}
+use Rattle.std.specs.Prelude.{◌≡◌, ◌⊎◌, ◌++◌, ℕ, List, [], ◌∷◌, Some, take}
 use Rattle.dali_bank.specs.Order.{Contents}
+use Rattle.dali_gear.specs.World.{World}
+use Rattle.dali_gear.specs.Chain.{AtEachMoment}
 use Rattle.dali_journal.specs.Loading.{AreKept, IsTorn}
 use Rattle.dali_writer.specs.declared.fault.DriveFault.{DriveFault}
 use Rattle.dali_writer.specs.declared.happening.Happening.{Happening}
@@ -9,7 +11,9 @@ use Rattle.dali_writer.specs.Legal.{IsFinished}
 use Rattle.dali_writer.specs.Next.{IsNext}
 use Rattle.dali_writer.specs.Transcript.{Streams}
 use Rattle.dali_writer.specs.Driven.{IsDriven, IsBrokenDrive}
-use Rattle.dali_writer.specs.Joined.{Sitting, joined, FollowOn}
+use Rattle.dali_writer.specs.Taken.{taken_orders, begun_orders}
+use Rattle.dali_writer.specs.Law.{IsRight}
+use Rattle.dali_writer.specs.Joined.{Sitting, joined, IsOneTrace}
 
 -- a journal's file: the bytes of these records, so many, and behind them at most a cut one. That is what `Journal::load` finds in them
 pub record IsFileOf (bytes : List ℕ) (start : Start) (len : ℕ) : Type 0 where
@@ -58,3 +62,11 @@ pub record LeavesFile (start : Start) (trace : List Happening) (last : Streams) 
   pub held : last.journal ≡ Some left
   pub count : ℕ
   pub file : IsFileOf left (after start past) count
+
+-- What a bench may rely on that is switched off and on again any number of times: all that happened is one legal trace that keeps to the plans, the file is again that of its records, the orders that were begun are the taken ones, each once, and every moment is right.
+pub record ActOnce (zero : World) (start : Start) (sittings : List Sitting) (left : List ℕ) (last : World) (states : List World) : Type 0 where
+  pub trace : IsOneTrace start sittings
+  pub count : ℕ
+  pub file : IsFileOf left (after start (joined sittings)) count
+  pub once : begun_orders (records_of start (joined sittings)) ≡ taken_orders (joined sittings) ++ begun_orders start.records
+  pub right : AtEachMoment (IsRight zero start) (joined sittings) last states

@@ -13,7 +13,11 @@ ghost use Rattle.dali_writer.specs.WhenKept.{WhenKept};
 ghost use Rattle.dali_writer.specs.Held.{Held};
 ghost use Rattle.dali_writer.specs.Transcript.{Streams};
 ghost use Rattle.dali_writer.specs.Driven.{IsDrive, IsBrokenDrive};
-ghost use Rattle.dali_writer.specs.Sittings.{IsFileOf, after, AreSittings, LeavesFile};
+ghost use Rattle.dali_gear.specs.World.{World};
+ghost use Rattle.dali_gear.specs.Chain.{IsChain};
+ghost use Rattle.dali_writer.specs.Moves.{Moves};
+ghost use Rattle.dali_writer.specs.Fits.{Fits, OnlyNamed};
+ghost use Rattle.dali_writer.specs.Sittings.{IsFileOf, AreSittings, LeavesFile, ActOnce};
 ghost use Rattle.dali_writer.specs.Trace.{Start};
 ghost use Rattle.dali_writer.specs.Legal.{Legal, IsFinished};
 ghost use Rattle.dali_writer.specs.Steps.{IsSaidInTime};
@@ -116,9 +120,12 @@ pub fn drives_leave_their_journal()
 {}
 
 /// Drives one after another, however many and however each ended, each from the journal that is loaded from the file that the
-/// one before it left, are sittings that follow on. So together they are one legal trace that keeps to the plans, every
-/// moment of it is right, and the file is again that of its records.
-pub fn drives_follow_on()
-    ensures { (start : Start) (first last : List ℕ) (len : ℕ) (sittings : List Sitting) → IsFileOf first start len → AreSittings start.limit first sittings last
-        → FollowOn start sittings × (count : ℕ) × IsFileOf last (after start (joined sittings)) count }
+/// one before it left, over one chain of worlds from a world that fits the start world and the start records and in which no
+/// unit is write-enabled but the one that they name: together they act as one, and each order once.
+pub fn drives_act_once()
+    ensures follow { (start : Start) (first left : List ℕ) (len : ℕ) (sittings : List Sitting) → IsFileOf first start len → AreSittings start.limit first sittings left → FollowOn start sittings }
+    ensures once { (zero : World) (start : Start) (first left : List ℕ) (len : ℕ) (sittings : List Sitting) (now last : World) (states : List World)
+        → IsFileOf first start len → AreSittings start.limit first sittings left
+        → Fits zero start.records now → OnlyNamed start.records now → IsChain Moves now (joined sittings) last states
+        → ActOnce zero start sittings left last states }
 {}

@@ -28,6 +28,7 @@ pub mod NextRecordLemmas
 pub mod WantLemmas
 pub mod DriveLemmas
 pub mod SittingLemmas
+pub mod WorkedDriveLemmas
 pub mod WorkLemmas
 pub mod NextLemmas
 pub mod SparedLemmas

@@ -206,7 +206,7 @@ driven_so start past first last (inl driven) = (driven.legal, driven.planned)
 driven_so start past first last (inr (orders, fault, broken, may)) = happened start broken.past past broken.driven.legal broken.driven.planned may
 
 -- a file is that of no other records
-one_file : (bytes : List ℕ) (one other : Start) (len count : ℕ) → one.limit ≡ other.limit → IsFileOf bytes one len → IsFileOf bytes other count → other.records ≡ one.records
+pub one_file : (bytes : List ℕ) (one other : Start) (len count : ℕ) → one.limit ≡ other.limit → IsFileOf bytes one len → IsFileOf bytes other count → other.records ≡ one.records
 one_file bytes one other len count limit is also =
     ((torn_no_fault one.limit bytes one.records len is.kept is.torn).1 other.records count (rw limit also.kept) also.torn).0
 

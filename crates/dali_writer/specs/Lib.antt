@@ -26,6 +26,7 @@ pub mod WorkLeft
 pub mod Worked
 pub mod WorkedPlans
 pub mod WorkedLosses
+pub mod WorkedDrives
 pub mod Next
 pub mod Streams
 pub mod Lines

@@ -4,4 +4,5 @@ mod gtin;
 mod losses;
 mod stops;
 mod worked;
+mod worked_drives;
 mod worked_plans;

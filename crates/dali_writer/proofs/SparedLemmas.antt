@@ -294,7 +294,7 @@ looked first order bank verdict sent told older begun last run idle onset kind f
       verdict_is = end.2.ends ∙ like_found bank clear.now.bank1 order.updates clear.like;
       now = end.2.now;
       alone = end.2.alone;
-      like = subst (λ (b : BankState). OnlyDiffers bank 2 b) (sym end.2.bank) clear.like;
+      like = subst (λ (b : BankState). OnlyDiffers bank 2 b) {y = end.2.now.bank1} (sym {a = end.2.now.bank1} end.2.bank) clear.like;
       few = omega arith;
     }
 

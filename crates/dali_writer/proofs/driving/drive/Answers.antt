@@ -7,7 +7,8 @@ use Rattle.dali_writer.specs.Describes.{Describes}
 use Rattle.dali_writer.specs.Follows.{Follows}
 use Rattle.dali_writer.specs.Lines.{reply_line}
 use Rattle.dali_writer.specs.Transcript.{Streams, shown}
-use Rattle.dali_writer.specs.Driven.{start_of}
+use Rattle.dali_writer.specs.Driven.{start_of, orders_asked}
+use Rattle.dali_writer.specs.declared.happening.Happening.TheVariants.{Asked}
 use Rattle.dali_writer.specs.WorkedOn.{IsDrivenAt}
 use Rattle.dali_writer.proofs.DriveLemmas.{begun_at, replied_at, reply_next, breaks_saying, breaks_memory, IsCut, asks_on, asked_more, asked_so_far, asked_then, asked_all}
 use Rattle.dali_writer.proofs.driving.drive.Goals as goal
@@ -32,7 +33,7 @@ returns-clause-driven g c =
     record {
       past = i.past;
       driven = i.driven.driven;
-      asked = asked_all _ _ _ c.loop-order-test.false i.orders;
+      asked = asked_all c.args.orders.now (orders_asked i.past) c.loop-order.order-index c.loop-order-test.false i.orders;
       quiet = i.quiet;
       described = i.driven.described;
       follows = i.driven.follows;
@@ -42,7 +43,8 @@ pub returns-in_err-work-clause-broken : goal.returns-in_err-work-clause-broken
 returns-in_err-work-clause-broken g c =
     let w = c.in_err-work.ensures.worked (start_of c.args.writer) [] _ (begun_at (start_of c.args.writer) c.args.writer _ _ _ _ c.rest.ensures.described c.rest.ensures.follows) in
     let p = err_from_is_err_and c.from_residual.result c.from_residual.ensures.1 in
-    rw (p.1, p.2) (record { past = w.0; rest = c.args.orders.now; middle = w.1; driven = w.2; asked = asked_so_far _ _ 0 w.4; broken = w.3 c.args.orders.now })
+    let all : List Contents = c.args.orders.now in
+    rw (p.1, p.2) (record { past = w.0; rest = all; middle = w.1; driven = w.2; asked = asked_so_far all (orders_asked w.0) 0 w.4; broken = w.3 all })
 
 pub returns-in_default-clause-broken : goal.returns-in_default-clause-broken
 returns-in_default-clause-broken g c =
@@ -50,13 +52,14 @@ returns-in_default-clause-broken g c =
     let start = start_of c.args.writer in
     let due = rw c.copy.ensures.value at (c.in_default.ensures.due start i.past i.driven.described) in
     let order : Contents = c.order-item.result in
-    let rest = drop (suc c.loop-order.order-index) c.args.orders.now in
+    let all : List Contents = c.args.orders.now in
+    let rest = drop (suc c.loop-order.order-index) all in
     record {
       past = i.past;
       rest = order ∷ rest;
       middle = _;
       driven = i.driven.driven;
-      asked = asked_then _ _ c.loop-order.order-index _ _ c.loop-order-test.true c.order-item.is i.orders;
+      asked = asked_then all (orders_asked i.past) c.loop-order.order-index _ order c.loop-order-test.true c.order-item.is i.orders;
       broken = breaks_memory start i.past order rest _ _ _ _ i.driven.described.finished i.quiet due;
     }
 
@@ -66,14 +69,17 @@ returns-then-not-put_all-clause-broken g c =
     let described = rw c.copy.ensures.value at (c.in-Ok.ensures.described _ i.past i.driven.described) in
     let follows = rw c.copy.ensures.value at (c.in-Ok.ensures.follows _ i.past i.driven.follows) in
     let line = c.deref.ensures.0 ∙ c.reply_line.ensures ∙ ap (λ (n : ℕ). reply_line n c.in-Ok.reply) c.id.ensures in
-    let rest = drop (c.loop-order.order-index + 1) c.args.orders.now in
+    let start = start_of c.args.writer in
+    let order : Contents = c.order-item.result in
+    let all : List Contents = c.args.orders.now in
+    let rest = drop (c.loop-order.order-index + 1) all in
     record {
-      past = _;
+      past = Asked order ∷ i.past;
       rest = rest;
       middle = _;
-      driven = asks_on _ _ _ _ _ i.driven.driven i.quiet described.legal.0;
-      asked = asked_so_far _ _ (c.loop-order.order-index + 1) (asked_more _ _ _ _ _ c.loop-order-test.true c.order-item.is i.orders);
-      broken = breaks_saying _ _ rest _ _ _ _ _ _ c.in-Ok.reply (reply_next _ _ _ c.in-Ok.reply described.legal follows.planned) (subst (IsCut _ _) line (c.if-not-put_all.ensures.cut refl));
+      driven = asks_on start i.past _ _ order i.driven.driven i.quiet described.legal.0;
+      asked = asked_so_far all (order ∷ orders_asked i.past) (c.loop-order.order-index + 1) (asked_more all (orders_asked i.past) c.loop-order.order-index _ order c.loop-order-test.true c.order-item.is i.orders);
+      broken = breaks_saying start (Asked order ∷ i.past) rest _ _ _ _ _ order.id c.in-Ok.reply (reply_next start i.past order c.in-Ok.reply described.legal follows.planned) (subst (IsCut _ _) line (c.if-not-put_all.ensures.cut refl));
     }
 
 pub returns-in_err-work-2-clause-broken : goal.returns-in_err-work-2-clause-broken

@@ -70,7 +70,7 @@ fn write_input<W: Write>(alloc: Global, input: &[u8], writer: &mut W) -> io::Res
 }
 
 // The journal of an input, and how many bytes of it count.
-fn journal_in(alloc: Global, input: &[u8]) -> Result<(Journal, usize), Fault>
+pub(crate) fn journal_in(alloc: Global, input: &[u8]) -> Result<(Journal, usize), Fault>
     ensures ok { IfOk result (λ loaded. IsJournalIn input.now loaded.0 loaded.1) }
     ensures err { IfErr result (IsUnloaded input.now) }
 {

@@ -1,6 +1,8 @@
+ghost use Rattle.std.specs.Prelude.{◌≤◌, length};
+
 use arrayvec::ArrayVec;
 use std::io;
-use std::io::Write;
+use std::io::{ErrorKind, Write};
 
 // The most bytes that wait for the end of their line.
 const MOST: usize = 512;
@@ -30,16 +32,13 @@ impl<W: Write> LineWriter<W> {
 
 impl<W: Write> Write for LineWriter<W> {
     fn write(&mut self, buf: &[u8]) -> io::Result<usize> {
-        let mut count = 0;
-        for &byte in buf {
-            if self.line.try_push(byte).is_err() {
-                return Ok(count);
-            }
-            count += 1;
-            if byte == b'\n' || self.line.is_full() {
-                self.pass_on()?;
-                return Ok(count);
-            }
+        let count = first_line(buf).min(self.line.remaining_capacity());
+        let part = &buf[..count];
+        if self.line.try_extend_from_slice(part).is_err() {
+            return Err(io::Error::from(ErrorKind::WriteZero));
+        }
+        if self.line.is_full() || part.last() == Some(&b'\n') {
+            self.pass_on()?;
         }
         Ok(count)
     }
@@ -47,5 +46,15 @@ impl<W: Write> Write for LineWriter<W> {
     fn flush(&mut self) -> io::Result<()> {
         self.pass_on()?;
         self.writer.flush()
+    }
+}
+
+// How many bytes a text's first line has, with its end.
+fn first_line(text: &[u8]) -> usize
+    ensures { result ≤ length text.now }
+{
+    match text.iter().position(|&byte| byte == b'\n') {
+        Some(at) => at + 1,
+        None => text.len(),
     }
 }

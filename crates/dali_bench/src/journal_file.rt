@@ -1,8 +1,8 @@
 // The file of a journal: opened for one drive alone, read, cut to what counts, and appended to.
 
 use crate::fault::Fault;
-use crate::journal::{JOURNAL_LIMIT, journal_in};
-use dali_input::{InputFault, read_input};
+use crate::journal::read_journal;
+use dali_input::InputFault;
 use dali_journal::Journal;
 use std::fs;
 use std::fs::{File, Files, OpenOptions, TryLockError};
@@ -76,14 +76,13 @@ pub fn open_journal<R: Files<File = File> + AllocGlobal>(
 ) -> Result<(JournalFile, Journal), Hindrance> {
     let mut file = locked(rt, name)?;
     let is_regular = file.metadata()?.is_file();
-    let input = read_input(rt.alloc(), &mut file, JOURNAL_LIMIT)?;
-    let (journal, counted) = journal_in(rt.alloc(), input.as_slice())?;
-    if is_regular && counted < input.len() {
+    let (journal, counted, all) = read_journal(rt.alloc(), &mut file)?;
+    if is_regular && counted < all {
         file.set_len(counted as u64)?;
         file.sync_all()?;
     }
     // A file that is empty may just have been made, here or by a drive that was stopped before it came so far.
-    if is_regular && input.is_empty() {
+    if is_regular && all == 0 {
         file.sync_all()?;
         sync_folder(rt, name)?;
     }

@@ -130,10 +130,18 @@ fn on_file(rt: &HostRuntime, name: &str, command: FileCommand) -> Status {
     }
 }
 
-// Carries out orders over standard input and output.
+// Carries out orders over standard input and output. Where standard error can't be written, nothing more is.
 fn on_link(rt: &HostRuntime, orders: &str, journal: &str) -> Status {
     let lines = LineWriter::new(rt.stderr());
-    drive_files(rt, orders, journal, rt.stdin(), rt.stdout(), lines)
+    // A file that is opened takes the number of a standard stream that is closed. These do so before the journal.
+    let held = (fs::open(rt, "/"), fs::open(rt, "/"), fs::open(rt, "/"));
+    let (Ok(_), Ok(_), Ok(_)) = &held else {
+        return unopened(rt, "/", io::Error::from(io::ErrorKind::PermissionDenied));
+    };
+    match drive_files(rt, orders, journal, rt.stdin(), rt.stdout(), lines) {
+        Status::Unwritten => Status::Failed,
+        status => status,
+    }
 }
 
 // Prints that a file can't be opened, and why.

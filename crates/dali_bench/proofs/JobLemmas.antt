@@ -8,8 +8,9 @@ use Rattle.std.proofs.lemmas.Bool.Decides.{Decides-like}
 use Rattle.clap.specs.Words.{App, HasMatchesOf, ReadsOne, Row, Text, first_of, is_simple, is_simple_and_free, one_of, subcommand_of, subcommand_rows_of}
 use Rattle.clap.specs.declared.parser.matches.ArgMatches.{ArgMatches}
 use Rattle.clap.proofs.OnLiterals.{clap_on_literals}
-use Rattle.dali_bench.specs.Jobs.{HasFlag, HasValue, IsNoJob, bench_app}
-use Rattle.dali_bench.specs.declared.job.Job.TheVariants.{Check, Run, Frame, Show, Journal}
+use Rattle.dali_bench.specs.Jobs.{HasFlag, HasValue, IsJob, IsNoJob, bench_app}
+use Rattle.dali_bench.specs.declared.job.Job.{Job}
+use Rattle.dali_bench.specs.declared.job.Job.TheVariants.{Check, Run, Frame, Show, Journal, Drive}
 
 bench_is_simple : is_simple bench_app ≡ true
 unfolding clap_on_literals
@@ -51,12 +52,20 @@ value_none entered command id rows (Some x) e first = tt
 -- where no command has its value, the parse entered no job's
 pub no_job : (entered : Option (Text × List Row)) → ((value : Text) → ¬ HasValue entered (codes "check") (codes "ORDERS") value)
     → ((value : Text) → ¬ HasValue entered (codes "run") (codes "SCENARIO") value) → ((value : Text) → ¬ HasValue entered (codes "frame") (codes "HEX") value)
-    → ((value : Text) → ¬ HasValue entered (codes "show") (codes "HEXFILE") value) → ((value : Text) → ¬ HasValue entered (codes "journal") (codes "FILE") value) → IsNoJob entered
-no_job entered no_orders no_scenario no_digits no_dump no_records (Check orders) = no_orders orders.now
-no_job entered no_orders no_scenario no_digits no_dump no_records (Run scenario _) = λ named. no_scenario scenario.now named.0
-no_job entered no_orders no_scenario no_digits no_dump no_records (Frame digits) = no_digits digits.now
-no_job entered no_orders no_scenario no_digits no_dump no_records (Show dump) = no_dump dump.now
-no_job entered no_orders no_scenario no_digits no_dump no_records (Journal records) = no_records records.now
+    → ((value : Text) → ¬ HasValue entered (codes "show") (codes "HEXFILE") value) → ((value : Text) → ¬ HasValue entered (codes "journal") (codes "FILE") value)
+    → ((orders journal : Bor Text) → ¬ IsJob entered (Drive orders journal)) → IsNoJob entered
+no_job entered no_orders no_scenario no_digits no_dump no_records no_drive (Check orders) = no_orders orders.now
+no_job entered no_orders no_scenario no_digits no_dump no_records no_drive (Run scenario _) = λ named. no_scenario scenario.now named.0
+no_job entered no_orders no_scenario no_digits no_dump no_records no_drive (Frame digits) = no_digits digits.now
+no_job entered no_orders no_scenario no_digits no_dump no_records no_drive (Show dump) = no_dump dump.now
+no_job entered no_orders no_scenario no_digits no_dump no_records no_drive (Journal records) = no_records records.now
+no_job entered no_orders no_scenario no_digits no_dump no_records no_drive (Drive orders journal) = no_drive orders journal
+
+-- the same of what may be no job
+pub no_job_in : (entered : Option (Text × List Row)) (found : Option Job) → (((orders journal : Bor Text) → ¬ IsJob entered (Drive orders journal)) → IsNoJob entered)
+    → IfNone found ((orders journal : Bor Text) → ¬ IsJob entered (Drive orders journal)) → IfNone found (IsNoJob entered)
+no_job_in entered None others none = others none
+no_job_in entered (Some job) others none = tt
 
 -- what `get_one` reads of a text as a `bool` is true exactly where the text is `true`
 read_as_true : (E : Type 0) (text : Option Text) (o : Option Bool) → (text ≡ None → o ≡ None) → ((t : Text) → text ≡ Some t → ReadsOne {E = E} ParsesBool t o)

@@ -1,3 +1,4 @@
+pub mod DriveLemmas
 pub mod FrameLemmas
 pub mod JobLemmas
 pub mod ReportLemmas

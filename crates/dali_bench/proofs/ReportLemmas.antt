@@ -7,7 +7,9 @@ use Rattle.serde_json.specs.Data.{Data, Items}
 use Rattle.serde_json.specs.View.{view, items_view, items_of}
 use Rattle.serde_json.specs.declared.value.Value.{Value}
 use Rattle.dali_input.specs.Items.{Judges}
-use Rattle.dali_bench.specs.Report.{Outcome, JudgesEach, item_lines, lines_from, refused_count}
+use Rattle.dali_input.specs.Orders.{Outcome, JudgesEach}
+use Rattle.dali_input.proofs.OrderLemmas.{judges_one_more}
+use Rattle.dali_bench.specs.Report.{item_lines, lines_from, refused_count}
 use Rattle.dali_text.proofs.StreamLemmas.{appends_both}
 
 -- the items so far, what became of them, and what was written of them
@@ -19,12 +21,6 @@ pub record SoFar (ds : Items) (n accepted refused : ℕ) (before now : Option (L
   pub good : count_by is_ok outcomes ≡ accepted
   pub bad : refused_count outcomes ≡ refused
   pub written : Appends before now (lines_from 1 outcomes)
-
-judges_one_more : (ds : List Data) (xs : List Outcome) (d : Data) (x : Outcome) → JudgesEach (items_of ds) xs → Judges d x → JudgesEach (items_of (ds ++ d ∷ [])) (xs ++ x ∷ [])
-judges_one_more [] [] d x js j = (j, tt)
-judges_one_more [] (y ∷ xs) d x js j = absurd js
-judges_one_more (e ∷ ds) [] d x js j = absurd js
-judges_one_more (e ∷ ds) (y ∷ xs) d x js j = (js.0, judges_one_more ds xs d x js.1 j)
 
 lines_from_one_more : (i : ℕ) (xs : List Outcome) (x : Outcome) → lines_from i (xs ++ x ∷ []) ≡ lines_from i xs ++ item_lines (i + length xs) x
 lines_from_one_more i [] x = append-nil _ ∙ ap (λ n. item_lines n x) (sym (add-zero i))

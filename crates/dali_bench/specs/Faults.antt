@@ -6,6 +6,8 @@ use Rattle.dali_journal.specs.declared.fault.JournalFault.{JournalFault}
 use Rattle.dali_journal.specs.declared.fault.JournalFault.TheVariants as journals
 use Rattle.dali_journal.specs.Faults as journal
 use Rattle.dali_writer.specs.declared.fault.RunFault.TheVariants as runs
+use Rattle.dali_writer.specs.declared.fault.DriveFault.{DriveFault}
+use Rattle.dali_writer.specs.declared.fault.DriveFault.TheVariants as drives
 use Rattle.dali_writer.specs.Faults as run
 use Rattle.dali_text.specs.FaultLines as lines
 use Rattle.dali_input.specs.declared.fault.InputFault.{InputFault}
@@ -16,7 +18,7 @@ use Rattle.dali_input.specs.declared.setup.SetupFault.TheVariants as setup
 use Rattle.dali_input.specs.Faults.{number_of, name_of, item_number_of, item_name_of}
 use Rattle.dali_input.specs.Input.{IsReadFailure}
 use Rattle.dali_bench.specs.declared.fault.Fault.{Fault}
-use Rattle.dali_bench.specs.declared.fault.Fault.TheVariants.{Input, Setup, Run, Journal}
+use Rattle.dali_bench.specs.declared.fault.Fault.TheVariants.{Input, Setup, Run, Journal, Drive}
 use Rattle.dali_bench.specs.declared.fault.Status.{Status}
 use Rattle.dali_bench.specs.declared.fault.Status.TheVariants.{Good, Refused, Failed, Unwritten}
 
@@ -37,6 +39,16 @@ input_status Hex = Refused
 input_status Memory = Failed
 input_status File = Failed
 
+-- where the replies can't be written, nothing can be told
+abbrev pub drive_status : DriveFault → Status
+drive_status drives.Journal = Failed
+drive_status drives.Link = Failed
+drive_status (drives.Line fault) = Refused
+drive_status drives.End = Refused
+drive_status drives.NoMemory = Failed
+drive_status drives.TooLong = Refused
+drive_status drives.Out = Unwritten
+
 abbrev pub status_of : Fault → Status
 status_of (Input fault) = input_status fault
 status_of (Setup (setup.Input fault)) = input_status fault
@@ -45,6 +57,7 @@ status_of (Run runs.Limit) = Refused
 status_of (Run runs.NoMemory) = Failed
 status_of (Journal journals.NoMemory) = Failed
 status_of (Journal other) = Refused
+status_of (Drive fault) = drive_status fault
 
 -- ---- a fault's line
 
@@ -77,12 +90,17 @@ journal_line (journals.Sequence place) = record_line (journals.Sequence place) p
 journal_line (journals.Repeated place) = record_line (journals.Repeated place) place
 journal_line (journals.Full place) = record_line (journals.Full place) place
 
+abbrev pub drive_line : DriveFault → List ℕ
+drive_line drives.NoMemory = input_line Memory
+drive_line fault = lines.single_line (codes "drive") (run.drive_number fault) (run.drive_name fault)
+
 abbrev pub line_of : Fault → List ℕ
 line_of (Input fault) = input_line fault
 line_of (Setup fault) = setup_line fault
 line_of (Run runs.Limit) = lines.single_line (codes "run") (run.number_of runs.Limit) (run.name_of runs.Limit)
 line_of (Run runs.NoMemory) = input_line Memory
 line_of (Journal fault) = journal_line fault
+line_of (Drive fault) = drive_line fault
 
 -- ---- a command that gave up
 

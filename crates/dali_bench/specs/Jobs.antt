@@ -4,7 +4,7 @@ use Rattle.std.specs.Bool.{Decides}
 use Rattle.clap.specs.Words.{App, Row, Rule, Text, first_of, new_app, new_rule, one_of, subcommand_of, with_rule, with_subcommand}
 use Rattle.clap.specs.declared.builder.ArgAction.TheVariants.{Set, SetTrue}
 use Rattle.dali_bench.specs.declared.job.Job.{Job}
-use Rattle.dali_bench.specs.declared.job.Job.TheVariants.{Check, Run, Frame, Show, Journal}
+use Rattle.dali_bench.specs.declared.job.Job.TheVariants.{Check, Run, Frame, Show, Journal, Drive}
 
 -- an argument that has to be there, and takes one value
 abbrev pub value_rule : Text → Rule
@@ -26,13 +26,18 @@ top_app = let app = new_app (codes "dali_bench") in record app { top = record ap
 abbrev pub run_app : App
 run_app = with_rule (command_app (codes "run") (codes "SCENARIO")) (flag_rule (codes "frames"))
 
+-- the command that drives, with its two files
+abbrev pub drive_app : App
+drive_app = with_rule (command_app (codes "drive") (codes "ORDERS")) (value_rule (codes "JOURNAL"))
+
 -- the program's commands and their arguments, as `clap` sees them
 abbrev pub bench_app : App
 bench_app = let checks = with_subcommand top_app (command_app (codes "check") (codes "ORDERS")).top in
     let runs = with_subcommand checks run_app.top in
     let frames = with_subcommand runs (command_app (codes "frame") (codes "HEX")).top in
     let shows = with_subcommand frames (command_app (codes "show") (codes "HEXFILE")).top in
-    with_subcommand shows (command_app (codes "journal") (codes "FILE")).top
+    let journals = with_subcommand shows (command_app (codes "journal") (codes "FILE")).top in
+    with_subcommand journals drive_app.top
 
 -- a parse entered the command, and its argument has the value
 abbrev pub HasValue : Option (Text × List Row) → Text → Text → Text → Type 0
@@ -50,6 +55,8 @@ IsJob entered (Run scenario single_frames) =
 IsJob entered (Frame digits) = HasValue entered (codes "frame") (codes "HEX") digits.now
 IsJob entered (Show dump) = HasValue entered (codes "show") (codes "HEXFILE") dump.now
 IsJob entered (Journal records) = HasValue entered (codes "journal") (codes "FILE") records.now
+IsJob entered (Drive orders journal) =
+    HasValue entered (codes "drive") (codes "ORDERS") orders.now × HasValue entered (codes "drive") (codes "JOURNAL") journal.now
 
 -- no job is that of the command that a parse entered
 abbrev pub IsNoJob : Option (Text × List Row) → Type 0

@@ -4,4 +4,5 @@ pub mod FrameAnswers
 pub mod BankAnswers
 pub mod RunAnswers
 pub mod JournalAnswers
+pub mod DriveAnswers
 pub mod Jobs

@@ -1,33 +1,14 @@
 -- What `check` finds in its input, and what it writes.
-use Rattle.std.specs.Prelude.{◌≡◌, ◌==◌, ◌⊎◌, ◌+◌, ℕ, List, [], ◌∷◌, ◌++◌, Option, Some, None, Result, Ok, Err, count_by, is_ok, not, ⊤, if◌then◌else◌}
-use Rattle.serde_json.specs.Data.{Data, Items, no_items, item}
-use Rattle.serde_json.specs.Find.{as_array}
-use Rattle.dali_bank.specs.Order.{Contents}
+use Rattle.std.specs.Prelude.{◌≡◌, ◌==◌, ◌⊎◌, ◌+◌, ℕ, List, [], ◌∷◌, ◌++◌, Option, Ok, Err, count_by, is_ok, not, if◌then◌else◌}
+use Rattle.serde_json.specs.Data.{Items}
 use Rattle.dali_text.specs.OrderLines.{order_lines, tally_line}
 use Rattle.dali_input.specs.declared.fault.InputFault.{InputFault}
-use Rattle.dali_input.specs.declared.fault.InputFault.TheVariants.{Document}
-use Rattle.dali_input.specs.declared.item.ItemFault.{ItemFault}
-use Rattle.dali_input.specs.Input.{IsJson, IsNoJson, ReadsInput}
-use Rattle.dali_input.specs.Items.{Judges}
+use Rattle.dali_input.specs.Input.{ReadsInput}
+use Rattle.dali_input.specs.Orders.{Outcome, JudgesEach, AreItems, IsInputFault}
 use Rattle.dali_bench.specs.declared.fault.Fault.TheVariants.{Input}
 use Rattle.dali_bench.specs.declared.fault.Status.{Status}
 use Rattle.dali_bench.specs.declared.fault.Status.TheVariants.{Good, Refused}
 use Rattle.dali_bench.specs.Faults.{IsFailure, IsRefusal, item_line}
-
--- the most bytes of a list of orders
-abbrev pub orders_limit : ℕ
-orders_limit = 16777216
-
--- what becomes of an item
-abbrev pub Outcome : Type 0
-Outcome = Result Contents ItemFault
-
--- each item, and what becomes of it
-abbrev pub JudgesEach : Items → List Outcome → Type 0
-JudgesEach no_items [] = ⊤
-JudgesEach no_items (outcome ∷ outcomes) = ⊥
-JudgesEach (item source sources) [] = ⊥
-JudgesEach (item source sources) (outcome ∷ outcomes) = Judges source outcome × JudgesEach sources outcomes
 
 -- the lines of an accepted item with its updates, or of a refused one
 abbrev pub item_lines : ℕ → Outcome → List ℕ
@@ -52,15 +33,6 @@ report outcomes = lines_from 1 outcomes ++ tally_line (accepted_count outcomes) 
 -- refused where an item is
 abbrev pub report_status : List Outcome → Status
 report_status outcomes = if refused_count outcomes == 0 then Good else Refused
-
--- the items of an input of at most so many bytes
-abbrev pub AreItems : ℕ → List ℕ → Items → Type 0
-AreItems limit input items = (json : Data) × IsJson limit input json × (as_array json ≡ Some items)
-
--- why an input has no items; want of memory may come at any input
-abbrev pub IsInputFault : ℕ → List ℕ → InputFault → Type 0
-IsInputFault limit input Document = (json : Data) × IsJson limit input json × (as_array json ≡ None)
-IsInputFault limit input fault = IsNoJson limit input fault
 
 -- the status and the text of an input's items
 pub record IsReport (limit : ℕ) (input : List ℕ) (status : Status) (text : List ℕ) : Type 0 where

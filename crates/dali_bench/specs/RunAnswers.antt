@@ -17,7 +17,7 @@ use Rattle.dali_input.specs.Scenario.{IsScenario, Planned}
 use Rattle.dali_input.specs.Setup.{IsReady, IsRefused}
 use Rattle.dali_input.specs.Values.{IsNoReading}
 use Rattle.dali_bench.specs.declared.fault.Fault.{Fault}
-use Rattle.dali_bench.specs.declared.fault.Fault.TheVariants.{Input, Setup, Run, Journal}
+use Rattle.dali_bench.specs.declared.fault.Fault.TheVariants.{Input, Setup, Run, Journal, Drive}
 use Rattle.dali_bench.specs.declared.fault.Status.{Status}
 use Rattle.dali_bench.specs.declared.fault.Status.TheVariants.{Good}
 use Rattle.dali_bench.specs.Faults.{IsRefusal}
@@ -59,6 +59,7 @@ IsUnrun before after (Run Limit) = (planned : Planned) × IsUnderstood before af
     × ((units : List UnitState) × (fates : List Fate) × (all : List Event) × IsReady planned units fates all) × ¬ IsLimit planned.limit
 IsUnrun before after (Run NoMemory) = ⊤
 IsUnrun before after (Journal fault) = ⊥
+IsUnrun before after (Drive fault) = ⊥
 
 -- a run is told
 pub record IsRunReport (single_frames : Bool) (before after : Option (List ℕ)) (status : Status) (text : List ℕ) : Type 0 where

@@ -1,21 +1,19 @@
-ghost use Rattle.std.specs.Prelude.{◌≡◌, ◌≢◌, ℕ, List, IfOk, IfErr, OnOk, is_ok};
+ghost use Rattle.std.specs.Prelude.{◌≡◌, ◌≢◌, ℕ, List, IfOk, OnOk, is_ok};
 ghost use Rattle.std.specs.Io.KnownBytes.{Appends};
 ghost use Rattle.serde_json.specs.View.{view, items_view};
 ghost use Rattle.dali_input.specs.Input.{ReadsAtMost};
 ghost use Rattle.dali_input.specs.Items.{Judges};
-ghost use Rattle.dali_bench.specs.Report.{Outcome, JudgesEach, item_lines, report, report_status, AreItems, IsInputFault, IsChecked, IsAnswered, orders_limit};
+ghost use Rattle.dali_input.specs.Orders.{Outcome, JudgesEach, orders_limit};
+ghost use Rattle.dali_bench.specs.Report.{item_lines, report, report_status, IsChecked, IsAnswered};
 
 use crate::fault::{Fault, Status};
 use crate::fault_lines::{write_failure, write_refused_item};
-use dali_input::{InputFault, json_of, order_of, read_input};
+use dali_input::{ORDERS_LIMIT, items_of, order_of, read_input};
 use dali_text::{write_order, write_tally};
 use serde_json::Value;
 use std::alloc::Global;
 use std::io;
 use std::io::{Read, Write};
-
-/// The most bytes of a list of orders.
-pub const ORDERS_LIMIT: u32 = 16_777_216;
 
 /// Reads a JSON list of orders, and writes what becomes of each: the updates of an accepted item,
 /// the fault of a refused one, and how many there were of both.
@@ -55,18 +53,6 @@ fn write_checked<W: Write>(alloc: Global, input: &[u8], writer: &mut W) -> io::R
     match items_of(alloc, input, ORDERS_LIMIT) {
         Ok(items) => write_report(writer, items),
         Err(fault) => write_failure(writer, Fault::Input(fault)),
-    }
-}
-
-// The items of an input.
-fn items_of(alloc: Global, input: &[u8], limit: u32) -> Result<Vec<Value>, InputFault>
-    ensures ok { IfOk result (λ items. AreItems limit input.now (items_view items.items)) }
-    ensures err { IfErr result (IsInputFault limit input.now) }
-{
-    let value = json_of(alloc, input, limit)?;
-    match value {
-        Value::Array(items) => Ok(items),
-        _other => Err(InputFault::Document),
     }
 }
 

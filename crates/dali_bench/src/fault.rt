@@ -1,9 +1,9 @@
 ghost use Rattle.std.specs.Prelude.{◌≡◌};
-ghost use Rattle.dali_bench.specs.Faults.{code_of, input_status as status_of_input, status_of};
+ghost use Rattle.dali_bench.specs.Faults.{code_of, drive_status as status_of_drive, input_status as status_of_input, status_of};
 
 use dali_input::{InputFault, SetupFault};
 use dali_journal::JournalFault;
-use dali_writer::RunFault;
+use dali_writer::{DriveFault, RunFault};
 use thiserror::Error;
 
 /// How a command ended.
@@ -47,6 +47,9 @@ pub enum Fault {
     /// A journal: 2 NoMemory, or with the place of a record 3 Record, 4 Sequence, 5 Repeated, 6 Full.
     #[error("{0}")]
     Journal(JournalFault),
+    /// A drive: 1 Journal, 2 Link, 3 Line, 4 End, 5 NoMemory, 6 TooLong, 7 Out.
+    #[error("{0}")]
+    Drive(DriveFault),
 }
 
 impl Fault {
@@ -60,7 +63,19 @@ impl Fault {
                 Status::Failed
             }
             Fault::Setup(_) | Fault::Run(RunFault::Limit) | Fault::Journal(_) => Status::Refused,
+            Fault::Drive(fault) => drive_status(*fault),
         }
+    }
+}
+
+// How the program ends at a fault of a drive. Where the replies can't be written, nothing can be told.
+fn drive_status(fault: DriveFault) -> Status
+    ensures { result ≡ status_of_drive fault }
+{
+    match fault {
+        DriveFault::Line(_) | DriveFault::End | DriveFault::TooLong => Status::Refused,
+        DriveFault::Journal | DriveFault::Link | DriveFault::NoMemory => Status::Failed,
+        DriveFault::Out => Status::Unwritten,
     }
 }
 

@@ -1,13 +1,13 @@
 ghost use Rattle.std.specs.Prelude.{OnOk, IfOk, ◌≡◌};
 ghost use Rattle.std.specs.Io.KnownBytes.{Appends};
-ghost use Rattle.dali_bench.specs.Faults.{input_line, item_line, journal_line, line_of, record_line, setup_line, status_of, whole_line};
+ghost use Rattle.dali_bench.specs.Faults.{drive_line, input_line, item_line, journal_line, line_of, record_line, setup_line, status_of, whole_line};
 
 use crate::fault::{Fault, Status};
 use dali_gear::GearFault;
 use dali_input::{InputFault, ItemFault, SetupFault};
 use dali_journal::JournalFault;
 use dali_text::{write_counted_fault, write_placed_fault, write_single_fault};
-use dali_writer::RunFault;
+use dali_writer::{DriveFault, RunFault};
 use std::io;
 use std::io::Write;
 
@@ -35,6 +35,7 @@ pub fn write_fault<W: Write>(writer: &mut W, fault: Fault) -> io::Result<()>
         }
         Fault::Run(RunFault::NoMemory) => write_input_fault(writer, InputFault::Memory),
         Fault::Journal(fault) => write_journal_fault(writer, fault),
+        Fault::Drive(fault) => write_drive_fault(writer, fault),
     }
 }
 
@@ -83,6 +84,16 @@ fn write_journal_fault<W: Write>(writer: &mut W, fault: JournalFault) -> io::Res
             write_record_fault(writer, JournalFault::Repeated(place), place)
         }
         JournalFault::Full(place) => write_record_fault(writer, JournalFault::Full(place), place),
+    }
+}
+
+// Writes why a drive ended.
+fn write_drive_fault<W: Write>(writer: &mut W, fault: DriveFault) -> io::Result<()>
+    ensures { OnOk result (Appends (W.contents writer.old) (W.contents writer.new) (drive_line fault)) }
+{
+    match fault {
+        DriveFault::NoMemory => write_input_fault(writer, InputFault::Memory),
+        _ => write_single_fault(writer, "drive", fault.number(), &fault),
     }
 }
 

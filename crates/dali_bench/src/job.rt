@@ -3,7 +3,9 @@ ghost use Rattle.clap.specs.declared.builder.command.Command.TheViews.{out-Comma
 ghost use Rattle.std.specs.Bool.{Decides};
 ghost use Rattle.clap.specs.Words.{HasKind, app_of, fault_of, subcommand_rows_of};
 ghost use Rattle.dali_bench.specs.Jobs.{HasFlag, HasValue, IsJob, IsJobOf, IsNoJob, NamesNoJob, bench_app};
-ghost use Rattle.dali_bench.specs.Jobs.{command_app, run_app};
+ghost use Rattle.dali_bench.specs.Jobs.{command_app, drive_app, run_app};
+ghost use Rattle.dali_bench.specs.declared.job.Job.TheVariants.{Drive};
+ghost use Rattle.std.specs.Borrow.{Bor};
 
 use clap::error::ErrorKind;
 use clap::{Arg, ArgAction, ArgMatches, Command, Error};
@@ -26,6 +28,8 @@ pub enum Job<'a> {
     Show(&'a str),
     /// To print the records of a journal.
     Journal(&'a str),
+    /// To carry out a file of orders over a link, with the journal of a file.
+    Drive { orders: &'a str, journal: &'a str },
 }
 
 const ABOUT: &str =
@@ -91,6 +95,25 @@ Faults of the journal, with the place of the record, counted from 0: 3 Record (n
 Faults of the file: 13 TooBig (over 33554432 bytes), 20 Memory, 21 File (can't be opened or read).
 Exit status: 0 printed, 1 refused, 2 a file, the memory or the output failed.";
 
+const DRIVE_ABOUT: &str =
+    "Carries out a file of orders over a link: standard output has the frames, standard input the answers";
+
+const DRIVE_ORDERS_HELP: &str = "A JSON array of orders, as for `check`";
+
+const DRIVE_JOURNAL_HELP: &str = "The writer's journal, which is made where there is none";
+
+const DRIVE_FAULTS: &str = "\
+Standard output has a line for each frame, four hexadecimal digits. For each, one line is read from standard
+input: two hexadecimal digits, or -- for no answer. Replies and faults go to standard error.
+Nothing is sent where an item is refused, with the faults of `check`, or where a file has a fault:
+of ORDERS 11 Json, 12 Document, 13 TooBig (over 16777216 bytes), of JOURNAL 13 TooBig (over 33554432 bytes)
+and those of `journal`; 20 Memory, 21 File (can't be opened, read or synced, or another drive has the journal).
+Faults of a drive: 1 Journal (can't be written), 2 Link (can't be read or written), 3 Line (no answer),
+4 End (no more answers), 6 TooLong (over 8 bytes in a line), 7 Out (standard error can't be written).
+After a fault the same command goes on from the journal.
+Exit status: 0 each order has its reply, whatever it says, 1 something refused, or 3 Line, 4 End, 6 TooLong,
+2 a file, the memory, the link or the output failed.";
+
 /// Reads the command line, the program's name first.
 ///
 /// The error is `clap`'s: its text for a person, which may be the help that was asked for, or want of memory.
@@ -134,7 +157,21 @@ fn job_in<'a>(matches: &ArgMatches<'a>) -> Option<Job<'a>>
     if let Some(records) = value_of(matches, "journal", "FILE") {
         return Some(Job::Journal(records));
     }
-    None
+    drive_in(matches)
+}
+
+// The job of the command that drives, where a parse entered it.
+fn drive_in<'a>(matches: &ArgMatches<'a>) -> Option<Job<'a>>
+    ensures named { IfSome result (IsJob (subcommand_rows_of matches.now)) }
+    ensures none { IfNone result ((orders journal : Bor (List ℕ)) → ¬ IsJob (subcommand_rows_of matches.now) (Drive orders journal)) }
+{
+    let Some(orders) = value_of(matches, "drive", "ORDERS") else {
+        return None;
+    };
+    match value_of(matches, "drive", "JOURNAL") {
+        Some(journal) => Some(Job::Drive { orders, journal }),
+        None => None,
+    }
 }
 
 // The value of a command's argument, where a parse entered that command.
@@ -169,7 +206,8 @@ fn bench_command<'a>(alloc: Global) -> Result<Command<'a>, AllocError>
     let runs = checks.subcommand(run_command(alloc)?)?;
     let frames = runs.subcommand(frame_command(alloc)?)?;
     let shows = frames.subcommand(show_command(alloc)?)?;
-    shows.subcommand(journal_command(alloc)?)
+    let journals = shows.subcommand(journal_command(alloc)?)?;
+    journals.subcommand(drive_command(alloc)?)
 }
 
 // The command that checks a file of orders.
@@ -219,6 +257,19 @@ fn journal_command<'a>(alloc: Global) -> Result<Command<'a>, AllocError>
 {
     let command = command_with(alloc, "journal", "FILE", FILE_HELP)?;
     Ok(told(command, JOURNAL_ABOUT, JOURNAL_FAULTS))
+}
+
+// The command that carries out orders over a link.
+fn drive_command<'a>(alloc: Global) -> Result<Command<'a>, AllocError>
+    ensures app { IfOk result (λ command. app_of command ≡ drive_app) }
+    ensures local { IfOk result (λ command. (fields_of command).has_globals ≡ false) }
+{
+    let journal = Arg::new(alloc, "JOURNAL")
+        .help(DRIVE_JOURNAL_HELP)
+        .required(true)
+        .action(ArgAction::Set);
+    let command = command_with(alloc, "drive", "ORDERS", DRIVE_ORDERS_HELP)?.arg(journal)?;
+    Ok(told(command, DRIVE_ABOUT, DRIVE_FAULTS))
 }
 
 // A command with one argument, which has to be there.

@@ -1,6 +1,7 @@
 ghost use Rattle.std.specs.Prelude.{◌≡◌, ◌≢◌, List, ℕ, IfErr, IfOk};
 ghost use Rattle.std.specs.Io.KnownBytes.{Appends};
 ghost use Rattle.dali_input.specs.Input.{ReadsAtMost};
+ghost use Rattle.dali_bench.specs.DriveAnswers.{HasJournal, HasNoJournal};
 ghost use Rattle.dali_bench.specs.JournalAnswers.{IsJournalAnswer, IsJournalIn, IsUnloaded, TellsInput, journal_limit};
 
 use crate::fault::{Fault, Status};
@@ -66,6 +67,27 @@ fn write_input<W: Write>(alloc: Global, input: &[u8], writer: &mut W) -> io::Res
             Ok(Status::Good)
         }
         Err(fault) => write_failure(writer, fault),
+    }
+}
+
+/// Reads a writer's journal: the journal, how many bytes count, and how many there are.
+///
+/// The fault is 13 TooBig over 33554432 bytes; with the place of the record 3 Record, 4 Sequence, 5 Repeated, 6
+/// Full (over 100000 orders); 20 Memory, or 21 File where the reader failed.
+pub fn read_journal<R: Read>(
+    alloc: Global,
+    reader: &mut R,
+) -> Result<(Journal, usize, usize), Fault>
+    ensures ok { IfOk result (λ found. HasJournal (R.remaining reader.old) (R.remaining reader.new) found.0 found.1 found.2) }
+    ensures err { IfErr result (HasNoJournal (R.remaining reader.old) (R.remaining reader.new)) }
+    ensures read { ReadsAtMost journal_limit (R.remaining reader.old) (R.remaining reader.new) }
+{
+    match read_input(alloc, reader, JOURNAL_LIMIT) {
+        Ok(input) => match journal_in(alloc, input.as_slice()) {
+            Ok((journal, counted)) => Ok((journal, counted, input.len())),
+            Err(fault) => Err(fault),
+        },
+        Err(fault) => Err(Fault::Input(fault)),
     }
 }
 

@@ -2,22 +2,28 @@
 #![tactic(auto)]
 
 mod check;
+mod drive;
+mod drive_files;
 mod fault;
 mod fault_lines;
 mod frame;
 mod job;
 mod journal;
+mod journal_file;
+mod line_writer;
 mod run_scenario;
 mod show;
 #[cfg(test)]
 mod tests;
 
 use crate::check::check;
+use crate::drive_files::drive_files;
 use crate::fault::{Fault, Status};
 use crate::fault_lines::write_fault;
 use crate::frame::frame;
 use crate::job::{Job, job_of};
 use crate::journal::journal;
+use crate::line_writer::LineWriter;
 use crate::run_scenario::run_scenario;
 use crate::show::show;
 use clap::error::ErrorKind;
@@ -61,6 +67,7 @@ fn run(rt: &HostRuntime, words: &Vec<String>) -> Status {
         Ok(Job::Frame(digits)) => frame(digits, &mut io::writer(rt)),
         Ok(Job::Show(dump)) => on_file(rt, dump, FileCommand::Show),
         Ok(Job::Journal(records)) => on_file(rt, records, FileCommand::Journal),
+        Ok(Job::Drive { orders, journal }) => on_link(rt, orders, journal),
         Err(error) if error.kind() == ErrorKind::OutOfMemory => out_of_memory(rt),
         Err(error) => match error.print(rt) {
             Ok(()) if error.exit_code() == 0 => Status::Good,
@@ -120,6 +127,20 @@ fn on_file(rt: &HostRuntime, name: &str, command: FileCommand) -> Status {
     match fs::open(rt, name) {
         Ok(mut reader) => command.carry_out(rt.alloc(), &mut reader, &mut writer),
         Err(cause) => unopened(rt, name, cause),
+    }
+}
+
+// Carries out orders over standard input and output. Where standard error can't be written, nothing more is.
+fn on_link(rt: &HostRuntime, orders: &str, journal: &str) -> Status {
+    let lines = LineWriter::new(rt.stderr());
+    // A file that is opened takes the number of a standard stream that is closed. These do so before the journal.
+    let held = (fs::open(rt, "/"), fs::open(rt, "/"), fs::open(rt, "/"));
+    let (Ok(_), Ok(_), Ok(_)) = &held else {
+        return unopened(rt, "/", io::Error::from(io::ErrorKind::PermissionDenied));
+    };
+    match drive_files(rt, orders, journal, rt.stdin(), rt.stdout(), lines) {
+        Status::Unwritten => Status::Failed,
+        status => status,
     }
 }
 

@@ -3,3 +3,4 @@ pub mod MemberLemmas
 pub mod ValueLemmas
 pub mod KeyLemmas
 pub mod SetupLemmas
+pub mod OrderLemmas

@@ -3,6 +3,7 @@ pub mod Input
 pub mod BankText
 pub mod Keys
 pub mod Items
+pub mod Orders
 pub mod Members
 pub mod Values
 pub mod Scenario

@@ -2,7 +2,7 @@ use Rattle.std.proofs.Common.{◌≡◌, ◌∙◌, ap, codes, true}
 use Rattle.std.proofs.lemmas.Result.{IfOk-weaker}
 use Rattle.clap.specs.Words.{App, app_of, with_subcommand}
 use Rattle.clap.specs.Simple.{app_of_fields}
-use Rattle.dali_bench.specs.Jobs.{top_app, command_app, run_app}
+use Rattle.dali_bench.specs.Jobs.{top_app, command_app, drive_app, run_app}
 use Rattle.dali_bench.proofs.job.bench_command.Goals as goal
 
 -- one more command
@@ -24,7 +24,9 @@ returns c =
     let run = c.in_ok-run_command.ensures in
     let frame = c.in_ok-frame_command.ensures in
     let show = c.in_ok-show_command.ensures in
+    let journals_app = with_subcommand shows_app journal_app.top in
     let journal = c.in_ok-journal_command.ensures in
+    let drive = c.in_ok-drive_command.ensures in
     let top : app_of c.subcommand_required-top.result ≡ top_app =
     ap app_of_fields c.subcommand_required-top.ensures ∙ ap (λ (app : App). record app { top = record app.top { subcommand_required = true } })
     (ap app_of_fields c.about.ensures ∙ c.new.ensures.app) in
@@ -32,4 +34,5 @@ returns c =
     let runs = with_next (app_of c.in_ok-runs.runs) checks_app run_app _ _ (c.in_ok-runs.ensures.shape run.local) checks run.app in
     let frames = with_next (app_of c.in_ok-frames.frames) runs_app frame_app _ _ (c.in_ok-frames.ensures.shape frame.local) runs frame.app in
     let shows = with_next (app_of c.in_ok-shows.shows) frames_app show_app _ _ (c.in_ok-shows.ensures.shape show.local) frames show.app in
-    IfOk-weaker c.subcommand-5.result _ _ (λ all added. with_next (app_of all) shows_app journal_app _ _ (added.shape journal.local) shows journal.app) c.subcommand-5.ensures
+    let journals = with_next (app_of c.in_ok-journals.journals) shows_app journal_app _ _ (c.in_ok-journals.ensures.shape journal.local) shows journal.app in
+    IfOk-weaker c.subcommand-6.result _ _ (λ all added. with_next (app_of all) journals_app drive_app _ _ (added.shape drive.local) journals drive.app) c.subcommand-6.ensures

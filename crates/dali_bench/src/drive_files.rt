@@ -1,0 +1,88 @@
+use crate::drive::{drive_over, tell_refused, told};
+use crate::fault::{Fault, Status};
+use crate::fault_lines::write_failure;
+use crate::journal_file::{Hindrance, open_journal};
+use dali_bank::Order;
+use dali_input::{InputFault, ItemFault, read_orders};
+use dali_writer::{StdSink, StdSource};
+use std::fs::{File, Files};
+use std::io::{Read, Write};
+use std::{fs, io};
+
+/// Carries out the orders of a file over a link, with the journal that another file holds.
+pub fn drive_files<
+    R: Files<File = File> + AllocGlobal,
+    I: Read + Drop,
+    L: Write + Drop,
+    O: Write + Drop,
+>(
+    rt: &R,
+    orders: &str,
+    journal: &str,
+    link_in: I,
+    link_out: L,
+    mut lines: O,
+) -> Status {
+    match orders_in(rt, orders) {
+        Ok(Ok(found)) => on_journal(rt, journal, found.as_slice(), link_in, link_out, lines),
+        Ok(Err(refused)) => tell_refused(&mut lines, refused.as_slice()),
+        Err(hindrance) => told(write_hindrance(&mut lines, orders, hindrance)),
+    }
+}
+
+// The orders of a file, or the items that are refused.
+fn orders_in<R: Files + AllocGlobal>(
+    rt: &R,
+    name: &str,
+) -> Result<Result<Vec<Order>, Vec<(u64, ItemFault)>>, Hindrance> {
+    let mut file = fs::open(rt, name)?;
+    let orders = read_orders(rt.alloc(), &mut file)?;
+    Ok(orders)
+}
+
+// Drives the orders with the journal of a file.
+fn on_journal<
+    R: Files<File = File> + AllocGlobal,
+    I: Read + Drop,
+    L: Write + Drop,
+    O: Write + Drop,
+>(
+    rt: &R,
+    name: &str,
+    orders: &[Order],
+    link_in: I,
+    link_out: L,
+    mut lines: O,
+) -> Status {
+    match open_journal(rt, name) {
+        Ok((file, journal)) => drive_over(
+            journal,
+            orders,
+            &mut StdSource::new(link_in),
+            &mut StdSink::new(link_out),
+            &mut StdSink::new(file),
+            &mut StdSink::new(lines),
+        ),
+        Err(hindrance) => told(write_hindrance(&mut lines, name, hindrance)),
+    }
+}
+
+// Writes why a file can't serve a drive.
+fn write_hindrance<W: Write>(
+    lines: &mut W,
+    name: &str,
+    hindrance: Hindrance,
+) -> io::Result<Status> {
+    let fault = Fault::Input(InputFault::File);
+    match hindrance {
+        Hindrance::Fault(fault) => write_failure(lines, fault),
+        Hindrance::System(cause) => {
+            writeln!(lines, "error: the file can't be used: {name}: {cause}")?;
+            write_failure(lines, fault)
+        }
+        Hindrance::InUse => {
+            writeln!(lines, "error: the journal is in use by another drive: {name}")?;
+            write_failure(lines, fault)
+        }
+    }
+}

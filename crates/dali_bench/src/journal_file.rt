@@ -1,0 +1,134 @@
+// The file of a journal: opened for one drive alone, read, cut to what counts, and appended to.
+
+use crate::fault::Fault;
+use crate::journal::read_journal;
+use dali_input::InputFault;
+use dali_journal::Journal;
+use std::fs;
+use std::fs::{File, Files, OpenOptions, TryLockError};
+use std::io;
+use std::io::{ErrorKind, Write};
+
+/// Why a file can't serve a drive.
+#[derive(Drop)]
+pub enum Hindrance {
+    /// What was read of it has a fault.
+    Fault(Fault),
+    /// The system refuses a call.
+    System(io::Error),
+    /// Another drive has it.
+    InUse,
+}
+
+impl From<io::Error> for Hindrance {
+    fn from(cause: io::Error) -> Hindrance {
+        Hindrance::System(cause)
+    }
+}
+
+impl From<InputFault> for Hindrance {
+    fn from(cause: InputFault) -> Hindrance {
+        Hindrance::Fault(Fault::Input(cause))
+    }
+}
+
+impl From<Fault> for Hindrance {
+    fn from(cause: Fault) -> Hindrance {
+        Hindrance::Fault(cause)
+    }
+}
+
+/// The file of a journal, which only grows. A flush waits until what was written is on the disk, where the file
+/// is a regular one.
+#[derive(Drop)]
+pub struct JournalFile {
+    file: File,
+    is_regular: bool,
+    length: u64,
+    most: u64,
+}
+
+impl Write for JournalFile {
+    // A write past the limit of the process on the length of files would end the process.
+    fn write(&mut self, buf: &[u8]) -> io::Result<usize> {
+        if self.length.saturating_add(buf.len() as u64) > self.most {
+            return Err(io::Error::from(ErrorKind::FileTooLarge));
+        }
+        let count = self.file.write(buf)?;
+        self.length = self.length.saturating_add(count as u64);
+        Ok(count)
+    }
+
+    fn flush(&mut self) -> io::Result<()> {
+        if self.is_regular {
+            self.file.sync_data()
+        } else {
+            Ok(())
+        }
+    }
+}
+
+/// Opens the file of a journal, which is made where there is none, for one drive alone, and loads the journal
+/// that it holds. A record that is cut off at its end is cut away.
+pub fn open_journal<R: Files<File = File> + AllocGlobal>(
+    rt: &R,
+    name: &str,
+) -> Result<(JournalFile, Journal), Hindrance> {
+    let mut file = locked(rt, name)?;
+    let is_regular = file.metadata()?.is_file();
+    let (journal, counted, all) = read_journal(rt.alloc(), &mut file)?;
+    if is_regular && counted < all {
+        file.set_len(counted as u64)?;
+        file.sync_all()?;
+    }
+    // A file that is empty may just have been made, here or by a drive that was stopped before it came so far.
+    if is_regular && all == 0 {
+        file.sync_all()?;
+        sync_folder(rt, name)?;
+    }
+    let file = JournalFile {
+        file,
+        is_regular,
+        length: counted as u64,
+        most: if is_regular { most_bytes() } else { u64::MAX },
+    };
+    Ok((file, journal))
+}
+
+// Opens a file to read it and to append to it, and locks it for as long as it is open.
+fn locked<R: Files<File = File>>(rt: &R, name: &str) -> Result<File, Hindrance> {
+    let file = OpenOptions::new()
+        .read(true)
+        .append(true)
+        .create(true)
+        .open(rt, name)?;
+    match file.try_lock() {
+        Ok(()) => Ok(file),
+        Err(TryLockError::WouldBlock) => Err(Hindrance::InUse),
+        Err(TryLockError::Error(cause)) => Err(Hindrance::System(cause)),
+    }
+}
+
+// Waits until the name of a file is on the disk.
+fn sync_folder<R: Files<File = File> + AllocGlobal>(rt: &R, name: &str) -> io::Result<()> {
+    let path = rt.canonicalize(rt.alloc(), name)?;
+    match path.as_path().parent() {
+        Some(folder) => fs::open(rt, folder)?.sync_all(),
+        None => Ok(()),
+    }
+}
+
+// The most bytes that a file of this process may have.
+fn most_bytes() -> u64 {
+    let mut limit = libc::types::rlimit {
+        rlim_cur: u64::MAX,
+        rlim_max: u64::MAX,
+    };
+    if libc::getrlimit(FILE_SIZE, &mut limit) != 0 {
+        return u64::MAX;
+    }
+    limit.rlim_cur
+}
+
+// Linux's number of the limit on the length of files.
+const FILE_SIZE: i32 = 1;

@@ -1,0 +1,79 @@
+ghost use Rattle.std.specs.Prelude.{IfOk, IfErr, Ok, map};
+ghost use Rattle.serde_json.specs.View.{items_view};
+ghost use Rattle.dali_input.specs.Input.{ReadsAtMost};
+ghost use Rattle.dali_input.specs.Orders.{AreItems, AreRefused, HasNoOrders, HasOrders, HasRefused, IsInputFault, JudgesEach, orders_limit};
+
+use crate::fault::InputFault;
+use crate::input::{json_of, read_input};
+use crate::item::{ItemFault, order_of};
+use dali_bank::Order;
+use serde_json::Value;
+use std::alloc::{AllocError, Global};
+use std::io::Read;
+
+/// The most bytes of a list of orders (profile).
+pub const ORDERS_LIMIT: u32 = 16_777_216;
+
+/// The items of an input (profile).
+///
+/// InputFault 13 TooBig where the input has more bytes than the limit, 11 Json where they are no JSON, 12
+/// Document where the JSON is no array, 20 Memory where there is no memory.
+pub fn items_of(alloc: Global, input: &[u8], limit: u32) -> Result<Vec<Value>, InputFault>
+    ensures ok { IfOk result (λ items. AreItems limit input.now (items_view items.items)) }
+    ensures err { IfErr result (IsInputFault limit input.now) }
+{
+    let value = json_of(alloc, input, limit)?;
+    match value {
+        Value::Array(items) => Ok(items),
+        _other => Err(InputFault::Document),
+    }
+}
+
+/// The order of each item, or all items that are refused, counted from 1, each with its fault (profile).
+///
+/// The error is want of memory.
+pub fn orders_of(
+    alloc: Global,
+    items: &[Value],
+) -> Result<Result<Vec<Order>, Vec<(u64, ItemFault)>>, AllocError>
+    ensures ok { IfOk result (λ judged. IfOk judged (λ orders. JudgesEach (items_view items.now) (map Ok orders.items))) }
+    ensures err { IfOk result (λ judged. IfErr judged (λ refused. AreRefused (items_view items.now) refused.items)) }
+{
+    let mut orders = Vec::new(alloc);
+    let mut refused = Vec::new(alloc);
+    let mut number: u64 = 0;
+    for item in items {
+        number += 1;
+        match order_of(item) {
+            Ok(order) if refused.is_empty() => orders.push(order)?,
+            Ok(_) => {}
+            Err(fault) => refused.push((number, fault))?,
+        }
+    }
+    if refused.is_empty() {
+        return Ok(Ok(orders));
+    }
+    Ok(Err(refused))
+}
+
+/// Reads a list of orders, and says what `orders_of` does (profile).
+///
+/// InputFault 13 TooBig where there are more than 16777216 bytes, 11 Json, 12 Document, 20 Memory, and 21 File
+/// where the reader failed.
+pub fn read_orders<R: Read>(
+    alloc: Global,
+    reader: &mut R,
+) -> Result<Result<Vec<Order>, Vec<(u64, ItemFault)>>, InputFault>
+    ensures ok { IfOk result (λ judged. IfOk judged (λ orders.
+        HasOrders (R.remaining reader.old) (R.remaining reader.new) orders.items)) }
+    ensures refused { IfOk result (λ judged. IfErr judged (λ refused.
+        HasRefused (R.remaining reader.old) (R.remaining reader.new) refused.items)) }
+    ensures err { IfErr result (HasNoOrders (R.remaining reader.old) (R.remaining reader.new)) }
+    ensures read { ReadsAtMost orders_limit (R.remaining reader.old) (R.remaining reader.new) }
+{
+    let input = read_input(alloc, reader, ORDERS_LIMIT)?;
+    match items_of(alloc, input.as_slice(), ORDERS_LIMIT) {
+        Ok(items) => Ok(orders_of(alloc, items.as_slice())?),
+        Err(fault) => Err(fault),
+    }
+}

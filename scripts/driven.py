@@ -231,5 +231,6 @@ def judge(bus, banks, data):
 
 
 def kept_lines(data):
-    """Give the lines in which the orders of a journal are replied to once more, each with its code."""
-    return [f"reply {group.number} kept {group.code} {NAMES[group.code]}" for group in groups_of(data)]
+    """Give the lines in which the ended orders of a journal are replied to once more, each with its code."""
+    ended = [group for group in groups_of(data) if group.code is not None]
+    return [f"reply {group.number} kept {group.code} {NAMES[group.code]}" for group in ended]

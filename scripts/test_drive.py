@@ -212,7 +212,7 @@ def finish(desk, scene, bus, codes=None):
     judge(bus, scene.banks(), data)
     lines = kept_lines(data)
     assert set(lines) <= set(ended.told.splitlines()), (lines, ended.told)
-    want([group.number for group in groups_of(data)], [order["order"] for order in scene.orders])
+    want([int(line.split()[1]) for line in lines], [order["order"] for order in scene.orders])
     if codes is not None:
         want({group.number: group.code for group in groups_of(data)}, codes)
     want(desk.over(bus), Ended(0, b"", "".join(line + "\n" for line in lines)))
@@ -244,6 +244,36 @@ def test_gtin_on_disk(folder):
         want(bytes(bus.units[0].banks[1]), BLANK[:3] + GTIN_BYTES + BLANK[9:])
         want(desk.held(), DONE_JOURNAL)
         want(desk.over(bus), Ended(0, b"", "reply 1 kept 0 Done\n"))
+
+
+def test_the_journal_command_reads_what_drive_wrote(folder):
+    for name, scene in SCENES.items():
+        desk = desk_of(folder, scene.orders, b"")
+        desk.over(scene.bus())
+        told = subprocess.run([desk.program, "journal", desk.journal], capture_output=True, text=True).stdout
+        size, count = len(desk.held()), len(scene.orders)
+        want((name, told.splitlines()[-1]), (name, f"counts {size} of {size} orders {count} standing idle"))
+
+
+def many_orders(count):
+    """Give the journal of so many orders that a unit didn't answer."""
+    return b"".join(b"B" + number.to_bytes(8, "big") + bytes.fromhex("09 01 1318 4503") for number in range(count))
+
+
+def test_a_full_journal(folder):
+    again, more = {"order": 7, "unit": 9, "year": 24}, {"order": 100000, "unit": 9, "year": 24}
+    desk = desk_of(folder, [again, more, again], many_orders(100000))
+    ended = desk.give(SILENCE)
+    want((ended.sent, ended.told), (b"", "reply 7 kept 3 Silent\nreply 100000 full\nreply 7 kept 3 Silent\n"))
+    want(len(desk.held()), 1500000)
+    desk.journal.write_bytes(many_orders(100001))
+    want(last_line(desk.give(SILENCE)), (1, b"", "journal fault 6 Full at 1500000"))
+
+
+def test_the_last_order_of_a_journal(folder):
+    desk = desk_of(folder, ABSENT, many_orders(1) + many_orders(100000)[30:])
+    want(desk.give(SILENCE), Ended(0, ABSENT_FRAMES, "reply 1 taken\n" + KEPT_SILENT))
+    want(desk.held()[-25:], ABSENT_JOURNAL)
 
 
 def test_the_same_number_for_another_order(folder):
@@ -369,6 +399,9 @@ def check_order(calls, journal):
             assert len(bytes.fromhex(call.detail)) == 5, call
             check_ground(bytes.fromhex(call.detail), written)
             is_answer_due = True
+        elif call.kind == "write" and call.target == "err":
+            told = bytes.fromhex(call.detail).decode()
+            assert " kept " not in told or not unsynced and told.strip() in kept_lines(written), (told, written)
         elif call.kind == "read" and call.target == "in":
             is_answer_due = False
     want((unsynced, is_folder_due, written), (False, False, journal))
@@ -389,10 +422,7 @@ def test_records_are_synced_before_frames(folder):
         calls, ended = calls_of(desk, lambda variables: desk.over(bus, environment=variables))
         want(ended.status, 0)
         check_order(calls, desk.held())
-        kept = [call for call in calls if call.target == "err" and b" kept " in bytes.fromhex(call.detail)]
-        want(len(kept), len(scene.orders))
-        before = calls[:calls.index(kept[0])]
-        want([call.kind for call in before if call.target == "journal"][-2:], ["write", "sync"])
+        want(ended.told.count(" kept "), len(scene.orders))
 
 
 def test_a_cut_is_synced_before_frames(folder):

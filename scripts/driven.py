@@ -191,7 +191,8 @@ def groups_of(data):
             assert last.code is None and not last.is_opened and body[0] == last.unit, "it opens wrongly"
             groups[-1] = last._replace(is_opened=True)
         elif kind == "E":
-            assert last.code is None and body[0] <= 5 and last.is_opened == (body[0] not in UNTOUCHED), "it ends wrongly"
+            is_fitting = body[0] <= 5 and last.is_opened == (body[0] not in UNTOUCHED)
+            assert last.code is None and is_fitting, "it ends wrongly"
             groups[-1] = last._replace(code=body[0])
         else:
             assert last.code == DOUBT_OPEN and not last.is_closed and body[0] == last.unit, "it closes wrongly"

@@ -66,11 +66,11 @@ class Desk:
         settings = {**os.environ, **environment} if environment else None
         return subprocess.Popen(self.words(), env=settings, **{**streams, **options})
 
-    def give(self, answers, environment=None, **options):
+    def give(self, answers, environment=None, timeout=PATIENCE, **options):
         """Run the program with all of its standard input given at once."""
         command = self.start(environment, **options)
         try:
-            sent, told = command.communicate(answers, PATIENCE)
+            sent, told = command.communicate(answers, timeout)
         finally:
             command.kill()
         return Ended(command.returncode, sent, (told or b"").decode())

@@ -20,8 +20,11 @@ import sys
 import tempfile
 import traceback
 
-import driven
-from driven import Desk, Ended, groups_of, judge, kept_lines, records_of, simulated_link
+sys.dont_write_bytecode = True
+
+import driven  # noqa: E402
+import test_desk  # noqa: E402
+from driven import Desk, Ended, groups_of, judge, kept_lines, records_of, simulated_link  # noqa: E402
 
 GTIN = "4006381333931"
 GTIN_BYTES = bytes.fromhex("03A4CEEFADAB")
@@ -131,6 +134,26 @@ def test_journal_of_a_stopped_run(folder):
         desk = desk_of(folder, orders, ABSENT_BEGAN)
         want(desk.give(SILENCE), Ended(0, ABSENT_FRAMES, KEPT_SILENT * (1 + len(orders))))
         want(desk.held(), ABSENT_JOURNAL)
+
+
+def test_other_orders_after_a_stopped_run(folder):
+    second = {"order": 2, "unit": 9, "gtin": GTIN}
+    desk = desk_of(folder, [{**ABSENT[0], "unit": 10}, second, *ABSENT], ABSENT_BEGAN)
+    told = KEPT_SILENT + "reply 1 reused\nreply 2 taken\nreply 2 kept 3 Silent\n" + KEPT_SILENT
+    want(desk.give(SILENCE * 2), Ended(0, ABSENT_FRAMES * 2, told))
+    want(desk.held(), ABSENT_JOURNAL + ABSENT_BEGAN[:8] + b"\2" + ABSENT_BEGAN[9:] + b"E\3")
+
+
+def test_journal_of_a_run_that_was_stopped_at_its_writes(folder):
+    opened = ABSENT_BEGAN + b"O\x09"
+    write, read = b"1381\n1381\nC301\n139C\n" * 8, b"C301\n139C\n" * 8
+    desk = desk_of(folder, ABSENT, opened)
+    want(desk.give(b"--\n" * 80), Ended(0, write * 2 + read, "reply 1 kept 5 DoubtOpen\n" * 2))
+    want(desk.held(), opened + b"E\5")
+    desk.write_orders([{"order": 2, "unit": 6, "year": 24}, *ABSENT])
+    told = "reply 2 taken\nreply 2 blocked 9\nreply 1 kept 5 DoubtOpen\n"
+    want(desk.give(b"--\n" * 48), Ended(0, write + read, told))
+    want(desk.held(), opened + b"E\5")
 
 
 def test_journal_cut_anywhere(folder):
@@ -265,7 +288,7 @@ def test_a_full_journal(folder):
     again, more = {"order": 7, "unit": 9, "year": 24}, {"order": 100000, "unit": 9, "year": 24}
     desk = desk_of(folder, [again, more, again], many_orders(100000))
     ended = desk.give(SILENCE)
-    want((ended.sent, ended.told), (b"", "reply 7 kept 3 Silent\nreply 100000 full\nreply 7 kept 3 Silent\n"))
+    want(ended, Ended(0, b"", "reply 7 kept 3 Silent\nreply 100000 full\nreply 7 kept 3 Silent\n"))
     want(len(desk.held()), 1500000)
     desk.journal.write_bytes(many_orders(100001))
     want(last_line(desk.give(SILENCE)), (1, b"", "journal fault 6 Full at 1500000"))
@@ -282,7 +305,7 @@ def test_the_same_number_for_another_order(folder):
     desk.over(bus)
     desk.write_orders([{"order": 1, "unit": 5, "gtin": "96385074"}, {"order": 1, "unit": 9, "gtin": GTIN}, *PRESENT])
     ended = desk.over(bus)
-    want((ended.sent, ended.told), (b"", "reply 1 reused\n" * 2 + "reply 1 kept 0 Done\n"))
+    want(ended, Ended(0, b"", "reply 1 reused\n" * 2 + "reply 1 kept 0 Done\n"))
     want(desk.held(), DONE_JOURNAL)
 
 
@@ -292,10 +315,31 @@ def test_a_unit_that_stays_left(folder):
     bus.lost_frames = set(range(40, 400))
     ended = desk.over(bus)
     lines = ["reply 21 taken", "reply 21 kept 5 DoubtOpen", "reply 22 taken", "reply 22 blocked 5"]
-    want(ended.told.splitlines(), lines)
+    want((ended.status, ended.told.splitlines()), (0, lines))
     judge(bus, LEFT.banks(), desk.held())
     bus.lost_frames = set()
     finish(desk, LEFT, bus, LEFT.codes)
+
+
+def test_over_the_simulated_adapter(folder):
+    desk = desk_of(folder, PRESENT)
+    adapter = [driven.ROOT / "examples" / "desk" / "simulated_link.py", "--folder", folder, "--lose-answer", "50"]
+    for told in (DONE_TOLD, "reply 1 kept 0 Done\n"):
+        ended = subprocess.run([*adapter, "--", *desk.words()], capture_output=True, text=True, timeout=driven.PATIENCE)
+        want((ended.returncode, ended.stdout, ended.stderr), (0, "", told))
+    want(bytes.fromhex((folder / "unit_5.hex").read_text()), BLANK[:3] + GTIN_BYTES + BLANK[9:])
+
+
+def test_over_the_serial_adapter(folder):
+    desk = desk_of(folder, ABSENT)
+    interface = test_desk.Interface([[b"N\r"]] * 10)
+    adapter = [driven.ROOT / "examples" / "desk" / "serial_link.py", interface.device, "--"]
+    ended = subprocess.run([*adapter, *desk.words()], capture_output=True, text=True, timeout=driven.PATIENCE)
+    interface.close()
+    want((ended.returncode, interface.heard), (1, ["SC301\r", "S139C\r"] * 5 + ["SC301\r"]))
+    assert {"reply 1 taken", "drive fault 4 End"} < set(ended.stderr.splitlines()), ended.stderr
+    want(desk.held(), ABSENT_BEGAN)
+    goes_on(desk)
 
 
 # Kills
@@ -626,11 +670,13 @@ def test_files_that_are_no_journal(folder):
         want(desk.held(), bytes.fromhex(digits))
 
 
-def test_journal_on_a_full_device(folder):
-    desk = desk_of(folder, ABSENT)
-    desk.journal = pathlib.Path("/dev/full")
-    status, sent, _ = last_line(desk.give(SILENCE))
-    assert status in (1, 2) and sent == b"", (status, sent)
+def test_journal_that_is_no_regular_file(folder):
+    os.mkfifo(folder / "pipe")
+    for path in ("/dev/full", "/dev/null", "/dev/stdin", "/dev/stdout", folder / "pipe"):
+        desk = desk_of(folder, ABSENT)
+        desk.journal = pathlib.Path(path)
+        status, sent, _ = last_line(desk.give(SILENCE, timeout=2))
+        assert status in (1, 2) and sent == b"", (path, status, sent)
 
 
 def test_journal_on_a_full_file_system(folder):

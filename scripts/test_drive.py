@@ -511,22 +511,22 @@ def absent_calls(desk, start):
     return [call for call in calls if call.kind in ("open", "read", "write", "sync", "cut", "lock", "seek")]
 
 
-def each_call_spoiled(folder, effect, values):
+def each_call_spoiled(folder, effect, value):
     """Run the absent unit with each call spoiled in turn; give the desk, the call and how the run ended."""
     desk = desk_of(folder, ABSENT)
     for start in (None, ABSENT_JOURNAL[:24]):
         for call in absent_calls(desk, start):
             if effect == "short" and call.kind not in ("read", "write") or call.result < 0:
                 continue
-            for value in values:
-                desk.journal.unlink(missing_ok=True)
-                if start is not None:
-                    desk.journal.write_bytes(start)
-                yield desk, call, desk.give(SILENCE, shim(desk, call.act(effect, value)))
+            desk.journal.unlink(missing_ok=True)
+            if start is not None:
+                desk.journal.write_bytes(start)
+            yield desk, call, desk.give(SILENCE, shim(desk, call.act(effect, value)))
 
 
-def test_each_call_failing(folder):
-    for desk, call, ended in each_call_spoiled(folder, "fail", (errno.EIO, errno.ENOSPC)):
+@parts(2)
+def test_each_call_failing(folder, part, _):
+    for desk, call, ended in each_call_spoiled(folder, "fail", (errno.EIO, errno.ENOSPC)[part]):
         status, sent, line = last_line(ended)
         assert status == 2 and line in faults_of(call), (call, ended)
         assert ABSENT_FRAMES.startswith(sent), (call, sent)
@@ -536,13 +536,13 @@ def test_each_call_failing(folder):
 
 
 def test_interrupted_calls_change_nothing(folder):
-    for desk, call, ended in each_call_spoiled(folder, "fail", (errno.EINTR,)):
+    for desk, call, ended in each_call_spoiled(folder, "fail", errno.EINTR):
         want((call, ended.status, ended.sent), (call, 0, ABSENT_FRAMES))
         want(desk.held(), ABSENT_JOURNAL)
 
 
 def test_short_calls_change_nothing(folder):
-    for desk, call, ended in each_call_spoiled(folder, "short", (0,)):
+    for desk, call, ended in each_call_spoiled(folder, "short", 0):
         want((call, ended.status, ended.sent), (call, 0, ABSENT_FRAMES))
         want(desk.held(), ABSENT_JOURNAL)
     for kind, target in [("write", "journal"), ("write", "out"), ("write", "err"), ("write", "any"), ("read", "any")]:
@@ -551,6 +551,14 @@ def test_short_calls_change_nothing(folder):
             ended = desk.give(SILENCE, shim(desk, f"{kind} {target} 0 short"))
             want((kind, target, ended.status, ended.sent), (kind, target, 0, ABSENT_FRAMES))
             want(desk.held(), ABSENT_JOURNAL)
+
+
+@parts(2)
+def test_kills_at_each_call(folder, part, _):
+    for desk, call, ended in each_call_spoiled(folder, ("kill", "killed")[part], 0):
+        want((call, ended.status), (call, -signal.SIGKILL))
+        assert ABSENT_FRAMES.startswith(ended.sent), (call, ended)
+        goes_on(desk)
 
 
 def acts_on(calls):
@@ -675,7 +683,7 @@ def test_journal_that_is_no_regular_file(folder):
     for path in ("/dev/full", "/dev/null", "/dev/stdin", "/dev/stdout", folder / "pipe"):
         desk = desk_of(folder, ABSENT)
         desk.journal = pathlib.Path(path)
-        status, sent, _ = last_line(desk.give(SILENCE, timeout=2))
+        status, sent, _ = last_line(desk.give(SILENCE, timeout=5))
         assert status in (1, 2) and sent == b"", (path, status, sent)
 
 

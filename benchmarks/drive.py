@@ -1,0 +1,213 @@
+#!/usr/bin/env python3
+"""Measure how long `dali_bench drive` takes, beyond its link.
+
+Orders of a GTIN (96 frames and three records each) for a few units are sent
+through pipes to a link that answers at once (null_link.c). What the pipes
+alone take is measured with a command that does nothing but send and read.
+
+1. By the number of orders: 10, 100, 1000, with the journal in memory and
+   nothing synced (drive_shim.c passes over each sync): the program's own
+   share of a frame, and its peak memory.
+2. By where the journal is: in a folder on disk, in /dev/shm, and on disk
+   with nothing synced.
+3. Sent again: 1000 orders that the journal knows, which send no frame.
+
+Status 0: every order was done. Status 1: one wasn't, or the frames were too
+many or too few. Status 2: a program couldn't be built or run.
+"""
+
+import json
+import os
+import pathlib
+import subprocess
+import sys
+import tempfile
+from typing import NamedTuple
+
+from measuring import (
+    KIBIBYTE,
+    MEBIBYTE,
+    REPOSITORY,
+    argument_parser,
+    print_machine,
+    working_folder,
+)
+
+PROGRAM = REPOSITORY / "crates" / "dali_bench" / "out" / "dali_bench"
+GTIN = "4006381333931"
+UNITS = 5
+FRAMES_OF_ORDER = 96
+RECORDS_OF_ORDER = 3
+MEMORY_FOLDER = pathlib.Path("/dev/shm")
+
+
+class Driven(NamedTuple):
+    """What one run of a command under the link took."""
+
+    frames: int
+    seconds: float
+    processor_seconds: float
+    peak_memory: int
+    status: int
+
+
+class Bench:
+    """The built link and shim, and runs under them."""
+
+    def __init__(self, program, folder, runs):
+        self.program = program
+        self.folder = folder
+        self.runs = runs
+        self.link = folder / "null_link"
+        self.shim = folder / "drive_shim.so"
+        source = REPOSITORY / "benchmarks" / "null_link.c"
+        subprocess.run(["cc", "-O2", "-o", self.link, source], check=True)
+        source = REPOSITORY / "scripts" / "drive_shim.c"
+        subprocess.run(
+            ["cc", "-O2", "-shared", "-fPIC", "-o", self.shim, source], check=True
+        )
+
+    def run(self, words, environment=None):
+        """Run a command under the link once."""
+        shim = [] if environment is None else ["/usr/bin/env", *environment]
+        told = subprocess.run(
+            [self.link, *shim, *words],
+            check=True,
+            capture_output=True,
+            text=True,
+            stdin=subprocess.DEVNULL,
+        )
+        frames, nanoseconds, microseconds, memory, status = map(
+            int, told.stdout.split()
+        )
+        return Driven(
+            frames,
+            nanoseconds / 1e9,
+            microseconds / 1e6,
+            memory * KIBIBYTE,
+            status,
+        ), told.stderr
+
+    def pipes(self, frames):
+        """Measure what the pipes alone take."""
+        words = [self.link, "--ask", str(frames)]
+        return least([self.run(words)[0] for _ in range(self.runs)])
+
+    def orders(self, count):
+        """Write a file of so many orders."""
+        path = self.folder / f"orders_{count}.json"
+        orders = [
+            {"order": 1 + index, "unit": index % UNITS, "gtin": GTIN}
+            for index in range(count)
+        ]
+        path.write_text(json.dumps(orders), encoding="ascii")
+        return path
+
+    def drive(self, count, place, is_synced=True, is_sent_again=False):
+        """Measure runs of so many orders with the journal at a place."""
+        orders = self.orders(count)
+        found = []
+        with tempfile.TemporaryDirectory(dir=place) as folder:
+            journal = pathlib.Path(folder) / "bench.journal"
+            words = [self.program, "drive", orders, journal]
+            shim = [f"LD_PRELOAD={self.shim}", "DRIVE_SHIM_ACT=sync any 0 skip 0"]
+            if is_sent_again:
+                self.run(words, shim)
+            for _ in range(self.runs):
+                if not is_sent_again:
+                    journal.unlink(missing_ok=True)
+                driven, told = self.run(words, None if is_synced else shim)
+                frames = 0 if is_sent_again else FRAMES_OF_ORDER * count
+                done = told.count(" kept 0 Done\n")
+                if (driven.status, driven.frames, done) != (0, frames, count):
+                    raise ValueError(f"{driven}, {done} orders of {count} done")
+                found.append(driven)
+        return least(found)
+
+
+def least(runs):
+    """Give the least times and the highest peak memory of several runs."""
+    return runs[0]._replace(
+        seconds=min(run.seconds for run in runs),
+        processor_seconds=min(run.processor_seconds for run in runs),
+        peak_memory=max(run.peak_memory for run in runs),
+    )
+
+
+def print_run(name, driven, pipes, count, start=0.0):
+    """Print what a run takes by frame and by order, beside the pipes alone.
+
+    The own share leaves out the processor seconds of the start.
+    """
+    frames = driven.frames
+    own = driven.processor_seconds - pipes.processor_seconds - start
+    beyond = driven.seconds - pipes.seconds
+    print(
+        f"{name}: {driven.seconds:.3f} s,"
+        f" a frame {driven.seconds / frames * 1e6:.1f} us"
+        f" (beyond the pipes {beyond / frames * 1e6:.1f} us,"
+        f" processor {driven.processor_seconds / frames * 1e6:.1f} us,"
+        f" own share {own / frames * 1e6:.1f} us),"
+        f" an order {driven.seconds / count * 1e3:.2f} ms,"
+        f" memory {driven.peak_memory / MEBIBYTE:.1f} MiB"
+    )
+
+
+def measure(bench):
+    """Measure and print everything."""
+    disk = bench.folder
+    memory = MEMORY_FOLDER if os.access(MEMORY_FOLDER, os.W_OK) else disk
+    pipes = {
+        count: bench.pipes(FRAMES_OF_ORDER * count) for count in (10, 100, 1000)
+    }
+    for count, alone in pipes.items():
+        frames = FRAMES_OF_ORDER * count
+        print(
+            f"pipes alone, {frames} frames: a frame"
+            f" {alone.seconds / frames * 1e6:.1f} us,"
+            f" processor {alone.processor_seconds / frames * 1e6:.1f} us"
+        )
+    start = bench.drive(0, memory, is_synced=False).processor_seconds
+    print(f"the start: {start * 1e3:.1f} ms of the processor")
+    for count, alone in pipes.items():
+        driven = bench.drive(count, memory, is_synced=False)
+        name = f"{count} orders, in memory, not synced"
+        print_run(name, driven, alone, count, start)
+    unsynced = bench.drive(1000, disk, is_synced=False)
+    print_run("1000 orders, on disk, not synced", unsynced, pipes[1000], 1000, start)
+    in_memory = bench.drive(1000, memory)
+    print_run("1000 orders, in memory, synced", in_memory, pipes[1000], 1000, start)
+    on_disk = bench.drive(1000, disk)
+    print_run("1000 orders, on disk, synced", on_disk, pipes[1000], 1000, start)
+    synced = (on_disk.seconds - unsynced.seconds) / 1000
+    print(
+        f"syncing takes {synced * 1e3:.2f} ms of an order on disk,"
+        f" {synced / RECORDS_OF_ORDER * 1e3:.2f} ms a record"
+    )
+    again = bench.drive(1000, disk, is_sent_again=True)
+    print(
+        f"1000 orders sent again: {again.seconds * 1e3:.1f} ms, no frame,"
+        f" memory {again.peak_memory / MEBIBYTE:.1f} MiB"
+    )
+
+
+def main():
+    """Measure, and tell whether each order was done."""
+    parser = argument_parser(__doc__.splitlines()[0], PROGRAM, 3)
+    arguments = parser.parse_args()
+    print_machine()
+    try:
+        with working_folder(arguments.keep) as folder:
+            folder = pathlib.Path(folder).resolve()
+            measure(Bench(arguments.program.resolve(), folder, arguments.runs))
+    except (OSError, subprocess.CalledProcessError) as error:
+        print(f"a program couldn't be built or run: {error}", file=sys.stderr)
+        return 2
+    except ValueError as error:
+        print(f"a run went wrong: {error}")
+        return 1
+    return 0
+
+
+if __name__ == "__main__":
+    sys.exit(main())

@@ -1,0 +1,237 @@
+"""Runs of `dali_bench drive` over pipes, and the judge of what they leave: used by scripts/test_drive.py.
+
+The journal is read and judged here by docs/JOURNAL.md and docs/WRITER.md alone, with nothing of the program's own.
+"""
+
+import importlib.util
+import json
+import os
+import pathlib
+import select
+import subprocess
+import sys
+from typing import NamedTuple
+
+ROOT = pathlib.Path(__file__).resolve().parent.parent
+LOCK_BYTE = 0x02
+SHUT = 0xFF
+DONE, DOUBT_OPEN = 0, 5
+UNTOUCHED = (1, 2, 3)
+NAMES = ("Done", "Short", "Format", "Silent", "Doubt", "DoubtOpen")
+PATIENCE = 20  # seconds after which a run counts as hanging
+
+
+def load(path):
+    """Import a script without leaving compiled code beside it."""
+    sys.dont_write_bytecode = True
+    spec = importlib.util.spec_from_file_location(path.stem, path)
+    module = importlib.util.module_from_spec(spec)
+    spec.loader.exec_module(module)
+    return module
+
+
+simulated_link = load(ROOT / "examples" / "desk" / "simulated_link.py")
+
+
+class Ended(NamedTuple):
+    """How a run ended: its status (minus the signal's number where one ended it), its frames' lines, what it told."""
+
+    status: int
+    sent: bytes
+    told: str
+
+
+class Desk:
+    """A folder with a file of orders and a journal, and runs of the program on both."""
+
+    def __init__(self, program, folder, orders):
+        """Write the orders; a text stands as it is, all else as JSON."""
+        self.program = program
+        self.folder = pathlib.Path(folder)
+        self.orders = self.folder / "orders.json"
+        self.journal = self.folder / "bench.journal"
+        self.write_orders(orders)
+
+    def write_orders(self, orders):
+        """Replace the orders."""
+        self.orders.write_text(orders if isinstance(orders, str) else json.dumps(orders))
+
+    def words(self):
+        """Give the command line."""
+        return [self.program, "drive", self.orders, self.journal]
+
+    def start(self, environment=None, **options):
+        """Start the program with pipes, which `options` of Popen may replace."""
+        streams = {"stdin": subprocess.PIPE, "stdout": subprocess.PIPE, "stderr": subprocess.PIPE, "bufsize": 0}
+        settings = {**os.environ, **environment} if environment else None
+        return subprocess.Popen(self.words(), env=settings, **{**streams, **options})
+
+    def give(self, answers, environment=None, timeout=PATIENCE, **options):
+        """Run the program with all of its standard input given at once."""
+        command = self.start(environment, **options)
+        try:
+            sent, told = command.communicate(answers, timeout)
+        finally:
+            command.kill()
+        return Ended(command.returncode, sent, (told or b"").decode())
+
+    def over(self, bus, stop=None, environment=None):
+        """Run the program over a bus; a stop (k, moment) kills it at its frame k, once that is `sent` or `carried`."""
+        command = self.start(environment)
+        frames = []
+
+        def read_line():
+            line = line_from(command.stdout)
+            if line:
+                frames.append(line)
+            if stop == (len(frames), "sent"):
+                command.kill()
+                return b""
+            return line
+
+        def write_line(line):
+            if stop == (len(frames), "carried"):
+                command.kill()
+                raise BrokenPipeError
+            command.stdin.write(line)
+
+        try:
+            simulated_link.answer_lines(bus, read_line, write_line)
+        except BaseException:
+            command.kill()
+            raise
+        finally:
+            command.stdin.close()
+            command.stdout.close()
+            told = command.stderr.read().decode()
+            command.stderr.close()
+            status = command.wait(PATIENCE)
+        return Ended(status, b"".join(frames), told)
+
+    def held(self):
+        """Give the journal's bytes."""
+        return self.journal.read_bytes()
+
+
+def line_from(pipe):
+    """Read one line of a frame, or what is left at the end."""
+    line = b""
+    while not line.endswith(b"\n"):
+        if not select.select([pipe], [], [], PATIENCE)[0]:
+            raise TimeoutError(f"neither a frame nor an end came in {PATIENCE} seconds")
+        piece = os.read(pipe.fileno(), 64)
+        if not piece:
+            break
+        line += piece
+    assert line.count(b"\n") <= 1, f"a frame was sent before its answer was there: {line!r}"
+    return line
+
+
+class Group(NamedTuple):
+    """What a journal says of one order: how far it has come, and its code once it has ended."""
+
+    number: int
+    unit: int
+    updates: list
+    is_opened: bool
+    code: int | None
+    is_closed: bool
+
+    def is_done(self):
+        """Whether its bytes are in the bank."""
+        return self.code == DONE
+
+    def is_in_doubt(self):
+        """Whether each of its locations may hold its old byte or the new one."""
+        return self.is_opened and self.code != DONE
+
+    def may_leave_enabled(self):
+        """Whether its unit may be write-enabled after it."""
+        return self.is_opened and (self.code is None or self.code == DOUBT_OPEN and not self.is_closed)
+
+
+def began_length(data, at):
+    """Give how long the Began at this place is, or None where its head is cut."""
+    return 11 + 2 * data[at + 10] if at + 10 < len(data) else None
+
+
+def records_of(data):
+    """Read the whole records of a journal's bytes; return their places with them, and how many bytes count."""
+    at, records = 0, []
+    while at < len(data):
+        kind = chr(data[at])
+        assert kind in "BOEC", f"at {at} stands no record: {data[at:at + 20].hex()}"
+        length = began_length(data, at) if kind == "B" else 2
+        if length is None or at + length > len(data):
+            break
+        records.append((kind, data[at + 1:at + length]))
+        at += length
+    return records, at
+
+
+def begun(body):
+    """Read a Began's body as a group that has come no further, and test what an order may be."""
+    number, unit, count = int.from_bytes(body[:8], "big"), body[8], body[9]
+    updates = list(zip(body[10::2], body[11::2]))
+    locations = [location for location, _ in updates]
+    assert unit <= 63 and 1 <= count <= 115 and locations == sorted(set(locations)), body.hex()
+    assert all(3 <= location <= 0x10 or 0x13 <= location <= 0x77 for location in locations), body.hex()
+    return Group(number, unit, updates, False, None, False)
+
+
+def groups_of(data):
+    """Read a journal's bytes as the groups of its orders; what is cut at the end doesn't count."""
+    groups = []
+    for kind, body in records_of(data)[0]:
+        last = groups[-1] if groups else None
+        if kind == "B":
+            assert last is None or last.code is not None and not last.may_leave_enabled(), "it begins too early"
+            groups.append(begun(body))
+        elif kind == "O":
+            assert last.code is None and not last.is_opened and body[0] == last.unit, "it opens wrongly"
+            groups[-1] = last._replace(is_opened=True)
+        elif kind == "E":
+            is_fitting = body[0] <= 5 and last.is_opened == (body[0] not in UNTOUCHED)
+            assert last.code is None and is_fitting, "it ends wrongly"
+            groups[-1] = last._replace(code=body[0])
+        else:
+            assert last.code == DOUBT_OPEN and not last.is_closed and body[0] == last.unit, "it closes wrongly"
+            groups[-1] = last._replace(is_closed=True)
+    numbers = [group.number for group in groups]
+    assert len(numbers) == len(set(numbers)), f"an order begins twice: {numbers}"
+    return groups
+
+
+def possible_bytes(bank, groups):
+    """Give the set of bytes that each location of a unit may hold after the groups of its orders."""
+    possible = [{byte} for byte in bank]
+    for group in groups:
+        for location, byte in group.updates:
+            if group.is_done():
+                possible[location] = {byte}
+            elif group.is_in_doubt() and location < len(possible):
+                possible[location] = possible[location] | {byte}
+    return possible
+
+
+def judge(bus, banks, data):
+    """Raise unless each unit stands as the journal's bytes say; `banks` has bank 1 of each unit at the start."""
+    groups = groups_of(data)
+    for unit in bus.units:
+        name = f"unit {unit.short_address}"
+        its_own = [group for group in groups if group.unit == unit.short_address]
+        possible = possible_bytes(banks[unit.short_address], its_own)
+        for location, byte in enumerate(unit.banks[1]):
+            is_free = location == LOCK_BYTE and any(group.is_opened for group in its_own)
+            assert is_free or byte in possible[location], f"{name} holds {byte:02X} at {location:02X}"
+        if its_own and its_own[-1].is_done():
+            assert unit.banks[1][LOCK_BYTE] == SHUT, f"{name} is done and unlocked"
+        assert unit.banks[2] == simulated_link.BANK_2, f"{name} has another bank 2"
+        is_left = groups and groups[-1].unit == unit.short_address and groups[-1].may_leave_enabled()
+        assert is_left or not unit.is_enabled, f"{name} is write-enabled"
+
+
+def kept_lines(data):
+    """Give the lines in which the ended orders of a journal are replied to once more, each with its code."""
+    ended = [group for group in groups_of(data) if group.code is not None]
+    return [f"reply {group.number} kept {group.code} {NAMES[group.code]}" for group in ended]

@@ -1,7 +1,10 @@
 mod bench;
 mod case;
+mod driving;
 mod gtin;
 mod losses;
 mod stops;
+mod streams;
+mod sweeps;
 mod worked;
 mod worked_plans;

@@ -185,7 +185,7 @@ impl Place {
 // A run of the GTIN as order 1 for a unit.
 struct Run<'a> {
     unit: u8,
-    frames: usize,
+    frames: u8,
     // The first lines of the link, and of the answers.
     first: (&'a str, &'a str),
     journal: &'a [u8],
@@ -306,26 +306,35 @@ fn judge_place(
     Ok(())
 }
 
-// The run, whole, and then with each stream failing at each place.
-fn sweep(rt: &impl Abort, alloc: Global, run: &Run<'_>) -> Result<(), Fail> {
+// The run with no stream failing.
+fn judge_whole(rt: &impl Abort, alloc: Global, run: &Run<'_>, whole: &Seen) -> Result<(), Fail> {
     let orders = [gtin_order(run.unit)?];
-    let whole = by_hand(alloc, &mut one_unit(alloc)?, &[], &orders[0], None)?;
     let left = drive_on(alloc, &[], &orders, &whole.answers, ALL)?;
     assert_eq!(rt; left.fault, None);
+    assert_eq!(rt; left.failed, [false; 4]);
+    assert_eq!(rt; left.taken, 3 * usize::from(run.frames));
+    assert_eq!(rt; left.link.len(), 5 * usize::from(run.frames));
     assert_eq!(rt; left.link.as_slice(), whole.link.as_slice());
     assert_eq!(rt; left.journal.as_slice(), run.journal);
     assert_eq!(rt; left.out.as_slice(), run.said[0].as_bytes());
-    assert_eq!(rt; whole.frames.len(), run.frames);
     let (lines, answers) = run.first;
     assert!(rt; whole.link.starts_with(lines.as_bytes()));
     assert!(rt; whole.answers.starts_with(answers.as_bytes()));
+    Ok(())
+}
+
+// The run, whole, and then with each stream failing at each place.
+fn sweep(rt: &impl Abort, alloc: Global, run: &Run<'_>) -> Result<(), Fail> {
+    let order = gtin_order(run.unit)?;
+    let whole = by_hand(alloc, &mut one_unit(alloc)?, &[], &order, None)?;
+    judge_whole(rt, alloc, run, &whole)?;
     for (stream, places) in [
-        (Stream::Answers, left.taken),
-        (Stream::Link, left.link.len()),
-        (Stream::LinkFlushes, run.frames),
-        (Stream::Journal, left.journal.len()),
+        (Stream::Answers, whole.answers.len()),
+        (Stream::Link, whole.link.len()),
+        (Stream::LinkFlushes, whole.frames.len()),
+        (Stream::Journal, run.journal.len()),
         (Stream::JournalFlushes, run.ends.len()),
-        (Stream::Out, left.out.len()),
+        (Stream::Out, run.said[0].len()),
     ] {
         for number in 0..places {
             for counts in [false, true] {

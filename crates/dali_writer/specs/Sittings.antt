@@ -9,7 +9,7 @@ use Rattle.dali_writer.specs.Legal.{IsFinished}
 use Rattle.dali_writer.specs.Next.{IsNext}
 use Rattle.dali_writer.specs.Transcript.{Streams}
 use Rattle.dali_writer.specs.Driven.{IsDriven, IsBrokenDrive}
-use Rattle.dali_writer.specs.Joined.{Sitting, joined, FollowOn}
+use Rattle.dali_writer.specs.Joined.{Sitting}
 
 -- a journal's file: the bytes of these records, so many, and behind them at most a cut one. That is what `Journal::load` finds in them
 pub record IsFileOf (bytes : List ℕ) (start : Start) (len : ℕ) : Type 0 where

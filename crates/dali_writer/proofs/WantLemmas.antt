@@ -1,5 +1,5 @@
 -- What a writer wants may happen.
-use Rattle.std.proofs.Common.{◌≡◌, refl, sym, subst, ℕ, List, [], ◌∷◌, Option, Some, None, IsSome}
+use Rattle.std.proofs.Common.{◌≡◌, refl, sym, subst, List, [], ◌∷◌, Option, Some, None, IsSome}
 use Rattle.dali_bank.specs.Order.{Contents}
 use Rattle.dali_frame.specs.declared.forward.Frame.{Frame}
 use Rattle.dali_journal.specs.declared.record.Record.{Record}
@@ -16,9 +16,8 @@ use Rattle.dali_write.specs.Touches.{writes_of}
 use Rattle.dali_write.specs.Guards.{IsGuarded as IsGuardedFrame}
 use Rattle.dali_write.proofs.GuardLemmas.{older_guarded}
 use Rattle.dali_write.proofs.SessionLemmas.{fresh_sends, opened_sends, closing_sends, fresh_wants, opened_wants, closing_wants}
-use Rattle.dali_writer.specs.declared.happening.Reply.{Reply}
 use Rattle.dali_writer.specs.declared.happening.Happening.{Happening}
-use Rattle.dali_writer.specs.declared.happening.Happening.TheVariants.{Answered, Sent, Kept}
+use Rattle.dali_writer.specs.declared.happening.Happening.TheVariants.{Sent, Kept}
 use Rattle.dali_writer.specs.declared.happening.Want.{Want}
 use Rattle.dali_writer.specs.declared.happening.Want.TheVariants.{Keep, Send, Say}
 use Rattle.dali_writer.specs.declared.happening.Want.TheVariants as wants

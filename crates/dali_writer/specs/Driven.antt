@@ -1,5 +1,5 @@
 -- Which traces a drive makes, and where a fault leaves one.
-use Rattle.std.specs.Prelude.{◌≡◌, ◌≤◌, ◌⊎◌, ◌++◌, ℕ, Bool, true, false, List, [], ◌∷◌, Option, Result, Ok, Err, length, take, reverse}
+use Rattle.std.specs.Prelude.{◌≡◌, ◌≤◌, ◌⊎◌, ◌++◌, ℕ, Bool, true, false, List, [], ◌∷◌, Option, Result, Err, length, take, reverse}
 use Rattle.std.specs.Io.KnownBytes.{Appends, Keeps}
 use Rattle.dali_frame.specs.declared.forward.Frame.{Frame}
 use Rattle.dali_bank.specs.Order.{Contents}
@@ -10,13 +10,13 @@ use Rattle.dali_writer.specs.declared.happening.Reply.TheVariants as replies
 use Rattle.dali_writer.specs.declared.happening.Happening.{Happening}
 use Rattle.dali_writer.specs.declared.happening.Happening.TheVariants.{Asked, Answered, Sent, Kept, Stopped}
 use Rattle.dali_writer.specs.declared.fault.DriveFault.{DriveFault}
-use Rattle.dali_writer.specs.declared.fault.DriveFault.TheVariants.{Journal, Link, Line, End, NoMemory, TooLong, Out}
+use Rattle.dali_writer.specs.declared.fault.DriveFault.TheVariants.{Journal, Link, NoMemory, Out}
 use Rattle.dali_writer.specs.Trace.{Start, is_busy}
 use Rattle.dali_writer.specs.Replies.{IsReply}
 use Rattle.dali_writer.specs.Legal.{Legal, IsFinished}
 use Rattle.dali_writer.specs.ByPlan.{ByPlan}
 use Rattle.dali_writer.specs.Next.{IsNext}
-use Rattle.dali_writer.specs.Held.{Held, IsAtRest}
+use Rattle.dali_writer.specs.Held.{Held}
 use Rattle.dali_writer.specs.Describes.{Describes}
 use Rattle.dali_writer.specs.Follows.{Follows}
 use Rattle.dali_writer.specs.Lines.{frame_line, reply_line, TakesLine}

@@ -1,8 +1,11 @@
 mod bench;
 mod case;
+mod driving;
 mod gtin;
 mod losses;
 mod stops;
+mod streams;
+mod sweeps;
 mod worked;
 mod worked_drives;
 mod worked_plans;

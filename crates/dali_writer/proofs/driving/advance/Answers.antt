@@ -1,4 +1,4 @@
-use Rattle.std.proofs.Common.{◌≡◌, ◌∙◌, ◌∷◌, ℕ, List, Option, refl, sym, subst}
+use Rattle.std.proofs.Common.{◌∙◌, ◌∷◌, refl, sym, subst}
 use Rattle.std.proofs.lemmas.Result.{err_from_is_err_and}
 use Rattle.std.specs.Io.KnownBytes.{Appends}
 use Rattle.dali_writer.specs.declared.happening.Happening.TheVariants.{Kept, Sent, Answered}

@@ -1,4 +1,4 @@
-use Rattle.std.proofs.Common.{ℕ, arith, length-take, length-drop}
+use Rattle.std.proofs.Common.{arith, length-take, length-drop}
 use Rattle.std.proofs.lemmas.Grind.{common_steps}
 use Rattle.dali_writer.proofs.PutLemmas.{put_more}
 use Rattle.dali_writer.proofs.streams.put_all.Goals as goal

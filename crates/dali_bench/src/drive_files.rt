@@ -10,19 +10,16 @@ use std::io::{Read, Write};
 use std::{fs, io};
 
 /// Carries out the orders of a file over a link, with the journal that another file holds.
+///
+/// Nothing is sent where an item is refused, where the orders have a fault (11 Json, 12 Document, 13 TooBig), or where
+/// the journal does (13 TooBig, 3 Record, 4 Sequence, 5 Repeated, 6 Full), or at 20 Memory or 21 File. Each of
+/// these, each reply, and the fault of a drive has its line in `lines`.
 pub fn drive_files<
     R: Files<File = File> + AllocGlobal,
     I: Read + Drop,
     L: Write + Drop,
     O: Write + Drop,
->(
-    rt: &R,
-    orders: &str,
-    journal: &str,
-    link_in: I,
-    link_out: L,
-    mut lines: O,
-) -> Status {
+>(rt: &R, orders: &str, journal: &str, link_in: I, link_out: L, mut lines: O) -> Status {
     match orders_in(rt, orders) {
         Ok(Ok(found)) => on_journal(rt, journal, found.as_slice(), link_in, link_out, lines),
         Ok(Err(refused)) => tell_refused(&mut lines, refused.as_slice()),
@@ -46,14 +43,7 @@ fn on_journal<
     I: Read + Drop,
     L: Write + Drop,
     O: Write + Drop,
->(
-    rt: &R,
-    name: &str,
-    orders: &[Order],
-    link_in: I,
-    link_out: L,
-    mut lines: O,
-) -> Status {
+>(rt: &R, name: &str, orders: &[Order], link_in: I, link_out: L, mut lines: O) -> Status {
     match open_journal(rt, name) {
         Ok((file, journal)) => drive_over(
             journal,
@@ -81,7 +71,10 @@ fn write_hindrance<W: Write>(
             write_failure(lines, fault)
         }
         Hindrance::InUse => {
-            writeln!(lines, "error: the journal is in use by another drive: {name}")?;
+            writeln!(
+                lines,
+                "error: the journal is in use by another drive: {name}"
+            )?;
             write_failure(lines, fault)
         }
     }

@@ -29,7 +29,10 @@ pub enum Job<'a> {
     /// To print the records of a journal.
     Journal(&'a str),
     /// To carry out a file of orders over a link, with the journal of a file.
-    Drive { orders: &'a str, journal: &'a str },
+    Drive {
+        orders: &'a str,
+        journal: &'a str,
+    },
 }
 
 const ABOUT: &str =

@@ -4,10 +4,9 @@ use crate::fault::Fault;
 use crate::journal::read_journal;
 use dali_input::InputFault;
 use dali_journal::Journal;
-use std::fs;
 use std::fs::{File, Files, OpenOptions, TryLockError};
-use std::io;
 use std::io::{ErrorKind, Write};
+use std::{fs, io};
 
 /// Why a file can't serve a drive.
 #[derive(Drop)]

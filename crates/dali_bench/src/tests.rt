@@ -1,5 +1,6 @@
 mod check;
 mod commands;
+mod drive_files;
 mod frame;
 mod job;
 mod journal;

@@ -24,6 +24,11 @@ fn command_lines(rt: HostRuntime) {
     names(&rt, rt.alloc(), "dali_bench frame ", Job::Frame(""));
     let bank = Job::Show("bank.hex");
     names(&rt, rt.alloc(), "dali_bench show bank.hex", bank);
+    let drive = Job::Drive {
+        orders: "o.json",
+        journal: "b.bin",
+    };
+    names(&rt, rt.alloc(), "dali_bench drive o.json b.bin", drive);
 }
 
 #[test]
@@ -57,7 +62,9 @@ fn refused(rt: &impl Abort, alloc: Global, kind: ErrorKind, lines: &str) {
 
 const UNVALUED: &str = "dali_bench check
 dali_bench run
-dali_bench run --frames";
+dali_bench run --frames
+dali_bench drive
+dali_bench drive a";
 
 const UNKNOWN: &str = "dali_bench check a b
 dali_bench check --fast a

@@ -5,7 +5,7 @@ use crate::journal::read_journal;
 use dali_input::InputFault;
 use dali_journal::Journal;
 use std::fs::{File, Files, OpenOptions, TryLockError};
-use std::io::{ErrorKind, Write};
+use std::io::Write;
 use std::{fs, io};
 
 /// Why a file can't serve a drive.
@@ -43,19 +43,11 @@ impl From<Fault> for Hindrance {
 pub struct JournalFile {
     file: File,
     is_regular: bool,
-    length: u64,
-    most: u64,
 }
 
 impl Write for JournalFile {
-    // A write past the limit of the process on the length of files would end the process.
     fn write(&mut self, buf: &[u8]) -> io::Result<usize> {
-        if self.length.saturating_add(buf.len() as u64) > self.most {
-            return Err(io::Error::from(ErrorKind::FileTooLarge));
-        }
-        let count = self.file.write(buf)?;
-        self.length = self.length.saturating_add(count as u64);
-        Ok(count)
+        self.file.write(buf)
     }
 
     fn flush(&mut self) -> io::Result<()> {
@@ -68,7 +60,8 @@ impl Write for JournalFile {
 }
 
 /// Opens the file of a journal, which is made where there is none, for one drive alone, and loads the journal
-/// that it holds. A record that is cut off at its end is cut away.
+/// that it holds. A record that is cut off at its end is cut away. What counts is on the disk then, also where the
+/// drive that wrote it was stopped before it came so far.
 pub fn open_journal<R: Files<File = File> + AllocGlobal>(
     rt: &R,
     name: &str,
@@ -76,22 +69,16 @@ pub fn open_journal<R: Files<File = File> + AllocGlobal>(
     let mut file = locked(rt, name)?;
     let is_regular = file.metadata()?.is_file();
     let (journal, counted, all) = read_journal(rt.alloc(), &mut file)?;
-    if is_regular && counted < all {
-        file.set_len(counted as u64)?;
+    if is_regular {
+        if counted < all {
+            file.set_len(counted as u64)?;
+        }
         file.sync_all()?;
+        if all == 0 {
+            sync_folder(rt, name)?;
+        }
     }
-    // A file that is empty may just have been made, here or by a drive that was stopped before it came so far.
-    if is_regular && all == 0 {
-        file.sync_all()?;
-        sync_folder(rt, name)?;
-    }
-    let file = JournalFile {
-        file,
-        is_regular,
-        length: counted as u64,
-        most: if is_regular { most_bytes() } else { u64::MAX },
-    };
-    Ok((file, journal))
+    Ok((JournalFile { file, is_regular }, journal))
 }
 
 // Opens a file to read it and to append to it, and locks it for as long as it is open.
@@ -116,18 +103,3 @@ fn sync_folder<R: Files<File = File> + AllocGlobal>(rt: &R, name: &str) -> io::R
         None => Ok(()),
     }
 }
-
-// The most bytes that a file of this process may have.
-fn most_bytes() -> u64 {
-    let mut limit = libc::types::rlimit {
-        rlim_cur: u64::MAX,
-        rlim_max: u64::MAX,
-    };
-    if libc::getrlimit(FILE_SIZE, &mut limit) != 0 {
-        return u64::MAX;
-    }
-    limit.rlim_cur
-}
-
-// Linux's number of the limit on the length of files.
-const FILE_SIZE: i32 = 1;

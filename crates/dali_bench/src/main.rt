@@ -10,7 +10,6 @@ mod frame;
 mod job;
 mod journal;
 mod journal_file;
-mod line_writer;
 mod run_scenario;
 mod show;
 #[cfg(test)]
@@ -23,13 +22,12 @@ use crate::fault_lines::write_fault;
 use crate::frame::frame;
 use crate::job::{Job, job_of};
 use crate::journal::journal;
-use crate::line_writer::LineWriter;
 use crate::run_scenario::run_scenario;
 use crate::show::show;
 use clap::error::ErrorKind;
 use dali_input::InputFault;
 use std::alloc::{AllocError, Global};
-use std::io::{BufWriter, Read, Write};
+use std::io::{BufWriter, LineWriter, Read, Write};
 use std::process::ExitCode;
 use std::{fs, io};
 
@@ -132,7 +130,9 @@ fn on_file(rt: &HostRuntime, name: &str, command: FileCommand) -> Status {
 
 // Carries out orders over standard input and output. Where standard error can't be written, nothing more is.
 fn on_link(rt: &HostRuntime, orders: &str, journal: &str) -> Status {
-    let lines = LineWriter::new(rt.stderr());
+    let Ok(lines) = LineWriter::new(rt.alloc(), rt.stderr()) else {
+        return out_of_memory(rt);
+    };
     // A file that is opened takes the number of a standard stream that is closed. These do so before the journal.
     let held = (fs::open(rt, "/"), fs::open(rt, "/"), fs::open(rt, "/"));
     let (Ok(_), Ok(_), Ok(_)) = &held else {

@@ -1,24 +1,20 @@
 -- Drives one after another, each from the file that the one before it left.
-use Rattle.std.proofs.Common.{◌≡◌, ◌<◌, ◌≤◌, ◌⊎◌, ◌-◌, refl, sym, ap, ◌∙◌, subst, inl, inr, arith, ℕ, List, [], ◌∷◌, ◌++◌, Option, Some, None, length, take, drop}
-use Rattle.std.proofs.lemmas.List.{append_assoc, append-nil, take-append-drop, length-drop}
+use Rattle.std.proofs.Common.{◌≡◌, ◌<◌, ◌⊎◌, refl, sym, ap, ◌∙◌, subst, inl, inr, ℕ, List, [], ◌∷◌, ◌++◌, Option, Some, None, length, take}
+use Rattle.std.proofs.lemmas.List.{append_assoc, append-nil}
 use Rattle.std.proofs.Math.Nat.{eq-or-lt_of_le}
-use Rattle.std.proofs.Math.Seq.{take-length, take-append_seam}
+use Rattle.std.proofs.Math.Seq.{take-length}
 use Rattle.std.specs.List.{AllByRecursion}
 use Rattle.std.specs.Io.KnownBytes.{Appends, Keeps}
 use Rattle.dali_bank.specs.Order.{Contents}
 use Rattle.dali_frame.specs.declared.forward.Frame.{Frame}
 use Rattle.dali_gear.specs.World.{World}
 use Rattle.dali_gear.specs.Chain.{IsChain}
-use Rattle.dali_journal.specs.declared.record.Code.TheVariants.{Done}
 use Rattle.dali_journal.specs.declared.record.Record.{Record}
-use Rattle.dali_journal.specs.declared.record.Record.TheVariants.{Ended}
 use Rattle.dali_journal.specs.Spelling.{spelling, journal_spelling, IsRecord}
-use Rattle.dali_journal.specs.Reading.{IsCutOf}
-use Rattle.dali_journal.specs.Loading.{AreKept, IsTorn}
+use Rattle.dali_journal.specs.Loading.{AreKept}
 use Rattle.dali_journal.proofs.TornLemmas.{torn_no_fault}
 use Rattle.dali_writer.specs.declared.happening.Happening.{Happening}
 use Rattle.dali_writer.specs.declared.happening.Happening.TheVariants.{Asked, Answered, Sent, Kept, Stopped}
-use Rattle.dali_writer.specs.declared.happening.Reply.{Reply}
 use Rattle.dali_writer.specs.declared.fault.DriveFault.{DriveFault}
 use Rattle.dali_writer.specs.declared.fault.DriveFault.TheVariants.{Journal, Link, Line, End, NoMemory, TooLong, Out}
 use Rattle.dali_writer.specs.Trace.{Start, records_of}
@@ -31,7 +27,7 @@ use Rattle.dali_writer.specs.Driven.{KeepsRecords, IsDriven, IsDrive, IsBrokenDr
 use Rattle.dali_writer.specs.Joined.{Sitting, joined, FollowOn}
 use Rattle.dali_writer.specs.Moves.{Moves}
 use Rattle.dali_writer.specs.Fits.{Fits, OnlyNamed}
-use Rattle.dali_writer.specs.Sittings.{IsFileOf, after, MayHaveHappened, WasDriven, IsSitting, AreSittings, LeavesFile, ActOnce}
+use Rattle.dali_writer.specs.Sittings.{IsFileOf, after, MayHaveHappened, WasDriven, AreSittings, LeavesFile, ActOnce}
 use Rattle.dali_writer.proofs.JoinLemmas.{joined_records, joined_sittings, sittings_right}
 use Rattle.dali_writer.proofs.TakenLemmas.{kept_are_taken}
 use Rattle.dali_writer.proofs.RepeatLemmas.{legal_sentence}

@@ -1,5 +1,5 @@
 -- A small drive, and what is near it and isn't one.
-use Rattle.std.proofs.Common.{◌≡◌, ◌≢◌, inl, refl, sym, subst, ℕ, List, [], ◌∷◌, ◌++◌, Some, None, codes, decimal, arith}
+use Rattle.std.proofs.Common.{◌≡◌, ◌≢◌, inl, refl, sym, ℕ, List, [], ◌∷◌, Some, None, codes, arith}
 use Rattle.std.proofs.lemmas.Fmt.{decimal_digit}
 use Rattle.std.proofs.lemmas.List.Elements.{All-from_recursion}
 use Rattle.dali_bank.specs.Order.{Contents}
@@ -12,10 +12,9 @@ use Rattle.dali_write.proofs.NextLemmas.{none_ended}
 use Rattle.dali_writer.specs.declared.happening.Reply.TheVariants as replies
 use Rattle.dali_writer.specs.declared.happening.Happening.TheVariants.{Sent, Kept}
 use Rattle.dali_writer.specs.declared.fault.DriveFault.TheVariants as faults
-use Rattle.dali_writer.specs.Legal.{Legal}
 use Rattle.dali_writer.specs.Next.{IsNext}
 use Rattle.dali_writer.specs.Lines.{reply_line, IsAnswerLine}
-use Rattle.dali_writer.specs.Transcript.{Streams, Transcript}
+use Rattle.dali_writer.specs.Transcript.{Streams}
 use Rattle.dali_writer.specs.Driven.{IsDriven, BrokenOff}
 use Rattle.dali_writer.specs.Sittings.{IsFileOf, after}
 use Rattle.dali_writer.specs.Worked.{empty, first_order, begun}

@@ -1,15 +1,10 @@
-use Rattle.std.proofs.Common.{◌∙◌, ◌+◌, ◌∷◌, ◌++◌, ℕ, suc, List, [], refl, sym, ap, subst, drop, reverse, drop-cons}
+use Rattle.std.proofs.Common.{◌∙◌, ◌+◌, ◌∷◌, ℕ, suc, List, [], refl, ap, subst, drop}
 use Rattle.std.proofs.lemmas.Result.{err_from_is_err_and}
 use Rattle.std.specs.Io.KnownBytes.{Appends}
 use Rattle.dali_bank.specs.Order.{Contents}
-use Rattle.dali_writer.specs.Held.{Held}
-use Rattle.dali_writer.specs.Describes.{Describes}
-use Rattle.dali_writer.specs.Follows.{Follows}
 use Rattle.dali_writer.specs.Lines.{reply_line}
-use Rattle.dali_writer.specs.Transcript.{Streams, shown}
 use Rattle.dali_writer.specs.Driven.{start_of, orders_asked}
 use Rattle.dali_writer.specs.declared.happening.Happening.TheVariants.{Asked}
-use Rattle.dali_writer.specs.WorkedOn.{IsDrivenAt}
 use Rattle.dali_writer.proofs.DriveLemmas.{begun_at, replied_at, reply_next, breaks_saying, breaks_memory, IsCut, asks_on, asked_more, asked_so_far, asked_then, asked_all}
 use Rattle.dali_writer.proofs.driving.drive.Goals as goal
 

@@ -23,7 +23,7 @@ import traceback
 sys.dont_write_bytecode = True
 
 import driven  # noqa: E402
-import test_desk  # noqa: E402
+import test_desk as adapters  # noqa: E402
 from driven import Desk, Ended, groups_of, judge, kept_lines, records_of, simulated_link  # noqa: E402
 
 GTIN = "4006381333931"
@@ -332,7 +332,7 @@ def test_over_the_simulated_adapter(folder):
 
 def test_over_the_serial_adapter(folder):
     desk = desk_of(folder, ABSENT)
-    interface = test_desk.Interface([[b"N\r"]] * 10)
+    interface = adapters.Interface([[b"N\r"]] * 10)
     adapter = [driven.ROOT / "examples" / "desk" / "serial_link.py", interface.device, "--"]
     ended = subprocess.run([*adapter, *desk.words()], capture_output=True, text=True, timeout=driven.PATIENCE)
     interface.close()
@@ -680,7 +680,7 @@ def test_files_that_are_no_journal(folder):
 
 def test_journal_that_is_no_regular_file(folder):
     os.mkfifo(folder / "pipe")
-    for path in ("/dev/full", "/dev/null", "/dev/stdin", "/dev/stdout", folder / "pipe"):
+    for path in ("/dev/null", "/dev/stdin", "/dev/stdout", folder / "pipe", "/dev/full"):
         desk = desk_of(folder, ABSENT)
         desk.journal = pathlib.Path(path)
         status, sent, _ = last_line(desk.give(SILENCE, timeout=5))

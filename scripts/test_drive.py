@@ -746,7 +746,7 @@ def test_a_limit_of_file_sizes(folder):
 
 
 def test_standard_output_closed_by_its_reader(folder):
-    for count in range(6):
+    for count in range(1, 6):
         for is_restored in (True, False):
             desk = desk_of(folder, ABSENT, b"")
             command = desk.start(restore_signals=is_restored)
@@ -755,14 +755,25 @@ def test_standard_output_closed_by_its_reader(folder):
                     command.stdin.write(b"--\n")
                 driven.line_from(command.stdout)
             command.stdout.close()
-            if count:
-                command.stdin.write(b"--\n")
+            command.stdin.write(b"--\n")
             told = command.stderr.read().decode()
             want((count, command.wait(driven.PATIENCE), told), (count, 2, "reply 1 taken\ndrive fault 2 Link\n"))
             command.stdin.close()
             command.stderr.close()
             want(desk.held(), ABSENT_BEGAN)
             goes_on(desk)
+
+
+def test_standard_output_closed_before_the_first_frame(folder):
+    for is_restored in (True, False):
+        desk = desk_of(folder, ABSENT, b"")
+        reading, writing = os.pipe()
+        os.close(reading)
+        ended = desk.give(SILENCE, stdout=writing, restore_signals=is_restored)
+        os.close(writing)
+        want(ended, Ended(2, None, "reply 1 taken\ndrive fault 2 Link\n"))
+        want(desk.held(), ABSENT_BEGAN)
+        goes_on(desk)
 
 
 def test_standard_output_that_is_full(folder):

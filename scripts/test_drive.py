@@ -39,7 +39,8 @@ DONE_JOURNAL = bytes.fromhex("42 0000000000000001 05 06 0303 04A4 05CE 06EF 07AD
 DONE_TOLD = "reply 1 taken\nreply 1 kept 0 Done\n"
 MOST_JOURNAL = 33554432
 FAULT_21 = (2, b"", "fault 21 File")
-OUT_LINES = ("drive fault 7 Out", "error: the output can't be written")
+# What stands last on a standard error that failed once: nothing more has to be told there.
+OUT_LINES = ("drive fault 7 Out", "reply 1 taken", "")
 NOBODY = 65534
 
 settings = {}
@@ -816,7 +817,8 @@ def test_streams_that_are_closed_at_the_start(folder):
             case = closed, orders, start
             data = desk.held() if desk.journal.exists() else b""
             assert data in (b"", start, ABSENT_BEGAN) or ABSENT_JOURNAL.startswith(data), (case, ended, data)
-            assert ended.status in (1, 2) and ABSENT_FRAMES[:5].startswith(ended.sent), (case, ended)
+            most = b"" if 1 in closed else ABSENT_FRAMES[:5] if 0 in closed else ABSENT_FRAMES
+            assert ended.status in (1, 2) and most.startswith(ended.sent), (case, ended)
             want(desk.orders.read_text(), driven.json.dumps(orders))
             desk.write_orders(ABSENT)
             goes_on(desk)

@@ -188,10 +188,13 @@ def test_orders_that_are_refused(folder):
 
 
 class Scene:
-    """Orders, the units that they go to, what the bus loses, and the codes that the orders end with."""
+    """Orders, the units that they go to, what the bus loses, and the codes that the orders end with.
 
-    def __init__(self, orders, units, codes, **losses):
-        self.orders, self.units, self.codes, self.losses = orders, units, codes, losses
+    Kills come at each frame, or at one of so many as `step` says, spread evenly.
+    """
+
+    def __init__(self, orders, units, codes, step=1, **losses):
+        self.orders, self.units, self.codes, self.step, self.losses = orders, units, codes, step, losses
 
     def bus(self):
         """Make a bus with its units as they stand at the start."""
@@ -225,7 +228,10 @@ DOUBTFUL = Scene(
 LEFT = Scene(
     [{"order": 21, "unit": 5, "gtin": GTIN}, {"order": 22, "unit": 6, "year": 24}],
     [(5, BLANK, ()), (6, BLANK, ())], {21: 5, 22: 0}, lost_frames=set(range(40, 130)))
-SCENES = {"lossy": LOSSY, "doubtful": DOUBTFUL, "left": LEFT}
+ALL_FIELDS = Scene(
+    driven.json.loads((driven.ROOT / "examples" / "full.json").read_text()), [(5, BLANK, ())], {1: 0}, step=31,
+    lost_frames={40, 300, 900}, lost_answers={19, 500, 1300})
+SCENES = {"lossy": LOSSY, "doubtful": DOUBTFUL, "left": LEFT, "all fields": ALL_FIELDS}
 
 
 def finish(desk, scene, bus, codes=None):
@@ -258,7 +264,7 @@ def test_whole_runs(folder):
         want(ended.told, "".join(f"reply {number} taken\nreply {number} kept {code} {driven.NAMES[code]}\n"
                                  for number, code in scene.codes.items()))
         kinds = "".join(kind for kind, _ in records_of(desk.held())[0])
-        want(kinds, {"lossy": "BOEBEBEBOE", "doubtful": "BOEBEBOE", "left": "BOECBOE"}[name])
+        want(kinds, {"lossy": "BOEBEBEBOE", "doubtful": "BOEBEBOE", "left": "BOECBOE", "all fields": "BOE"}[name])
 
 
 def test_gtin_on_disk(folder):
@@ -326,7 +332,8 @@ def test_over_the_simulated_adapter(folder):
     desk = desk_of(folder, PRESENT)
     adapter = [driven.ROOT / "examples" / "desk" / "simulated_link.py", "--folder", folder, "--lose-answer", "50"]
     for told in (DONE_TOLD, "reply 1 kept 0 Done\n"):
-        ended = subprocess.run([*adapter, "--", *desk.words()], capture_output=True, text=True, timeout=driven.PATIENCE)
+        words = [*adapter, "--", *desk.words()]
+        ended = subprocess.run(words, capture_output=True, text=True, timeout=driven.PATIENCE)
         want((ended.returncode, ended.stdout, ended.stderr), (0, "", told))
     want(bytes.fromhex((folder / "unit_5.hex").read_text()), BLANK[:3] + GTIN_BYTES + BLANK[9:])
 
@@ -362,12 +369,11 @@ def kill_at_each_frame(folder, name, moment, part, count):
     (folder / "whole").mkdir()
     total = len(whole_run(folder / "whole", scene)[2].sent) // 5
     codes = None if name == "left" else scene.codes
-    for frame in range(1 + part, total + 1, count):
+    for frame in range(1 + part * scene.step, total + 1, count * scene.step):
         try:
             killed_run(folder, scene, [(frame, moment)], codes)
-            if frame % 5 == 0:
-                more = [(1 + frame % 23, "sent"), (1 + frame % 7, "carried")]
-                killed_run(folder, scene, [(frame, moment), *more], codes)
+            more = [(1 + frame % 23, "sent"), (1 + frame % 7, "carried")]
+            killed_run(folder, scene, [(frame, moment), *more], codes)
         except Exception as fault:
             raise AssertionError(f"{name}, killed once frame {frame} was {moment}") from fault
 
@@ -580,7 +586,7 @@ def test_kills_at_each_record_and_reply(folder, part, count):
         desk, bus = desk_of(folder, scene.orders), scene.bus()
         desk.journal.unlink(missing_ok=True)
         calls, _ = calls_of(desk, lambda variables: desk.over(bus, environment=variables))
-        for act in list(acts_on(calls))[part::count]:
+        for act in list(acts_on(calls))[part::count * min(scene.step, 7)]:
             desk.journal.unlink(missing_ok=True)
             bus = scene.bus()
             try:

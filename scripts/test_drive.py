@@ -40,7 +40,7 @@ DONE_TOLD = "reply 1 taken\nreply 1 kept 0 Done\n"
 MOST_JOURNAL = 33554432
 FAULT_21 = (2, b"", "fault 21 File")
 # What stands last on a standard error that failed once: nothing more has to be told there.
-OUT_LINES = ("drive fault 7 Out", "reply 1 taken", "")
+OUT_LINES = ("drive fault 7 Out", "reply 1 taken", "reply 1 kept 3 Silent", "")
 NOBODY = 65534
 
 settings = {}

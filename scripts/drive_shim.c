@@ -7,15 +7,16 @@
        KIND TARGET RESULT DETAIL
 
    with the returned number or minus the error's, and of a write the bytes that were written, of an open its flags, of
-   a lock its operation, of a cut the length. DRIVE_SHIM_ACT is `KIND TARGET NUMBER EFFECT VALUE`: the call of this
-   number, counted from 1, of the kind and the target (`any` fits each of both; number 0 is each such call)
+   a lock its operation, of a cut the length. DRIVE_SHIM_ACT is `KIND TARGET NUMBER EFFECT VALUE`. It spoils the call
+   of this number, counted from 1, among those of the kind and the target; `any` stands for each kind or target, and
+   the number 0 for each call.
 
        fail       fails with the error VALUE
        short      handles one byte
-       kill       kills the program by SIGKILL in place of the call
+       torn       handles VALUE bytes, and then kills the program by SIGKILL
+       kill       kills it in place of the call
        killed     kills it after the call
-       torn       handles VALUE bytes and kills it
-       skip       does nothing and succeeds (VALUE has no meaning here and above, but for fail and torn) */
+       skip       does nothing, and succeeds */
 #define _GNU_SOURCE
 #include <errno.h>
 #include <fcntl.h>

@@ -105,7 +105,7 @@ class Desk:
             command.stdout.close()
             told = command.stderr.read().decode()
             command.stderr.close()
-            status = command.wait(PATIENCE)
+            status = command.wait()
         return Ended(status, b"".join(frames), told)
 
     def held(self):

@@ -23,7 +23,7 @@ import traceback
 sys.dont_write_bytecode = True
 
 import driven  # noqa: E402
-import test_desk  # noqa: E402
+import test_desk as adapters  # noqa: E402
 from driven import Desk, Ended, groups_of, judge, kept_lines, records_of, simulated_link  # noqa: E402
 
 GTIN = "4006381333931"
@@ -39,7 +39,8 @@ DONE_JOURNAL = bytes.fromhex("42 0000000000000001 05 06 0303 04A4 05CE 06EF 07AD
 DONE_TOLD = "reply 1 taken\nreply 1 kept 0 Done\n"
 MOST_JOURNAL = 33554432
 FAULT_21 = (2, b"", "fault 21 File")
-OUT_LINES = ("drive fault 7 Out", "error: the output can't be written")
+# What stands last on a standard error that failed once: nothing more has to be told there.
+OUT_LINES = ("drive fault 7 Out", "reply 1 taken", "reply 1 kept 3 Silent", "")
 NOBODY = 65534
 
 settings = {}
@@ -187,10 +188,13 @@ def test_orders_that_are_refused(folder):
 
 
 class Scene:
-    """Orders, the units that they go to, what the bus loses, and the codes that the orders end with."""
+    """Orders, the units that they go to, what the bus loses, and the codes that the orders end with.
 
-    def __init__(self, orders, units, codes, **losses):
-        self.orders, self.units, self.codes, self.losses = orders, units, codes, losses
+    Kills come at each frame, or at one of so many as `step` says, spread evenly.
+    """
+
+    def __init__(self, orders, units, codes, step=1, **losses):
+        self.orders, self.units, self.codes, self.step, self.losses = orders, units, codes, step, losses
 
     def bus(self):
         """Make a bus with its units as they stand at the start."""
@@ -224,7 +228,10 @@ DOUBTFUL = Scene(
 LEFT = Scene(
     [{"order": 21, "unit": 5, "gtin": GTIN}, {"order": 22, "unit": 6, "year": 24}],
     [(5, BLANK, ()), (6, BLANK, ())], {21: 5, 22: 0}, lost_frames=set(range(40, 130)))
-SCENES = {"lossy": LOSSY, "doubtful": DOUBTFUL, "left": LEFT}
+ALL_FIELDS = Scene(
+    driven.json.loads((driven.ROOT / "examples" / "full.json").read_text()), [(5, BLANK, ())], {1: 0}, step=31,
+    lost_frames={40, 300, 900}, lost_answers={19, 500, 1300})
+SCENES = {"lossy": LOSSY, "doubtful": DOUBTFUL, "left": LEFT, "all fields": ALL_FIELDS}
 
 
 def finish(desk, scene, bus, codes=None):
@@ -257,7 +264,7 @@ def test_whole_runs(folder):
         want(ended.told, "".join(f"reply {number} taken\nreply {number} kept {code} {driven.NAMES[code]}\n"
                                  for number, code in scene.codes.items()))
         kinds = "".join(kind for kind, _ in records_of(desk.held())[0])
-        want(kinds, {"lossy": "BOEBEBEBOE", "doubtful": "BOEBEBOE", "left": "BOECBOE"}[name])
+        want(kinds, {"lossy": "BOEBEBEBOE", "doubtful": "BOEBEBOE", "left": "BOECBOE", "all fields": "BOE"}[name])
 
 
 def test_gtin_on_disk(folder):
@@ -325,14 +332,15 @@ def test_over_the_simulated_adapter(folder):
     desk = desk_of(folder, PRESENT)
     adapter = [driven.ROOT / "examples" / "desk" / "simulated_link.py", "--folder", folder, "--lose-answer", "50"]
     for told in (DONE_TOLD, "reply 1 kept 0 Done\n"):
-        ended = subprocess.run([*adapter, "--", *desk.words()], capture_output=True, text=True, timeout=driven.PATIENCE)
+        words = [*adapter, "--", *desk.words()]
+        ended = subprocess.run(words, capture_output=True, text=True, timeout=driven.PATIENCE)
         want((ended.returncode, ended.stdout, ended.stderr), (0, "", told))
     want(bytes.fromhex((folder / "unit_5.hex").read_text()), BLANK[:3] + GTIN_BYTES + BLANK[9:])
 
 
 def test_over_the_serial_adapter(folder):
     desk = desk_of(folder, ABSENT)
-    interface = test_desk.Interface([[b"N\r"]] * 10)
+    interface = adapters.Interface([[b"N\r"]] * 10)
     adapter = [driven.ROOT / "examples" / "desk" / "serial_link.py", interface.device, "--"]
     ended = subprocess.run([*adapter, *desk.words()], capture_output=True, text=True, timeout=driven.PATIENCE)
     interface.close()
@@ -361,12 +369,11 @@ def kill_at_each_frame(folder, name, moment, part, count):
     (folder / "whole").mkdir()
     total = len(whole_run(folder / "whole", scene)[2].sent) // 5
     codes = None if name == "left" else scene.codes
-    for frame in range(1 + part, total + 1, count):
+    for frame in range(1 + part * scene.step, total + 1, count * scene.step):
         try:
             killed_run(folder, scene, [(frame, moment)], codes)
-            if frame % 5 == 0:
-                more = [(1 + frame % 23, "sent"), (1 + frame % 7, "carried")]
-                killed_run(folder, scene, [(frame, moment), *more], codes)
+            more = [(1 + frame % 23, "sent"), (1 + frame % 7, "carried")]
+            killed_run(folder, scene, [(frame, moment), *more], codes)
         except Exception as fault:
             raise AssertionError(f"{name}, killed once frame {frame} was {moment}") from fault
 
@@ -579,7 +586,7 @@ def test_kills_at_each_record_and_reply(folder, part, count):
         desk, bus = desk_of(folder, scene.orders), scene.bus()
         desk.journal.unlink(missing_ok=True)
         calls, _ = calls_of(desk, lambda variables: desk.over(bus, environment=variables))
-        for act in list(acts_on(calls))[part::count]:
+        for act in list(acts_on(calls))[part::count * min(scene.step, 7)]:
             desk.journal.unlink(missing_ok=True)
             bus = scene.bus()
             try:
@@ -680,7 +687,7 @@ def test_files_that_are_no_journal(folder):
 
 def test_journal_that_is_no_regular_file(folder):
     os.mkfifo(folder / "pipe")
-    for path in ("/dev/full", "/dev/null", "/dev/stdin", "/dev/stdout", folder / "pipe"):
+    for path in ("/dev/null", "/dev/stdin", "/dev/stdout", folder / "pipe", "/dev/full"):
         desk = desk_of(folder, ABSENT)
         desk.journal = pathlib.Path(path)
         status, sent, _ = last_line(desk.give(SILENCE, timeout=5))
@@ -746,7 +753,7 @@ def test_a_limit_of_file_sizes(folder):
 
 
 def test_standard_output_closed_by_its_reader(folder):
-    for count in range(6):
+    for count in range(1, 6):
         for is_restored in (True, False):
             desk = desk_of(folder, ABSENT, b"")
             command = desk.start(restore_signals=is_restored)
@@ -755,14 +762,25 @@ def test_standard_output_closed_by_its_reader(folder):
                     command.stdin.write(b"--\n")
                 driven.line_from(command.stdout)
             command.stdout.close()
-            if count:
-                command.stdin.write(b"--\n")
+            command.stdin.write(b"--\n")
             told = command.stderr.read().decode()
             want((count, command.wait(driven.PATIENCE), told), (count, 2, "reply 1 taken\ndrive fault 2 Link\n"))
             command.stdin.close()
             command.stderr.close()
             want(desk.held(), ABSENT_BEGAN)
             goes_on(desk)
+
+
+def test_standard_output_closed_before_the_first_frame(folder):
+    for is_restored in (True, False):
+        desk = desk_of(folder, ABSENT, b"")
+        reading, writing = os.pipe()
+        os.close(reading)
+        ended = desk.give(SILENCE, stdout=writing, restore_signals=is_restored)
+        os.close(writing)
+        want(ended, Ended(2, None, "reply 1 taken\ndrive fault 2 Link\n"))
+        want(desk.held(), ABSENT_BEGAN)
+        goes_on(desk)
 
 
 def test_standard_output_that_is_full(folder):
@@ -805,7 +823,8 @@ def test_streams_that_are_closed_at_the_start(folder):
             case = closed, orders, start
             data = desk.held() if desk.journal.exists() else b""
             assert data in (b"", start, ABSENT_BEGAN) or ABSENT_JOURNAL.startswith(data), (case, ended, data)
-            assert ended.status in (1, 2) and ABSENT_FRAMES[:5].startswith(ended.sent), (case, ended)
+            most = b"" if 1 in closed else ABSENT_FRAMES[:5] if 0 in closed else ABSENT_FRAMES
+            assert ended.status in (1, 2) and most.startswith(ended.sent), (case, ended)
             want(desk.orders.read_text(), driven.json.dumps(orders))
             desk.write_orders(ABSENT)
             goes_on(desk)

@@ -685,15 +685,6 @@ def test_files_that_are_no_journal(folder):
         want(desk.held(), bytes.fromhex(digits))
 
 
-def test_journal_that_is_no_regular_file(folder):
-    os.mkfifo(folder / "pipe")
-    for path in ("/dev/null", "/dev/stdin", "/dev/stdout", folder / "pipe", "/dev/full"):
-        desk = desk_of(folder, ABSENT)
-        desk.journal = pathlib.Path(path)
-        status, sent, _ = last_line(desk.give(SILENCE, timeout=5))
-        assert status in (1, 2) and sent == b"", (path, status, sent)
-
-
 def test_journal_on_a_full_file_system(folder):
     desk, room = desk_of(folder, ABSENT), folder / "room"
     room.mkdir()

@@ -35,9 +35,12 @@ fn main(rt: HostRuntime) -> ExitCode {
     let status = match std::env::args(&rt) {
         Ok(words) => match words.collect(rt.alloc()) {
             Ok(words) => run(&rt, &words),
-            Err(_) => out_of_memory(&rt),
+            Err(_) => out_of_memory(&rt, Place::Output),
         },
-        Err(error) if error.kind() == io::ErrorKind::OutOfMemory => out_of_memory(&rt),
+        Err(error) if error.kind() == io::ErrorKind::OutOfMemory => out_of_memory(
+            &rt,
+            Place::Output,
+        ),
         Err(_) => {
             let _ = eprintln!(&rt; "error: an argument is no text in UTF-8");
             Status::Refused
@@ -51,8 +54,13 @@ fn main(rt: HostRuntime) -> ExitCode {
 
 // Carries out the command line.
 fn run(rt: &HostRuntime, words: &Vec<String>) -> Status {
+    let place = if words.len() > 1 && words[1].as_str() == "drive" {
+        Place::Lines
+    } else {
+        Place::Output
+    };
     let Ok(words) = texts_of(rt.alloc(), words) else {
-        return out_of_memory(rt);
+        return out_of_memory(rt, place);
     };
     match job_of(rt.alloc(), words.as_slice()) {
         Ok(Job::Check(orders)) => on_file(rt, orders, FileCommand::Check),
@@ -66,7 +74,7 @@ fn run(rt: &HostRuntime, words: &Vec<String>) -> Status {
         Ok(Job::Show(dump)) => on_file(rt, dump, FileCommand::Show),
         Ok(Job::Journal(records)) => on_file(rt, records, FileCommand::Journal),
         Ok(Job::Drive { orders, journal }) => on_link(rt, orders, journal),
-        Err(error) if error.kind() == ErrorKind::OutOfMemory => out_of_memory(rt),
+        Err(error) if error.kind() == ErrorKind::OutOfMemory => out_of_memory(rt, place),
         Err(error) => match error.print(rt) {
             Ok(()) if error.exit_code() == 0 => Status::Good,
             Ok(()) => Status::Refused,
@@ -117,48 +125,62 @@ impl FileCommand {
 // may lack the right to open it by name.
 fn on_file(rt: &HostRuntime, name: &str, command: FileCommand) -> Status {
     let Ok(mut writer) = BufWriter::new(rt.alloc(), io::writer(rt)) else {
-        return out_of_memory(rt);
+        return out_of_memory(rt, Place::Output);
     };
     if name == "/dev/stdin" {
         return command.carry_out(rt.alloc(), &mut rt.reader(), &mut writer);
     }
     match fs::open(rt, name) {
         Ok(mut reader) => command.carry_out(rt.alloc(), &mut reader, &mut writer),
-        Err(cause) => unopened(rt, name, cause),
+        Err(cause) => unopened(rt, name, cause, Place::Output),
     }
 }
 
 // Carries out orders over standard input and output. Where standard error can't be written, nothing more is.
 fn on_link(rt: &HostRuntime, orders: &str, journal: &str) -> Status {
     let Ok(lines) = LineWriter::new(rt.alloc(), rt.stderr()) else {
-        return out_of_memory(rt);
+        return out_of_memory(rt, Place::Lines);
     };
     // A file that is opened takes the number of a standard stream that is closed. These do so before the journal.
-    let held = (fs::open(rt, "/"), fs::open(rt, "/"), fs::open(rt, "/"));
-    let (Ok(_), Ok(_), Ok(_)) = &held else {
-        return unopened(rt, "/", io::Error::from(io::ErrorKind::PermissionDenied));
-    };
-    match drive_files(rt, orders, journal, rt.stdin(), rt.stdout(), lines) {
-        Status::Unwritten => Status::Failed,
-        status => status,
+    match (fs::open(rt, "/"), fs::open(rt, "/"), fs::open(rt, "/")) {
+        (Ok(_first), Ok(_second), Ok(_third)) => {
+            match drive_files(rt, orders, journal, rt.stdin(), rt.stdout(), lines) {
+                Status::Unwritten => Status::Failed,
+                status => status,
+            }
+        }
+        (Err(cause), _, _) | (_, Err(cause), _) | (_, _, Err(cause)) => {
+            unopened(rt, "/", cause, Place::Lines)
+        }
     }
 }
 
+// Where a fault is told that comes before its command runs: `drive` has the link for its output.
+#[derive(Clone, Copy)]
+enum Place {
+    Output,
+    Lines,
+}
+
 // Prints that a file can't be opened, and why.
-fn unopened(rt: &HostRuntime, name: &str, cause: io::Error) -> Status {
+fn unopened(rt: &HostRuntime, name: &str, cause: io::Error, place: Place) -> Status {
     let _ = eprintln!(rt; "error: the input can't be opened or read: {name}: {cause}");
-    print_fault(rt, Fault::Input(InputFault::File))
+    print_fault(rt, Fault::Input(InputFault::File), place)
 }
 
 // Prints that memory ran out before any command ran.
-fn out_of_memory(rt: &HostRuntime) -> Status {
+fn out_of_memory(rt: &HostRuntime, place: Place) -> Status {
     let _ = eprintln!(rt; "error: memory ran out");
-    print_fault(rt, Fault::Input(InputFault::Memory))
+    print_fault(rt, Fault::Input(InputFault::Memory), place)
 }
 
 // Prints a fault that comes before any command runs.
-fn print_fault(rt: &HostRuntime, fault: Fault) -> Status {
-    match write_fault(&mut io::writer(rt), fault) {
+fn print_fault(rt: &HostRuntime, fault: Fault, place: Place) -> Status {
+    let printed = match place {
+        Place::Output => write_fault(&mut io::writer(rt), fault),
+        Place::Lines => write_fault(&mut rt.stderr(), fault),
+    };
+    match printed {
         Ok(()) => fault.status(),
         Err(_) => Status::Unwritten,
     }

@@ -88,6 +88,6 @@ refusal_more xs i v orders refused number fault within is s one =
       judged = judged_more xs i v s.outcomes (Err fault) within is s.judged one;
       many = length-append s.outcomes (Err fault ∷ []) ∙ ap (λ n. n + 1) s.many;
       refused_are = ap (λ t. t ++ (number + 1, fault) ∷ []) s.refused_are
-      ∙ sym (refused_one_more 1 s.outcomes (Err fault) ∙ ap (λ n. refused_from 1 s.outcomes ++ (n, fault) ∷ []) here);
+          ∙ sym (refused_one_more 1 s.outcomes (Err fault) ∙ ap (λ n. refused_from 1 s.outcomes ++ (n, fault) ∷ []) here);
       orders_are = λ empty. absurd (not_nil refused (number + 1, fault) empty);
     }

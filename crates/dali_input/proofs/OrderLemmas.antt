@@ -3,7 +3,7 @@ use Rattle.std.specs.Prelude.{◌==◌}
 use Rattle.std.proofs.Common.{◌≡◌, ◌≢◌, ℕ, Bool, true, false, suc, ◌+◌, ◌<◌, List, [], ◌∷◌, ◌++◌, Ok, Err, length, get_or, map, take, ap, sym, subst, ◌∙◌, arith, refl, add-zero, append-nil}
 use Rattle.std.proofs.lemmas.Bool.{eqb-true, eqb-false}
 use Rattle.std.proofs.lemmas.List.{take_more, map-append, length-append}
-use Rattle.serde_json.specs.Data.{Data, Items}
+use Rattle.serde_json.specs.Data.{Data}
 use Rattle.serde_json.specs.View.{view, items_view, items_of}
 use Rattle.serde_json.specs.declared.value.Value.{Value}
 use Rattle.dali_bank.specs.Order.{Contents}
@@ -88,6 +88,6 @@ refusal_more xs i v orders refused number fault within is s one =
       judged = judged_more xs i v s.outcomes (Err fault) within is s.judged one;
       many = length-append s.outcomes (Err fault ∷ []) ∙ ap (λ n. n + 1) s.many;
       refused_are = ap (λ t. t ++ (number + 1, fault) ∷ []) s.refused_are
-      ∙ sym (refused_one_more 1 s.outcomes (Err fault) ∙ ap (λ n. refused_from 1 s.outcomes ++ (n, fault) ∷ []) here);
+          ∙ sym (refused_one_more 1 s.outcomes (Err fault) ∙ ap (λ n. refused_from 1 s.outcomes ++ (n, fault) ∷ []) here);
       orders_are = λ empty. absurd (not_nil refused (number + 1, fault) empty);
     }

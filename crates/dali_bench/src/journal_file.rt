@@ -1,4 +1,6 @@
 // The file of a journal: opened for one drive alone, read, cut to what counts, and appended to.
+ghost use Rattle.std.specs.Prelude.{ℕ, List, IfOk};
+ghost use Rattle.dali_bench.specs.JournalAnswers.{IsJournalIn};
 
 use crate::fault::Fault;
 use crate::journal::read_journal;
@@ -65,7 +67,9 @@ impl Write for JournalFile {
 pub fn open_journal<R: Files<File = File> + AllocGlobal>(
     rt: &R,
     name: &str,
-) -> Result<(JournalFile, Journal), Hindrance> {
+) -> Result<(JournalFile, Journal), Hindrance>
+    ensures { IfOk result (λ opened. (input : List ℕ) × (counted : ℕ) × IsJournalIn input opened.1 counted) }
+{
     let mut file = locked(rt, name)?;
     let is_regular = file.metadata()?.is_file();
     let (journal, counted, all) = read_journal(rt.alloc(), &mut file)?;

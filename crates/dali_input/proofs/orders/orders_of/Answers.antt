@@ -1,4 +1,4 @@
-use Rattle.std.proofs.Common.{◌≡◌, ◌+◌, ap}
+use Rattle.std.proofs.Common.{◌+◌, ap}
 use Rattle.dali_input.proofs.OrderLemmas.{none_where, some_where, order_more, order_dropped, refusal_more}
 use Rattle.dali_input.proofs.orders.orders_of.Goals as goal
 use Rattle.dali_input.proofs.orders.orders_of.Goals.{in-Ok+in_ok-push-in-Ok, in-Ok+else-is_empty, in-Err+in_ok-push-in-Err}

@@ -12,7 +12,7 @@ use Rattle.dali_writer.specs.declared.fault.DriveFault.TheVariants.{Out}
 use Rattle.dali_writer.specs.Driven.{IsDrive, IsBrokenDrive}
 use Rattle.dali_writer.specs.Held.{Held}
 use Rattle.dali_writer.specs.Trace.{Start}
-use Rattle.dali_writer.specs.Transcript.{Streams, shown}
+use Rattle.dali_writer.specs.Transcript.{Streams}
 use Rattle.dali_bench.specs.declared.fault.Fault.{Fault}
 use Rattle.dali_bench.specs.declared.fault.Fault.TheVariants.{Input, Drive}
 use Rattle.dali_bench.specs.declared.fault.Status.{Status}

@@ -23,7 +23,11 @@ pub enum Hindrance {
 
 impl From<io::Error> for Hindrance {
     fn from(cause: io::Error) -> Hindrance {
-        Hindrance::System(cause)
+        if cause.kind() == io::ErrorKind::OutOfMemory {
+            Hindrance::Fault(Fault::Input(InputFault::Memory))
+        } else {
+            Hindrance::System(cause)
+        }
     }
 }
 

@@ -1,0 +1,248 @@
+"""Tests of `drive` by the calls that it makes: in which order, and each of them failing, cut short or the last one."""
+
+import errno
+import os
+import signal
+
+from drive_desk import (
+    ABSENT,
+    ABSENT_BEGAN,
+    ABSENT_FRAMES,
+    ABSENT_JOURNAL,
+    OUT_LINES,
+    PRESENT,
+    SILENCE,
+    desk_of,
+    goes_on,
+    last_line,
+    parts,
+    settings,
+    want,
+)
+from drive_units import BLANK, DOUBTFUL, LOSSY, SCENES, Scene, finish
+from driven import judge, kept_lines, records_of
+
+
+class Call:
+    """A call from the shim's log, with its number among those of its kind and target."""
+
+    def __init__(self, line, numbers):
+        self.kind, self.target, result, self.detail = line.split(" ", 3)
+        self.result = int(result)
+        key = self.kind, self.target
+        self.number = numbers[key] = numbers.get(key, 0) + 1
+
+    def act(self, effect, value=0):
+        """Spell what is to become of this call."""
+        return f"{self.kind} {self.target} {self.number} {effect} {value}"
+
+    def __repr__(self):
+        return f"{self.kind} {self.target} {self.number}"
+
+
+def shim(desk, act=None, log=None):
+    """Give the variables that preload the shim."""
+    variables = {"LD_PRELOAD": settings["shims"] / "drive_shim.so", "DRIVE_SHIM_ORDERS": desk.orders,
+                 "DRIVE_SHIM_JOURNAL": desk.journal, "DRIVE_SHIM_ACT": act, "DRIVE_SHIM_LOG": log}
+    return {name: str(value) for name, value in variables.items() if value is not None}
+
+
+def calls_in(log):
+    """Read the shim's log, but what concerns none of drive's files and pipes, and remove it."""
+    numbers = {}
+    calls = [Call(line, numbers) for line in log.read_text().splitlines()]
+    log.unlink()
+    return [call for call in calls if call.target != "other"]
+
+
+def calls_of(desk, run):
+    """Do a run with the shim and nothing spoiled; give its calls and how it ended."""
+    log = desk.folder / "calls.log"
+    ended = run(shim(desk, log=log))
+    return calls_in(log), ended
+
+
+def check_order(calls, journal):
+    """Raise unless each record was synced before what stands on it, and each frame was answered before the next."""
+    unsynced = is_folder_due = is_answer_due = False
+    written = b""
+    for call in calls:
+        if call.kind in ("write", "cut") and call.target == "journal":
+            unsynced = True
+            written += bytes.fromhex(call.detail) if call.kind == "write" else b""
+        elif call.kind == "sync":
+            assert call.result == 0, call
+            unsynced = unsynced and call.target != "journal"
+            is_folder_due = is_folder_due and call.target != "folder"
+        elif call.kind == "open" and call.target == "journal" and call.result >= 0:
+            is_folder_due = is_folder_due or int(call.detail, 16) & os.O_CREAT > 0
+        elif call.kind == "write" and call.target == "out":
+            assert not unsynced and not is_folder_due and not is_answer_due, call
+            assert len(bytes.fromhex(call.detail)) == 5, call
+            check_ground(bytes.fromhex(call.detail), written)
+            is_answer_due = True
+        elif call.kind == "write" and call.target == "err":
+            told = bytes.fromhex(call.detail).decode()
+            assert " kept " not in told or not unsynced and told.strip() in kept_lines(written), (told, written)
+        elif call.kind == "read" and call.target == "in":
+            is_answer_due = False
+    want((unsynced, is_folder_due, written), (False, False, journal))
+
+
+def check_ground(line, written):
+    """Raise unless the record that a frame stands on is there: Began for each, Opened for enabling and for writes."""
+    kinds = [kind for kind, _ in records_of(written)[0]]
+    assert kinds.count("B") > kinds.count("E"), line
+    if line.endswith(b"81\n") or line.startswith(b"C7"):
+        assert kinds[-1] == "O", line
+
+
+def test_records_are_synced_before_frames(folder):
+    for name, scene in [("gtin", Scene(PRESENT, [(5, BLANK, ())], {})), ("lossy", LOSSY), ("doubtful", DOUBTFUL)]:
+        (folder / name).mkdir()
+        desk, bus = desk_of(folder / name, scene.orders), scene.bus()
+        calls, ended = calls_of(desk, lambda variables: desk.over(bus, environment=variables))
+        want(ended.status, 0)
+        check_order(calls, desk.held())
+        want(ended.told.count(" kept "), len(scene.orders))
+
+
+def test_a_cut_is_synced_before_frames(folder):
+    for length in (24, 10):
+        desk = desk_of(folder, ABSENT, ABSENT_JOURNAL[:length])
+        calls, _ = calls_of(desk, lambda variables: desk.give(SILENCE, variables))
+        kinds = [call.kind for call in calls if call.target == "journal"]
+        assert "sync" in kinds[kinds.index("cut"):kinds.index("write")], kinds
+
+
+def test_what_was_loaded_is_synced_before_frames(folder):
+    desk = desk_of(folder, ABSENT, ABSENT_BEGAN)
+    calls, _ = calls_of(desk, lambda variables: desk.give(SILENCE, variables))
+    first = next(place for place, call in enumerate(calls) if (call.kind, call.target) == ("write", "out"))
+    assert any((call.kind, call.target) == ("sync", "journal") for call in calls[:first]), calls[:first]
+
+
+def faults_of(call):
+    """Give the lines of which one belongs to a call that fails."""
+    if call.target == "out" or call.target == "in":
+        return ("drive fault 2 Link",)
+    if call.target == "err":
+        return OUT_LINES
+    is_of_record = call.target == "journal" and call.kind in ("write", "sync") and call.is_of_record
+    return ("drive fault 1 Journal",) if is_of_record else ("fault 21 File",)
+
+
+def absent_calls(desk, start):
+    """Give the calls of the absent unit's run from a journal of these bytes, or from none."""
+    desk.journal.unlink(missing_ok=True)
+    if start is not None:
+        desk.journal.write_bytes(start)
+    calls, ended = calls_of(desk, lambda variables: desk.give(SILENCE, variables))
+    want((ended.status, desk.held()), (0, ABSENT_JOURNAL))
+    has_written = False
+    for call in calls:
+        has_written = has_written or (call.kind, call.target) == ("write", "journal")
+        call.is_of_record = has_written
+    return [call for call in calls if call.kind in ("open", "read", "write", "sync", "cut", "lock", "seek")]
+
+
+def each_call_spoiled(folder, effect, value):
+    """Run the absent unit with each call spoiled in turn; give the desk, the call and how the run ended."""
+    desk = desk_of(folder, ABSENT)
+    for start in (None, ABSENT_JOURNAL[:24]):
+        for call in absent_calls(desk, start):
+            if effect == "short" and call.kind not in ("read", "write") or call.result < 0:
+                continue
+            desk.journal.unlink(missing_ok=True)
+            if start is not None:
+                desk.journal.write_bytes(start)
+            yield desk, call, desk.give(SILENCE, shim(desk, call.act(effect, value)))
+
+
+@parts(2)
+def test_each_call_failing(folder, part, _):
+    for desk, call, ended in each_call_spoiled(folder, "fail", (errno.EIO, errno.ENOSPC)[part]):
+        status, sent, line = last_line(ended)
+        assert status == 2 and line in faults_of(call), (call, ended)
+        assert ABSENT_FRAMES.startswith(sent), (call, sent)
+        assert sent == b"" or call.target in ("in", "out", "err") or call.is_of_record, (call, sent)
+        assert not desk.journal.exists() or records_of(desk.held()), call
+        goes_on(desk)
+
+
+def test_interrupted_calls_change_nothing(folder):
+    for desk, call, ended in each_call_spoiled(folder, "fail", errno.EINTR):
+        want((call, ended.status, ended.sent), (call, 0, ABSENT_FRAMES))
+        want(desk.held(), ABSENT_JOURNAL)
+
+
+def test_short_calls_change_nothing(folder):
+    for desk, call, ended in each_call_spoiled(folder, "short", 0):
+        want((call, ended.status, ended.sent), (call, 0, ABSENT_FRAMES))
+        want(desk.held(), ABSENT_JOURNAL)
+    for kind, target in [("write", "journal"), ("write", "out"), ("write", "err"), ("write", "any"), ("read", "any")]:
+        for start in (b"", ABSENT_JOURNAL[:24]):
+            desk = desk_of(folder, ABSENT, start)
+            ended = desk.give(SILENCE, shim(desk, f"{kind} {target} 0 short"))
+            want((kind, target, ended.status, ended.sent), (kind, target, 0, ABSENT_FRAMES))
+            want(desk.held(), ABSENT_JOURNAL)
+
+
+@parts(2)
+def test_kills_at_each_call(folder, part, _):
+    for desk, call, ended in each_call_spoiled(folder, ("kill", "killed")[part], 0):
+        want((call, ended.status), (call, -signal.SIGKILL))
+        assert ABSENT_FRAMES.startswith(ended.sent), (call, ended)
+        goes_on(desk)
+
+
+def acts_on(calls):
+    """Give the acts that kill before, after and in the midst of each call on the journal and of each reply."""
+    for call in calls:
+        if call.target in ("journal", "folder", "orders", "err"):
+            yield call.act("kill")
+            yield call.act("killed")
+        if (call.kind, call.target) == ("write", "journal"):
+            yield from (call.act("torn", length) for length in range(1, len(call.detail) // 2))
+        if (call.kind, call.target) == ("write", "out") and call.number % 20 == 1:
+            yield from (call.act("torn", length) for length in range(1, 5))
+
+
+@parts(4)
+def test_kills_at_each_record_and_reply(folder, part, count):
+    for name, scene in SCENES.items():
+        desk, bus = desk_of(folder, scene.orders), scene.bus()
+        desk.journal.unlink(missing_ok=True)
+        calls, _ = calls_of(desk, lambda variables: desk.over(bus, environment=variables))
+        for act in list(acts_on(calls))[part::count * min(scene.step, 7)]:
+            desk.journal.unlink(missing_ok=True)
+            bus = scene.bus()
+            try:
+                ended = desk.over(bus, environment=shim(desk, act))
+                want(ended.status, -signal.SIGKILL)
+                judge(bus, scene.banks(), desk.held() if desk.journal.exists() else b"")
+                finish(desk, scene, bus, None if name == "left" else scene.codes)
+            except Exception as fault:
+                raise AssertionError(f"{name}, with the act {act}") from fault
+
+
+@parts(2)
+def test_each_allocation_refused(folder, part, count):
+    ran_out = 0
+    for number in range(1 + part, 100000, count):
+        desk = desk_of(folder, ABSENT, b"")
+        preload = {"LD_PRELOAD": str(settings["shims"] / "refuse_alloc.so"), "REFUSED_ALLOCATION": str(number)}
+        ended = desk.give(SILENCE, preload)
+        told = ended.told.replace("an allocation was refused\n", "")
+        if told == ended.told:
+            break
+        if ended.status == 0:
+            want((ended.sent, desk.held()), (ABSENT_FRAMES, ABSENT_JOURNAL))
+        else:
+            # Before the command line is read it isn't known that the command is `drive`, and the output is a link.
+            line = ended.sent.decode() if number <= 8 and ended.sent else told
+            want((number, ended.status, line.splitlines()[-1]), (number, 2, "fault 20 Memory"))
+            assert number <= 8 or not ended.sent, (number, ended.sent)
+            ran_out += 1
+        goes_on(desk)
+    assert ran_out, "no refused allocation ended as want of memory"

@@ -1,0 +1,248 @@
+"""Tests of `drive` on files that are none, and on streams that end, are closed or are full."""
+
+import os
+import pathlib
+import resource
+import shutil
+import signal
+import subprocess
+
+import driven
+from drive_desk import (
+    ABSENT,
+    ABSENT_BEGAN,
+    ABSENT_FRAMES,
+    ABSENT_JOURNAL,
+    FAULT_21,
+    KEPT_SILENT,
+    MOST_JOURNAL,
+    NOBODY,
+    SILENCE,
+    Skipped,
+    desk_of,
+    goes_on,
+    last_line,
+    settings,
+    want,
+)
+from driven import Ended
+
+
+def test_journal_that_is_a_folder(folder):
+    desk = desk_of(folder, ABSENT)
+    desk.journal.mkdir()
+    want(last_line(desk.give(SILENCE)), FAULT_21)
+
+
+def test_journal_in_a_folder_that_is_not_there(folder):
+    desk = desk_of(folder, ABSENT)
+    desk.journal = folder / "none" / "bench.journal"
+    want(last_line(desk.give(SILENCE)), FAULT_21)
+
+
+def as_nobody(desk):
+    """Run the program without the rights of root, from a copy that anybody may run."""
+    if os.geteuid() != 0:
+        return desk.give(SILENCE)
+    desk.folder.chmod(0o755)
+    desk.orders.chmod(0o644)
+    desk.program = shutil.copy(desk.program, desk.folder)
+    ended = desk.give(SILENCE, user=NOBODY, group=NOBODY, extra_groups=[])
+    desk.program = settings["program"]
+    return ended
+
+
+def test_journal_without_rights(folder):
+    for mode in (0o000, 0o444):
+        desk = desk_of(folder, ABSENT, ABSENT_BEGAN)
+        desk.journal.chmod(mode)
+        want((mode, last_line(as_nobody(desk))), (mode, FAULT_21))
+        desk.journal.chmod(0o600)
+        want(desk.held(), ABSENT_BEGAN)
+        goes_on(desk)
+        desk.journal.unlink()
+
+
+def test_folder_without_rights(folder):
+    desk = desk_of(folder, ABSENT)
+    folder.chmod(0o555)
+    want(last_line(as_nobody(desk)), FAULT_21)
+    assert not desk.journal.exists()
+    folder.chmod(0o755)
+
+
+def test_journal_that_is_too_big(folder):
+    desk = desk_of(folder, ABSENT, b"")
+    for size, line in [(MOST_JOURNAL, "journal fault 3 Record at 0"), (MOST_JOURNAL + 1, "fault 13 TooBig"),
+                       (1 << 40, "fault 13 TooBig")]:
+        os.truncate(desk.journal, size)
+        want((size, last_line(desk.give(SILENCE))), (size, (1, b"", line)))
+        want(desk.journal.stat().st_size, size)
+    desk.journal = pathlib.Path("/dev/zero")
+    status, sent, line = last_line(desk.give(SILENCE))
+    assert sent == b"" and (status, line) in [(1, "fault 13 TooBig"), FAULT_21[::2]], (status, line)
+
+
+def test_files_that_are_no_journal(folder):
+    files = {"41": "3 Record at 0", "4500": "4 Sequence at 0", (ABSENT_BEGAN * 2).hex(): "4 Sequence at 23",
+             (ABSENT_JOURNAL * 2).hex(): "5 Repeated at 25", ABSENT_JOURNAL.hex() + "4F09": "4 Sequence at 25",
+             ABSENT_BEGAN.hex() + "4F08": "4 Sequence at 23", "42000000000000000140": "3 Record at 0"}
+    for digits, fault in files.items():
+        desk = desk_of(folder, ABSENT, bytes.fromhex(digits))
+        want((digits, last_line(desk.give(SILENCE))), (digits, (1, b"", "journal fault " + fault)))
+        want(desk.held(), bytes.fromhex(digits))
+
+
+def test_journal_on_a_full_file_system(folder):
+    desk, room = desk_of(folder, ABSENT), folder / "room"
+    room.mkdir()
+    if subprocess.run(["mount", "-t", "tmpfs", "-o", "size=16k", "none", room], capture_output=True).returncode:
+        raise Skipped("a small file system can't be mounted")
+    try:
+        desk.journal = room / "bench.journal"
+        desk.journal.touch()
+        with open(room / "filler", "wb", buffering=0) as filler:
+            try:
+                while filler.write(bytes(1024)):
+                    pass
+            except OSError:
+                pass
+        want(desk.give(SILENCE), Ended(2, b"", "reply 1 taken\ndrive fault 1 Journal\n"))
+        want(desk.held(), b"")
+        (room / "filler").unlink()
+        want(desk.give(SILENCE), Ended(0, ABSENT_FRAMES, "reply 1 taken\n" + KEPT_SILENT))
+        want(desk.held(), ABSENT_JOURNAL)
+    finally:
+        subprocess.run(["umount", room], check=True)
+
+
+def test_a_second_drive_is_kept_out(folder):
+    desk = desk_of(folder, ABSENT)
+    first = desk.start()
+    try:
+        for number in range(16):
+            want(driven.line_from(first.stdout), ABSENT_FRAMES[5 * number:5 * number + 5])
+            if number in (0, 7, 15):
+                want(last_line(desk.give(SILENCE)), FAULT_21)
+                want(desk.held(), ABSENT_BEGAN)
+            first.stdin.write(b"--\n")
+        want((first.wait(driven.PATIENCE), first.stderr.read().decode()), (0, "reply 1 taken\n" + KEPT_SILENT))
+    finally:
+        first.kill()
+        for pipe in (first.stdin, first.stdout, first.stderr):
+            pipe.close()
+    want(desk.give(b""), Ended(0, b"", KEPT_SILENT))
+    want(desk.held(), ABSENT_JOURNAL)
+
+
+def test_a_limit_of_file_sizes(folder):
+    for size in (0, 1, 10, 22, 23, 24):
+        for is_restored in (True, False):
+            desk = desk_of(folder, ABSENT, b"")
+
+            def limit():
+                resource.setrlimit(resource.RLIMIT_FSIZE, (size, size))
+
+            ended = desk.give(SILENCE, preexec_fn=limit, restore_signals=is_restored)
+            sent = b"" if size < len(ABSENT_BEGAN) else ABSENT_FRAMES
+            # The launcher has the signal ignored. A parent that restores it has the program killed, as by any other.
+            told, status = ("", -signal.SIGXFSZ) if is_restored else ("drive fault 1 Journal\n", 2)
+            want((size, ended), (size, Ended(status, sent, "reply 1 taken\n" + told)))
+            held = desk.held()
+            assert len(held) <= size and (held + ABSENT_JOURNAL[len(held):]) == ABSENT_JOURNAL, (size, held)
+            goes_on(desk)
+
+
+def test_standard_output_closed_by_its_reader(folder):
+    for count in range(1, 6):
+        for is_restored in (True, False):
+            desk = desk_of(folder, ABSENT, b"")
+            command = desk.start(restore_signals=is_restored)
+            for number in range(count):
+                if number:
+                    command.stdin.write(b"--\n")
+                driven.line_from(command.stdout)
+            command.stdout.close()
+            command.stdin.write(b"--\n")
+            told = command.stderr.read().decode()
+            want((count, command.wait(driven.PATIENCE), told), (count, 2, "reply 1 taken\ndrive fault 2 Link\n"))
+            command.stdin.close()
+            command.stderr.close()
+            want(desk.held(), ABSENT_BEGAN)
+            goes_on(desk)
+
+
+def test_standard_output_closed_before_the_first_frame(folder):
+    for is_restored in (True, False):
+        desk = desk_of(folder, ABSENT, b"")
+        reading, writing = os.pipe()
+        os.close(reading)
+        ended = desk.give(SILENCE, stdout=writing, restore_signals=is_restored)
+        os.close(writing)
+        want(ended, Ended(2, None, "reply 1 taken\ndrive fault 2 Link\n"))
+        want(desk.held(), ABSENT_BEGAN)
+        goes_on(desk)
+
+
+def test_standard_output_that_is_full(folder):
+    desk = desk_of(folder, ABSENT)
+    with open("/dev/full", "wb") as full:
+        want(desk.give(SILENCE, stdout=full), Ended(2, None, "reply 1 taken\ndrive fault 2 Link\n"))
+    want(desk.held(), ABSENT_BEGAN)
+    goes_on(desk)
+
+
+def test_standard_input_that_is_a_folder(folder):
+    desk = desk_of(folder, ABSENT)
+    inside = os.open(folder, os.O_RDONLY)
+    command = desk.start(stdin=inside)
+    os.close(inside)
+    sent, told = command.communicate(timeout=driven.PATIENCE)
+    want((command.returncode, sent, told), (2, b"C301\n", b"reply 1 taken\ndrive fault 2 Link\n"))
+    goes_on(desk)
+
+
+def test_standard_error_that_fails(folder):
+    for how in ("full", "closed by its reader"):
+        desk = desk_of(folder, ABSENT, b"")
+        reading, writing = os.pipe()
+        os.close(reading)
+        if how == "full":
+            os.close(writing)
+            writing = os.open("/dev/full", os.O_WRONLY)
+        want((how, desk.give(SILENCE, stderr=writing)[:2]), (how, (2, b"")))
+        os.close(writing)
+        want(desk.held(), b"")
+        goes_on(desk)
+
+
+def test_streams_that_are_closed_at_the_start(folder):
+    for closed in [{0}, {1}, {2}, {0, 1}, {0, 2}, {1, 2}, {0, 1, 2}]:
+        for orders, start in [(ABSENT, None), (ABSENT, b""), ([], ABSENT_BEGAN), (ABSENT, ABSENT_JOURNAL[:10])]:
+            desk = desk_of(folder, orders, start)
+            ended = desk.give(SILENCE, preexec_fn=lambda: [os.close(stream) for stream in closed])
+            case = closed, orders, start
+            data = desk.held() if desk.journal.exists() else b""
+            assert data in (b"", start, ABSENT_BEGAN) or ABSENT_JOURNAL.startswith(data), (case, ended, data)
+            most = b"" if 1 in closed else ABSENT_FRAMES[:5] if 0 in closed else ABSENT_FRAMES
+            assert ended.status in (1, 2) and most.startswith(ended.sent), (case, ended)
+            want(desk.orders.read_text(), driven.json.dumps(orders))
+            desk.write_orders(ABSENT)
+            goes_on(desk)
+            desk.journal.unlink()
+
+
+def test_a_path_that_is_a_link(folder):
+    desk = desk_of(folder, ABSENT, b"")
+    real = desk.journal
+    desk.journal = folder / "link.journal"
+    desk.journal.symlink_to(real)
+    want(desk.give(SILENCE).status, 0)
+    want(real.read_bytes(), ABSENT_JOURNAL)
+
+
+def test_a_journal_in_the_working_folder(folder):
+    desk = desk_of(folder, ABSENT)
+    journal, desk.journal = desk.journal, pathlib.Path(desk.journal.name)
+    want(desk.give(SILENCE, cwd=folder), Ended(0, ABSENT_FRAMES, "reply 1 taken\n" + KEPT_SILENT))
+    want(journal.read_bytes(), ABSENT_JOURNAL)

@@ -1,0 +1,112 @@
+"""Tests of `drive` whose streams are known byte for byte: those of an absent unit."""
+
+from drive_desk import (
+    ABSENT,
+    ABSENT_BEGAN,
+    ABSENT_FRAMES,
+    ABSENT_JOURNAL,
+    FAULT_21,
+    GTIN,
+    KEPT_SILENT,
+    SILENCE,
+    desk_of,
+    goes_on,
+    last_line,
+    want,
+)
+from driven import Ended
+
+
+def test_absent_unit(folder):
+    desk = desk_of(folder, ABSENT)
+    want(desk.give(SILENCE), Ended(0, ABSENT_FRAMES, "reply 1 taken\n" + KEPT_SILENT))
+    want(desk.held(), ABSENT_JOURNAL)
+    want(desk.give(b""), Ended(0, b"", KEPT_SILENT))
+    want(desk.held(), ABSENT_JOURNAL)
+
+
+def test_link_that_ends(folder):
+    for count in range(16):
+        desk = desk_of(folder, ABSENT, b"")
+        told = "reply 1 taken\ndrive fault 4 End\n"
+        want(desk.give(SILENCE[:3 * count]), Ended(1, ABSENT_FRAMES[:5 * (count + 1)], told))
+        want(desk.held(), ABSENT_BEGAN)
+        want(desk.give(SILENCE[:3 * count] + b"--"), Ended(1, ABSENT_FRAMES[:5 * (count + 1)], "drive fault 4 End\n"))
+    goes_on(desk)
+
+
+def test_lines_that_are_no_answer(folder):
+    lines = {"123456789": "6 TooLong", "12345678": "3 Line", "-5": "3 Line", "": "3 Line", "-": "3 Line",
+             "---": "3 Line", "0G": "3 Line", " 05": "3 Line", "5": "3 Line", "\r": "3 Line", "--\r\r": "3 Line",
+             "12345678\r": "6 TooLong", "1234567\r": "3 Line", "x" * 5000: "6 TooLong", "\0\0": "3 Line",
+             "\xff\xfe": "3 Line"}
+    for line, fault in lines.items():
+        desk = desk_of(folder, ABSENT, b"")
+        told = f"reply 1 taken\ndrive fault {fault}\n"
+        want((line, desk.give(line.encode("latin-1") + b"\n" + SILENCE)), (line, Ended(1, b"C301\n", told)))
+        want(desk.held(), ABSENT_BEGAN)
+    goes_on(desk)
+
+
+def test_answers_as_they_may_be_spelled(folder):
+    told = "reply 1 taken\n" + KEPT_SILENT
+    for answers in [b"--\r\n" * 16, b"FF\n--\n" * 8, b"ff\r\nFF\n" * 8, b"00\n02\r\n" * 8]:
+        want(desk_of(folder, ABSENT, b"").give(answers), Ended(0, ABSENT_FRAMES, told))
+    want(desk_of(folder, ABSENT, b"").give(b"--\n01\n" + SILENCE[:-6]).sent[:20], b"C301\n139C\nA300\n1398\n")
+
+
+def test_journal_of_a_stopped_run(folder):
+    desk = desk_of(folder, [], ABSENT_BEGAN)
+    want(desk.give(SILENCE), Ended(0, ABSENT_FRAMES, KEPT_SILENT))
+    want(desk.held(), ABSENT_JOURNAL)
+    for orders in (ABSENT, ABSENT + [{"order": 1, "unit": 9, "gtin": GTIN}]):
+        desk = desk_of(folder, orders, ABSENT_BEGAN)
+        want(desk.give(SILENCE), Ended(0, ABSENT_FRAMES, KEPT_SILENT * (1 + len(orders))))
+        want(desk.held(), ABSENT_JOURNAL)
+
+
+def test_other_orders_after_a_stopped_run(folder):
+    second = {"order": 2, "unit": 9, "gtin": GTIN}
+    desk = desk_of(folder, [{**ABSENT[0], "unit": 10}, second, *ABSENT], ABSENT_BEGAN)
+    told = KEPT_SILENT + "reply 1 reused\nreply 2 taken\nreply 2 kept 3 Silent\n" + KEPT_SILENT
+    want(desk.give(SILENCE * 2), Ended(0, ABSENT_FRAMES * 2, told))
+    want(desk.held(), ABSENT_JOURNAL + ABSENT_BEGAN[:8] + b"\2" + ABSENT_BEGAN[9:] + b"E\3")
+
+
+def test_journal_of_a_run_that_was_stopped_at_its_writes(folder):
+    opened = ABSENT_BEGAN + b"O\x09"
+    write, read = b"1381\n1381\nC301\n139C\n" * 8, b"C301\n139C\n" * 8
+    desk = desk_of(folder, ABSENT, opened)
+    want(desk.give(b"--\n" * 80), Ended(0, write * 2 + read, "reply 1 kept 5 DoubtOpen\n" * 2))
+    want(desk.held(), opened + b"E\5")
+    desk.write_orders([{"order": 2, "unit": 6, "year": 24}, *ABSENT])
+    told = "reply 2 taken\nreply 2 blocked 9\nreply 1 kept 5 DoubtOpen\n"
+    want(desk.give(b"--\n" * 48), Ended(0, write + read, told))
+    want(desk.held(), opened + b"E\5")
+
+
+def test_journal_cut_anywhere(folder):
+    for length in range(len(ABSENT_JOURNAL)):
+        desk = desk_of(folder, ABSENT, ABSENT_JOURNAL[:length])
+        told = "reply 1 taken\n" if length < len(ABSENT_BEGAN) else KEPT_SILENT
+        want((length, desk.give(SILENCE)), (length, Ended(0, ABSENT_FRAMES, told + KEPT_SILENT)))
+        want(desk.held(), ABSENT_JOURNAL)
+
+
+def test_cut_journal_of_no_orders(folder):
+    for length in range(len(ABSENT_BEGAN)):
+        desk = desk_of(folder, [], ABSENT_BEGAN[:length])
+        want(desk.give(b""), Ended(0, b"", ""))
+        want(desk.held(), b"")
+
+
+def test_orders_that_are_refused(folder):
+    bad = {"order": 2, "unit": 9, "gtin": "1"}
+    cases = [([*ABSENT, bad], "item 2 fault 4 Gtin"), ([{**bad, "unit": 64}], "item 1 fault 1 Unit"),
+             ("[", "fault 11 Json"), ("{}", "fault 12 Document")]
+    for orders, line in cases:
+        desk = desk_of(folder, orders)
+        want((orders, last_line(desk.give(SILENCE))), (orders, (1, b"", line)))
+        assert not desk.journal.exists() or desk.held() == b"", orders
+    desk.orders.unlink()
+    want(last_line(desk.give(SILENCE)), FAULT_21)

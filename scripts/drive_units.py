@@ -1,0 +1,232 @@
+"""Tests of `drive` over simulated units, and of it killed at each frame."""
+
+import signal
+import subprocess
+import tempfile
+
+import driven
+import test_desk as adapters
+from drive_desk import (
+    ABSENT,
+    ABSENT_BEGAN,
+    ABSENT_FRAMES,
+    ABSENT_JOURNAL,
+    DONE_JOURNAL,
+    DONE_TOLD,
+    GTIN,
+    GTIN_BYTES,
+    KEPT_SILENT,
+    PRESENT,
+    SILENCE,
+    desk_of,
+    goes_on,
+    last_line,
+    parts,
+    want,
+)
+from driven import Ended, groups_of, judge, kept_lines, records_of, simulated_link
+
+
+class Scene:
+    """Orders, the units that they go to, what the bus loses, and the codes that the orders end with.
+
+    Kills come at each frame, or at one of so many as `step` says, spread evenly.
+    """
+
+    def __init__(self, orders, units, codes, step=1, **losses):
+        self.orders, self.units, self.codes, self.step, self.losses = orders, units, codes, step, losses
+
+    def bus(self):
+        """Make a bus with its units as they stand at the start."""
+        units = [simulated_link.Unit(at, bank, fixed) for at, bank, fixed in self.units]
+        return simulated_link.Bus(units, **self.losses)
+
+    def banks(self):
+        """Give bank 1 of each unit at the start."""
+        return {at: bank for at, bank, _ in self.units}
+
+
+def bank_of(length, **changes):
+    """Give a blank bank of this many locations, with changes as x12=0x04."""
+    bank = bytearray(simulated_link.BLANK_BANK_1[:length])
+    bank[0] = length - 1
+    for location, byte in changes.items():
+        bank[int(location[1:], 16)] = byte
+    return bytes(bank)
+
+
+BLANK = simulated_link.BLANK_BANK_1
+LOSSY = Scene(
+    [{"order": 1, "unit": 5, "gtin": GTIN}, {"order": 2, "unit": 6, "luminaire": "Panel 600x600"},
+     {"order": 2 ** 64 - 1, "unit": 9, "gtin": GTIN}, {"order": 0, "unit": 6, "year": 24, "week": 53}],
+    [(5, BLANK, ()), (6, bank_of(0x3C), ())], {1: 0, 2: 1, 2 ** 64 - 1: 3, 0: 0},
+    lost_frames={4, 30, 31, 77, 100, 125, 160}, lost_answers={19, 60, 99, 118, 150}, refused={45})
+DOUBTFUL = Scene(
+    [{"order": 11, "unit": 5, "gtin": GTIN}, {"order": 12, "unit": 6, "year": 24},
+     {"order": 13, "unit": 5, "year": 24, "cri": 80}],
+    [(5, BLANK, (5,)), (6, bank_of(0x78, x12=0x04), ())], {11: 4, 12: 2, 13: 0}, lost_answers={12, 90})
+LEFT = Scene(
+    [{"order": 21, "unit": 5, "gtin": GTIN}, {"order": 22, "unit": 6, "year": 24}],
+    [(5, BLANK, ()), (6, BLANK, ())], {21: 5, 22: 0}, lost_frames=set(range(40, 130)))
+ALL_FIELDS = Scene(
+    driven.json.loads((driven.ROOT / "examples" / "full.json").read_text()), [(5, BLANK, ())], {1: 0}, step=31,
+    lost_frames={40, 300, 900}, lost_answers={19, 500, 1300})
+SCENES = {"lossy": LOSSY, "doubtful": DOUBTFUL, "left": LEFT, "all fields": ALL_FIELDS}
+
+
+def finish(desk, scene, bus, codes=None):
+    """Run the program to its end, judge what it leaves, and see that a further run does nothing."""
+    ended = desk.over(bus)
+    data = desk.held()
+    want(ended.status, 0)
+    want(records_of(data)[1], len(data))
+    judge(bus, scene.banks(), data)
+    lines = kept_lines(data)
+    assert set(lines) <= set(ended.told.splitlines()), (lines, ended.told)
+    want([int(line.split()[1]) for line in lines], [order["order"] for order in scene.orders])
+    if codes is not None:
+        want({group.number: group.code for group in groups_of(data)}, codes)
+    want(desk.over(bus), Ended(0, b"", "".join(line + "\n" for line in lines)))
+    want(desk.held(), data)
+    return ended
+
+
+def whole_run(folder, scene):
+    """Run a scene with no kill; give the desk, its bus, and how the run ended."""
+    desk, bus = desk_of(folder, scene.orders), scene.bus()
+    return desk, bus, finish(desk, scene, bus, scene.codes)
+
+
+def test_whole_runs(folder):
+    for name, scene in SCENES.items():
+        (folder / name).mkdir()
+        desk, _, ended = whole_run(folder / name, scene)
+        want(ended.told, "".join(f"reply {number} taken\nreply {number} kept {code} {driven.NAMES[code]}\n"
+                                 for number, code in scene.codes.items()))
+        kinds = "".join(kind for kind, _ in records_of(desk.held())[0])
+        want(kinds, {"lossy": "BOEBEBEBOE", "doubtful": "BOEBEBOE", "left": "BOECBOE", "all fields": "BOE"}[name])
+
+
+def test_gtin_on_disk(folder):
+    with tempfile.TemporaryDirectory() as on_disk:
+        desk, bus = desk_of(on_disk, PRESENT), simulated_link.Bus([simulated_link.Unit(5)])
+        ended = desk.over(bus)
+        want((ended.status, bus.frames, ended.told), (0, 96, DONE_TOLD))
+        want(bytes(bus.units[0].banks[1]), BLANK[:3] + GTIN_BYTES + BLANK[9:])
+        want(desk.held(), DONE_JOURNAL)
+        want(desk.over(bus), Ended(0, b"", "reply 1 kept 0 Done\n"))
+
+
+def test_the_journal_command_reads_what_drive_wrote(folder):
+    for name, scene in SCENES.items():
+        desk = desk_of(folder, scene.orders, b"")
+        desk.over(scene.bus())
+        told = subprocess.run([desk.program, "journal", desk.journal], capture_output=True, text=True).stdout
+        size, count = len(desk.held()), len(scene.orders)
+        want((name, told.splitlines()[-1]), (name, f"counts {size} of {size} orders {count} standing idle"))
+
+
+def many_orders(count):
+    """Give the journal of so many orders that a unit didn't answer."""
+    return b"".join(b"B" + number.to_bytes(8, "big") + bytes.fromhex("09 01 1318 4503") for number in range(count))
+
+
+def test_a_full_journal(folder):
+    again, more = {"order": 7, "unit": 9, "year": 24}, {"order": 100000, "unit": 9, "year": 24}
+    desk = desk_of(folder, [again, more, again], many_orders(100000))
+    ended = desk.give(SILENCE)
+    want(ended, Ended(0, b"", "reply 7 kept 3 Silent\nreply 100000 full\nreply 7 kept 3 Silent\n"))
+    want(len(desk.held()), 1500000)
+    desk.journal.write_bytes(many_orders(100001))
+    want(last_line(desk.give(SILENCE)), (1, b"", "journal fault 6 Full at 1500000"))
+
+
+def test_the_last_order_of_a_journal(folder):
+    desk = desk_of(folder, ABSENT, many_orders(1) + many_orders(100000)[30:])
+    want(desk.give(SILENCE), Ended(0, ABSENT_FRAMES, "reply 1 taken\n" + KEPT_SILENT))
+    want(desk.held()[-25:], ABSENT_JOURNAL)
+
+
+def test_the_same_number_for_another_order(folder):
+    desk, bus = desk_of(folder, PRESENT), simulated_link.Bus([simulated_link.Unit(5)])
+    desk.over(bus)
+    desk.write_orders([{"order": 1, "unit": 5, "gtin": "96385074"}, {"order": 1, "unit": 9, "gtin": GTIN}, *PRESENT])
+    ended = desk.over(bus)
+    want(ended, Ended(0, b"", "reply 1 reused\n" * 2 + "reply 1 kept 0 Done\n"))
+    want(desk.held(), DONE_JOURNAL)
+
+
+def test_a_unit_that_stays_left(folder):
+    bus = LEFT.bus()
+    desk = desk_of(folder, LEFT.orders)
+    bus.lost_frames = set(range(40, 400))
+    ended = desk.over(bus)
+    lines = ["reply 21 taken", "reply 21 kept 5 DoubtOpen", "reply 22 taken", "reply 22 blocked 5"]
+    want((ended.status, ended.told.splitlines()), (0, lines))
+    judge(bus, LEFT.banks(), desk.held())
+    bus.lost_frames = set()
+    finish(desk, LEFT, bus, LEFT.codes)
+
+
+def test_over_the_simulated_adapter(folder):
+    desk = desk_of(folder, PRESENT)
+    adapter = [driven.ROOT / "examples" / "desk" / "simulated_link.py", "--folder", folder, "--lose-answer", "50"]
+    for told in (DONE_TOLD, "reply 1 kept 0 Done\n"):
+        words = [*adapter, "--", *desk.words()]
+        ended = subprocess.run(words, capture_output=True, text=True, timeout=driven.PATIENCE)
+        want((ended.returncode, ended.stdout, ended.stderr), (0, "", told))
+    want(bytes.fromhex((folder / "unit_5.hex").read_text()), BLANK[:3] + GTIN_BYTES + BLANK[9:])
+
+
+def test_over_the_serial_adapter(folder):
+    desk = desk_of(folder, ABSENT)
+    interface = adapters.Interface([[b"N\r"]] * 10)
+    adapter = [driven.ROOT / "examples" / "desk" / "serial_link.py", interface.device, "--"]
+    ended = subprocess.run([*adapter, *desk.words()], capture_output=True, text=True, timeout=driven.PATIENCE)
+    interface.close()
+    want((ended.returncode, interface.heard), (1, ["SC301\r", "S139C\r"] * 5 + ["SC301\r"]))
+    assert {"reply 1 taken", "drive fault 4 End"} < set(ended.stderr.splitlines()), ended.stderr
+    want(desk.held(), ABSENT_BEGAN)
+    goes_on(desk)
+
+
+# Kills
+
+
+def killed_run(folder, scene, stops, codes):
+    """Kill the program at each of the stops in turn, over one bus and journal; judge each moment, and then go on."""
+    desk, bus = desk_of(folder, scene.orders, b""), scene.bus()
+    for stop in stops:
+        ended = desk.over(bus, stop)
+        assert ended.status in (-signal.SIGKILL, 0), ended
+        judge(bus, scene.banks(), desk.held())
+    finish(desk, scene, bus, codes)
+
+
+def kill_at_each_frame(folder, name, moment, part, count):
+    """Kill a scene's run at each frame of its run with no kill, those of one part."""
+    scene = SCENES[name]
+    (folder / "whole").mkdir()
+    total = len(whole_run(folder / "whole", scene)[2].sent) // 5
+    codes = None if name == "left" else scene.codes
+    for frame in range(1 + part * scene.step, total + 1, count * scene.step):
+        try:
+            killed_run(folder, scene, [(frame, moment)], codes)
+            more = [(1 + frame % 23, "sent"), (1 + frame % 7, "carried")]
+            killed_run(folder, scene, [(frame, moment), *more], codes)
+        except Exception as fault:
+            raise AssertionError(f"{name}, killed once frame {frame} was {moment}") from fault
+
+
+@parts(4)
+def test_kills_before_the_link_carries(folder, part, count):
+    for name in SCENES:
+        (folder / name).mkdir()
+        kill_at_each_frame(folder / name, name, "sent", part, count)
+
+
+@parts(4)
+def test_kills_before_the_answer(folder, part, count):
+    for name in SCENES:
+        (folder / name).mkdir()
+        kill_at_each_frame(folder / name, name, "carried", part, count)

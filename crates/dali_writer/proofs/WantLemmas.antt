@@ -109,36 +109,22 @@ asks_send start past journal (Closes order s) frame d f ready e =
     closing_wants (unit_of s) (told_in past) s (asks.Send frame) ready.1 f.told (closing_sends_it order.id (unit_of s) (aim_of s) frame e) in
     rw (stands_so start past _ _ d ready.0) asked
 
--- and for the record that is to be kept next
+-- a record that is to be kept next and begins no order follows the end of the session at hand
+ends_next : (stands : Standing) (waits : Option Contents) (told : List Exchange) (entry : Record) → ((order : Contents) → entry ≡ Began order → ⊥) → NextRecord stands waits told entry
+    → (verdict : Verdict) × Asks stands told (asks.Ended verdict) × EndsIn stands verdict entry
+ends_next standings.Idle None told entry other next = absurd next
+ends_next standings.Idle (Some order) told entry other next = absurd (other order next)
+ends_next (standings.Left left) None told entry other next = absurd next
+ends_next (standings.Left left) (Some order) told entry other next = next
+ends_next (standings.Began order) waits told entry other next = next
+ends_next (standings.Opened order) waits told entry other next = next
+
+-- so the plan asks for the record that is to be kept next
 next_planned : (start : Start) (past : List Happening) (entry : Record) → IsKeptNext start past entry → IsPlanned start past (Kept entry)
 next_planned start past (Began order) next = tt
-next_planned start past (Opened unit) next = by (standing_at start past) (waiting past) next where
-  by : (stands : Standing) (waits : Option Contents) → NextRecord stands waits (told_in past) (Opened unit)
-      → (verdict : Verdict) × Asks stands (told_in past) (asks.Ended verdict) × EndsIn stands verdict (Opened unit)
-  by standings.Idle None next = absurd next
-  by standings.Idle (Some order) next = cc
-  by (standings.Left left) None next = absurd next
-  by (standings.Left left) (Some order) next = next
-  by (standings.Began order) waits next = next
-  by (standings.Opened order) waits next = next
-next_planned start past (Ended code) next = by (standing_at start past) (waiting past) next where
-  by : (stands : Standing) (waits : Option Contents) → NextRecord stands waits (told_in past) (Ended code)
-      → (verdict : Verdict) × Asks stands (told_in past) (asks.Ended verdict) × EndsIn stands verdict (Ended code)
-  by standings.Idle None next = absurd next
-  by standings.Idle (Some order) next = cc
-  by (standings.Left left) None next = absurd next
-  by (standings.Left left) (Some order) next = next
-  by (standings.Began order) waits next = next
-  by (standings.Opened order) waits next = next
-next_planned start past (Closed unit) next = by (standing_at start past) (waiting past) next where
-  by : (stands : Standing) (waits : Option Contents) → NextRecord stands waits (told_in past) (Closed unit)
-      → (verdict : Verdict) × Asks stands (told_in past) (asks.Ended verdict) × EndsIn stands verdict (Closed unit)
-  by standings.Idle None next = absurd next
-  by standings.Idle (Some order) next = cc
-  by (standings.Left left) None next = absurd next
-  by (standings.Left left) (Some order) next = next
-  by (standings.Began order) waits next = next
-  by (standings.Opened order) waits next = next
+next_planned start past (Opened unit) next = ends_next (standing_at start past) (waiting past) (told_in past) (Opened unit) (λ order e. cc) next
+next_planned start past (Ended code) next = ends_next (standing_at start past) (waiting past) (told_in past) (Ended code) (λ order e. cc) next
+next_planned start past (Closed unit) next = ends_next (standing_at start past) (waiting past) (told_in past) (Closed unit) (λ order e. cc) next
 
 -- what is wanted is next
 pub done_next : (start : Start) (past : List Happening) (journal : JournalState) (phase : Phase) (want : Want) (next : Happening)

@@ -1,5 +1,10 @@
 //! Laws of fields, banks and updates. Each is the contract of a function that does nothing.
 
+ghost use Rattle.std.specs.Prelude.{◌≡◌};
+ghost use Rattle.dali_bank.specs.declared.blank.TheConstants.{BLANK};
+ghost use Rattle.dali_bank.specs.declared.field.TheConstants.Field.{ALL};
+ghost use Rattle.dali_bank.specs.Blank.{blank_bank};
+ghost use Rattle.dali_bank.specs.Layout.{fields};
 ghost use Rattle.dali_bank.specs.Law.{IsShownOnce, SetValuesAreShown, UpdatesAreFound};
 
 /// The bytes that a field has for a value, laid in a bank, are shown as that value.
@@ -18,4 +23,10 @@ pub fn fields_are_shown_once()
 /// The byte that an order's updates have for a location is the one that stands among them with it.
 pub fn updates_are_found_by_location()
     ensures { UpdatesAreFound }
+{}
+
+/// The constants are those of the rules: the bytes of a blank unit's bank, and the fields by rising location.
+pub fn constants_are_these()
+    ensures blank { BLANK ≡ blank_bank }
+    ensures fields { ALL ≡ fields }
 {}

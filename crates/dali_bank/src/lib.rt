@@ -13,8 +13,6 @@ pub mod laws;
 mod order;
 mod shown;
 mod spelling;
-#[cfg(test)]
-mod tests;
 mod text;
 mod value;
 

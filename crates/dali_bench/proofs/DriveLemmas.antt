@@ -6,11 +6,11 @@ use Rattle.std.proofs.lemmas.List.{flat_map_more, take_more}
 use Rattle.dali_bank.specs.Order.{Contents}
 use Rattle.dali_journal.specs.JournalState.{JournalState}
 use Rattle.dali_input.specs.declared.item.ItemFault.{ItemFault}
-use Rattle.dali_writer.specs.declared.fault.DriveFault.{DriveFault}
-use Rattle.dali_writer.specs.Driven.{IsDrive, IsBrokenDrive, start_of}
-use Rattle.dali_writer.specs.Held.{Held}
+use Rattle.dali_drive.specs.declared.fault.DriveFault.{DriveFault}
+use Rattle.dali_drive.specs.Driven.{IsDrive, IsBrokenDrive}
+use Rattle.dali_writer.specs.Held.{Held, start_of}
 use Rattle.dali_writer.specs.Trace.{Start}
-use Rattle.dali_writer.specs.Transcript.{Streams}
+use Rattle.dali_drive.specs.Transcript.{Streams}
 use Rattle.dali_bench.specs.declared.fault.Status.{Status}
 use Rattle.dali_bench.specs.declared.fault.Status.TheVariants.{Good}
 use Rattle.dali_bench.specs.DriveAnswers.{IsDriveAnswer, IsTold, refused_lines, start_at}

@@ -7,12 +7,12 @@ use Rattle.dali_journal.specs.JournalState.{JournalState}
 use Rattle.dali_input.specs.declared.fault.InputFault.{InputFault}
 use Rattle.dali_input.specs.declared.item.ItemFault.{ItemFault}
 use Rattle.dali_input.specs.Input.{IsReadFailure, ReadsInput}
-use Rattle.dali_writer.specs.declared.fault.DriveFault.{DriveFault}
-use Rattle.dali_writer.specs.declared.fault.DriveFault.TheVariants.{Out}
-use Rattle.dali_writer.specs.Driven.{IsDrive, IsBrokenDrive}
+use Rattle.dali_drive.specs.declared.fault.DriveFault.{DriveFault}
+use Rattle.dali_drive.specs.declared.fault.DriveFault.TheVariants.{Out}
+use Rattle.dali_drive.specs.Driven.{IsDrive, IsBrokenDrive}
 use Rattle.dali_writer.specs.Held.{Held}
 use Rattle.dali_writer.specs.Trace.{Start}
-use Rattle.dali_writer.specs.Transcript.{Streams}
+use Rattle.dali_drive.specs.Transcript.{Streams}
 use Rattle.dali_bench.specs.declared.fault.Fault.{Fault}
 use Rattle.dali_bench.specs.declared.fault.Fault.TheVariants.{Input, Drive}
 use Rattle.dali_bench.specs.declared.fault.Status.{Status}

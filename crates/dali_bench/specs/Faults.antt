@@ -6,9 +6,10 @@ use Rattle.dali_journal.specs.declared.fault.JournalFault.{JournalFault}
 use Rattle.dali_journal.specs.declared.fault.JournalFault.TheVariants as journals
 use Rattle.dali_journal.specs.Faults as journal
 use Rattle.dali_writer.specs.declared.fault.RunFault.TheVariants as runs
-use Rattle.dali_writer.specs.declared.fault.DriveFault.{DriveFault}
-use Rattle.dali_writer.specs.declared.fault.DriveFault.TheVariants as drives
+use Rattle.dali_drive.specs.declared.fault.DriveFault.{DriveFault}
+use Rattle.dali_drive.specs.declared.fault.DriveFault.TheVariants as drives
 use Rattle.dali_writer.specs.Faults as run
+use Rattle.dali_drive.specs.Faults as drive
 use Rattle.dali_text.specs.FaultLines as lines
 use Rattle.dali_input.specs.declared.fault.InputFault.{InputFault}
 use Rattle.dali_input.specs.declared.fault.InputFault.TheVariants.{Json, Document, TooBig, Hex, Memory, File}
@@ -92,7 +93,7 @@ journal_line (journals.Full place) = record_line (journals.Full place) place
 
 abbrev pub drive_line : DriveFault → List ℕ
 drive_line drives.NoMemory = input_line Memory
-drive_line fault = lines.single_line (codes "drive") (run.drive_number fault) (run.drive_name fault)
+drive_line fault = lines.single_line (codes "drive") (drive.drive_number fault) (drive.drive_name fault)
 
 abbrev pub line_of : Fault → List ℕ
 line_of (Input fault) = input_line fault

@@ -1,14 +1,15 @@
-ghost use Rattle.std.specs.Prelude.{◌≡◌, ◌≢◌, ℕ, List, IfOk, IfErr, OnOk, false};
+ghost use Rattle.std.specs.Prelude.{◌≡◌, ◌≢◌, IfOk, IfErr, OnOk, false};
 ghost use Rattle.std.specs.Io.KnownBytes.{Appends};
-ghost use Rattle.dali_writer.specs.Transcript.{shown};
+ghost use Rattle.dali_drive.specs.Transcript.{shown};
 ghost use Rattle.dali_bench.specs.DriveAnswers.{IsDriveAnswer, IsTold, refused_lines, start_at};
 
 use crate::fault::{Fault, Status};
 use crate::fault_lines::{write_failure, write_refused_item};
 use dali_bank::Order;
+use dali_drive::{DriveFault, Sink, Source, StdSink, drive};
 use dali_input::ItemFault;
 use dali_journal::Journal;
-use dali_writer::{DriveFault, Sink, Source, StdSink, Writer, drive};
+use dali_writer::Writer;
 use std::io;
 use std::io::Write;
 

@@ -1,9 +1,10 @@
 ghost use Rattle.std.specs.Prelude.{◌≡◌};
 ghost use Rattle.dali_bench.specs.Faults.{code_of, drive_status as status_of_drive, input_status as status_of_input, status_of};
 
+use dali_drive::DriveFault;
 use dali_input::{InputFault, SetupFault};
 use dali_journal::JournalFault;
-use dali_writer::{DriveFault, RunFault};
+use dali_writer::RunFault;
 use thiserror::Error;
 
 /// How a command ended.

@@ -3,11 +3,12 @@ ghost use Rattle.std.specs.Io.KnownBytes.{Appends};
 ghost use Rattle.dali_bench.specs.Faults.{drive_line, input_line, item_line, journal_line, line_of, record_line, setup_line, status_of, whole_line};
 
 use crate::fault::{Fault, Status};
+use dali_drive::DriveFault;
 use dali_gear::GearFault;
 use dali_input::{InputFault, ItemFault, SetupFault};
 use dali_journal::JournalFault;
 use dali_text::{write_counted_fault, write_placed_fault, write_single_fault};
-use dali_writer::{DriveFault, RunFault};
+use dali_writer::RunFault;
 use std::io;
 use std::io::Write;
 

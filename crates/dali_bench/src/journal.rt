@@ -1,4 +1,4 @@
-ghost use Rattle.std.specs.Prelude.{◌≡◌, ◌≢◌, List, ℕ, IfErr, IfOk};
+ghost use Rattle.std.specs.Prelude.{◌≢◌, List, ℕ, IfErr, IfOk};
 ghost use Rattle.std.specs.Io.KnownBytes.{Appends};
 ghost use Rattle.dali_input.specs.Input.{ReadsAtMost};
 ghost use Rattle.dali_bench.specs.DriveAnswers.{HasJournal, HasNoJournal};

@@ -12,5 +12,3 @@ pub use line::{answer_of, byte_digits, line_of};
 mod fault;
 mod forward;
 mod line;
-#[cfg(test)]
-mod tests;

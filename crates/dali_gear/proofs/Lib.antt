@@ -2,4 +2,4 @@ pub mod BankLemmas
 pub mod SimLemmas
 pub mod ChainLemmas
 pub mod UnenabledLemmas
-pub mod TestBusLemmas
+pub mod WorkedFrameLemmas

@@ -4,9 +4,9 @@ pub mod Carry
 pub mod Chain
 pub mod Unenabled
 pub mod UnitState
+pub mod WorkedFrames
 pub mod Faults
 pub mod Fate
 pub mod SimState
 pub mod UnitHears
 pub mod SimSteps
-pub mod TestBus

@@ -2,6 +2,7 @@ ghost use Rattle.std.specs.Prelude.{◌≡◌, not, ◌&&◌, slice_get, if◌th
 ghost use Rattle.dali_gear.specs.UnitState.{is_writable, with_byte};
 
 use std::alloc::{AllocError, Global};
+use std::boxed::BoxedSlice;
 use std::marker::Model;
 
 // The location of a bank's lock byte, and what it holds while the bank can be written.
@@ -9,19 +10,20 @@ const LOCK: u8 = 0x02;
 
 const UNLOCKED: u8 = 0x55;
 
-/// A memory bank of a simulated unit.
+/// A memory bank of a simulated unit. It never grows.
 #[derive(Drop)]
 pub(crate) struct Bank {
-    bytes: Vec<u8>,
-    fixed: Vec<u8>,
+    bytes: BoxedSlice<u8>,
+    fixed: BoxedSlice<u8>,
 }
 
 impl Model for Bank {
+    ghost use Rattle.std.specs.Box.{boxed_slice_items};
     ghost use Rattle.dali_gear.specs.UnitState.{BankState};
 
     ghost Value = { BankState };
 
-    ghost view = { λ bank. record { bytes = bank.bytes.items; fixed = bank.fixed.items } };
+    ghost view = { λ bank. record { bytes = boxed_slice_items bank.bytes; fixed = boxed_slice_items bank.fixed } };
 }
 
 impl Bank {
@@ -30,8 +32,8 @@ impl Bank {
         ensures { IfOk result (λ bank. bank ≡ record { bytes = bytes.now; fixed = fixed.now }) }
     {
         Ok(Bank {
-            bytes: bytes.to_vec(alloc)?,
-            fixed: fixed.to_vec(alloc)?,
+            bytes: BoxedSlice::from_slice(alloc, bytes)?,
+            fixed: BoxedSlice::from_slice(alloc, fixed)?,
         })
     }
 

@@ -1,7 +1,6 @@
 //! Laws of the world of units. Each is the contract of a function that does nothing.
 
 ghost use Rattle.std.specs.Prelude.{List, map};
-ghost use Rattle.dali_gear.specs.World.{World};
 ghost use Rattle.dali_gear.specs.Carry.{BusEvent, WorldStep};
 ghost use Rattle.dali_gear.specs.Chain.{IsChain};
 ghost use Rattle.dali_gear.specs.Unenabled.{UnenabledMemoryStays};

@@ -10,8 +10,6 @@ mod fate;
 mod fault;
 pub mod laws;
 mod sim_bus;
-#[cfg(test)]
-mod tests;
 mod unit;
 
 pub use bus::Bus;

@@ -10,6 +10,7 @@ use crate::fault::GearFault;
 use crate::unit::Unit;
 use dali_frame::Frame;
 use std::alloc::Global;
+use std::boxed::BoxedSlice;
 use std::marker::Model;
 use std::vec::IntoIter;
 
@@ -17,20 +18,21 @@ use std::vec::IntoIter;
 /// of fates says (profile).
 #[derive(Drop)]
 pub struct SimBus {
-    units: Vec<Unit>,
+    units: BoxedSlice<Unit>,
     fates: IntoIter<Fate, Global>,
 }
 
 impl Model for SimBus {
     ghost use Rattle.std.specs.Prelude.{length};
+    ghost use Rattle.std.specs.Box.{boxed_slice_items};
     ghost use Rattle.std.specs.Vec.Iter.{into_iter_items};
     ghost use Rattle.dali_gear.specs.SimState.{SimState, AreApart, AreBanks};
 
     ghost Value = { SimState };
 
-    ghost view = { λ bus. record { units = bus.units.items; fates = into_iter_items bus.fates } };
+    ghost view = { λ bus. record { units = boxed_slice_items bus.units; fates = into_iter_items bus.fates } };
 
-    ghost invariant = { λ bus. AreApart bus.units.items × AreBanks bus.units.items };
+    ghost invariant = { λ bus. AreApart (boxed_slice_items bus.units) × AreBanks (boxed_slice_items bus.units) };
 }
 
 impl SimBus {
@@ -47,7 +49,7 @@ impl SimBus {
             return Err(GearFault::SameAddress);
         }
         Ok(SimBus {
-            units,
+            units: units.into_boxed_slice(),
             fates: fates.into_iter(),
         })
     }

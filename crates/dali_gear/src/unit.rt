@@ -1,7 +1,7 @@
 ghost use Rattle.std.specs.Prelude.{◌≡◌, ◌==◌, ◌≤◌, ◌<◌, ◌↔◌, [], true, false, if◌then◌else◌, IfOk, IfErr, OnOk, IsTrue};
 ghost use Rattle.std.specs.List.{AllByRecursion};
 ghost use Rattle.dali_bank.specs.Blank.{blank_bank};
-ghost use Rattle.dali_gear.specs.UnitState.{UnitState, after_frame, after_write, after_read, after_enable, answer_to, selected_byte, stores, gear_of, new_unit};
+ghost use Rattle.dali_gear.specs.UnitState.{UnitState, after_frame, after_write, after_read, answer_to, selected_byte, stores, gear_of, new_unit};
 ghost use Rattle.dali_gear.specs.Hears.{Hears, up};
 ghost use Rattle.dali_gear.specs.Faults.{IsBank, AreFixed, RisesAbove, IsUnitFault, IsBlankFault};
 

@@ -232,6 +232,7 @@ impl Journal {
         ensures records { self.new.records ≡ entry ∷ self.old.records }
         ensures limit { self.new.limit ≡ self.old.limit }
         ensures kept_room { KeepsRoom entry self.old self.new }
+        ensures room { self.new.room + length (spelling entry) ≡ self.old.room }
     {
         let bytes = entry.bytes();
         note(&mut self.index, &self.standing, &entry, self.bytes.len());
@@ -273,7 +274,9 @@ fn put_in_room(bytes: &mut Vec<u8>, more: &[u8])
     requires { vec_len bytes.old + length more.now ≤ vec_capacity bytes.old }
     ensures items { bytes.new.items ≡ bytes.old.items ++ more.now }
     ensures len { vec_len bytes.new ≡ vec_len bytes.old + length more.now }
-    ensures capacity { vec_capacity bytes.old ≤ vec_capacity bytes.new }
+    ensures capacity { vec_capacity bytes.new ≡ vec_capacity bytes.old }
 {
-    let _ = bytes.extend_from_slice(more);
+    for &byte in more {
+        bytes.push_reserved(byte);
+    }
 }

@@ -12,8 +12,6 @@ pub mod laws;
 mod read;
 mod record;
 mod standing;
-#[cfg(test)]
-mod tests;
 
 pub use fault::{JournalFault, NoMemory};
 pub use journal::Journal;

@@ -31,8 +31,8 @@ impl Standing {
         }
     }
 
-    // Whether the record may come.
-    pub(crate) fn allows(&self, entry: &Record) -> bool
+    /// Whether the record may come by this standing, as `Journal::append` requires.
+    pub fn allows(&self, entry: &Record) -> bool
         ensures { IsTrue result ↔ Allows self.now entry.now }
     {
         match (self, entry) {

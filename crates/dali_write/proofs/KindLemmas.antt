@@ -1,13 +1,13 @@
 -- With which verdicts a session may end.
-use Rattle.std.proofs.Common.{◌≡◌, subst, ℕ, Bool, ◌==◌, ◌&&◌, nat_lt, true, false, if◌then◌else◌, List, [], ◌∷◌, Option}
+use Rattle.std.proofs.Common.{◌≡◌, subst, ℕ, zero, suc, min, Bool, ◌==◌, ◌&&◌, nat_lt, true, false, if◌then◌else◌, List, [], ◌∷◌, Option}
 use Rattle.dali_write.specs.Exchanges.{Exchange}
 use Rattle.dali_write.specs.declared.line.Line.{Line}
 use Rattle.dali_write.specs.declared.ask.Ask.TheVariants.{Ended}
 use Rattle.dali_write.specs.declared.ask.Verdict.{Verdict}
 use Rattle.dali_write.specs.declared.ask.Verdict.TheVariants.{MayOpen, Short, Format, Silent, Doubt, DoubtOpen, Closed, NotClosed}
-use Rattle.dali_write.specs.Plans.{Plan, Finish, Check, goes_on, plan_after, greatest, judge_length, read_format, read_format_low, read_length, close, give_up, expect, read_back, read_lock, write_on, unlock}
+use Rattle.dali_write.specs.Plans.{Plan, Finish, Check, goes_on, plan_after, greatest, judge_length, read_format, read_format_low, read_length, close, give_up, expect, read_back, read_lock, write_on, unlock, read_on, read_all}
 use Rattle.dali_write.specs.Tries.{GoesOn, Wants, ask_at}
-use Rattle.dali_write.specs.Verdicts.{EndsFresh, EndsOpened, EndsClosing}
+use Rattle.dali_write.specs.Verdicts.{EndsFresh, EndsOpened, EndsClosing, EndsReading}
 use Rattle.dali_write.proofs.PlanLemmas.{either_all, if_all}
 
 -- wherever the plan ends, it ends so
@@ -78,3 +78,13 @@ opened_ends told unit updates verdict wants = ended EndsOpened unit (unlock upda
 
 pub closing_ends : (told : List Exchange) (unit : ℕ) (verdict : Verdict) → Wants unit (close Closed NotClosed) told (Ended verdict) → EndsClosing verdict
 closing_ends told unit verdict wants = ended EndsClosing unit (close Closed NotClosed) told verdict (close_ends EndsClosing Closed NotClosed tt tt) wants
+
+on_ends : (location left : ℕ) → EndsSo EndsReading (read_on location left)
+on_ends location zero = tt
+on_ends location (suc left) =
+    either_all (EndsSo EndsReading) (Finish Silent) (λ byte. read_on (suc location) left) tt (λ byte. on_ends (suc location) left)
+
+pub reading_ends : (told : List Exchange) (unit : ℕ) (verdict : Verdict) → Wants unit read_all told (Ended verdict) → EndsReading verdict
+reading_ends told unit verdict wants =
+    ended EndsReading unit read_all told verdict
+    (either_all (EndsSo EndsReading) (Finish Silent) (λ last. read_on 1 (min last 0xFE)) tt (λ last. on_ends 1 (min last 0xFE))) wants

@@ -11,7 +11,7 @@ ghost use Rattle.dali_write.specs.declared.session.Session.{Session};
 ghost use Rattle.dali_write.specs.declared.ask.Verdict.{Verdict};
 ghost use Rattle.dali_write.specs.Plans.{Plan, greatest, unlock, close, read_length, read_all};
 ghost use Rattle.dali_write.specs.Tries.{Wants};
-ghost use Rattle.dali_write.specs.Verdicts.{Says, ShowsBank, EndsFresh, EndsOpened, EndsClosing};
+ghost use Rattle.dali_write.specs.Verdicts.{Says, ShowsBank, EndsFresh, EndsOpened, EndsClosing, EndsReading};
 ghost use Rattle.dali_write.specs.declared.stage.Job.{Job};
 ghost use Rattle.dali_write.specs.Stages.{plan_of};
 ghost use Rattle.dali_write.specs.Told.{Told, unit_of, job_of, bytes_of, aim_of};
@@ -81,6 +81,7 @@ pub fn sessions_end_by_their_kind()
         → Wants unit (unlock updates) told (Ask.Ended verdict) → EndsOpened verdict }
     ensures closing { (told : List Exchange) (unit : ℕ) (verdict : Verdict)
         → Wants unit (close Verdict.Closed Verdict.NotClosed) told (Ask.Ended verdict) → EndsClosing verdict }
+    ensures reading { (told : List Exchange) (unit : ℕ) (verdict : Verdict) → Wants unit read_all told (Ask.Ended verdict) → EndsReading verdict }
 {}
 
 /// What a session's verdict rests on: checked reads of its own that still stand.
@@ -126,13 +127,14 @@ pub fn sessions_touch_their_places_alone()
         → OnlyEnabled unit last }
 {}
 
-/// A fresh, opened or closing session sends only frames that set registers, ask its unit or read it;
-/// one that writes enables its unit besides, and writes a byte of its own where the unit was made sure
-/// to have selected its location.
+/// A session sends only frames that set registers, ask its unit or read it; one that writes enables its unit besides, and
+/// writes a byte of its own where the unit was made sure to have selected its location. A fresh or a reading one writes
+/// nothing.
 pub fn wanted_frames_are_guarded()
     ensures opened { (told : List Exchange) (unit : ℕ) (updates : List (ℕ × ℕ)) (frame : Frame) → Wants unit (unlock updates) told (Ask.Send frame) → IsGuarded (writes_of updates) unit told frame }
     ensures fresh { (told : List Exchange) (unit : ℕ) (updates : List (ℕ × ℕ)) (frame : Frame) → Wants unit (read_length updates) told (Ask.Send frame) → IsGuarded [] unit told frame }
     ensures closing { (told : List Exchange) (unit : ℕ) (frame : Frame) → Wants unit (close Verdict.Closed Verdict.NotClosed) told (Ask.Send frame) → IsGuarded ((2, 0xFF) ∷ []) unit told frame }
+    ensures reading { (told : List Exchange) (unit : ℕ) (frame : Frame) → Wants unit read_all told (Ask.Send frame) → IsGuarded [] unit told frame }
 {}
 
 /// What the simulated bus does with exchanges is what its units may do.

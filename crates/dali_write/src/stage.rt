@@ -1,6 +1,6 @@
-ghost use Rattle.std.specs.Prelude.{◌≡◌, ◌≤◌, ◌+◌, ◌*◌, ℕ, IfOk, ◌==◌, if◌then◌else◌, max, length};
+ghost use Rattle.std.specs.Prelude.{◌≡◌, ◌≤◌, ◌+◌, ◌*◌, ℕ, IfOk, ◌==◌, if◌then◌else◌, length};
 ghost use Rattle.dali_write.specs.Lines.{step_lines};
-ghost use Rattle.dali_write.specs.Plans.{greatest, goes_on, judge_length as judged, either_way, give_up};
+ghost use Rattle.dali_write.specs.Plans.{greatest, goes_on, either_way, give_up};
 ghost use Rattle.dali_write.specs.Tries.{most_tries};
 ghost use Rattle.dali_write.specs.declared.stage.Job.{Job};
 ghost use Rattle.dali_write.specs.declared.stage.Stage.TheVariants.{ReadOn};

@@ -16,7 +16,8 @@ use Rattle.dali_writer.specs.Law.{IsRight}
 use Rattle.dali_writer.specs.Runs.{fresh, LeadsRight}
 use Rattle.dali_writer.specs.Held.{Held}
 use Rattle.dali_writer.specs.Describes.{Describes}
-use Rattle.dali_writer.proofs.MomentLemmas.{every_moment}
+use Rattle.dali_writer.specs.WhenKept.{WhenKept}
+use Rattle.dali_writer.proofs.MomentLemmas.{every_moment, each_kept}
 
 -- a longer trace that is written oldest first describes the same writer
 pub onto : (start : Start) (w : Held) (trace new : List Happening) (next : Happening) → new ≡ trace ++ next ∷ [] → Describes start (next ∷ reverse trace) w → Describes start (reverse new) w
@@ -78,6 +79,8 @@ module _ {S : Type 0} (world : S → World) (step : S → BusEvent → S → Typ
     right limit first last past legal chain = record {
       states = chain.states;
       chain = chain.steps;
+      kept = moments (WhenKept (fresh limit)) last past chain.states
+          (each_kept (fresh limit) (world first) past (world last) (map world chain.states) legal (worlds first last past chain.states chain.steps)).1;
       right = λ none. moments (IsRight (world first) (fresh limit)) last past chain.states (each none);
     } where
       fits : Fits (world first) [] (world first)
@@ -94,5 +97,5 @@ module _ {S : Type 0} (world : S → World) (step : S → BusEvent → S → Typ
 
       each : NoneEnabled (world first) → AtEachMoment (IsRight (world first) (fresh limit)) past (world last) (map world chain.states)
       each none =
-          (every_moment (world first) (fresh limit) (world first) past (world last) (map world chain.states)
-          (record { legal = legal; fits = fits; only = only none; chain = worlds first last past chain.states chain.steps })).1
+          every_moment (world first) (fresh limit) (world first) past (world last) (map world chain.states)
+          (record { legal = legal; fits = fits; only = only none; chain = worlds first last past chain.states chain.steps })

@@ -1,22 +1,14 @@
 -- A trace that begins anew from the records of the one before it tells what it would tell after that one and a stop. So the two are one trace.
-use Rattle.std.proofs.Common.{◌≡◌, refl, sym, ap, subst, ℕ, List, [], ◌∷◌, ◌++◌}
-use Rattle.dali_bank.specs.Order.{Contents}
-use Rattle.dali_frame.specs.declared.forward.Frame.{Frame}
-use Rattle.dali_frame.specs.declared.forward.Frame.TheVariants.{Dtr0, Dtr1, Write, Enable, AskDtr0, AskDtr1, Read}
-use Rattle.dali_journal.specs.declared.record.Record.{Record}
-use Rattle.dali_journal.specs.declared.record.Record.TheVariants.{Began, Ended, Closed}
-use Rattle.dali_journal.specs.declared.standing.Standing.{Standing}
-use Rattle.dali_journal.specs.declared.standing.Standing.TheVariants as standings
-use Rattle.dali_journal.specs.Sentence.{IsSentence}
-use Rattle.dali_write.specs.Worlds.{Selects}
-use Rattle.dali_writer.specs.declared.happening.Reply.{Reply}
+use Rattle.std.proofs.Common.{◌≡◌, refl, sym, ap, subst, List, [], ◌∷◌, ◌++◌}
+use Rattle.dali_journal.specs.declared.record.Record.TheVariants.{Began, Ended}
 use Rattle.dali_writer.specs.declared.happening.Reply.TheVariants as replies
 use Rattle.dali_writer.specs.declared.happening.Happening.{Happening}
 use Rattle.dali_writer.specs.declared.happening.Happening.TheVariants.{Asked, Answered, Sent, Kept, Stopped}
-use Rattle.dali_writer.specs.Trace.{Start, records_of, standing_at, sent_of, sent_since_taken, waiting, is_unsaid, has_ended}
-use Rattle.dali_writer.specs.Legal.{Serves, IsGuarded, MaySend, IsDue, MayKeep, MaySay, MayHappen, Replies, MayFollow, Legal, IsFinished}
-use Rattle.dali_writer.specs.ByPlan.{told_in, IsPlanned, ByPlan}
+use Rattle.dali_writer.specs.Trace.{Start, records_of, sent_of, sent_since_taken, waiting, is_unsaid, has_ended}
+use Rattle.dali_writer.specs.Legal.{MayFollow, Legal, IsFinished}
+use Rattle.dali_writer.specs.ByPlan.{told_in, ByPlan}
 use Rattle.dali_writer.specs.Joined.{Sitting, joined, FollowOn, IsOneTrace, SittingsAreRight}
+use Rattle.dali_writer.proofs.AgreeLemmas.{Agree, happens_too, replies_too, planned_too}
 use Rattle.dali_writer.proofs.MomentLemmas.{every_moment}
 
 -- Each function of a trace begins anew at a stop
@@ -76,16 +68,6 @@ joined_ended past (Kept entry ∷ more) = refl
 joined_ended past (Stopped ∷ more) = refl
 joined_ended past (other ∷ more) = joined_ended past more
 
--- two traces, each from its start, that tell the same
-record Agree (start next : Start) (whole more : List Happening) : Type 0 where
-  limit : start.limit ≡ next.limit
-  records : records_of start whole ≡ records_of next more
-  sent : sent_of whole ≡ sent_of more
-  since : sent_since_taken whole ≡ sent_since_taken more
-  waits : waiting whole ≡ waiting more
-  unsaid : is_unsaid whole ≡ is_unsaid more
-  ended : has_ended whole ≡ has_ended more
-
 joined_agree : (start next : Start) (past more : List Happening) → next.records ≡ records_of start past → next.limit ≡ start.limit
     → Agree start next (more ++ Stopped ∷ past) more
 joined_agree start next past more records limit = record {
@@ -98,74 +80,6 @@ joined_agree start next past more records limit = record {
   ended = joined_ended past more;
 }
 
--- What may follow the one may follow the other
-
-serves_too : (whole more : List Happening) (stands : Standing) (unit : ℕ) → waiting whole ≡ waiting more → Serves more stands unit → Serves whole stands unit
-serves_too whole more standings.Idle unit waits serves = serves
-serves_too whole more (standings.Began order) unit waits serves = serves
-serves_too whole more (standings.Opened order) unit waits serves = serves
-serves_too whole more (standings.Left left) unit waits serves = rw waits serves
-
-guarded_too : (whole more : List Happening) (stands : Standing) (byte : ℕ) → waiting whole ≡ waiting more → sent_of whole ≡ sent_of more
-    → IsGuarded more stands byte → IsGuarded whole stands byte
-guarded_too whole more stands byte waits sent guarded = record {
-  unit = guarded.unit;
-  location = guarded.location;
-  serves = serves_too whole more stands guarded.unit waits guarded.serves;
-  is_named = guarded.is_named;
-  may = guarded.may;
-  selected = subst (Selects guarded.unit guarded.location) (sym sent) guarded.selected;
-}
-
-sends_too : (whole more : List Happening) (stands : Standing) (frame : Frame) → waiting whole ≡ waiting more → sent_of whole ≡ sent_of more
-    → MaySend more stands frame → MaySend whole stands frame
-sends_too whole more stands (Dtr0 byte) waits sent may = (may.0, serves_too whole more stands may.0 waits may.1)
-sends_too whole more stands (Dtr1 byte) waits sent may = (may.0, serves_too whole more stands may.0 waits may.1)
-sends_too whole more stands (AskDtr0 unit) waits sent may = serves_too whole more stands unit waits may
-sends_too whole more stands (AskDtr1 unit) waits sent may = serves_too whole more stands unit waits may
-sends_too whole more stands (Read unit) waits sent may = serves_too whole more stands unit waits may
-sends_too whole more stands (Enable unit) waits sent may = (serves_too whole more stands unit waits may.0, may.1)
-sends_too whole more stands (Write byte) waits sent may = guarded_too whole more stands byte waits sent may
-sends_too whole more stands other waits sent may = absurd may
-
-due_too : (whole more : List Happening) (entry : Record) → waiting whole ≡ waiting more → sent_since_taken whole ≡ sent_since_taken more
-    → IsDue more entry → IsDue whole entry
-due_too whole more (Began order) waits since due = rw waits due
-due_too whole more (Closed unit) waits since due = rw (waits, since) due
-due_too whole more other waits since due = tt
-
-keeps_too : (start next : Start) (whole more : List Happening) (entry : Record) → Agree start next whole more → MayKeep next more entry
-    → MayKeep start whole entry
-keeps_too start next whole more entry agree may = record {
-  sentence = subst (λ records. IsSentence (entry ∷ records)) (sym agree.records) may.sentence;
-  within = rw (agree.records, agree.limit) may.within;
-  due = due_too whole more entry agree.waits agree.since may.due;
-  grounds = rw (agree.records, agree.sent) may.grounds;
-}
-
-says_too : (start next : Start) (whole more : List Happening) (id : ℕ) (reply : Reply) → Agree start next whole more → MaySay next more id reply
-    → MaySay start whole id reply
-says_too start next whole more id (replies.Kept code) agree may = rw (agree.ended, agree.records) may
-says_too start next whole more id (replies.Blocked unit) agree may = rw (agree.records, agree.waits, agree.since) may
-says_too start next whole more id reply agree may = absurd may
-
-happens_too : (start next : Start) (whole more : List Happening) (newest : Happening) → Agree start next whole more → MayHappen next more newest
-    → MayHappen start whole newest
-happens_too start next whole more (Asked order) agree may = tt
-happens_too start next whole more (Answered id reply) agree may = says_too start next whole more id reply agree may
-happens_too start next whole more (Sent frame answer) agree may =
-    rw agree.records (sends_too whole more (standing_at next more) frame agree.waits agree.sent may)
-happens_too start next whole more (Kept entry) agree may = keeps_too start next whole more entry agree may
-happens_too start next whole more Stopped agree may = tt
-
-replies_too : (start next : Start) (whole more : List Happening) (order : Contents) (newest : Happening) → Agree start next whole more
-    → Replies next more order newest → Replies start whole order newest
-replies_too start next whole more order (Answered id reply) agree due = (due.0, rw (agree.records, agree.unsaid, agree.limit) due.1)
-replies_too start next whole more order (Asked other) agree due = absurd due
-replies_too start next whole more order (Sent frame answer) agree due = absurd due
-replies_too start next whole more order (Kept entry) agree due = absurd due
-replies_too start next whole more order Stopped agree due = absurd due
-
 follows_too : (start next : Start) (past more : List Happening) (newest : Happening) → next.records ≡ records_of start past → next.limit ≡ start.limit
     → MayFollow next more newest → MayFollow start (more ++ Stopped ∷ past) newest
 follows_too start next past (Asked order ∷ more) newest records limit may =
@@ -174,14 +88,6 @@ follows_too start next past [] newest records limit may =
     happens_too start next (Stopped ∷ past) [] newest (joined_agree start next past [] records limit) may
 follows_too start next past (last ∷ more) newest records limit may =
     happens_too start next (last ∷ more ++ Stopped ∷ past) (last ∷ more) newest (joined_agree start next past (last ∷ more) records limit) may
-
-planned_too : (start next : Start) (whole more : List Happening) (newest : Happening) → records_of start whole ≡ records_of next more
-    → told_in whole ≡ told_in more → IsPlanned next more newest → IsPlanned start whole newest
-planned_too start next whole more (Sent frame answer) records told planned = rw (records, told) planned
-planned_too start next whole more (Kept (Began order)) records told planned = tt
-planned_too start next whole more (Kept entry) records told planned = rw (records, told) planned
-planned_too start next whole more (Answered id (replies.Blocked unit)) records told planned = rw (records, told) planned
-planned_too start next whole more other records told planned = tt
 
 -- a program may be stopped where no reply is due
 may_stop : (start : Start) (past : List Happening) → IsFinished past → MayFollow start past Stopped
@@ -230,4 +136,4 @@ joined_sittings start (newest ∷ last ∷ older) follow =
 pub sittings_right : SittingsAreRight
 sittings_right zero start sittings first last states follow fits only chain =
     let one = joined_sittings start sittings follow in
-    (every_moment zero start first (joined sittings) last states (record { legal = one.0; fits = fits; only = only; chain = chain })).1
+    every_moment zero start first (joined sittings) last states (record { legal = one.0; fits = fits; only = only; chain = chain })

@@ -26,9 +26,6 @@ pub mod Courses
 pub mod CourseLemmas
 pub mod NextRecordLemmas
 pub mod WantLemmas
-pub mod DriveLemmas
-pub mod SittingLemmas
-pub mod WorkedDriveLemmas
 pub mod WorkLemmas
 pub mod NextLemmas
 pub mod SparedLemmas
@@ -37,7 +34,7 @@ pub mod OnsetLemmas
 pub mod StepsLemmas
 pub mod SubmitLemmas
 pub mod StopLemmas
+pub mod AgreeLemmas
 pub mod JoinLemmas
 pub mod ChainLemmas
 pub mod PartsLemmas
-pub mod PutLemmas

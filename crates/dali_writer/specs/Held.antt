@@ -14,7 +14,7 @@ use Rattle.dali_write.specs.declared.session.Session.{Session}
 use Rattle.dali_write.specs.Told.{Told, frames_left, unit_of, IsFresh, IsOpened, IsClosing}
 use Rattle.dali_writer.specs.declared.phase.Phase.{Phase}
 use Rattle.dali_writer.specs.declared.phase.Phase.TheVariants.{Idle, Begins, Checks, Writes, Closes, Says}
-use Rattle.dali_writer.specs.Trace.{is_at_work}
+use Rattle.dali_writer.specs.Trace.{Start, is_at_work}
 use Rattle.dali_writer.specs.Legal.{EndsAs}
 use Rattle.dali_writer.specs.Phases.{check_code}
 
@@ -22,6 +22,10 @@ use Rattle.dali_writer.specs.Phases.{check_code}
 pub record Held : Type 0 where
   pub journal : JournalState
   pub phase : Phase
+
+-- the records and the limit that the writer has now
+abbrev pub start_of : Held → Start
+start_of writer = record { records = writer.journal.records; limit = writer.journal.limit }
 
 -- the journal stands as the phase needs it: it may begin the order that waits, the order at work is that of the session, the unit that is closed is the one that was left, and the order that ended is the newest
 abbrev pub IsReady : Phase → JournalState → Type 0

@@ -1,5 +1,5 @@
 -- The laws of a writer. They speak of traces and worlds alone.
-use Rattle.std.specs.Prelude.{◌≡◌, ◌≤◌, false, List, [], ◌∷◌, ◌++◌, length}
+use Rattle.std.specs.Prelude.{◌≡◌, ◌≢◌, ◌↔◌, ◌≤◌, false, List, [], ◌∷◌, ◌++◌, length}
 use Rattle.std.specs.List.{Contains}
 use Rattle.dali_bank.specs.Order.{Contents}
 use Rattle.dali_gear.specs.World.{World}
@@ -14,7 +14,8 @@ use Rattle.dali_writer.specs.declared.happening.Happening.{Happening}
 use Rattle.dali_writer.specs.declared.happening.Happening.TheVariants.{Asked, Answered}
 use Rattle.dali_writer.specs.Trace.{Start, records_of, is_busy}
 use Rattle.dali_writer.specs.Replies.{IsReply}
-use Rattle.dali_writer.specs.Legal.{Legal}
+use Rattle.dali_writer.specs.Legal.{Legal, MayFollow, IsFinished}
+use Rattle.dali_writer.specs.ByPlan.{IsPlanned}
 use Rattle.dali_writer.specs.Taken.{taken_orders, begun_orders}
 use Rattle.dali_writer.specs.Moves.{Moves}
 use Rattle.dali_writer.specs.Fits.{Fits, OnlyNamed, IsApplied}
@@ -49,6 +50,11 @@ AppliedAt zero start moment now = IsApplied zero (records_of start moment) now
 abbrev pub IsRight : World → Start → List Happening → World → Type 0
 IsRight zero start moment now = FitsAt zero start moment now × OnlyNamedAt zero start moment now × AppliedAt zero start moment now × WhenKept start moment now
 
+-- along every chain of worlds of a legal trace a record is true when it is kept, whichever units were enabled at first
+abbrev pub RecordsAreTrue : Type 0
+RecordsAreTrue = (start : Start) (first : World) (past : List Happening) (last : World) (states : List World)
+    → Legal start past → IsChain Moves first past last states → AtEachMoment (WhenKept start) past last states
+
 -- the records are a sentence within the limit
 abbrev pub RecordsAreASentence : Type 0
 RecordsAreASentence = (start : Start) (past : List Happening) → Legal start past
@@ -78,6 +84,13 @@ NothingIsDone start more past = NoneSent more × (records_of start (more ++ past
 abbrev pub QuietUntilTaken : Type 0
 QuietUntilTaken = (start : Start) (past more : List Happening)
     → Legal start (more ++ past) → is_busy start past ≡ false → NoneTaken more → NothingIsDone start more past
+
+-- After an order that gets another reply than Taken, as each repeat does, just that may come next which might before, and the plan asks for just that. Anything may be at work.
+abbrev pub RefusedOrdersChangeNothing : Type 0
+RefusedOrdersChangeNothing = (start : Start) (past : List Happening) (order : Contents) (reply : Reply) (next : Happening)
+    → IsFinished past → reply ≢ replies.Taken
+    → (MayFollow start (Answered order.id reply ∷ Asked order ∷ past) next ↔ MayFollow start past next)
+    × (IsPlanned start (Answered order.id reply ∷ Asked order ∷ past) next ↔ IsPlanned start past next)
 
 -- where a trace isn't busy, nothing is done by the repeat of an order that has ended, nor from there until an order is taken
 abbrev pub RepeatsAreQuiet : Type 0

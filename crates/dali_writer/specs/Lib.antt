@@ -26,11 +26,4 @@ pub mod WorkLeft
 pub mod Worked
 pub mod WorkedPlans
 pub mod WorkedLosses
-pub mod WorkedDrives
 pub mod Next
-pub mod Streams
-pub mod Lines
-pub mod Transcript
-pub mod Driven
-pub mod WorkedOn
-pub mod Sittings

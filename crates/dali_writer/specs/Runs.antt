@@ -19,16 +19,18 @@ use Rattle.dali_writer.specs.Steps.{SaysInTime}
 use Rattle.dali_writer.specs.Parts.{AreParts}
 use Rattle.dali_writer.specs.Taken.{begun_orders, taken_orders}
 use Rattle.dali_writer.specs.Moves.{MovesBy}
+use Rattle.dali_writer.specs.WhenKept.{WhenKept}
 use Rattle.dali_writer.specs.Law.{IsRight}
 
 -- an empty journal of at most so many orders
 abbrev pub fresh : ℕ → Start
 fresh limit = record { records = []; limit = limit }
 
--- a chain of the bus's states leads along the trace from the first to the last; and where no unit was enabled at first, every moment of it is right, from the world that the bus showed then
+-- a chain of the bus's states leads along the trace from the first to the last, and each record is true when it is kept; and where no unit was enabled at first, every moment of it is right, from the world that the bus showed then
 pub record LeadsRight {S : Type 0} (world : S → World) (step : S → BusEvent → S → Type 0) (limit : ℕ) (first : S) (past : List Happening) (last : S) : Type 0 where
   pub states : List S
   pub chain : IsChain (MovesBy step) first past last states
+  pub kept : AtEachMoment (λ moment now. WhenKept (fresh limit) moment (world now)) past last states
   pub right : NoneEnabled (world first)
       → AtEachMoment (λ moment now. IsRight (world first) (fresh limit) moment (world now)) past last states
 

@@ -1,41 +1,32 @@
 //! Laws of a writer, over its definitions alone. Each is the contract of a function that does nothing.
 
-ghost use Rattle.std.specs.Prelude.{◌≡◌, ◌+◌, ◌*◌, ◌<◌, ◌≤◌, ℕ, List, Some, length};
+ghost use Rattle.std.specs.Prelude.{◌≡◌, ◌+◌, ◌*◌, ◌<◌, ◌≤◌, ℕ, List, length};
 ghost use Rattle.dali_journal.specs.declared.standing.Standing.TheVariants as standings;
 ghost use Rattle.dali_write.specs.Plans.{greatest};
 ghost use Rattle.dali_writer.specs.Work.{work_limit, frames_from};
 ghost use Rattle.dali_writer.specs.declared.happening.Happening.{Happening};
-ghost use Rattle.dali_bank.specs.Order.{Contents};
-ghost use Rattle.dali_journal.specs.Spelling.{journal_spelling};
-ghost use Rattle.dali_journal.specs.Loading.{AreKept};
-ghost use Rattle.dali_writer.specs.declared.fault.DriveFault.{DriveFault};
-ghost use Rattle.dali_writer.specs.WhenKept.{WhenKept};
-ghost use Rattle.dali_writer.specs.Held.{Held};
-ghost use Rattle.dali_writer.specs.Transcript.{Streams};
-ghost use Rattle.dali_writer.specs.Driven.{IsDrive, IsBrokenDrive};
-ghost use Rattle.dali_gear.specs.World.{World};
-ghost use Rattle.dali_gear.specs.Chain.{IsChain};
-ghost use Rattle.dali_writer.specs.Moves.{Moves};
-ghost use Rattle.dali_writer.specs.Fits.{Fits, OnlyNamed};
-ghost use Rattle.dali_writer.specs.Sittings.{IsFileOf, AreSittings, LeavesFile, ActOnce};
 ghost use Rattle.dali_writer.specs.Trace.{Start};
 ghost use Rattle.dali_writer.specs.Legal.{Legal, IsFinished};
 ghost use Rattle.dali_writer.specs.Steps.{IsSaidInTime};
 ghost use Rattle.dali_writer.specs.ByPlan.{ByPlan};
-ghost use Rattle.dali_writer.specs.Joined.{Sitting, joined, FollowOn, IsOneTrace, SittingsAreRight};
+ghost use Rattle.dali_writer.specs.Joined.{Sitting, FollowOn, IsOneTrace, SittingsAreRight};
 ghost use Rattle.dali_writer.specs.Next.{IsNext, IsSameBut};
 ghost use Rattle.dali_writer.specs.Work.{IsWorked};
-ghost use Rattle.dali_writer.specs.Law.{Always, FitsAt, OnlyNamedAt, AppliedAt, RecordsAreASentence, TakenOrdersAreKept, OneReplyIsDue, RepeatsAreAnswered, RepeatsAreQuiet, QuietUntilTaken};
+ghost use Rattle.dali_writer.specs.Law.{Always, FitsAt, OnlyNamedAt, AppliedAt, RecordsAreTrue, RecordsAreASentence, TakenOrdersAreKept, OneReplyIsDue, RepeatsAreAnswered, RepeatsAreQuiet, RefusedOrdersChangeNothing, QuietUntilTaken};
 
 /// Along every chain of worlds of every legal trace, from a world that fits the start world and the
 /// start records and in which no unit is write-enabled but the one that they name.
 pub fn every_moment_fits()
     // each moment fits;
     ensures fits { Always FitsAt }
-    // no unit but the named one is enabled;
+    // no unit but the named one is enabled.
     ensures enabled { Always OnlyNamedAt }
-    // and when a record is kept, what it says is so.
-    ensures kept { Always (λ zero start. WhenKept start) }
+{}
+
+/// Along every chain of worlds of every legal trace, whatever was in them at the start: when a record is kept, what it
+/// says is so.
+pub fn kept_records_are_true()
+    ensures { RecordsAreTrue }
 {}
 
 /// With the same premises: every place but the lock bytes of bank 1 that no order leaves in doubt holds what it held
@@ -64,6 +55,13 @@ pub fn one_reply_is_due()
 pub fn repeats_are_answered_by_what_is_kept()
     ensures answered { RepeatsAreAnswered }
     ensures quiet { RepeatsAreQuiet }
+{}
+
+/// An order that gets another reply than Taken, as each repeat of one that has ended does, changes nothing of what comes
+/// next, whatever is at work: just the frames, records and sayings that might come before it may come after its reply, and
+/// the plan asks for the same.
+pub fn refused_orders_change_nothing()
+    ensures { RefusedOrdersChangeNothing }
 {}
 
 /// Where nothing is at work, no frame is sent and no record kept until an order is taken, stops included.
@@ -108,24 +106,4 @@ pub fn every_moment_of_sittings_is_right()
 pub fn one_thing_is_next()
     ensures { (start : Start) (past : List Happening) (one other : Happening)
         → Legal start past → IsNext start past one → IsNext start past other → IsSameBut one other }
-{}
-
-/// A drive from the bytes of its start's records leaves the journal's file with whole records, and behind them at most a cut
-/// one: those of its trace where it came to its end, and else those of what may have happened.
-pub fn drives_leave_their_journal()
-    ensures driven { (start : Start) (orders : List Contents) (writer : Held) (first last : Streams) (d : IsDrive start orders first writer last)
-        → AreKept start.limit start.records → first.journal ≡ Some (journal_spelling start.records) → LeavesFile start d.past last }
-    ensures broken { (start : Start) (orders : List Contents) (fault : DriveFault) (first last : Streams) (b : IsBrokenDrive start orders fault first last)
-        → AreKept start.limit start.records → first.journal ≡ Some (journal_spelling start.records) → LeavesFile start b.past last }
-{}
-
-/// Drives one after another, however many and however each ended, each from the journal that is loaded from the file that the
-/// one before it left, over one chain of worlds from a world that fits the start world and the start records and in which no
-/// unit is write-enabled but the one that they name: together they act as one, and each order once.
-pub fn drives_act_once()
-    ensures follow { (start : Start) (first left : List ℕ) (len : ℕ) (sittings : List Sitting) → IsFileOf first start len → AreSittings start.limit first sittings left → FollowOn start sittings }
-    ensures once { (zero : World) (start : Start) (first left : List ℕ) (len : ℕ) (sittings : List Sitting) (now last : World) (states : List World)
-        → IsFileOf first start len → AreSittings start.limit first sittings left
-        → Fits zero start.records now → OnlyNamed start.records now → IsChain Moves now (joined sittings) last states
-        → ActOnce zero start sittings left last states }
 {}

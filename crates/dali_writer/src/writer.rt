@@ -13,20 +13,19 @@ ghost use Rattle.dali_writer.specs.declared.happening.Want.{Want};
 ghost use Rattle.dali_writer.specs.Trace.{Start, is_busy};
 ghost use Rattle.dali_writer.specs.Phases.{want_of, is_wanting, IsKeep, IsSend, IsSay};
 ghost use Rattle.dali_writer.specs.Replies.{IsNotEnded, IsKnownReply, IsReply};
-ghost use Rattle.dali_writer.specs.Held.{Held, IsFirst, IsAtRest};
+ghost use Rattle.dali_writer.specs.Held.{Held, start_of, IsFirst, IsAtRest};
 ghost use Rattle.dali_writer.specs.Parts.{IsKeptNext};
 ghost use Rattle.dali_journal.specs.Spelling.{NamesShortUnit};
 ghost use Rattle.dali_writer.specs.WorkLeft.{work_left};
 ghost use Rattle.dali_writer.specs.Describes.{Describes};
 ghost use Rattle.dali_writer.specs.Follows.{Follows};
 ghost use Rattle.dali_writer.specs.Next.{IsNext, IsDone};
-ghost use Rattle.dali_writer.specs.Driven.{start_of};
 
 use crate::happening::{Reply, Want};
 use crate::phase::{Phase, after_check, check_record, resumed_phase, write_code};
 use dali_bank::Order;
-use dali_journal::{Code, Journal, Kept, NoMemory, Record, Standing};
-use dali_write::{Ask, Session, Verdict};
+use dali_journal::{Journal, Kept, NoMemory, Record, Standing};
+use dali_write::{Ask, Session};
 use std::marker::Model;
 use std::mem;
 
@@ -75,8 +74,8 @@ impl Writer {
         &self.journal
     }
 
-    // Does nothing. At rest the empty trace describes the writer.
-    pub(crate) fn rest(&self)
+    /// Does nothing. A writer at rest is described by the empty trace from the records that it has, and follows it.
+    pub fn rest(&self)
         requires { IsAtRest self.now }
         ensures described { Describes (start_of self.now) [] self.now }
         ensures follows { Follows (start_of self.now) [] self.now }

@@ -1,16 +1,11 @@
 use Rattle.dali_writer.specs.Law.{FitsAt, OnlyNamedAt, IsRight}
-use Rattle.dali_writer.specs.WhenKept.{WhenKept}
 use Rattle.dali_writer.proofs.MomentLemmas.{every_moment, part_of}
 use Rattle.dali_writer.proofs.laws.every_moment_fits.Goals as goal
 
 pub returns-clause-fits : goal.returns-clause-fits
 returns-clause-fits c = λ zero start first past last states along.
-    part_of (IsRight zero start) (FitsAt zero start) (λ moment now right. right.0) past last states (every_moment zero start first past last states along).1
+    part_of (IsRight zero start) (FitsAt zero start) (λ moment now right. right.0) past last states (every_moment zero start first past last states along)
 
 pub returns-clause-enabled : goal.returns-clause-enabled
 returns-clause-enabled c = λ zero start first past last states along.
-    part_of (IsRight zero start) (OnlyNamedAt zero start) (λ moment now right. right.1) past last states (every_moment zero start first past last states along).1
-
-pub returns-clause-kept : goal.returns-clause-kept
-returns-clause-kept c = λ zero start first past last states along.
-    part_of (IsRight zero start) (WhenKept start) (λ moment now right. right.3) past last states (every_moment zero start first past last states along).1
+    part_of (IsRight zero start) (OnlyNamedAt zero start) (λ moment now right. right.1) past last states (every_moment zero start first past last states along)

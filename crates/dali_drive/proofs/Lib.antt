@@ -1,0 +1,4 @@
+pub mod PutLemmas
+pub mod DriveLemmas
+pub mod SittingLemmas
+pub mod WorkedDriveLemmas

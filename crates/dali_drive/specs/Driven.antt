@@ -1,0 +1,146 @@
+-- Which traces a drive makes, and where a fault leaves one.
+use Rattle.std.specs.Prelude.{◌≡◌, ◌≤◌, ◌⊎◌, ◌++◌, ℕ, Bool, true, false, List, [], ◌∷◌, Option, Result, Err, length, take, reverse}
+use Rattle.std.specs.Io.KnownBytes.{Appends, Keeps}
+use Rattle.dali_frame.specs.declared.forward.Frame.{Frame}
+use Rattle.dali_bank.specs.Order.{Contents}
+use Rattle.dali_journal.specs.declared.record.Record.{Record}
+use Rattle.dali_journal.specs.Spelling.{spelling, IsRecord}
+use Rattle.dali_writer.specs.declared.happening.Reply.{Reply}
+use Rattle.dali_writer.specs.declared.happening.Reply.TheVariants as replies
+use Rattle.dali_writer.specs.declared.happening.Happening.{Happening}
+use Rattle.dali_writer.specs.declared.happening.Happening.TheVariants.{Asked, Answered, Sent, Kept, Stopped}
+use Rattle.dali_drive.specs.declared.fault.DriveFault.{DriveFault}
+use Rattle.dali_drive.specs.declared.fault.DriveFault.TheVariants.{Journal, Link, NoMemory, Out}
+use Rattle.dali_writer.specs.Trace.{Start, is_busy}
+use Rattle.dali_writer.specs.Replies.{IsReply}
+use Rattle.dali_writer.specs.Legal.{Legal, IsFinished}
+use Rattle.dali_writer.specs.ByPlan.{ByPlan}
+use Rattle.dali_writer.specs.Next.{IsNext}
+use Rattle.dali_writer.specs.Held.{Held}
+use Rattle.dali_writer.specs.Describes.{Describes}
+use Rattle.dali_writer.specs.Follows.{Follows}
+use Rattle.dali_drive.specs.Lines.{frame_line, reply_line, TakesLine}
+use Rattle.dali_drive.specs.Transcript.{Streams, Transcript}
+
+-- the orders that were asked, the newest first
+abbrev pub orders_asked : List Happening → List Contents
+orders_asked [] = []
+orders_asked (Asked order ∷ past) = order ∷ orders_asked past
+orders_asked (other ∷ past) = orders_asked past
+
+-- each order is asked where nothing is to be done, and the program isn't stopped
+abbrev pub IsInTurn : Start → List Happening → Type 0
+IsInTurn start [] = Unit {0}
+IsInTurn start (Asked order ∷ past) = (is_busy start past ≡ false) × IsInTurn start past
+IsInTurn start (Stopped ∷ past) = ⊥
+IsInTurn start (other ∷ past) = IsInTurn start past
+
+-- the numbers of each record that was kept are in their ranges
+abbrev pub KeepsRecords : List Happening → Type 0
+KeepsRecords [] = Unit {0}
+KeepsRecords (Kept entry ∷ past) = IsRecord entry × KeepsRecords past
+KeepsRecords (other ∷ past) = KeepsRecords past
+
+-- this trace was driven: each happening was one that might follow those before it and that the plan asked for, and the trace's text was written and read
+pub record IsDriven (start : Start) (past : List Happening) (first last : Streams) : Type 0 where
+  pub legal : Legal start past
+  pub planned : ByPlan start past
+  pub in_turn : IsInTurn start past
+  pub in_range : KeepsRecords past
+  pub text : Transcript past first last
+
+-- A step that a fault broke off
+
+-- a first part of these bytes, perhaps all, was written
+pub record AppendsPart (old new : Option (List ℕ)) (bytes : List ℕ) : Type 0 where
+  pub count : ℕ
+  pub within : count ≤ length bytes
+  pub part : Appends old new (take count bytes)
+
+-- nothing more was written or read
+pub record NoMore (old new : Streams) : Type 0 where
+  pub journal : Keeps old.journal new.journal
+  pub link : Keeps old.link new.link
+  pub answers : Keeps old.answers new.answers
+  pub out : Keeps old.out new.out
+
+-- a part of a record was written
+pub record CutRecord (entry : Record) (old new : Streams) : Type 0 where
+  pub in_range : IsRecord entry
+  pub journal : AppendsPart old.journal new.journal (spelling entry)
+  pub link : Keeps old.link new.link
+  pub answers : Keeps old.answers new.answers
+  pub out : Keeps old.out new.out
+
+-- a part of a reply's line was written
+pub record CutReply (id : ℕ) (reply : Reply) (old new : Streams) : Type 0 where
+  pub journal : Keeps old.journal new.journal
+  pub link : Keeps old.link new.link
+  pub answers : Keeps old.answers new.answers
+  pub out : AppendsPart old.out new.out (reply_line id reply)
+
+-- a part of a frame's line was written, and nothing read
+pub record CutFrame (frame : Frame) (old new : Streams) : Type 0 where
+  pub journal : Keeps old.journal new.journal
+  pub link : AppendsPart old.link new.link (frame_line frame)
+  pub answers : Keeps old.answers new.answers
+  pub out : Keeps old.out new.out
+
+-- a frame's line was written, and what was read of its answer's shows the fault
+pub record Unanswered (frame : Frame) (fault : DriveFault) (old new : Streams) : Type 0 where
+  pub journal : Keeps old.journal new.journal
+  pub link : Appends old.link new.link (frame_line frame)
+  pub answers : TakesLine old.answers new.answers (Err fault)
+  pub out : Keeps old.out new.out
+
+-- this frame is next, whatever its answer
+abbrev pub IsNextFrame : Start → List Happening → Frame → Type 0
+IsNextFrame start past frame = (answer : Option ℕ) → IsNext start past (Sent frame answer)
+
+-- the step after this trace that the fault broke off, where these orders were still to be asked
+abbrev pub BrokenOff : Start → List Happening → List Contents → DriveFault → Streams → Streams → Type 0
+BrokenOff start past rest Journal old new = (entry : Record) × IsNext start past (Kept entry) × CutRecord entry old new
+BrokenOff start past rest Link old new = (frame : Frame) × IsNextFrame start past frame × (CutFrame frame old new ⊎ Unanswered frame Link old new)
+BrokenOff start past (order ∷ rest) NoMemory old new = IsFinished past × (is_busy start past ≡ false) × IsReply start past order replies.Taken × NoMore old new
+BrokenOff start past [] NoMemory old new = ⊥
+BrokenOff start past rest Out old new = (id : ℕ) × (reply : Reply) × IsNext start past (Answered id reply) × CutReply id reply old new
+BrokenOff start past rest fault old new = (frame : Frame) × IsNextFrame start past frame × Unanswered frame fault old new
+
+-- What a drive comes to
+
+-- from this start all these orders were asked in their order and nothing more is to be done, and the trace describes the writer
+pub record IsDrive (start : Start) (orders : List Contents) (first : Streams) (writer : Held) (last : Streams) : Type 0 where
+  pub past : List Happening
+  pub driven : IsDriven start past first last
+  pub asked : reverse (orders_asked past) ≡ orders
+  pub quiet : is_busy start past ≡ false
+  pub described : Describes start past writer
+  pub follows : Follows start past writer
+
+-- from this start the first of these orders were asked in their order, and after the trace at most one step was broken off
+pub record IsBrokenDrive (start : Start) (orders : List Contents) (fault : DriveFault) (first last : Streams) : Type 0 where
+  pub past : List Happening
+  pub rest : List Contents
+  pub middle : Streams
+  pub driven : IsDriven start past first middle
+  pub asked : reverse (orders_asked past) ++ rest ≡ orders
+  pub broken : BrokenOff start past rest fault middle last
+
+-- Which streams have failed
+
+-- that of the journal, the link out, the link in, that of the replies
+abbrev pub NoneFailed : Bool → Bool → Bool → Bool → Type 0
+NoneFailed journal link_out link_in out = (journal ≡ false) × (link_out ≡ false) × (link_in ≡ false) × (out ≡ false)
+
+-- which of them have failed where this fault comes
+abbrev pub FailedAs : DriveFault → Bool → Bool → Bool → Bool → Type 0
+FailedAs Journal journal link_out link_in out = (journal ≡ true) × (link_out ≡ false) × (link_in ≡ false) × (out ≡ false)
+FailedAs Link journal link_out link_in out =
+    (journal ≡ false) × (((link_out ≡ true) × (link_in ≡ false)) ⊎ ((link_out ≡ false) × (link_in ≡ true))) × (out ≡ false)
+FailedAs Out journal link_out link_in out = (journal ≡ false) × (link_out ≡ false) × (link_in ≡ false) × (out ≡ true)
+FailedAs other journal link_out link_in out = NoneFailed journal link_out link_in out
+
+-- a read that failed
+abbrev pub is_link_failure : Result (Option ℕ) DriveFault → Bool
+is_link_failure (Err Link) = true
+is_link_failure other = false

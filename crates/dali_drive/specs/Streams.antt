@@ -1,0 +1,26 @@
+-- What the calls of a source and of a sink do to the bytes that they show. Nothing is said where those are not known.
+use Rattle.std.specs.Prelude.{◌≤◌, ◌==◌, ℕ, Bool, true, false, List, [], ◌∷◌, Option, Some, None, length, take}
+use Rattle.std.specs.Io.KnownBytes.{Appends, Consumes, Keeps, IsAtEnd}
+use Rattle.dali_drive.specs.declared.streams.Got.{Got}
+use Rattle.dali_drive.specs.declared.streams.Got.TheVariants.{Byte, End, Failed}
+
+-- what taking a byte does to the bytes that a source has still to give
+abbrev pub Takes : Option (List ℕ) → Option (List ℕ) → Got → Type 0
+Takes old new (Byte b) = Consumes old new (b ∷ [])
+Takes old new End = Keeps old new × IsAtEnd new
+Takes old new Failed = Keeps old new
+
+abbrev pub is_failure : Got → Bool
+is_failure (Byte b) = false
+is_failure End = false
+is_failure Failed = true
+
+-- what putting bytes does to the bytes that a sink holds
+abbrev pub Puts : Option (List ℕ) → Option (List ℕ) → Option ℕ → List ℕ → Type 0
+Puts old new (Some k) bytes = (k ≤ length bytes) × Appends old new (take k bytes)
+Puts old new None bytes = Keeps old new
+
+-- none of the bytes was held
+abbrev pub is_refusal : Option ℕ → Bool
+is_refusal (Some k) = k == 0
+is_refusal None = true

@@ -1,0 +1,135 @@
+ghost use Rattle.std.specs.Prelude.{◌≡◌, ◌<◌, List, true, false, IfOk, IfErr, OnOk};
+ghost use Rattle.dali_writer.specs.declared.happening.Happening.{Happening};
+ghost use Rattle.dali_writer.specs.Trace.{Start, is_busy};
+ghost use Rattle.dali_writer.specs.Held.{start_of, IsAtRest};
+ghost use Rattle.dali_writer.specs.WorkLeft.{work_left};
+ghost use Rattle.dali_writer.specs.Describes.{Describes};
+ghost use Rattle.dali_drive.specs.Transcript.{Streams, shown};
+ghost use Rattle.dali_drive.specs.Driven.{orders_asked, IsDrive, IsBrokenDrive, NoneFailed, FailedAs};
+ghost use Rattle.dali_drive.specs.WorkedOn.{IsDrivenAt, WorkedOn};
+
+use crate::fault::DriveFault;
+use crate::lines::{read_answer, reply_line};
+use crate::streams::{Sink, Source, put_all, send};
+use dali_bank::Order;
+use dali_frame::line_of;
+use dali_writer::{Want, Writer};
+
+// Does once what the writer wants. The answer is whether it wanted anything.
+fn advance<I: Source, L: Sink, J: Sink, O: Sink>(
+    writer: &mut Writer,
+    link_in: &mut I,
+    link_out: &mut L,
+    journal_out: &mut J,
+    out: &mut O,
+) -> Result<bool, DriveFault>
+    requires journal { J.failed journal_out.old ≡ false }
+    requires link_out { L.failed link_out.old ≡ false }
+    requires link_in { I.failed link_in.old ≡ false }
+    requires out { O.failed out.old ≡ false }
+    ensures worked { (start : Start) (past : List Happening) (first : Streams)
+        → IsDrivenAt start past writer.old first (shown (J.held journal_out.old) (L.held link_out.old) (I.left link_in.old) (O.held out.old))
+        → WorkedOn start (orders_asked past) first result writer.new (shown (J.held journal_out.new) (L.held link_out.new) (I.left link_in.new) (O.held out.new)) }
+    ensures fewer { IfOk result (λ busy. busy ≡ true → work_left writer.new.phase < work_left writer.old.phase) }
+    ensures rests { IfOk result (λ busy. busy ≡ false → IsAtRest writer.new) }
+    ensures quiet { IfOk result (λ busy. busy ≡ false → (start : Start) (past : List Happening) → Describes start past writer.new → is_busy start past ≡ false) }
+    ensures ok { OnOk result (NoneFailed (J.failed journal_out.new) (L.failed link_out.new) (I.failed link_in.new) (O.failed out.new)) }
+    ensures err { IfErr result (λ fault. FailedAs fault (J.failed journal_out.new) (L.failed link_out.new) (I.failed link_in.new) (O.failed out.new)) }
+{
+    match writer.want() {
+        Want::Idle => return Ok(false),
+        Want::Keep(entry) => {
+            if !send(journal_out, &entry.bytes()) {
+                return Err(DriveFault::Journal);
+            }
+            writer.kept();
+        }
+        Want::Send(frame) => {
+            if !send(link_out, &line_of(&frame)) {
+                return Err(DriveFault::Link);
+            }
+            let answer = read_answer(link_in)?;
+            writer.heard(answer);
+        }
+        Want::Say(id, reply) => {
+            if !put_all(out, &reply_line(id, reply)) {
+                return Err(DriveFault::Out);
+            }
+            writer.said();
+        }
+    }
+    Ok(true)
+}
+
+// Does what the writer wants until it is idle.
+fn work<I: Source, L: Sink, J: Sink, O: Sink>(
+    writer: &mut Writer,
+    link_in: &mut I,
+    link_out: &mut L,
+    journal_out: &mut J,
+    out: &mut O,
+) -> Result<(), DriveFault>
+    requires journal { J.failed journal_out.old ≡ false }
+    requires link_out { L.failed link_out.old ≡ false }
+    requires link_in { I.failed link_in.old ≡ false }
+    requires out { O.failed out.old ≡ false }
+    ensures worked { (start : Start) (past : List Happening) (first : Streams)
+        → IsDrivenAt start past writer.old first (shown (J.held journal_out.old) (L.held link_out.old) (I.left link_in.old) (O.held out.old))
+        → WorkedOn start (orders_asked past) first result writer.new (shown (J.held journal_out.new) (L.held link_out.new) (I.left link_in.new) (O.held out.new)) }
+    ensures rests { OnOk result (IsAtRest writer.new) }
+    ensures quiet { OnOk result ((start : Start) (past : List Happening) → Describes start past writer.new → is_busy start past ≡ false) }
+    ensures ok { OnOk result (NoneFailed (J.failed journal_out.new) (L.failed link_out.new) (I.failed link_in.new) (O.failed out.new)) }
+    ensures err { IfErr result (λ fault. FailedAs fault (J.failed journal_out.new) (L.failed link_out.new) (I.failed link_in.new) (O.failed out.new)) }
+{
+    while advance(writer, link_in, link_out, journal_out, out)? {}
+    Ok(())
+}
+
+/// Carries out what the writer still has to do, and then the orders one after the other: each is submitted, its reply
+/// written, and the work done that it makes (profile).
+///
+/// A record's bytes are written to `journal_out` and flushed, and only then it counts. A frame's line is written to
+/// `link_out` and flushed, and then one line is read from `link_in`: the answer, `--` or two hexadecimal digits, ended
+/// by a line feed, before which a carriage return is dropped. Each frame has its answer's line, and what is answered to
+/// one that has no answer is passed over. A reply's line is written to `out`, which is never flushed. Nothing is tried
+/// again.
+///
+/// The writer has to be at rest: idle, or as `Writer::new` made it. No stream may have failed.
+///
+/// Each `DriveFault` says what ended the drive. The writer is gone then, and what goes on is a new one, from the journal
+/// that is loaded from what `journal_out` holds: whole records, and at most one that is cut.
+pub fn drive<I: Source, L: Sink, J: Sink, O: Sink>(
+    writer: Writer,
+    orders: &[Order],
+    link_in: &mut I,
+    link_out: &mut L,
+    journal_out: &mut J,
+    out: &mut O,
+) -> Result<Writer, DriveFault>
+    requires rests { IsAtRest writer }
+    requires journal { J.failed journal_out.old ≡ false }
+    requires link_out { L.failed link_out.old ≡ false }
+    requires link_in { I.failed link_in.old ≡ false }
+    requires out { O.failed out.old ≡ false }
+    ensures driven { IfOk result (λ driven. IsDrive (start_of writer) orders.now (shown (J.held journal_out.old) (L.held link_out.old) (I.left link_in.old) (O.held out.old))
+        driven (shown (J.held journal_out.new) (L.held link_out.new) (I.left link_in.new) (O.held out.new))) }
+    ensures rests { IfOk result IsAtRest }
+    ensures ok { OnOk result (NoneFailed (J.failed journal_out.new) (L.failed link_out.new) (I.failed link_in.new) (O.failed out.new)) }
+    ensures broken { IfErr result (λ fault. IsBrokenDrive (start_of writer) orders.now fault (shown (J.held journal_out.old) (L.held link_out.old) (I.left link_in.old) (O.held out.old))
+        (shown (J.held journal_out.new) (L.held link_out.new) (I.left link_in.new) (O.held out.new))) }
+    ensures err { IfErr result (λ fault. FailedAs fault (J.failed journal_out.new) (L.failed link_out.new) (I.failed link_in.new) (O.failed out.new)) }
+{
+    let mut writer = writer;
+    writer.rest();
+    work(&mut writer, link_in, link_out, journal_out, out)?;
+    for order in orders {
+        let Ok(reply) = writer.submit(order.copy()) else {
+            return Err(DriveFault::NoMemory);
+        };
+        if !put_all(out, &reply_line(order.id(), reply)) {
+            return Err(DriveFault::Out);
+        }
+        work(&mut writer, link_in, link_out, journal_out, out)?;
+    }
+    Ok(writer)
+}

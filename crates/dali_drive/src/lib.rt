@@ -1,0 +1,15 @@
+//! Drives of a writer over streams (profile): its records go to a journal, its frames to a link from which the answers come
+//! back, its replies to a third stream; and what is so along one drive after another, wherever each was broken off.
+#![tactic(auto)]
+
+mod driving;
+mod fault;
+pub mod laws;
+mod lines;
+mod std_streams;
+mod streams;
+
+pub use driving::drive;
+pub use fault::DriveFault;
+pub use std_streams::{StdSink, StdSource};
+pub use streams::{Got, Sink, Source};

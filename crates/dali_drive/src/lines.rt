@@ -1,0 +1,108 @@
+// The lines that are written and read while a writer is driven.
+ghost use Rattle.std.specs.Prelude.{◌≡◌, ◌||◌, ◌+◌, ◌≤◌, ◌++◌, IfOk, IfErr, length, decimal};
+ghost use Rattle.std.specs.Io.BufRead.{strip_last};
+ghost use Rattle.arrayvec.specs.ArrayVec.{array_vec_len};
+ghost use Rattle.dali_frame.specs.Line.{SpellsAnswer, HasFault};
+ghost use Rattle.dali_drive.specs.Lines.{reply_line, TakesLine};
+ghost use Rattle.dali_drive.specs.Driven.{is_link_failure};
+
+use crate::fault::DriveFault;
+use crate::streams::{Got, Source};
+use arrayvec::ArrayVec;
+use dali_frame::{LineFault, answer_of};
+use dali_writer::Reply;
+
+// The most bytes of an answer's line before its line feed.
+const MOST_ANSWER: usize = 8;
+
+// No reply's line has more bytes: a number has at most twenty digits.
+const MOST_REPLY: usize = 64;
+
+// The answer on a line, which may end in a carriage return.
+fn answer_on(line: &[u8]) -> Result<Option<u8>, LineFault>
+    ensures ok { IfOk result (λ answer. SpellsAnswer (strip_last 13 line.now) answer) }
+    ensures err { IfErr result (λ fault. HasFault fault (strip_last 13 line.now)) }
+{
+    match line {
+        [text @ .., b'\r'] => answer_of(text),
+        _ => answer_of(line),
+    }
+}
+
+// Reads one line, and the answer on it. Of a line that doesn't end nine bytes are read.
+pub(crate) fn read_answer<I: Source>(link_in: &mut I) -> Result<Option<u8>, DriveFault>
+    ensures line { TakesLine (I.left link_in.old) (I.left link_in.new) result }
+    ensures failed { I.failed link_in.new ≡ (I.failed link_in.old || is_link_failure result) }
+{
+    let mut line: ArrayVec<u8, MOST_ANSWER> = ArrayVec::new();
+    loop {
+        match link_in.take_byte() {
+            Got::Byte(b'\n') => {
+                return match answer_on(&line) {
+                    Ok(answer) => Ok(answer),
+                    Err(fault) => Err(DriveFault::Line(fault)),
+                };
+            }
+            Got::Byte(byte) => {
+                if line.is_full() {
+                    return Err(DriveFault::TooLong);
+                }
+                line.push(byte);
+            }
+            Got::End => return Err(DriveFault::End),
+            Got::Failed => return Err(DriveFault::Link),
+        }
+    }
+}
+
+// The line of a reply to the order of this number, or of a saying.
+pub(crate) fn reply_line(id: u64, reply: Reply) -> ArrayVec<u8, MOST_REPLY>
+    ensures { result.items ≡ reply_line id reply }
+{
+    let mut line = ArrayVec::new();
+    push_text(&mut line, "reply ");
+    push_decimal(&mut line, id);
+    match reply {
+        Reply::Taken => push_text(&mut line, " taken\n"),
+        Reply::Kept(code) => {
+            push_text(&mut line, " kept ");
+            push_decimal(&mut line, u64::from(code.number()));
+            push_text(&mut line, " ");
+            push_text(&mut line, code.name());
+            push_text(&mut line, "\n");
+        }
+        Reply::IdReused => push_text(&mut line, " reused\n"),
+        Reply::Busy => push_text(&mut line, " busy\n"),
+        Reply::Full => push_text(&mut line, " full\n"),
+        Reply::Blocked(unit) => {
+            push_text(&mut line, " blocked ");
+            push_decimal(&mut line, u64::from(unit));
+            push_text(&mut line, "\n");
+        }
+    }
+    line
+}
+
+// Puts a text at the end of a line, which has room for it.
+fn push_text(line: &mut ArrayVec<u8, MOST_REPLY>, text: &str)
+    requires { array_vec_len line.old + length text.now ≤ 64 }
+    ensures items { line.new.items ≡ line.old.items ++ text.now }
+    ensures len { array_vec_len line.new ≡ array_vec_len line.old + length text.now }
+{
+    let _fits = line.try_extend_from_slice(text.as_bytes());
+}
+
+// Puts a number's decimal digits at the end of a line, which has room for them.
+fn push_decimal(line: &mut ArrayVec<u8, MOST_REPLY>, number: u64)
+    requires { array_vec_len line.old + 20 ≤ 64 }
+    ensures items { line.new.items ≡ line.old.items ++ decimal number }
+    ensures len { array_vec_len line.new ≡ array_vec_len line.old + length (decimal number) }
+    ensures short { length (decimal number) ≤ 20 }
+{
+    if number < 10 {
+        line.push(b'0' + number as u8);
+    } else {
+        push_decimal(line, number / 10);
+        line.push(b'0' + (number % 10) as u8);
+    }
+}

@@ -1,0 +1,85 @@
+// What a drive reads and writes, a byte or a few at a time.
+ghost use Rattle.std.specs.Prelude.{◌≡◌, ◌<◌, ◌≤◌, ◌||◌, ℕ, Bool, List, Option, not, length, take, true, false};
+ghost use Rattle.std.specs.Io.KnownBytes.{Keeps, Appends};
+ghost use Rattle.dali_drive.specs.Streams.{Takes, Puts, is_failure, is_refusal};
+
+/// What a source gives for a byte (profile).
+#[derive(Clone, Copy, Debug, PartialEq, Eq)]
+pub enum Got {
+    /// The next byte.
+    Byte(u8),
+    /// There are no more bytes.
+    End,
+    /// The source failed.
+    Failed,
+}
+
+/// Where bytes are taken from, one by one (profile).
+pub trait Source {
+    /// The bytes that are still to come, where they are known.
+    ghost left: { Self → Option (List ℕ) };
+
+    /// Whether a call has failed.
+    ghost failed: { Self → Bool };
+
+    /// Takes the next byte. Where it fails no byte is lost.
+    fn take_byte(&mut self) -> Got
+        ensures bytes { Takes (left self.old) (left self.new) result }
+        ensures failed { failed self.new ≡ (failed self.old || is_failure result) };
+
+    /// Whether a call has failed: exactly since `take_byte` gave `Failed`.
+    fn has_failed(&self) -> bool
+        ensures { result ≡ failed self.now };
+}
+
+/// Where bytes are put (profile).
+pub trait Sink {
+    /// The bytes that it holds, where they are known.
+    ghost held: { Self → Option (List ℕ) };
+
+    /// Whether a call has failed.
+    ghost failed: { Self → Bool };
+
+    /// Puts some bytes: `Some(k)` where just the first `k` of them are now held, `None` where none is. `None` and
+    /// `Some(0)` are failures.
+    ///
+    /// There has to be a byte.
+    fn put(&mut self, bytes: &[u8]) -> Option<usize>
+        requires { 0 < length bytes.now }
+        ensures bytes { Puts (held self.old) (held self.new) result bytes.now }
+        ensures failed { failed self.new ≡ (failed self.old || is_refusal result) };
+
+    /// Sees to it that what is held is where it belongs. `false` where that failed.
+    fn flush(&mut self) -> bool
+        ensures bytes { Keeps (held self.old) (held self.new) }
+        ensures failed { failed self.new ≡ (failed self.old || not result) };
+
+    /// Whether a call has failed: exactly since `put` gave `None` or `Some(0)`, or `flush` false.
+    fn has_failed(&self) -> bool
+        ensures { result ≡ failed self.now };
+}
+
+// Puts all the bytes. Where that fails, just the first so many are held.
+pub(crate) fn put_all<S: Sink>(sink: &mut S, bytes: &[u8]) -> bool
+    ensures whole { result ≡ true → Appends (S.held sink.old) (S.held sink.new) bytes.now }
+    ensures cut { result ≡ false → (k : ℕ) × (k ≤ length bytes.now) × Appends (S.held sink.old) (S.held sink.new) (take k bytes.now) }
+    ensures failed { S.failed sink.new ≡ (S.failed sink.old || not result) }
+{
+    let mut done = 0;
+    while done < bytes.len() {
+        match sink.put(&bytes[done..]) {
+            Some(count) if count > 0 => done += count,
+            _ => return false,
+        }
+    }
+    true
+}
+
+// Puts all the bytes and flushes.
+pub(crate) fn send<S: Sink>(sink: &mut S, bytes: &[u8]) -> bool
+    ensures whole { result ≡ true → Appends (S.held sink.old) (S.held sink.new) bytes.now }
+    ensures cut { result ≡ false → (k : ℕ) × (k ≤ length bytes.now) × Appends (S.held sink.old) (S.held sink.new) (take k bytes.now) }
+    ensures failed { S.failed sink.new ≡ (S.failed sink.old || not result) }
+{
+    put_all(sink, bytes) && sink.flush()
+}

@@ -1,3 +1,0 @@
-mod own_bus;
-mod sim_bus;
-mod unit;

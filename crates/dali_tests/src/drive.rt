@@ -1,0 +1,4 @@
+mod driving;
+mod streams;
+mod sweeps;
+mod worked_drives;

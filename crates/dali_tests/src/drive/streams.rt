@@ -1,0 +1,239 @@
+// Streams in memory that fail after so many bytes or flushes, and drives over them.
+ghost use Rattle.std.specs.Prelude.{◌≡◌, Some, false};
+
+use dali_bank::Order;
+use dali_drive::{DriveFault, Got, Sink, Source, drive};
+use dali_journal::Journal;
+use dali_writer::Writer;
+use std::alloc::Global;
+use std::io;
+use std::io::{ErrorKind, Read, Write};
+use std::test::Fail;
+
+// Gives these bytes. After so many of them it fails, if there is another one.
+#[derive(Drop)]
+struct Script<'a> {
+    bytes: &'a [u8],
+    good: usize,
+    failed: bool,
+}
+
+impl<'a> Source for Script<'a> {
+    ghost left = { λ s. Some s.bytes.now };
+
+    ghost failed = { λ s. s.failed };
+
+    fn take_byte(&mut self) -> Got {
+        let Some((first, rest)) = self.bytes.split_first() else {
+            return Got::End;
+        };
+        if self.good == 0 {
+            self.failed = true;
+            return Got::Failed;
+        }
+        self.good -= 1;
+        self.bytes = rest;
+        Got::Byte(*first)
+    }
+
+    fn has_failed(&self) -> bool {
+        self.failed
+    }
+}
+
+// Holds the bytes that it has room for, of which it takes two at most in a call, and flushes so many times.
+#[derive(Drop)]
+struct Store {
+    bytes: Vec<u8>,
+    room: usize,
+    flushes: usize,
+    // What it answers where there is no room: `Some(0)` or `None`.
+    counts: bool,
+    failed: bool,
+}
+
+impl Store {
+    fn new(alloc: Global, room: usize, flushes: usize, counts: bool) -> Store
+        ensures { result.failed ≡ false }
+    {
+        Store {
+            bytes: Vec::new(alloc),
+            room,
+            flushes,
+            counts,
+            failed: false,
+        }
+    }
+}
+
+impl Sink for Store {
+    ghost held = { λ s. Some s.bytes.items };
+
+    ghost failed = { λ s. s.failed };
+
+    fn put(&mut self, bytes: &[u8]) -> Option<usize> {
+        let count = bytes.len().min(2).min(self.room);
+        if count == 0 || self.bytes.extend_from_slice(&bytes[..count]).is_err() {
+            self.failed = true;
+            return if self.counts { Some(0) } else { None };
+        }
+        self.room -= count;
+        Some(count)
+    }
+
+    fn flush(&mut self) -> bool {
+        if self.flushes == 0 {
+            self.failed = true;
+            return false;
+        }
+        self.flushes -= 1;
+        true
+    }
+
+    fn has_failed(&self) -> bool {
+        self.failed
+    }
+}
+
+// How many bytes of each stream go well, and how many flushes.
+#[derive(Clone, Copy)]
+pub(crate) struct Good {
+    pub(crate) answers: usize,
+    pub(crate) link: usize,
+    pub(crate) link_flushes: usize,
+    pub(crate) journal: usize,
+    pub(crate) journal_flushes: usize,
+    pub(crate) out: usize,
+    // Whether a sink with no room answers `Some(0)`.
+    pub(crate) counts: bool,
+}
+
+const MANY: usize = 10_000;
+
+// No stream fails. The replies are never flushed.
+pub(crate) const ALL: Good = Good {
+    answers: MANY,
+    link: MANY,
+    link_flushes: MANY,
+    journal: MANY,
+    journal_flushes: MANY,
+    out: MANY,
+    counts: false,
+};
+
+// What a drive left.
+#[derive(Drop)]
+pub(crate) struct Left {
+    pub(crate) fault: Option<DriveFault>,
+    // How many bytes of the answers it took.
+    pub(crate) taken: usize,
+    pub(crate) link: Vec<u8>,
+    pub(crate) journal: Vec<u8>,
+    pub(crate) out: Vec<u8>,
+    // Whether the answers, the link, the journal and the replies failed.
+    pub(crate) failed: [bool; 4],
+}
+
+// What a drive is to leave.
+#[derive(Clone, Copy)]
+pub(crate) struct Wanted<'a> {
+    pub(crate) fault: Option<DriveFault>,
+    pub(crate) taken: usize,
+    pub(crate) link: &'a [u8],
+    pub(crate) journal: &'a [u8],
+    pub(crate) out: &'a [u8],
+    pub(crate) failed: [bool; 4],
+}
+
+impl Left {
+    pub(crate) fn is(&self, wanted: &Wanted<'_>) -> bool {
+        self.fault == wanted.fault
+            && self.taken == wanted.taken
+            && self.link.as_slice() == wanted.link
+            && self.journal.as_slice() == wanted.journal
+            && self.out.as_slice() == wanted.out
+            && self.failed == wanted.failed
+    }
+}
+
+// Drives a writer that goes on from what a file holds.
+pub(crate) fn drive_on(
+    alloc: Global,
+    file: &[u8],
+    orders: &[Order],
+    answers: &[u8],
+    good: Good,
+) -> Result<Left, Fail> {
+    let (journal, _) = Journal::load(alloc, 10, file)?;
+    let mut link_in = Script {
+        bytes: answers,
+        good: good.answers,
+        failed: false,
+    };
+    let mut link_out = Store::new(alloc, good.link, good.link_flushes, good.counts);
+    let mut journal_out = Store::new(alloc, good.journal, good.journal_flushes, good.counts);
+    let mut out = Store::new(alloc, good.out, 0, good.counts);
+    let driven = drive(
+        Writer::new(journal),
+        orders,
+        &mut link_in,
+        &mut link_out,
+        &mut journal_out,
+        &mut out,
+    );
+    let failed = [
+        link_in.has_failed(),
+        link_out.has_failed(),
+        journal_out.has_failed(),
+        out.has_failed(),
+    ];
+    Ok(Left {
+        fault: driven.err(),
+        taken: answers.len().saturating_sub(link_in.bytes.len()),
+        link: link_out.bytes,
+        journal: journal_out.bytes,
+        out: out.bytes,
+        failed,
+    })
+}
+
+// A reader and writer whose first calls fail so. Then it gives and takes at most so many bytes in a call.
+#[derive(Drop)]
+pub(crate) struct Fickle<'a> {
+    pub(crate) errors: &'a [ErrorKind],
+    pub(crate) most: usize,
+}
+
+impl<'a> Fickle<'a> {
+    fn turn(&mut self) -> io::Result<()> {
+        match self.errors.split_first() {
+            Some((&kind, rest)) => {
+                self.errors = rest;
+                Err(io::Error::from(kind))
+            }
+            None => Ok(()),
+        }
+    }
+}
+
+impl<'a> Read for Fickle<'a> {
+    fn read(&mut self, buf: &mut [u8]) -> io::Result<usize> {
+        self.turn()?;
+        let count = buf.len().min(self.most);
+        for byte in buf {
+            *byte = b'-';
+        }
+        Ok(count)
+    }
+}
+
+impl<'a> Write for Fickle<'a> {
+    fn write(&mut self, buf: &[u8]) -> io::Result<usize> {
+        self.turn()?;
+        Ok(buf.len().min(self.most))
+    }
+
+    fn flush(&mut self) -> io::Result<()> {
+        self.turn()
+    }
+}

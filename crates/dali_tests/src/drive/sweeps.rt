@@ -1,0 +1,413 @@
+// Drives of one order, with each stream failing at each place, and the drives that go on from what is left.
+use crate::drive::driving::{SILENT_JOURNAL, gtin_order};
+use crate::drive::streams::{ALL, Good, Left, Wanted, drive_on};
+use crate::gtin::GTIN_JOURNAL;
+use crate::writer::case::{ENOUGH, put};
+use dali_bank::Order;
+use dali_drive::DriveFault;
+use dali_frame::{Frame, byte_digits, line_of};
+use dali_gear::{Bus, GearFault, SimBus, Unit};
+use dali_journal::Journal;
+use dali_writer::{Want, Writer};
+use std::alloc::Global;
+use std::process::Abort;
+use std::test::Fail;
+
+// A blank unit 5.
+fn one_unit(alloc: Global) -> Result<SimBus, GearFault> {
+    let mut units = Vec::new(alloc);
+    put(&mut units, Unit::blank(alloc, 5)?)?;
+    SimBus::new(units, Vec::new(alloc))
+}
+
+// What a unit answers to a frame, and what is told in its place.
+#[derive(Clone, Copy)]
+struct Lie {
+    frame: Frame,
+    answered: u8,
+    told: u8,
+}
+
+fn told(lie: Option<Lie>, frame: Frame, answer: Option<u8>) -> Option<u8> {
+    match lie {
+        Some(lie) if frame == lie.frame && answer == Some(lie.answered) => Some(lie.told),
+        _ => answer,
+    }
+}
+
+// The frames that were sent by hand, their lines, and the lines of the answers that were told.
+#[derive(Drop)]
+struct Seen {
+    frames: Vec<Frame>,
+    link: Vec<u8>,
+    answers: Vec<u8>,
+}
+
+impl Seen {
+    fn note(&mut self, frame: Frame, line: [u8; 5], answer: Option<u8>) -> Result<(), Fail> {
+        put(&mut self.frames, frame)?;
+        self.link.extend_from_slice(&line)?;
+        let spelled = match answer {
+            Some(byte) => byte_digits(byte),
+            None => *b"--",
+        };
+        self.answers.extend_from_slice(&spelled)?;
+        self.answers.extend_from_slice(b"\n")?;
+        Ok(())
+    }
+}
+
+// Does what the writer wants until it is idle.
+fn work_by_hand(
+    bus: &mut SimBus,
+    writer: &mut Writer,
+    seen: &mut Seen,
+    lie: Option<Lie>,
+) -> Result<(), Fail> {
+    for _ in 0..ENOUGH {
+        match writer.want() {
+            Want::Idle => return Ok(()),
+            Want::Keep(_) => writer.kept(),
+            Want::Send(frame) => {
+                let answer = told(lie, frame, bus.carry(&frame));
+                seen.note(frame, line_of(&frame), answer)?;
+                writer.heard(answer);
+            }
+            Want::Say(_, _) => writer.said(),
+        }
+    }
+    Err("an idle writer".into())
+}
+
+// Goes on from what a file holds, and then submits the order.
+fn by_hand(
+    alloc: Global,
+    bus: &mut SimBus,
+    file: &[u8],
+    order: &Order,
+    lie: Option<Lie>,
+) -> Result<Seen, Fail> {
+    let (journal, _) = Journal::load(alloc, 10, file)?;
+    let mut writer = Writer::new(journal);
+    let mut seen = Seen {
+        frames: Vec::new(alloc),
+        link: Vec::new(alloc),
+        answers: Vec::new(alloc),
+    };
+    work_by_hand(bus, &mut writer, &mut seen, lie)?;
+    let _reply = writer.submit(order.copy())?;
+    work_by_hand(bus, &mut writer, &mut seen, lie)?;
+    Ok(seen)
+}
+
+// A stream, and how its places are counted.
+#[derive(Clone, Copy, Debug)]
+enum Stream {
+    Answers,
+    Link,
+    LinkFlushes,
+    Journal,
+    JournalFlushes,
+    Out,
+}
+
+impl Stream {
+    fn fault(self) -> DriveFault {
+        match self {
+            Stream::Answers | Stream::Link | Stream::LinkFlushes => DriveFault::Link,
+            Stream::Journal | Stream::JournalFlushes => DriveFault::Journal,
+            Stream::Out => DriveFault::Out,
+        }
+    }
+
+    fn failed(self) -> [bool; 4] {
+        match self {
+            Stream::Answers => [true, false, false, false],
+            Stream::Link | Stream::LinkFlushes => [false, true, false, false],
+            Stream::Journal | Stream::JournalFlushes => [false, false, true, false],
+            Stream::Out => [false, false, false, true],
+        }
+    }
+}
+
+// After so many bytes or flushes the stream fails, a sink as `Some(0)` or as `None`.
+#[derive(Clone, Copy, Debug)]
+struct Place {
+    stream: Stream,
+    number: usize,
+    counts: bool,
+}
+
+impl Place {
+    fn good(self) -> Good {
+        let all = Good {
+            counts: self.counts,
+            ..ALL
+        };
+        let number = self.number;
+        match self.stream {
+            Stream::Answers => Good {
+                answers: number,
+                ..all
+            },
+            Stream::Link => Good {
+                link: number,
+                ..all
+            },
+            Stream::LinkFlushes => Good {
+                link_flushes: number,
+                ..all
+            },
+            Stream::Journal => Good {
+                journal: number,
+                ..all
+            },
+            Stream::JournalFlushes => Good {
+                journal_flushes: number,
+                ..all
+            },
+            Stream::Out => Good { out: number, ..all },
+        }
+    }
+
+    // Whether the stream has just what it could take or give.
+    fn is_reached(self, left: &Left, ends: &[usize]) -> bool {
+        match self.stream {
+            Stream::Answers => left.taken == self.number,
+            Stream::Link => left.link.len() == self.number,
+            Stream::LinkFlushes => (left.link.len() / 5).checked_sub(1) == Some(self.number),
+            Stream::Journal => left.journal.len() == self.number,
+            Stream::JournalFlushes => ends.get(self.number) == Some(&left.journal.len()),
+            Stream::Out => left.out.len() == self.number,
+        }
+    }
+}
+
+// A run of the GTIN as order 1 for a unit.
+struct Run<'a> {
+    unit: u8,
+    frames: u8,
+    // The first lines of the link, and of the answers.
+    first: (&'a str, &'a str),
+    journal: &'a [u8],
+    // Where its records end.
+    ends: &'a [usize],
+    // What is said where none, some and all of its records are there at first.
+    said: [&'a str; 3],
+}
+
+const ABSENT: Run<'static> = Run {
+    unit: 9,
+    frames: 16,
+    first: ("C301\n139C\nC301\n", "--\n--\n--\n"),
+    journal: &SILENT_JOURNAL,
+    ends: &[23, 25],
+    said: [
+        "reply 1 taken\nreply 1 kept 3 Silent\n",
+        "reply 1 kept 3 Silent\nreply 1 kept 3 Silent\n",
+        "reply 1 kept 3 Silent\n",
+    ],
+};
+
+const WRITTEN: Run<'static> = Run {
+    unit: 5,
+    frames: 96,
+    first: (
+        "C301\n0B9C\nA300\n0B98\n0BC5\n0B81\n0B81\nC301\n0B9C\nA302\n0B98\nC755\n",
+        "--\n01\n--\n00\n77\n--\n--\n--\n01\n--\n02\n55\n",
+    ),
+    journal: &GTIN_JOURNAL,
+    ends: &[23, 25, 27],
+    said: [
+        "reply 1 taken\nreply 1 kept 0 Done\n",
+        "reply 1 kept 0 Done\nreply 1 kept 0 Done\n",
+        "reply 1 kept 0 Done\n",
+    ],
+};
+
+impl<'a> Run<'a> {
+    // How many of a journal's first bytes are whole records.
+    fn counted(&self, length: usize) -> usize {
+        let mut counted = 0;
+        for &end in self.ends {
+            if end <= length {
+                counted = end;
+            }
+        }
+        counted
+    }
+
+    fn said_from(&self, counted: usize) -> &'a str {
+        let [none, some, all] = self.said;
+        if counted == 0 {
+            none
+        } else if counted < self.journal.len() {
+            some
+        } else {
+            all
+        }
+    }
+}
+
+// Goes on from what a drive left, where so many frames were carried.
+fn judge_rest(
+    rt: &impl Abort,
+    alloc: Global,
+    run: &Run<'_>,
+    frames: &[Frame],
+    left: &Left,
+    place: Place,
+) -> Result<(), Fail> {
+    let orders = [gtin_order(run.unit)?];
+    let mut bus = one_unit(alloc)?;
+    for frame in frames {
+        assert!(rt; frame.is_proper());
+        bus.carry(frame);
+    }
+    let (_, counted) = Journal::load(alloc, 10, &left.journal)?;
+    assert_eq!(rt; counted, run.counted(left.journal.len()), "{place:?}");
+    let seen = by_hand(alloc, &mut bus, &left.journal, &orders[0], None)?;
+    let rest = drive_on(alloc, &left.journal, &orders, &seen.answers, ALL)?;
+    let wanted = Wanted {
+        fault: None,
+        taken: seen.answers.len(),
+        link: &seen.link,
+        journal: run.journal.get(counted..).unwrap_or_default(),
+        out: run.said_from(counted).as_bytes(),
+        failed: [false; 4],
+    };
+    assert!(rt; rest.is(&wanted), "{place:?}");
+    Ok(())
+}
+
+// Whether the drive left the first bytes of what the whole run leaves, up to the place.
+fn is_cut_there(run: &Run<'_>, whole: &Seen, place: Place, left: &Left) -> bool {
+    left.fault == Some(place.stream.fault())
+        && left.failed == place.stream.failed()
+        && place.is_reached(left, run.ends)
+        && whole.link.starts_with(&left.link)
+        && run.journal.starts_with(&left.journal)
+        && run.said[0].as_bytes().starts_with(&left.out)
+}
+
+// One place of a run, and what goes on from there. A frame whose answer wasn't read may have been carried or not.
+fn judge_place(
+    rt: &impl Abort,
+    alloc: Global,
+    run: &Run<'_>,
+    whole: &Seen,
+    place: Place,
+) -> Result<(), Fail> {
+    let orders = [gtin_order(run.unit)?];
+    let left = drive_on(alloc, &[], &orders, &whole.answers, place.good())?;
+    assert!(rt; is_cut_there(run, whole, place, &left), "{place:?}");
+    let answered = left.taken / 3;
+    let written = left.link.len() / 5;
+    assert!(rt; answered <= written && written - answered <= 1, "{place:?}");
+    for carried in answered..=written {
+        let frames = whole.frames.get(..carried).unwrap_or_default();
+        judge_rest(rt, alloc, run, frames, &left, place)?;
+    }
+    Ok(())
+}
+
+// The run with no stream failing.
+fn judge_whole(rt: &impl Abort, alloc: Global, run: &Run<'_>, whole: &Seen) -> Result<(), Fail> {
+    let orders = [gtin_order(run.unit)?];
+    let left = drive_on(alloc, &[], &orders, &whole.answers, ALL)?;
+    let wanted = Wanted {
+        fault: None,
+        taken: whole.answers.len(),
+        link: &whole.link,
+        journal: run.journal,
+        out: run.said[0].as_bytes(),
+        failed: [false; 4],
+    };
+    assert!(rt; left.is(&wanted));
+    assert_eq!(rt; whole.frames.len(), usize::from(run.frames));
+    let (lines, answers) = run.first;
+    assert!(rt;
+        whole.link.starts_with(lines.as_bytes()) && whole.answers.starts_with(answers.as_bytes())
+    );
+    Ok(())
+}
+
+// The run, whole, and then with each stream failing at each place.
+fn sweep(rt: &impl Abort, alloc: Global, run: &Run<'_>) -> Result<(), Fail> {
+    let order = gtin_order(run.unit)?;
+    let whole = by_hand(alloc, &mut one_unit(alloc)?, &[], &order, None)?;
+    judge_whole(rt, alloc, run, &whole)?;
+    for (stream, places) in [
+        (Stream::Answers, whole.answers.len()),
+        (Stream::Link, whole.link.len()),
+        (Stream::LinkFlushes, whole.frames.len()),
+        (Stream::Journal, run.journal.len()),
+        (Stream::JournalFlushes, run.ends.len()),
+        (Stream::Out, run.said[0].len()),
+    ] {
+        for number in 0..places {
+            for counts in [false, true] {
+                let place = Place {
+                    stream,
+                    number,
+                    counts,
+                };
+                judge_place(rt, alloc, run, &whole, place)?;
+            }
+        }
+    }
+    Ok(())
+}
+
+#[test]
+fn an_absent_unit_with_each_stream_failing(rt: HostRuntime) -> Result<(), Fail> {
+    sweep(&rt, rt.alloc(), &ABSENT)
+}
+
+#[test]
+fn a_gtin_with_each_stream_failing(rt: HostRuntime) -> Result<(), Fail> {
+    sweep(&rt, rt.alloc(), &WRITTEN)
+}
+
+// The write of 03h never comes back as it was sent, and then the byte that is read back.
+const LIES: [(Lie, usize); 2] = [
+    (
+        Lie {
+            frame: Frame::Write(0x03),
+            answered: 0x03,
+            told: 0x04,
+        },
+        80,
+    ),
+    (
+        Lie {
+            frame: Frame::Read(5),
+            answered: 0x03,
+            told: 0x00,
+        },
+        83,
+    ),
+];
+
+#[test]
+fn wrong_answers(rt: HostRuntime) -> Result<(), Fail> {
+    let alloc = rt.alloc();
+    let orders = [gtin_order(5)?];
+    let mut journal = GTIN_JOURNAL;
+    journal[26] = 0x04;
+    for (lie, frames) in LIES {
+        let seen = by_hand(alloc, &mut one_unit(alloc)?, &[], &orders[0], Some(lie))?;
+        let left = drive_on(alloc, &[], &orders, &seen.answers, ALL)?;
+        let wanted = Wanted {
+            fault: None,
+            taken: seen.answers.len(),
+            link: &seen.link,
+            journal: &journal,
+            out: b"reply 1 taken\nreply 1 kept 4 Doubt\n",
+            failed: [false; 4],
+        };
+        assert!(rt; left.is(&wanted), "{frames}");
+        assert_eq!(rt; seen.frames.len(), frames);
+    }
+    Ok(())
+}

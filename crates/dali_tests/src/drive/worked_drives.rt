@@ -1,0 +1,57 @@
+ghost use Rattle.std.specs.Prelude.{◌≡◌, ◌∷◌, [], ℕ, List, Some, None, Err, codes};
+ghost use Rattle.dali_bank.specs.Order.{Contents};
+ghost use Rattle.dali_frame.specs.declared.forward.Frame.TheVariants.{Dtr0, Dtr1};
+ghost use Rattle.dali_frame.specs.declared.fault.LineFault.TheVariants.{Length};
+ghost use Rattle.dali_journal.specs.declared.record.Code.TheVariants.{DoubtOpen};
+ghost use Rattle.dali_journal.specs.declared.record.Record.TheVariants.{Opened};
+ghost use Rattle.dali_drive.specs.declared.fault.DriveFault.TheVariants as faults;
+ghost use Rattle.dali_writer.specs.declared.happening.Reply.TheVariants as replies;
+ghost use Rattle.dali_writer.specs.declared.happening.Happening.TheVariants.{Asked, Answered, Sent, Kept, Stopped};
+ghost use Rattle.dali_writer.specs.Next.{IsNext};
+ghost use Rattle.dali_drive.specs.Lines.{reply_line, IsShort, IsAnswerLine, TakesLine};
+ghost use Rattle.dali_drive.specs.Transcript.{Streams, Transcript};
+ghost use Rattle.dali_drive.specs.Driven.{IsInTurn, KeepsRecords, IsDriven, BrokenOff};
+ghost use Rattle.dali_writer.specs.Joined.{FollowOn};
+ghost use Rattle.dali_drive.specs.Sittings.{IsFileOf, after, MayHaveHappened};
+ghost use Rattle.dali_writer.specs.Worked.{empty, second_order, asked, taken, begun};
+ghost use Rattle.dali_writer.specs.WorkedPlans.{half_tried};
+ghost use Rattle.dali_drive.specs.WorkedDrives.{before_two, after_two, frames_turned, one_line_read, record_left_out, first_sitting, torn_file};
+
+// An order is begun, and two frames are sent and answered, the second with a carriage return.
+fn two_frames_are_driven()
+    ensures driven { IsDriven empty half_tried before_two after_two }
+    ensures reply { reply_line 7 (replies.Kept DoubtOpen) ≡ codes "reply 7 kept 5 DoubtOpen\n" }
+    ensures next { IsNext empty begun (Sent (Dtr1 1) None) }
+    ensures file { IsFileOf torn_file (after empty begun) 23 }
+{}
+
+// What isn't its text, nor an answer's line, nor what is read of one.
+fn other_texts()
+    ensures turned { ¬ Transcript half_tried before_two frames_turned }
+    ensures unread { ¬ Transcript half_tried before_two one_line_read }
+    ensures unrecorded { ¬ Transcript half_tried before_two record_left_out }
+    ensures nine_bytes { ¬ IsShort (codes "123456789") }
+    ensures two_lines { ¬ IsAnswerLine None (codes "--\n--\n") }
+    ensures ended_in_time { ¬ TakesLine (Some (codes "12345678\n")) (Some []) (Err faults.TooLong) }
+    ensures no_line { ¬ TakesLine (Some (codes "12")) (Some []) (Err (faults.Line Length)) }
+    ensures more_to_come { ¬ TakesLine (Some (codes "1--\n")) (Some (codes "--\n")) (Err faults.End) }
+{}
+
+// What doesn't come next, out of turn or out of range, and what a fault can't break off.
+fn other_steps()
+    ensures another_frame { ¬ IsNext empty begun (Sent (Dtr0 0) None) }
+    ensures another_order { ¬ IsNext empty begun (Asked second_order) }
+    ensures another_reply { ¬ IsNext empty asked (Answered 1 replies.Busy) }
+    ensures asked_at_work { ¬ IsInTurn empty (Asked second_order ∷ taken) }
+    ensures stopped { ¬ IsInTurn empty (Stopped ∷ begun) }
+    ensures out_of_range { ¬ KeepsRecords (Kept (Opened 64) ∷ begun) }
+    ensures two_steps { ¬ MayHaveHappened empty begun half_tried }
+    ensures no_record { (rest : List Contents) (old new : Streams) → ¬ BrokenOff empty begun rest faults.Journal old new }
+    ensures no_memory { (rest : List Contents) (old new : Streams) → ¬ BrokenOff empty begun rest faults.NoMemory old new }
+{}
+
+// A file is that of no other records, and no sitting forgets what stands in it.
+fn other_sittings()
+    ensures file { (count : ℕ) → ¬ IsFileOf torn_file empty count }
+    ensures forgotten { ¬ FollowOn empty (first_sitting ∷ first_sitting ∷ []) }
+{}

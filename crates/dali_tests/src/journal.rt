@@ -1,0 +1,164 @@
+ghost use Rattle.std.specs.Prelude.{◌≡◌, [], OnOk, IfOk};
+ghost use Rattle.dali_journal.specs.JournalState.{HasRoom, MayBegin};
+
+mod journals;
+mod large;
+mod loading;
+mod reading;
+mod records;
+
+use crate::gtin::GTIN;
+use dali_bank::Order;
+use dali_journal::{Code, Journal, JournalFault, Kept, NoMemory, Record, Standing, laws};
+use std::alloc::Global;
+use std::process::Abort;
+use std::test::Fail;
+
+// The bytes of order 1 for unit 5 with this GTIN.
+const BEGAN: [u8; 23] = [
+    0x42, 0, 0, 0, 0, 0, 0, 0, 1, 5, 6, 0x03, 0x03, 0x04, 0xA4, 0x05, 0xCE, 0x06, 0xEF, 0x07, 0xAD,
+    0x08, 0xAB,
+];
+
+// The bytes of order 2 for unit 6 with this GTIN.
+const NEXT: [u8; 23] = [
+    0x42, 0, 0, 0, 0, 0, 0, 0, 2, 6, 6, 0x03, 0x03, 0x04, 0xA4, 0x05, 0xCE, 0x06, 0xEF, 0x07, 0xAD,
+    0x08, 0xAB,
+];
+
+// The bytes of order 1 for unit 5 with all 115 updates, each to FFh.
+fn longest(alloc: Global) -> Result<Vec<u8>, Fail> {
+    let mut bytes = Vec::new(alloc);
+    bytes.extend_from_slice(&[0x42, 0, 0, 0, 0, 0, 0, 0, 1, 5, 115])?;
+    for location in 0x03..=0x77u8 {
+        if location != 0x11 && location != 0x12 {
+            bytes.extend_from_slice(&[location, 0xFF])?;
+        }
+    }
+    Ok(bytes)
+}
+
+// An order of this number for this unit with this GTIN.
+fn order_of(id: u64, unit: u8) -> Result<Order, Fail>
+    ensures { IfOk result (λ order. order.id ≡ id) }
+{
+    Ok(Order::from_pairs(id, unit, &GTIN).ok_or("an order")?)
+}
+
+// Adds a record, which the standing has to allow.
+fn add(rt: &impl Abort, journal: &mut Journal, entry: Record)
+    requires { MayBegin journal.old entry }
+{
+    assert!(rt; journal.standing().allows(&entry));
+    journal.append(entry);
+}
+
+// The first letter of the standing, where it is of this order or its unit.
+fn letter_of(journal: &Journal, order: &Order) -> char {
+    match journal.standing() {
+        Standing::Idle => 'I',
+        Standing::Began(begun) if begun.same(order) => 'B',
+        Standing::Opened(begun) if begun.same(order) => 'O',
+        Standing::Left(unit) if unit == order.unit() => 'L',
+        _ => '-',
+    }
+}
+
+// Whether the order is kept under that number, and ended so or hasn't.
+fn is_kept(journal: &Journal, id: u64, order: &Order, end: Option<Code>) -> bool {
+    match journal.kept(id) {
+        Kept::Absent => false,
+        Kept::Unfinished(begun) => begun.same(order) && end.is_none(),
+        Kept::Ended(ended, code) => ended.same(order) && end == Some(code),
+    }
+}
+
+// Whether nothing is kept under that number.
+fn is_absent(journal: &Journal, id: u64) -> bool {
+    matches!(journal.kept(id), Kept::Absent)
+}
+
+// Makes room, at the second call where the first is refused, and tells whether it was.
+fn reserve_again(journal: &mut Journal, order: &Order) -> Result<bool, NoMemory>
+    ensures records { journal.new.records ≡ journal.old.records }
+    ensures limit { journal.new.limit ≡ journal.old.limit }
+    ensures room { OnOk result (HasRoom journal.new order.now) }
+{
+    match journal.reserve(order) {
+        Ok(()) => Ok(false),
+        Err(_) => {
+            journal.reserve(order)?;
+            Ok(true)
+        }
+    }
+}
+
+// The journal's bytes, at the second call where the first is refused, and whether it was.
+fn bytes_again(alloc: Global, journal: &Journal) -> Result<(Vec<u8>, bool), NoMemory> {
+    match journal.to_bytes(alloc) {
+        Ok(bytes) => Ok((bytes, false)),
+        Err(_) => Ok((journal.to_bytes(alloc)?, true)),
+    }
+}
+
+// The journal of these bytes, at the second call where there is no memory at the first, how many of them count,
+// and whether there was none.
+fn load_again(alloc: Global, bytes: &[u8]) -> Result<(Journal, usize, bool), JournalFault> {
+    match Journal::load(alloc, 2, bytes) {
+        Ok((journal, len)) => Ok((journal, len, false)),
+        Err(JournalFault::NoMemory) => {
+            let (journal, len) = Journal::load(alloc, 2, bytes)?;
+            Ok((journal, len, true))
+        }
+        Err(fault) => Err(fault),
+    }
+}
+
+// Begins and ends the first order, makes room for the next one and begins it. It tells whether memory was refused.
+fn begin_both(
+    rt: &impl Abort,
+    journal: &mut Journal,
+    order: &Order,
+    next: Order,
+) -> Result<bool, NoMemory>
+    requires { (journal.old.records ≡ []) × (journal.old.limit ≡ 2) × (order.now.id ≡ 1) × (next.id ≡ 2) }
+{
+    let first = reserve_again(journal, order)?;
+    assert!(rt; journal.orders() == 0 && journal.has_room(order));
+    journal.append(Record::Began(order.copy()));
+    journal.append(Record::Ended(Code::Silent));
+    let second = reserve_again(journal, &next)?;
+    assert!(rt; journal.orders() == 1 && journal.has_room(&next));
+    assert!(rt; letter_of(journal, order) == 'I' && is_absent(journal, 2));
+    assert!(rt; is_kept(journal, 1, order, Some(Code::Silent)));
+    journal.append(Record::Began(next));
+    Ok(first || second)
+}
+
+// `./test` runs this one again and again, with each allocation refused in turn. What is refused changes
+// nothing, and is done when it is called again.
+#[test]
+fn a_refused_growth_changes_nothing(rt: HostRuntime) -> Result<(), Fail> {
+    let order = order_of(1, 5)?;
+    let mut journal = Journal::new(rt.alloc(), 2)?;
+    let in_growth = begin_both(&rt, &mut journal, &order, order_of(2, 6)?)?;
+    let (bytes, in_bytes) = bytes_again(rt.alloc(), &journal)?;
+    assert_eq!(rt; bytes.len(), 48);
+    let (again, len, in_load) = load_again(rt.alloc(), &bytes)?;
+    assert_eq!(rt; (again.orders(), len), (2, 48));
+    assert!(rt; is_kept(&again, 1, &order, Some(Code::Silent)));
+    if in_growth || in_bytes || in_load {
+        return Err(NoMemory.into());
+    }
+    Ok(())
+}
+
+#[test]
+fn laws_hold(_rt: HostRuntime) {
+    laws::sentences_are_groups();
+    laws::no_record_begins_another();
+    laws::bytes_begin_with_one_piece();
+    laws::torn_journals_have_no_fault();
+    laws::journals_load_again();
+    laws::bytes_have_one_fault();
+}

@@ -1,0 +1,75 @@
+use super::BEGAN;
+use crate::gtin::GTIN;
+use dali_bank::Order;
+use dali_journal::{Code, JournalFault, NoMemory, Record};
+use std::alloc::Global;
+use std::test::Fail;
+
+// Whether the record's bytes are these.
+fn has_bytes(entry: Record, bytes: &[u8]) -> bool {
+    entry.bytes().as_slice() == bytes
+}
+
+#[test]
+fn bytes_of_records(rt: HostRuntime) -> Result<(), Fail> {
+    let order = Order::from_pairs(1, 5, &GTIN).ok_or("an order")?;
+    assert!(rt; has_bytes(Record::Began(order), &BEGAN));
+    assert!(rt; has_bytes(Record::Opened(63), &[0x4F, 63]));
+    assert!(rt; has_bytes(Record::Closed(6), &[0x43, 6]));
+    for (code, number) in [
+        (Code::Done, 0),
+        (Code::Short, 1),
+        (Code::Format, 2),
+        (Code::Silent, 3),
+        (Code::Doubt, 4),
+        (Code::DoubtOpen, 5),
+    ] {
+        assert!(rt; has_bytes(Record::Ended(code), &[0x45, number]), "{code:?}");
+    }
+    Ok(())
+}
+
+// The bytes of the order for this unit with all 115 updates, each to FFh.
+fn longest_of(alloc: Global, id: u64, unit: u8) -> Result<Vec<u8>, Fail> {
+    let mut pairs = Vec::new(alloc);
+    for location in 0x03..=0x77u8 {
+        if location != 0x11 && location != 0x12 {
+            pairs.push((location, 0xFF))?;
+        }
+    }
+    let order = Order::from_pairs(id, unit, &pairs).ok_or("an order")?;
+    Ok(Record::Began(order).bytes().as_slice().to_vec(alloc)?)
+}
+
+#[test]
+fn the_longest_record(rt: HostRuntime) -> Result<(), Fail> {
+    let bytes = longest_of(rt.alloc(), 1, 5)?;
+    assert_eq!(rt; bytes.len(), 241);
+    assert!(rt; bytes == super::longest(rt.alloc())?);
+    let bytes = longest_of(rt.alloc(), u64::MAX, 63)?;
+    assert!(rt; bytes.starts_with(&[0x42, 255, 255, 255, 255, 255, 255, 255, 255, 63, 115]));
+    Ok(())
+}
+
+// Whether the fault has this number and is told so.
+fn is_told(alloc: Global, fault: JournalFault, number: u8, name: &str) -> Result<bool, Fail> {
+    let text = fault.to_string(alloc)?;
+    Ok(fault.number() == number && text.as_str() == name)
+}
+
+#[test]
+fn faults_have_numbers_and_names(rt: HostRuntime) -> Result<(), Fail> {
+    for (fault, number, name) in [
+        (JournalFault::Limit, 1, "Limit"),
+        (JournalFault::NoMemory, 2, "NoMemory"),
+        (JournalFault::Record(7), 3, "Record"),
+        (JournalFault::Sequence(7), 4, "Sequence"),
+        (JournalFault::Repeated(7), 5, "Repeated"),
+        (JournalFault::Full(7), 6, "Full"),
+    ] {
+        assert!(rt; is_told(rt.alloc(), fault, number, name)?, "{name}");
+    }
+    let text = NoMemory.to_string(rt.alloc())?;
+    assert_eq!(rt; text.as_str(), "NoMemory");
+    Ok(())
+}

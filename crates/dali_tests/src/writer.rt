@@ -1,0 +1,8 @@
+mod bench;
+pub(crate) mod case;
+mod gtin;
+mod losses;
+mod stops;
+mod submits;
+mod worked;
+mod worked_plans;

@@ -1,0 +1,465 @@
+use crate::gtin::GTIN;
+use crate::writer::case::{
+    Case, DONE, Deed, ENOUGH, PLAIN, STORED, TAKEN, bus_of, judge, run_case,
+};
+use dali_bank::BLANK;
+use dali_journal::Code;
+use dali_writer::{Reply, RunFault};
+use std::test::Fail;
+
+// The updates of the GTIN 96385074.
+const OTHER_GTIN: [(u8, u8); 6] = [
+    (0x03, 0x00),
+    (0x04, 0x00),
+    (0x05, 0x05),
+    (0x06, 0xBE),
+    (0x07, 0xB8),
+    (0x08, 0x32),
+];
+
+const YEAR: [(u8, u8); 1] = [(0x13, 24)];
+
+const NEXT_YEAR: [(u8, u8); 1] = [(0x13, 25)];
+
+const YEAR_AND_WEEK: [(u8, u8); 2] = [(0x13, 0x18), (0x14, 0x35)];
+
+const YEAR_AND_VOLTAGE: [(u8, u8); 3] = [(0x13, 0x18), (0x19, 0x00), (0x1A, 0xDC)];
+
+// Bank 1 of 17 bytes.
+const SHORT_BANK: [u8; 17] = [
+    0x10, 0xFF, 0xFF, 0xFF, 0xFF, 0xFF, 0xFF, 0xFF, 0xFF, 0xFF, 0xFF, 0xFF, 0xFF, 0xFF, 0xFF, 0xFF,
+    0xFF,
+];
+
+const DOUBT: Reply = Reply::Kept(Code::Doubt);
+
+const AGAIN: Case<'static> = Case {
+    name: "the same again",
+    deeds: &[
+        Deed::Submit(1, 5, &GTIN),
+        Deed::Steps(ENOUGH),
+        Deed::Submit(1, 5, &GTIN),
+        Deed::Steps(ENOUGH),
+    ],
+    answers: &[(1, TAKEN, 0), (1, DONE, 96), (1, DONE, 96)],
+    ..PLAIN
+};
+
+const USED_AGAIN: Case<'static> = Case {
+    name: "the number used again",
+    deeds: &[
+        Deed::Submit(1, 5, &GTIN),
+        Deed::Steps(ENOUGH),
+        Deed::Submit(1, 5, &OTHER_GTIN),
+        Deed::Steps(ENOUGH),
+    ],
+    answers: &[(1, TAKEN, 0), (1, DONE, 96), (1, Reply::IdReused, 96)],
+    ..PLAIN
+};
+
+const YEAR_AND_WEEK_RUN: Case<'static> = Case {
+    name: "year and week",
+    deeds: &[Deed::Submit(1, 5, &YEAR_AND_WEEK), Deed::Steps(ENOUGH)],
+    answers: &[(1, TAKEN, 0), (1, DONE, 58)],
+    frames: 58,
+    journal: 19,
+    held: &[(5, 0x13, &[0x18, 0x35])],
+    ..PLAIN
+};
+
+const TWO_YEARS: Case<'static> = Case {
+    name: "two years",
+    deeds: &[
+        Deed::Submit(1, 5, &YEAR),
+        Deed::Steps(ENOUGH),
+        Deed::Submit(2, 5, &NEXT_YEAR),
+        Deed::Steps(ENOUGH),
+        Deed::Submit(1, 5, &YEAR),
+        Deed::Steps(ENOUGH),
+    ],
+    answers: &[
+        (1, TAKEN, 0),
+        (1, DONE, 46),
+        (2, TAKEN, 46),
+        (2, DONE, 92),
+        (1, DONE, 92),
+    ],
+    frames: 92,
+    journal: 34,
+    held: &[(5, 0x13, &[0x19])],
+    ..PLAIN
+};
+
+#[test]
+fn runs_without_losses(rt: HostRuntime) -> Result<(), Fail> {
+    judge(&rt, rt.alloc(), &PLAIN)?;
+    judge(&rt, rt.alloc(), &AGAIN)?;
+    judge(&rt, rt.alloc(), &USED_AGAIN)?;
+    judge(&rt, rt.alloc(), &YEAR_AND_WEEK_RUN)?;
+    judge(&rt, rt.alloc(), &TWO_YEARS)?;
+    Ok(())
+}
+
+const YEAR_AND_VOLTAGE_RUN: Case<'static> = Case {
+    name: "year and voltage",
+    deeds: &[Deed::Submit(1, 5, &YEAR_AND_VOLTAGE), Deed::Steps(ENOUGH)],
+    answers: &[(1, TAKEN, 0), (1, DONE, 70)],
+    frames: 70,
+    journal: 21,
+    held: &[(5, 0x13, &[0x18, 0xFF]), (5, 0x19, &[0x00, 0xDC])],
+    ..PLAIN
+};
+
+const FRAME_34: Case<'static> = Case {
+    name: "frame 34",
+    lost: &[(34, 34)],
+    answers: &[(1, TAKEN, 0), (1, DONE, 76)],
+    frames: 76,
+    ..YEAR_AND_VOLTAGE_RUN
+};
+
+const FRAME_17: Case<'static> = Case {
+    name: "frame 17",
+    lost: &[(17, 17)],
+    ..PLAIN
+};
+
+const SEVEN_ANSWERS: Case<'static> = Case {
+    name: "seven answers",
+    unanswered: &[9, 13, 17, 21, 25, 29, 33],
+    answers: &[(1, TAKEN, 0), (1, DONE, 124)],
+    frames: 124,
+    ..PLAIN
+};
+
+const ONE_STEP: Case<'static> = Case {
+    name: "eight answers of one step",
+    unanswered: &[9, 13, 17, 21, 25, 29, 33, 37],
+    answers: &[(1, TAKEN, 0), (1, DOUBT, 49)],
+    frames: 49,
+    held: &[(5, 0x03, &[0xFF; 6])],
+    ending: &[0x4F, 0x05, 0x45, 0x04],
+    ..PLAIN
+};
+
+const TWO_STEPS: Case<'static> = Case {
+    name: "eight answers of two steps",
+    unanswered: &[9, 13, 17, 21, 25, 29, 33, 44],
+    answers: &[(1, TAKEN, 0), (1, DONE, 128)],
+    frames: 128,
+    ..PLAIN
+};
+
+const FRAME_1: Case<'static> = Case {
+    name: "frame 1, with DTR1 02h",
+    dtrs: (0x00, 0x02, 0x00),
+    lost: &[(1, 1)],
+    answers: &[(1, TAKEN, 0), (1, DONE, 98)],
+    frames: 98,
+    ..PLAIN
+};
+
+const FRAMES_1_AND_8: Case<'static> = Case {
+    name: "frames 1 and 8, with DTR1 02h",
+    dtrs: (0x00, 0x02, 0x00),
+    lost: &[(1, 1), (8, 8)],
+    answers: &[(1, TAKEN, 0), (1, DONE, 105)],
+    frames: 105,
+    ..PLAIN
+};
+
+#[test]
+fn runs_with_losses(rt: HostRuntime) -> Result<(), Fail> {
+    judge(&rt, rt.alloc(), &YEAR_AND_VOLTAGE_RUN)?;
+    judge(&rt, rt.alloc(), &FRAME_34)?;
+    judge(&rt, rt.alloc(), &FRAME_17)?;
+    judge(&rt, rt.alloc(), &SEVEN_ANSWERS)?;
+    judge(&rt, rt.alloc(), &ONE_STEP)?;
+    judge(&rt, rt.alloc(), &TWO_STEPS)?;
+    judge(&rt, rt.alloc(), &FRAME_1)?;
+    judge(&rt, rt.alloc(), &FRAMES_1_AND_8)?;
+    Ok(())
+}
+
+const NO_UNIT: Case<'static> = Case {
+    name: "no unit",
+    deeds: &[Deed::Submit(1, 9, &GTIN), Deed::Steps(ENOUGH)],
+    answers: &[(1, TAKEN, 0), (1, Reply::Kept(Code::Silent), 16)],
+    frames: 16,
+    journal: 25,
+    held: &[(5, 0x00, &BLANK)],
+    ending: &[0x08, 0xAB, 0x45, 0x03],
+    ..PLAIN
+};
+
+const A_SHORT_BANK: Case<'static> = Case {
+    name: "a short bank",
+    bank: &SHORT_BANK,
+    deeds: &[
+        Deed::Submit(1, 5, &GTIN),
+        Deed::Steps(ENOUGH),
+        Deed::Submit(2, 5, &YEAR),
+        Deed::Steps(ENOUGH),
+    ],
+    answers: &[
+        (1, TAKEN, 0),
+        (1, DONE, 96),
+        (2, TAKEN, 96),
+        (2, Reply::Kept(Code::Short), 101),
+    ],
+    frames: 101,
+    journal: 42,
+    ending: &[0x13, 0x18, 0x45, 0x01],
+    ..PLAIN
+};
+
+const A_FIXED_LOCATION: Case<'static> = Case {
+    name: "a fixed location",
+    fixed: &[0x05],
+    answers: &[(1, TAKEN, 0), (1, DOUBT, 94)],
+    frames: 94,
+    held: &[(5, 0x03, &[0x03, 0xA4, 0xFF, 0xFF, 0xFF, 0xFF])],
+    ending: &[0x4F, 0x05, 0x45, 0x04],
+    ..PLAIN
+};
+
+#[test]
+fn runs_with_other_units(rt: HostRuntime) -> Result<(), Fail> {
+    judge(&rt, rt.alloc(), &NO_UNIT)?;
+    judge(&rt, rt.alloc(), &A_SHORT_BANK)?;
+    judge(&rt, rt.alloc(), &A_FIXED_LOCATION)?;
+    Ok(())
+}
+
+const A_CUT_RECORD: Case<'static> = Case {
+    name: "a record that is cut",
+    deeds: &[
+        Deed::Submit(1, 5, &GTIN),
+        Deed::Steps(6),
+        Deed::Stop(1),
+        Deed::Steps(ENOUGH),
+    ],
+    answers: &[(1, TAKEN, 0), (1, DONE, 101)],
+    frames: 101,
+    ..PLAIN
+};
+
+const A_WHOLE_RECORD: Case<'static> = Case {
+    name: "a whole record",
+    deeds: &[
+        Deed::Submit(1, 5, &GTIN),
+        Deed::Steps(6),
+        Deed::Stop(2),
+        Deed::Steps(ENOUGH),
+    ],
+    ..PLAIN
+};
+
+const AMID_THE_WRITES: Case<'static> = Case {
+    name: "a stop amid the writes",
+    deeds: &[
+        Deed::Fill(1, 0x3C, 0x77, 0x42),
+        Deed::Steps(234),
+        Deed::Stop(0),
+        Deed::Submit(2, 6, &GTIN),
+        Deed::Steps(ENOUGH),
+    ],
+    answers: &[(1, TAKEN, 0), (2, Reply::Busy, 232), (1, DONE, 971)],
+    frames: 971,
+    journal: 135,
+    held: &[(5, 0x3C, &[0x42; 60]), (6, 0x00, &BLANK)],
+    ..PLAIN
+};
+
+#[test]
+fn runs_with_stops(rt: HostRuntime) -> Result<(), Fail> {
+    judge(&rt, rt.alloc(), &A_CUT_RECORD)?;
+    judge(&rt, rt.alloc(), &A_WHOLE_RECORD)?;
+    judge(&rt, rt.alloc(), &AMID_THE_WRITES)?;
+    Ok(())
+}
+
+const ONE_ORDER: Case<'static> = Case {
+    name: "one order",
+    limit: 1,
+    deeds: &[
+        Deed::Submit(1, 5, &GTIN),
+        Deed::Submit(1, 5, &OTHER_GTIN),
+        Deed::Steps(1),
+        Deed::Submit(1, 5, &OTHER_GTIN),
+        Deed::Submit(1, 5, &GTIN),
+        Deed::Submit(2, 5, &GTIN),
+        Deed::Steps(200),
+        Deed::Submit(2, 5, &GTIN),
+        Deed::Submit(1, 5, &GTIN),
+    ],
+    answers: &[
+        (1, TAKEN, 0),
+        (1, Reply::Busy, 0),
+        (1, Reply::IdReused, 0),
+        (1, Reply::Busy, 0),
+        (2, Reply::Busy, 0),
+        (1, DONE, 96),
+        (2, Reply::Full, 96),
+        (1, DONE, 96),
+    ],
+    ..PLAIN
+};
+
+const TWO_ORDERS: Case<'static> = Case {
+    name: "all fields, and two orders",
+    limit: 2,
+    deeds: &[
+        Deed::Fill(1, 0x03, 0x77, 0xAA),
+        Deed::Steps(ENOUGH),
+        Deed::Submit(2, 5, &GTIN),
+        Deed::Steps(ENOUGH),
+        Deed::Submit(3, 5, &YEAR),
+        Deed::Fill(1, 0x03, 0x77, 0xAA),
+        Deed::Steps(ENOUGH),
+    ],
+    answers: &[
+        (1, TAKEN, 0),
+        (1, DONE, 1_414),
+        (2, TAKEN, 1_414),
+        (2, DONE, 1_510),
+        (3, Reply::Full, 1_510),
+        (1, DONE, 1_510),
+    ],
+    frames: 1_510,
+    journal: 272,
+    held: &[
+        (5, 0x03, &STORED),
+        (5, 0x09, &[0xAA; 8]),
+        (5, 0x11, &[0x00, 0x03]),
+        (5, 0x13, &[0xAA; 101]),
+    ],
+    ..PLAIN
+};
+
+#[test]
+fn full_journals(rt: HostRuntime) -> Result<(), Fail> {
+    judge(&rt, rt.alloc(), &ONE_ORDER)?;
+    judge(&rt, rt.alloc(), &TWO_ORDERS)?;
+    Ok(())
+}
+
+#[test]
+fn another_content_format(rt: HostRuntime) -> Result<(), Fail> {
+    let mut bank = BLANK;
+    bank[0x12] = 0x04;
+    let case = Case {
+        name: "another content format",
+        bank: &bank,
+        deeds: &[
+            Deed::Submit(1, 5, &YEAR),
+            Deed::Steps(ENOUGH),
+            Deed::Submit(2, 5, &GTIN),
+            Deed::Steps(ENOUGH),
+        ],
+        answers: &[
+            (1, TAKEN, 0),
+            (1, Reply::Kept(Code::Format), 15),
+            (2, TAKEN, 15),
+            (2, DONE, 111),
+        ],
+        frames: 111,
+        journal: 42,
+        held: &[(5, 0x03, &STORED), (5, 0x13, &[0xFF])],
+        ..PLAIN
+    };
+    judge(&rt, rt.alloc(), &case)
+}
+
+// Order 1 for a unit that is then left, and order 2 for another one, twice.
+const LEFT: [Deed<'static>; 6] = [
+    Deed::Submit(1, 5, &GTIN),
+    Deed::Steps(ENOUGH),
+    Deed::Submit(2, 6, &GTIN),
+    Deed::Steps(ENOUGH),
+    Deed::Submit(2, 6, &GTIN),
+    Deed::Steps(ENOUGH),
+];
+
+// What the journal of these ends with: DoubtOpen, Closed, and all of order 2.
+const LEFT_ENDING: [u8; 31] = [
+    0x45, 0x05, 0x43, 0x05, 0x42, 0x00, 0x00, 0x00, 0x00, 0x00, 0x00, 0x00, 0x02, 0x06, 0x06, 0x03,
+    0x03, 0x04, 0xA4, 0x05, 0xCE, 0x06, 0xEF, 0x07, 0xAD, 0x08, 0xAB, 0x4F, 0x06, 0x45, 0x00,
+];
+
+// `./test` runs this one again and again, with each allocation refused in turn.
+#[test]
+fn a_run_with_a_left_unit(rt: HostRuntime) -> Result<(), Fail> {
+    let case = Case {
+        lost: &[(6, 133)],
+        deeds: &LEFT,
+        answers: &[
+            (1, TAKEN, 0),
+            (1, Reply::Kept(Code::DoubtOpen), 85),
+            (2, TAKEN, 85),
+            (2, Reply::Blocked(5), 133),
+            (2, TAKEN, 133),
+            (2, DONE, 241),
+        ],
+        frames: 241,
+        journal: 56,
+        held: &[(5, 0x03, &[0xFF; 6]), (6, 0x03, &STORED)],
+        ending: &LEFT_ENDING,
+        ..PLAIN
+    };
+    judge(&rt, rt.alloc(), &case)
+}
+
+#[test]
+fn a_left_unit_that_answers_late(rt: HostRuntime) -> Result<(), Fail> {
+    let case = Case {
+        lost: &[(20, 179)],
+        deeds: &LEFT,
+        answers: &[
+            (1, TAKEN, 0),
+            (1, Reply::Kept(Code::DoubtOpen), 99),
+            (2, TAKEN, 99),
+            (2, Reply::Blocked(5), 147),
+            (2, TAKEN, 147),
+            (2, DONE, 280),
+        ],
+        frames: 280,
+        journal: 56,
+        ending: &LEFT_ENDING,
+        held: &[
+            (5, 0x03, &[0x03, 0xFF, 0xFF, 0xFF, 0xFF, 0xFF]),
+            (6, 0x03, &STORED),
+        ],
+        ..PLAIN
+    };
+    judge(&rt, rt.alloc(), &case)
+}
+
+#[test]
+fn limits(rt: HostRuntime) -> Result<(), Fail> {
+    let alloc = rt.alloc();
+    for (limit, fault, fates_left) in [
+        (0, Some(RunFault::Limit), 199),
+        (1, None, 103),
+        (100_000, None, 103),
+        (100_001, Some(RunFault::Limit), 199),
+    ] {
+        let case = Case { limit, ..PLAIN };
+        let mut bus = bus_of(alloc, &case)?;
+        let found = match run_case(alloc, &mut bus, &case) {
+            Ok(_) => None,
+            Err(fault) => Some(fault),
+        };
+        assert_eq!(rt; found, fault, "{limit}");
+        assert_eq!(rt; bus.fates_left(), fates_left, "{limit}");
+    }
+    for (fault, number, name) in [
+        (RunFault::Limit, 1, "Limit"),
+        (RunFault::NoMemory, 2, "NoMemory"),
+    ] {
+        assert_eq!(rt; fault.number(), number);
+        let text = fault.to_string(alloc)?;
+        assert_eq!(rt; text.as_str(), name);
+    }
+    Ok(())
+}

@@ -1,0 +1,233 @@
+use crate::gtin::GTIN;
+use dali_bank::{BLANK, Order};
+use dali_frame::Frame;
+use dali_gear::{Fate, GearFault, SimBus, Unit};
+use dali_journal::Code;
+use dali_writer::{Event, Happening, Outcome, Reply, RunFault, run_sim};
+use std::alloc::{AllocError, Global};
+use std::process::Abort;
+use std::test::Fail;
+
+pub(crate) const STORED: [u8; 6] = [0x03, 0xA4, 0xCE, 0xEF, 0xAD, 0xAB];
+
+// The memory bank 2 of a new unit, which no order changes.
+const BANK_2: [u8; 16] = [
+    0x0F, 0xFF, 0xFF, 0xFF, 0xFF, 0xFF, 0xFF, 0xFF, 0xFF, 0xFF, 0xFF, 0xFF, 0xFF, 0xFF, 0xFF, 0xFF,
+];
+
+pub(crate) const TAKEN: Reply = Reply::Taken;
+
+pub(crate) const DONE: Reply = Reply::Kept(Code::Done);
+
+// What is done in a case, in turn.
+#[derive(Clone, Copy)]
+pub(crate) enum Deed<'a> {
+    // An order's number, unit and updates.
+    Submit(u64, u8, &'a [(u8, u8)]),
+    // An order for unit 5: its number, and a byte for all places between these locations.
+    Fill(u64, u8, u8, u8),
+    Steps(usize),
+    Stop(u16),
+}
+
+// As many steps as any order of these cases takes, and more.
+pub(crate) const ENOUGH: usize = 1_500;
+
+// Units at 5 and 6, of which the one at 5 may have another bank 1 and fixed locations.
+#[derive(Clone, Copy)]
+pub(crate) struct Case<'a> {
+    pub(crate) name: &'a str,
+    pub(crate) limit: u32,
+    pub(crate) bank: &'a [u8],
+    pub(crate) fixed: &'a [u8],
+    pub(crate) dtrs: (u8, u8, u8),
+    // First and last numbers of frames that are lost to unit 5.
+    pub(crate) lost: &'a [(usize, usize)],
+    // Numbers of frames whose answers are lost.
+    pub(crate) unanswered: &'a [usize],
+    pub(crate) deeds: &'a [Deed<'a>],
+    // Each answer: its order's number, what it is, and how many frames were sent before it.
+    pub(crate) answers: &'a [(u64, Reply, usize)],
+    pub(crate) frames: usize,
+    pub(crate) journal: usize,
+    // The journal's last bytes.
+    pub(crate) ending: &'a [u8],
+    // What bank 1 holds in the end: units, locations and the bytes from there on.
+    pub(crate) held: &'a [(u8, usize, &'a [u8])],
+}
+
+// Order 1 with the GTIN for unit 5, with blank units and no losses.
+pub(crate) const PLAIN: Case<'static> = Case {
+    name: "a GTIN",
+    limit: 10,
+    bank: &BLANK,
+    fixed: &[],
+    dtrs: (0, 0, 0),
+    lost: &[],
+    unanswered: &[],
+    deeds: &[Deed::Submit(1, 5, &GTIN), Deed::Steps(ENOUGH)],
+    answers: &[(1, TAKEN, 0), (1, DONE, 96)],
+    frames: 96,
+    journal: 27,
+    ending: &[0x4F, 0x05, 0x45, 0x00],
+    held: &[(5, 0x03, &STORED)],
+};
+
+// Puts one more at the end of a list.
+pub(crate) fn put<T: Drop>(list: &mut Vec<T>, item: T) -> Result<(), AllocError> {
+    list.reserve(1)?;
+    list.push_reserved(item);
+    Ok(())
+}
+
+// Updates with this byte of all places from the first location to the last one.
+fn filled(alloc: Global, first: u8, last: u8, byte: u8) -> Result<Vec<(u8, u8)>, RunFault> {
+    let mut updates = Vec::new(alloc);
+    for location in first..=last {
+        if location != 0x11 && location != 0x12 {
+            put(&mut updates, (location, byte))?;
+        }
+    }
+    Ok(updates)
+}
+
+// The events of the deeds. What makes no order is left out.
+pub(crate) fn events_of(alloc: Global, deeds: &[Deed<'_>]) -> Result<Vec<Event>, RunFault> {
+    let mut events = Vec::new(alloc);
+    for deed in deeds {
+        match *deed {
+            Deed::Submit(id, unit, updates) => {
+                if let Some(order) = Order::from_pairs(id, unit, updates) {
+                    put(&mut events, Event::Submit(order))?;
+                }
+            }
+            Deed::Fill(id, first, last, byte) => {
+                let updates = filled(alloc, first, last, byte)?;
+                if let Some(order) = Order::from_pairs(id, 5, &updates) {
+                    put(&mut events, Event::Submit(order))?;
+                }
+            }
+            Deed::Steps(count) => {
+                for _ in 0..count {
+                    put(&mut events, Event::Step)?;
+                }
+            }
+            Deed::Stop(bytes) => put(&mut events, Event::Stop(bytes))?,
+        }
+    }
+    Ok(events)
+}
+
+fn fates_of(
+    alloc: Global,
+    lost: &[(usize, usize)],
+    unanswered: &[usize],
+) -> Result<Vec<Fate>, GearFault> {
+    let mut fates = Vec::new(alloc);
+    for number in 1..200usize {
+        let mut fate = Fate {
+            answer_lost: unanswered.contains(&number),
+            ..Fate::default()
+        };
+        for &(first, last) in lost {
+            if first <= number && number <= last {
+                fate.lost = 1 << 5;
+            }
+        }
+        put(&mut fates, fate)?;
+    }
+    Ok(fates)
+}
+
+pub(crate) fn bus_of(alloc: Global, case: &Case<'_>) -> Result<SimBus, GearFault> {
+    let mut unit = Unit::with_bank1(alloc, 5, case.bank, case.fixed)?;
+    let (dtr0, dtr1, dtr2) = case.dtrs;
+    unit.set_dtrs(dtr0, dtr1, dtr2);
+    let mut units = Vec::new(alloc);
+    put(&mut units, unit)?;
+    put(&mut units, Unit::blank(alloc, 6)?)?;
+    let fates = fates_of(alloc, case.lost, case.unanswered)?;
+    SimBus::new(units, fates)
+}
+
+pub(crate) fn run_case(
+    alloc: Global,
+    bus: &mut SimBus,
+    case: &Case<'_>,
+) -> Result<Outcome, RunFault> {
+    let events = events_of(alloc, case.deeds)?;
+    run_sim(alloc, bus, case.limit, &events)
+}
+
+pub(crate) fn frames_of(trace: &[Happening]) -> usize {
+    let mut frames: usize = 0;
+    for happening in trace {
+        if matches!(happening, Happening::Sent(_, _)) {
+            frames = frames.saturating_add(1);
+        }
+    }
+    frames
+}
+
+// The answers, each with its order's number and how many frames were sent before it.
+fn answers_of(alloc: Global, trace: &[Happening]) -> Result<Vec<(u64, Reply, usize)>, RunFault> {
+    let mut answers = Vec::new(alloc);
+    let mut frames: usize = 0;
+    for happening in trace {
+        match happening {
+            Happening::Sent(_, _) => frames = frames.saturating_add(1),
+            Happening::Answered(id, reply) => put(&mut answers, (*id, *reply, frames))?,
+            _ => {}
+        }
+    }
+    Ok(answers)
+}
+
+// The frames and their answers.
+pub(crate) fn sent(
+    alloc: Global,
+    trace: &[Happening],
+) -> Result<Vec<(Frame, Option<u8>)>, RunFault> {
+    let mut sent = Vec::new(alloc);
+    for happening in trace {
+        if let Happening::Sent(frame, answer) = happening {
+            put(&mut sent, (*frame, *answer))?;
+        }
+    }
+    Ok(sent)
+}
+
+pub(crate) fn unit_at(bus: &SimBus, address: u8) -> Result<&Unit, Fail> {
+    for unit in bus.units() {
+        if unit.address() == address {
+            return Ok(unit);
+        }
+    }
+    Err("a unit".into())
+}
+
+pub(crate) fn holds(unit: &Unit, location: usize, bytes: &[u8]) -> bool {
+    let rest = unit.bank1().get(location..).unwrap_or_default();
+    rest.starts_with(bytes)
+}
+
+// Runs a case, and tells whether all is as it should be.
+pub(crate) fn judge(rt: &impl Abort, alloc: Global, case: &Case<'_>) -> Result<(), Fail> {
+    let name = case.name;
+    let mut bus = bus_of(alloc, case)?;
+    let outcome = run_case(alloc, &mut bus, case)?;
+    let answers = answers_of(alloc, &outcome.trace)?;
+    assert_eq!(rt; answers.as_slice(), case.answers, "{name}");
+    assert_eq!(rt; frames_of(&outcome.trace), case.frames, "{name}");
+    assert_eq!(rt; outcome.journal.len(), case.journal, "{name}");
+    assert!(rt; outcome.journal.ends_with(case.ending), "{name}");
+    for &(address, location, bytes) in case.held {
+        let unit = unit_at(&bus, address)?;
+        assert!(rt; holds(unit, location, bytes), "{name} at {location}");
+    }
+    for unit in bus.units() {
+        assert!(rt; !unit.is_enabled(), "{name}");
+        assert!(rt; unit.bank2().starts_with(&BANK_2), "{name}");
+    }
+    Ok(())
+}

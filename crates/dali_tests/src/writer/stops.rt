@@ -1,0 +1,262 @@
+use crate::gtin::GTIN;
+use crate::writer::case::{
+    Case, DONE, Deed, ENOUGH, PLAIN, STORED, TAKEN, bus_of, events_of, frames_of, judge, put,
+};
+use dali_bank::{BLANK, Order};
+use dali_gear::{Bus, SimBus, Unit};
+use dali_journal::{Code, Record};
+use dali_writer::{Event, Happening, Outcome, RunFault, run_sim};
+use std::alloc::Global;
+use std::process::Abort;
+use std::test::Fail;
+
+const BEGAN_CUT: Case<'static> = Case {
+    name: "Began is cut, and the order taken again",
+    deeds: &[
+        Deed::Submit(1, 5, &GTIN),
+        Deed::Stop(22),
+        Deed::Submit(1, 5, &GTIN),
+        Deed::Steps(ENOUGH),
+    ],
+    answers: &[(1, TAKEN, 0), (1, TAKEN, 0), (1, DONE, 96)],
+    ..PLAIN
+};
+
+const BEGAN_WHOLE: Case<'static> = Case {
+    name: "Began is whole",
+    deeds: &[
+        Deed::Submit(1, 5, &GTIN),
+        Deed::Stop(400),
+        Deed::Steps(ENOUGH),
+    ],
+    ..PLAIN
+};
+
+const ENDED_CUT: Case<'static> = Case {
+    name: "Ended is cut",
+    deeds: &[
+        Deed::Submit(1, 5, &GTIN),
+        Deed::Steps(98),
+        Deed::Stop(1),
+        Deed::Steps(ENOUGH),
+    ],
+    answers: &[(1, TAKEN, 0), (1, DONE, 187)],
+    frames: 187,
+    ..PLAIN
+};
+
+const ENDED_WHOLE: Case<'static> = Case {
+    name: "Ended is whole, and not said",
+    deeds: &[
+        Deed::Submit(1, 5, &GTIN),
+        Deed::Steps(98),
+        Deed::Stop(2),
+        Deed::Steps(ENOUGH),
+    ],
+    answers: &[(1, TAKEN, 0)],
+    ..PLAIN
+};
+
+#[test]
+fn records_cut_and_whole(rt: HostRuntime) -> Result<(), Fail> {
+    judge(&rt, rt.alloc(), &BEGAN_CUT)?;
+    judge(&rt, rt.alloc(), &BEGAN_WHOLE)?;
+    judge(&rt, rt.alloc(), &ENDED_CUT)?;
+    judge(&rt, rt.alloc(), &ENDED_WHOLE)
+}
+
+// The units that the three submissions are for, each with the number of its order, and how many steps
+// each takes with no stop: order 1 leaves unit 5 open, order 2 is blocked, and then done.
+const SUBMISSIONS: [(u64, u8, usize); 3] = [(1, 5, 89), (2, 6, 49), (2, 6, 113)];
+
+// As many steps after each submission as it takes, wherever a stop comes.
+const STEPS: usize = 300;
+
+const LEFT: Case<'static> = Case {
+    lost: &[(6, 133)],
+    ..PLAIN
+};
+
+// The submissions, each with its steps, and a stop after so many of one of them.
+fn events_with_a_stop(
+    alloc: Global,
+    submission: usize,
+    step: usize,
+    bytes: u16,
+) -> Result<Vec<Event>, RunFault> {
+    let mut events = Vec::new(alloc);
+    for (number, &(id, unit, _)) in SUBMISSIONS.iter().enumerate() {
+        if let Some(order) = Order::from_pairs(id, unit, &GTIN) {
+            put(&mut events, Event::Submit(order))?;
+        }
+        for made in 0..STEPS {
+            if number == submission && made == step {
+                put(&mut events, Event::Stop(bytes))?;
+            }
+            put(&mut events, Event::Step)?;
+        }
+    }
+    Ok(events)
+}
+
+// What a unit's six locations may hold, and whether it was ever opened.
+#[derive(Clone, Copy)]
+enum May {
+    HoldOld,
+    HoldEither,
+    HoldNew,
+}
+
+#[derive(Clone, Copy)]
+struct Allowed {
+    unit: u8,
+    may: May,
+    was_opened: bool,
+}
+
+impl Allowed {
+    fn holds(&self, location: usize, byte: u8) -> bool {
+        let old = BLANK.get(location) == Some(&byte);
+        let new = STORED.get(location.wrapping_sub(3)) == Some(&byte);
+        match location {
+            2 => old || self.was_opened,
+            3..=8 => match self.may {
+                May::HoldOld => old,
+                May::HoldEither => old || new,
+                May::HoldNew => new,
+            },
+            _ => old,
+        }
+    }
+
+    fn allows(&self, unit: &Unit) -> bool {
+        if unit.address() != self.unit {
+            return true;
+        }
+        for (location, &byte) in unit.bank1().iter().enumerate() {
+            if !self.holds(location, byte) {
+                return false;
+            }
+        }
+        true
+    }
+
+    // The same after a record of the unit's order.
+    fn after(self, entry: &Record) -> Allowed {
+        let may = match entry {
+            Record::Opened(_) => May::HoldEither,
+            Record::Ended(Code::Done) => May::HoldNew,
+            _ => self.may,
+        };
+        let was_opened = self.was_opened || matches!(entry, Record::Opened(_));
+        Allowed {
+            may,
+            was_opened,
+            ..self
+        }
+    }
+}
+
+// Carries the frames of a trace again, and tells whether each unit holds at each moment what the
+// records so far allow.
+fn judge_moments(
+    rt: &impl Abort,
+    alloc: Global,
+    outcome: &Outcome,
+    place: usize,
+) -> Result<(), Fail> {
+    let mut bus = bus_of(alloc, &LEFT)?;
+    let mut allowed = [5, 6].map(|unit| Allowed {
+        unit,
+        may: May::HoldOld,
+        was_opened: false,
+    });
+    let mut at_work = 0;
+    for happening in outcome.trace.iter() {
+        match happening {
+            Happening::Sent(frame, answer) => {
+                assert!(rt; frame.is_proper(), "{place}");
+                let again = bus.carry(frame);
+                assert_eq!(rt; again, *answer, "{place}");
+            }
+            Happening::Kept(entry) => {
+                if let Record::Began(order) = entry {
+                    at_work = order.unit();
+                }
+                for rule in allowed.iter_mut() {
+                    if rule.unit == at_work {
+                        *rule = rule.after(entry);
+                    }
+                }
+            }
+            _ => {}
+        }
+        for unit in bus.units() {
+            for rule in &allowed {
+                assert!(rt; rule.allows(unit), "{place}");
+            }
+        }
+    }
+    Ok(())
+}
+
+#[test]
+fn a_stop_after_each_step(rt: HostRuntime) -> Result<(), Fail> {
+    let alloc = rt.alloc();
+    for (submission, &(_, _, steps)) in SUBMISSIONS.iter().enumerate() {
+        for step in 0..=steps {
+            for bytes in [0, 1, 22, 400] {
+                let events = events_with_a_stop(alloc, submission, step, bytes)?;
+                let mut bus = bus_of(alloc, &LEFT)?;
+                let outcome = run_sim(alloc, &mut bus, 10, &events)?;
+                judge_moments(&rt, alloc, &outcome, step)?;
+            }
+        }
+    }
+    Ok(())
+}
+
+const CUT: Case<'static> = Case {
+    deeds: &[
+        Deed::Submit(1, 5, &GTIN),
+        Deed::Steps(6),
+        Deed::Stop(1),
+        Deed::Steps(100),
+        Deed::Stop(2),
+    ],
+    ..PLAIN
+};
+
+// Whether the units of two buses are in the same state.
+fn are_same(one: &SimBus, other: &SimBus) -> bool {
+    for (mine, theirs) in one.units().iter().zip(other.units()) {
+        if mine.bank1() != theirs.bank1() || mine.dtrs() != theirs.dtrs() {
+            return false;
+        }
+    }
+    true
+}
+
+// `./test` runs this one again and again, with each allocation refused in turn: a run that ends for
+// want of memory leaves the bus as some of the events leave it, the first of which send as many frames.
+#[test]
+fn a_refused_run_leaves_the_bus_there(rt: HostRuntime) -> Result<(), Fail> {
+    let alloc = rt.alloc();
+    let events = events_of(alloc, CUT.deeds)?;
+    let mut bus = bus_of(alloc, &CUT)?;
+    let fates = bus.fates_left();
+    let Err(fault) = run_sim(alloc, &mut bus, CUT.limit, &events) else {
+        return Ok(());
+    };
+    let sent = fates.saturating_sub(bus.fates_left());
+    for served in 0..=events.len() {
+        let mut again = bus_of(alloc, &CUT)?;
+        let first = events.get(..served).unwrap_or_default();
+        let outcome = run_sim(alloc, &mut again, CUT.limit, first)?;
+        if frames_of(&outcome.trace) == sent {
+            assert!(rt; are_same(&bus, &again), "{served}");
+            return Err(fault.into());
+        }
+    }
+    Err("no events leave the bus so".into())
+}

@@ -1,5 +1,0 @@
-use Rattle.dali_writer.proofs.BlankLemmas.{goes_along}
-use Rattle.dali_writer.proofs.tests.worked.a_blank_unit_goes_along.Goals as goal
-
-pub returns : goal.returns
-returns c = goes_along

@@ -1,5 +1,0 @@
-use Rattle.dali_writer.proofs.WorkedDriveLemmas.{not_empty}
-use Rattle.dali_writer.proofs.tests.worked_drives.other_sittings.Goals as goal
-
-pub returns-clause-file : goal.returns-clause-file
-returns-clause-file c = not_empty

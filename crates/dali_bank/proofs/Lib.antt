@@ -6,3 +6,4 @@ pub mod LayoutLemmas
 pub mod LawLemmas
 pub mod OrderLemmas
 pub mod UpdateLemmas
+pub mod WorkedFieldLemmas

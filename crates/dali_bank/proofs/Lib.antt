@@ -7,3 +7,4 @@ pub mod LawLemmas
 pub mod OrderLemmas
 pub mod UpdateLemmas
 pub mod WorkedFieldLemmas
+pub mod IdentificationLemmas

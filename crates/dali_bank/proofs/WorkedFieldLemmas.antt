@@ -36,8 +36,11 @@ not_empty bytes are = omega (arith, are.0.some)
 
 pub as_long_as_the_field : IsText 2 (0x41 ∷ 0x42 ∷ [])
 as_long_as_the_field =
-    record { some = omega arith; few = omega arith;
-      characters = ((omega arith, omega arith), ((omega arith, omega arith), tt)) }
+    record {
+      some = omega arith;
+      few = omega arith;
+      characters = ((omega arith, omega arith), ((omega arith, omega arith), tt));
+    }
 
 pub not_longer : IsText 2 (0x41 ∷ 0x42 ∷ 0x43 ∷ []) → ⊥
 not_longer is = omega (arith, is.few)
@@ -81,9 +84,14 @@ pub not_shown_past_the_end : (n : ℕ) → IsFormShown (form.Number 0 99) 1 [] (
 not_shown_past_the_end n is = omega (arith, is.1.2.sized)
 
 pub shown_as_its_number : IsFormShown (form.Number 0 99) 1 (26 ∷ []) (Number 26)
-shown_as_its_number =
-    (λ same. omega (arith, ap (λ (bytes : List ℕ). get_or bytes 0 0) same), (omega arith, omega arith,
-      record { sized = refl; in_range = (omega arith, tt); adds_up = refl }))
+shown_as_its_number = (
+  λ same. omega (arith, ap (λ (bytes : List ℕ). get_or bytes 0 0) same),
+  (
+    omega arith,
+    omega arith,
+    record { sized = refl; in_range = (omega arith, tt); adds_up = refl },
+  ),
+)
 
 pub unknown_is_not_raw : IsFormShown (form.Number 0 99) 1 (0xFF ∷ []) Raw → ⊥
 unknown_is_not_raw is = is.0 refl

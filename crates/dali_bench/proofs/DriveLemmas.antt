@@ -9,7 +9,7 @@ use Rattle.dali_input.specs.declared.item.ItemFault.{ItemFault}
 use Rattle.dali_drive.specs.declared.fault.DriveFault.{DriveFault}
 use Rattle.dali_drive.specs.Driven.{IsDrive, IsBrokenDrive}
 use Rattle.dali_writer.specs.Held.{Held, start_of}
-use Rattle.dali_writer.specs.Trace.{Start}
+use Rattle.dali_trace.specs.Trace.{Start}
 use Rattle.dali_drive.specs.Transcript.{Streams}
 use Rattle.dali_bench.specs.declared.fault.Status.{Status}
 use Rattle.dali_bench.specs.declared.fault.Status.TheVariants.{Good}

@@ -5,7 +5,7 @@ use Rattle.dali_gear.specs.SimState.{SimState}
 use Rattle.dali_journal.specs.JournalState.{IsLimit}
 use Rattle.dali_writer.specs.declared.fault.RunFault.{RunFault}
 use Rattle.dali_writer.specs.declared.fault.RunFault.TheVariants.{Limit, NoMemory}
-use Rattle.dali_writer.specs.declared.happening.Event.{Event}
+use Rattle.dali_trace.specs.declared.happening.Event.{Event}
 use Rattle.dali_input.specs.Scenario.{Planned}
 use Rattle.dali_input.specs.Setup.{IsReady}
 use Rattle.dali_bench.specs.declared.fault.Fault.TheVariants.{Run}

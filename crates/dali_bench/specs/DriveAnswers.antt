@@ -11,7 +11,7 @@ use Rattle.dali_drive.specs.declared.fault.DriveFault.{DriveFault}
 use Rattle.dali_drive.specs.declared.fault.DriveFault.TheVariants.{Out}
 use Rattle.dali_drive.specs.Driven.{IsDrive, IsBrokenDrive}
 use Rattle.dali_writer.specs.Held.{Held}
-use Rattle.dali_writer.specs.Trace.{Start}
+use Rattle.dali_trace.specs.Trace.{Start}
 use Rattle.dali_drive.specs.Transcript.{Streams}
 use Rattle.dali_bench.specs.declared.fault.Fault.{Fault}
 use Rattle.dali_bench.specs.declared.fault.Fault.TheVariants.{Input, Drive}

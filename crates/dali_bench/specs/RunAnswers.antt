@@ -7,9 +7,9 @@ use Rattle.dali_gear.specs.UnitState.{UnitState}
 use Rattle.dali_gear.specs.Unenabled.{NoneEnabled}
 use Rattle.dali_journal.specs.JournalState.{IsLimit}
 use Rattle.dali_writer.specs.declared.fault.RunFault.TheVariants.{Limit, NoMemory}
-use Rattle.dali_writer.specs.declared.happening.Event.{Event}
-use Rattle.dali_writer.specs.declared.happening.Happening.{Happening}
-use Rattle.dali_writer.specs.Spared.{IsSimRun}
+use Rattle.dali_trace.specs.declared.happening.Event.{Event}
+use Rattle.dali_trace.specs.declared.happening.Happening.{Happening}
+use Rattle.dali_trace.specs.Spared.{IsSimRun}
 use Rattle.dali_text.specs.RunText.{run_text}
 use Rattle.dali_input.specs.Input.{IsJson, IsNoJson, IsReadFailure, ReadsInput}
 use Rattle.dali_input.specs.declared.fault.InputFault.{InputFault}

@@ -1,6 +1,6 @@
 ghost use Rattle.std.specs.Prelude.{◌≡◌, ◌≢◌, List, ℕ, IfOk, IfErr, length, reverse};
 ghost use Rattle.std.specs.Io.KnownBytes.{Appends};
-ghost use Rattle.dali_writer.specs.Runs.{SendsAllProper};
+ghost use Rattle.dali_trace.specs.Runs.{SendsAllProper};
 ghost use Rattle.dali_text.specs.RunText.{run_text};
 ghost use Rattle.dali_input.specs.Input.{ReadsAtMost};
 ghost use Rattle.dali_bench.specs.RunAnswers.{IsRan, IsRunAnswer, IsUnrun, scenario_limit};

@@ -7,17 +7,17 @@ use Rattle.dali_frame.specs.declared.forward.Frame.{Frame}
 use Rattle.dali_bank.specs.Order.{Contents}
 use Rattle.dali_journal.specs.declared.record.Record.{Record}
 use Rattle.dali_journal.specs.Spelling.{spelling, IsRecord}
-use Rattle.dali_writer.specs.declared.happening.Reply.{Reply}
-use Rattle.dali_writer.specs.declared.happening.Reply.TheVariants as replies
-use Rattle.dali_writer.specs.declared.happening.Happening.{Happening}
-use Rattle.dali_writer.specs.declared.happening.Happening.TheVariants.{Asked, Answered, Sent, Kept}
+use Rattle.dali_trace.specs.declared.happening.Reply.{Reply}
+use Rattle.dali_trace.specs.declared.happening.Reply.TheVariants as replies
+use Rattle.dali_trace.specs.declared.happening.Happening.{Happening}
+use Rattle.dali_trace.specs.declared.happening.Happening.TheVariants.{Asked, Answered, Sent, Kept}
 use Rattle.dali_drive.specs.declared.fault.DriveFault.{DriveFault}
 use Rattle.dali_drive.specs.declared.fault.DriveFault.TheVariants.{Journal, Link, Line, End, NoMemory, TooLong, Out}
-use Rattle.dali_writer.specs.Trace.{Start, is_busy}
-use Rattle.dali_writer.specs.Replies.{IsReply}
-use Rattle.dali_writer.specs.Legal.{Legal, IsFinished}
-use Rattle.dali_writer.specs.ByPlan.{ByPlan}
-use Rattle.dali_writer.specs.Next.{IsNext}
+use Rattle.dali_trace.specs.Trace.{Start, is_busy}
+use Rattle.dali_trace.specs.Replies.{IsReply}
+use Rattle.dali_trace.specs.Legal.{Legal, IsFinished}
+use Rattle.dali_trace.specs.ByPlan.{ByPlan}
+use Rattle.dali_trace.specs.Next.{IsNext}
 use Rattle.dali_writer.specs.Held.{Held}
 use Rattle.dali_writer.specs.Describes.{Describes}
 use Rattle.dali_writer.specs.Follows.{Follows}

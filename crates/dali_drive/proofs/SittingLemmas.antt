@@ -13,24 +13,24 @@ use Rattle.dali_journal.specs.declared.record.Record.{Record}
 use Rattle.dali_journal.specs.Spelling.{spelling, journal_spelling, IsRecord}
 use Rattle.dali_journal.specs.Loading.{AreKept}
 use Rattle.dali_journal.proofs.TornLemmas.{torn_no_fault}
-use Rattle.dali_writer.specs.declared.happening.Happening.{Happening}
-use Rattle.dali_writer.specs.declared.happening.Happening.TheVariants.{Asked, Answered, Sent, Kept, Stopped}
+use Rattle.dali_trace.specs.declared.happening.Happening.{Happening}
+use Rattle.dali_trace.specs.declared.happening.Happening.TheVariants.{Asked, Answered, Sent, Kept, Stopped}
 use Rattle.dali_drive.specs.declared.fault.DriveFault.{DriveFault}
 use Rattle.dali_drive.specs.declared.fault.DriveFault.TheVariants.{Journal, Link, Line, End, NoMemory, TooLong, Out}
-use Rattle.dali_writer.specs.Trace.{Start, records_of}
-use Rattle.dali_writer.specs.Legal.{Legal, IsFinished}
-use Rattle.dali_writer.specs.ByPlan.{ByPlan}
-use Rattle.dali_writer.specs.Next.{IsNext}
+use Rattle.dali_trace.specs.Trace.{Start, records_of}
+use Rattle.dali_trace.specs.Legal.{Legal, IsFinished}
+use Rattle.dali_trace.specs.ByPlan.{ByPlan}
+use Rattle.dali_trace.specs.Next.{IsNext}
 use Rattle.dali_writer.specs.Held.{Held}
 use Rattle.dali_drive.specs.Transcript.{Streams, recorded}
 use Rattle.dali_drive.specs.Driven.{KeepsRecords, IsDriven, IsDrive, IsBrokenDrive, BrokenOff, AppendsPart, CutFrame, Unanswered}
-use Rattle.dali_writer.specs.Joined.{Sitting, joined, FollowOn}
-use Rattle.dali_writer.specs.Moves.{Moves}
-use Rattle.dali_writer.specs.Fits.{Fits, OnlyNamed}
+use Rattle.dali_laws.specs.Joined.{Sitting, joined, FollowOn}
+use Rattle.dali_trace.specs.Moves.{Moves}
+use Rattle.dali_trace.specs.Fits.{Fits, OnlyNamed}
 use Rattle.dali_drive.specs.Sittings.{IsFileOf, after, MayHaveHappened, WasDriven, AreSittings, LeavesFile, ActOnce}
-use Rattle.dali_writer.proofs.JoinLemmas.{joined_records, joined_sittings, sittings_right}
-use Rattle.dali_writer.proofs.TakenLemmas.{kept_are_taken}
-use Rattle.dali_writer.proofs.RepeatLemmas.{legal_sentence}
+use Rattle.dali_laws.proofs.JoinLemmas.{joined_records, joined_sittings, sittings_right}
+use Rattle.dali_laws.proofs.TakenLemmas.{kept_are_taken}
+use Rattle.dali_laws.proofs.RepeatLemmas.{legal_sentence}
 use Rattle.dali_writer.proofs.StopLemmas.{cut_of_none, cut_of_some}
 
 -- what happened is legal and by plan

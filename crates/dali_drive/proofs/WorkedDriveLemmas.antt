@@ -9,19 +9,19 @@ use Rattle.dali_journal.specs.declared.record.Record.{Record}
 use Rattle.dali_journal.specs.declared.record.Record.TheVariants.{Began, Opened, Ended, Closed}
 use Rattle.dali_journal.specs.Spelling.{IsRecord}
 use Rattle.dali_write.proofs.NextLemmas.{none_ended}
-use Rattle.dali_writer.specs.declared.happening.Reply.TheVariants as replies
-use Rattle.dali_writer.specs.declared.happening.Happening.TheVariants.{Sent, Kept}
+use Rattle.dali_trace.specs.declared.happening.Reply.TheVariants as replies
+use Rattle.dali_trace.specs.declared.happening.Happening.TheVariants.{Sent, Kept}
 use Rattle.dali_drive.specs.declared.fault.DriveFault.TheVariants as faults
-use Rattle.dali_writer.specs.Next.{IsNext}
+use Rattle.dali_trace.specs.Next.{IsNext}
 use Rattle.dali_drive.specs.Lines.{reply_line, IsAnswerLine}
 use Rattle.dali_drive.specs.Transcript.{Streams}
 use Rattle.dali_drive.specs.Driven.{IsDriven, BrokenOff}
 use Rattle.dali_drive.specs.Sittings.{IsFileOf, after}
-use Rattle.dali_writer.specs.Worked.{empty, first_order, begun}
-use Rattle.dali_writer.specs.WorkedPlans.{half_tried}
+use Rattle.dali_trace.specs.Worked.{empty, first_order, begun}
+use Rattle.dali_trace.specs.WorkedPlans.{half_tried}
 use Rattle.dali_drive.specs.WorkedDrives.{before_two, after_two, torn_file}
-use Rattle.dali_writer.proofs.WorkedLemmas.{begun_legal}
-use Rattle.dali_writer.proofs.WorkedPlanLemmas.{first_planned, not_another_first, next_frame_planned}
+use Rattle.dali_trace.proofs.WorkedLemmas.{begun_legal}
+use Rattle.dali_trace.proofs.WorkedPlanLemmas.{first_planned, not_another_first, next_frame_planned}
 use Rattle.dali_drive.proofs.SittingLemmas.{one_file}
 
 first_is_record : IsRecord (Began first_order)

@@ -7,8 +7,8 @@ use Rattle.dali_frame.specs.Frame.{spelling}
 use Rattle.dali_frame.specs.Line.{word_line, SpellsAnswer, HasFault}
 use Rattle.dali_drive.specs.declared.fault.DriveFault.{DriveFault}
 use Rattle.dali_drive.specs.declared.fault.DriveFault.TheVariants.{Link, Line, End, TooLong}
-use Rattle.dali_writer.specs.declared.happening.Reply.{Reply}
-use Rattle.dali_writer.specs.Replies.{reply_text}
+use Rattle.dali_trace.specs.declared.happening.Reply.{Reply}
+use Rattle.dali_trace.specs.Replies.{reply_text}
 
 -- the line of a frame: the four upper-case hexadecimal digits of its word
 abbrev pub frame_line : Frame → List ℕ

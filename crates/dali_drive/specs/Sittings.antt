@@ -5,15 +5,15 @@ use Rattle.dali_gear.specs.World.{World}
 use Rattle.dali_gear.specs.Chain.{AtEachMoment}
 use Rattle.dali_journal.specs.Loading.{AreKept, IsTorn}
 use Rattle.dali_drive.specs.declared.fault.DriveFault.{DriveFault}
-use Rattle.dali_writer.specs.declared.happening.Happening.{Happening}
-use Rattle.dali_writer.specs.Trace.{Start, records_of}
-use Rattle.dali_writer.specs.Legal.{IsFinished}
-use Rattle.dali_writer.specs.Next.{IsNext}
+use Rattle.dali_trace.specs.declared.happening.Happening.{Happening}
+use Rattle.dali_trace.specs.Trace.{Start, records_of}
+use Rattle.dali_trace.specs.Legal.{IsFinished}
+use Rattle.dali_trace.specs.Next.{IsNext}
 use Rattle.dali_drive.specs.Transcript.{Streams}
 use Rattle.dali_drive.specs.Driven.{IsDriven, IsBrokenDrive}
-use Rattle.dali_writer.specs.Taken.{taken_orders, begun_orders}
-use Rattle.dali_writer.specs.Law.{IsRight}
-use Rattle.dali_writer.specs.Joined.{Sitting, joined, IsOneTrace}
+use Rattle.dali_trace.specs.Taken.{taken_orders, begun_orders}
+use Rattle.dali_trace.specs.Moments.{IsRight}
+use Rattle.dali_laws.specs.Joined.{Sitting, joined, IsOneTrace}
 
 -- a journal's file: the bytes of these records, so many, and behind them at most a cut one. That is what `Journal::load` finds in them
 pub record IsFileOf (bytes : List ℕ) (start : Start) (len : ℕ) : Type 0 where

@@ -3,8 +3,8 @@ use Rattle.std.specs.Prelude.{◌++◌, ℕ, List, [], ◌∷◌, Some, codes}
 use Rattle.dali_journal.specs.declared.record.Record.TheVariants.{Began}
 use Rattle.dali_journal.specs.Spelling.{spelling}
 use Rattle.dali_drive.specs.Transcript.{Streams, shown}
-use Rattle.dali_writer.specs.Joined.{Sitting}
-use Rattle.dali_writer.specs.Worked.{empty, first_order, begun}
+use Rattle.dali_laws.specs.Joined.{Sitting}
+use Rattle.dali_trace.specs.Worked.{empty, first_order, begun}
 
 -- an order is begun and two frames are sent and answered: the streams before and after, with one line that is still to be read
 abbrev pub before_two : Streams

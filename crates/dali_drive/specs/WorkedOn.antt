@@ -1,9 +1,9 @@
 -- What a drive has come to in its midst.
 use Rattle.std.specs.Prelude.{◌≡◌, List, Result, Ok, Err}
 use Rattle.dali_bank.specs.Order.{Contents}
-use Rattle.dali_writer.specs.declared.happening.Happening.{Happening}
+use Rattle.dali_trace.specs.declared.happening.Happening.{Happening}
 use Rattle.dali_drive.specs.declared.fault.DriveFault.{DriveFault}
-use Rattle.dali_writer.specs.Trace.{Start}
+use Rattle.dali_trace.specs.Trace.{Start}
 use Rattle.dali_writer.specs.Held.{Held}
 use Rattle.dali_writer.specs.Describes.{Describes}
 use Rattle.dali_writer.specs.Follows.{Follows}

@@ -11,8 +11,8 @@ use Rattle.dali_gear.specs.SimState.{world_of}
 use Rattle.dali_gear.specs.Unenabled.{NoneEnabled}
 use Rattle.dali_gear.specs.UnitState.{UnitState, gear_of}
 use Rattle.dali_gear.specs.World.{Gear, is_open}
-use Rattle.dali_writer.specs.declared.happening.Event.{Event}
-use Rattle.dali_writer.specs.declared.happening.Event.TheVariants as events
+use Rattle.dali_trace.specs.declared.happening.Event.{Event}
+use Rattle.dali_trace.specs.declared.happening.Event.TheVariants as events
 use Rattle.serde_json.specs.Data.{Data}
 use Rattle.dali_input.specs.declared.fault.InputFault.TheVariants.{Json, Document, TooBig, Hex, Memory, File}
 use Rattle.dali_input.specs.declared.item.ItemFault.{ItemFault}

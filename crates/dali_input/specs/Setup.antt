@@ -8,8 +8,8 @@ use Rattle.dali_gear.specs.declared.fault.GearFault.TheVariants.{NoMemory}
 use Rattle.dali_gear.specs.Faults.{IsBank, AreFixed, IsUnitFault}
 use Rattle.dali_gear.specs.SimState.{AreApart}
 use Rattle.dali_gear.specs.UnitState.{UnitState, new_unit}
-use Rattle.dali_writer.specs.declared.happening.Event.{Event}
-use Rattle.dali_writer.specs.declared.happening.Event.TheVariants as events
+use Rattle.dali_trace.specs.declared.happening.Event.{Event}
+use Rattle.dali_trace.specs.declared.happening.Event.TheVariants as events
 use Rattle.serde_json.specs.Data.{Data}
 use Rattle.dali_input.specs.declared.fault.InputFault.TheVariants.{TooBig, Memory}
 use Rattle.dali_input.specs.declared.item.ItemFault.{ItemFault}

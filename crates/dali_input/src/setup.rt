@@ -1,6 +1,6 @@
 ghost use Rattle.std.specs.Prelude.{◌≡◌, ◌≢◌, ◌++◌, List, IfOk, IfErr, OnOk, map, replicate};
 ghost use Rattle.dali_gear.specs.Faults.{IsUnitFault};
-ghost use Rattle.dali_writer.specs.declared.happening.Event.TheVariants.{Step};
+ghost use Rattle.dali_trace.specs.declared.happening.Event.TheVariants.{Step};
 ghost use Rattle.dali_input.specs.Scenario.{PlannedUnit, event_of, planned_of, unit_of};
 ghost use Rattle.dali_input.specs.Setup.{AreEvents, AreUnits, IsFirstUnitFault, IsMakeable, IsOrderRefusal, IsRefused, IsReady, IsUnitRefusal, fates_of as expanded, made_unit as made};
 

@@ -5,9 +5,9 @@ use Rattle.std.specs.Io.KnownBytes.{Appends}
 use Rattle.std.proofs.lemmas.List.{flat_map_more, reverse-append, take_more}
 use Rattle.dali_frame.specs.declared.forward.Frame.{Frame}
 use Rattle.dali_gear.specs.UnitState.{UnitState}
-use Rattle.dali_writer.specs.declared.happening.Happening.{Happening}
-use Rattle.dali_writer.specs.declared.happening.Happening.TheVariants.{Asked, Answered, Sent, Kept, Stopped}
-use Rattle.dali_writer.specs.Runs.{SendsAllProper, SendsProper}
+use Rattle.dali_trace.specs.declared.happening.Happening.{Happening}
+use Rattle.dali_trace.specs.declared.happening.Happening.TheVariants.{Asked, Answered, Sent, Kept, Stopped}
+use Rattle.dali_trace.specs.Runs.{SendsAllProper, SendsProper}
 use Rattle.dali_text.specs.RunText.{frames_ahead, frames_line, happening_line, is_sent, run_line, summary}
 use Rattle.dali_text.specs.UnitLines.{group_line, unit_text}
 use Rattle.dali_text.proofs.StreamLemmas.{appends_both}

@@ -4,9 +4,9 @@ use Rattle.std.specs.List.{flat_map}
 use Rattle.dali_frame.specs.Frame.{spelling}
 use Rattle.dali_frame.specs.Hex.{byte_digits, word_digits}
 use Rattle.dali_gear.specs.UnitState.{UnitState}
-use Rattle.dali_writer.specs.declared.happening.Happening.{Happening}
-use Rattle.dali_writer.specs.declared.happening.Happening.TheVariants.{Asked, Answered, Sent, Kept, Stopped}
-use Rattle.dali_writer.specs.Replies.{reply_text}
+use Rattle.dali_trace.specs.declared.happening.Happening.{Happening}
+use Rattle.dali_trace.specs.declared.happening.Happening.TheVariants.{Asked, Answered, Sent, Kept, Stopped}
+use Rattle.dali_trace.specs.Replies.{reply_text}
 use Rattle.dali_text.specs.RecordText.{record_text}
 use Rattle.dali_text.specs.UnitLines.{unit_text}
 

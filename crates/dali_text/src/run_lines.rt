@@ -2,8 +2,8 @@ ghost use Rattle.std.specs.Prelude.{◌≡◌, false, OnOk, length, reverse};
 ghost use Rattle.std.specs.Io.KnownBytes.{Appends};
 ghost use Rattle.std.specs.List.{AllByRecursion, flat_map};
 ghost use Rattle.dali_frame.specs.Frame.{IsProper};
-ghost use Rattle.dali_writer.specs.declared.happening.Happening.TheVariants.{Sent};
-ghost use Rattle.dali_writer.specs.Runs.{SendsAllProper, SendsProper};
+ghost use Rattle.dali_trace.specs.declared.happening.Happening.TheVariants.{Sent};
+ghost use Rattle.dali_trace.specs.Runs.{SendsAllProper, SendsProper};
 ghost use Rattle.dali_text.specs.RunText.{happening_line, run_line, run_text, summary, total as total_sent, trace_text};
 ghost use Rattle.dali_text.specs.UnitLines.{unit_text};
 

@@ -6,18 +6,18 @@ use Rattle.dali_gear.specs.Carry.{BusEvent, Carried, WorldStep}
 use Rattle.dali_gear.specs.Chain.{IsChain, AtEachMoment, Chain}
 use Rattle.dali_gear.specs.Unenabled.{NoneEnabled}
 use Rattle.dali_journal.specs.declared.record.Record.{Record}
-use Rattle.dali_writer.specs.declared.happening.Happening.{Happening}
-use Rattle.dali_writer.specs.declared.happening.Happening.TheVariants.{Asked, Answered, Sent, Kept, Stopped}
-use Rattle.dali_writer.specs.Trace.{Start}
-use Rattle.dali_writer.specs.Legal.{Legal}
-use Rattle.dali_writer.specs.Moves.{MovesBy, Moves}
-use Rattle.dali_writer.specs.Fits.{Fits, OnlyNamed}
-use Rattle.dali_writer.specs.Law.{IsRight}
-use Rattle.dali_writer.specs.Runs.{fresh, LeadsRight}
+use Rattle.dali_trace.specs.declared.happening.Happening.{Happening}
+use Rattle.dali_trace.specs.declared.happening.Happening.TheVariants.{Asked, Answered, Sent, Kept, Stopped}
+use Rattle.dali_trace.specs.Trace.{Start}
+use Rattle.dali_trace.specs.Legal.{Legal}
+use Rattle.dali_trace.specs.Moves.{MovesBy, Moves}
+use Rattle.dali_trace.specs.Fits.{Fits, OnlyNamed}
+use Rattle.dali_trace.specs.Moments.{IsRight}
+use Rattle.dali_trace.specs.Runs.{fresh, LeadsRight}
 use Rattle.dali_writer.specs.Held.{Held}
 use Rattle.dali_writer.specs.Describes.{Describes}
-use Rattle.dali_writer.specs.WhenKept.{WhenKept}
-use Rattle.dali_writer.proofs.MomentLemmas.{every_moment, each_kept}
+use Rattle.dali_trace.specs.WhenKept.{WhenKept}
+use Rattle.dali_laws.proofs.MomentLemmas.{every_moment, each_kept}
 
 -- a longer trace that is written oldest first describes the same writer
 pub onto : (start : Start) (w : Held) (trace new : List Happening) (next : Happening) → new ≡ trace ++ next ∷ [] → Describes start (next ∷ reverse trace) w → Describes start (reverse new) w

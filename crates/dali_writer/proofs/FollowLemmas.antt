@@ -17,19 +17,19 @@ use Rattle.dali_write.specs.Told.{Told, unit_of, aim_of}
 use Rattle.dali_write.specs.Verdicts.{EndsFresh, EndsOpened}
 use Rattle.dali_write.proofs.KindLemmas.{fresh_ends, opened_ends}
 use Rattle.dali_write.proofs.SessionLemmas.{fresh_wants, opened_wants, closing_wants, closing_over}
-use Rattle.dali_writer.specs.declared.happening.Reply.{Reply}
-use Rattle.dali_writer.specs.declared.happening.Reply.TheVariants as replies
-use Rattle.dali_writer.specs.declared.happening.Happening.{Happening}
-use Rattle.dali_writer.specs.declared.happening.Happening.TheVariants.{Asked, Answered, Sent, Kept}
-use Rattle.dali_writer.specs.declared.happening.Want.TheVariants.{Keep, Say}
+use Rattle.dali_trace.specs.declared.happening.Reply.{Reply}
+use Rattle.dali_trace.specs.declared.happening.Reply.TheVariants as replies
+use Rattle.dali_trace.specs.declared.happening.Happening.{Happening}
+use Rattle.dali_trace.specs.declared.happening.Happening.TheVariants.{Asked, Answered, Sent, Kept}
+use Rattle.dali_trace.specs.declared.happening.Want.TheVariants.{Keep, Say}
 use Rattle.dali_writer.specs.declared.phase.Phase.{Phase}
 use Rattle.dali_writer.specs.declared.phase.Phase.TheVariants.{Idle, Begins, Checks, Writes, Closes, Says}
-use Rattle.dali_writer.specs.Trace.{Start, standing_at}
-use Rattle.dali_writer.specs.Replies.{IsKnownReply}
+use Rattle.dali_trace.specs.Trace.{Start, standing_at}
+use Rattle.dali_trace.specs.Replies.{IsKnownReply}
 use Rattle.dali_writer.specs.Phases.{want_of, check_record, write_code}
 use Rattle.dali_writer.specs.Held.{Held, IsReady, IsAfterCheck, IsFirst, IsResumed}
 use Rattle.dali_writer.specs.Describes.{Describes}
-use Rattle.dali_writer.specs.ByPlan.{told_in, Asks, EndsIn, IsPlanned}
+use Rattle.dali_trace.specs.ByPlan.{told_in, Asks, EndsIn, IsPlanned}
 use Rattle.dali_writer.specs.Follows.{IsTold, Follows}
 use Rattle.dali_writer.proofs.StepLemmas.{stands_so}
 use Rattle.dali_writer.proofs.SayLemmas.{no_check, no_write, blocks, not_closed}

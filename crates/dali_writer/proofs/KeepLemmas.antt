@@ -23,20 +23,20 @@ use Rattle.dali_write.specs.Findings.{Rests}
 use Rattle.dali_write.specs.Reads.{ReadStands, HasRead}
 use Rattle.dali_write.proofs.RestLemmas.{older_reads, rests_too}
 use Rattle.dali_write.proofs.SessionLemmas.{fresh_over, opened_over, closing_over}
-use Rattle.dali_writer.specs.declared.happening.Happening.{Happening}
-use Rattle.dali_writer.specs.declared.happening.Happening.TheVariants.{Kept}
-use Rattle.dali_writer.specs.declared.happening.Want.TheVariants.{Keep}
+use Rattle.dali_trace.specs.declared.happening.Happening.{Happening}
+use Rattle.dali_trace.specs.declared.happening.Happening.TheVariants.{Kept}
+use Rattle.dali_trace.specs.declared.happening.Want.TheVariants.{Keep}
 use Rattle.dali_writer.specs.declared.phase.Phase.{Phase}
 use Rattle.dali_writer.specs.declared.phase.Phase.TheVariants.{Begins, Checks, Writes, Closes, Says}
-use Rattle.dali_writer.specs.Trace.{Start, records_of, sent_of, sent_since_taken, waiting, is_at_work}
-use Rattle.dali_writer.specs.Grounds.{Grounds}
-use Rattle.dali_writer.specs.Legal.{IsDue, MayKeep}
+use Rattle.dali_trace.specs.Trace.{Start, records_of, sent_of, sent_since_taken, waiting, is_at_work}
+use Rattle.dali_trace.specs.Grounds.{Grounds}
+use Rattle.dali_trace.specs.Legal.{IsDue, MayKeep}
 use Rattle.dali_writer.specs.Phases.{want_of, closing_of, check_record, write_code}
 use Rattle.dali_writer.specs.Held.{Held, IsReady, IsAfterCheck}
 use Rattle.dali_writer.specs.WorkLeft.{work_left}
 use Rattle.dali_writer.specs.Describes.{IsAt, Describes}
-use Rattle.dali_writer.proofs.StandingLemmas.{begun_order, open_order}
-use Rattle.dali_writer.proofs.RepeatLemmas.{legal_sentence}
+use Rattle.dali_laws.proofs.StandingLemmas.{begun_order, open_order}
+use Rattle.dali_laws.proofs.RepeatLemmas.{legal_sentence}
 use Rattle.dali_writer.proofs.StepLemmas.{may_next, stands_so, since_part}
 
 -- a record that may be kept

@@ -16,21 +16,21 @@ use Rattle.dali_write.specs.Told.{unit_of, aim_of}
 use Rattle.dali_write.proofs.DeterminedLemmas.{wants_one}
 use Rattle.dali_write.proofs.KindLemmas.{fresh_ends, opened_ends}
 use Rattle.dali_write.proofs.SessionLemmas.{fresh_wants, opened_wants, closing_wants}
-use Rattle.dali_writer.specs.declared.happening.Happening.{Happening}
-use Rattle.dali_writer.specs.declared.happening.Want.TheVariants.{Keep}
+use Rattle.dali_trace.specs.declared.happening.Happening.{Happening}
+use Rattle.dali_trace.specs.declared.happening.Want.TheVariants.{Keep}
 use Rattle.dali_writer.specs.declared.phase.Phase.{Phase}
 use Rattle.dali_writer.specs.declared.phase.Phase.TheVariants.{Idle, Begins, Checks, Writes, Closes, Says}
-use Rattle.dali_writer.specs.Trace.{Start, standing_at, waiting, is_at_work}
+use Rattle.dali_trace.specs.Trace.{Start, standing_at, waiting, is_at_work}
 use Rattle.dali_writer.specs.Phases.{want_of, check_of, write_of, check_record, write_code}
 use Rattle.dali_writer.specs.Held.{IsReady}
 use Rattle.dali_writer.specs.Describes.{Describes}
-use Rattle.dali_writer.specs.ByPlan.{told_in, Asks, EndsIn}
+use Rattle.dali_trace.specs.ByPlan.{told_in, Asks, EndsIn}
 use Rattle.dali_writer.specs.Follows.{Follows}
-use Rattle.dali_writer.specs.Parts.{NextRecord, IsKeptNext}
+use Rattle.dali_trace.specs.Parts.{NextRecord, IsKeptNext}
 use Rattle.dali_writer.proofs.StepLemmas.{stands_so}
-use Rattle.dali_writer.proofs.TakenLemmas.{none_waits, none_waits_ended}
+use Rattle.dali_laws.proofs.TakenLemmas.{none_waits, none_waits_ended}
 use Rattle.dali_writer.proofs.KeepLemmas.{same_entry, closing_keeps}
-use Rattle.dali_writer.proofs.CourseLemmas.{closed_verdict}
+use Rattle.dali_laws.proofs.CourseLemmas.{closed_verdict}
 use Rattle.dali_writer.proofs.FollowLemmas.{check_ends, write_ends}
 
 -- what is wanted is next

@@ -1,14 +1,14 @@
 -- Parts go on by one event.
 use Rattle.std.proofs.Common.{◌∙◌, ◌+◌, ◌<◌, ◌≤◌, ◌≡◌, ◌++◌, inl, inr, refl, zero, suc, arith, ap, sym, subst, ℕ, List, [], ◌∷◌, length, take, reverse, get_or}
 use Rattle.std.proofs.lemmas.List.{take_more, reverse-append}
-use Rattle.dali_writer.specs.declared.happening.Event.{Event}
-use Rattle.dali_writer.specs.declared.happening.Happening.{Happening}
-use Rattle.dali_writer.specs.Trace.{Start}
+use Rattle.dali_trace.specs.declared.happening.Event.{Event}
+use Rattle.dali_trace.specs.declared.happening.Happening.{Happening}
+use Rattle.dali_trace.specs.Trace.{Start}
 use Rattle.dali_journal.specs.declared.record.Record.{Record}
 use Rattle.dali_journal.specs.Spelling.{spelling}
-use Rattle.dali_writer.specs.declared.happening.Event.TheVariants.{Stop}
-use Rattle.dali_writer.specs.declared.happening.Happening.TheVariants.{Kept, Stopped}
-use Rattle.dali_writer.specs.Parts.{IsKeptNext, Part, AreParts}
+use Rattle.dali_trace.specs.declared.happening.Event.TheVariants.{Stop}
+use Rattle.dali_trace.specs.declared.happening.Happening.TheVariants.{Kept, Stopped}
+use Rattle.dali_trace.specs.Parts.{IsKeptNext, Part, AreParts}
 
 pub more_parts : (start : Start) (events : List Event) (i : ℕ) (d : Event) (before after : List Happening) → i < length events → AreParts start (reverse (take i events)) before
     → Part start (get_or events i d) before after → AreParts start (reverse (take (i + 1) events)) after

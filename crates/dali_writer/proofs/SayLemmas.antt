@@ -12,15 +12,15 @@ use Rattle.dali_write.specs.declared.ask.Verdict.TheVariants as verdicts
 use Rattle.dali_write.specs.Told.{unit_of, aim_of}
 use Rattle.dali_write.specs.Verdicts.{EndsClosing}
 use Rattle.dali_write.proofs.SessionLemmas.{closing_over, closing_unreached}
-use Rattle.dali_writer.specs.declared.happening.Reply.{Reply}
-use Rattle.dali_writer.specs.declared.happening.Reply.TheVariants as replies
-use Rattle.dali_writer.specs.declared.happening.Happening.{Happening}
-use Rattle.dali_writer.specs.declared.happening.Happening.TheVariants.{Asked, Answered, Sent, Kept, Stopped}
-use Rattle.dali_writer.specs.declared.happening.Want.TheVariants.{Send, Say}
+use Rattle.dali_trace.specs.declared.happening.Reply.{Reply}
+use Rattle.dali_trace.specs.declared.happening.Reply.TheVariants as replies
+use Rattle.dali_trace.specs.declared.happening.Happening.{Happening}
+use Rattle.dali_trace.specs.declared.happening.Happening.TheVariants.{Asked, Answered, Sent, Kept, Stopped}
+use Rattle.dali_trace.specs.declared.happening.Want.TheVariants.{Send, Say}
 use Rattle.dali_writer.specs.declared.phase.Phase.{Phase}
 use Rattle.dali_writer.specs.declared.phase.Phase.TheVariants.{Idle, Begins, Checks, Writes, Closes, Says}
-use Rattle.dali_writer.specs.Trace.{Start, records_of, sent_since_taken, waiting, is_unsaid}
-use Rattle.dali_writer.specs.Legal.{MaySay, HasNumber, EndsAs, IsFinished}
+use Rattle.dali_trace.specs.Trace.{Start, records_of, sent_since_taken, waiting, is_unsaid}
+use Rattle.dali_trace.specs.Legal.{MaySay, HasNumber, EndsAs, IsFinished}
 use Rattle.dali_writer.specs.Phases.{want_of, check_of, write_of, closing_of}
 use Rattle.dali_writer.specs.Held.{IsReady}
 use Rattle.dali_writer.specs.Describes.{Describes}

@@ -18,18 +18,18 @@ use Rattle.dali_write.specs.Touches.{Has, writes_of}
 use Rattle.dali_write.specs.Guards.{IsGuarded as IsGuardedFrame}
 use Rattle.dali_write.proofs.GuardLemmas.{older_guarded}
 use Rattle.dali_write.proofs.SessionLemmas.{fresh_sends, opened_sends, closing_sends}
-use Rattle.dali_writer.specs.declared.happening.Reply.TheVariants as replies
-use Rattle.dali_writer.specs.declared.happening.Happening.{Happening}
-use Rattle.dali_writer.specs.declared.happening.Happening.TheVariants.{Asked, Answered, Sent, Kept, Stopped}
-use Rattle.dali_writer.specs.declared.happening.Want.TheVariants as wants
+use Rattle.dali_trace.specs.declared.happening.Reply.TheVariants as replies
+use Rattle.dali_trace.specs.declared.happening.Happening.{Happening}
+use Rattle.dali_trace.specs.declared.happening.Happening.TheVariants.{Asked, Answered, Sent, Kept, Stopped}
+use Rattle.dali_trace.specs.declared.happening.Want.TheVariants as wants
 use Rattle.dali_writer.specs.declared.phase.Phase.{Phase}
 use Rattle.dali_writer.specs.declared.phase.Phase.TheVariants.{Idle, Begins, Checks, Writes, Closes, Says}
-use Rattle.dali_writer.specs.Trace.{Start, standing_at, sent_of, sent_since_taken, waiting, is_unsaid, is_at_work, is_busy}
-use Rattle.dali_writer.specs.Legal.{MayPut, MaySend, MayHappen, MayFollow, IsFinished}
+use Rattle.dali_trace.specs.Trace.{Start, standing_at, sent_of, sent_since_taken, waiting, is_unsaid, is_at_work, is_busy}
+use Rattle.dali_trace.specs.Legal.{MayPut, MaySend, MayHappen, MayFollow, IsFinished}
 use Rattle.dali_writer.specs.Phases.{want_of, check_of, write_of, closing_of, is_wanting}
 use Rattle.dali_writer.specs.Held.{Held, IsReady}
 use Rattle.dali_writer.specs.Describes.{ToldNewest, IsAt, Describes}
-use Rattle.dali_writer.proofs.TakenLemmas.{waits, ended_unsaid}
+use Rattle.dali_laws.proofs.TakenLemmas.{waits, ended_unsaid}
 
 -- what may happen may follow where no reply is due
 pub may_next : (start : Start) (past : List Happening) (next : Happening) → IsFinished past → MayHappen start past next → MayFollow start past next

@@ -18,18 +18,18 @@ use Rattle.dali_journal.specs.Sentence.{Allows, standing_of, next_standing, is_b
 use Rattle.dali_journal.specs.Orders.{orders_of, come_to, kept_at, kept_among, kept_of}
 use Rattle.dali_journal.specs.JournalState.{JournalState, HasRoom, MayBegin, order_count}
 use Rattle.dali_write.specs.Told.{unit_of, aim_of, IsClosing}
-use Rattle.dali_writer.specs.declared.happening.Reply.{Reply}
-use Rattle.dali_writer.specs.declared.happening.Reply.TheVariants as replies
-use Rattle.dali_writer.specs.declared.happening.Happening.{Happening}
-use Rattle.dali_writer.specs.declared.happening.Happening.TheVariants.{Asked, Answered}
+use Rattle.dali_trace.specs.declared.happening.Reply.{Reply}
+use Rattle.dali_trace.specs.declared.happening.Reply.TheVariants as replies
+use Rattle.dali_trace.specs.declared.happening.Happening.{Happening}
+use Rattle.dali_trace.specs.declared.happening.Happening.TheVariants.{Asked, Answered}
 use Rattle.dali_writer.specs.declared.phase.Phase.{Phase}
 use Rattle.dali_writer.specs.declared.phase.Phase.TheVariants.{Idle, Begins, Checks, Writes, Closes, Says}
-use Rattle.dali_writer.specs.Trace.{Start, records_of, is_at_work, is_busy, is_full}
-use Rattle.dali_writer.specs.Replies.{IsNotEnded, IsReplyBy, IsReply, IsKnownReply}
+use Rattle.dali_trace.specs.Trace.{Start, records_of, is_at_work, is_busy, is_full}
+use Rattle.dali_trace.specs.Replies.{IsNotEnded, IsReplyBy, IsReply, IsKnownReply}
 use Rattle.dali_writer.specs.Phases.{want_of, is_idle, is_wanting}
 use Rattle.dali_writer.specs.Held.{Held, IsReady, IsFirst}
 use Rattle.dali_writer.specs.Describes.{IsAt, Describes}
-use Rattle.dali_writer.proofs.RepeatLemmas.{never_absent}
+use Rattle.dali_laws.proofs.RepeatLemmas.{never_absent}
 use Rattle.dali_writer.proofs.StepLemmas.{may_next, busy_at, check_wants, write_wants, closing_wants}
 
 -- the replies by which nothing is taken

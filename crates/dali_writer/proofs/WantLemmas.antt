@@ -16,22 +16,22 @@ use Rattle.dali_write.specs.Touches.{writes_of}
 use Rattle.dali_write.specs.Guards.{IsGuarded as IsGuardedFrame}
 use Rattle.dali_write.proofs.GuardLemmas.{older_guarded}
 use Rattle.dali_write.proofs.SessionLemmas.{fresh_sends, opened_sends, closing_sends, fresh_wants, opened_wants, closing_wants}
-use Rattle.dali_writer.specs.declared.happening.Happening.{Happening}
-use Rattle.dali_writer.specs.declared.happening.Happening.TheVariants.{Sent, Kept}
-use Rattle.dali_writer.specs.declared.happening.Want.{Want}
-use Rattle.dali_writer.specs.declared.happening.Want.TheVariants.{Keep, Send, Say}
-use Rattle.dali_writer.specs.declared.happening.Want.TheVariants as wants
+use Rattle.dali_trace.specs.declared.happening.Happening.{Happening}
+use Rattle.dali_trace.specs.declared.happening.Happening.TheVariants.{Sent, Kept}
+use Rattle.dali_trace.specs.declared.happening.Want.{Want}
+use Rattle.dali_trace.specs.declared.happening.Want.TheVariants.{Keep, Send, Say}
+use Rattle.dali_trace.specs.declared.happening.Want.TheVariants as wants
 use Rattle.dali_writer.specs.declared.phase.Phase.{Phase}
 use Rattle.dali_writer.specs.declared.phase.Phase.TheVariants.{Idle, Begins, Checks, Writes, Closes, Says}
-use Rattle.dali_writer.specs.Trace.{Start, standing_at, sent_of, sent_since_taken, waiting}
-use Rattle.dali_writer.specs.Legal.{Legal, MaySend, MayKeep}
+use Rattle.dali_trace.specs.Trace.{Start, standing_at, sent_of, sent_since_taken, waiting}
+use Rattle.dali_trace.specs.Legal.{Legal, MaySend, MayKeep}
 use Rattle.dali_writer.specs.Phases.{want_of, check_of, write_of, check_record, write_code}
 use Rattle.dali_writer.specs.Held.{IsReady}
 use Rattle.dali_writer.specs.Describes.{Describes}
-use Rattle.dali_writer.specs.ByPlan.{told_in, Asks, EndsIn, IsPlanned}
+use Rattle.dali_trace.specs.ByPlan.{told_in, Asks, EndsIn, IsPlanned}
 use Rattle.dali_writer.specs.Follows.{Follows}
-use Rattle.dali_writer.specs.Parts.{NextRecord, IsKeptNext}
-use Rattle.dali_writer.specs.Next.{IsNext, IsDone}
+use Rattle.dali_trace.specs.Parts.{NextRecord, IsKeptNext}
+use Rattle.dali_trace.specs.Next.{IsNext, IsDone}
 use Rattle.dali_writer.proofs.StepLemmas.{may_next, stands_so, since_part, fresh_may, opened_may, closing_may}
 use Rattle.dali_writer.proofs.SayLemmas.{check_sends, write_sends, closing_sends_it, said_on}
 use Rattle.dali_writer.proofs.KeepLemmas.{begun_may, checked_may, written_on, closed_on, same_entry, closing_keeps}

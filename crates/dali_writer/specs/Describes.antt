@@ -3,11 +3,11 @@ use Rattle.std.specs.Prelude.{◌≡◌, true, false, List, ◌++◌, Some}
 use Rattle.dali_write.specs.Exchanges.{Exchange}
 use Rattle.dali_write.specs.declared.session.Session.{Session}
 use Rattle.dali_write.specs.Told.{Told}
-use Rattle.dali_writer.specs.declared.happening.Happening.{Happening}
+use Rattle.dali_trace.specs.declared.happening.Happening.{Happening}
 use Rattle.dali_writer.specs.declared.phase.Phase.{Phase}
 use Rattle.dali_writer.specs.declared.phase.Phase.TheVariants.{Idle, Begins, Checks, Writes, Closes, Says}
-use Rattle.dali_writer.specs.Trace.{Start, records_of, sent_of, sent_since_taken, waiting, is_unsaid, has_ended}
-use Rattle.dali_writer.specs.Legal.{Legal, IsFinished}
+use Rattle.dali_trace.specs.Trace.{Start, records_of, sent_of, sent_since_taken, waiting, is_unsaid, has_ended}
+use Rattle.dali_trace.specs.Legal.{Legal, IsFinished}
 use Rattle.dali_writer.specs.Held.{Held}
 
 -- the session was told the newest of these exchanges

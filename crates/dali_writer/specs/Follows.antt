@@ -2,11 +2,11 @@
 use Rattle.std.specs.Prelude.{List}
 use Rattle.dali_write.specs.Exchanges.{Exchange}
 use Rattle.dali_write.specs.Told.{Told}
-use Rattle.dali_writer.specs.declared.happening.Happening.{Happening}
+use Rattle.dali_trace.specs.declared.happening.Happening.{Happening}
 use Rattle.dali_writer.specs.declared.phase.Phase.{Phase}
 use Rattle.dali_writer.specs.declared.phase.Phase.TheVariants.{Idle, Begins, Checks, Writes, Closes, Says}
-use Rattle.dali_writer.specs.Trace.{Start}
-use Rattle.dali_writer.specs.ByPlan.{told_in, ByPlan}
+use Rattle.dali_trace.specs.Trace.{Start}
+use Rattle.dali_trace.specs.ByPlan.{told_in, ByPlan}
 use Rattle.dali_writer.specs.Held.{Held}
 
 -- the session of the phase was told these

@@ -14,8 +14,8 @@ use Rattle.dali_write.specs.declared.session.Session.{Session}
 use Rattle.dali_write.specs.Told.{Told, frames_left, unit_of, IsFresh, IsOpened, IsClosing}
 use Rattle.dali_writer.specs.declared.phase.Phase.{Phase}
 use Rattle.dali_writer.specs.declared.phase.Phase.TheVariants.{Idle, Begins, Checks, Writes, Closes, Says}
-use Rattle.dali_writer.specs.Trace.{Start, is_at_work}
-use Rattle.dali_writer.specs.Legal.{EndsAs}
+use Rattle.dali_trace.specs.Trace.{Start, is_at_work}
+use Rattle.dali_trace.specs.Legal.{EndsAs}
 use Rattle.dali_writer.specs.Phases.{check_code}
 
 -- its journal, and what it is about to do

@@ -9,10 +9,10 @@ use Rattle.dali_write.specs.declared.ask.Ask.TheVariants as asks
 use Rattle.dali_write.specs.declared.ask.Verdict.{Verdict}
 use Rattle.dali_write.specs.declared.ask.Verdict.TheVariants as verdicts
 use Rattle.dali_write.specs.Told.{unit_of, aim_of}
-use Rattle.dali_writer.specs.declared.happening.Reply.TheVariants as replies
-use Rattle.dali_writer.specs.declared.happening.Want.{Want}
-use Rattle.dali_writer.specs.declared.happening.Want.TheVariants.{Keep, Send, Say}
-use Rattle.dali_writer.specs.declared.happening.Want.TheVariants as wants
+use Rattle.dali_trace.specs.declared.happening.Reply.TheVariants as replies
+use Rattle.dali_trace.specs.declared.happening.Want.{Want}
+use Rattle.dali_trace.specs.declared.happening.Want.TheVariants.{Keep, Send, Say}
+use Rattle.dali_trace.specs.declared.happening.Want.TheVariants as wants
 use Rattle.dali_writer.specs.declared.phase.Phase.{Phase}
 use Rattle.dali_writer.specs.declared.phase.Phase.TheVariants.{Idle, Begins, Checks, Writes, Closes, Says}
 

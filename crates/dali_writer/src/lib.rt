@@ -1,16 +1,15 @@
-//! A writer of orders and runs of it over a bus (profile), which traces of happenings are legal, and what is so along
-//! each of them, whatever a bus loses and whenever the program is stopped.
+//! A writer of orders, and runs of it over a bus (profile). What it does is a legal trace, whatever a bus loses and
+//! whenever the program is stopped: so the laws of legal traces hold of it.
 #![tactic(auto)]
 
 mod fault;
-mod happening;
-pub mod laws;
 mod phase;
 mod runs;
 mod stops;
 mod writer;
 
+pub use dali_laws::laws;
+pub use dali_trace::{Event, Happening, Reply, Want};
 pub use fault::RunFault;
-pub use happening::{Event, Happening, Reply, Want};
 pub use runs::{Outcome, run, run_sim};
 pub use writer::Writer;

@@ -1,13 +1,13 @@
 ghost use Rattle.std.specs.Prelude.{◌≡◌, ◌≤◌};
 ghost use Rattle.dali_frame.specs.declared.forward.Frame.{Frame};
 ghost use Rattle.dali_frame.specs.Frame.{IsProper};
-ghost use Rattle.dali_writer.specs.declared.happening.Want.{Want};
+ghost use Rattle.dali_trace.specs.declared.happening.Want.{Want};
 ghost use Rattle.dali_journal.specs.declared.record.Record.{Record};
 ghost use Rattle.dali_journal.specs.Spelling.{NamesShortUnit};
 ghost use Rattle.dali_writer.specs.Phases.{want_of, check_record, check_code, write_code, is_idle};
 ghost use Rattle.dali_writer.specs.Held.{IsAfterCheck, IsResumed};
 
-use crate::happening::{Reply, Want};
+use dali_trace::{Reply, Want};
 use dali_bank::Order;
 use dali_journal::{Code, Record, Standing};
 use dali_write::{Ask, Session, Verdict};

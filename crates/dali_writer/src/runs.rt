@@ -1,19 +1,19 @@
 ghost use Rattle.std.specs.Prelude.{◌≡◌, ◌↔◌, ◌∷◌, List, reverse, is_some, IfSome, IsNone, IfOk, OnOk, OnErr, IfErr, Err};
 ghost use Rattle.dali_journal.specs.JournalState.{IsLimit};
 ghost use Rattle.dali_gear.specs.Chain.{Chain};
-ghost use Rattle.dali_writer.specs.declared.happening.Happening.{Happening};
+ghost use Rattle.dali_trace.specs.declared.happening.Happening.{Happening};
 ghost use Rattle.dali_writer.specs.declared.fault.RunFault.TheVariants as faults;
-ghost use Rattle.dali_writer.specs.Trace.{Start, is_busy};
-ghost use Rattle.dali_writer.specs.Parts.{IsWork, Part};
-ghost use Rattle.dali_writer.specs.Moves.{MovesBy};
-ghost use Rattle.dali_writer.specs.Runs.{IsRun, IsCutShort, SendsProper, SendsAllProper, AsksProper, AsksAllProper};
+ghost use Rattle.dali_trace.specs.Trace.{Start, is_busy};
+ghost use Rattle.dali_trace.specs.Parts.{IsWork, Part};
+ghost use Rattle.dali_trace.specs.Moves.{MovesBy};
+ghost use Rattle.dali_trace.specs.Runs.{IsRun, IsCutShort, SendsProper, SendsAllProper, AsksProper, AsksAllProper};
 ghost use Rattle.dali_writer.specs.Describes.{Describes};
 ghost use Rattle.dali_writer.specs.Follows.{Follows};
-ghost use Rattle.dali_writer.specs.Spared.{IsSimRun};
+ghost use Rattle.dali_trace.specs.Spared.{IsSimRun};
 ghost use Rattle.dali_gear.specs.SimState.{SimStep, world_of};
 
 use crate::fault::RunFault;
-use crate::happening::{Event, Happening, Want};
+use dali_trace::{Event, Happening, Want};
 use crate::stops::{keep_within, left_by, loaded_again};
 use crate::writer::Writer;
 use dali_gear::{Bus, SimBus};

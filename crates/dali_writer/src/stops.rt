@@ -2,16 +2,16 @@ ghost use Rattle.std.specs.Prelude.{◌≡◌, ◌↔◌, ◌<◌, ◌≤◌, �
 ghost use Rattle.dali_journal.specs.declared.record.Record.{Record};
 ghost use Rattle.dali_journal.specs.Reading.{IsCutOf};
 ghost use Rattle.dali_journal.specs.Spelling.{spelling};
-ghost use Rattle.dali_writer.specs.declared.happening.Happening.{Happening};
-ghost use Rattle.dali_writer.specs.declared.happening.Happening.TheVariants as happenings;
-ghost use Rattle.dali_writer.specs.declared.happening.Want.{Want};
+ghost use Rattle.dali_trace.specs.declared.happening.Happening.{Happening};
+ghost use Rattle.dali_trace.specs.declared.happening.Happening.TheVariants as happenings;
+ghost use Rattle.dali_trace.specs.declared.happening.Want.{Want};
 ghost use Rattle.dali_writer.specs.Phases.{want_of};
-ghost use Rattle.dali_writer.specs.Trace.{Start};
+ghost use Rattle.dali_trace.specs.Trace.{Start};
 ghost use Rattle.dali_writer.specs.Describes.{Describes};
 ghost use Rattle.dali_writer.specs.Follows.{Follows};
-ghost use Rattle.dali_writer.specs.Parts.{IsKeptNext};
+ghost use Rattle.dali_trace.specs.Parts.{IsKeptNext};
 
-use crate::happening::Want;
+use dali_trace::Want;
 use crate::writer::Writer;
 use dali_journal::{Journal, JournalFault, NoMemory, Record};
 use std::alloc::Global;

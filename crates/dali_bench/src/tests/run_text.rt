@@ -1,5 +1,5 @@
 ghost use Rattle.std.specs.Prelude.{IfOk, reverse};
-ghost use Rattle.dali_writer.specs.Runs.{SendsAllProper, SendsProper};
+ghost use Rattle.dali_trace.specs.Runs.{SendsAllProper, SendsProper};
 
 use super::streams::FullWriter;
 use dali_bank::Order;

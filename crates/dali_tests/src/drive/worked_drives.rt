@@ -5,16 +5,16 @@ ghost use Rattle.dali_frame.specs.declared.fault.LineFault.TheVariants.{Length};
 ghost use Rattle.dali_journal.specs.declared.record.Code.TheVariants.{DoubtOpen};
 ghost use Rattle.dali_journal.specs.declared.record.Record.TheVariants.{Opened};
 ghost use Rattle.dali_drive.specs.declared.fault.DriveFault.TheVariants as faults;
-ghost use Rattle.dali_writer.specs.declared.happening.Reply.TheVariants as replies;
-ghost use Rattle.dali_writer.specs.declared.happening.Happening.TheVariants.{Asked, Answered, Sent, Kept, Stopped};
-ghost use Rattle.dali_writer.specs.Next.{IsNext};
+ghost use Rattle.dali_trace.specs.declared.happening.Reply.TheVariants as replies;
+ghost use Rattle.dali_trace.specs.declared.happening.Happening.TheVariants.{Asked, Answered, Sent, Kept, Stopped};
+ghost use Rattle.dali_trace.specs.Next.{IsNext};
 ghost use Rattle.dali_drive.specs.Lines.{reply_line, IsShort, IsAnswerLine, TakesLine};
 ghost use Rattle.dali_drive.specs.Transcript.{Streams, Transcript};
 ghost use Rattle.dali_drive.specs.Driven.{IsInTurn, KeepsRecords, IsDriven, BrokenOff};
-ghost use Rattle.dali_writer.specs.Joined.{FollowOn};
+ghost use Rattle.dali_laws.specs.Joined.{FollowOn};
 ghost use Rattle.dali_drive.specs.Sittings.{IsFileOf, after, MayHaveHappened};
-ghost use Rattle.dali_writer.specs.Worked.{empty, second_order, asked, taken, begun};
-ghost use Rattle.dali_writer.specs.WorkedPlans.{half_tried};
+ghost use Rattle.dali_trace.specs.Worked.{empty, second_order, asked, taken, begun};
+ghost use Rattle.dali_trace.specs.WorkedPlans.{half_tried};
 ghost use Rattle.dali_drive.specs.WorkedDrives.{before_two, after_two, frames_turned, one_line_read, record_left_out, first_sitting, torn_file};
 
 // An order is begun, and two frames are sent and answered, the second with a carriage return.

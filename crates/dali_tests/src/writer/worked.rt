@@ -1,16 +1,16 @@
 ghost use Rattle.std.specs.Prelude.{◌≡◌, ◌∷◌, [], length};
-ghost use Rattle.dali_writer.specs.declared.happening.Happening.TheVariants.{Stopped};
-ghost use Rattle.dali_writer.specs.declared.happening.Event.TheVariants.{Submit, Step, Stop};
-ghost use Rattle.dali_writer.specs.Trace.{sent_of};
-ghost use Rattle.dali_writer.specs.Taken.{taken_orders};
-ghost use Rattle.dali_writer.specs.Legal.{Legal, IsFinished};
-ghost use Rattle.dali_writer.specs.Parts.{AreParts};
-ghost use Rattle.dali_writer.specs.Worked.{empty, left_open, first_order, second_order, asked, taken, begun, whole, unreached, blocked, second_begun, GoesAlong};
-ghost use Rattle.dali_writer.specs.Worked.{unguarded, bank_not_asked, written_twice, another_byte, idle_frame, frame_to_another_unit, enabled_before_opened, opened_unread, done_unread, done_with_the_lock_unread};
-ghost use Rattle.dali_writer.specs.Worked.{second_taken, one_of_one, full, busy_while_at_work, number_used_again, another_code_said, blocked_by_no_unit, silent_write};
-ghost use Rattle.dali_writer.specs.Worked.{short_ended, silent_ended, doubt_ended, left_said, format_ended, tried_again, opened_anew, done_anew, repeated_after_a_stop, taken_after_a_stop, taken_anew};
-ghost use Rattle.dali_writer.specs.Worked.{frame_to_another_unit_once_opened, frame_past_the_left_unit, another_lock_byte, written_after_a_stop, opened_after_a_stop, closed_by_an_old_read, another_number_said, blocked_under_another_number, said_after_a_stop};
-ghost use Rattle.dali_writer.specs.Worked.{begun_twice, busy_at_once, reply_to_another, said_before_ended, begun_while_left, closed_unread, blocked_after_a_read, left_unit_unlocked, begun_after_a_stop};
+ghost use Rattle.dali_trace.specs.declared.happening.Happening.TheVariants.{Stopped};
+ghost use Rattle.dali_trace.specs.declared.happening.Event.TheVariants.{Submit, Step, Stop};
+ghost use Rattle.dali_trace.specs.Trace.{sent_of};
+ghost use Rattle.dali_trace.specs.Taken.{taken_orders};
+ghost use Rattle.dali_trace.specs.Legal.{Legal, IsFinished};
+ghost use Rattle.dali_trace.specs.Parts.{AreParts};
+ghost use Rattle.dali_trace.specs.Worked.{empty, left_open, first_order, second_order, asked, taken, begun, whole, unreached, blocked, second_begun, GoesAlong};
+ghost use Rattle.dali_trace.specs.Worked.{unguarded, bank_not_asked, written_twice, another_byte, idle_frame, frame_to_another_unit, enabled_before_opened, opened_unread, done_unread, done_with_the_lock_unread};
+ghost use Rattle.dali_trace.specs.Worked.{second_taken, one_of_one, full, busy_while_at_work, number_used_again, another_code_said, blocked_by_no_unit, silent_write};
+ghost use Rattle.dali_trace.specs.Worked.{short_ended, silent_ended, doubt_ended, left_said, format_ended, tried_again, opened_anew, done_anew, repeated_after_a_stop, taken_after_a_stop, taken_anew};
+ghost use Rattle.dali_trace.specs.Worked.{frame_to_another_unit_once_opened, frame_past_the_left_unit, another_lock_byte, written_after_a_stop, opened_after_a_stop, closed_by_an_old_read, another_number_said, blocked_under_another_number, said_after_a_stop};
+ghost use Rattle.dali_trace.specs.Worked.{begun_twice, busy_at_once, reply_to_another, said_before_ended, begun_while_left, closed_unread, blocked_after_a_read, left_unit_unlocked, begun_after_a_stop};
 
 // A GTIN order on a blank unit, 96 frames, and the same order sent again.
 fn the_worked_trace_is_legal()

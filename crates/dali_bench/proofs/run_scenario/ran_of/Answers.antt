@@ -2,7 +2,7 @@ use Rattle.std.proofs.Common.{inl, inr, ap, subst, Err}
 use Rattle.std.proofs.lemmas.Result.{err_from_is_err_and}
 use Rattle.serde_json.specs.View.{view}
 use Rattle.dali_journal.specs.JournalState.{IsLimit}
-use Rattle.dali_writer.specs.Spared.{IsSimRun}
+use Rattle.dali_trace.specs.Spared.{IsSimRun}
 use Rattle.dali_input.specs.Scenario.{planned_of}
 use Rattle.dali_input.proofs.SetupLemmas.{none_enabled}
 use Rattle.dali_bench.proofs.RunLemmas.{not_run}

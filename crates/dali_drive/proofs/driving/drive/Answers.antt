@@ -5,7 +5,7 @@ use Rattle.dali_bank.specs.Order.{Contents}
 use Rattle.dali_drive.specs.Lines.{reply_line}
 use Rattle.dali_writer.specs.Held.{start_of}
 use Rattle.dali_drive.specs.Driven.{orders_asked}
-use Rattle.dali_writer.specs.declared.happening.Happening.TheVariants.{Asked}
+use Rattle.dali_trace.specs.declared.happening.Happening.TheVariants.{Asked}
 use Rattle.dali_drive.proofs.DriveLemmas.{begun_at, replied_at, reply_next, breaks_saying, breaks_memory, IsCut, asks_on, asked_more, asked_so_far, asked_then, asked_all}
 use Rattle.dali_drive.proofs.driving.drive.Goals as goal
 

@@ -1,6 +1,6 @@
 use Rattle.std.proofs.Common.{◌≡◌, List, Ok, false}
-use Rattle.dali_writer.specs.declared.happening.Happening.{Happening}
-use Rattle.dali_writer.specs.Trace.{Start}
+use Rattle.dali_trace.specs.declared.happening.Happening.{Happening}
+use Rattle.dali_trace.specs.Trace.{Start}
 use Rattle.dali_writer.specs.WorkLeft.{work_left}
 use Rattle.dali_drive.specs.Transcript.{Streams, shown}
 use Rattle.dali_drive.specs.Driven.{orders_asked}

@@ -1,5 +1,5 @@
 use Rattle.std.proofs.Common.{◌≡◌, ◌++◌, replicate}
-use Rattle.dali_writer.specs.declared.happening.Event.TheVariants.{Step}
+use Rattle.dali_trace.specs.declared.happening.Event.TheVariants.{Step}
 use Rattle.dali_input.proofs.setup.push_steps.Given as goal
 
 abbrev pub invariant-loop : goal.invariant-loop

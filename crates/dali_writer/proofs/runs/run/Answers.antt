@@ -3,14 +3,14 @@ use Rattle.std.proofs.lemmas.List.{take_all}
 use Rattle.std.proofs.lemmas.Result.{err_from_is_err_and}
 use Rattle.dali_journal.specs.Spelling.{journal_spelling}
 use Rattle.dali_gear.specs.Chain.{Chain}
-use Rattle.dali_writer.specs.Moves.{MovesBy}
-use Rattle.dali_writer.specs.Runs.{fresh}
-use Rattle.dali_writer.specs.Parts.{AreParts}
+use Rattle.dali_trace.specs.Moves.{MovesBy}
+use Rattle.dali_trace.specs.Runs.{fresh}
+use Rattle.dali_trace.specs.Parts.{AreParts}
 use Rattle.dali_writer.proofs.ChainLemmas.{starts, right}
-use Rattle.dali_writer.proofs.TakenLemmas.{taken_from_none}
+use Rattle.dali_laws.proofs.TakenLemmas.{taken_from_none}
 use Rattle.dali_writer.proofs.PartsLemmas.{more_parts, all_parts}
-use Rattle.dali_writer.proofs.WorkLemmas.{worked}
-use Rattle.dali_writer.proofs.StepsLemmas.{says_in_time}
+use Rattle.dali_laws.proofs.WorkLemmas.{worked}
+use Rattle.dali_laws.proofs.StepsLemmas.{says_in_time}
 use Rattle.dali_writer.proofs.runs.run.Goals as goal
 
 pub returns-in_default-clause-err : goal.returns-in_default-clause-err

@@ -1,8 +1,8 @@
 use Rattle.std.proofs.Common.{reverse, take}
 use Rattle.dali_gear.specs.Chain.{Chain}
-use Rattle.dali_writer.specs.Parts.{AreParts}
-use Rattle.dali_writer.specs.Moves.{MovesBy}
-use Rattle.dali_writer.specs.Runs.{fresh, SendsAllProper, AsksAllProper}
+use Rattle.dali_trace.specs.Parts.{AreParts}
+use Rattle.dali_trace.specs.Moves.{MovesBy}
+use Rattle.dali_trace.specs.Runs.{fresh, SendsAllProper, AsksAllProper}
 use Rattle.dali_writer.specs.Describes.{Describes}
 use Rattle.dali_writer.specs.Follows.{Follows}
 use Rattle.dali_writer.proofs.runs.run.Given as goal

@@ -1,9 +1,9 @@
 use Rattle.std.proofs.Common.{reverse, refl, Result, Ok, Err}
 use Rattle.std.specs.Prelude.{IfOk}
 use Rattle.dali_gear.specs.SimState.{world_of}
-use Rattle.dali_writer.specs.Runs.{fresh}
-use Rattle.dali_writer.specs.Spared.{IsSimRun}
-use Rattle.dali_writer.proofs.OnsetLemmas.{all_spared}
+use Rattle.dali_trace.specs.Runs.{fresh}
+use Rattle.dali_trace.specs.Spared.{IsSimRun}
+use Rattle.dali_laws.proofs.OnsetLemmas.{all_spared}
 use Rattle.dali_writer.proofs.runs.run_sim.Goals as goal
 
 if_ok : {A E : Type 0} (result : Result A E) (P Q : A → Type 0) → ((a : A) → P a → Q a) → IfOk result P → IfOk result Q

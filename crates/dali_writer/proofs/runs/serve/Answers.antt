@@ -1,7 +1,7 @@
 use Rattle.std.proofs.Common.{refl, sym, ap, ◌∙◌, ◌∷◌, reverse}
 use Rattle.dali_journal.specs.JournalState.{JournalState}
 use Rattle.dali_writer.specs.Describes.{Describes}
-use Rattle.dali_writer.specs.declared.happening.Happening.TheVariants.{Kept, Stopped}
+use Rattle.dali_trace.specs.declared.happening.Happening.TheVariants.{Kept, Stopped}
 use Rattle.dali_writer.proofs.ChainLemmas.{pushed, onto, all_onto, onto_stop, all_onto_stop}
 use Rattle.dali_writer.proofs.PartsLemmas.{stop_kept, stop_cut}
 use Rattle.dali_writer.specs.Follows.{Follows}

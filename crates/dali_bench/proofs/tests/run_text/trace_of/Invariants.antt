@@ -1,5 +1,5 @@
 use Rattle.std.proofs.Common.{reverse}
-use Rattle.dali_writer.specs.Runs.{SendsAllProper}
+use Rattle.dali_trace.specs.Runs.{SendsAllProper}
 use Rattle.dali_bench.proofs.tests.run_text.trace_of.Given as goal
 
 abbrev pub invariant-loop-happening : goal.invariant-loop-happening

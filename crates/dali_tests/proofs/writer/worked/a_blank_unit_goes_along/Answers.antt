@@ -1,4 +1,4 @@
-use Rattle.dali_writer.proofs.BlankLemmas.{goes_along}
+use Rattle.dali_trace.proofs.BlankLemmas.{goes_along}
 use Rattle.dali_tests.proofs.writer.worked.a_blank_unit_goes_along.Goals as goal
 
 pub returns : goal.returns

@@ -1,4 +1,4 @@
-use Rattle.dali_writer.proofs.WorkedLemmas.{busy_legal, reused_legal, full_legal}
+use Rattle.dali_trace.proofs.WorkedLemmas.{busy_legal, reused_legal, full_legal}
 use Rattle.dali_tests.proofs.writer.worked.other_replies_are_legal.Goals as goal
 
 pub returns-clause-busy : goal.returns-clause-busy

@@ -1,4 +1,4 @@
-use Rattle.dali_writer.proofs.WorkedLemmas.{whole_legal}
+use Rattle.dali_trace.proofs.WorkedLemmas.{whole_legal}
 use Rattle.dali_tests.proofs.writer.worked.the_worked_trace_is_legal.Goals as goal
 
 pub returns-clause-legal : goal.returns-clause-legal

@@ -1,4 +1,4 @@
-use Rattle.dali_writer.proofs.WorkedPlanLemmas.{short_planned, silent_after_eight_planned, blocked_planned}
+use Rattle.dali_trace.proofs.WorkedPlanLemmas.{short_planned, silent_after_eight_planned, blocked_planned}
 use Rattle.dali_tests.proofs.writer.worked_plans.ends_by_plan.Goals as goal
 
 pub returns-clause-short : goal.returns-clause-short

@@ -1,7 +1,7 @@
 use Rattle.std.proofs.Common.{◌≡◌}
 use Rattle.dali_write.specs.declared.ask.Ask.TheVariants as asks
 use Rattle.dali_write.specs.Told.{unit_of, aim_of}
-use Rattle.dali_writer.specs.declared.happening.Want.TheVariants.{Send}
+use Rattle.dali_trace.specs.declared.happening.Want.TheVariants.{Send}
 use Rattle.dali_writer.specs.declared.phase.Phase.TheVariants.{Checks, Writes, Closes}
 use Rattle.dali_writer.specs.Phases.{check_of, write_of, closing_of}
 use Rattle.dali_writer.specs.Held.{IsReady}

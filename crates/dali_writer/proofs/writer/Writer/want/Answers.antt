@@ -1,7 +1,7 @@
 use Rattle.std.proofs.Common.{inl, ◌∙◌, refl, sym, ap, subst}
-use Rattle.dali_writer.specs.declared.happening.Want.{Want}
+use Rattle.dali_trace.specs.declared.happening.Want.{Want}
 use Rattle.dali_writer.specs.Phases.{want_of, is_wanting}
-use Rattle.dali_writer.specs.Next.{IsDone}
+use Rattle.dali_trace.specs.Next.{IsDone}
 use Rattle.dali_writer.proofs.StepLemmas.{busy_at, idle_wanted}
 use Rattle.dali_writer.proofs.NextRecordLemmas.{next_record}
 use Rattle.dali_writer.proofs.WantLemmas.{done_next}

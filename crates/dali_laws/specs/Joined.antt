@@ -1,0 +1,41 @@
+-- The sittings of a program that is switched off and begins anew from its journal, and all that happened in them.
+use Rattle.std.specs.Prelude.{◌≡◌, List, [], ◌∷◌, ◌++◌}
+use Rattle.dali_gear.specs.World.{World}
+use Rattle.dali_gear.specs.Chain.{IsChain, AtEachMoment}
+use Rattle.dali_trace.specs.declared.happening.Happening.{Happening}
+use Rattle.dali_trace.specs.declared.happening.Happening.TheVariants.{Stopped}
+use Rattle.dali_trace.specs.Trace.{Start, records_of}
+use Rattle.dali_trace.specs.Legal.{Legal, IsFinished}
+use Rattle.dali_trace.specs.ByPlan.{ByPlan}
+use Rattle.dali_trace.specs.Moves.{Moves}
+use Rattle.dali_trace.specs.Fits.{Fits, OnlyNamed}
+use Rattle.dali_trace.specs.Moments.{IsRight}
+
+-- one sitting: what the program started from, and what happened until it was switched off, the newest first
+pub record Sitting : Type 0 where
+  pub start : Start
+  pub past : List Happening
+
+-- all that happened in the sittings (the newest first), with a stop between each and the one before it
+abbrev pub joined : List Sitting → List Happening
+joined [] = []
+joined (first ∷ []) = first.past
+joined (newest ∷ last ∷ older) = newest.past ++ Stopped ∷ joined (last ∷ older)
+
+-- Each sitting's trace is legal, keeps to the plans and leaves no reply due. It starts with the limit of the start, and from the records that
+-- the sittings before it left, the first one from those of the start.
+abbrev pub FollowOn : Start → List Sitting → Type 0
+FollowOn start [] = Legal start []
+FollowOn start (newest ∷ older) =
+    Legal newest.start newest.past × ByPlan newest.start newest.past × IsFinished newest.past
+    × (newest.start.records ≡ records_of start (joined older)) × (newest.start.limit ≡ start.limit) × FollowOn start older
+
+-- together they are one such trace from the start
+abbrev pub IsOneTrace : Start → List Sitting → Type 0
+IsOneTrace start sittings = Legal start (joined sittings) × ByPlan start (joined sittings) × IsFinished (joined sittings)
+
+-- so along every chain of worlds of them, from a world as in Along of Law.antt, all is right at each moment
+abbrev pub SittingsAreRight : Type 0
+SittingsAreRight = (zero : World) (start : Start) (sittings : List Sitting) (first last : World) (states : List World) → FollowOn start sittings
+    → Fits zero start.records first → OnlyNamed start.records first → IsChain Moves first (joined sittings) last states
+    → AtEachMoment (IsRight zero start) (joined sittings) last states

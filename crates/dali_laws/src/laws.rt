@@ -1,0 +1,110 @@
+//! Laws of a writer, over its definitions alone. Each is the contract of a function that does nothing.
+
+ghost use Rattle.std.specs.Prelude.{◌≡◌, ◌+◌, ◌*◌, ◌<◌, ◌≤◌, ℕ, List, length};
+ghost use Rattle.dali_journal.specs.declared.standing.Standing.TheVariants as standings;
+ghost use Rattle.dali_write.specs.Plans.{greatest};
+ghost use Rattle.dali_trace.specs.Work.{work_limit, frames_from};
+ghost use Rattle.dali_trace.specs.declared.happening.Happening.{Happening};
+ghost use Rattle.dali_trace.specs.Trace.{Start};
+ghost use Rattle.dali_trace.specs.Legal.{Legal, IsFinished};
+ghost use Rattle.dali_trace.specs.Steps.{IsSaidInTime};
+ghost use Rattle.dali_trace.specs.ByPlan.{ByPlan};
+ghost use Rattle.dali_laws.specs.Joined.{Sitting, FollowOn, IsOneTrace, SittingsAreRight};
+ghost use Rattle.dali_trace.specs.Next.{IsNext, IsSameBut};
+ghost use Rattle.dali_trace.specs.Work.{IsWorked};
+ghost use Rattle.dali_trace.specs.Moments.{Always, FitsAt, OnlyNamedAt, AppliedAt};
+ghost use Rattle.dali_laws.specs.Law.{RecordsAreTrue, RecordsAreASentence, TakenOrdersAreKept, OneReplyIsDue, RepeatsAreAnswered, RepeatsAreQuiet, RefusedOrdersChangeNothing, QuietUntilTaken};
+
+/// Along every chain of worlds of every legal trace, from a world that fits the start world and the
+/// start records and in which no unit is write-enabled but the one that they name.
+pub fn every_moment_fits()
+    // each moment fits;
+    ensures fits { Always FitsAt }
+    // no unit but the named one is enabled.
+    ensures enabled { Always OnlyNamedAt }
+{}
+
+/// Along every chain of worlds of every legal trace, whatever was in them at the start: when a record is kept, what it
+/// says is so.
+pub fn kept_records_are_true()
+    ensures { RecordsAreTrue }
+{}
+
+/// With the same premises: every place but the lock bytes of bank 1 that no order leaves in doubt holds what it held
+/// at the start, with the done orders applied once each in journal order.
+pub fn done_orders_are_applied_once()
+    ensures { Always AppliedAt }
+{}
+
+/// The records of a legal trace are always a sentence within the limit.
+pub fn records_are_a_sentence()
+    ensures { RecordsAreASentence }
+{}
+
+/// The orders of the journal are those that it held at the start, and then the taken ones.
+pub fn the_taken_orders_are_kept()
+    ensures { TakenOrdersAreKept }
+{}
+
+/// One reply is due to an order, and no other.
+pub fn one_reply_is_due()
+    ensures { OneReplyIsDue }
+{}
+
+/// A repeat of an order that has ended gets its kept reply at once. Where nothing else is at work, no frame is sent and
+/// no record kept until another order is taken.
+pub fn repeats_are_answered_by_what_is_kept()
+    ensures answered { RepeatsAreAnswered }
+    ensures quiet { RepeatsAreQuiet }
+{}
+
+/// An order that gets another reply than Taken, as each repeat of one that has ended does, changes nothing of what comes
+/// next, whatever is at work: just the frames, records and sayings that might come before it may come after its reply, and
+/// the plan asks for the same.
+pub fn refused_orders_change_nothing()
+    ensures { RefusedOrdersChangeNothing }
+{}
+
+/// Where nothing is at work, no frame is sent and no record kept until an order is taken, stops included.
+pub fn nothing_is_done_until_an_order_is_taken()
+    ensures { QuietUntilTaken }
+{}
+
+/// Along a legal trace that keeps to the plans: from a start of an order on, no more frames are sent than its limit and at
+/// most four records kept, and what is said of it comes after as many frames and misses as it must.
+pub fn planned_work_is_limited()
+    ensures { (start : Start) (past : List Happening) → Legal start past → ByPlan start past → IsWorked start past }
+{}
+
+/// With the same premises: wherever an order is at hand, it is said in what so many steps add, with no stop among them.
+pub fn orders_are_said_in_time()
+    ensures { (start : Start) (before past : List Happening) → Legal start past → ByPlan start past → IsFinished before → IsSaidInTime start before past }
+{}
+
+/// The limit, and the frames of an order that is done: where it starts anew, with or without a left unit, and where it was
+/// opened.
+pub fn limits_are_these()
+    ensures limit { (updates : ℕ) → work_limit updates ≡ 96 * updates + 464 }
+    ensures low { (updates : List (ℕ × ℕ)) → greatest updates < 0x13 → frames_from standings.Idle updates ≡ 12 * length updates + 24 }
+    ensures high { (updates : List (ℕ × ℕ)) → 0x13 ≤ greatest updates → frames_from standings.Idle updates ≡ 12 * length updates + 34 }
+    ensures left { (unit : ℕ) (updates : List (ℕ × ℕ)) → frames_from (standings.Left unit) updates ≡ frames_from standings.Idle updates + 12 }
+{}
+
+/// Sittings one after another, each from the records that those before it left, are one legal trace that keeps to the plans,
+/// with a stop between them. So whatever holds along such a trace holds along all of them.
+pub fn sittings_are_one_trace()
+    ensures { (start : Start) (sittings : List Sitting) → FollowOn start sittings → IsOneTrace start sittings }
+{}
+
+/// Along every chain of worlds of such sittings, from a world that fits the start world and the start records and in which no
+/// unit is write-enabled but the one that they name: each moment fits, no unit but the named one is enabled, every place
+/// that is in no doubt is as the journal says, and when a record is kept, what it says is so.
+pub fn every_moment_of_sittings_is_right()
+    ensures { SittingsAreRight }
+{}
+
+/// After a legal trace one thing is next at most: one record, one frame, one saying, or the reply that is due.
+pub fn one_thing_is_next()
+    ensures { (start : Start) (past : List Happening) (one other : Happening)
+        → Legal start past → IsNext start past one → IsNext start past other → IsSameBut one other }
+{}

@@ -1,0 +1,4 @@
+//! What is so along each legal trace, whatever a bus loses and whenever the program is stopped (profile).
+#![tactic(auto)]
+
+pub mod laws;

@@ -1,0 +1,10 @@
+pub mod WorkedLemmas
+pub mod WorkedPlanLemmas
+pub mod WorkedWorkLemmas
+pub mod WorkedStepLemmas
+pub mod WorkedLossLemmas
+pub mod RefusedLemmas
+pub mod LeftLemmas
+pub mod BlankLemmas
+pub mod PartLemmas
+pub mod EndingLemmas

@@ -1,0 +1,38 @@
+-- What a journal promises of a world. The start world is called zero.
+use Rattle.std.specs.Prelude.{◌≡◌, ◌⊎◌, ℕ, true, List, [], ◌∷◌, Some, is_some}
+use Rattle.dali_gear.specs.World.{World, byte_at, is_enabled}
+use Rattle.dali_journal.specs.declared.record.Record.{Record}
+use Rattle.dali_journal.specs.declared.record.Record.TheVariants.{Opened}
+use Rattle.dali_journal.specs.Sentence.{standing_of, named_unit}
+use Rattle.dali_journal.specs.Orders.{orders_of}
+use Rattle.dali_trace.specs.Possible.{IsPossible, IsSettled, applied}
+
+-- a unit was opened
+abbrev pub IsOpened : ℕ → List Record → Type 0
+IsOpened address [] = ⊥
+IsOpened address (Opened unit ∷ older) = (unit ≡ address) ⊎ IsOpened address older
+IsOpened address (other ∷ older) = IsOpened address older
+
+-- the place is the lock byte of bank 1
+abbrev pub IsLockByte : ℕ → ℕ → Type 0
+IsLockByte bank location = (bank ≡ 1) × (location ≡ 2)
+
+-- a world fits a start world and the records
+pub record Fits (zero : World) (records : List Record) (now : World) : Type 0 where
+  -- it has the same places
+  pub places : (address bank location : ℕ) → is_some (byte_at now address bank location) ≡ is_some (byte_at zero address bank location)
+  -- every place but the lock bytes of bank 1 holds a possible byte
+  pub bytes : (address bank location first byte : ℕ) → (IsLockByte bank location → ⊥) → byte_at zero address bank location ≡ Some first
+      → byte_at now address bank location ≡ Some byte → IsPossible first address bank location (orders_of records) byte
+  -- the lock byte of a unit that was never opened is as it was
+  pub locks : (address : ℕ) → (IsOpened address records → ⊥) → byte_at now address 1 2 ≡ byte_at zero address 1 2
+
+-- no unit is enabled but the one that the records name
+abbrev pub OnlyNamed : List Record → World → Type 0
+OnlyNamed records now = (address : ℕ) → is_enabled now address ≡ true → named_unit (standing_of records) ≡ Some address
+
+-- every place but the lock bytes of bank 1 that no order leaves in doubt holds its byte of the start world, with the done orders applied once each in journal order
+abbrev pub IsApplied : World → List Record → World → Type 0
+IsApplied zero records now = (address bank location first : ℕ) → (IsLockByte bank location → ⊥) → byte_at zero address bank location ≡ Some first
+    → IsSettled address bank location (orders_of records)
+    → byte_at now address bank location ≡ Some (applied first address bank location (orders_of records))

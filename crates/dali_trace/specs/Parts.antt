@@ -1,0 +1,54 @@
+-- A trace is the joined parts of its events, in their order. Events, as happenings, are listed newest first.
+use Rattle.std.specs.Prelude.{◌≡◌, ◌<◌, ◌≤◌, ◌⊎◌, true, false, List, [], ◌∷◌, length, Option, Some}
+use Rattle.dali_bank.specs.Order.{Contents}
+use Rattle.dali_journal.specs.declared.record.Record.{Record}
+use Rattle.dali_journal.specs.declared.record.Record.TheVariants.{Began}
+use Rattle.dali_journal.specs.declared.standing.Standing.{Standing}
+use Rattle.dali_journal.specs.declared.standing.Standing.TheVariants as standings
+use Rattle.dali_journal.specs.Spelling.{spelling}
+use Rattle.dali_write.specs.Exchanges.{Exchange}
+use Rattle.dali_write.specs.declared.ask.Ask.TheVariants as asks
+use Rattle.dali_write.specs.declared.ask.Verdict.{Verdict}
+use Rattle.dali_trace.specs.declared.happening.Event.{Event}
+use Rattle.dali_trace.specs.declared.happening.Event.TheVariants.{Submit, Step, Stop}
+use Rattle.dali_trace.specs.declared.happening.Reply.{Reply}
+use Rattle.dali_trace.specs.declared.happening.Happening.{Happening}
+use Rattle.dali_trace.specs.declared.happening.Happening.TheVariants.{Asked, Answered, Sent, Kept, Stopped}
+use Rattle.dali_trace.specs.Trace.{Start, standing_at, waiting, is_busy}
+use Rattle.dali_trace.specs.ByPlan.{told_in, Asks, EndsIn}
+
+-- what a step may add: a saying, a frame or a record
+abbrev pub IsWork : Happening → Type 0
+IsWork (Answered id reply) = Unit {0}
+IsWork (Sent frame answer) = Unit {0}
+IsWork (Kept entry) = Unit {0}
+IsWork other = ⊥
+
+-- where the records stand so, this order waits and the session at hand was told these, this record is to be kept next: the order is begun, or the session has ended, and it is the one that follows its end
+abbrev pub NextRecord : Standing → Option Contents → List Exchange → Record → Type 0
+NextRecord standings.Idle (Some order) told entry = entry ≡ Began order
+NextRecord (standings.Left unit) (Some order) told entry =
+    (verdict : Verdict) × Asks (standings.Left unit) told (asks.Ended verdict) × EndsIn (standings.Left unit) verdict entry
+NextRecord (standings.Began order) waits told entry =
+    (verdict : Verdict) × Asks (standings.Began order) told (asks.Ended verdict) × EndsIn (standings.Began order) verdict entry
+NextRecord (standings.Opened order) waits told entry =
+    (verdict : Verdict) × Asks (standings.Opened order) told (asks.Ended verdict) × EndsIn (standings.Opened order) verdict entry
+NextRecord stands waits told entry = ⊥
+
+abbrev pub IsKeptNext : Start → List Happening → Record → Type 0
+IsKeptNext start past entry = NextRecord (standing_at start past) (waiting past) (told_in past) entry
+
+-- The part of one event, from the trace before it to the trace after it. A Submit adds the order and its reply. A Step adds one piece of work where the trace is busy, else nothing. A Stop adds Stopped, and before it the record that is to be kept next exactly where there is one, and all its bytes reached the journal.
+abbrev pub Part : Start → Event → List Happening → List Happening → Type 0
+Part start (Submit order) before after = (reply : Reply) × (after ≡ Answered order.id reply ∷ Asked order ∷ before)
+Part start Step before after =
+    ((is_busy start before ≡ true) × ((work : Happening) × IsWork work × (after ≡ work ∷ before)))
+    ⊎ ((is_busy start before ≡ false) × (after ≡ before))
+Part start (Stop bytes) before after =
+    ((after ≡ Stopped ∷ before) × ((entry : Record) → IsKeptNext start before entry → bytes < length (spelling entry)))
+    ⊎ ((entry : Record) × IsKeptNext start before entry × (length (spelling entry) ≤ bytes) × (after ≡ Stopped ∷ Kept entry ∷ before))
+
+-- the trace is the parts of these events
+abbrev pub AreParts : Start → List Event → List Happening → Type 0
+AreParts start [] trace = trace ≡ []
+AreParts start (event ∷ events) trace = (before : List Happening) × Part start event before trace × AreParts start events before

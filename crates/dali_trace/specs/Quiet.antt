@@ -1,0 +1,17 @@
+-- What does not stand in a part of a trace.
+use Rattle.std.specs.Prelude.{List, [], ◌∷◌}
+use Rattle.dali_trace.specs.declared.happening.Reply.TheVariants as replies
+use Rattle.dali_trace.specs.declared.happening.Happening.{Happening}
+use Rattle.dali_trace.specs.declared.happening.Happening.TheVariants.{Answered, Sent}
+
+-- no order is taken
+abbrev pub NoneTaken : List Happening → Type 0
+NoneTaken [] = Unit {0}
+NoneTaken (Answered id replies.Taken ∷ past) = ⊥
+NoneTaken (other ∷ past) = NoneTaken past
+
+-- no frame is sent
+abbrev pub NoneSent : List Happening → Type 0
+NoneSent [] = Unit {0}
+NoneSent (Sent frame answer ∷ past) = ⊥
+NoneSent (other ∷ past) = NoneSent past

@@ -1,0 +1,98 @@
+-- Over the simulated bus: what is lost of an order's frames since its start, and how an order ends that loses little.
+use Rattle.std.specs.Prelude.{◌≡◌, ◌<◌, ◌≤◌, ℕ, ◌+◌, Bool, false, ◌||◌, ◌==◌, nat_lt, List, [], ◌∷◌, Option, Some, None, slice_index, reverse, if◌then◌else◌}
+use Rattle.std.specs.List.{list_any}
+use Rattle.dali_frame.specs.declared.forward.Frame.{Frame}
+use Rattle.dali_bank.specs.Order.{Contents}
+use Rattle.dali_gear.specs.Chain.{IsChain}
+use Rattle.dali_gear.specs.Fate.{next_fate}
+use Rattle.dali_gear.specs.UnitState.{BankState}
+use Rattle.dali_gear.specs.SimState.{SimState, SimStep, world_of}
+use Rattle.dali_gear.specs.Unenabled.{NoneEnabled}
+use Rattle.dali_journal.specs.declared.record.Code.{Code}
+use Rattle.dali_journal.specs.declared.record.Code.TheVariants as codes
+use Rattle.dali_write.specs.Plans.{greatest}
+use Rattle.dali_write.specs.Tries.{most_tries}
+use Rattle.dali_write.specs.Losses.{is_loss}
+use Rattle.dali_write.specs.Successes.{HasBank, has_format}
+use Rattle.dali_write.specs.Misses.{misses_in}
+use Rattle.dali_trace.specs.declared.happening.Reply.TheVariants as replies
+use Rattle.dali_trace.specs.declared.happening.Event.{Event}
+use Rattle.dali_trace.specs.declared.happening.Happening.{Happening}
+use Rattle.dali_trace.specs.declared.happening.Happening.TheVariants.{Asked, Answered, Sent, Stopped}
+use Rattle.dali_journal.specs.Sentence.{named_unit}
+use Rattle.dali_trace.specs.Trace.{Start, sent_since_taken, is_at_work}
+use Rattle.dali_trace.specs.Moves.{MovesBy}
+use Rattle.dali_trace.specs.Runs.{fresh, IsRun}
+use Rattle.dali_trace.specs.Work.{stood_at, order_at_hand}
+
+-- the frame is a loss to the unit, or to the one that was left
+abbrev pub is_lost_to : ℕ → Option ℕ → SimState → Frame → Bool
+is_lost_to unit None state frame = is_loss unit state frame
+is_lost_to unit (Some left) state frame = is_loss unit state frame || is_loss left state frame
+
+-- The states of the bus along a trace are listed newest first, each the one before its happening.
+
+-- the state at the last start: when an order was taken, or the program stopped
+abbrev pub state_at_start : List Happening → SimState → List SimState → SimState
+state_at_start [] last states = last
+state_at_start (Answered id replies.Taken ∷ past) last states = last
+state_at_start (Stopped ∷ past) last states = last
+state_at_start (other ∷ past) last [] = last
+state_at_start (other ∷ past) last (state ∷ states) = state_at_start past state states
+
+-- so many of the frames since then were losses
+abbrev pub losses_since : ℕ → Option ℕ → List Happening → List SimState → ℕ
+losses_since unit left [] states = 0
+losses_since unit left (Answered id replies.Taken ∷ past) states = 0
+losses_since unit left (Stopped ∷ past) states = 0
+losses_since unit left (Sent frame answer ∷ past) (state ∷ states) = (if is_lost_to unit left state frame then 1 else 0) + losses_since unit left past states
+losses_since unit left (other ∷ past) (state ∷ states) = losses_since unit left past states
+losses_since unit left (other ∷ past) [] = 0
+
+-- no fate since then refuses
+abbrev pub UnrefusedSince : List Happening → List SimState → Type 0
+UnrefusedSince [] states = Unit {0}
+UnrefusedSince (Answered id replies.Taken ∷ past) states = Unit {0}
+UnrefusedSince (Stopped ∷ past) states = Unit {0}
+UnrefusedSince (Sent frame answer ∷ past) (state ∷ states) = ((next_fate state.fates).refuse ≡ false) × UnrefusedSince past states
+UnrefusedSince (other ∷ past) (state ∷ states) = UnrefusedSince past states
+UnrefusedSince (other ∷ past) [] = Unit {0}
+
+-- how an order of these updates is to end where bank 1 has these bytes: Short where it ends before the greatest location, Format where an update is at 13h or above and the content format isn't 0003h, else Done
+abbrev pub due_code : List ℕ → List (ℕ × ℕ) → Code
+due_code bytes updates =
+    if nat_lt (slice_index bytes 0) (greatest updates) then codes.Short
+    else (if nat_lt (greatest updates) 0x13 then codes.Done else (if has_format bytes then codes.Done else codes.Format))
+
+-- none of the updates is at a fixed location
+abbrev pub NoneFixed : BankState → List (ℕ × ℕ) → Type 0
+NoneFixed bank [] = Unit {0}
+NoneFixed bank (update ∷ updates) = (list_any (λ fixed. fixed == update.0) bank.fixed ≡ false) × NoneFixed bank updates
+
+-- What is said of an order that was taken, with no stop since. Where its unit is on the bus, no fate refuses and little is lost: how it is to end, if none of its locations is fixed where they are to be written; and the misses are no more than the losses.
+abbrev pub IsSpared : Start → List Happening → SimState → List SimState → Type 0
+IsSpared start (Answered id reply ∷ Asked order ∷ past) last states = Unit {0}
+IsSpared start (Answered id reply ∷ past) last (state ∷ states) =
+    (order : Contents) (bank : BankState) → order_at_hand start past ≡ Some order → is_at_work (stood_at start past) ≡ false
+    → HasBank order.unit bank (state_at_start past state states).units → UnrefusedSince past states
+    → losses_since order.unit (named_unit (stood_at start past)) past states < most_tries → (due_code bank.bytes order.updates ≡ codes.Done → NoneFixed bank order.updates)
+    → (reply ≡ replies.Kept (due_code bank.bytes order.updates)) × (misses_in (sent_since_taken past) ≤ losses_since order.unit (named_unit (stood_at start past)) past states)
+IsSpared start other last states = Unit {0}
+
+-- it holds at each moment of a chain: of what happened up to there, the state there, and those before it
+abbrev pub AtEachState : (List Happening → SimState → List SimState → Type 0) → List Happening → SimState → List SimState → Type 0
+AtEachState holds [] last [] = holds [] last []
+AtEachState holds (next ∷ past) last (state ∷ states) = holds (next ∷ past) last (state ∷ states) × AtEachState holds past state states
+AtEachState holds [] last (state ∷ states) = ⊥
+AtEachState holds (next ∷ past) last [] = ⊥
+
+-- a chain of the simulated bus leads along the trace, and where no unit was enabled at first, what is said along it is so
+pub record LeadsSpared (limit : ℕ) (first : SimState) (past : List Happening) (last : SimState) : Type 0 where
+  pub states : List SimState
+  pub chain : IsChain (MovesBy SimStep) first past last states
+  pub spared : NoneEnabled (world_of first.units) → AtEachState (IsSpared (fresh limit)) past last states
+
+-- What a run of these events over the simulated bus is: all that a run over any bus is, and what is said along it where little is lost.
+pub record IsSimRun (limit : ℕ) (all : List Event) (first : SimState) (trace : List Happening) (journal : List ℕ) (last : SimState) : Type 0 where
+  pub run : IsRun (λ state. world_of state.units) SimStep limit all first trace journal last
+  pub spared : LeadsSpared limit first (reverse trace) last

@@ -1,0 +1,97 @@
+-- How much work an order takes. An order starts when it is taken, and when a stop leaves it begun or opened.
+use Rattle.std.specs.Prelude.{◌≡◌, ◌⊎◌, ◌≤◌, ℕ, suc, ◌+◌, ◌*◌, nat_lt, Bool, true, List, [], ◌∷◌, ◌++◌, length, Option, Some, None, IfSome, if◌then◌else◌}
+use Rattle.dali_bank.specs.Order.{Contents}
+use Rattle.dali_journal.specs.declared.record.Code.{Code}
+use Rattle.dali_journal.specs.declared.record.Code.TheVariants as codes
+use Rattle.dali_journal.specs.declared.standing.Standing.{Standing}
+use Rattle.dali_journal.specs.declared.standing.Standing.TheVariants as standings
+use Rattle.dali_journal.specs.declared.kept.Stage.{Stage}
+use Rattle.dali_journal.specs.Sentence.{standing_of}
+use Rattle.dali_journal.specs.Orders.{orders_of}
+use Rattle.dali_write.specs.Exchanges.{Exchange}
+use Rattle.dali_write.specs.Plans.{greatest, unlock}
+use Rattle.dali_write.specs.Frames.{read_frames, write_frames}
+use Rattle.dali_write.specs.Counts.{done_frames, closing_limit, fresh_limit, opened_limit}
+use Rattle.dali_write.specs.Misses.{IsLong}
+use Rattle.dali_write.specs.Doubts.{HasFailed, EndsUnread, EndsUnlooked, read_backs, FoundAnother}
+use Rattle.dali_trace.specs.declared.happening.Reply.TheVariants as replies
+use Rattle.dali_trace.specs.declared.happening.Happening.{Happening}
+use Rattle.dali_trace.specs.declared.happening.Happening.TheVariants.{Asked, Answered, Kept, Stopped}
+use Rattle.dali_trace.specs.Trace.{Start, records_of, standing_at, sent_since_taken, waiting, has_ended}
+
+-- where the records stood at the last start
+abbrev pub stood_at : Start → List Happening → Standing
+stood_at start [] = standing_of start.records
+stood_at start (Answered id replies.Taken ∷ past) = standing_at start past
+stood_at start (Stopped ∷ past) = standing_at start past
+stood_at start (other ∷ past) = stood_at start past
+
+-- so many records were kept since then
+abbrev pub kept_since : List Happening → ℕ
+kept_since [] = 0
+kept_since (Kept entry ∷ past) = suc (kept_since past)
+kept_since (Answered id replies.Taken ∷ past) = 0
+kept_since (Stopped ∷ past) = 0
+kept_since (other ∷ past) = kept_since past
+
+-- from a start of an order with so many updates no more frames are sent, a left unit's closing included
+abbrev pub work_limit : ℕ → ℕ
+work_limit updates = closing_limit + fresh_limit + opened_limit updates
+
+-- the frames that look whether bank 1 suits the updates, where no try misses
+abbrev pub look_frames : List (ℕ × ℕ) → ℕ
+look_frames updates = if nat_lt (greatest updates) 0x13 then read_frames else 3 * read_frames
+
+-- the frames of an order that is done, from its start on, where no try misses
+abbrev pub frames_from : Standing → List (ℕ × ℕ) → ℕ
+frames_from standings.Idle updates = done_frames (length updates) + look_frames updates
+frames_from (standings.Began order) updates = done_frames (length updates) + look_frames updates
+frames_from (standings.Left unit) updates = done_frames (length updates) + look_frames updates + (write_frames + read_frames)
+frames_from (standings.Opened order) updates = done_frames (length updates)
+
+-- a checked read of the lock byte or of an update's location found another byte than must be there
+abbrev pub FindsAnother : Contents → List Exchange → Type 0
+FindsAnother order sent =
+    (told : List Exchange) × (older : List Exchange) × (sent ≡ told ++ older) × FoundAnother order.unit (unlock order.updates) (read_backs order.updates) told
+
+-- What earns an order its code, among the frames from its start on. Done: exactly so many, and for each miss at most those of a try more. Silent: the last step, which read the length or the content format, failed. DoubtOpen: the last step, which read the lock byte, failed. Doubt: a step failed, or another byte was found.
+-- (What Done, Short, Format and Doubt besides rest on, checked reads, is a rule of legal traces.)
+abbrev pub IsEarned : Standing → Contents → Code → List Exchange → Type 0
+IsEarned first order codes.Done sent = IsLong (frames_from first order.updates) sent
+IsEarned first order codes.Short sent = Unit {0}
+IsEarned first order codes.Format sent = Unit {0}
+IsEarned first order codes.Silent sent = EndsUnlooked order.unit sent
+IsEarned first order codes.Doubt sent = HasFailed order.unit sent ⊎ FindsAnother order sent
+IsEarned first order codes.DoubtOpen sent = EndsUnread order.unit 0x02 sent
+
+-- the order at hand: the one at work, the one that waits, or the one that has ended and isn't said yet
+abbrev pub order_at : Standing → Option Contents → Bool → List (Contents × Stage) → Option Contents
+order_at (standings.Began order) waits ended orders = Some order
+order_at (standings.Opened order) waits ended orders = Some order
+order_at other (Some order) ended orders = Some order
+order_at other None true (newest ∷ older) = Some newest.0
+order_at other None ended orders = None
+
+abbrev pub order_at_hand : Start → List Happening → Option Contents
+order_at_hand start past = order_at (standing_at start past) (waiting past) (has_ended past) (orders_of (records_of start past))
+
+-- since the start of the order at hand no more frames than the limit were sent, and at most four records kept
+abbrev pub IsWithinLimit : Start → List Happening → Type 0
+IsWithinLimit start past = IfSome (order_at_hand start past) (λ order. (length (sent_since_taken past) ≤ work_limit (length order.updates)) × (kept_since past ≤ 4))
+
+-- What was said last of an order that was taken was earned by the frames from its start on: how it ended, or that the left unit's lock byte wasn't told.
+abbrev pub IsSaidSo : Start → List Happening → Type 0
+IsSaidSo start (Answered id reply ∷ Asked order ∷ past) = Unit {0}
+IsSaidSo start (Answered id (replies.Kept code) ∷ past) =
+    (order : Contents) × (order.id ≡ id) × (order_at_hand start past ≡ Some order) × IsEarned (stood_at start past) order code (sent_since_taken past)
+IsSaidSo start (Answered id (replies.Blocked unit) ∷ past) = EndsUnread unit 0x02 (sent_since_taken past)
+IsSaidSo start other = Unit {0}
+
+-- it holds at each moment of a trace
+abbrev pub AtEach : (List Happening → Type 0) → List Happening → Type 0
+AtEach holds [] = holds []
+AtEach holds (newest ∷ past) = holds (newest ∷ past) × AtEach holds past
+
+-- at each moment the frames and records since the start of the order at hand are within the limit, and what is said was earned
+abbrev pub IsWorked : Start → List Happening → Type 0
+IsWorked start past = AtEach (λ moment. IsWithinLimit start moment × IsSaidSo start moment) past

@@ -1,0 +1,87 @@
+use dali_bank::Order;
+use dali_frame::Frame;
+use dali_journal::{Code, Record};
+use std::fmt;
+
+/// The answer to an order, given at once, or what is said of an order that was taken (profile).
+///
+/// At once the first of `Kept`, `IdReused`, `Busy`, `Full` and `Taken` is given that applies. `Kept`
+/// and `Blocked` are also said later, of an order that was taken.
+#[derive(Clone, Copy, Debug, PartialEq, Eq, Hash)]
+pub enum Reply {
+    /// The order will be carried out.
+    Taken,
+    /// The journal has this same order, and it ended so.
+    Kept(Code),
+    /// The journal has an order of this number for another unit or with other updates.
+    IdReused,
+    /// An order is at work, waits, or has ended and that isn't said yet.
+    Busy,
+    /// The journal holds as many orders as it may.
+    Full,
+    /// The order isn't carried out, since a unit that an order before it left open couldn't be
+    /// closed: that unit's short address, 0 to 63.
+    Blocked(u8),
+}
+
+impl fmt::Display for Reply {
+    ghost use Rattle.std.specs.Prelude.{Some};
+    ghost use Rattle.dali_trace.specs.Replies.{reply_text};
+
+    ghost output = { λ reply. Some (reply_text reply) };
+
+    fn fmt<W: fmt::Write>(&self, f: &mut fmt::Formatter<W>) -> fmt::Result {
+        match self {
+            Reply::Taken => f.write_str("taken"),
+            Reply::Kept(code) => {
+                let number = code.number();
+                write!(f, "kept {number} {code}")
+            }
+            Reply::IdReused => f.write_str("reused"),
+            Reply::Busy => f.write_str("busy"),
+            Reply::Full => f.write_str("full"),
+            Reply::Blocked(unit) => write!(f, "blocked {unit}"),
+        }
+    }
+}
+
+/// What happened (profile). A trace is a list of happenings.
+#[derive(Drop)]
+pub enum Happening {
+    /// The order was submitted.
+    Asked(Order),
+    /// The order of this number was answered so.
+    Answered(u64, Reply),
+    /// The frame was sent, and this answer came back or none.
+    Sent(Frame, Option<u8>),
+    /// The record was kept in the journal.
+    Kept(Record),
+    /// The program was stopped, and began anew from its journal.
+    Stopped,
+}
+
+/// What is to be done (profile).
+#[derive(Drop)]
+pub enum Event {
+    /// Submit the order, and reply to it.
+    Submit(Order),
+    /// Do the next thing that is to be done: keep one record, send one frame, or say how an order
+    /// ended. Where nothing is at work nothing is done.
+    Step,
+    /// Stop the program: of the record that is to be kept next, if there is one, the first so many
+    /// bytes reach the journal, or all. It goes on from the journal that is loaded from these bytes.
+    Stop(u16),
+}
+
+/// What a writer wants to be done next (profile).
+#[derive(Drop)]
+pub enum Want {
+    /// Nothing.
+    Idle,
+    /// Keep this record in the journal.
+    Keep(Record),
+    /// Send this frame, and tell the answer.
+    Send(Frame),
+    /// Say this of the order of this number.
+    Say(u64, Reply),
+}

@@ -1,7 +1,0 @@
-use Rattle.dali_writer.specs.Law.{AppliedAt, IsRight}
-use Rattle.dali_writer.proofs.MomentLemmas.{every_moment, part_of}
-use Rattle.dali_writer.proofs.laws.done_orders_are_applied_once.Goals as goal
-
-pub returns : goal.returns
-returns c = λ zero start first past last states along.
-    part_of (IsRight zero start) (AppliedAt zero start) (λ moment now right. right.2) past last states (every_moment zero start first past last states along)

@@ -1,5 +1,0 @@
-use Rattle.dali_writer.proofs.NextLemmas.{one_next}
-use Rattle.dali_writer.proofs.laws.one_thing_is_next.Goals as goal
-
-pub returns : goal.returns
-returns c = one_next

@@ -1,5 +1,0 @@
-use Rattle.dali_writer.proofs.StepsLemmas.{said_in_time}
-use Rattle.dali_writer.proofs.laws.orders_are_said_in_time.Goals as goal
-
-pub returns : goal.returns
-returns c = said_in_time

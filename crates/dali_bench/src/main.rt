@@ -1,33 +1,13 @@
 //! A bench for luminaire data in memory bank 1 of DALI control gear.
 #![tactic(auto)]
 
-mod check;
-mod drive;
-mod drive_files;
-mod fault;
-mod fault_lines;
-mod frame;
-mod job;
-mod journal;
-mod journal_file;
-mod run_scenario;
-mod show;
-#[cfg(test)]
-mod tests;
-
-use crate::check::check;
-use crate::drive_files::drive_files;
-use crate::fault::{Fault, Status};
-use crate::fault_lines::write_fault;
-use crate::frame::frame;
-use crate::job::{Job, job_of};
-use crate::journal::journal;
-use crate::run_scenario::run_scenario;
-use crate::show::show;
 use clap::error::ErrorKind;
+use dali_commands::drive_files::drive_files;
+use dali_commands::frame::frame;
+use dali_commands::{Fault, FileCommand, Job, Status, job_of, write_fault};
 use dali_input::InputFault;
 use std::alloc::{AllocError, Global};
-use std::io::{BufWriter, LineWriter, Read, Write};
+use std::io::{BufWriter, LineWriter};
 use std::process::ExitCode;
 use std::{fs, io};
 
@@ -89,36 +69,6 @@ fn texts_of<'a>(alloc: Global, words: &'a Vec<String>) -> Result<Vec<&'a str>, A
         texts.push(word.as_str())?;
     }
     Ok(texts)
-}
-
-// A command over what a file has.
-#[derive(Clone, Copy)]
-enum FileCommand {
-    Check,
-    Run { single_frames: bool },
-    Show,
-    Journal,
-}
-
-impl FileCommand {
-    fn carry_out<R: Read, W: Write>(
-        &self,
-        alloc: Global,
-        reader: &mut R,
-        writer: &mut W,
-    ) -> Status {
-        match *self {
-            FileCommand::Check => check(alloc, reader, writer),
-            FileCommand::Run { single_frames } => run_scenario(
-                alloc,
-                reader,
-                writer,
-                single_frames,
-            ),
-            FileCommand::Show => show(alloc, reader, writer),
-            FileCommand::Journal => journal(alloc, reader, writer),
-        }
-    }
 }
 
 // Carries out a command over a file. The name `/dev/stdin` is read through the runtime, since a process

@@ -1,8 +1,10 @@
-//! Tests of the libraries, through their public calls alone, as whoever uses them calls them.
+//! Tests of the libraries, the commands among them, through their public calls alone, as whoever uses them calls them.
 #![tactic(auto)]
 
 #[cfg(test)]
 mod bank;
+#[cfg(test)]
+mod commands;
 #[cfg(test)]
 mod drive;
 #[cfg(test)]

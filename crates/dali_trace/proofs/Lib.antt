@@ -8,3 +8,4 @@ pub mod LeftLemmas
 pub mod BlankLemmas
 pub mod PartLemmas
 pub mod EndingLemmas
+pub mod WorkedWorldLemmas

@@ -5,15 +5,17 @@ use Rattle.std.proofs.lemmas.Bool.{and_parts}
 use Rattle.dali_frame.specs.declared.forward.Frame.{Frame}
 use Rattle.dali_frame.specs.declared.forward.Frame.TheVariants.{Dtr1, Write, Enable, AskDtr0, AskDtr1, Read}
 use Rattle.dali_bank.specs.Order.{update_at}
+use Rattle.dali_journal.specs.declared.record.Record.TheVariants.{Began}
 use Rattle.dali_journal.specs.declared.standing.Standing.TheVariants as standings
 use Rattle.dali_write.specs.Exchanges.{Exchange}
 use Rattle.dali_write.specs.Worlds.{Selects}
 use Rattle.dali_write.specs.Reads.{EndsInRead, ReadStands, HasRead}
 use Rattle.dali_write.proofs.EndLemmas.{reads_by, ends_selecting, ends_reading}
 use Rattle.dali_trace.specs.declared.happening.Happening.{Happening}
+use Rattle.dali_trace.specs.declared.happening.Happening.TheVariants.{Sent}
 use Rattle.dali_trace.specs.Trace.{sent_of, sent_since_taken}
-use Rattle.dali_trace.specs.Legal.{MayPut, Legal}
-use Rattle.dali_trace.specs.Worked.{read_at, write_at, second_taken, empty, left_open, first_order, locked, unguarded, bank_not_asked, written_twice, another_byte, idle_frame, frame_to_another_unit, enabled_before_opened, opened_unread, done_unread, done_with_the_lock_unread, begun_twice, busy_at_once, reply_to_another, said_before_ended, begun_while_left, closed_unread, blocked_after_a_read, left_unit_unlocked, begun_after_a_stop, another_code_said, blocked_by_no_unit, silent_write, one_of_one, another_number_said, blocked_under_another_number, frame_to_another_unit_once_opened, frame_past_the_left_unit, another_lock_byte, opened_after_a_stop, written_after_a_stop, said_after_a_stop, closed_by_an_old_read}
+use Rattle.dali_trace.specs.Legal.{MayPut, MayKeep, Legal}
+use Rattle.dali_trace.specs.Worked.{read_at, write_at, second_taken, empty, left_open, first_order, locked, unguarded, bank_not_asked, written_twice, another_byte, idle_frame, frame_to_another_unit, enabled_before_opened, opened_unread, done_unread, done_with_the_lock_unread, begun_twice, busy_at_once, reply_to_another, said_before_ended, begun_while_left, closed_unread, blocked_after_a_read, left_unit_unlocked, begun_after_a_stop, another_code_said, blocked_by_no_unit, silent_write, one_of_one, one_done_of_one, second_order, another_number_said, blocked_under_another_number, frame_to_another_unit_once_opened, frame_past_the_left_unit, another_lock_byte, opened_after_a_stop, written_after_a_stop, said_after_a_stop, closed_by_an_old_read}
 
 -- the newest exchange and the third newest of those that select
 newest_is : (unit location : ℕ) (x : Exchange) (told : List Exchange) → Selects unit location (x ∷ told) → (x.frame ≡ AskDtr0 unit) × (x.answer ≡ Some location)
@@ -233,3 +235,19 @@ not_said_after_a_stop legal = let e = legal.1.0 in cc
 
 pub not_closed_by_an_old_read : Legal empty closed_by_an_old_read → ⊥
 not_closed_by_an_old_read legal = legal.1.due.1
+
+-- the rules of a left unit, and the limit
+
+pub not_elsewhere_in_a_left_unit : Legal left_open (write_at 5 0x03 0xFF second_taken) → ⊥
+not_elsewhere_in_a_left_unit legal = by legal.1.location (newest_is legal.1.unit legal.1.location _ _ legal.1.selected).1 legal.1.may where
+  by : (location : ℕ) → Some 3 ≡ Some location → MayPut (standings.Left 5) location 0xFF → ⊥
+  by location told may = let is : 3 ≡ location = cc in let two = may.0 in omega (arith, is, two)
+
+pub not_with_none_waiting : Legal left_open (Sent (Dtr1 1) None ∷ []) → ⊥
+not_with_none_waiting legal = let e = legal.1.1.1 in cc
+
+pub not_begun_past_the_limit : MayKeep one_done_of_one second_taken (Began second_order) → ⊥
+not_begun_past_the_limit may = omega (arith, may.within)
+
+pub not_started_past_the_limit : Legal (record { records = Began first_order ∷ []; limit = 0 }) [] → ⊥
+not_started_past_the_limit legal = omega (arith, legal.1)

@@ -1,26 +1,13 @@
 -- What is so at each moment of a trace, along a chain of worlds.
-use Rattle.std.specs.Prelude.{◌≡◌, ◌≢◌, ◌↔◌, ◌≤◌, false, List, [], ◌∷◌, ◌++◌, length}
-use Rattle.std.specs.List.{Contains}
-use Rattle.dali_bank.specs.Order.{Contents}
+use Rattle.std.specs.Prelude.{List}
 use Rattle.dali_gear.specs.World.{World}
 use Rattle.dali_gear.specs.Chain.{IsChain, AtEachMoment}
-use Rattle.dali_journal.specs.declared.record.Code.{Code}
-use Rattle.dali_journal.specs.declared.kept.Stage.TheVariants as stages
-use Rattle.dali_journal.specs.Sentence.{IsSentence}
-use Rattle.dali_journal.specs.Orders.{orders_of}
-use Rattle.dali_trace.specs.declared.happening.Reply.{Reply}
-use Rattle.dali_trace.specs.declared.happening.Reply.TheVariants as replies
 use Rattle.dali_trace.specs.declared.happening.Happening.{Happening}
-use Rattle.dali_trace.specs.declared.happening.Happening.TheVariants.{Asked, Answered}
-use Rattle.dali_trace.specs.Trace.{Start, records_of, is_busy}
-use Rattle.dali_trace.specs.Replies.{IsReply}
-use Rattle.dali_trace.specs.Legal.{Legal, MayFollow, IsFinished}
-use Rattle.dali_trace.specs.ByPlan.{IsPlanned}
-use Rattle.dali_trace.specs.Taken.{taken_orders, begun_orders}
+use Rattle.dali_trace.specs.Trace.{Start, records_of}
+use Rattle.dali_trace.specs.Legal.{Legal}
 use Rattle.dali_trace.specs.Moves.{Moves}
 use Rattle.dali_trace.specs.Fits.{Fits, OnlyNamed, IsApplied}
 use Rattle.dali_trace.specs.WhenKept.{WhenKept}
-use Rattle.dali_trace.specs.Quiet.{NoneTaken, NoneSent}
 
 -- a chain of worlds along a legal trace, from a world that fits the start world and the start records, with no unit enabled but the one that they name
 pub record Along (zero : World) (start : Start) (first : World) (past : List Happening) (last : World) (states : List World) : Type 0 where

@@ -216,6 +216,10 @@ number_used_again = Answered 1 replies.IdReused ∷ Asked first_elsewhere ∷ sa
 abbrev pub one_of_one : Start
 one_of_one = record { records = Ended DoubtOpen ∷ Opened 5 ∷ Began first_order ∷ []; limit = 1 }
 
+-- the same where it is done
+abbrev pub one_done_of_one : Start
+one_done_of_one = record { records = Ended Done ∷ Opened 5 ∷ Began first_order ∷ []; limit = 1 }
+
 abbrev pub full : List Happening
 full = Answered 2 replies.Full ∷ Asked second_order ∷ []
 

@@ -1,0 +1,99 @@
+ghost use Rattle.std.specs.Prelude.{◌≡◌, ◌≢◌, List, ℕ, IfOk, IfErr, length, reverse};
+ghost use Rattle.std.specs.Io.KnownBytes.{Appends};
+ghost use Rattle.dali_trace.specs.Runs.{SendsAllProper};
+ghost use Rattle.dali_text.specs.RunText.{run_text};
+ghost use Rattle.dali_input.specs.Input.{ReadsAtMost};
+ghost use Rattle.dali_commands.specs.RunAnswers.{IsRan, IsRunAnswer, IsUnrun, scenario_limit};
+
+use crate::fault::{Fault, Status};
+use crate::fault_lines::write_failure;
+use dali_gear::SimBus;
+use dali_input::{Setup, json_of, read_input, scenario_of, setup_of};
+use dali_text::write_outcome;
+use dali_writer::{Outcome, RunFault, run_sim};
+use std::alloc::Global;
+use std::io;
+use std::io::{Read, Write};
+
+/// The most bytes of a scenario.
+pub const SCENARIO_LIMIT: u32 = 16_777_216;
+
+// What a run gave, and the bus as it stands after it.
+#[derive(Drop)]
+struct Ran {
+    outcome: Outcome,
+    bus: SimBus,
+}
+
+/// Reads a JSON scenario, serves its events over its units under its fates, and writes the trace,
+/// with a line for each frame or one for each run of frames, then how many frames there were, how
+/// many bytes the journal has, and the units afterwards.
+///
+/// Where the scenario isn't run it writes the line of the first fault that stands alone: 13 TooBig
+/// over 16777216 bytes, 11 Json, 12 Document, 13 TooBig over 20000 events or fates, the fault of a
+/// unit (1 Address, 2 Size, 3 Fixed), 5 SameAddress, the fault of an order, 1 Limit; 20 Memory or 21
+/// File where the memory or the reader failed.
+pub fn run_scenario<R: Read, W: Write>(
+    alloc: Global,
+    reader: &mut R,
+    writer: &mut W,
+    single_frames: bool,
+) -> Status
+    ensures ran { result ≢ Status.Unwritten → (text : List ℕ)
+        × IsRunAnswer single_frames (R.remaining reader.old) (R.remaining reader.new) result text
+        × Appends (W.contents writer.old) (W.contents writer.new) text }
+    ensures read { ReadsAtMost scenario_limit (R.remaining reader.old) (R.remaining reader.new) }
+{
+    match try_run(alloc, reader, writer, single_frames) {
+        Ok(status) => status,
+        Err(_) => Status::Unwritten,
+    }
+}
+
+// The same, or the error of the output.
+fn try_run<R: Read, W: Write>(
+    alloc: Global,
+    reader: &mut R,
+    writer: &mut W,
+    single_frames: bool,
+) -> io::Result<Status>
+    ensures ran { IfOk result (λ status. (text : List ℕ)
+        × IsRunAnswer single_frames (R.remaining reader.old) (R.remaining reader.new) status text
+        × Appends (W.contents writer.old) (W.contents writer.new) text) }
+    ensures read { ReadsAtMost scenario_limit (R.remaining reader.old) (R.remaining reader.new) }
+{
+    match ran_of(alloc, reader) {
+        Ok(ran) => write_ran(writer, single_frames, &ran),
+        Err(fault) => write_failure(writer, fault),
+    }
+}
+
+// Reads, understands, sets up and runs a scenario.
+fn ran_of<R: Read>(alloc: Global, reader: &mut R) -> Result<Ran, Fault>
+    ensures ok { IfOk result (λ ran. IsRan (R.remaining reader.old) (R.remaining reader.new)
+        ran.outcome.trace.items ran.outcome.journal.items ran.bus) }
+    ensures err { IfErr result (IsUnrun (R.remaining reader.old) (R.remaining reader.new)) }
+    ensures read { ReadsAtMost scenario_limit (R.remaining reader.old) (R.remaining reader.new) }
+{
+    let input = read_input(alloc, reader, SCENARIO_LIMIT)?;
+    let json = json_of(alloc, input.as_slice(), SCENARIO_LIMIT)?;
+    let scenario = scenario_of(alloc, &json)?;
+    let Setup { mut bus, events } = setup_of(alloc, &scenario)?;
+    let Ok(limit) = u32::try_from(scenario.limit) else {
+        return Err(Fault::Run(RunFault::Limit));
+    };
+    let outcome = run_sim(alloc, &mut bus, limit, events.as_slice())?;
+    Ok(Ran { outcome, bus })
+}
+
+// Tells a run.
+#[tactic(auto, using(dali_text::proofs::StreamLemmas::appends_kept))]
+fn write_ran<W: Write>(writer: &mut W, single_frames: bool, ran: &Ran) -> io::Result<Status>
+    requires { SendsAllProper (reverse ran.now.outcome.trace.items) }
+    ensures { IfOk result (λ status. (status ≡ Status.Good) × Appends (W.contents writer.old) (W.contents writer.new)
+        (run_text single_frames ran.now.outcome.trace.items (length ran.now.outcome.journal.items) ran.now.bus.units)) }
+{
+    write_outcome(writer, single_frames, &ran.outcome, ran.bus.units())?;
+    writer.flush()?;
+    Ok(Status::Good)
+}

@@ -1,0 +1,11 @@
+mod check;
+mod drive_files;
+mod frame;
+mod job;
+mod journal;
+mod run_scenario;
+mod run_text;
+mod scenario;
+mod show;
+mod streams;
+mod tried;

@@ -1,0 +1,408 @@
+use super::tried::{answers, answers_each, fails_to_read, fails_to_write};
+use dali_commands::{FileCommand, Status};
+
+/// The command, with a line for each run of frames.
+pub const RUN: FileCommand = FileCommand::Run {
+    single_frames: false,
+};
+
+// The command, with a line for each frame.
+const RUN_FRAMES: FileCommand = FileCommand::Run {
+    single_frames: true,
+};
+
+const GTIN_ORDER: &str = r#"{"limit":10,"units":[{"address":5}],
+"events":[{"submit":{"order":1,"unit":5,"gtin":"4006381333931"}},{"steps":200}]}"#;
+
+const GTIN_RUN: &str = "\
+ask 1
+reply 1 taken
+keep B order 1 unit 5 bytes 6
+frames 5
+keep O unit 5
+frames 91
+keep E 0 Done
+reply 1 kept 0 Done
+total 96
+journal 27
+unit 5 dtr 09 01 00 enabled no
+bank 5 00 77FFFF03A4CEEFADABFFFFFFFFFFFFFF
+bank 5 10 FF0003FFFFFFFFFFFFFFFFFFFFFFFFFF
+";
+
+const GTIN_FRAMES: &str = "\
+ask 1
+reply 1 taken
+keep B order 1 unit 5 bytes 6
+send C301 --
+send 0B9C 01
+send A300 --
+send 0B98 00
+send 0BC5 77
+keep O unit 5
+send 0B81 --
+send 0B81 --
+send C301 --
+send 0B9C 01
+send A302 --
+send 0B98 02
+send C755 55
+send 0B81 --
+send 0B81 --
+send C301 --
+send 0B9C 01
+send A303 --
+send 0B98 03
+send C703 03
+send 0B81 --
+send 0B81 --
+send C301 --
+send 0B9C 01
+send A304 --
+send 0B98 04
+send C7A4 A4
+send 0B81 --
+send 0B81 --
+send C301 --
+send 0B9C 01
+send A305 --
+send 0B98 05
+send C7CE CE
+send 0B81 --
+send 0B81 --
+send C301 --
+send 0B9C 01
+send A306 --
+send 0B98 06
+send C7EF EF
+send 0B81 --
+send 0B81 --
+send C301 --
+send 0B9C 01
+send A307 --
+send 0B98 07
+send C7AD AD
+send 0B81 --
+send 0B81 --
+send C301 --
+send 0B9C 01
+send A308 --
+send 0B98 08
+send C7AB AB
+send 0B81 --
+send 0B81 --
+send C301 --
+send 0B9C 01
+send A302 --
+send 0B98 02
+send C7FF FF
+send C301 --
+send 0B9C 01
+send A302 --
+send 0B98 02
+send 0BC5 FF
+send C301 --
+send 0B9C 01
+send A303 --
+send 0B98 03
+send 0BC5 03
+send C301 --
+send 0B9C 01
+send A304 --
+send 0B98 04
+send 0BC5 A4
+send C301 --
+send 0B9C 01
+send A305 --
+send 0B98 05
+send 0BC5 CE
+send C301 --
+send 0B9C 01
+send A306 --
+send 0B98 06
+send 0BC5 EF
+send C301 --
+send 0B9C 01
+send A307 --
+send 0B98 07
+send 0BC5 AD
+send C301 --
+send 0B9C 01
+send A308 --
+send 0B98 08
+send 0BC5 AB
+keep E 0 Done
+reply 1 kept 0 Done
+total 96
+journal 27
+unit 5 dtr 09 01 00 enabled no
+bank 5 00 77FFFF03A4CEEFADABFFFFFFFFFFFFFF
+bank 5 10 FF0003FFFFFFFFFFFFFFFFFFFFFFFFFF
+";
+
+// In turn: unit 9 is absent; while order 1 is at work it is busy, its number with other bytes reused, and then the
+// journal is full; unit 5 is left open, which blocks the next order, and then closed; the run ends while unit 5 is
+// enabled; one write isn't answered, which takes a try of seven frames more: its answer is lost, or the unit refuses;
+// frames are lost to a unit with other registers; a location is fixed; the largest order number; many steps.
+const RUNS: &str = r#"{"limit":10,"units":[],
+"events":[{"submit":{"order":1,"unit":9,"gtin":"4006381333931"}},{"steps":50},
+{"submit":{"order":1,"unit":9,"gtin":"4006381333931"}}]}
+----
+ask 1
+reply 1 taken
+keep B order 1 unit 9 bytes 6
+frames 16
+keep E 3 Silent
+reply 1 kept 3 Silent
+ask 1
+reply 1 kept 3 Silent
+total 16
+journal 25
+====
+{"limit":1,"units":[{"address":5}],
+"events":[{"submit":{"order":1,"unit":5,"gtin":"4006381333931"}},
+{"submit":{"order":1,"unit":5,"gtin":"96385074"}},{"steps":1},
+{"submit":{"order":1,"unit":5,"gtin":"96385074"}},
+{"submit":{"order":1,"unit":5,"gtin":"4006381333931"}},
+{"submit":{"order":2,"unit":5,"gtin":"4006381333931"}},{"steps":200},
+{"submit":{"order":2,"unit":5,"gtin":"4006381333931"}},
+{"submit":{"order":1,"unit":5,"gtin":"4006381333931"}}]}
+----
+ask 1
+reply 1 taken
+ask 1
+reply 1 busy
+keep B order 1 unit 5 bytes 6
+ask 1
+reply 1 reused
+ask 1
+reply 1 busy
+ask 2
+reply 2 busy
+frames 5
+keep O unit 5
+frames 91
+keep E 0 Done
+reply 1 kept 0 Done
+ask 2
+reply 2 full
+ask 1
+reply 1 kept 0 Done
+total 96
+journal 27
+unit 5 dtr 09 01 00 enabled no
+bank 5 00 77FFFF03A4CEEFADABFFFFFFFFFFFFFF
+bank 5 10 FF0003FFFFFFFFFFFFFFFFFFFFFFFFFF
+====
+{"limit":10,"units":[{"address":5,"bank":"10FFFFFFFFFFFFFFFFFFFFFFFFFFFFFFFF"},
+{"address":6,"bank":"10FFFFFFFFFFFFFFFFFFFFFFFFFFFFFFFF"}],
+"fates":[{"times":5},{"times":128,"lost":[5]}],
+"events":[{"submit":{"order":1,"unit":5,"gtin":"4006381333931"}},{"steps":200},
+{"submit":{"order":2,"unit":6,"gtin":"4006381333931"}},{"steps":200},
+{"submit":{"order":2,"unit":6,"gtin":"4006381333931"}},{"steps":200}]}
+----
+ask 1
+reply 1 taken
+keep B order 1 unit 5 bytes 6
+frames 5
+keep O unit 5
+frames 80
+keep E 5 DoubtOpen
+reply 1 kept 5 DoubtOpen
+ask 2
+reply 2 taken
+frames 48
+reply 2 blocked 5
+ask 2
+reply 2 taken
+frames 12
+keep C unit 5
+keep B order 2 unit 6 bytes 6
+frames 5
+keep O unit 6
+frames 91
+keep E 0 Done
+reply 2 kept 0 Done
+total 241
+journal 56
+unit 5 dtr 08 01 00 enabled no
+bank 5 00 10FFFFFFFFFFFFFFFFFFFFFFFFFFFFFF
+unit 6 dtr 09 01 00 enabled no
+bank 6 00 10FFFF03A4CEEFADABFFFFFFFFFFFFFF
+====
+{"limit":10,"units":[{"address":5,"bank":"10FFFFFFFFFFFFFFFFFFFFFFFFFFFFFFFF"}],
+"events":[{"submit":{"order":1,"unit":5,"gtin":"4006381333931"}},{"steps":9}]}
+----
+ask 1
+reply 1 taken
+keep B order 1 unit 5 bytes 6
+frames 5
+keep O unit 5
+frames 2
+total 7
+journal 25
+unit 5 dtr 01 01 00 enabled yes
+bank 5 00 10FFFFFFFFFFFFFFFFFFFFFFFFFFFFFF
+====
+{"limit":10,"units":[{"address":5,"bank":"10FFFFFFFFFFFFFFFFFFFFFFFFFFFFFFFF"}],
+"fates":[{"times":18},{"answer_lost":true}],
+"events":[{"submit":{"order":1,"unit":5,"gtin":"4006381333931"}},{"steps":200}]}
+----
+ask 1
+reply 1 taken
+keep B order 1 unit 5 bytes 6
+frames 5
+keep O unit 5
+frames 98
+keep E 0 Done
+reply 1 kept 0 Done
+total 103
+journal 27
+unit 5 dtr 09 01 00 enabled no
+bank 5 00 10FFFF03A4CEEFADABFFFFFFFFFFFFFF
+====
+{"limit":10,"units":[{"address":5,"bank":"10FFFFFFFFFFFFFFFFFFFFFFFFFFFFFFFF"}],
+"fates":[{"times":18},{"refuse":true}],
+"events":[{"submit":{"order":1,"unit":5,"gtin":"4006381333931"}},{"steps":200}]}
+----
+ask 1
+reply 1 taken
+keep B order 1 unit 5 bytes 6
+frames 5
+keep O unit 5
+frames 98
+keep E 0 Done
+reply 1 kept 0 Done
+total 103
+journal 27
+unit 5 dtr 09 01 00 enabled no
+bank 5 00 10FFFF03A4CEEFADABFFFFFFFFFFFFFF
+====
+{"limit":10,"units":[{"address":5,"bank":"10FFFFFFFFFFFFFFFFFFFFFFFFFFFFFFFF","dtr":[0,2,0]}],
+"fates":[{"lost":[5]},{"times":6},{"lost":[5]}],
+"events":[{"submit":{"order":1,"unit":5,"gtin":"4006381333931"}},{"steps":200}]}
+----
+ask 1
+reply 1 taken
+keep B order 1 unit 5 bytes 6
+frames 7
+keep O unit 5
+frames 98
+keep E 0 Done
+reply 1 kept 0 Done
+total 105
+journal 27
+unit 5 dtr 09 01 00 enabled no
+bank 5 00 10FFFF03A4CEEFADABFFFFFFFFFFFFFF
+====
+{"limit":10,"units":[{"address":5,"bank":"10FFFFFFFFFFFFFFFFFFFFFFFFFFFFFFFF","fixed":[5]}],
+"events":[{"submit":{"order":1,"unit":5,"gtin":"4006381333931"}},{"steps":200}]}
+----
+ask 1
+reply 1 taken
+keep B order 1 unit 5 bytes 6
+frames 5
+keep O unit 5
+frames 89
+keep E 4 Doubt
+reply 1 kept 4 Doubt
+total 94
+journal 27
+unit 5 dtr 03 01 00 enabled no
+bank 5 00 10FFFF03A4FFFFFFFFFFFFFFFFFFFFFF
+====
+{"limit":10,"units":[],
+"events":[{"submit":{"order":18446744073709551615,"unit":63,"gtin":"4006381333931"}},{"steps":50}]}
+----
+ask 18446744073709551615
+reply 18446744073709551615 taken
+keep B order 18446744073709551615 unit 63 bytes 6
+frames 16
+keep E 3 Silent
+reply 18446744073709551615 kept 3 Silent
+total 16
+journal 25
+====
+{"limit":10,"units":[],
+"events":[{"submit":{"order":1,"unit":9,"gtin":"4006381333931"}},{"steps":19999}]}
+----
+ask 1
+reply 1 taken
+keep B order 1 unit 9 bytes 6
+frames 16
+keep E 3 Silent
+reply 1 kept 3 Silent
+total 16
+journal 25
+"#;
+
+// Units that nothing happens to.
+const STILL: &str =
+    r#"{"limit":10,"units":[{"address":6,"bank":"10FFFFFFFFFFFFFFFFFFFFFFFFFFFFFFFF"},{"address":5,"bank":"10FFFFFFFFFFFFFFFFFFFFFFFFFFFFFFFF"}],
+"events":[]}
+----
+total 0
+journal 0
+unit 6 dtr 00 00 00 enabled no
+bank 6 00 10FFFFFFFFFFFFFFFFFFFFFFFFFFFFFF
+unit 5 dtr 00 00 00 enabled no
+bank 5 00 10FFFFFFFFFFFFFFFFFFFFFFFFFFFFFF
+====
+{"limit":10,"units":[{"address":5,"bank":"10fFFfaBaBaBaBaBaBaBaBaBaBaBaBaBaB"}],
+"events":[]}
+----
+total 0
+journal 0
+unit 5 dtr 00 00 00 enabled no
+bank 5 00 10FFFFABABABABABABABABABABABABAB
+bank 5 10 AB
+====
+{"limit":10,"units":[{"address":5,"fixed":[3,4,119]}],"events":[]}
+----
+total 0
+journal 0
+unit 5 dtr 00 00 00 enabled no
+bank 5 00 77FFFFFFFFFFFFFFFFFFFFFFFFFFFFFF
+bank 5 10 FF0003FFFFFFFFFFFFFFFFFFFFFFFFFF
+====
+{"limit":10,"units":[{"address":5,"bank":"10FFFFFFFFFFFFFFFFFFFFFFFFFFFFFFFF","dtr":[1,2,255]}],
+"events":[]}
+----
+total 0
+journal 0
+unit 5 dtr 01 02 FF enabled no
+bank 5 00 10FFFFFFFFFFFFFFFFFFFFFFFFFFFFFF
+"#;
+
+#[test]
+fn scenarios(rt: HostRuntime) {
+    let order = GTIN_ORDER.as_bytes();
+    answers(&rt, rt.alloc(), RUN, order, Status::Good, GTIN_RUN);
+    answers(
+        &rt,
+        rt.alloc(),
+        RUN_FRAMES,
+        order,
+        Status::Good,
+        GTIN_FRAMES,
+    );
+    answers_each(&rt, rt.alloc(), RUN, Status::Good, RUNS);
+}
+
+#[test]
+fn units_that_nothing_happens_to(rt: HostRuntime) {
+    answers_each(&rt, rt.alloc(), RUN, Status::Good, STILL);
+}
+
+#[test]
+fn a_reader_that_fails_in_mid_stream(rt: HostRuntime) {
+    fails_to_read(&rt, rt.alloc(), RUN, GTIN_ORDER.as_bytes());
+}
+
+#[test]
+fn a_writer_that_fails_in_mid_text(rt: HostRuntime) {
+    let order = GTIN_ORDER.as_bytes();
+    fails_to_write(&rt, rt.alloc(), RUN, order, GTIN_RUN);
+    fails_to_write(&rt, rt.alloc(), RUN_FRAMES, order, GTIN_FRAMES);
+    fails_to_write(&rt, rt.alloc(), RUN, b"[", "fault 11 Json\n");
+}

@@ -1,0 +1,239 @@
+-- What records say of worlds and what they don't, near the edges: what a weaker definition would let through.
+use Rattle.std.proofs.Common.{◌≡◌, ◌≤◌, ◌<◌, inl, inr, refl, arith, ap, true, false, ℕ, Bool, List, [], ◌∷◌, Option, Some, None, ◌==◌, if◌then◌else◌}
+use Rattle.dali_gear.specs.World.{Gear, World, is_enabled}
+use Rattle.dali_journal.specs.declared.kept.Stage.{Stage}
+use Rattle.dali_journal.specs.declared.kept.Stage.TheVariants as stages
+use Rattle.dali_journal.specs.declared.record.Code.TheVariants.{Done, Short, Format, Silent, Doubt, DoubtOpen}
+use Rattle.dali_journal.specs.declared.record.Record.{Record}
+use Rattle.dali_journal.specs.declared.record.Record.TheVariants.{Began, Opened, Ended, Closed}
+use Rattle.dali_write.specs.Findings.{IsWritten}
+use Rattle.dali_trace.specs.declared.happening.Happening.TheVariants.{Kept}
+use Rattle.dali_trace.specs.Possible.{IsPossible, IsSettled, applied}
+use Rattle.dali_trace.specs.Fits.{IsOpened, IsLockByte, Fits, OnlyNamed, IsApplied}
+use Rattle.dali_trace.specs.Moves.{Moves}
+use Rattle.dali_trace.specs.WhenKept.{Holds, WhenKept}
+use Rattle.dali_trace.specs.Worked.{first_order, third_order, empty, begun, third_begun, opened, alone}
+
+-- Which bytes a place may hold. The first order has 03h for location 03h of unit 5, where FFh stood.
+
+abbrev MayBe : Stage → ℕ → Type 0
+MayBe stage byte = IsPossible 0xFF 5 1 3 ((first_order, stage) ∷ []) byte
+
+-- the old byte alone, the new one alone, or either and no third
+abbrev IsOld : Stage → Type 0
+IsOld stage = MayBe stage 0xFF × (MayBe stage 0x03 → ⊥)
+
+abbrev IsNew : Stage → Type 0
+IsNew stage = MayBe stage 0x03 × (MayBe stage 0xFF → ⊥)
+
+abbrev IsEither : Stage → Type 0
+IsEither stage = MayBe stage 0xFF × MayBe stage 0x03 × (MayBe stage 0x04 → ⊥)
+
+pub old_when_begun : IsOld stages.Begun
+old_when_begun = (refl, λ is. omega (arith, is))
+
+pub either_when_opened : IsEither stages.Open
+either_when_opened = (inl refl, inr refl, elim [ inl is ↦ omega (arith, is) | inr is ↦ omega (arith, is) ])
+
+pub new_when_done : IsNew (stages.Ended Done)
+new_when_done = (refl, λ is. omega (arith, is))
+
+pub old_when_too_short : IsOld (stages.Ended Short)
+old_when_too_short = (refl, λ is. omega (arith, is))
+
+pub old_with_another_format : IsOld (stages.Ended Format)
+old_with_another_format = (refl, λ is. omega (arith, is))
+
+pub old_when_silent : IsOld (stages.Ended Silent)
+old_when_silent = (refl, λ is. omega (arith, is))
+
+pub either_in_doubt : IsEither (stages.Ended Doubt)
+either_in_doubt = (inl refl, inr refl, elim [ inl is ↦ omega (arith, is) | inr is ↦ omega (arith, is) ])
+
+pub either_when_left_open : IsEither (stages.Ended DoubtOpen)
+either_when_left_open = (inl refl, inr refl, elim [ inl is ↦ omega (arith, is) | inr is ↦ omega (arith, is) ])
+
+-- in another unit, in another bank, at a location that the order has no byte for
+pub not_in_another_unit : IsPossible 0xFF 4 1 3 ((first_order, stages.Ended Done) ∷ []) 0x03 → ⊥
+not_in_another_unit is = omega (arith, is)
+
+pub not_in_another_bank : IsPossible 0xFF 5 2 3 ((first_order, stages.Ended Done) ∷ []) 0x03 → ⊥
+not_in_another_bank is = omega (arith, is)
+
+pub not_at_another_location : IsPossible 0xFF 5 1 9 ((first_order, stages.Ended Done) ∷ []) 0x03 → ⊥
+not_at_another_location is = omega (arith, is)
+
+-- The byte with the done orders applied, and whether it is the only one
+
+pub applied_when_done : applied 0xFF 5 1 3 ((first_order, stages.Ended Done) ∷ []) ≡ 0x03
+applied_when_done = refl
+
+pub not_applied_in_doubt : applied 0xFF 5 1 3 ((first_order, stages.Ended Doubt) ∷ []) ≡ 0xFF
+not_applied_in_doubt = refl
+
+pub settled_when_begun : IsSettled 5 1 3 ((first_order, stages.Begun) ∷ [])
+settled_when_begun = tt
+
+pub not_settled_in_doubt : IsSettled 5 1 3 ((first_order, stages.Ended Doubt) ∷ []) → ⊥
+not_settled_in_doubt is = is
+
+pub not_settled_by_a_silent_order : IsSettled 5 1 3 ((first_order, stages.Ended Silent) ∷ (first_order, stages.Ended Doubt) ∷ []) → ⊥
+not_settled_by_a_silent_order is = is
+
+pub settled_by_a_done_order : IsSettled 5 1 3 ((first_order, stages.Ended Done) ∷ (first_order, stages.Ended Doubt) ∷ [])
+settled_by_a_done_order = tt
+
+pub not_settled_elsewhere : IsSettled 5 1 3 ((third_order, stages.Ended Done) ∷ (first_order, stages.Ended Doubt) ∷ []) → ⊥
+not_settled_elsewhere is = is
+
+-- Worlds of one unit at address 5. Its bank 1 has 00h, the lock byte at 02h and 03h to 08h, where the order's bytes stand
+-- but for the last, and the high byte of its content format.
+
+abbrev place_of : ℕ → ℕ → ℕ → ℕ → ℕ → Option ℕ
+place_of last lock high end location =
+    if location == 0x00 then Some last else
+    (if location == 0x02 then Some lock else
+    (if location == 0x03 then Some 0x03 else
+    (if location == 0x04 then Some 0xA4 else
+    (if location == 0x05 then Some 0xCE else
+    (if location == 0x06 then Some 0xEF else
+    (if location == 0x07 then Some 0xAD else
+    (if location == 0x08 then Some end else
+    (if location == 0x11 then Some high else
+    (if location == 0x12 then Some 0x03 else None)))))))))
+
+abbrev unit_with : Bool → ℕ → ℕ → ℕ → ℕ → Gear
+unit_with enabled last lock high end =
+    record { dtr0 = 0; dtr1 = 0; dtr2 = 0; enabled = enabled; memory = λ bank location. if bank == 1 then place_of last lock high end location else None }
+
+abbrev world_with : Bool → ℕ → ℕ → ℕ → ℕ → World
+world_with enabled last lock high end = alone (unit_with enabled last lock high end)
+
+abbrev before : World
+before = world_with false 0x77 0xFF 0x00 0xFF
+
+abbrev after : World
+after = world_with false 0x77 0xFF 0x00 0xAB
+
+-- the order's records, the newest first
+abbrev records_begun : List Record
+records_begun = Began first_order ∷ []
+
+abbrev records_done : List Record
+records_done = Ended Done ∷ Opened 5 ∷ records_begun
+
+-- A world that doesn't fit
+
+-- the number, or 100h, which is no byte
+abbrev or_none : Option ℕ → ℕ
+or_none None = 0x100
+or_none (Some number) = number
+
+pub not_written_when_begun : Fits before records_begun after → ⊥
+not_written_when_begun fits = omega (arith, fits.bytes 5 1 8 0xFF 0xAB (λ lock. omega (arith, lock.1)) refl refl)
+
+pub not_unwritten_when_done : Fits before records_done before → ⊥
+not_unwritten_when_done fits = omega (arith, fits.bytes 5 1 8 0xFF 0xFF (λ lock. omega (arith, lock.1)) refl refl)
+
+pub not_unlocked_when_begun : Fits before records_begun (world_with false 0x77 0x55 0x00 0xFF) → ⊥
+not_unlocked_when_begun fits = omega (arith, ap (λ (byte : Option ℕ). or_none byte) (fits.locks 5 (λ is. is)))
+
+pub not_a_unit_more : Fits (λ address. None) records_begun before → ⊥
+not_a_unit_more fits = let more : true ≡ false = fits.places 5 1 3 in cc
+
+pub opened_where_opened : IsOpened 5 records_done
+opened_where_opened = inl refl
+
+pub not_opened_elsewhere : IsOpened 6 records_done → ⊥
+not_opened_elsewhere (inl is) = omega (arith, is)
+not_opened_elsewhere (inr is) = is
+
+pub lock_byte_of_bank_1 : IsLockByte 1 2
+lock_byte_of_bank_1 = (refl, refl)
+
+pub no_lock_byte_of_bank_2 : IsLockByte 2 2 → ⊥
+no_lock_byte_of_bank_2 is = omega (arith, is.0)
+
+-- An enabled unit
+
+abbrev enabled_world : World
+enabled_world = world_with true 0x77 0xFF 0x00 0xFF
+
+pub not_enabled_when_begun : OnlyNamed records_begun enabled_world → ⊥
+not_enabled_when_begun only = omega (arith, ap (λ (named : Option ℕ). or_none named) (only 5 refl))
+
+pub not_enabled_when_done : OnlyNamed records_done enabled_world → ⊥
+not_enabled_when_done only = omega (arith, ap (λ (named : Option ℕ). or_none named) (only 5 refl))
+
+pub not_enabled_for_another_unit : OnlyNamed (Opened 6 ∷ Began (record { id = 2; unit = 6; updates = [] }) ∷ []) enabled_world → ⊥
+not_enabled_for_another_unit only = omega (arith, ap (λ (named : Option ℕ). or_none named) (only 5 refl))
+
+-- A done order whose byte isn't there, and one in doubt, of whose bytes nothing is said
+
+pub not_applied_when_done : IsApplied before records_done before → ⊥
+not_applied_when_done is = omega (arith, ap (λ (byte : Option ℕ). or_none byte) (is 5 1 8 0xFF (λ lock. omega (arith, lock.1)) refl tt))
+
+-- What is true when a record is kept
+
+pub opened_where_it_reaches : WhenKept empty (Kept (Opened 5) ∷ begun) (world_with false 0x08 0xFF 0x00 0xFF)
+opened_where_it_reaches = (first_order, refl, (0x08, refl, omega arith, λ high. absurd (omega (arith, high))))
+
+pub not_opened_where_it_ends_before : WhenKept empty (Kept (Opened 5) ∷ begun) (world_with false 0x07 0xFF 0x00 0xFF) → ⊥
+not_opened_where_it_ends_before (order, stands, (last, shows, reaches, format)) =
+    let same : order ≡ first_order = cc in
+    let is : last ≡ 0x07 = cc in
+    let eight : 8 ≤ last = rw same at reaches in omega (arith, is, eight)
+
+pub short_where_it_ends_before : WhenKept empty (Kept (Ended Short) ∷ begun) (world_with false 0x07 0xFF 0x00 0xFF)
+short_where_it_ends_before = (first_order, refl, (0x07, refl, omega arith))
+
+pub not_short_where_it_reaches : WhenKept empty (Kept (Ended Short) ∷ begun) (world_with false 0x08 0xFF 0x00 0xFF) → ⊥
+not_short_where_it_reaches (order, stands, (last, shows, ends)) =
+    let same : order ≡ first_order = cc in
+    let is : last ≡ 0x08 = cc in
+    let eight : last < 8 = rw same at ends in omega (arith, is, eight)
+
+pub format_where_it_is_another : WhenKept empty (Kept (Ended Format) ∷ third_begun) (world_with false 0x77 0xFF 0x01 0xFF)
+format_where_it_is_another = (third_order, refl, (0x01, 0x03, refl, refl, omega arith, λ is. omega (arith, is.0)))
+
+pub not_format_where_it_is_0003 : WhenKept empty (Kept (Ended Format) ∷ third_begun) (world_with false 0x77 0xFF 0x00 0xFF) → ⊥
+not_format_where_it_is_0003 (order, stands, (high, low, shows_high, shows_low, is_above, differs)) = differs (cc, cc)
+
+pub done_where_all_is_there : WhenKept empty (Kept (Ended Done) ∷ opened) after
+done_where_all_is_there = (first_order, refl, ((refl, (refl, (refl, (refl, (refl, (refl, (refl, tt))))))), refl))
+
+pub not_done_with_a_byte_missing : WhenKept empty (Kept (Ended Done) ∷ opened) before → ⊥
+not_done_with_a_byte_missing (order, stands, (shows, off)) =
+    let same : order ≡ first_order = cc in
+    let written : IsWritten (Holds before 5) first_order.updates = rw same at shows in
+    omega (arith, ap (λ (byte : Option ℕ). or_none byte) written.1.1.1.1.1.1.0)
+
+pub not_done_where_unlocked : WhenKept empty (Kept (Ended Done) ∷ opened) (world_with false 0x77 0x55 0x00 0xAB) → ⊥
+not_done_where_unlocked (order, stands, (shows, off)) =
+    let same : order ≡ first_order = cc in
+    let written : IsWritten (Holds (world_with false 0x77 0x55 0x00 0xAB) 5) first_order.updates = rw same at shows in
+    omega (arith, ap (λ (byte : Option ℕ). or_none byte) written.0)
+
+pub not_done_where_enabled : WhenKept empty (Kept (Ended Done) ∷ opened) (world_with true 0x77 0xFF 0x00 0xAB) → ⊥
+not_done_where_enabled (order, stands, (shows, off)) =
+    let same : order ≡ first_order = cc in
+    let is : true ≡ false = rw same at off in cc
+
+pub doubt_where_not_enabled : WhenKept empty (Kept (Ended Doubt) ∷ opened) before
+doubt_where_not_enabled = (first_order, refl, refl)
+
+pub not_doubt_where_enabled : WhenKept empty (Kept (Ended Doubt) ∷ opened) enabled_world → ⊥
+not_doubt_where_enabled (order, stands, off) =
+    let same : order ≡ first_order = cc in
+    let is : true ≡ false = rw same at off in cc
+
+pub closed_where_not_enabled : WhenKept empty (Kept (Closed 5) ∷ []) before
+closed_where_not_enabled = refl
+
+pub not_closed_where_enabled : WhenKept empty (Kept (Closed 5) ∷ []) enabled_world → ⊥
+not_closed_where_enabled is = let enabled : true ≡ false = is in cc
+
+-- What a happening does to a world: keeping a record does nothing
+
+pub not_changed_by_a_record : Moves before (Kept (Opened 5)) enabled_world → ⊥
+not_changed_by_a_record moves = let same : true ≡ false = ap (λ (now : World). is_enabled now 5) moves in cc

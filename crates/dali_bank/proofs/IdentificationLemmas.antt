@@ -1,5 +1,5 @@
 -- The bytes of an identification number are those of its hexadecimal digits.
-use Rattle.std.proofs.Common.{◌≡◌, ℕ, zero, suc, ◌+◌, ◌*◌, ◌^◌, ◌<◌, ◌≤◌, ◌-◌, ◌⊎◌, inl, inr, true, List, [], ◌∷◌, length, Option, Some, None, Result, Ok, Err, refl, sym, ap, ◌∙◌, arith}
+use Rattle.std.proofs.Common.{◌≡◌, ◌↔◌, ℕ, zero, suc, ◌+◌, ◌*◌, ◌^◌, ◌<◌, ◌≤◌, ◌-◌, ◌⊎◌, inl, inr, true, List, [], ◌∷◌, length, Option, Some, None, Result, Ok, Err, refl, sym, ap, ◌∙◌, arith}
 use Rattle.std.proofs.Math.Nat.{pow-suc}
 use Rattle.std.proofs.lemmas.Bool.{cases_lt}
 use Rattle.std.proofs.lemmas.Bool.Decides.{nat_tests}
@@ -11,8 +11,9 @@ use Rattle.std.specs.Str.Parse.{AllDigits, digits_value_after}
 use Rattle.hex.specs.Hex.{decode_pairs, decode_sized, digit_or_error, hex_digit_value, is_hex_digit, pair_value, value_at, ◌>>=◌}
 use Rattle.hex.specs.declared.error.FromHexError.{FromHexError}
 use Rattle.hex.proofs.HexLemmas.{decode_of-even, decode_pairs-digits, decode_pairs-ok, decode_sized-ok, decode_sized-twice}
-use Rattle.dali_bank.specs.Law.{IdentificationsAreDigits}
-use Rattle.dali_bank.specs.Numbers.{SpellsNumber, big_endian}
+use Rattle.dali_bank.specs.declared.field.Form.TheVariants as form
+use Rattle.dali_bank.specs.Spelling.{AreFormBytes, hex}
+use Rattle.dali_bank.specs.Numbers.{big_endian}
 use Rattle.dali_bank.proofs.GtinLemmas.{digit_value-in_range}
 
 value_then : {A B : Type 0} (r : Result A FromHexError) (f : A → Result B FromHexError) (y : B)
@@ -132,12 +133,13 @@ same_bytes (a ∷ one) (b ∷ other) sized all others same =
     let rest : big_endian one ≡ big_endian other = omega (arith, ap (λ k. k * 256 ^ length one) first, sum) in
     rw first (ap (λ bytes. b ∷ bytes) (same_bytes one other fewer all.1 others.1 rest))
 
-pub identifications_are_digits : IdentificationsAreDigits
-identifications_are_digits s bytes = (there, back) where
-  there : decode_sized s 8 ≡ Ok bytes → (length s ≡ 16) × AllDigits 16 s × SpellsNumber 8 (digits_value_after 16 0 s) bytes
+-- what hex decodes of a text are the bytes that its digits spell
+pub decoded : (s bytes : List ℕ) (size : ℕ) → (decode_sized s size ≡ Ok bytes) ↔ AreFormBytes form.Identification size (hex s) bytes
+decoded s bytes size = (there, back) where
+  there : decode_sized s size ≡ Ok bytes → AreFormBytes form.Identification size (hex s) bytes
   there h =
-      let long = decode_sized-ok s 8 bytes h in
-      let pairs = sym (decode_of-even s (omega (arith, long))) ∙ sym (decode_sized-twice s 8 (omega (arith, long))) ∙ h in
+      let long = decode_sized-ok s size bytes h in
+      let pairs = sym (decode_of-even s (omega (arith, long))) ∙ sym (decode_sized-twice s size (omega (arith, long))) ∙ h in
       let read = pairs_read 0 0 s bytes pairs in
       let twice = decode_pairs-ok 0 s bytes pairs in (
         omega (arith, long),
@@ -145,12 +147,12 @@ identifications_are_digits s bytes = (there, back) where
         record { sized = omega (arith, long, twice.1); in_range = read.in_range; adds_up = omega (arith, read.valued) },
       )
 
-  back : (length s ≡ 16) × AllDigits 16 s × SpellsNumber 8 (digits_value_after 16 0 s) bytes → decode_sized s 8 ≡ Ok bytes
+  back : AreFormBytes form.Identification size (hex s) bytes → decode_sized s size ≡ Ok bytes
   back facts =
       let some = decode_pairs-digits 0 s (omega (arith, facts.0)) (digits_known s facts.1) in
       let read = pairs_read 0 0 s some.0 some.1 in
       let twice = decode_pairs-ok 0 s some.0 some.1 in
       let same = same_bytes some.0 bytes (omega (arith, facts.0, twice.1, facts.2.sized))
       read.in_range facts.2.in_range (omega (arith, read.valued, facts.2.adds_up)) in
-      decode_sized-twice s 8 (omega (arith, facts.0)) ∙ decode_of-even s (omega (arith, facts.0))
+      decode_sized-twice s size (omega (arith, facts.0)) ∙ decode_of-even s (omega (arith, facts.0))
       ∙ some.1 ∙ ap Ok same

@@ -7,7 +7,7 @@ use Rattle.dali_bank.specs.declared.field.Form.{Form}
 use Rattle.dali_bank.specs.declared.field.Form.TheVariants as form
 use Rattle.dali_bank.specs.declared.shown.Shown.{Shown}
 use Rattle.dali_bank.specs.declared.shown.Shown.TheVariants.{Absent, Unknown, Number, Hex, Text, Raw}
-use Rattle.dali_bank.specs.Layout.{HasRoom, row_of, first_of, length_of}
+use Rattle.dali_bank.specs.Layout.{SuitsForm, row_of, first_of, length_of}
 use Rattle.dali_bank.specs.Spelling.{Plain, unknown, number, digits, hex, text, AreFormBytes}
 use Rattle.dali_bank.specs.Shown.{ShowsValue, IsFormShown, IsShown, part_of}
 use Rattle.dali_bank.specs.Law.{ShowsPlain, SetValuesAreShown, IsShownOnce}
@@ -30,7 +30,7 @@ one_byte_or_not (b ∷ bytes) byte = elim (cases_eq b byte) [
 ]
 
 -- the bytes of a value are shown as that value
-form_shown : (f : Form) (size : ℕ) (value : Plain) (bytes : List ℕ) → HasRoom f size → AreFormBytes f size value bytes
+form_shown : (f : Form) (size : ℕ) (value : Plain) (bytes : List ℕ) → SuitsForm f size → AreFormBytes f size value bytes
     → (answer : Shown) × IsFormShown f size bytes answer × ShowsPlain value bytes answer
 form_shown form.Gtin size (digits s) bytes room are =
     let known = gtin_number s are.0 in
@@ -50,7 +50,7 @@ form_shown form.Text size (text s) bytes room are =
 form_shown f size unknown bytes room are = (Unknown, are, refl)
 form_shown f size value bytes room are = absurd are
 
-some_bytes : (f : Form) (size : ℕ) → HasRoom f size → 1 ≤ size
+some_bytes : (f : Form) (size : ℕ) → SuitsForm f size → 1 ≤ size
 some_bytes form.Gtin size room = omega (arith, room)
 some_bytes form.Identification size room = omega (arith, room)
 some_bytes (form.Number least most) zero room = absurd (omega (arith, room.1))

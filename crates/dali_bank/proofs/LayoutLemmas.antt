@@ -10,7 +10,7 @@ use Rattle.std.proofs.lemmas.List.Sums.{sum_by-le-sum_by}
 use Rattle.dali_bank.specs.declared.field.Field.{Field}
 use Rattle.dali_bank.specs.declared.field.Field.TheVariants.{Gtin, Identification, Year, Week, InputPower, MinDimPower, MinVoltage, MaxVoltage, LightOutput, Cri, Cct, Distribution, Colour, Luminaire}
 use Rattle.dali_bank.specs.Draft.{Drafted, AreFound, found_of, bytes_of, placed_at, updates_of, GivesNumber}
-use Rattle.dali_bank.specs.Layout.{fields, rank_of, row_of, first_of, length_of, HasRoom}
+use Rattle.dali_bank.specs.Layout.{fields, rank_of, row_of, first_of, length_of, SuitsForm}
 use Rattle.dali_bank.specs.Numbers.{big_endian}
 use Rattle.dali_bank.specs.Order.{IsWritable, RisesAbove, AreUpdates}
 
@@ -100,7 +100,7 @@ rank_place Distribution = refl
 rank_place Colour = refl
 rank_place Luminaire = refl
 
-pub field_room : (field : Field) → HasRoom (row_of field).form (row_of field).length
+pub field_room : (field : Field) → SuitsForm (row_of field).form (row_of field).length
 field_room Gtin = refl
 field_room Identification = refl
 field_room Year = (lit≤ tt, lit< tt)

@@ -1,10 +1,10 @@
 pub mod GtinLemmas
 pub mod NumberLemmas
 pub mod TextLemmas
+pub mod IdentificationLemmas
 pub mod SpellingLemmas
 pub mod LayoutLemmas
 pub mod LawLemmas
 pub mod OrderLemmas
 pub mod UpdateLemmas
 pub mod WorkedFieldLemmas
-pub mod IdentificationLemmas

@@ -5,10 +5,10 @@ use Rattle.dali_bank.specs.declared.shown.Shown.{Shown}
 use Rattle.dali_bank.specs.declared.shown.Shown.TheVariants.{Absent, Number, Raw, Text}
 use Rattle.dali_bank.specs.declared.field.Field.TheVariants.{Year}
 use Rattle.dali_bank.specs.Gtin.{IsGtin, IsGtinLength, weighted_sum}
-use Rattle.dali_bank.specs.Layout.{HasRoom}
+use Rattle.dali_bank.specs.Layout.{SuitsForm}
 use Rattle.dali_bank.specs.Numbers.{SpellsNumber}
 use Rattle.dali_bank.specs.Shown.{IsShown, IsFormShown, ShowsValue}
-use Rattle.dali_bank.specs.Spelling.{unknown, number, text, IsText, IsTextByte, AreFormBytes}
+use Rattle.dali_bank.specs.Spelling.{unknown, number, hex, text, IsText, IsTextByte, AreFormBytes}
 
 -- texts
 
@@ -44,6 +44,25 @@ as_long_as_the_field =
 
 pub not_longer : IsText 2 (0x41 ∷ 0x42 ∷ 0x43 ∷ []) → ⊥
 not_longer is = omega (arith, is.few)
+
+-- identification numbers, with 2 bytes for 8
+
+pub hexadecimal_digits : AreFormBytes form.Identification 2 (hex (0x30 ∷ 0x31 ∷ 0x30 ∷ 0x61 ∷ [])) (0x01 ∷ 0x0A ∷ [])
+hexadecimal_digits =
+    (
+      refl,
+      (omega arith, (omega arith, (omega arith, (omega arith, tt)))),
+      record { sized = refl; in_range = (omega arith, (omega arith, tt)); adds_up = refl },
+    )
+
+pub not_last_digits_first : AreFormBytes form.Identification 2 (hex (0x30 ∷ 0x31 ∷ 0x30 ∷ 0x61 ∷ [])) (0x0A ∷ 0x01 ∷ []) → ⊥
+not_last_digits_first are = omega (arith, are.2.adds_up)
+
+pub no_digit_g : (bytes : List ℕ) → AreFormBytes form.Identification 1 (hex (0x30 ∷ 0x67 ∷ [])) bytes → ⊥
+no_digit_g bytes are = omega (arith, are.1.1.0)
+
+pub no_odd_digits : (bytes : List ℕ) → AreFormBytes form.Identification 1 (hex (0x30 ∷ [])) bytes → ⊥
+no_odd_digits bytes are = omega (arith, are.0)
 
 -- numbers
 
@@ -130,8 +149,8 @@ not_of_nine_digits is = omega (arith, is)
 
 -- rows of the layout
 
-pub room_for_the_number_above : HasRoom (form.Number 0 65534) 2
+pub room_for_the_number_above : SuitsForm (form.Number 0 65534) 2
 room_for_the_number_above = (omega arith, omega arith)
 
-pub no_room_for_the_number_above : HasRoom (form.Number 0 65535) 2 → ⊥
+pub no_room_for_the_number_above : SuitsForm (form.Number 0 65535) 2 → ⊥
 no_room_for_the_number_above has = omega (arith, has.1)

@@ -1,10 +1,8 @@
 -- The laws of fields, banks and updates.
 use Rattle.std.specs.Prelude.{◌≡◌, ◌≢◌, ◌⊎◌, ◌↔◌, ℕ, List, Some, length, replicate}
 use Rattle.std.specs.List.{Contains}
-use Rattle.std.specs.Str.Parse.{AllDigits, digits_value}
+use Rattle.std.specs.Str.Parse.{digits_value}
 use Rattle.dali_bank.specs.declared.field.Field.{Field}
-use Rattle.dali_bank.specs.declared.field.Field.TheVariants.{Identification}
-use Rattle.dali_bank.specs.Numbers.{SpellsNumber}
 use Rattle.dali_bank.specs.declared.shown.Shown.{Shown}
 use Rattle.dali_bank.specs.declared.shown.Shown.TheVariants as shown
 use Rattle.dali_bank.specs.Spelling.{Plain, unknown, number, digits, hex, text, AreFieldBytes}
@@ -31,8 +29,3 @@ IsShownOnce = (field : Field) (bank : List ℕ) (one other : Shown) → IsShown 
 -- the byte that rising updates have for a location is the one that stands among them with it
 abbrev pub UpdatesAreFound : Type 0
 UpdatesAreFound = (updates : List (ℕ × ℕ)) (location byte : ℕ) → RisesAbove 0 updates → (update_at updates location ≡ Some byte) ↔ Contains updates (location, byte)
-
--- the bytes of an identification number are eight that spell its sixteen hexadecimal digits, and only such a text has bytes
-abbrev pub IdentificationsAreDigits : Type 0
-IdentificationsAreDigits = (s bytes : List ℕ) → AreFieldBytes Identification (hex s) bytes
-    ↔ ((length s ≡ 16) × AllDigits 16 s × SpellsNumber 8 (digits_value 16 s) bytes)

@@ -51,8 +51,8 @@ abbrev pub length_of : Field → ℕ
 length_of field = (row_of field).length
 
 -- so many bytes suit this form: they have room for each of its values, and for the number of FFh in every byte above them
-abbrev pub HasRoom : Form → ℕ → Type 0
-HasRoom form.Gtin size = size ≡ 6
-HasRoom form.Identification size = size ≡ 8
-HasRoom (form.Number least most) size = (size ≤ 8) × (most + 1 < 256 ^ size)
-HasRoom form.Text size = (1 ≤ size) × (size ≤ 60)
+abbrev pub SuitsForm : Form → ℕ → Type 0
+SuitsForm form.Gtin size = size ≡ 6
+SuitsForm form.Identification size = size ≡ 8
+SuitsForm (form.Number least most) size = (size ≤ 8) × (most + 1 < 256 ^ size)
+SuitsForm form.Text size = (1 ≤ size) × (size ≤ 60)

@@ -1,8 +1,7 @@
 -- Field bytes: which bytes a field has for a value.
-use Rattle.std.specs.Prelude.{◌≡◌, ℕ, ◌-◌, ◌≤◌, List, ◌++◌, length, replicate, take, Ok, ⊤}
+use Rattle.std.specs.Prelude.{◌≡◌, ℕ, ◌-◌, ◌*◌, ◌≤◌, List, ◌++◌, length, replicate, take, ⊤}
 use Rattle.std.specs.List.{AllByRecursion}
-use Rattle.std.specs.Str.Parse.{digits_value}
-use Rattle.hex.specs.Hex.{decode_sized}
+use Rattle.std.specs.Str.Parse.{AllDigits, digits_value}
 use Rattle.dali_bank.specs.declared.field.Field.{Field}
 use Rattle.dali_bank.specs.declared.field.Form.{Form}
 use Rattle.dali_bank.specs.declared.field.Form.TheVariants as form
@@ -49,7 +48,7 @@ pub record IsText (size : ℕ) (s : List ℕ) : Type 0 where
 -- so many bytes stand for the value in a field of this form
 abbrev pub AreFormBytes : Form → ℕ → Plain → List ℕ → Type 0
 AreFormBytes form.Gtin size (digits s) bytes = IsGtin s × SpellsNumber size (digits_value 10 s) bytes
-AreFormBytes form.Identification size (hex s) bytes = decode_sized s size ≡ Ok bytes
+AreFormBytes form.Identification size (hex s) bytes = (length s ≡ 2 * size) × AllDigits 16 s × SpellsNumber size (digits_value 16 s) bytes
 AreFormBytes (form.Number least most) size (number n) bytes = (least ≤ n) × (n ≤ most) × SpellsNumber size n bytes
 AreFormBytes form.Text size (text s) bytes = IsText size s × (bytes ≡ s ++ replicate (size - length s) 0)
 AreFormBytes _ size unknown bytes = bytes ≡ replicate size 0xFF
@@ -64,8 +63,8 @@ abbrev pub HasFormBytes : Form → ℕ → Plain → Type 0
 HasFormBytes form size value = (bytes : List ℕ) × AreFormBytes form size value bytes
 
 -- the field takes values of this kind
-abbrev pub Takes : Field → Plain → Type 0
-Takes field value = FormTakes (row_of field).form value
+abbrev pub TakesKind : Field → Plain → Type 0
+TakesKind field value = FormTakes (row_of field).form value
 
 -- the bytes stand for the value in the field
 abbrev pub AreFieldBytes : Field → Plain → List ℕ → Type 0

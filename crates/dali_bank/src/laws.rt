@@ -5,7 +5,7 @@ ghost use Rattle.dali_bank.specs.declared.blank.TheConstants.{BLANK};
 ghost use Rattle.dali_bank.specs.declared.field.TheConstants.Field.{ALL};
 ghost use Rattle.dali_bank.specs.Blank.{blank_bank};
 ghost use Rattle.dali_bank.specs.Layout.{fields};
-ghost use Rattle.dali_bank.specs.Law.{IdentificationsAreDigits, IsShownOnce, SetValuesAreShown, UpdatesAreFound};
+ghost use Rattle.dali_bank.specs.Law.{IsShownOnce, SetValuesAreShown, UpdatesAreFound};
 
 /// The bytes that a field has for a value, laid in a bank, are shown as that value.
 ///
@@ -23,12 +23,6 @@ pub fn fields_are_shown_once()
 /// The byte that an order's updates have for a location is the one that stands among them with it.
 pub fn updates_are_found_by_location()
     ensures { UpdatesAreFound }
-{}
-
-/// The bytes of an identification number are the eight that spell its sixteen hexadecimal digits, in either case,
-/// the most significant first; no other text has any.
-pub fn identifications_are_digits()
-    ensures { IdentificationsAreDigits }
 {}
 
 /// The constants are those of the rules: the bytes of a blank unit's bank, and the fields by rising location.

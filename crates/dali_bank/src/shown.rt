@@ -1,5 +1,5 @@
 ghost use Rattle.std.specs.Prelude.{length};
-ghost use Rattle.dali_bank.specs.Layout.{HasRoom};
+ghost use Rattle.dali_bank.specs.Layout.{SuitsForm};
 ghost use Rattle.dali_bank.specs.Shown.{IsFormShown, IsShown};
 
 use crate::field::{Field, Form, Row};
@@ -47,7 +47,7 @@ pub fn read_field(bank: &[u8], field: Field) -> Shown
 
 // How the bytes of a field of this form are shown.
 fn bytes_shown(form: Form, bytes: &[u8]) -> Shown
-    requires { HasRoom form (length bytes.now) }
+    requires { SuitsForm form (length bytes.now) }
     ensures { IsFormShown form (length bytes.now) bytes.now result }
 {
     if are_all(bytes, 0xff) {

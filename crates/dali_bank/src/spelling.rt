@@ -1,8 +1,9 @@
-ghost use Rattle.std.specs.Prelude.{◌≡◌, ◌≤◌, ◌<◌, ◌-◌, ◌^◌, ◌++◌, length, IsTrue, IfOk, IfErr, replicate, ◌↔◌};
+ghost use Rattle.std.specs.Prelude.{◌≡◌, ◌≤◌, ◌<◌, ◌-◌, ◌^◌, ◌++◌, length, IsTrue, IsNone, IfSome, IfOk, IfErr, replicate, ◌↔◌};
 ghost use Rattle.dali_bank.specs.Faults.{IsFormFault, IsValueFault};
-ghost use Rattle.dali_bank.specs.Layout.{HasRoom};
+ghost use Rattle.dali_bank.specs.Layout.{SuitsForm};
 ghost use Rattle.dali_bank.specs.Numbers.{SpellsNumber, big_endian};
-ghost use Rattle.dali_bank.specs.Spelling.{AreFieldBytes, AreFormBytes, plain};
+ghost use Rattle.dali_bank.specs.Spelling.{AreFieldBytes, AreFormBytes, HasFormBytes, hex, plain};
+ghost use Rattle.dali_bank.specs.declared.field.Form.TheVariants as form;
 
 use crate::fault::BankFault;
 use crate::field::{Field, Form, Row};
@@ -29,7 +30,7 @@ pub(crate) fn field_bytes(field: Field, value: Value<'_>) -> Result<FieldBytes, 
 
 // The bytes for a value in a field of this form and length.
 fn form_bytes(form: Form, length: u8, value: Value<'_>) -> Result<FieldBytes, BankFault>
-    requires { HasRoom form length }
+    requires { SuitsForm form length }
     ensures ok { IfOk result (λ bytes. AreFormBytes form length (plain value.entry) bytes.items) }
     ensures err { IfErr result (IsFormFault form length (plain value.entry)) }
 {
@@ -40,8 +41,7 @@ fn form_bytes(form: Form, length: u8, value: Value<'_>) -> Result<FieldBytes, Ba
             Ok(number_bytes(number, length))
         }
         (Form::Identification, Value::Hex(text)) => {
-            let bytes = <[u8; 8]>::from_hex(text).map_err(|_| BankFault::Text)?;
-            Ok(copied(&bytes))
+            identification_bytes(text).ok_or(BankFault::Text)
         }
         (Form::Number { least, most }, Value::Number(number)) => {
             if number < least || number > most {
@@ -56,6 +56,18 @@ fn form_bytes(form: Form, length: u8, value: Value<'_>) -> Result<FieldBytes, Ba
             Ok(text_bytes(text.as_bytes(), length))
         }
         _ => Err(BankFault::Kind),
+    }
+}
+
+// The eight bytes that sixteen hexadecimal digits spell, where the text is such.
+#[tactic(auto, using(crate::proofs::IdentificationLemmas::decoded))]
+fn identification_bytes(text: &str) -> Option<FieldBytes>
+    ensures some { IfSome result (λ bytes. AreFormBytes form.Identification 8 (hex text.now) bytes.items) }
+    ensures none { IsNone result → ¬ HasFormBytes form.Identification 8 (hex text.now) }
+{
+    match <[u8; 8]>::from_hex(text) {
+        Ok(bytes) => Some(copied(&bytes)),
+        Err(_) => None,
     }
 }
 

@@ -13,7 +13,7 @@ use Rattle.dali_trace.specs.Trace.{Start}
 use Rattle.dali_drive.specs.Transcript.{Streams}
 use Rattle.dali_commands.specs.declared.fault.Status.{Status}
 use Rattle.dali_commands.specs.declared.fault.Status.TheVariants.{Good}
-use Rattle.dali_commands.specs.DriveAnswers.{IsDriveAnswer, IsTold, refused_lines, start_at}
+use Rattle.dali_commands.specs.DriveAnswers.{IsDriveAnswer, IsFaultTold, refused_lines, start_at}
 use Rattle.dali_commands.specs.Faults.{item_line}
 use Rattle.dali_text.proofs.StreamLemmas.{appends_both}
 
@@ -28,7 +28,7 @@ ends_well journal made orders first last writer status is driven good = inl (rec
 
 -- it broke off, and its fault was told
 pub ends_broken : (journal : JournalState) (made : Held) (orders : List Contents) (first last : Streams) (replies : Option (List ℕ)) (fault : DriveFault) (status : Status) → made.journal ≡ journal
-    → IsBrokenDrive (start_of made) orders fault first (record last { out = replies }) → IsTold fault status replies last.out → IsDriveAnswer (start_at journal) orders first status last
+    → IsBrokenDrive (start_of made) orders fault first (record last { out = replies }) → IsFaultTold fault status replies last.out → IsDriveAnswer (start_at journal) orders first status last
 ends_broken journal made orders first last replies fault status is broken told = inr (record {
   fault = fault;
   replies = replies;

@@ -48,9 +48,9 @@ abbrev pub start_at : JournalState → Start
 start_at journal = record { records = journal.records; limit = journal.limit }
 
 -- how a fault is told behind the replies; nothing is where they can't be written
-abbrev pub IsTold : DriveFault → Status → Option (List ℕ) → Option (List ℕ) → Type 0
-IsTold Out status before after = (status ≡ Unwritten) × (after ≡ before)
-IsTold fault status before after = status ≢ Unwritten → (status ≡ status_of (Drive fault)) × Appends before after (line_of (Drive fault))
+abbrev pub IsFaultTold : DriveFault → Status → Option (List ℕ) → Option (List ℕ) → Type 0
+IsFaultTold Out status before after = (status ≡ Unwritten) × (after ≡ before)
+IsFaultTold fault status before after = status ≢ Unwritten → (status ≡ status_of (Drive fault)) × Appends before after (line_of (Drive fault))
 
 -- all the orders were asked, and nothing more is to be done
 pub record EndsWell (start : Start) (orders : List Contents) (first : Streams) (status : Status) (last : Streams) : Type 0 where
@@ -63,7 +63,7 @@ pub record EndsBroken (start : Start) (orders : List Contents) (first : Streams)
   pub fault : DriveFault
   pub replies : Option (List ℕ)
   pub broken : IsBrokenDrive start orders fault first (record last { out = replies })
-  pub told : IsTold fault status replies last.out
+  pub told : IsFaultTold fault status replies last.out
 
 -- how a drive over these streams ended
 abbrev pub IsDriveAnswer : Start → List Contents → Streams → Status → Streams → Type 0

@@ -3,7 +3,7 @@ use Rattle.std.specs.Prelude.{◌≡◌, ◌⊎◌, List, ℕ, length}
 use Rattle.std.specs.Str.Parse.{AllDigits}
 use Rattle.dali_frame.specs.declared.forward.Frame.{Frame}
 use Rattle.dali_frame.specs.Frame.{Spells}
-use Rattle.dali_frame.specs.Hex.{SpellsNumber}
+use Rattle.dali_frame.specs.Hex.{SpellsHexNumber}
 use Rattle.dali_text.specs.FrameLine.{frame_line}
 use Rattle.dali_input.specs.declared.fault.InputFault.TheVariants.{Hex}
 use Rattle.dali_commands.specs.declared.fault.Fault.TheVariants.{Input}
@@ -20,7 +20,7 @@ pub record IsFrameText (argument text : List ℕ) : Type 0 where
   pub word : ℕ
   pub frame : Frame
   pub digits : AreFourDigits argument
-  pub number : SpellsNumber argument word
+  pub number : SpellsHexNumber argument word
   pub spelled : Spells frame word
   pub text_is : text ≡ frame_line word frame
 

@@ -14,7 +14,7 @@ use Rattle.dali_text.specs.RunText.{run_text}
 use Rattle.dali_input.specs.Input.{IsJson, IsNoJson, IsReadFailure, ReadsInput}
 use Rattle.dali_input.specs.declared.fault.InputFault.{InputFault}
 use Rattle.dali_input.specs.Scenario.{IsScenario, Planned}
-use Rattle.dali_input.specs.Setup.{IsReady, IsRefused}
+use Rattle.dali_input.specs.Setup.{IsSetUp, IsSetupRefused}
 use Rattle.dali_input.specs.Values.{IsNoReading}
 use Rattle.dali_commands.specs.declared.fault.Fault.{Fault}
 use Rattle.dali_commands.specs.declared.fault.Fault.TheVariants.{Input, Setup, Run, Journal, Drive}
@@ -38,7 +38,7 @@ pub record IsUnderstood (before after : Option (List ℕ)) (planned : Planned) :
 pub record IsScenarioRun (planned : Planned) (trace : List Happening) (journal : List ℕ) (last : SimState) : Type 0 where
   pub first : SimState
   pub all : List Event
-  pub ready : IsReady planned first.units first.fates all
+  pub ready : IsSetUp planned first.units first.fates all
   pub unenabled : NoneEnabled (world_of first.units)
   pub run : IsSimRun planned.limit all first trace journal last
 
@@ -54,9 +54,9 @@ IsMisread before after fault = IsReadFailure fault ⊎ ((input : List ℕ) × Re
 -- why none was run, by the station at which its way ended; want of memory may come at any
 abbrev pub IsUnrun : Option (List ℕ) → Option (List ℕ) → Fault → Type 0
 IsUnrun before after (Input fault) = IsMisread before after fault
-IsUnrun before after (Setup fault) = (planned : Planned) × IsUnderstood before after planned × IsRefused planned fault
+IsUnrun before after (Setup fault) = (planned : Planned) × IsUnderstood before after planned × IsSetupRefused planned fault
 IsUnrun before after (Run Limit) = (planned : Planned) × IsUnderstood before after planned
-    × ((units : List UnitState) × (fates : List Fate) × (all : List Event) × IsReady planned units fates all) × ¬ IsLimit planned.limit
+    × ((units : List UnitState) × (fates : List Fate) × (all : List Event) × IsSetUp planned units fates all) × ¬ IsLimit planned.limit
 IsUnrun before after (Run NoMemory) = ⊤
 IsUnrun before after (Journal fault) = ⊥
 IsUnrun before after (Drive fault) = ⊥

@@ -1,7 +1,7 @@
 ghost use Rattle.std.specs.Prelude.{◌≡◌, ◌≢◌, IfOk, IfErr, OnOk, false};
 ghost use Rattle.std.specs.Io.KnownBytes.{Appends};
 ghost use Rattle.dali_drive.specs.Transcript.{shown};
-ghost use Rattle.dali_commands.specs.DriveAnswers.{IsDriveAnswer, IsTold, refused_lines, start_at};
+ghost use Rattle.dali_commands.specs.DriveAnswers.{IsDriveAnswer, IsFaultTold, refused_lines, start_at};
 
 use crate::fault::{Fault, Status};
 use crate::fault_lines::{write_failure, write_refused_item};
@@ -41,7 +41,7 @@ pub fn drive_over<I: Source, L: Sink, J: Sink, W: Write>(
 
 // Writes the fault of a drive, where the replies could be written.
 fn tell_fault<W: Write>(writer: &mut W, fault: DriveFault) -> Status
-    ensures { IsTold fault result (W.contents writer.old) (W.contents writer.new) }
+    ensures { IsFaultTold fault result (W.contents writer.old) (W.contents writer.new) }
 {
     match fault {
         DriveFault::Out => Status::Unwritten,

@@ -1,7 +1,7 @@
 ghost use Rattle.std.specs.Prelude.{◌≡◌, ◌≢◌, ◌↔◌, ℕ, List, IsSome, IfSome, IfOk};
 ghost use Rattle.std.specs.Io.KnownBytes.{Appends};
 ghost use Rattle.dali_frame.specs.Frame.{Spells};
-ghost use Rattle.dali_frame.specs.Hex.{SpellsNumber};
+ghost use Rattle.dali_frame.specs.Hex.{SpellsHexNumber};
 ghost use Rattle.dali_frame.specs.declared.forward.Frame.{Frame};
 ghost use Rattle.dali_text.specs.FrameLine.{frame_line};
 ghost use Rattle.dali_commands.specs.FrameAnswers.{AreFourDigits, IsFrameAnswer};
@@ -41,7 +41,7 @@ fn try_frame<W: Write>(argument: &str, writer: &mut W) -> io::Result<Status>
 // The word of four hexadecimal digits.
 fn word_in(argument: &str) -> Option<u16>
     ensures found { IsSome result ↔ AreFourDigits argument.now }
-    ensures value { IfSome result (SpellsNumber argument.now) }
+    ensures value { IfSome result (SpellsHexNumber argument.now) }
 {
     let [first, _, _, _] = argument.as_bytes() else {
         return None;

@@ -4,7 +4,7 @@ use Rattle.std.specs.Io.BufRead.{strip_last}
 use Rattle.std.specs.Io.KnownBytes.{Consumes, IsAtEnd}
 use Rattle.dali_frame.specs.declared.forward.Frame.{Frame}
 use Rattle.dali_frame.specs.Frame.{spelling}
-use Rattle.dali_frame.specs.Line.{word_line, SpellsAnswer, HasFault}
+use Rattle.dali_frame.specs.Line.{word_line, SpellsAnswer, IsLineFault}
 use Rattle.dali_drive.specs.declared.fault.DriveFault.{DriveFault}
 use Rattle.dali_drive.specs.declared.fault.DriveFault.TheVariants.{Link, Line, End, TooLong}
 use Rattle.dali_trace.specs.declared.happening.Reply.{Reply}
@@ -38,7 +38,7 @@ pub record IsAnswerLine (answer : Option ℕ) (bytes : List ℕ) : Type 0 where
 abbrev pub TakesLine : Option (List ℕ) → Option (List ℕ) → Result (Option ℕ) DriveFault → Type 0
 TakesLine old new (Ok answer) = (bytes : List ℕ) × IsAnswerLine answer bytes × Consumes old new bytes
 TakesLine old new (Err Link) = (bytes : List ℕ) × IsShort bytes × Consumes old new bytes
-TakesLine old new (Err (Line fault)) = (line : List ℕ) × IsShort line × HasFault fault (strip_last 13 line) × Consumes old new (line ++ 10 ∷ [])
+TakesLine old new (Err (Line fault)) = (line : List ℕ) × IsShort line × IsLineFault fault (strip_last 13 line) × Consumes old new (line ++ 10 ∷ [])
 TakesLine old new (Err End) = (bytes : List ℕ) × IsShort bytes × Consumes old new bytes × IsAtEnd new
 TakesLine old new (Err TooLong) = (bytes : List ℕ) × (length bytes ≡ 9) × IsInLine bytes × Consumes old new bytes
 TakesLine old new (Err other) = ⊥

@@ -5,10 +5,10 @@ use Rattle.dali_drive.specs.declared.streams.Got.{Got}
 use Rattle.dali_drive.specs.declared.streams.Got.TheVariants.{Byte, End, Failed}
 
 -- what taking a byte does to the bytes that a source has still to give
-abbrev pub Takes : Option (List ℕ) → Option (List ℕ) → Got → Type 0
-Takes old new (Byte b) = Consumes old new (b ∷ [])
-Takes old new End = Keeps old new × IsAtEnd new
-Takes old new Failed = Keeps old new
+abbrev pub TakesOneByte : Option (List ℕ) → Option (List ℕ) → Got → Type 0
+TakesOneByte old new (Byte b) = Consumes old new (b ∷ [])
+TakesOneByte old new End = Keeps old new × IsAtEnd new
+TakesOneByte old new Failed = Keeps old new
 
 abbrev pub is_failure : Got → Bool
 is_failure (Byte b) = false

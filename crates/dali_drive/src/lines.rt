@@ -2,7 +2,7 @@
 ghost use Rattle.std.specs.Prelude.{◌≡◌, ◌||◌, ◌+◌, ◌≤◌, ◌++◌, IfOk, IfErr, length, decimal};
 ghost use Rattle.std.specs.Io.BufRead.{strip_last};
 ghost use Rattle.arrayvec.specs.ArrayVec.{array_vec_len};
-ghost use Rattle.dali_frame.specs.Line.{SpellsAnswer, HasFault};
+ghost use Rattle.dali_frame.specs.Line.{SpellsAnswer, IsLineFault};
 ghost use Rattle.dali_drive.specs.Lines.{reply_line, TakesLine};
 ghost use Rattle.dali_drive.specs.Driven.{is_link_failure};
 
@@ -21,7 +21,7 @@ const MOST_REPLY: usize = 64;
 // The answer on a line, which may end in a carriage return.
 fn answer_on(line: &[u8]) -> Result<Option<u8>, LineFault>
     ensures ok { IfOk result (λ answer. SpellsAnswer (strip_last 13 line.now) answer) }
-    ensures err { IfErr result (λ fault. HasFault fault (strip_last 13 line.now)) }
+    ensures err { IfErr result (λ fault. IsLineFault fault (strip_last 13 line.now)) }
 {
     match line {
         [text @ .., b'\r'] => answer_of(text),

@@ -1,7 +1,7 @@
 // What a drive reads and writes, a byte or a few at a time.
 ghost use Rattle.std.specs.Prelude.{◌≡◌, ◌<◌, ◌≤◌, ◌||◌, ℕ, Bool, List, Option, not, length, take, true, false};
 ghost use Rattle.std.specs.Io.KnownBytes.{Keeps, Appends};
-ghost use Rattle.dali_drive.specs.Streams.{Takes, Puts, is_failure, is_refusal};
+ghost use Rattle.dali_drive.specs.Streams.{TakesOneByte, Puts, is_failure, is_refusal};
 
 /// What a source gives for a byte (profile).
 #[derive(Clone, Copy, Debug, PartialEq, Eq)]
@@ -22,9 +22,9 @@ pub trait Source {
     /// Whether a call has failed.
     ghost failed: { Self → Bool };
 
-    /// Takes the next byte. Where it fails no byte is lost.
+    /// TakesOneByte the next byte. Where it fails no byte is lost.
     fn take_byte(&mut self) -> Got
-        ensures bytes { Takes (left self.old) (left self.new) result }
+        ensures bytes { TakesOneByte (left self.old) (left self.new) result }
         ensures failed { failed self.new ≡ (failed self.old || is_failure result) };
 
     /// Whether a call has failed: exactly since `take_byte` gave `Failed`.

@@ -4,8 +4,8 @@ use Rattle.std.specs.Fmt.{digit_glyph}
 use Rattle.std.specs.Str.Parse.{AllDigits, digits_value}
 
 -- these are hexadecimal digits, each in upper or lower case, and they spell this number
-abbrev pub SpellsNumber : List ℕ → ℕ → Type 0
-SpellsNumber digits number = AllDigits 16 digits × (digits_value 16 digits ≡ number)
+abbrev pub SpellsHexNumber : List ℕ → ℕ → Type 0
+SpellsHexNumber digits number = AllDigits 16 digits × (digits_value 16 digits ≡ number)
 
 -- the two upper-case hexadecimal digits of a byte
 abbrev pub byte_digits : ℕ → List ℕ

@@ -2,8 +2,8 @@ ghost use Rattle.std.specs.Prelude.{◌≡◌, ℕ, ◌<◌, ◌≤◌, ◌↔�
 ghost use Rattle.std.specs.Char.{digit_value};
 ghost use Rattle.std.specs.Fmt.{digit_glyph};
 ghost use Rattle.dali_frame.specs.Frame.{spelling, IsProper};
-ghost use Rattle.dali_frame.specs.Hex.{SpellsNumber, byte_digits as digits_of};
-ghost use Rattle.dali_frame.specs.Line.{word_line, SpellsAnswer, HasFault};
+ghost use Rattle.dali_frame.specs.Hex.{SpellsHexNumber, byte_digits as digits_of};
+ghost use Rattle.dali_frame.specs.Line.{word_line, SpellsAnswer, IsLineFault};
 
 use crate::{Frame, LineFault, word_of};
 
@@ -12,7 +12,7 @@ use crate::{Frame, LineFault, word_of};
 pub fn line_of(frame: &Frame) -> [u8; 5]
     requires { IsProper frame.now }
     ensures line { result ≡ word_line (spelling frame.now) }
-    ensures spells { SpellsNumber (take 4 result) (spelling frame.now) }
+    ensures spells { SpellsHexNumber (take 4 result) (spelling frame.now) }
 {
     let [first, second] = word_of(frame).to_be_bytes();
     let ([a, b], [c, d]) = (byte_digits(first), byte_digits(second));
@@ -33,8 +33,8 @@ pub fn byte_digits(byte: u8) -> [u8; 2]
 pub fn answer_of(line: &[u8]) -> Result<Option<u8>, LineFault>
     ensures ok { IfOk result (λ answer. SpellsAnswer line.now answer) }
     ensures only { (answer : Option ℕ) → SpellsAnswer line.now answer → result ≡ Ok answer }
-    ensures length { (result ≡ Err LineFault.Length) ↔ HasFault LineFault.Length line.now }
-    ensures digit { (result ≡ Err LineFault.Digit) ↔ HasFault LineFault.Digit line.now }
+    ensures length { (result ≡ Err LineFault.Length) ↔ IsLineFault LineFault.Length line.now }
+    ensures digit { (result ≡ Err LineFault.Digit) ↔ IsLineFault LineFault.Digit line.now }
 {
     match *line {
         [b'-', b'-'] => Ok(None),

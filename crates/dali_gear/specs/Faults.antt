@@ -25,13 +25,13 @@ pub record IsBank (bytes : List ℕ) : Type 0 where
   pub last : slice_index bytes 0 + 1 ≡ length bytes
 
 -- each location is above the one before it, the first one above the bound
-abbrev pub RisesAbove : ℕ → List ℕ → Type 0
-RisesAbove bound [] = ⊤
-RisesAbove bound (location ∷ locations) = (bound < location) × RisesAbove location locations
+abbrev pub LocationsRiseAbove : ℕ → List ℕ → Type 0
+LocationsRiseAbove bound [] = ⊤
+LocationsRiseAbove bound (location ∷ locations) = (bound < location) × LocationsRiseAbove location locations
 
 -- the locations that may be fixed in a bank of these bytes: rising, from 03h on, none past the last one
 abbrev pub AreFixed : List ℕ → List ℕ → Type 0
-AreFixed bytes fixed = RisesAbove 2 fixed × AllByRecursion (λ location. location < length bytes) fixed
+AreFixed bytes fixed = LocationsRiseAbove 2 fixed × AllByRecursion (λ location. location < length bytes) fixed
 
 -- why no unit is made of bytes and fixed locations: the first fault that stands
 abbrev pub IsUnitFault : ℕ → List ℕ → List ℕ → GearFault → Type 0

@@ -3,7 +3,7 @@ ghost use Rattle.std.specs.List.{AllByRecursion};
 ghost use Rattle.dali_bank.specs.Blank.{blank_bank};
 ghost use Rattle.dali_gear.specs.UnitState.{UnitState, after_frame, after_write, after_read, answer_to, selected_byte, stores, gear_of, new_unit};
 ghost use Rattle.dali_gear.specs.Hears.{Hears, up};
-ghost use Rattle.dali_gear.specs.Faults.{IsBank, AreFixed, RisesAbove, IsUnitFault, IsBlankFault};
+ghost use Rattle.dali_gear.specs.Faults.{IsBank, AreFixed, LocationsRiseAbove, IsUnitFault, IsBlankFault};
 
 use crate::bank::Bank;
 use crate::fault::GearFault;
@@ -257,7 +257,7 @@ fn is_bank(bytes: &[u8]) -> bool
 
 // Whether locations rise from above the bound on, and lie below the end.
 fn rise_within(bound: u8, end: usize, locations: &[u8]) -> bool
-    ensures { IsTrue result ↔ (RisesAbove bound locations.now × AllByRecursion (λ location. location < end) locations.now) }
+    ensures { IsTrue result ↔ (LocationsRiseAbove bound locations.now × AllByRecursion (λ location. location < end) locations.now) }
 {
     match locations {
         [] => true,

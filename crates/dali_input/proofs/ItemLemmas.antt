@@ -18,7 +18,7 @@ use Rattle.dali_bank.specs.Draft.{Drafted, found_of, with_field}
 use Rattle.dali_bank.specs.Faults.{IsFinishFault, IsSetFault, rule_fault, IsValueFault}
 use Rattle.dali_input.specs.declared.item.ItemFault.TheVariants.{Bank}
 use Rattle.dali_bank.specs.Keys.{key_of}
-use Rattle.dali_input.specs.Items.{IsForUnit, HasFieldsOf, IsFieldFault, IsDraftOf, IsFaultOf, IsFoundIn, IsAcceptable, IsRefused, given as given_value}
+use Rattle.dali_input.specs.Items.{IsForUnit, HasFieldsOf, IsFieldFault, IsDraftOf, IsFaultOf, IsFoundIn, IsAcceptable, IsFieldRefused, given as given_value}
 use Rattle.dali_input.specs.Members.{IsGivenBy}
 
 pub above_63 : (unit : ℕ) → (unit ≤ 63 → ⊥) → 63 < unit
@@ -155,7 +155,7 @@ acceptable_at source i before now so_far within k d below =
 
 -- the field behind those that are set is the first that is refused
 pub first_refused : (source : Data) (i : ℕ) (before now : Drafted) (fault : BankFault) → i < length fields → SetSoFar source i before now
-    → IsRefused source (get_or fields i Gtin) fault → IsFieldFault source fault
+    → IsFieldRefused source (get_or fields i Gtin) fault → IsFieldFault source fault
 first_refused source i before now fault within so_far refused = record {
   front = take i fields;
   field = get_or fields i Gtin;

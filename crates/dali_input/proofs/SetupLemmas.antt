@@ -22,7 +22,7 @@ use Rattle.dali_input.specs.declared.setup.SetupFault.{SetupFault}
 use Rattle.dali_input.specs.declared.setup.SetupFault.TheVariants as faults
 use Rattle.dali_input.specs.Items.{IsFaultOf}
 use Rattle.dali_input.specs.Scenario.{PlannedUnit, PlannedEvent, submit, steps, stop, Planned, IsSmall, unit_of, event_of}
-use Rattle.dali_input.specs.Setup.{IsMakeable, made_unit, AreUnits, IsFirstUnitFault, IsUnitRefusal, AreEvents, IsFirstOrderFault, IsOrderRefusal, HasBus, IsRefused}
+use Rattle.dali_input.specs.Setup.{IsMakeable, made_unit, AreUnits, IsFirstUnitFault, IsUnitRefusal, AreEvents, IsFirstOrderFault, IsOrderRefusal, HasBus, IsSetupRefused}
 
 all_one_more : {X : Type 0} (P : X → Type 0) (xs : List X) (x : X) → AllByRecursion P xs → P x → AllByRecursion P (xs ++ x ∷ [])
 all_one_more P [] x all holds = (holds, tt)
@@ -92,7 +92,7 @@ first_order_fault plans i number plan all source fault within is counted submits
 
 -- ---- why nothing is set up
 
-pub units_refused : (planned : Planned) (fault : SetupFault) → IsSmall planned → IsUnitRefusal planned.units fault → IsRefused planned fault
+pub units_refused : (planned : Planned) (fault : SetupFault) → IsSmall planned → IsUnitRefusal planned.units fault → IsSetupRefused planned fault
 units_refused planned (faults.Input Json) small refused = absurd refused
 units_refused planned (faults.Input Document) small refused = absurd refused
 units_refused planned (faults.Input TooBig) small refused = absurd refused
@@ -103,7 +103,7 @@ units_refused planned (faults.Unit number fault) small refused = (small, refused
 units_refused planned faults.SameAddress small refused = absurd refused
 units_refused planned (faults.Order number fault) small refused = absurd refused
 
-pub orders_refused : (planned : Planned) (fault : SetupFault) → HasBus planned → IsOrderRefusal planned.events fault → IsRefused planned fault
+pub orders_refused : (planned : Planned) (fault : SetupFault) → HasBus planned → IsOrderRefusal planned.events fault → IsSetupRefused planned fault
 orders_refused planned (faults.Input Json) bus refused = absurd refused
 orders_refused planned (faults.Input Document) bus refused = absurd refused
 orders_refused planned (faults.Input TooBig) bus refused = absurd refused

@@ -75,8 +75,8 @@ IsAcceptable source field = MatchOption (get (key_of field) source) ⊤
     (λ json. (value : Plain) × (given field json ≡ Some value) × HasBytes field value)
 
 -- the object gives the field a value of no kind that orders have, or one that the field refuses by this fault
-abbrev pub IsRefused : Data → Field → BankFault → Type 0
-IsRefused source field fault = (json : Data) × (get (key_of field) source ≡ Some json)
+abbrev pub IsFieldRefused : Data → Field → BankFault → Type 0
+IsFieldRefused source field fault = (json : Data) × (get (key_of field) source ≡ Some json)
     × MatchOption (given field json) (fault ≡ bank.Kind) (λ value. IsValueFault field value fault)
 
 -- the first field that is refused, and its fault
@@ -86,7 +86,7 @@ pub record IsFieldFault (source : Data) (fault : BankFault) : Type 0 where
   pub behind : List Field
   pub split : fields ≡ front ++ field ∷ behind
   pub accepted : AllByRecursion (IsAcceptable source) front
-  pub refused : IsRefused source field fault
+  pub refused : IsFieldRefused source field fault
 
 -- ---- orders
 

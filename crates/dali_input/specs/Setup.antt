@@ -94,7 +94,7 @@ pub record IsBus (planned : Planned) (units : List UnitState) : Type 0 where
   pub apart : AreApart units
 
 -- what is set up: the units, the fates of their frames, and the events
-pub record IsReady (planned : Planned) (units : List UnitState) (fates : List Fate) (all : List Event) : Type 0 where
+pub record IsSetUp (planned : Planned) (units : List UnitState) (fates : List Fate) (all : List Event) : Type 0 where
   pub bus : IsBus planned units
   pub fates_are : fates ≡ fates_of planned.fates
   pub events : AreEvents planned.events all
@@ -112,10 +112,10 @@ pub record HasBus (planned : Planned) : Type 0 where
   pub bus : IsBus planned units
 
 -- why a scenario can't be set up: the first of these that stands, in this order; want of memory may come at any
-abbrev pub IsRefused : Planned → SetupFault → Type 0
-IsRefused planned (faults.Input TooBig) = ¬ IsSmall planned
-IsRefused planned (faults.Input Memory) = ⊤
-IsRefused planned (faults.Input fault) = ⊥
-IsRefused planned (faults.Unit number fault) = IsSmall planned × IsFirstUnitFault planned.units number fault
-IsRefused planned faults.SameAddress = AreTogether planned
-IsRefused planned (faults.Order number fault) = HasBus planned × IsFirstOrderFault planned.events number fault
+abbrev pub IsSetupRefused : Planned → SetupFault → Type 0
+IsSetupRefused planned (faults.Input TooBig) = ¬ IsSmall planned
+IsSetupRefused planned (faults.Input Memory) = ⊤
+IsSetupRefused planned (faults.Input fault) = ⊥
+IsSetupRefused planned (faults.Unit number fault) = IsSmall planned × IsFirstUnitFault planned.units number fault
+IsSetupRefused planned faults.SameAddress = AreTogether planned
+IsSetupRefused planned (faults.Order number fault) = HasBus planned × IsFirstOrderFault planned.events number fault

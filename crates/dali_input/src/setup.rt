@@ -2,7 +2,7 @@ ghost use Rattle.std.specs.Prelude.{◌≡◌, ◌≢◌, ◌++◌, List, IfOk, 
 ghost use Rattle.dali_gear.specs.Faults.{IsUnitFault};
 ghost use Rattle.dali_trace.specs.declared.happening.Event.TheVariants.{Step};
 ghost use Rattle.dali_input.specs.Scenario.{PlannedUnit, event_of, planned_of, unit_of};
-ghost use Rattle.dali_input.specs.Setup.{AreEvents, AreUnits, IsFirstUnitFault, IsMakeable, IsOrderRefusal, IsRefused, IsReady, IsUnitRefusal, fates_of as expanded, made_unit as made};
+ghost use Rattle.dali_input.specs.Setup.{AreEvents, AreUnits, IsFirstUnitFault, IsMakeable, IsOrderRefusal, IsSetupRefused, IsSetUp, IsUnitRefusal, fates_of as expanded, made_unit as made};
 
 use crate::fault::InputFault;
 use crate::item::{ItemFault, order_of};
@@ -63,8 +63,8 @@ pub struct Setup {
 /// the first unit that can't be made, 1 Address, 2 Size or 3 Fixed; 5 SameAddress where two units are
 /// at one address; the fault of the first order that is refused. 20 Memory where there is no memory.
 pub fn setup_of(alloc: Global, scenario: &Scenario<'_>) -> Result<Setup, SetupFault>
-    ensures ok { IfOk result (λ setup. IsReady (planned_of scenario.now) setup.bus.units setup.bus.fates setup.events.items) }
-    ensures err { IfErr result (IsRefused (planned_of scenario.now)) }
+    ensures ok { IfOk result (λ setup. IsSetUp (planned_of scenario.now) setup.bus.units setup.bus.fates setup.events.items) }
+    ensures err { IfErr result (IsSetupRefused (planned_of scenario.now)) }
 {
     if !scenario.is_small() {
         return Err(SetupFault::Input(InputFault::TooBig));

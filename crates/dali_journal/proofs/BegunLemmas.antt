@@ -13,7 +13,7 @@ use Rattle.dali_journal.specs.Sentence.{is_begun}
 use Rattle.dali_journal.specs.Orders.{come_to, orders_of, kept_at, kept_among, kept_of}
 use Rattle.dali_journal.specs.Index.{is_begun_at, Agrees}
 
-abbrev is_kept : Kept → Bool
+abbrev pub is_kept : Kept → Bool
 is_kept kepts.Absent = false
 is_kept (kepts.Unfinished order) = true
 is_kept (kepts.Ended order code) = true
@@ -47,6 +47,9 @@ among_kept id (newest ∷ older) = by (newest.0.id == id) (among_kept id older)
     by true rest = sym (kept_stage newest.0 newest.1)
     by false rest = rest
 
+pub kept_where_begun : (id : ℕ) (records : List Record) → is_begun id records ≡ is_kept (kept_of id records)
+kept_where_begun id records = begun_among id records ∙ among_kept id (orders_of records)
+
 agrees_begun : (bytes : List ℕ) (place : Place) (kept : Kept) → Agrees bytes place kept → is_begun_at place ≡ is_kept kept
 agrees_begun bytes places.NotBegun kept a = sym (ap is_kept a)
 agrees_begun bytes (places.Begun at) kept a = sym (ap is_kept a.1)
@@ -55,4 +58,4 @@ agrees_begun bytes (places.Ended at code) kept a = sym (ap is_kept a.1)
 pub begun_told : (id : ℕ) (bytes : List ℕ) (place : Place) (records : List Record) → Agrees bytes place (kept_of id records)
     → is_begun_at place ≡ is_begun id records
 begun_told id bytes place records a =
-    agrees_begun bytes place (kept_of id records) a ∙ sym (begun_among id records ∙ among_kept id (orders_of records))
+    agrees_begun bytes place (kept_of id records) a ∙ sym (kept_where_begun id records)

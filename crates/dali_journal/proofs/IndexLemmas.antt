@@ -28,7 +28,7 @@ use Rattle.dali_journal.specs.Index.{StandsAt, Agrees, ended_place, place_after}
 use Rattle.dali_journal.proofs.DecodeLemmas.{read_is}
 
 -- the order that is at work is the newest, and hasn't ended
-abbrev IsNewest : Standing → List (Contents × Stage) → Type 0
+abbrev pub IsNewest : Standing → List (Contents × Stage) → Type 0
 IsNewest (standings.Began order) orders = (older : List (Contents × Stage)) × (orders ≡ (order, stages.Begun) ∷ older)
 IsNewest (standings.Opened order) orders = (older : List (Contents × Stage)) × (orders ≡ (order, stages.Open) ∷ older)
 IsNewest other orders = ⊤
@@ -46,7 +46,7 @@ newest_next (standings.Opened order) (Ended DoubtOpen) older a n = tt
 newest_next (standings.Left unit) (Closed closed) older a n = tt
 newest_next _ _ older a n = absurd a
 
-newest : (records : List Record) → IsSentence records → IsNewest (standing_of records) (orders_of records)
+pub newest : (records : List Record) → IsSentence records → IsNewest (standing_of records) (orders_of records)
 newest [] s = tt
 newest (entry ∷ older) s = newest_next (standing_of older) entry older s.1 (newest older s.0)
 
@@ -103,7 +103,7 @@ ended_by bytes (standings.Opened order) code older id place a n k =
 ended_by bytes _ code older id place a n k = absurd a
 
 -- an order that is opened stays unfinished
-opened_same : (standing : Standing) (unit : ℕ) (older : List Record) (id : ℕ) → Allows standing (Opened unit) → IsNewest standing (orders_of older)
+pub opened_same : (standing : Standing) (unit : ℕ) (older : List Record) (id : ℕ) → Allows standing (Opened unit) → IsNewest standing (orders_of older)
     → kept_of id older ≡ kept_of id (Opened unit ∷ older)
 opened_same (standings.Began order) unit older id a n =
     ap (kept_among id) n.1 ∙ sym (ap (λ os. kept_among id (come_to stages.Open os)) n.1)

@@ -10,3 +10,4 @@ pub mod BegunLemmas
 pub mod LoadLemmas
 pub mod TornLemmas
 pub mod FaultLemmas
+pub mod KeptLemmas

@@ -7,7 +7,7 @@ use Rattle.dali_journal.specs.Spelling.{journal_spelling}
 use Rattle.dali_journal.specs.Reading.{BeginsWith}
 use Rattle.dali_journal.specs.JournalState.{JournalState, IsLimit, IsJournal}
 use Rattle.dali_journal.specs.Faults.{IsNewFault}
-use Rattle.dali_journal.specs.Loading.{AreKept, MayNotStand, IsRefused, IsFault, HasFault, IsLoadFault, JournalsLoadAgain}
+use Rattle.dali_journal.specs.Loading.{AreKept, MayNotStand, IsRecordRefused, IsFault, HasFault, IsLoadFault, JournalsLoadAgain}
 
 -- a fault behind records that are kept
 behind_records : (limit : ℕ) (bytes : List ℕ) (records : List Record) (at : ℕ) (fault : JournalFault)
@@ -18,7 +18,7 @@ behind_records limit bytes records at fault s k f = record { records = records; 
 -- a record that may not stand is a fault of the bytes
 pub fault_of : (fault : JournalFault) (limit : ℕ) (bytes : List ℕ) (records : List Record) (at : ℕ) (entry : Record)
     → IsLimit limit → bytes ≡ journal_spelling records ++ drop at bytes → at ≡ length (journal_spelling records) → AreKept limit records
-    → BeginsWith (drop at bytes) entry → IsRefused fault limit at records entry → IsLoadFault limit bytes fault
+    → BeginsWith (drop at bytes) entry → IsRecordRefused fault limit at records entry → IsLoadFault limit bytes fault
 fault_of faults.Limit limit bytes records at entry i s p k b f = absurd f
 fault_of faults.NoMemory limit bytes records at entry i s p k b f = i
 fault_of (faults.Record place) limit bytes records at entry i s p k b f = absurd f

@@ -40,9 +40,9 @@ MayNotStand (faults.Full at) limit place records (Began order) =
 MayNotStand _ _ _ _ _ = ⊥
 
 -- why a record isn't taken
-abbrev pub IsRefused : JournalFault → ℕ → ℕ → List Record → Record → Type 0
-IsRefused faults.NoMemory limit place records entry = ⊤
-IsRefused fault limit place records entry = MayNotStand fault limit place records entry
+abbrev pub IsRecordRefused : JournalFault → ℕ → ℕ → List Record → Record → Type 0
+IsRecordRefused faults.NoMemory limit place records entry = ⊤
+IsRecordRefused fault limit place records entry = MayNotStand fault limit place records entry
 
 -- what stands behind the records, at this place, is the fault
 abbrev pub IsFault : JournalFault → ℕ → ℕ → List Record → List ℕ → Type 0

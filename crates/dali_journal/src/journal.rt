@@ -9,7 +9,7 @@ ghost use Rattle.dali_journal.specs.Spelling.{spelling, journal_spelling};
 ghost use Rattle.dali_journal.specs.JournalState.{HasRoom, MayBegin, KeepsRoom, IsLimit, IsJournal};
 ghost use Rattle.dali_journal.specs.JournalState.{order_count, bytes_due};
 ghost use Rattle.dali_journal.specs.Faults.{IsNewFault};
-ghost use Rattle.dali_journal.specs.Loading.{IsLoaded, IsLoadFault, IsRefused, IsTornWithin};
+ghost use Rattle.dali_journal.specs.Loading.{IsLoaded, IsLoadFault, IsRecordRefused, IsTornWithin};
 
 use crate::fault::{JournalFault, NoMemory};
 use crate::index::{Place, enter, kept_at, note, place_of};
@@ -130,7 +130,7 @@ impl Journal {
         ensures records { OnOk result (self.new.records ≡ entry ∷ self.old.records) }
         ensures limit { self.new.limit ≡ self.old.limit }
         ensures journal { IsJournal self.new }
-        ensures err { IfErr result (λ fault. IsRefused fault self.old.limit at self.old.records entry) }
+        ensures err { IfErr result (λ fault. IsRecordRefused fault self.old.limit at self.old.records entry) }
     {
         if !self.standing.allows(&entry) {
             return Err(JournalFault::Sequence(at));

@@ -14,7 +14,7 @@ use Rattle.dali_trace.specs.declared.happening.Reply.TheVariants as replies
 use Rattle.dali_trace.specs.declared.happening.Happening.{Happening}
 use Rattle.dali_trace.specs.declared.happening.Happening.TheVariants.{Asked, Answered, Sent, Kept, Stopped}
 use Rattle.dali_trace.specs.Trace.{Start, records_of, standing_at, sent_of, sent_since_taken, waiting, is_unsaid, has_ended}
-use Rattle.dali_trace.specs.Legal.{Serves, IsGuarded, MaySend, IsDue, MayKeep, MaySay, MayHappen, Replies, MayFollow, IsFinished}
+use Rattle.dali_trace.specs.Legal.{Serves, IsGuardedWrite, MaySend, IsDue, MayKeep, MaySay, MayHappen, Replies, MayFollow, IsFinished}
 use Rattle.dali_trace.specs.ByPlan.{told_in, IsPlanned}
 use Rattle.dali_laws.specs.Law.{RefusedOrdersChangeNothing}
 
@@ -37,7 +37,7 @@ serves_too whole more (standings.Opened order) unit waits serves = serves
 serves_too whole more (standings.Left left) unit waits serves = rw waits serves
 
 guarded_too : (whole more : List Happening) (stands : Standing) (byte : ℕ) → waiting whole ≡ waiting more → sent_of whole ≡ sent_of more
-    → IsGuarded more stands byte → IsGuarded whole stands byte
+    → IsGuardedWrite more stands byte → IsGuardedWrite whole stands byte
 guarded_too whole more stands byte waits sent guarded = record {
   unit = guarded.unit;
   location = guarded.location;

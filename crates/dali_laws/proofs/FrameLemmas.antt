@@ -18,9 +18,9 @@ use Rattle.dali_write.proofs.StandingReadLemmas.{passive_quiet}
 use Rattle.dali_write.proofs.TouchLemmas.{same_byte, enable_safe, guarded_safe}
 use Rattle.dali_trace.specs.declared.happening.Happening.{Happening}
 use Rattle.dali_trace.specs.Trace.{sent_of}
-use Rattle.dali_trace.specs.Legal.{MayPut, MaySend, IsGuarded}
+use Rattle.dali_trace.specs.Legal.{MayPut, MaySend, IsGuardedWrite}
 use Rattle.dali_trace.specs.Possible.{InDoubt, byte_for, MayHold, IsPossible}
-use Rattle.dali_trace.specs.Fits.{Fits, OnlyNamed, IsOpened, IsLockByte}
+use Rattle.dali_trace.specs.Fits.{Fits, OnlyNamed, HasBeenOpened, IsLockByte}
 use Rattle.dali_laws.proofs.StandingLemmas.{open_order, named_opened, byte_for_here}
 
 -- what is so before and after each frame
@@ -144,7 +144,7 @@ after_touch zero old new records writes unit sentence is_named may touches fine 
       is_possible first unit location put.byte records (standing_of records) refl is_named (may location put.byte put.has) (λ e. lock (put.one, e.1)) in
       rw (put.here, put.one, ← same) at
 
-  locks : (address : ℕ) → (IsOpened address records → ⊥) → (byte_at new address 1 2 ≡ byte_at old address 1 2) ⊎ IsPut writes unit address 1 2 old new
+  locks : (address : ℕ) → (HasBeenOpened address records → ⊥) → (byte_at new address 1 2 ≡ byte_at old address 1 2) ⊎ IsPut writes unit address 1 2 old new
       → byte_at new address 1 2 ≡ byte_at zero address 1 2
   locks address closed (inl same) = same ∙ fine.fits.locks address closed
   locks address closed (inr put) = absurd (closed (named_opened records address sentence (is_named ∙ ap Some (sym put.here))))
@@ -160,7 +160,7 @@ after_enable zero old new records unit answer sentence is_named carry fine =
     after_touch zero old new records [] unit sentence is_named (λ location byte has. absurd has) touches fine
 
 after_write : (zero old new since : World) (records : List Record) (past : List Happening) (byte : ℕ) (answer : Option ℕ) → IsSentence records
-    → Run (sent_of past) since old → IsGuarded past (standing_of records) byte → Carry old (Write byte) answer new → IsFine zero records old → IsFine zero records new
+    → Run (sent_of past) since old → IsGuardedWrite past (standing_of records) byte → Carry old (Write byte) answer new → IsFine zero records old → IsFine zero records new
 after_write zero old new since records past byte answer sentence run guarded carry fine =
     let writes : List (ℕ × ℕ) = (guarded.location, byte) ∷ [] in
     let touches = guarded_safe writes guarded.unit guarded.location byte (sent_of past) (inl (refl, refl)) guarded.selected since old new answer

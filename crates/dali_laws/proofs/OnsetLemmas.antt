@@ -27,7 +27,7 @@ use Rattle.dali_trace.specs.declared.happening.Happening.TheVariants.{Asked, Ans
 use Rattle.dali_trace.specs.Trace.{Start, records_of, standing_at, sent_since_taken, waiting, has_ended}
 use Rattle.dali_trace.specs.Legal.{Legal}
 use Rattle.dali_trace.specs.Moves.{MovesBy}
-use Rattle.dali_trace.specs.Fits.{OnlyNamed, IsOpened}
+use Rattle.dali_trace.specs.Fits.{OnlyNamed, HasBeenOpened}
 use Rattle.dali_trace.specs.Moments.{IsRight}
 use Rattle.dali_trace.specs.Work.{stood_at, kept_since}
 use Rattle.dali_laws.proofs.Courses.{EndedBy}
@@ -145,9 +145,9 @@ there_is world address bank location some = by (world address) refl some
 
 -- opened at some moment, where it had its first byte
 opened_was : (limit : Start) (zero : World) (past : List Happening) (last : SimState) (states : List SimState) (unit : ℕ) → Legal limit past
-    → AtEachMoment (λ moment now. IsRight zero limit moment (world_of now.units)) past last states → (limit.records ≡ []) → IsOpened unit (records_of limit past)
+    → AtEachMoment (λ moment now. IsRight zero limit moment (world_of now.units)) past last states → (limit.records ≡ []) → HasBeenOpened unit (records_of limit past)
     → is_some (byte_at zero unit 1 0) ≡ true
-opened_was limit zero [] last states unit legal each none opened = let never : IsOpened unit [] = subst (IsOpened unit) none opened in absurd never
+opened_was limit zero [] last states unit legal each none opened = let never : HasBeenOpened unit [] = subst (HasBeenOpened unit) none opened in absurd never
 opened_was limit zero (next ∷ past) last [] unit legal each none opened = absurd each
 opened_was limit zero (Asked order ∷ past) last (state ∷ states) unit legal each none opened = opened_was limit zero past state states unit legal.0 each.1 none opened
 opened_was limit zero (Answered id reply ∷ past) last (state ∷ states) unit legal each none opened = opened_was limit zero past state states unit legal.0 each.1 none opened

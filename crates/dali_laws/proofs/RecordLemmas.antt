@@ -17,7 +17,7 @@ use Rattle.dali_write.specs.Worlds.{Shows}
 use Rattle.dali_write.proofs.RestLemmas.{Shown, suits_too, short_too, format_too, written_too}
 use Rattle.dali_trace.specs.Grounds.{Grounds}
 use Rattle.dali_trace.specs.Possible.{Applied, Untouched, InDoubt, byte_for, MayHold, IsPossible}
-use Rattle.dali_trace.specs.Fits.{Fits, IsOpened}
+use Rattle.dali_trace.specs.Fits.{Fits, HasBeenOpened}
 use Rattle.dali_laws.proofs.StandingLemmas.{begun_order, open_order, HasByte, byte_for_or_none}
 
 -- what a world shows, in two parts
@@ -43,7 +43,7 @@ at_update P (update ∷ updates) location byte all e = by (λ found. at_update P
 changed_fits : (zero now : World) (records more : List Record)
     → ((address bank location first byte : ℕ) → byte_at now address bank location ≡ Some byte → IsPossible first address bank location (orders_of records) byte
     → IsPossible first address bank location (orders_of more) byte)
-    → ((address : ℕ) → IsOpened address records → IsOpened address more) → Fits zero records now → Fits zero more now
+    → ((address : ℕ) → HasBeenOpened address records → HasBeenOpened address more) → Fits zero records now → Fits zero more now
 changed_fits zero now records more possible opened fits = record {
   places = fits.places;
   bytes = λ address bank location first byte lock was is. possible address bank location first byte is (fits.bytes address bank location first byte lock was is);
@@ -68,7 +68,7 @@ Comes now old new order = (older : List (Contents × Stage)) (address bank locat
 
 comes_fit : (zero now : World) (records : List Record) (entry : Record) (order : Contents) (old new : Stage)
     → ((older : List (Contents × Stage)) × orders_of records ≡ (order, old) ∷ older) → orders_of (entry ∷ records) ≡ come_to new (orders_of records)
-    → ((address : ℕ) → IsOpened address records → IsOpened address (entry ∷ records)) → Comes now old new order → Fits zero records now → Fits zero (entry ∷ records) now
+    → ((address : ℕ) → HasBeenOpened address records → HasBeenOpened address (entry ∷ records)) → Comes now old new order → Fits zero records now → Fits zero (entry ∷ records) now
 comes_fit zero now records entry order old new newest came opened comes fits =
     let so : orders_of (entry ∷ records) ≡ (order, new) ∷ newest.0 = came ∙ ap (come_to new) newest.1 in
     changed_fits zero now records (entry ∷ records)

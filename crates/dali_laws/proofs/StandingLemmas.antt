@@ -12,7 +12,7 @@ use Rattle.dali_journal.specs.declared.kept.Stage.TheVariants as stages
 use Rattle.dali_journal.specs.Sentence.{Allows, next_standing, standing_of, named_unit, IsSentence}
 use Rattle.dali_journal.specs.Orders.{orders_of, come_to}
 use Rattle.dali_trace.specs.Possible.{byte_for}
-use Rattle.dali_trace.specs.Fits.{IsOpened}
+use Rattle.dali_trace.specs.Fits.{HasBeenOpened}
 
 -- which record leads to a standing
 no_begun : (before : Standing) (entry : Record) (o : Contents) → next_standing before entry ≡ standings.Began o → entry ≡ Began o
@@ -72,11 +72,11 @@ open_order (entry ∷ rest) o e =
     subst P (sym by.is) (before.0, ap (come_to stages.Open) before.1)
 
 -- a unit that is named was opened
-pub named_opened : (records : List Record) (unit : ℕ) → IsSentence records → named_unit (standing_of records) ≡ Some unit → IsOpened unit records
+pub named_opened : (records : List Record) (unit : ℕ) → IsSentence records → named_unit (standing_of records) ≡ Some unit → HasBeenOpened unit records
 named_opened [] unit sentence e = cc
 named_opened (entry ∷ rest) unit sentence e = by (λ earlier. named_opened rest unit sentence.0 earlier) (standing_of rest) refl entry sentence.1 e where
-  by : (named_unit (standing_of rest) ≡ Some unit → IsOpened unit rest) → (before : Standing) → standing_of rest ≡ before → (entry : Record) → Allows (standing_of rest) entry → named_unit (next_standing (standing_of rest) entry) ≡ Some unit
-      → IsOpened unit (entry ∷ rest)
+  by : (named_unit (standing_of rest) ≡ Some unit → HasBeenOpened unit rest) → (before : Standing) → standing_of rest ≡ before → (entry : Record) → Allows (standing_of rest) entry → named_unit (next_standing (standing_of rest) entry) ≡ Some unit
+      → HasBeenOpened unit (entry ∷ rest)
   by more before at (Began p) allowed e = cc
   by more standings.Idle at (Opened u) allowed e = absurd (rw at at allowed)
   by more (standings.Began p) at (Opened u) allowed e =

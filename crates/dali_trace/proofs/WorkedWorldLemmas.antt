@@ -9,7 +9,7 @@ use Rattle.dali_journal.specs.declared.record.Record.TheVariants.{Began, Opened,
 use Rattle.dali_write.specs.Findings.{IsWritten}
 use Rattle.dali_trace.specs.declared.happening.Happening.TheVariants.{Kept}
 use Rattle.dali_trace.specs.Possible.{IsPossible, IsSettled, applied}
-use Rattle.dali_trace.specs.Fits.{IsOpened, IsLockByte, Fits, OnlyNamed, IsApplied}
+use Rattle.dali_trace.specs.Fits.{HasBeenOpened, IsLockByte, Fits, OnlyNamed, IsApplied}
 use Rattle.dali_trace.specs.Moves.{Moves}
 use Rattle.dali_trace.specs.WhenKept.{Holds, WhenKept}
 use Rattle.dali_trace.specs.Worked.{first_order, third_order, empty, begun, third_begun, opened, alone}
@@ -141,10 +141,10 @@ not_unlocked_when_begun fits = omega (arith, ap (λ (byte : Option ℕ). or_none
 pub not_a_unit_more : Fits (λ address. None) records_begun before → ⊥
 not_a_unit_more fits = let more : true ≡ false = fits.places 5 1 3 in cc
 
-pub opened_where_opened : IsOpened 5 records_done
+pub opened_where_opened : HasBeenOpened 5 records_done
 opened_where_opened = inl refl
 
-pub not_opened_elsewhere : IsOpened 6 records_done → ⊥
+pub not_opened_elsewhere : HasBeenOpened 6 records_done → ⊥
 not_opened_elsewhere (inl is) = omega (arith, is)
 not_opened_elsewhere (inr is) = is
 

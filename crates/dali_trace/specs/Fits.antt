@@ -8,10 +8,10 @@ use Rattle.dali_journal.specs.Orders.{orders_of}
 use Rattle.dali_trace.specs.Possible.{IsPossible, IsSettled, applied}
 
 -- a unit was opened
-abbrev pub IsOpened : ℕ → List Record → Type 0
-IsOpened address [] = ⊥
-IsOpened address (Opened unit ∷ older) = (unit ≡ address) ⊎ IsOpened address older
-IsOpened address (other ∷ older) = IsOpened address older
+abbrev pub HasBeenOpened : ℕ → List Record → Type 0
+HasBeenOpened address [] = ⊥
+HasBeenOpened address (Opened unit ∷ older) = (unit ≡ address) ⊎ HasBeenOpened address older
+HasBeenOpened address (other ∷ older) = HasBeenOpened address older
 
 -- the place is the lock byte of bank 1
 abbrev pub IsLockByte : ℕ → ℕ → Type 0
@@ -25,7 +25,7 @@ pub record Fits (zero : World) (records : List Record) (now : World) : Type 0 wh
   pub bytes : (address bank location first byte : ℕ) → (IsLockByte bank location → ⊥) → byte_at zero address bank location ≡ Some first
       → byte_at now address bank location ≡ Some byte → IsPossible first address bank location (orders_of records) byte
   -- the lock byte of a unit that was never opened is as it was
-  pub locks : (address : ℕ) → (IsOpened address records → ⊥) → byte_at now address 1 2 ≡ byte_at zero address 1 2
+  pub locks : (address : ℕ) → (HasBeenOpened address records → ⊥) → byte_at now address 1 2 ≡ byte_at zero address 1 2
 
 -- no unit is enabled but the one that the records name
 abbrev pub OnlyNamed : List Record → World → Type 0

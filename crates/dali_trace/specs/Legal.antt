@@ -39,7 +39,7 @@ MayPut (standings.Left unit) location byte = (location ≡ 0x02) × (byte ≡ 0x
 MayPut other location byte = ⊥
 
 -- a write is guarded: the four frames before it set bank 1 and the location, and asked both back from the named unit, which told them
-pub record IsGuarded (past : List Happening) (stands : Standing) (byte : ℕ) : Type 0 where
+pub record IsGuardedWrite (past : List Happening) (stands : Standing) (byte : ℕ) : Type 0 where
   pub unit : ℕ
   pub location : ℕ
   pub serves : Serves past stands unit
@@ -55,7 +55,7 @@ MaySend past stands (AskDtr0 unit) = Serves past stands unit
 MaySend past stands (AskDtr1 unit) = Serves past stands unit
 MaySend past stands (Read unit) = Serves past stands unit
 MaySend past stands (Enable unit) = Serves past stands unit × (named_unit stands ≡ Some unit)
-MaySend past stands (Write byte) = IsGuarded past stands byte
+MaySend past stands (Write byte) = IsGuardedWrite past stands byte
 MaySend past stands other = ⊥
 
 -- Records

@@ -21,7 +21,7 @@ use Rattle.dali_write.specs.Walks.{Walk, step_misses, misses_of}
 use Rattle.dali_write.specs.Losses.{SimRun, losses, Unrefused, IsAlone, CanDo, OnlyDiffers}
 use Rattle.dali_write.specs.Misses.{misses_in}
 use Rattle.dali_write.specs.Touches.{Has}
-use Rattle.dali_write.specs.Successes.{Takes, TakesAll, has_format, found_verdict, Spared, MissesByLosses}
+use Rattle.dali_write.specs.Successes.{MayStoreAt, TakesAll, has_format, found_verdict, Spared, MissesByLosses}
 use Rattle.dali_write.proofs.RunLemmas.{sim_run}
 use Rattle.dali_write.proofs.VerdictLemmas.{read_step_shows}
 use Rattle.dali_write.proofs.KeptLemmas.{parts}
@@ -255,23 +255,23 @@ one_byte bound (update ∷ updates) location one other rises (inr later) (inl he
     let same : update.0 ≡ location = here.0 in absurd (omega arith)
 one_byte bound (update ∷ updates) location one other rises (inr later) (inr too) = one_byte update.0 updates location one other rises.1 later too
 
-takes_of : (bank : BankState) (updates : List (ℕ × ℕ)) (location byte : ℕ) → TakesAll bank updates → Has updates location byte → Takes bank location
+takes_of : (bank : BankState) (updates : List (ℕ × ℕ)) (location byte : ℕ) → TakesAll bank updates → Has updates location byte → MayStoreAt bank location
 takes_of bank [] location byte takes has = absurd has
-takes_of bank (update ∷ updates) location byte takes (inl here) = subst (Takes bank) here.0 takes.0
+takes_of bank (update ∷ updates) location byte takes (inl here) = subst (MayStoreAt bank) here.0 takes.0
 takes_of bank (update ∷ updates) location byte takes (inr later) = takes_of bank updates location byte takes.1 later
 
 -- the unit is unlocked, and it has each of the updates, but for those that are left
 record Going (updates left : List (ℕ × ℕ)) (bank : BankState) : Type 0 where
   lock : slice_get bank.bytes 2 ≡ Some 0x55
   long : 2 < length bank.bytes
-  takes : (location byte : ℕ) → Has updates location byte → Takes bank location
+  takes : (location byte : ℕ) → Has updates location byte → MayStoreAt bank location
   part : (location byte : ℕ) → Has left location byte → Has updates location byte
   there : (location byte : ℕ) → Has updates location byte → Has left location byte ⊎ (slice_get bank.bytes location ≡ Some byte)
 
-pub takes_still : (old : BankState) (written : ℕ) (new : BankState) (location : ℕ) → OnlyDiffers old written new → Takes old location → Takes new location
+pub takes_still : (old : BankState) (written : ℕ) (new : BankState) (location : ℕ) → OnlyDiffers old written new → MayStoreAt old location → MayStoreAt new location
 takes_still old written new location only takes = (takes.0, rw only.lengths takes.1, rw only.fixed takes.2)
 
-one_writable : (bank : BankState) (location : ℕ) → slice_get bank.bytes 2 ≡ Some 0x55 → Takes bank location → is_writable bank location ≡ true
+one_writable : (bank : BankState) (location : ℕ) → slice_get bank.bytes 2 ≡ Some 0x55 → MayStoreAt bank location → is_writable bank location ≡ true
 one_writable bank location lock takes =
     let past : 3 ≤ location = takes.0 in
     let unlocked : slice_index bank.bytes 2 ≡ 0x55 = get_or_from_slice_get bank.bytes 2 0x55 0 lock in

@@ -16,7 +16,7 @@ use Rattle.dali_write.specs.Tries.{Trying, Missed, StepEnds, StepsEnd, Wants}
 use Rattle.dali_write.specs.Walks.{Walk}
 use Rattle.dali_write.specs.Misses.{is_missed, misses_in, IsLong}
 use Rattle.dali_write.specs.Losses.{SimRun, losses, Unrefused, IsAlone}
-use Rattle.dali_write.specs.Successes.{Takes, HasBank, Spared, MissesByLosses}
+use Rattle.dali_write.specs.Successes.{MayStoreAt, HasBank, Spared, MissesByLosses}
 use Rattle.dali_write.specs.Doubts.{EndsUnread, EndsUnlooked, FoundAnother}
 use Rattle.dali_write.specs.WorkedSteps.{sent, missed_read, after_a_miss, small_bank, two_units}
 use Rattle.dali_write.proofs.ShapeLemmas.{trying_length}
@@ -51,19 +51,19 @@ pub long_enough : (n : ℕ) → (11 ≤ n) × (n ≤ 18) → IsLong 12 (after_a_
 long_enough n (least, most) = let all = miss_length n in let one = one_miss n in (omega arith, omega arith)
 
 -- the locations that are taken
-pub first_taken : Takes small_bank 0x03
+pub first_taken : MayStoreAt small_bank 0x03
 first_taken = (omega arith, omega arith, refl)
 
-pub last_taken : Takes small_bank 0x10
+pub last_taken : MayStoreAt small_bank 0x10
 last_taken = (omega arith, omega arith, refl)
 
-pub lock_not_taken : Takes small_bank 0x02 → ⊥
+pub lock_not_taken : MayStoreAt small_bank 0x02 → ⊥
 lock_not_taken takes = let low = takes.0 in omega arith
 
-pub next_not_taken : Takes small_bank 0x11 → ⊥
+pub next_not_taken : MayStoreAt small_bank 0x11 → ⊥
 next_not_taken takes = let high = takes.1 in omega arith
 
-pub fixed_not_taken : Takes small_bank 0x07 → ⊥
+pub fixed_not_taken : MayStoreAt small_bank 0x07 → ⊥
 fixed_not_taken takes = let never : true ≡ false = takes.2 in cc
 
 -- a unit behind another one has its bank

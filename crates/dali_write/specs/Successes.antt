@@ -12,12 +12,12 @@ use Rattle.dali_write.specs.Losses.{SimRun, losses, Unrefused, IsAlone}
 use Rattle.dali_write.specs.Misses.{misses_in}
 
 -- the bank has the location, past the lock byte, and it isn't fixed
-abbrev pub Takes : BankState → ℕ → Type 0
-Takes bank location = (3 ≤ location) × (location < length bank.bytes) × (list_any (λ fixed. fixed == location) bank.fixed ≡ false)
+abbrev pub MayStoreAt : BankState → ℕ → Type 0
+MayStoreAt bank location = (3 ≤ location) × (location < length bank.bytes) × (list_any (λ fixed. fixed == location) bank.fixed ≡ false)
 
 -- and so it is of each update
 abbrev pub TakesAll : BankState → List (ℕ × ℕ) → Type 0
-TakesAll bank updates = AllByRecursion (λ update. Takes bank update.0) updates
+TakesAll bank updates = AllByRecursion (λ update. MayStoreAt bank update.0) updates
 
 -- a unit at the address has this bank 1
 abbrev pub HasBank : ℕ → BankState → List UnitState → Type 0

@@ -30,24 +30,24 @@ use Rattle.dali_writer.specs.Phases.{want_of, check_record, write_code}
 use Rattle.dali_writer.specs.Held.{Held, IsReady, IsAfterCheck, IsFirst, IsResumed}
 use Rattle.dali_writer.specs.Describes.{Describes}
 use Rattle.dali_trace.specs.ByPlan.{told_in, Asks, EndsIn, IsPlanned}
-use Rattle.dali_writer.specs.Follows.{IsTold, Follows}
+use Rattle.dali_writer.specs.Follows.{WasTold, Follows}
 use Rattle.dali_writer.proofs.StepLemmas.{stands_so}
 use Rattle.dali_writer.proofs.SayLemmas.{no_check, no_write, blocks, not_closed}
 use Rattle.dali_writer.proofs.KeepLemmas.{same_entry, closing_keeps}
 
 -- a writer that goes on from its journal
-pub resumed_told : (stands : Standing) (phase : Phase) → IsResumed stands phase → IsTold phase []
-resumed_told (standings.Began order) phase (s, is, fresh, is_told, valid) = subst (λ (p : Phase). IsTold p []) (sym is) is_told
-resumed_told (standings.Opened order) phase (s, is, opened, is_told, valid) = subst (λ (p : Phase). IsTold p []) (sym is) is_told
-resumed_told standings.Idle phase is = subst (λ (p : Phase). IsTold p []) (sym is) tt
-resumed_told (standings.Left unit) phase is = subst (λ (p : Phase). IsTold p []) (sym is) tt
+pub resumed_told : (stands : Standing) (phase : Phase) → IsResumed stands phase → WasTold phase []
+resumed_told (standings.Began order) phase (s, is, fresh, is_told, valid) = subst (λ (p : Phase). WasTold p []) (sym is) is_told
+resumed_told (standings.Opened order) phase (s, is, opened, is_told, valid) = subst (λ (p : Phase). WasTold p []) (sym is) is_told
+resumed_told standings.Idle phase is = subst (λ (p : Phase). WasTold p []) (sym is) tt
+resumed_told (standings.Left unit) phase is = subst (λ (p : Phase). WasTold p []) (sym is) tt
 
 -- an order that is taken
-pub first_told : (stands : Standing) (order : Contents) (phase : Phase) → IsFirst stands order phase → IsTold phase []
-first_told (standings.Left unit) order phase (s, is, same, closing, is_told) = subst (λ (p : Phase). IsTold p []) (sym is) is_told
-first_told standings.Idle order phase is = subst (λ (p : Phase). IsTold p []) (sym is) tt
-first_told (standings.Began other) order phase is = subst (λ (p : Phase). IsTold p []) (sym is) tt
-first_told (standings.Opened other) order phase is = subst (λ (p : Phase). IsTold p []) (sym is) tt
+pub first_told : (stands : Standing) (order : Contents) (phase : Phase) → IsFirst stands order phase → WasTold phase []
+first_told (standings.Left unit) order phase (s, is, same, closing, is_told) = subst (λ (p : Phase). WasTold p []) (sym is) is_told
+first_told standings.Idle order phase is = subst (λ (p : Phase). WasTold p []) (sym is) tt
+first_told (standings.Began other) order phase is = subst (λ (p : Phase). WasTold p []) (sym is) tt
+first_told (standings.Opened other) order phase is = subst (λ (p : Phase). WasTold p []) (sym is) tt
 
 pub taken_follows : (start : Start) (past : List Happening) (old new : Held) (order : Contents) (stands : Standing) → Follows start past old → IsFirst stands order new.phase
     → Follows start (Answered order.id replies.Taken ∷ Asked order ∷ past) new
@@ -94,17 +94,17 @@ begun_follows start past journal new old order s entry at f want is_told =
     let wanted : want_of (Begins order) ≡ Keep entry = rw (← at) at want in
     rw (← same_entry (Began order) entry wanted) (record { planned = (f.planned, tt); told = is_told })
 
-after_told : (order : Contents) (verdict : Verdict) (next : Phase) → IsAfterCheck order verdict next → IsTold next []
-after_told order verdicts.MayOpen next (s, is, opened, is_told, valid, left) = subst (λ (p : Phase). IsTold p []) (sym is) is_told
-after_told order verdicts.Done next is = subst (λ (p : Phase). IsTold p []) (sym is) tt
-after_told order verdicts.Short next is = subst (λ (p : Phase). IsTold p []) (sym is) tt
-after_told order verdicts.Format next is = subst (λ (p : Phase). IsTold p []) (sym is) tt
-after_told order verdicts.Silent next is = subst (λ (p : Phase). IsTold p []) (sym is) tt
-after_told order verdicts.Doubt next is = subst (λ (p : Phase). IsTold p []) (sym is) tt
-after_told order verdicts.DoubtOpen next is = subst (λ (p : Phase). IsTold p []) (sym is) tt
-after_told order verdicts.Closed next is = subst (λ (p : Phase). IsTold p []) (sym is) tt
-after_told order verdicts.NotClosed next is = subst (λ (p : Phase). IsTold p []) (sym is) tt
-after_told order verdicts.Read next is = subst (λ (p : Phase). IsTold p []) (sym is) tt
+after_told : (order : Contents) (verdict : Verdict) (next : Phase) → IsAfterCheck order verdict next → WasTold next []
+after_told order verdicts.MayOpen next (s, is, opened, is_told, valid, left) = subst (λ (p : Phase). WasTold p []) (sym is) is_told
+after_told order verdicts.Done next is = subst (λ (p : Phase). WasTold p []) (sym is) tt
+after_told order verdicts.Short next is = subst (λ (p : Phase). WasTold p []) (sym is) tt
+after_told order verdicts.Format next is = subst (λ (p : Phase). WasTold p []) (sym is) tt
+after_told order verdicts.Silent next is = subst (λ (p : Phase). WasTold p []) (sym is) tt
+after_told order verdicts.Doubt next is = subst (λ (p : Phase). WasTold p []) (sym is) tt
+after_told order verdicts.DoubtOpen next is = subst (λ (p : Phase). WasTold p []) (sym is) tt
+after_told order verdicts.Closed next is = subst (λ (p : Phase). WasTold p []) (sym is) tt
+after_told order verdicts.NotClosed next is = subst (λ (p : Phase). WasTold p []) (sym is) tt
+after_told order verdicts.Read next is = subst (λ (p : Phase). WasTold p []) (sym is) tt
 
 -- a record that follows the end of a session
 ended_planned : (start : Start) (past : List Happening) (stands : Standing) (verdict : Verdict) (entry : Record) → standing_at start past ≡ stands

@@ -10,15 +10,15 @@ use Rattle.dali_trace.specs.ByPlan.{told_in, ByPlan}
 use Rattle.dali_writer.specs.Held.{Held}
 
 -- the session of the phase was told these
-abbrev pub IsTold : Phase → List Exchange → Type 0
-IsTold Idle told = Unit {0}
-IsTold (Begins order) told = Unit {0}
-IsTold (Checks order s) told = Told told s
-IsTold (Writes order s) told = Told told s
-IsTold (Closes order s) told = Told told s
-IsTold (Says id code) told = Unit {0}
+abbrev pub WasTold : Phase → List Exchange → Type 0
+WasTold Idle told = Unit {0}
+WasTold (Begins order) told = Unit {0}
+WasTold (Checks order s) told = Told told s
+WasTold (Writes order s) told = Told told s
+WasTold (Closes order s) told = Told told s
+WasTold (Says id code) told = Unit {0}
 
 -- the trace keeps to the plans, and its newest frames are those of the writer's session
 pub record Follows (start : Start) (past : List Happening) (writer : Held) : Type 0 where
   pub planned : ByPlan start past
-  pub told : IsTold writer.phase (told_in past)
+  pub told : WasTold writer.phase (told_in past)

@@ -48,13 +48,10 @@ fn arguments_that_are_no_word(rt: HostRuntime) {
     }
 }
 
-// Tests a writer that fails at each place of what is written of an argument.
+// Tests a writer that fails at each place of what is written of an argument, and at the flush behind it.
 fn fails_to_write(rt: &impl Abort, alloc: Global, argument: &str, text: &str) {
-    for room in 0..text.len() {
-        let mut writer = FullWriter {
-            held: Vec::new(alloc),
-            room,
-        };
+    for room in 0..=text.len() {
+        let mut writer = FullWriter::new(alloc, room);
         assert_eq!(rt; frame(argument, &mut writer), Status::Unwritten);
         assert_eq!(rt; writer.held.as_slice(), &text.as_bytes()[..room]);
     }

@@ -289,10 +289,7 @@ fn fails_to_write(
     requires { SendsAllProper (reverse outcome.now.trace.items) }
 {
     for room in 0..text.len() {
-        let mut writer = FullWriter {
-            held: Vec::new(alloc),
-            room,
-        };
+        let mut writer = FullWriter::new(alloc, room);
         let written = write_outcome(&mut writer, single_frames, outcome, units);
         assert!(rt; written.is_err(), "room for {room}");
         assert_eq!(rt; writer.held.as_slice(), &text[..room]);

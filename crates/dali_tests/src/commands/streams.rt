@@ -1,5 +1,6 @@
 //! Readers and writers that fail, or that count.
 
+use std::alloc::Global;
 use std::io;
 use std::io::{ErrorKind, Read, Write};
 
@@ -37,25 +38,46 @@ impl Read for Spaces {
     }
 }
 
-/// A writer that holds some bytes, and fails at the next.
+/// A writer that holds so many bytes, and then fails once: at the next byte, or where none comes at the flush. What is
+/// written after that it takes, so that it shows.
 #[derive(Drop)]
 pub struct FullWriter {
     pub held: Vec<u8>,
-    pub room: usize,
+    room: usize,
+    has_failed: bool,
+}
+
+impl FullWriter {
+    pub fn new(alloc: Global, room: usize) -> FullWriter {
+        FullWriter {
+            held: Vec::new(alloc),
+            room,
+            has_failed: false,
+        }
+    }
 }
 
 impl Write for FullWriter {
     fn write(&mut self, buf: &[u8]) -> io::Result<usize> {
         let left = self.room.saturating_sub(self.held.len());
-        if left == 0 {
+        let count = if self.has_failed {
+            buf.len()
+        } else {
+            left.min(buf.len())
+        };
+        if count == 0 {
+            self.has_failed = true;
             return Err(io::Error::from(ErrorKind::StorageFull));
         }
-        let count = left.min(buf.len());
         self.held.extend_from_slice(&buf[..count])?;
         Ok(count)
     }
 
     fn flush(&mut self) -> io::Result<()> {
-        Ok(())
+        if self.has_failed {
+            return Ok(());
+        }
+        self.has_failed = true;
+        Err(io::Error::from(ErrorKind::StorageFull))
     }
 }

@@ -79,7 +79,8 @@ pub fn fails_to_read(rt: &impl Abort, alloc: Global, command: FileCommand, input
     }
 }
 
-/// Tests a writer that fails at each place of what is written of an input.
+/// Tests a writer that fails at each place of what is written of an input, and at the flush behind it. Nothing more is
+/// written then.
 pub fn fails_to_write(
     rt: &impl Abort,
     alloc: Global,
@@ -87,12 +88,9 @@ pub fn fails_to_write(
     input: &[u8],
     text: &str,
 ) {
-    for room in 0..text.len() {
+    for room in 0..=text.len() {
         let mut reader = input;
-        let mut writer = FullWriter {
-            held: Vec::new(alloc),
-            room,
-        };
+        let mut writer = FullWriter::new(alloc, room);
         let ended = command.carry_out(alloc, &mut reader, &mut writer);
         assert_eq!(rt; ended, Status::Unwritten);
         assert_eq!(rt; writer.held.as_slice(), &text.as_bytes()[..room]);

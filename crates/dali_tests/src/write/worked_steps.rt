@@ -8,7 +8,7 @@ ghost use Rattle.dali_write.specs.Plans.{Plan};
 ghost use Rattle.dali_write.specs.Tries.{Wants};
 ghost use Rattle.dali_write.specs.Misses.{is_missed, misses_in, IsLong};
 ghost use Rattle.dali_write.specs.Losses.{SimRun, losses, Unrefused, IsAlone};
-ghost use Rattle.dali_write.specs.Successes.{Takes, HasBank, Spared, MissesByLosses};
+ghost use Rattle.dali_write.specs.Successes.{MayStoreAt, HasBank, Spared, MissesByLosses};
 ghost use Rattle.dali_write.specs.Doubts.{EndsUnread, EndsUnlooked, FoundAnother};
 ghost use Rattle.dali_write.specs.WorkedSteps.{answer_01, any_answer, no_answer, missed_read, after_a_miss, small_bank, two_units};
 
@@ -27,11 +27,11 @@ fn one_try_more_for_a_miss()
 
 // The locations of a bank of 17 bytes that are taken: from 03h to 10h, but the fixed one.
 fn what_a_bank_takes()
-    ensures first { Takes small_bank 0x03 }
-    ensures last { Takes small_bank 0x10 }
-    ensures lock { ¬ Takes small_bank 0x02 }
-    ensures next { ¬ Takes small_bank 0x11 }
-    ensures fixed { ¬ Takes small_bank 0x07 }
+    ensures first { MayStoreAt small_bank 0x03 }
+    ensures last { MayStoreAt small_bank 0x10 }
+    ensures lock { ¬ MayStoreAt small_bank 0x02 }
+    ensures next { ¬ MayStoreAt small_bank 0x11 }
+    ensures fixed { ¬ MayStoreAt small_bank 0x07 }
     ensures behind { HasBank 5 small_bank two_units }
 {}
 

@@ -3,7 +3,7 @@ use Rattle.std.proofs.lemmas.Grind.{common_steps}
 use Rattle.std.proofs.lemmas.List.Elements.{All-append}
 use Rattle.std.proofs.KnownBytes.{Consumes-trans, Consumes-kept}
 use Rattle.std.specs.Io.BufRead.{strip_last}
-use Rattle.dali_frame.specs.Line.{SpellsAnswer, HasFault}
+use Rattle.dali_frame.specs.Line.{SpellsAnswer, IsLineFault}
 use Rattle.dali_drive.proofs.lines.read_answer.Goals as goal
 
 pub returns-in-Ok-clause-line : goal.returns-in-Ok-clause-line
@@ -22,7 +22,7 @@ pub returns-in-Err-clause-line : goal.returns-in-Err-clause-line
 returns-in-Err-clause-line g c = (
   c.loop-line.line.items,
   record { short = c.loop-line.invariant.short; inside = c.loop-line.invariant.inside },
-  subst (λ (t : List ℕ). HasFault c.in-Err.fault (strip_last 13 t)) c.deref.ensures.0 c.in-Err.ensures.err,
+  subst (λ (t : List ℕ). IsLineFault c.in-Err.fault (strip_last 13 t)) c.deref.ensures.0 c.in-Err.ensures.err,
   Consumes-trans _ _ _ _ _ c.loop-line.invariant.bytes (rw c.in-Byte-eq10.field-0-test at c.in-Byte-eq10.ensures.bytes),
 )
 

@@ -1,7 +1,7 @@
 use Rattle.std.proofs.Common.{subst, drop, List, ℕ}
 use Rattle.dali_journal.specs.declared.read.Piece.TheVariants.{Bad}
 use Rattle.dali_journal.specs.Reading.{IsRead, BeginsWith}
-use Rattle.dali_journal.specs.Loading.{IsRefused}
+use Rattle.dali_journal.specs.Loading.{IsRecordRefused}
 use Rattle.dali_journal.proofs.IndexLemmas.{slice_rest}
 use Rattle.dali_journal.proofs.LoadLemmas.{fault_of, new_fault, journal_kept}
 use Rattle.dali_journal.proofs.TornLemmas.{torn_memory}
@@ -37,4 +37,4 @@ returns-in-Err-take-clause-torn c =
     (fault_of c.in-Err-take.fault c.args.limit c.args.bytes.now l.journal.records l.at c.in-Whole.entry c.in-Ok.ensures.accepted i.spelled i.place
     (journal_kept l.journal c.args.limit i.journal i.limit)
     (subst (λ (bs : List ℕ). BeginsWith bs c.in-Whole.entry) (slice_rest l.at c.args.bytes.now) c.in-Whole.ensures.0)
-    (subst (λ n. IsRefused c.in-Err-take.fault n l.at l.journal.records c.in-Whole.entry) i.limit c.in-Err-take.ensures.err))
+    (subst (λ n. IsRecordRefused c.in-Err-take.fault n l.at l.journal.records c.in-Whole.entry) i.limit c.in-Err-take.ensures.err))

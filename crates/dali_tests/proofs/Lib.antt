@@ -1,1 +1,2 @@
 pub mod TestBusLemmas
+pub mod HostileLemmas

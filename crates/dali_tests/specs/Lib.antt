@@ -1,1 +1,2 @@
 pub mod TestBus
+pub mod HostileBus

@@ -1,6 +1,7 @@
 mod bench;
 pub(crate) mod case;
 mod gtin;
+mod hostile_bus;
 mod losses;
 mod stops;
 mod submits;

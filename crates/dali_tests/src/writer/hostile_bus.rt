@@ -1,0 +1,133 @@
+ghost use Rattle.dali_tests.specs.HostileBus.{DoesHear, MayBeDeaf};
+
+use crate::gtin::GTIN;
+use crate::writer::case::{Deed, ENOUGH, STORED, events_of};
+use dali_bank::BLANK;
+use dali_frame::Frame;
+use dali_gear::{Bus, Unit};
+use dali_journal::Code;
+use dali_writer::{Happening, Reply, run};
+use std::test::Fail;
+
+// A unit hears a frame, and one ENABLE WRITE MEMORY is enough for it.
+fn hear_at_once(unit: &mut Unit, frame: &Frame) -> Option<u8>
+    ensures { DoesHear unit.old frame.now result unit.new }
+{
+    let answer = unit.hear(frame);
+    if let Frame::Enable(_) = *frame {
+        unit.hear(frame);
+    }
+    answer
+}
+
+// A unit hears a frame, and its write enable ends with it.
+fn hear_and_end(unit: &mut Unit, frame: &Frame) -> Option<u8>
+    ensures { DoesHear unit.old frame.now result unit.new }
+{
+    let answer = hear_at_once(unit, frame);
+    unit.hear(&Frame::Other(0));
+    answer
+}
+
+// Bits by which a unit doesn't hear a frame, hears it and ends its write enable, or just hears it.
+fn suffer(unit: &mut Unit, frame: &Frame, chance: u32) -> Option<u8>
+    ensures { MayBeDeaf unit.old frame.now result unit.new }
+{
+    match chance % 16 {
+        0 => None,
+        1 => hear_and_end(unit, frame),
+        _ => hear_at_once(unit, frame),
+    }
+}
+
+// A bus that is as bad as it may be: each of its two units may be deaf to a frame, one ENABLE WRITE MEMORY is enough, a write
+// enable may end with any frame, of two answers one comes, or none does. What happens is drawn from the turn.
+#[derive(Drop)]
+struct HostileBus {
+    first: Unit,
+    second: Unit,
+    turn: u32,
+}
+
+impl Bus for HostileBus {
+    ghost use Rattle.dali_gear.specs.Carry.{WorldStep};
+    ghost use Rattle.dali_tests.specs.HostileBus.{world_of_both};
+
+    ghost world = { λ bus. world_of_both bus.first bus.second };
+
+    ghost step = { λ old event new. WorldStep (world_of_both old.first old.second) event (world_of_both new.first new.second) };
+
+    ghost allowed = { λ old event new step. step };
+
+    fn carry(&mut self, frame: &Frame) -> Option<u8> {
+        self.turn = self.turn.wrapping_mul(1_103_515_245).wrapping_add(12_345);
+        let one = suffer(&mut self.first, frame, self.turn >> 24);
+        let other = suffer(&mut self.second, frame, self.turn >> 16);
+        if (self.turn >> 8) % 16 == 0 {
+            None
+        } else if other.is_some() && self.first.address() != self.second.address() {
+            other
+        } else {
+            one
+        }
+    }
+}
+
+// How the order of this number ended, as it was said last.
+fn end_of(trace: &[Happening], id: u64) -> Option<Code> {
+    let mut end = None;
+    for happening in trace {
+        if let Happening::Answered(of, Reply::Kept(code)) = happening {
+            if *of == id {
+                end = Some(*code);
+            }
+        }
+    }
+    end
+}
+
+// A unit that was blank holds what may be there after an order of the GTIN that ended so: where it is done its six
+// bytes, else each of them or FFh, and all else but the lock byte as it was.
+fn is_as_said(unit: &Unit, end: Option<Code>) -> bool {
+    let bytes = unit.bank1();
+    let mut is_right = bytes.len() == BLANK.len();
+    for location in 0..bytes.len().min(BLANK.len()) {
+        let byte = bytes[location];
+        is_right &= match location {
+            2 => byte == 0xFF || (byte == 0x55 && end != Some(Code::Done)),
+            3..=8 => byte == STORED[location - 3] || (byte == 0xFF && end != Some(Code::Done)),
+            _ => byte == BLANK[location],
+        };
+    }
+    is_right && !(unit.is_enabled() && end == Some(Code::Done))
+}
+
+#[test]
+fn orders_on_a_hostile_bus(rt: HostRuntime) -> Result<(), Fail> {
+    let deeds = [
+        Deed::Submit(1, 5, &GTIN),
+        Deed::Steps(ENOUGH),
+        Deed::Submit(2, 6, &GTIN),
+        Deed::Steps(300),
+        Deed::Stop(1),
+        Deed::Steps(ENOUGH),
+        Deed::Submit(1, 5, &GTIN),
+        Deed::Steps(ENOUGH),
+    ];
+    let events = events_of(rt.alloc(), &deeds)?;
+    let mut ends = [0; 2];
+    for turn in 0..40 {
+        let mut bus = HostileBus {
+            first: Unit::blank(rt.alloc(), 5)?,
+            second: Unit::blank(rt.alloc(), 6)?,
+            turn,
+        };
+        let outcome = run(rt.alloc(), &mut bus, 10, &events)?;
+        let (first, second) = (end_of(&outcome.trace, 1), end_of(&outcome.trace, 2));
+        assert!(rt; is_as_said(&bus.first, first), "unit 5 from turn {turn}");
+        assert!(rt; is_as_said(&bus.second, second), "unit 6 from turn {turn}");
+        ends[usize::from(first == Some(Code::Done))] += 1;
+    }
+    assert!(rt; ends[0] > 0 && ends[1] > 0, "{ends:?}");
+    Ok(())
+}

@@ -48,12 +48,11 @@ not_longer is = omega (arith, is.few)
 -- identification numbers, with 2 bytes for 8
 
 pub hexadecimal_digits : AreFormBytes form.Identification 2 (hex (0x30 ∷ 0x31 ∷ 0x30 ∷ 0x61 ∷ [])) (0x01 ∷ 0x0A ∷ [])
-hexadecimal_digits =
-    (
-      refl,
-      (omega arith, (omega arith, (omega arith, (omega arith, tt)))),
-      record { sized = refl; in_range = (omega arith, (omega arith, tt)); adds_up = refl },
-    )
+hexadecimal_digits = (
+  refl,
+  (omega arith, (omega arith, (omega arith, (omega arith, tt)))),
+  record { sized = refl; in_range = (omega arith, (omega arith, tt)); adds_up = refl },
+)
 
 pub not_last_digits_first : AreFormBytes form.Identification 2 (hex (0x30 ∷ 0x31 ∷ 0x30 ∷ 0x61 ∷ [])) (0x0A ∷ 0x01 ∷ []) → ⊥
 not_last_digits_first are = omega (arith, are.2.adds_up)

@@ -18,7 +18,6 @@ use Rattle.dali_trace.specs.Legal.{Legal, MayFollow, IsFinished}
 use Rattle.dali_trace.specs.ByPlan.{IsPlanned}
 use Rattle.dali_trace.specs.Taken.{taken_orders, begun_orders}
 use Rattle.dali_trace.specs.Moves.{Moves}
-use Rattle.dali_trace.specs.Fits.{Fits, OnlyNamed, IsApplied}
 use Rattle.dali_trace.specs.WhenKept.{WhenKept}
 use Rattle.dali_trace.specs.Quiet.{NoneTaken, NoneSent}
 

@@ -7,9 +7,9 @@ ghost use Rattle.dali_journal.specs.Spelling.{NamesShortUnit};
 ghost use Rattle.dali_writer.specs.Phases.{want_of, check_record, check_code, write_code, is_idle};
 ghost use Rattle.dali_writer.specs.Held.{IsAfterCheck, IsResumed};
 
-use dali_trace::{Reply, Want};
 use dali_bank::Order;
 use dali_journal::{Code, Record, Standing};
+use dali_trace::{Reply, Want};
 use dali_write::{Ask, Session, Verdict};
 
 // What a writer is about to do.

@@ -13,11 +13,11 @@ ghost use Rattle.dali_trace.specs.Spared.{IsSimRun};
 ghost use Rattle.dali_gear.specs.SimState.{SimStep, world_of};
 
 use crate::fault::RunFault;
-use dali_trace::{Event, Happening, Want};
 use crate::stops::{keep_within, left_by, loaded_again};
 use crate::writer::Writer;
 use dali_gear::{Bus, SimBus};
 use dali_journal::Journal;
+use dali_trace::{Event, Happening, Want};
 use std::alloc::Global;
 
 // Does once what the writer wants, if it wants something.

@@ -11,9 +11,9 @@ ghost use Rattle.dali_writer.specs.Describes.{Describes};
 ghost use Rattle.dali_writer.specs.Follows.{Follows};
 ghost use Rattle.dali_trace.specs.Parts.{IsKeptNext};
 
-use dali_trace::Want;
 use crate::writer::Writer;
 use dali_journal::{Journal, JournalFault, NoMemory, Record};
+use dali_trace::Want;
 use std::alloc::Global;
 
 // Keeps the record that is wanted, where one is and no more than these bytes of it reach the journal

@@ -21,10 +21,10 @@ ghost use Rattle.dali_writer.specs.Describes.{Describes};
 ghost use Rattle.dali_writer.specs.Follows.{Follows};
 ghost use Rattle.dali_trace.specs.Next.{IsNext, IsDone};
 
-use dali_trace::{Reply, Want};
 use crate::phase::{Phase, after_check, check_record, resumed_phase, write_code};
 use dali_bank::Order;
 use dali_journal::{Journal, Kept, NoMemory, Record, Standing};
+use dali_trace::{Reply, Want};
 use dali_write::{Ask, Session};
 use std::marker::Model;
 use std::mem;

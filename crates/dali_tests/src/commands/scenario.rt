@@ -1,7 +1,7 @@
 //! Which scenarios are refused, and by which line.
 
-use super::tried::{answers, answers_lines, refuses_past};
 use super::run_scenario::RUN;
+use super::tried::{answers, answers_lines, refuses_past};
 use dali_commands::Status;
 use std::alloc::{AllocError, Global};
 use std::process::Abort;

@@ -40,8 +40,8 @@ fn suffer(unit: &mut Unit, frame: &Frame, chance: u32) -> Option<u8>
     }
 }
 
-// A bus that is as bad as it may be: each of its two units may be deaf to a frame, one ENABLE WRITE MEMORY is enough, a write
-// enable may end with any frame, of two answers one comes, or none does. What happens is drawn from the turn.
+// A bus that is as bad as it may be: each of its two units may be deaf to a frame, one ENABLE WRITE MEMORY is enough, a
+// write enable may end with any frame, of two answers one comes, or none does. What happens is drawn from the turn.
 #[derive(Drop)]
 struct HostileBus {
     first: Unit,

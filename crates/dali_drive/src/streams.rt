@@ -22,7 +22,7 @@ pub trait Source {
     /// Whether a call has failed.
     ghost failed: { Self → Bool };
 
-    /// TakesOneByte the next byte. Where it fails no byte is lost.
+    /// Takes the next byte. Where it fails no byte is lost.
     fn take_byte(&mut self) -> Got
         ensures bytes { TakesOneByte (left self.old) (left self.new) result }
         ensures failed { failed self.new ≡ (failed self.old || is_failure result) };

@@ -34,7 +34,7 @@ FollowOn start (newest ∷ older) =
 abbrev pub IsOneTrace : Start → List Sitting → Type 0
 IsOneTrace start sittings = Legal start (joined sittings) × ByPlan start (joined sittings) × IsFinished (joined sittings)
 
--- so along every chain of worlds of them, from a world as in Along of Law.antt, all is right at each moment
+-- so along every chain of worlds of them, from a world as in Along of Moments.antt, all is right at each moment
 abbrev pub SittingsAreRight : Type 0
 SittingsAreRight = (zero : World) (start : Start) (sittings : List Sitting) (first last : World) (states : List World) → FollowOn start sittings
     → Fits zero start.records first → OnlyNamed start.records first → IsChain Moves first (joined sittings) last states

@@ -1,5 +1,6 @@
 -- The bytes of an identification number are those of its hexadecimal digits.
-use Rattle.std.proofs.Common.{◌≡◌, ◌↔◌, ℕ, zero, suc, ◌+◌, ◌*◌, ◌^◌, ◌<◌, ◌≤◌, ◌-◌, ◌⊎◌, inl, inr, true, List, [], ◌∷◌, length, Option, Some, None, Result, Ok, Err, refl, sym, ap, ◌∙◌, arith}
+use Rattle.std.proofs.Common.{◌≡◌, ◌↔◌, ℕ, zero, suc, ◌+◌, ◌*◌, ◌^◌, ◌<◌, ◌≤◌, ◌-◌, ◌⊎◌, inl, inr, true, List, [], ◌∷◌}
+use Rattle.std.proofs.Common.{length, Option, Some, None, Result, Ok, Err, refl, sym, ap, ◌∙◌, arith}
 use Rattle.std.proofs.Math.Nat.{pow-suc}
 use Rattle.std.proofs.lemmas.Bool.{cases_lt}
 use Rattle.std.proofs.lemmas.Bool.Decides.{nat_tests}
@@ -8,9 +9,11 @@ use Rattle.std.specs.Char.{digit_value}
 use Rattle.std.specs.List.{AllByRecursion, AllPass}
 use Rattle.std.specs.Result.{result_unwrap_or}
 use Rattle.std.specs.Str.Parse.{AllDigits, digits_value_after}
-use Rattle.hex.specs.Hex.{decode_pairs, decode_sized, digit_or_error, hex_digit_value, is_hex_digit, pair_value, value_at, ◌>>=◌}
+use Rattle.hex.specs.Hex.{decode_pairs, decode_sized, digit_or_error, hex_digit_value, is_hex_digit, pair_value}
+use Rattle.hex.specs.Hex.{value_at, ◌>>=◌}
 use Rattle.hex.specs.declared.error.FromHexError.{FromHexError}
-use Rattle.hex.proofs.HexLemmas.{decode_of-even, decode_pairs-digits, decode_pairs-ok, decode_sized-ok, decode_sized-twice}
+use Rattle.hex.proofs.HexLemmas.{decode_of-even, decode_pairs-digits, decode_pairs-ok, decode_sized-ok}
+use Rattle.hex.proofs.HexLemmas.{decode_sized-twice}
 use Rattle.dali_bank.specs.declared.field.Form.TheVariants as form
 use Rattle.dali_bank.specs.Spelling.{AreFormBytes, hex}
 use Rattle.dali_bank.specs.Numbers.{big_endian}
@@ -27,7 +30,8 @@ digit_read c i None v h = cc h
 
 -- a digit is an upper case letter, a lower case letter, or 0 to 9
 ranges : (c v : ℕ) → hex_digit_value c ≡ Some v
-    → ((65 ≤ c) × (c ≤ 70) × (v ≡ c - 55)) ⊎ (((97 ≤ c) × (c ≤ 102) × (v ≡ c - 87)) ⊎ ((48 ≤ c) × (c ≤ 57) × (v ≡ c - 48)))
+    → ((65 ≤ c) × (c ≤ 70) × (v ≡ c - 55))
+    ⊎ (((97 ≤ c) × (c ≤ 102) × (v ≡ c - 87)) ⊎ ((48 ≤ c) × (c ≤ 57) × (v ≡ c - 48)))
 ranges c v h = grind (arith)
 
 upper_valued : (c : ℕ) → 65 ≤ c → c ≤ 70 → digit_value c ≡ c - 55
@@ -134,12 +138,14 @@ same_bytes (a ∷ one) (b ∷ other) sized all others same =
     rw first (ap (λ bytes. b ∷ bytes) (same_bytes one other fewer all.1 others.1 rest))
 
 -- what hex decodes of a text are the bytes that its digits spell
-pub decoded : (s bytes : List ℕ) (size : ℕ) → (decode_sized s size ≡ Ok bytes) ↔ AreFormBytes form.Identification size (hex s) bytes
+pub decoded : (s bytes : List ℕ) (size : ℕ)
+    → (decode_sized s size ≡ Ok bytes) ↔ AreFormBytes form.Identification size (hex s) bytes
 decoded s bytes size = (there, back) where
   there : decode_sized s size ≡ Ok bytes → AreFormBytes form.Identification size (hex s) bytes
   there h =
       let long = decode_sized-ok s size bytes h in
-      let pairs = sym (decode_of-even s (omega (arith, long))) ∙ sym (decode_sized-twice s size (omega (arith, long))) ∙ h in
+      let pairs =
+      sym (decode_of-even s (omega (arith, long))) ∙ sym (decode_sized-twice s size (omega (arith, long))) ∙ h in
       let read = pairs_read 0 0 s bytes pairs in
       let twice = decode_pairs-ok 0 s bytes pairs in (
         omega (arith, long),

@@ -1,5 +1,6 @@
 -- Lemmas on how the bytes of a value are shown.
-use Rattle.std.proofs.Common.{◌≡◌, ◌≢◌, ◌⊎◌, inl, inr, ℕ, zero, suc, ◌+◌, ◌-◌, ◌<◌, ◌≤◌, ◌^◌, List, [], ◌∷◌, length, take, drop, get_or, replicate, refl, sym, ◌∙◌, ap, arith, length-take, length-drop}
+use Rattle.std.proofs.Common.{◌≡◌, ◌≢◌, ◌⊎◌, inl, inr, ℕ, zero, suc, ◌+◌, ◌-◌, ◌<◌, ◌≤◌, ◌^◌, List, [], ◌∷◌, length}
+use Rattle.std.proofs.Common.{take, drop, get_or, replicate, refl, sym, ◌∙◌, ap, arith, length-take, length-drop}
 use Rattle.std.proofs.lemmas.Bool.{cases_eq}
 use Rattle.std.specs.Str.Parse.{digits_value}
 use Rattle.dali_bank.specs.declared.field.Field.{Field}
@@ -19,7 +20,8 @@ use Rattle.dali_bank.proofs.LayoutLemmas.{field_room}
 
 -- ---- set values are shown
 
-one_byte_or_not : (bytes : List ℕ) (byte : ℕ) → (bytes ≢ replicate (length bytes) byte) ⊎ (bytes ≡ replicate (length bytes) byte)
+one_byte_or_not : (bytes : List ℕ) (byte : ℕ)
+    → (bytes ≢ replicate (length bytes) byte) ⊎ (bytes ≡ replicate (length bytes) byte)
 one_byte_or_not [] byte = inr refl
 one_byte_or_not (b ∷ bytes) byte = elim (cases_eq b byte) [
   | inl same ↦ elim (one_byte_or_not bytes byte) [
@@ -34,7 +36,8 @@ form_shown : (f : Form) (size : ℕ) (value : Plain) (bytes : List ℕ) → Suit
     → (answer : Shown) × IsFormShown f size bytes answer × ShowsPlain value bytes answer
 form_shown form.Gtin size (digits s) bytes room are =
     let known = gtin_number s are.0 in
-    let small : digits_value 10 s + 1 < 256 ^ size = rw room (omega (arith, gtin_number_small (digits_value 10 s) known)) in
+    let small : digits_value 10 s + 1 < 256 ^ size =
+    rw room (omega (arith, gtin_number_small (digits_value 10 s) known)) in
     (Number (digits_value 10 s), (not_unknown size (digits_value 10 s) bytes small are.1, (known, are.1)), refl)
 form_shown form.Identification size (hex s) bytes room are =
     let sized = form_bytes_sized form.Identification size (hex s) bytes are in
@@ -58,7 +61,8 @@ some_bytes (form.Number least most) (suc size) room = omega arith
 some_bytes form.Text size room = room.0
 
 -- the bytes of a field that are all there
-all_there : (first size : ℕ) (bank : List ℕ) → 1 ≤ size → length (take size (drop first bank)) ≡ size → first + size ≤ length bank
+all_there : (first size : ℕ) (bank : List ℕ) → 1 ≤ size → length (take size (drop first bank)) ≡ size
+    → first + size ≤ length bank
 all_there first size bank some whole =
     let left = simp (length-take, length-drop) at whole in
     omega (arith, some, left)
@@ -84,15 +88,19 @@ set_value_shown field value bytes bank are laid =
 
 -- ---- a field is shown in one way
 
-values_once : (f : Form) (size : ℕ) (bytes : List ℕ) (one other : Shown) → ShowsValue f size bytes one → ShowsValue f size bytes other → one ≡ other
+values_once : (f : Form) (size : ℕ) (bytes : List ℕ) (one other : Shown) → ShowsValue f size bytes one
+    → ShowsValue f size bytes other → one ≡ other
 values_once form.Gtin size bytes (Number m) (Number n) one other = ap Number (sym one.1.adds_up ∙ other.1.adds_up)
 values_once form.Identification size bytes Hex Hex one other = refl
-values_once (form.Number least most) size bytes (Number m) (Number n) one other = ap Number (sym one.2.adds_up ∙ other.2.adds_up)
+values_once (form.Number least most) size bytes (Number m) (Number n) one other =
+    ap Number (sym one.2.adds_up ∙ other.2.adds_up)
 values_once form.Text size bytes (Text k) (Text l) one other =
-    ap Text (text_once bytes k l (size - length (take k bytes)) (size - length (take l bytes)) one.0 other.0 one.1.0.characters other.1.0.characters one.1.1 other.1.1)
+    ap Text (text_once bytes k l (size - length (take k bytes)) (size - length (take l bytes)) one.0 other.0
+    one.1.0.characters other.1.0.characters one.1.1 other.1.1)
 values_once f size bytes one other shows others = grind (arith, shows, others)
 
-form_once : (f : Form) (size : ℕ) (bytes : List ℕ) (one other : Shown) → IsFormShown f size bytes one → IsFormShown f size bytes other → one ≡ other
+form_once : (f : Form) (size : ℕ) (bytes : List ℕ) (one other : Shown) → IsFormShown f size bytes one
+    → IsFormShown f size bytes other → one ≡ other
 form_once f size bytes Unknown Unknown shows others = refl
 form_once f size bytes Raw Raw shows others = refl
 form_once f size bytes Absent other shows others = absurd shows

@@ -6,7 +6,8 @@ use Rattle.dali_bank.specs.declared.field.Form.TheVariants as form
 use Rattle.dali_bank.specs.Spelling.{Plain, unknown, number, digits, hex, text, AreFormBytes}
 
 -- the bytes for a value are as many as the field has
-pub form_bytes_sized : (f : Form) (size : ℕ) (value : Plain) (bytes : List ℕ) → AreFormBytes f size value bytes → length bytes ≡ size
+pub form_bytes_sized : (f : Form) (size : ℕ) (value : Plain) (bytes : List ℕ) → AreFormBytes f size value bytes
+    → length bytes ≡ size
 form_bytes_sized form.Gtin size (digits s) bytes are = are.1.sized
 form_bytes_sized form.Identification size (hex s) bytes are = are.2.sized
 form_bytes_sized (form.Number least most) size (number n) bytes are = are.2.sized

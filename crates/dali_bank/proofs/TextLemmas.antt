@@ -1,5 +1,6 @@
 -- Lemmas on texts that are filled up with zeros.
-use Rattle.std.proofs.Common.{◌≡◌, ◌≢◌, sym, ◌∙◌, get_or, length-append, ℕ, zero, suc, ◌-◌, ◌≤◌, List, [], ◌∷◌, ◌++◌, length, take, drop, replicate, refl, ap, arith}
+use Rattle.std.proofs.Common.{◌≡◌, ◌≢◌, sym, ◌∙◌, get_or, length-append, ℕ, zero, suc, ◌-◌, ◌≤◌, List, [], ◌∷◌, ◌++◌}
+use Rattle.std.proofs.Common.{length, take, drop, replicate, refl, ap, arith}
 use Rattle.std.proofs.Math.Seq.{take-append_seam}
 use Rattle.std.specs.List.{AllByRecursion}
 use Rattle.dali_bank.specs.Spelling.{IsText, IsTextByte, ShowsText}
@@ -18,14 +19,17 @@ filled_up (byte ∷ s) (suc size) (suc room) few fits =
     rw left (ap (λ t. byte ∷ t) (filled_up s size room (omega arith) (omega arith)))
 
 -- the characters of a text, filled up with zeros, are its first bytes
-pub text_shown : (s : List ℕ) (size : ℕ) (bytes : List ℕ) → IsText size s → bytes ≡ s ++ replicate (size - length s) 0 → ShowsText size bytes (length s)
+pub text_shown : (s : List ℕ) (size : ℕ) (bytes : List ℕ) → IsText size s → bytes ≡ s ++ replicate (size - length s) 0
+    → ShowsText size bytes (length s)
 text_shown s size bytes is_text filled =
-    let front : take (length s) bytes ≡ s = ap (take (length s)) filled ∙ take-append_seam s (replicate (size - length s) 0) in
+    let front : take (length s) bytes ≡ s =
+    ap (take (length s)) filled ∙ take-append_seam s (replicate (size - length s) 0) in
     let long : length s ≤ length bytes = rw filled (simp length-append (omega arith)) in
     (long, (rw front is_text, rw front filled))
 
 -- a text isn't FFh in every byte
-pub text_not_unknown : (s : List ℕ) (size : ℕ) (bytes : List ℕ) → IsText size s → bytes ≡ s ++ replicate (size - length s) 0 → bytes ≢ replicate size 0xFF
+pub text_not_unknown : (s : List ℕ) (size : ℕ) (bytes : List ℕ) → IsText size s
+    → bytes ≡ s ++ replicate (size - length s) 0 → bytes ≢ replicate size 0xFF
 text_not_unknown [] size bytes is_text filled same = absurd (omega (arith, is_text.some))
 text_not_unknown (byte ∷ s) zero bytes is_text filled same = absurd (omega (arith, is_text.few))
 text_not_unknown (byte ∷ s) (suc size) bytes is_text filled same =

@@ -54,7 +54,8 @@ hexadecimal_digits = (
   record { sized = refl; in_range = (omega arith, (omega arith, tt)); adds_up = refl },
 )
 
-pub not_last_digits_first : AreFormBytes form.Identification 2 (hex (0x30 ∷ 0x31 ∷ 0x30 ∷ 0x61 ∷ [])) (0x0A ∷ 0x01 ∷ []) → ⊥
+pub not_last_digits_first : AreFormBytes form.Identification 2 (hex (0x30 ∷ 0x31 ∷ 0x30 ∷ 0x61 ∷ [])) (0x0A ∷ 0x01 ∷ [])
+    → ⊥
 not_last_digits_first are = omega (arith, are.2.adds_up)
 
 pub no_digit_g : (bytes : List ℕ) → AreFormBytes form.Identification 1 (hex (0x30 ∷ 0x67 ∷ [])) bytes → ⊥

@@ -1,5 +1,6 @@
 -- What a draft holds, and the order that it makes.
-use Rattle.std.specs.Prelude.{◌≡◌, ℕ, ◌≢◌, ◌+◌, ◌<◌, Option, Some, None, IfSome, IsSomeAnd, List, [], ◌∷◌, length, replicate, slice_index_or, slice_set, unwrap_or}
+use Rattle.std.specs.Prelude.{◌≡◌, ℕ, ◌≢◌, ◌+◌, ◌<◌, Option, Some, None, IfSome, IsSomeAnd, List, [], ◌∷◌, length}
+use Rattle.std.specs.Prelude.{replicate, slice_index_or, slice_set, unwrap_or}
 use Rattle.std.specs.List.{AllByRecursion, flat_map}
 use Rattle.dali_bank.specs.declared.field.Field.{Field}
 use Rattle.dali_bank.specs.Layout.{fields, rank_of, first_of, length_of}
@@ -36,11 +37,13 @@ bytes_of field draft = unwrap_or (found_of field draft) []
 
 -- the field is set to a number: to bytes that aren't all FFh, and that add up to it
 abbrev pub GivesNumber : Field → Drafted → ℕ → Type 0
-GivesNumber field draft n = IsSomeAnd (found_of field draft) (λ bytes. (bytes ≢ replicate (length_of field) 0xFF) × (big_endian bytes ≡ n))
+GivesNumber field draft n =
+    IsSomeAnd (found_of field draft) (λ bytes. (bytes ≢ replicate (length_of field) 0xFF) × (big_endian bytes ≡ n))
 
 -- both voltages are set to numbers, and the minimum is over the maximum
 abbrev pub VoltagesCross : Drafted → Type 0
-VoltagesCross draft = (least : ℕ) × (most : ℕ) × GivesNumber MinVoltage draft least × GivesNumber MaxVoltage draft most × (most < least)
+VoltagesCross draft =
+    (least : ℕ) × (most : ℕ) × GivesNumber MinVoltage draft least × GivesNumber MaxVoltage draft most × (most < least)
 
 -- the updates of all fields, by rising location: their bytes at their locations
 abbrev pub updates_of : Drafted → List (ℕ × ℕ)
@@ -52,4 +55,6 @@ order_of draft = record { id = draft.id; unit = draft.unit; updates = updates_of
 
 -- each field that is set has as many bytes as the layout says
 abbrev pub AreFound : List (Option (List ℕ)) → Type 0
-AreFound found = AllByRecursion (λ field. IfSome (slice_index_or found (rank_of field) None) (λ bytes. length bytes ≡ length_of field)) fields
+AreFound found =
+    AllByRecursion
+    (λ field. IfSome (slice_index_or found (rank_of field) None) (λ bytes. length bytes ≡ length_of field)) fields

@@ -39,7 +39,8 @@ rule_fault (text s) = Some Text
 -- why no bytes stand for the value in a field of this form
 abbrev pub IsFormFault : Form → ℕ → Plain → BankFault → Type 0
 IsFormFault form size value Kind = ¬ FormTakes form value
-IsFormFault form size value fault = FormTakes form value × (¬ HasFormBytes form size value) × (rule_fault value ≡ Some fault)
+IsFormFault form size value fault =
+    FormTakes form value × (¬ HasFormBytes form size value) × (rule_fault value ≡ Some fault)
 
 -- why no bytes stand for the value in the field
 abbrev pub IsValueFault : Field → Plain → BankFault → Type 0

@@ -14,18 +14,25 @@ abbrev pub ShowsPlain : Plain → List ℕ → Shown → Type 0
 ShowsPlain unknown bytes answer = answer ≡ shown.Unknown
 ShowsPlain (number n) bytes answer = answer ≡ shown.Number n
 ShowsPlain (digits s) bytes answer = answer ≡ shown.Number (digits_value 10 s)
-ShowsPlain (hex s) bytes answer = ((bytes ≢ replicate (length bytes) 0xFF) × (answer ≡ shown.Hex)) ⊎ ((bytes ≡ replicate (length bytes) 0xFF) × (answer ≡ shown.Unknown))
+ShowsPlain (hex s) bytes answer =
+    ((bytes ≢ replicate (length bytes) 0xFF) × (answer ≡ shown.Hex))
+    ⊎ ((bytes ≡ replicate (length bytes) 0xFF) × (answer ≡ shown.Unknown))
 ShowsPlain (text s) bytes answer = answer ≡ shown.Text (length s)
 
 -- the bytes of a value, laid in a bank at the field's place, are shown as that value
 abbrev pub SetValuesAreShown : Type 0
-SetValuesAreShown = (field : Field) (value : Plain) (bytes bank : List ℕ) → AreFieldBytes field value bytes → part_of field bank ≡ bytes
+SetValuesAreShown =
+    (field : Field) (value : Plain) (bytes bank : List ℕ) → AreFieldBytes field value bytes → part_of field bank ≡ bytes
     → (answer : Shown) × IsShown bank field answer × ShowsPlain value bytes answer
 
 -- a field of a bank is shown in one way
 abbrev pub IsShownOnce : Type 0
-IsShownOnce = (field : Field) (bank : List ℕ) (one other : Shown) → IsShown bank field one → IsShown bank field other → one ≡ other
+IsShownOnce =
+    (field : Field) (bank : List ℕ) (one other : Shown) → IsShown bank field one → IsShown bank field other
+    → one ≡ other
 
 -- the byte that rising updates have for a location is the one that stands among them with it
 abbrev pub UpdatesAreFound : Type 0
-UpdatesAreFound = (updates : List (ℕ × ℕ)) (location byte : ℕ) → RisesAbove 0 updates → (update_at updates location ≡ Some byte) ↔ Contains updates (location, byte)
+UpdatesAreFound =
+    (updates : List (ℕ × ℕ)) (location byte : ℕ) → RisesAbove 0 updates
+    → (update_at updates location ≡ Some byte) ↔ Contains updates (location, byte)

@@ -1,14 +1,18 @@
 -- Where the fields of memory bank 1 lie, and what each takes (IEC 62386-251, content format 0003h).
 use Rattle.std.specs.Prelude.{◌≡◌, ℕ, ◌+◌, ◌^◌, ◌<◌, ◌≤◌, List, [], ◌∷◌}
 use Rattle.dali_bank.specs.declared.field.Field.{Field}
-use Rattle.dali_bank.specs.declared.field.Field.TheVariants.{Gtin, Identification, Year, Week, InputPower, MinDimPower, MinVoltage, MaxVoltage, LightOutput, Cri, Cct, Distribution, Colour, Luminaire}
+use Rattle.dali_bank.specs.declared.field.Field.TheVariants.{Gtin, Identification, Year, Week, InputPower, MinDimPower}
+use Rattle.dali_bank.specs.declared.field.Field.TheVariants.{MinVoltage, MaxVoltage, LightOutput, Cri, Cct}
+use Rattle.dali_bank.specs.declared.field.Field.TheVariants.{Distribution, Colour, Luminaire}
 use Rattle.dali_bank.specs.declared.field.Row.{Row}
 use Rattle.dali_bank.specs.declared.field.Form.{Form}
 use Rattle.dali_bank.specs.declared.field.Form.TheVariants as form
 
 -- the fields, by rising location
 abbrev pub fields : List Field
-fields = Gtin ∷ Identification ∷ Year ∷ Week ∷ InputPower ∷ MinDimPower ∷ MinVoltage ∷ MaxVoltage ∷ LightOutput ∷ Cri ∷ Cct ∷ Distribution ∷ Colour ∷ Luminaire ∷ []
+fields =
+    Gtin ∷ Identification ∷ Year ∷ Week ∷ InputPower ∷ MinDimPower ∷ MinVoltage ∷ MaxVoltage ∷ LightOutput ∷ Cri ∷ Cct
+    ∷ Distribution ∷ Colour ∷ Luminaire ∷ []
 
 -- a field's place among the fields
 abbrev pub rank_of : Field → ℕ
@@ -50,7 +54,8 @@ first_of field = (row_of field).first
 abbrev pub length_of : Field → ℕ
 length_of field = (row_of field).length
 
--- so many bytes suit this form: they have room for each of its values, and for the number of FFh in every byte above them
+-- so many bytes suit this form: they have room for each of its values, and for the number of FFh in every byte above
+-- them
 abbrev pub SuitsForm : Form → ℕ → Type 0
 SuitsForm form.Gtin size = size ≡ 6
 SuitsForm form.Identification size = size ≡ 8

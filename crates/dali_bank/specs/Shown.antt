@@ -32,4 +32,6 @@ part_of field bank = take (length_of field) (drop (first_of field) bank)
 -- how a field of a bank is shown
 abbrev pub IsShown : List ℕ → Field → Shown → Type 0
 IsShown bank field Absent = length bank < first_of field + length_of field
-IsShown bank field shown = (first_of field + length_of field ≤ length bank) × IsFormShown (row_of field).form (length_of field) (part_of field bank) shown
+IsShown bank field shown =
+    (first_of field + length_of field ≤ length bank)
+    × IsFormShown (row_of field).form (length_of field) (part_of field bank) shown

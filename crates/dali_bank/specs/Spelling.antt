@@ -48,7 +48,8 @@ pub record IsText (size : ℕ) (s : List ℕ) : Type 0 where
 -- so many bytes stand for the value in a field of this form
 abbrev pub AreFormBytes : Form → ℕ → Plain → List ℕ → Type 0
 AreFormBytes form.Gtin size (digits s) bytes = IsGtin s × SpellsNumber size (digits_value 10 s) bytes
-AreFormBytes form.Identification size (hex s) bytes = (length s ≡ 2 * size) × AllDigits 16 s × SpellsNumber size (digits_value 16 s) bytes
+AreFormBytes form.Identification size (hex s) bytes =
+    (length s ≡ 2 * size) × AllDigits 16 s × SpellsNumber size (digits_value 16 s) bytes
 AreFormBytes (form.Number least most) size (number n) bytes = (least ≤ n) × (n ≤ most) × SpellsNumber size n bytes
 AreFormBytes form.Text size (text s) bytes = IsText size s × (bytes ≡ s ++ replicate (size - length s) 0)
 AreFormBytes _ size unknown bytes = bytes ≡ replicate size 0xFF

@@ -1,11 +1,12 @@
-ghost use Rattle.std.specs.Prelude.{◌≡◌, ◌≢◌, ◌↔◌, ◌≤◌, ◌+◌, ℕ, List, [], ◌++◌, length, None, IsTrue, IsOk, IfOk, OnOk, IfErr, IfSome, IfNone};
+ghost use Rattle.std.specs.Prelude.{◌≡◌, ◌≢◌, ◌↔◌, ◌≤◌, ◌+◌, ℕ, List, [], ◌++◌, length, None, IsTrue, IsOk, IfOk, OnOk};
+ghost use Rattle.std.specs.Prelude.{IfErr, IfSome, IfNone};
 ghost use Rattle.dali_bank.specs.Draft.{placed_at};
 ghost use Rattle.dali_bank.specs.Spelling.{AreFieldBytes, HasBytes, plain};
 
 use crate::fault::BankFault;
 use crate::field::{FIELDS, Field};
 use crate::order::{Order, Updates};
-use crate::spelling::{FieldBytes, are_all, field_bytes, number_of};
+use crate::spelling::{FieldBytes, are_all, big_endian_number, field_bytes};
 use crate::value::Value;
 use std::marker::Model;
 
@@ -119,7 +120,7 @@ impl Draft {
         if are_all(bytes, 0xff) {
             return None;
         }
-        Some(number_of(bytes))
+        Some(big_endian_number(bytes))
     }
 
     // The updates of all fields that are set, by rising location.

@@ -4,7 +4,7 @@ ghost use Rattle.dali_bank.specs.Shown.{IsFormShown, IsShown};
 
 use crate::field::{Field, Form, Row};
 use crate::gtin::is_gtin_number;
-use crate::spelling::{are_all, number_of};
+use crate::spelling::{are_all, big_endian_number};
 use crate::text::text_length;
 
 /// How the bytes of a field in a memory bank are shown (profile).
@@ -55,7 +55,7 @@ fn bytes_shown(form: Form, bytes: &[u8]) -> Shown
     }
     match form {
         Form::Gtin => {
-            let number = number_of(bytes);
+            let number = big_endian_number(bytes);
             if is_gtin_number(number) {
                 Shown::Number(number)
             } else {
@@ -64,7 +64,7 @@ fn bytes_shown(form: Form, bytes: &[u8]) -> Shown
         }
         Form::Identification => Shown::Hex,
         Form::Number { least, most } => {
-            let number = number_of(bytes);
+            let number = big_endian_number(bytes);
             if least <= number && number <= most {
                 Shown::Number(number)
             } else {

@@ -1,4 +1,5 @@
-ghost use Rattle.std.specs.Prelude.{◌≡◌, ◌≤◌, ◌<◌, ◌-◌, ◌^◌, ◌++◌, length, IsTrue, IsNone, IfSome, IfOk, IfErr, replicate, ◌↔◌};
+ghost use Rattle.std.specs.Prelude.{◌≡◌, ◌≤◌, ◌<◌, ◌-◌, ◌^◌, ◌++◌, length, IsTrue, IsNone, IfSome, IfOk, IfErr};
+ghost use Rattle.std.specs.Prelude.{replicate, ◌↔◌};
 ghost use Rattle.dali_bank.specs.Faults.{IsFormFault, IsValueFault};
 ghost use Rattle.dali_bank.specs.Layout.{SuitsForm};
 ghost use Rattle.dali_bank.specs.Numbers.{SpellsNumber, big_endian};
@@ -111,7 +112,7 @@ fn copied(bytes: &[u8]) -> FieldBytes
 }
 
 /// The number that the bytes spell, the most significant one first.
-pub(crate) fn number_of(bytes: &[u8]) -> u64
+pub(crate) fn big_endian_number(bytes: &[u8]) -> u64
     requires { length bytes.now ≤ 8 }
     ensures { result ≡ big_endian bytes.now }
 {

@@ -5,7 +5,8 @@ use clap::error::ErrorKind;
 use dali_commands::drive_files::drive_files;
 use dali_commands::frame::frame;
 use dali_commands::{Fault, FileCommand, Job, Status, job_of, write_fault};
-use dali_input::InputFault;
+use dali_input::{Input, InputFault};
+use dali_text::Output;
 use std::alloc::{AllocError, Global};
 use std::io::{BufWriter, LineWriter};
 use std::process::ExitCode;
@@ -50,7 +51,7 @@ fn run(rt: &HostRuntime, words: &Vec<String>) -> Status {
                 single_frames,
             },
         ) => on_file(rt, scenario, FileCommand::Run { single_frames }),
-        Ok(Job::Frame(digits)) => frame(digits, &mut io::writer(rt)),
+        Ok(Job::Frame(digits)) => frame(digits, &mut Output::new(io::writer(rt))),
         Ok(Job::Show(dump)) => on_file(rt, dump, FileCommand::Show),
         Ok(Job::Journal(records)) => on_file(rt, records, FileCommand::Journal),
         Ok(Job::Drive { orders, journal }) => on_link(rt, orders, journal),
@@ -74,14 +75,15 @@ fn texts_of<'a>(alloc: Global, words: &'a Vec<String>) -> Result<Vec<&'a str>, A
 // Carries out a command over a file. The name `/dev/stdin` is read through the runtime, since a process
 // may lack the right to open it by name.
 fn on_file(rt: &HostRuntime, name: &str, command: FileCommand) -> Status {
-    let Ok(mut writer) = BufWriter::new(rt.alloc(), io::writer(rt)) else {
+    let Ok(writer) = BufWriter::new(rt.alloc(), io::writer(rt)) else {
         return out_of_memory(rt, Place::Output);
     };
+    let mut output = Output::new(writer);
     if name == "/dev/stdin" {
-        return command.carry_out(rt.alloc(), &mut rt.reader(), &mut writer);
+        return command.carry_out(rt.alloc(), &mut Input::new(rt.reader()), &mut output);
     }
     match fs::open(rt, name) {
-        Ok(mut reader) => command.carry_out(rt.alloc(), &mut reader, &mut writer),
+        Ok(file) => command.carry_out(rt.alloc(), &mut Input::new(file), &mut output),
         Err(cause) => unopened(rt, name, cause, Place::Output),
     }
 }
@@ -127,8 +129,8 @@ fn out_of_memory(rt: &HostRuntime, place: Place) -> Status {
 // Prints a fault that comes before any command runs.
 fn print_fault(rt: &HostRuntime, fault: Fault, place: Place) -> Status {
     let printed = match place {
-        Place::Output => write_fault(&mut io::writer(rt), fault),
-        Place::Lines => write_fault(&mut rt.stderr(), fault),
+        Place::Output => write_fault(&mut Output::new(io::writer(rt)), fault),
+        Place::Lines => write_fault(&mut Output::new(rt.stderr()), fault),
     };
     match printed {
         Ok(()) => fault.status(),

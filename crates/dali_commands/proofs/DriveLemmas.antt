@@ -18,8 +18,11 @@ use Rattle.dali_commands.specs.Faults.{item_line}
 use Rattle.dali_text.proofs.StreamLemmas.{appends_both}
 
 -- the drive of a writer that was made from the journal came to its end
-pub ends_well : (journal : JournalState) (made : Held) (orders : List Contents) (first last : Streams) (writer : Held) (status : Status) → made.journal ≡ journal
-    → IsDrive (start_of made) orders first writer last → status ≡ Good → IsDriveAnswer (start_at journal) orders first status last
+pub ends_well : (journal : JournalState) (made : Held) (orders : List Contents) (first last : Streams) (writer : Held)
+    (status : Status)
+    → made.journal ≡ journal
+    → IsDrive (start_of made) orders first writer last → status ≡ Good
+    → IsDriveAnswer (start_at journal) orders first status last
 ends_well journal made orders first last writer status is driven good = inl (record {
   writer = writer;
   driven = subst (λ (start : Start). IsDrive start orders first writer last) (ap start_at is) driven;
@@ -27,20 +30,28 @@ ends_well journal made orders first last writer status is driven good = inl (rec
 })
 
 -- it broke off, and its fault was told
-pub ends_broken : (journal : JournalState) (made : Held) (orders : List Contents) (first last : Streams) (replies : Option (List ℕ)) (fault : DriveFault) (status : Status) → made.journal ≡ journal
-    → IsBrokenDrive (start_of made) orders fault first (record last { out = replies }) → IsFaultTold fault status replies last.out → IsDriveAnswer (start_at journal) orders first status last
+pub ends_broken : (journal : JournalState) (made : Held) (orders : List Contents) (first last : Streams)
+    (replies : Option (List ℕ)) (fault : DriveFault) (status : Status)
+    → made.journal ≡ journal
+    → IsBrokenDrive (start_of made) orders fault first (record last { out = replies })
+    → IsFaultTold fault status replies last.out → IsDriveAnswer (start_at journal) orders first status last
 ends_broken journal made orders first last replies fault status is broken told = inr (record {
   fault = fault;
   replies = replies;
-  broken = subst (λ (start : Start). IsBrokenDrive start orders fault first (record last { out = replies })) (ap start_at is) broken;
+  broken =
+      subst (λ (start : Start). IsBrokenDrive start orders fault first (record last { out = replies }))
+      (ap start_at is) broken;
   told = told;
 })
 
 -- one refused item more is told; any default serves
-pub refused_more : (refused : List (ℕ × ItemFault)) (i : ℕ) (default : ℕ × ItemFault) (before mid now : Option (List ℕ)) → i < length refused → Appends before mid (refused_lines (take i refused))
-    → Appends mid now (item_line (get_or refused i default).0 (get_or refused i default).1) → Appends before now (refused_lines (take (i + 1) refused))
+pub refused_more : (refused : List (ℕ × ItemFault)) (i : ℕ) (default : ℕ × ItemFault) (before mid now : Option (List ℕ))
+    → i < length refused → Appends before mid (refused_lines (take i refused))
+    → Appends mid now (item_line (get_or refused i default).0 (get_or refused i default).1)
+    → Appends before now (refused_lines (take (i + 1) refused))
 refused_more refused i default before mid now within so_far written =
     let line : ℕ × ItemFault → List ℕ = λ item. item_line item.0 item.1 in
     subst (λ text. Appends before now text)
-    (flat_map_more line [] (take i refused) (get_or refused i default) ∙ ap (λ us. flat_map line us) (sym (take_more refused i default within)))
+    (flat_map_more line [] (take i refused) (get_or refused i default)
+    ∙ ap (λ us. flat_map line us) (sym (take_more refused i default within)))
     (appends_both before mid now (refused_lines (take i refused)) (line (get_or refused i default)) so_far written)

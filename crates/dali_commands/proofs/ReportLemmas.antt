@@ -1,5 +1,7 @@
 -- Lemmas on what is written of a list of items.
-use Rattle.std.proofs.Common.{◌≡◌, ℕ, suc, ◌+◌, List, [], ◌∷◌, ◌++◌, Bool, true, false, Option, length, count_by, is_ok, not, ap, sym, ◌∙◌, arith, append_assoc, append-nil, add-zero, zero-add, cond, subst, length-append}
+use Rattle.std.proofs.Common.{◌≡◌, ℕ, suc, ◌+◌, List, [], ◌∷◌, ◌++◌, Bool, true, false, Option, length, count_by, is_ok}
+use Rattle.std.proofs.Common.{not, ap, sym, ◌∙◌, arith, append_assoc, append-nil, add-zero, zero-add, cond, subst}
+use Rattle.std.proofs.Common.{length-append}
 use Rattle.std.proofs.lemmas.List.{map-append}
 use Rattle.std.proofs.lemmas.List.Sums.{sum_by-append}
 use Rattle.std.specs.Io.KnownBytes.{Appends}
@@ -22,25 +24,33 @@ pub record SoFar (ds : Items) (n accepted refused : ℕ) (before now : Option (L
   pub bad : refused_count outcomes ≡ refused
   pub written : Appends before now (lines_from 1 outcomes)
 
-lines_from_one_more : (i : ℕ) (xs : List Outcome) (x : Outcome) → lines_from i (xs ++ x ∷ []) ≡ lines_from i xs ++ item_lines (i + length xs) x
+lines_from_one_more : (i : ℕ) (xs : List Outcome) (x : Outcome)
+    → lines_from i (xs ++ x ∷ []) ≡ lines_from i xs ++ item_lines (i + length xs) x
 lines_from_one_more i [] x = append-nil _ ∙ ap (λ n. item_lines n x) (sym (add-zero i))
 lines_from_one_more i (y ∷ xs) x =
     let there : i + 1 + length xs ≡ i + suc (length xs) = omega arith in
-    ap (λ t. item_lines i y ++ t) (lines_from_one_more (i + 1) xs x ∙ ap (λ n. lines_from (i + 1) xs ++ item_lines n x) there)
+    ap (λ t. item_lines i y ++ t)
+    (lines_from_one_more (i + 1) xs x ∙ ap (λ n. lines_from (i + 1) xs ++ item_lines n x) there)
     ∙ sym (append_assoc (item_lines i y) (lines_from (i + 1) xs) _)
 
-count_one_more : {X : Type 0} (p : X → Bool) (xs : List X) (x : X) → count_by p (xs ++ x ∷ []) ≡ count_by p xs + cond (p x) 1 0
-count_one_more p xs x = sum_by-append (λ y. cond (p y) 1 0) xs (x ∷ []) ∙ ap (λ n. count_by p xs + n) (zero-add (cond (p x) 1 0))
+count_one_more : {X : Type 0} (p : X → Bool) (xs : List X) (x : X)
+    → count_by p (xs ++ x ∷ []) ≡ count_by p xs + cond (p x) 1 0
+count_one_more p xs x =
+    sum_by-append (λ y. cond (p y) 1 0) xs (x ∷ []) ∙ ap (λ n. count_by p xs + n) (zero-add (cond (p x) 1 0))
 
 -- the step of the loop: one more item, its outcome, and its lines
-pub accepted_more : (done : List Value) (v : Value) (a r : ℕ) (before mid now : Option (List ℕ)) (x : Outcome) → SoFar (items_view done) (length done) a r before mid
-    → Judges (view v) x → is_ok x ≡ true → Appends mid now (item_lines (a + r + 1) x) → SoFar (items_view (done ++ v ∷ [])) (length (done ++ v ∷ [])) (a + 1) r before now
+pub accepted_more : (done : List Value) (v : Value) (a r : ℕ) (before mid now : Option (List ℕ)) (x : Outcome)
+    → SoFar (items_view done) (length done) a r before mid
+    → Judges (view v) x → is_ok x ≡ true → Appends mid now (item_lines (a + r + 1) x)
+    → SoFar (items_view (done ++ v ∷ [])) (length (done ++ v ∷ [])) (a + 1) r before now
 accepted_more done v a r before mid now x s judged good written =
     let size : length (done ++ v ∷ []) ≡ length done + 1 = length-append done (v ∷ []) in
     let number : a + r + 1 ≡ 1 + length s.outcomes = omega (arith, s.many, s.all) in
     record {
       outcomes = s.outcomes ++ x ∷ [];
-      judged = subst (λ ds. JudgesEach (items_of ds) (s.outcomes ++ x ∷ [])) (sym (map-append view done (v ∷ []))) (judges_one_more _ s.outcomes _ x s.judged judged);
+      judged =
+          subst (λ ds. JudgesEach (items_of ds) (s.outcomes ++ x ∷ [])) (sym (map-append view done (v ∷ [])))
+          (judges_one_more _ s.outcomes _ x s.judged judged);
       many = length-append s.outcomes (x ∷ []) ∙ ap (λ n. n + 1) s.many ∙ sym size;
       all = omega (arith, s.all, size);
       good = count_one_more is_ok s.outcomes x ∙ rw good (ap (λ n. n + 1) s.good);
@@ -48,14 +58,18 @@ accepted_more done v a r before mid now x s judged good written =
       written = rw lines_from_one_more (appends_both before mid now _ _ s.written (rw number at written));
     }
 
-pub refused_more : (done : List Value) (v : Value) (a r : ℕ) (before mid now : Option (List ℕ)) (x : Outcome) → SoFar (items_view done) (length done) a r before mid
-    → Judges (view v) x → is_ok x ≡ false → Appends mid now (item_lines (a + r + 1) x) → SoFar (items_view (done ++ v ∷ [])) (length (done ++ v ∷ [])) a (r + 1) before now
+pub refused_more : (done : List Value) (v : Value) (a r : ℕ) (before mid now : Option (List ℕ)) (x : Outcome)
+    → SoFar (items_view done) (length done) a r before mid
+    → Judges (view v) x → is_ok x ≡ false → Appends mid now (item_lines (a + r + 1) x)
+    → SoFar (items_view (done ++ v ∷ [])) (length (done ++ v ∷ [])) a (r + 1) before now
 refused_more done v a r before mid now x s judged bad written =
     let size : length (done ++ v ∷ []) ≡ length done + 1 = length-append done (v ∷ []) in
     let number : a + r + 1 ≡ 1 + length s.outcomes = omega (arith, s.many, s.all) in
     record {
       outcomes = s.outcomes ++ x ∷ [];
-      judged = subst (λ ds. JudgesEach (items_of ds) (s.outcomes ++ x ∷ [])) (sym (map-append view done (v ∷ []))) (judges_one_more _ s.outcomes _ x s.judged judged);
+      judged =
+          subst (λ ds. JudgesEach (items_of ds) (s.outcomes ++ x ∷ [])) (sym (map-append view done (v ∷ [])))
+          (judges_one_more _ s.outcomes _ x s.judged judged);
       many = length-append s.outcomes (x ∷ []) ∙ ap (λ n. n + 1) s.many ∙ sym size;
       all = omega (arith, s.all, size);
       good = count_one_more is_ok s.outcomes x ∙ rw bad (add-zero _ ∙ s.good);

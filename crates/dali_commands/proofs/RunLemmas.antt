@@ -6,23 +6,29 @@ use Rattle.dali_journal.specs.JournalState.{IsLimit}
 use Rattle.dali_writer.specs.declared.fault.RunFault.{RunFault}
 use Rattle.dali_writer.specs.declared.fault.RunFault.TheVariants.{Limit, NoMemory}
 use Rattle.dali_trace.specs.declared.happening.Event.{Event}
+use Rattle.dali_input.specs.Input.{InputState}
 use Rattle.dali_input.specs.Scenario.{Planned}
 use Rattle.dali_input.specs.Setup.{IsSetUp}
 use Rattle.dali_commands.specs.declared.fault.Fault.TheVariants.{Run}
 use Rattle.dali_commands.specs.declared.fault.Fault.{Fault}
 use Rattle.dali_commands.specs.declared.fault.Status.{Status}
-use Rattle.dali_commands.specs.Faults.{line_of, status_of}
+use Rattle.dali_commands.specs.Faults.{told_line, status_of}
 use Rattle.dali_commands.specs.RunAnswers.{IsRunAnswer, IsUnderstood, IsUnrun}
 
 -- a fault of the run, which tells Limit only where the limit is none
-pub not_run : (before after : Option (List ℕ)) (planned : Planned) (bus : SimState) (all : List Event) (fault : RunFault)
-    → IsUnderstood before after planned → IsSetUp planned bus.units bus.fates all → (fault ≡ Limit → ¬ IsLimit planned.limit) → IsUnrun before after (Run fault)
-not_run before after planned bus all Limit understood ready limit = (planned, understood, (bus.units, bus.fates, all, ready), limit refl)
+pub not_run : (before after : InputState) (planned : Planned) (bus : SimState) (all : List Event) (fault : RunFault)
+    → IsUnderstood before after planned → IsSetUp planned bus.units bus.fates all
+    → (fault ≡ Limit → ¬ IsLimit planned.limit) → IsUnrun before after (Run fault)
+not_run before after planned bus all Limit understood ready limit =
+    (planned, understood, (bus.units, bus.fates, all, ready), limit refl)
 not_run before after planned bus all NoMemory understood ready limit = tt
 
 -- a run that wasn't made is told by the line of its fault
-pub unrun_told : {E : Type 0} (single_frames : Bool) (before after old new : Option (List ℕ)) (fault : Fault) (r : Result Status E) → IsUnrun before after fault
-    → OnOk r (Appends old new (line_of fault)) → IfOk r (λ status. status ≡ status_of fault)
+pub unrun_told : {E : Type 0} (single_frames : Bool) (before after : InputState) (old new : Option (List ℕ))
+    (fault : Fault) (r : Result Status E)
+    → IsUnrun before after fault
+    → OnOk r (Appends old new (told_line fault)) → IfOk r (λ status. status ≡ status_of fault)
     → IfOk r (λ status. (text : List ℕ) × IsRunAnswer single_frames before after status text × Appends old new text)
-unrun_told single_frames before after old new fault (Ok status) unrun told is = (line_of fault, inr (fault, unrun, record { status_is = is; text_is = refl }), told)
+unrun_told single_frames before after old new fault (Ok status) unrun told is =
+    (told_line fault, inr (fault, unrun, record { status_is = is; text_is = refl }), told)
 unrun_told single_frames before after old new fault (Err e) unrun told is = tt

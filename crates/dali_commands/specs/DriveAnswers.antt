@@ -6,7 +6,7 @@ use Rattle.dali_bank.specs.Order.{Contents}
 use Rattle.dali_journal.specs.JournalState.{JournalState}
 use Rattle.dali_input.specs.declared.fault.InputFault.{InputFault}
 use Rattle.dali_input.specs.declared.item.ItemFault.{ItemFault}
-use Rattle.dali_input.specs.Input.{IsReadFailure, ReadsInput}
+use Rattle.dali_input.specs.Input.{InputState, IsReadFailure, ReadsInput}
 use Rattle.dali_drive.specs.declared.fault.DriveFault.{DriveFault}
 use Rattle.dali_drive.specs.declared.fault.DriveFault.TheVariants.{Out}
 use Rattle.dali_drive.specs.Driven.{IsDrive, IsBrokenDrive}
@@ -17,7 +17,7 @@ use Rattle.dali_commands.specs.declared.fault.Fault.{Fault}
 use Rattle.dali_commands.specs.declared.fault.Fault.TheVariants.{Input, Drive}
 use Rattle.dali_commands.specs.declared.fault.Status.{Status}
 use Rattle.dali_commands.specs.declared.fault.Status.TheVariants.{Good, Unwritten}
-use Rattle.dali_commands.specs.Faults.{item_line, line_of, status_of}
+use Rattle.dali_commands.specs.Faults.{item_line, told_line, status_of}
 use Rattle.dali_commands.specs.JournalAnswers.{IsJournalIn, IsUnloaded, journal_limit}
 
 -- ---- the orders
@@ -29,16 +29,16 @@ refused_lines refused = flat_map (λ item. item_line item.0 item.1) refused
 -- ---- the journal, by what its reader had before and has after it
 
 -- it is that of all that the reader gave, so many bytes, of which these count
-pub record HasJournal (before after : Option (List ℕ)) (journal : JournalState) (counted all : ℕ) : Type 0 where
+pub record HasJournal (before after : InputState) (journal : JournalState) (counted all : ℕ) : Type 0 where
   pub input : List ℕ
   pub read : ReadsInput journal_limit before after input
   pub loaded : IsJournalIn input journal counted
   pub all_is : all ≡ length input
 
 -- why there is none: the reader or the memory failed, or what it gave is no journal
-abbrev pub HasNoJournal : Option (List ℕ) → Option (List ℕ) → Fault → Type 0
+abbrev pub HasNoJournal : InputState → InputState → Fault → Type 0
 HasNoJournal before after fault =
-    ((cause : InputFault) × IsReadFailure cause × (fault ≡ Input cause))
+    ((cause : InputFault) × IsReadFailure before after cause × (fault ≡ Input cause))
     ⊎ ((input : List ℕ) × ReadsInput journal_limit before after input × IsUnloaded input fault)
 
 -- ---- the drive
@@ -50,16 +50,19 @@ start_at journal = record { records = journal.records; limit = journal.limit }
 -- how a fault is told behind the replies; nothing is where they can't be written
 abbrev pub IsFaultTold : DriveFault → Status → Option (List ℕ) → Option (List ℕ) → Type 0
 IsFaultTold Out status before after = (status ≡ Unwritten) × (after ≡ before)
-IsFaultTold fault status before after = status ≢ Unwritten → (status ≡ status_of (Drive fault)) × Appends before after (line_of (Drive fault))
+IsFaultTold fault status before after =
+    status ≢ Unwritten → (status ≡ status_of (Drive fault)) × Appends before after (told_line (Drive fault))
 
 -- all the orders were asked, and nothing more is to be done
-pub record EndsWell (start : Start) (orders : List Contents) (first : Streams) (status : Status) (last : Streams) : Type 0 where
+pub record EndsWell (start : Start) (orders : List Contents) (first : Streams) (status : Status) (last : Streams)
+    : Type 0 where
   pub writer : Held
   pub driven : IsDrive start orders first writer last
   pub status_is : status ≡ Good
 
 -- the drive broke off, and its fault was told
-pub record EndsBroken (start : Start) (orders : List Contents) (first : Streams) (status : Status) (last : Streams) : Type 0 where
+pub record EndsBroken (start : Start) (orders : List Contents) (first : Streams) (status : Status) (last : Streams)
+    : Type 0 where
   pub fault : DriveFault
   pub replies : Option (List ℕ)
   pub broken : IsBrokenDrive start orders fault first (record last { out = replies })
@@ -67,4 +70,5 @@ pub record EndsBroken (start : Start) (orders : List Contents) (first : Streams)
 
 -- how a drive over these streams ended
 abbrev pub IsDriveAnswer : Start → List Contents → Streams → Status → Streams → Type 0
-IsDriveAnswer start orders first status last = EndsWell start orders first status last ⊎ EndsBroken start orders first status last
+IsDriveAnswer start orders first status last =
+    EndsWell start orders first status last ⊎ EndsBroken start orders first status last

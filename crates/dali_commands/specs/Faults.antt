@@ -17,18 +17,18 @@ use Rattle.dali_input.specs.declared.item.ItemFault.{ItemFault}
 use Rattle.dali_input.specs.declared.setup.SetupFault.{SetupFault}
 use Rattle.dali_input.specs.declared.setup.SetupFault.TheVariants as setup
 use Rattle.dali_input.specs.Faults.{number_of, name_of, item_number_of, item_name_of}
-use Rattle.dali_input.specs.Input.{IsReadFailure}
+use Rattle.dali_input.specs.Input.{InputState, IsReadFailure}
 use Rattle.dali_commands.specs.declared.fault.Fault.{Fault}
 use Rattle.dali_commands.specs.declared.fault.Fault.TheVariants.{Input, Setup, Run, Journal, Drive}
 use Rattle.dali_commands.specs.declared.fault.Status.{Status}
 use Rattle.dali_commands.specs.declared.fault.Status.TheVariants.{Good, Refused, Failed, Unwritten}
 
 -- the exit status
-abbrev pub code_of : Status → ℕ
-code_of Good = 0
-code_of Refused = 1
-code_of Failed = 2
-code_of Unwritten = 2
+abbrev pub exit_code : Status → ℕ
+exit_code Good = 0
+exit_code Refused = 1
+exit_code Failed = 2
+exit_code Unwritten = 2
 
 -- ---- how the program ends at a fault
 
@@ -71,45 +71,48 @@ item_line number fault = lines.counted_line (codes "item") number (item_number_o
 
 abbrev pub setup_line : SetupFault → List ℕ
 setup_line (setup.Input fault) = input_line fault
-setup_line (setup.Unit number fault) = lines.counted_line (codes "unit") number (gear.number_of fault) (gear.name_of fault)
+setup_line (setup.Unit number fault) =
+    lines.counted_line (codes "unit") number (gear.number_of fault) (gear.name_of fault)
 setup_line setup.SameAddress = lines.single_line (codes "gear") (gear.number_of SameAddress) (gear.name_of SameAddress)
-setup_line (setup.Order number fault) = lines.counted_line (codes "event") number (item_number_of fault) (item_name_of fault)
+setup_line (setup.Order number fault) =
+    lines.counted_line (codes "event") number (item_number_of fault) (item_name_of fault)
 
 -- a fault of a journal as a whole
 abbrev pub whole_line : JournalFault → List ℕ
 whole_line fault = lines.single_line (codes "journal") (journal.number_of fault) (journal.name_of fault)
 
 -- a fault of a journal that has the place of a record
-abbrev pub record_line : JournalFault → ℕ → List ℕ
-record_line fault place = lines.placed_line (codes "journal") (journal.number_of fault) (journal.name_of fault) place
+abbrev pub place_line : JournalFault → ℕ → List ℕ
+place_line fault place = lines.placed_line (codes "journal") (journal.number_of fault) (journal.name_of fault) place
 
 abbrev pub journal_line : JournalFault → List ℕ
 journal_line journals.Limit = whole_line journals.Limit
 journal_line journals.NoMemory = input_line Memory
-journal_line (journals.Record place) = record_line (journals.Record place) place
-journal_line (journals.Sequence place) = record_line (journals.Sequence place) place
-journal_line (journals.Repeated place) = record_line (journals.Repeated place) place
-journal_line (journals.Full place) = record_line (journals.Full place) place
+journal_line (journals.Record place) = place_line (journals.Record place) place
+journal_line (journals.Sequence place) = place_line (journals.Sequence place) place
+journal_line (journals.Repeated place) = place_line (journals.Repeated place) place
+journal_line (journals.Full place) = place_line (journals.Full place) place
 
 abbrev pub drive_line : DriveFault → List ℕ
 drive_line drives.NoMemory = input_line Memory
 drive_line fault = lines.single_line (codes "drive") (drive.drive_number fault) (drive.drive_name fault)
 
-abbrev pub line_of : Fault → List ℕ
-line_of (Input fault) = input_line fault
-line_of (Setup fault) = setup_line fault
-line_of (Run runs.Limit) = lines.single_line (codes "run") (run.number_of runs.Limit) (run.name_of runs.Limit)
-line_of (Run runs.NoMemory) = input_line Memory
-line_of (Journal fault) = journal_line fault
-line_of (Drive fault) = drive_line fault
+abbrev pub told_line : Fault → List ℕ
+told_line (Input fault) = input_line fault
+told_line (Setup fault) = setup_line fault
+told_line (Run runs.Limit) = lines.single_line (codes "run") (run.number_of runs.Limit) (run.name_of runs.Limit)
+told_line (Run runs.NoMemory) = input_line Memory
+told_line (Journal fault) = journal_line fault
+told_line (Drive fault) = drive_line fault
 
 -- ---- a command that gave up
 
 -- the status and the text of a command that gave up at the fault: its line alone
 pub record IsRefusal (fault : Fault) (status : Status) (text : List ℕ) : Type 0 where
   pub status_is : status ≡ status_of fault
-  pub text_is : text ≡ line_of fault
+  pub text_is : text ≡ told_line fault
 
 -- the reader or the memory failed, which may come at any time
-abbrev pub IsFailure : Status → List ℕ → Type 0
-IsFailure status text = (fault : InputFault) × IsReadFailure fault × IsRefusal (Input fault) status text
+abbrev pub IsFailure : InputState → InputState → Status → List ℕ → Type 0
+IsFailure before after status text =
+    (fault : InputFault) × IsReadFailure before after fault × IsRefusal (Input fault) status text

@@ -1,5 +1,6 @@
 -- What a command over a file does: each as its own definition says.
-use Rattle.std.specs.Prelude.{ℕ, List, Option}
+use Rattle.std.specs.Prelude.{ℕ, List}
+use Rattle.dali_input.specs.Input.{InputState}
 use Rattle.dali_input.specs.BankText.{text_limit}
 use Rattle.dali_input.specs.Orders.{orders_limit}
 use Rattle.dali_commands.specs.declared.fault.Status.{Status}
@@ -11,7 +12,7 @@ use Rattle.dali_commands.specs.BankAnswers.{ShowsInput}
 use Rattle.dali_commands.specs.JournalAnswers.{IsJournalAnswer, journal_limit}
 
 -- from this input, of which the rest was left, it gave this status and text
-abbrev pub IsCarriedOut : FileCommand → Option (List ℕ) → Option (List ℕ) → Status → List ℕ → Type 0
+abbrev pub IsCarriedOut : FileCommand → InputState → InputState → Status → List ℕ → Type 0
 IsCarriedOut Check input rest status text = IsChecked orders_limit input rest status text
 IsCarriedOut (Run single_frames) input rest status text = IsRunAnswer single_frames input rest status text
 IsCarriedOut Show input rest status text = ShowsInput input rest status text

@@ -26,4 +26,5 @@ pub record IsFrameText (argument text : List ℕ) : Type 0 where
 
 -- what `frame` answers and writes of its argument
 abbrev pub IsFrameAnswer : List ℕ → Status → List ℕ → Type 0
-IsFrameAnswer argument status text = ((status ≡ Good) × IsFrameText argument text) ⊎ ((¬ AreFourDigits argument) × IsRefusal (Input Hex) status text)
+IsFrameAnswer argument status text =
+    ((status ≡ Good) × IsFrameText argument text) ⊎ ((¬ AreFourDigits argument) × IsRefusal (Input Hex) status text)

@@ -1,7 +1,8 @@
 -- The command line, and what it asks for.
 use Rattle.std.specs.Prelude.{◌≡◌, List, Option, Some, codes, true}
 use Rattle.std.specs.Bool.{Decides}
-use Rattle.clap.specs.Words.{App, Row, Rule, Text, first_of, new_app, new_rule, one_of, subcommand_of, with_rule, with_subcommand}
+use Rattle.clap.specs.Words.{App, Row, Rule, Text, first_of, new_app, new_rule, one_of, subcommand_of, with_rule}
+use Rattle.clap.specs.Words.{with_subcommand}
 use Rattle.clap.specs.declared.builder.ArgAction.TheVariants.{Set, SetTrue}
 use Rattle.dali_commands.specs.declared.job.Job.{Job}
 use Rattle.dali_commands.specs.declared.job.Job.TheVariants.{Check, Run, Frame, Show, Journal, Drive}
@@ -41,22 +42,26 @@ bench_app = let checks = with_subcommand top_app (command_app (codes "check") (c
 
 -- a parse entered the command, and its argument has the value
 abbrev pub HasValue : Option (Text × List Row) → Text → Text → Text → Type 0
-HasValue entered command id value = (rows : List Row) × (entered ≡ Some (command, rows)) × (first_of id rows ≡ Some value)
+HasValue entered command id value =
+    (rows : List Row) × (entered ≡ Some (command, rows)) × (first_of id rows ≡ Some value)
 
 -- a parse entered the command, and its flag is given
 abbrev pub HasFlag : Option (Text × List Row) → Text → Text → Type 0
-HasFlag entered command id = (rows : List Row) × (entered ≡ Some (command, rows)) × (one_of id rows ≡ Some (codes "true"))
+HasFlag entered command id =
+    (rows : List Row) × (entered ≡ Some (command, rows)) × (one_of id rows ≡ Some (codes "true"))
 
 -- the job is the command that a parse entered, with its values and flags
 abbrev pub IsJob : Option (Text × List Row) → Job → Type 0
 IsJob entered (Check orders) = HasValue entered (codes "check") (codes "ORDERS") orders.now
 IsJob entered (Run scenario single_frames) =
-    HasValue entered (codes "run") (codes "SCENARIO") scenario.now × Decides single_frames (HasFlag entered (codes "run") (codes "frames"))
+    HasValue entered (codes "run") (codes "SCENARIO") scenario.now
+    × Decides single_frames (HasFlag entered (codes "run") (codes "frames"))
 IsJob entered (Frame digits) = HasValue entered (codes "frame") (codes "HEX") digits.now
 IsJob entered (Show dump) = HasValue entered (codes "show") (codes "HEXFILE") dump.now
 IsJob entered (Journal records) = HasValue entered (codes "journal") (codes "FILE") records.now
 IsJob entered (Drive orders journal) =
-    HasValue entered (codes "drive") (codes "ORDERS") orders.now × HasValue entered (codes "drive") (codes "JOURNAL") journal.now
+    HasValue entered (codes "drive") (codes "ORDERS") orders.now
+    × HasValue entered (codes "drive") (codes "JOURNAL") journal.now
 
 -- no job is that of the command that a parse entered
 abbrev pub IsNoJob : Option (Text × List Row) → Type 0

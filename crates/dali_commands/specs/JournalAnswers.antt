@@ -1,10 +1,10 @@
 -- What `journal` answers and writes.
-use Rattle.std.specs.Prelude.{◌≡◌, ◌⊎◌, ◌<◌, ◌≤◌, ℕ, List, Option, length}
+use Rattle.std.specs.Prelude.{◌≡◌, ◌⊎◌, ◌<◌, ◌≤◌, ℕ, List, length}
 use Rattle.dali_journal.specs.JournalState.{JournalState}
 use Rattle.dali_journal.specs.Loading.{IsLoaded, IsLoadFault}
 use Rattle.dali_text.specs.JournalLines.{journal_text}
 use Rattle.dali_input.specs.declared.fault.InputFault.TheVariants.{TooBig}
-use Rattle.dali_input.specs.Input.{ReadsInput}
+use Rattle.dali_input.specs.Input.{InputState, ReadsInput}
 use Rattle.dali_commands.specs.declared.fault.Fault.{Fault}
 use Rattle.dali_commands.specs.declared.fault.Fault.TheVariants.{Input, Journal}
 use Rattle.dali_commands.specs.declared.fault.Status.{Status}
@@ -47,6 +47,7 @@ abbrev pub TellsInput : List ℕ → Status → List ℕ → Type 0
 TellsInput input status text = IsJournalReport input status text ⊎ IsNoJournal input status text
 
 -- what `journal` answers and writes, by what the reader had before and has after it
-abbrev pub IsJournalAnswer : Option (List ℕ) → Option (List ℕ) → Status → List ℕ → Type 0
+abbrev pub IsJournalAnswer : InputState → InputState → Status → List ℕ → Type 0
 IsJournalAnswer before after status text =
-    ((input : List ℕ) × ReadsInput journal_limit before after input × TellsInput input status text) ⊎ IsFailure status text
+    ((input : List ℕ) × ReadsInput journal_limit before after input × TellsInput input status text)
+    ⊎ IsFailure before after status text

@@ -1,4 +1,5 @@
 pub mod Faults
+pub mod Ends
 pub mod Report
 pub mod FrameAnswers
 pub mod BankAnswers

@@ -1,9 +1,9 @@
 -- What `check` finds in its input, and what it writes.
-use Rattle.std.specs.Prelude.{◌≡◌, ◌==◌, ◌⊎◌, ◌+◌, ℕ, List, [], ◌∷◌, ◌++◌, Option, Ok, Err, count_by, is_ok, not, if◌then◌else◌}
+use Rattle.std.specs.Prelude.{◌≡◌, ◌==◌, ◌⊎◌, ◌+◌, ℕ, List, [], ◌∷◌, ◌++◌, Ok, Err, count_by, is_ok, not, if◌then◌else◌}
 use Rattle.serde_json.specs.Data.{Items}
 use Rattle.dali_text.specs.OrderLines.{order_lines, tally_line}
 use Rattle.dali_input.specs.declared.fault.InputFault.{InputFault}
-use Rattle.dali_input.specs.Input.{ReadsInput}
+use Rattle.dali_input.specs.Input.{InputState, ReadsInput}
 use Rattle.dali_input.specs.Orders.{Outcome, JudgesEach, AreItems, IsInputFault}
 use Rattle.dali_commands.specs.declared.fault.Fault.TheVariants.{Input}
 use Rattle.dali_commands.specs.declared.fault.Status.{Status}
@@ -54,6 +54,7 @@ abbrev pub IsAnswered : ℕ → List ℕ → Status → List ℕ → Type 0
 IsAnswered limit input status text = IsReport limit input status text ⊎ IsNoReport limit input status text
 
 -- what `check` answers and writes, by what the reader had before and has after it
-abbrev pub IsChecked : ℕ → Option (List ℕ) → Option (List ℕ) → Status → List ℕ → Type 0
+abbrev pub IsChecked : ℕ → InputState → InputState → Status → List ℕ → Type 0
 IsChecked limit before after status text =
-    ((input : List ℕ) × ReadsInput limit before after input × IsAnswered limit input status text) ⊎ IsFailure status text
+    ((input : List ℕ) × ReadsInput limit before after input × IsAnswered limit input status text)
+    ⊎ IsFailure before after status text

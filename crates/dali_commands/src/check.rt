@@ -1,18 +1,18 @@
-ghost use Rattle.std.specs.Prelude.{◌≡◌, ◌≢◌, ℕ, List, IfOk, is_ok};
-ghost use Rattle.std.specs.Io.KnownBytes.{Appends};
+ghost use Rattle.std.specs.Prelude.{◌≡◌, ◌≢◌, ◌↔◌, ℕ, List, IfOk, true, is_ok};
 ghost use Rattle.serde_json.specs.View.{view, items_view};
-ghost use Rattle.dali_input.specs.Input.{ReadsAtMost};
+ghost use Rattle.dali_text.specs.Output.{TellsFailure, Takes, has_failed, is_flushed};
+ghost use Rattle.dali_input.specs.Input.{ReadsAtMost, state_of};
 ghost use Rattle.dali_input.specs.Items.{Judges};
 ghost use Rattle.dali_input.specs.Orders.{Outcome, JudgesEach, orders_limit};
+ghost use Rattle.dali_commands.specs.Ends.{TellsEnd};
 ghost use Rattle.dali_commands.specs.Report.{item_lines, report, report_status, IsChecked, IsAnswered};
 
 use crate::fault::{Fault, Status};
 use crate::fault_lines::{write_failure, write_refused_item};
-use dali_input::{ORDERS_LIMIT, items_of, order_of, read_input};
-use dali_text::{write_order, write_tally};
+use dali_input::{Input, ORDERS_LIMIT, items_of, order_of, read_input};
+use dali_text::{Output, Unwritten, write_order, write_tally};
 use serde_json::Value;
 use std::alloc::Global;
-use std::io;
 use std::io::{Read, Write};
 
 /// Reads a JSON list of orders, and writes what becomes of each: the updates of an accepted item,
@@ -20,60 +20,79 @@ use std::io::{Read, Write};
 ///
 /// Where the input is no such list it writes the fault alone: 13 TooBig over 16777216 bytes,
 /// 11 Json, 12 Document, 20 Memory or 21 File.
-pub fn check<R: Read, W: Write>(alloc: Global, reader: &mut R, writer: &mut W) -> Status
+///
+/// Where the output fails nothing more is written to it, and it ends as `Unwritten`.
+pub fn check<R: Read, W: Write>(
+    alloc: Global,
+    input: &mut Input<R>,
+    output: &mut Output<W>,
+) -> Status
     ensures checked { result ≢ Status.Unwritten → (text : List ℕ)
-        × IsChecked orders_limit (R.remaining reader.old) (R.remaining reader.new) result text
-        × Appends (W.contents writer.old) (W.contents writer.new) text }
-    ensures read { ReadsAtMost orders_limit (R.remaining reader.old) (R.remaining reader.new) }
+        × IsChecked orders_limit (state_of R.remaining input.old) (state_of R.remaining input.new) result text
+        × Takes W.contents output.old output.new text }
+    ensures read { ReadsAtMost orders_limit (state_of R.remaining input.old) (state_of R.remaining input.new) }
+    ensures unwritten { result ≡ Status.Unwritten ↔ has_failed output.new ≡ true }
+    ensures flushed { result ≢ Status.Unwritten → is_flushed output.new ≡ true }
 {
-    match try_check(alloc, reader, writer) {
+    match try_check(alloc, input, output) {
         Ok(status) => status,
         Err(_) => Status::Unwritten,
     }
 }
 
-// The same, or the error of the output.
-fn try_check<R: Read, W: Write>(alloc: Global, reader: &mut R, writer: &mut W) -> io::Result<Status>
+// The same, or that the output has failed.
+fn try_check<R: Read, W: Write>(
+    alloc: Global,
+    input: &mut Input<R>,
+    output: &mut Output<W>,
+) -> Result<Status, Unwritten>
     ensures checked { IfOk result (λ status. (text : List ℕ)
-        × IsChecked orders_limit (R.remaining reader.old) (R.remaining reader.new) status text
-        × Appends (W.contents writer.old) (W.contents writer.new) text) }
-    ensures read { ReadsAtMost orders_limit (R.remaining reader.old) (R.remaining reader.new) }
+        × IsChecked orders_limit (state_of R.remaining input.old) (state_of R.remaining input.new) status text
+        × Takes W.contents output.old output.new text) }
+    ensures read { ReadsAtMost orders_limit (state_of R.remaining input.old) (state_of R.remaining input.new) }
+    ensures end { TellsEnd result output.new }
 {
-    match read_input(alloc, reader, ORDERS_LIMIT) {
-        Ok(input) => write_checked(alloc, input.as_slice(), writer),
-        Err(fault) => write_failure(writer, Fault::Input(fault)),
+    match read_input(alloc, input, ORDERS_LIMIT) {
+        Ok(bytes) => write_checked(alloc, bytes.as_slice(), output),
+        Err(fault) => write_failure(output, Fault::Input(fault)),
     }
 }
 
 // Writes what becomes of an input.
-fn write_checked<W: Write>(alloc: Global, input: &[u8], writer: &mut W) -> io::Result<Status>
-    ensures { IfOk result (λ status. (text : List ℕ) × IsAnswered orders_limit input.now status text
-        × Appends (W.contents writer.old) (W.contents writer.new) text) }
+fn write_checked<W: Write>(
+    alloc: Global,
+    input: &[u8],
+    output: &mut Output<W>,
+) -> Result<Status, Unwritten>
+    ensures answered { IfOk result (λ status. (text : List ℕ) × IsAnswered orders_limit input.now status text
+        × Takes W.contents output.old output.new text) }
+    ensures end { TellsEnd result output.new }
 {
     match items_of(alloc, input, ORDERS_LIMIT) {
-        Ok(items) => write_report(writer, items),
-        Err(fault) => write_failure(writer, Fault::Input(fault)),
+        Ok(items) => write_report(output, items),
+        Err(fault) => write_failure(output, Fault::Input(fault)),
     }
 }
 
 // Writes what becomes of each item.
 #[tactic(auto, using(dali_text::proofs::StreamLemmas::appends_both, dali_text::proofs::StreamLemmas::appends_kept))]
-fn write_report<W: Write>(writer: &mut W, items: Vec<Value>) -> io::Result<Status>
-    ensures { IfOk result (λ status. (outcomes : List Outcome) × JudgesEach (items_view items.items) outcomes
+fn write_report<W: Write>(output: &mut Output<W>, items: Vec<Value>) -> Result<Status, Unwritten>
+    ensures report { IfOk result (λ status. (outcomes : List Outcome) × JudgesEach (items_view items.items) outcomes
         × (status ≡ report_status outcomes)
-        × Appends (W.contents writer.old) (W.contents writer.new) (report outcomes)) }
+        × Takes W.contents output.old output.new (report outcomes)) }
+    ensures end { TellsEnd result output.new }
 {
     let mut accepted = 0u64;
     let mut refused = 0u64;
     for item in items {
-        if write_item(writer, accepted + refused + 1, item)? {
+        if write_item(output, accepted + refused + 1, item)? {
             accepted += 1;
         } else {
             refused += 1;
         }
     }
-    write_tally(writer, accepted, refused)?;
-    writer.flush()?;
+    write_tally(output, accepted, refused)?;
+    output.flush()?;
     Ok(if refused == 0 {
         Status::Good
     } else {
@@ -83,18 +102,19 @@ fn write_report<W: Write>(writer: &mut W, items: Vec<Value>) -> io::Result<Statu
 
 // Writes what becomes of an item, and whether it was accepted. The item is let go here, while it
 // is in the processor's cache.
-fn write_item<W: Write>(writer: &mut W, number: u64, item: Value) -> io::Result<bool>
-    ensures { IfOk result (λ accepted. (outcome : Outcome) × Judges (view item) outcome
+fn write_item<W: Write>(output: &mut Output<W>, number: u64, item: Value) -> Result<bool, Unwritten>
+    ensures lines { IfOk result (λ accepted. (outcome : Outcome) × Judges (view item) outcome
         × (is_ok outcome ≡ accepted)
-        × Appends (W.contents writer.old) (W.contents writer.new) (item_lines number outcome)) }
+        × Takes W.contents output.old output.new (item_lines number outcome)) }
+    ensures failed { TellsFailure result output.old output.new }
 {
     match order_of(&item) {
         Ok(order) => {
-            write_order(writer, number, &order)?;
+            write_order(output, number, &order)?;
             Ok(true)
         }
         Err(fault) => {
-            write_refused_item(writer, number, fault)?;
+            write_refused_item(output, number, fault)?;
             Ok(false)
         }
     }

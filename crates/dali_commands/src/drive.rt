@@ -1,16 +1,18 @@
-ghost use Rattle.std.specs.Prelude.{◌≡◌, ◌≢◌, IfOk, IfErr, OnOk, false};
-ghost use Rattle.std.specs.Io.KnownBytes.{Appends};
+ghost use Rattle.std.specs.Prelude.{◌≡◌, ◌≢◌, ◌↔◌, IfOk, IfErr, OnOk, false, true};
 ghost use Rattle.dali_drive.specs.Transcript.{shown};
+ghost use Rattle.dali_text.specs.Output.{TellsFailure, Takes, has_failed, held, is_flushed};
+ghost use Rattle.dali_commands.specs.Ends.{TellsEnd};
 ghost use Rattle.dali_commands.specs.DriveAnswers.{IsDriveAnswer, IsFaultTold, refused_lines, start_at};
 
 use crate::fault::{Fault, Status};
 use crate::fault_lines::{write_failure, write_refused_item};
+use crate::lines::Lines;
 use dali_bank::Order;
-use dali_drive::{DriveFault, Sink, Source, StdSink, drive};
+use dali_drive::{DriveFault, Sink, Source, drive};
 use dali_input::ItemFault;
 use dali_journal::Journal;
+use dali_text::{Output, Unwritten};
 use dali_writer::Writer;
-use std::io;
 use std::io::Write;
 
 /// Carries out what a journal still asks for, and then the orders one after the other, over streams that haven't
@@ -22,65 +24,81 @@ pub fn drive_over<I: Source, L: Sink, J: Sink, W: Write>(
     link_in: &mut I,
     link_out: &mut L,
     journal_out: &mut J,
-    lines: &mut StdSink<W>,
+    lines: &mut Lines<W>,
 ) -> Status
     requires journal { J.failed journal_out.old ≡ false }
     requires link_out { L.failed link_out.old ≡ false }
     requires link_in { I.failed link_in.old ≡ false }
-    requires lines { lines.old.failed ≡ false }
-    ensures { IsDriveAnswer (start_at journal) orders.now
-        (shown (J.held journal_out.old) (L.held link_out.old) (I.left link_in.old) (W.contents lines.old.writer)) result
-        (shown (J.held journal_out.new) (L.held link_out.new) (I.left link_in.new) (W.contents lines.new.writer)) }
+    requires lines { has_failed lines.old.output ≡ false }
+    ensures answer { IsDriveAnswer (start_at journal) orders.now
+        (shown (J.held journal_out.old) (L.held link_out.old) (I.left link_in.old) (held W.contents lines.old.output))
+        result
+        (shown (J.held journal_out.new) (L.held link_out.new) (I.left link_in.new) (held W.contents lines.new.output)) }
+    ensures unwritten { result ≡ Status.Unwritten ↔ has_failed lines.new.output ≡ true }
 {
     let writer = Writer::new(journal);
     match drive(writer, orders, link_in, link_out, journal_out, lines) {
         Ok(_) => Status::Good,
-        Err(fault) => tell_fault(&mut lines.writer, fault),
+        Err(fault) => tell_fault(&mut lines.output, fault),
     }
 }
 
 // Writes the fault of a drive, where the replies could be written.
-fn tell_fault<W: Write>(writer: &mut W, fault: DriveFault) -> Status
-    ensures { IsFaultTold fault result (W.contents writer.old) (W.contents writer.new) }
+fn tell_fault<W: Write>(output: &mut Output<W>, fault: DriveFault) -> Status
+    ensures told { IsFaultTold fault result (held W.contents output.old) (held W.contents output.new) }
+    ensures unwritten { fault ≢ DriveFault.Out → (result ≡ Status.Unwritten ↔ has_failed output.new ≡ true) }
+    ensures out { fault ≡ DriveFault.Out → (result ≡ Status.Unwritten) × (output.new ≡ output.old) }
 {
     match fault {
         DriveFault::Out => Status::Unwritten,
-        _ => told(write_failure(writer, Fault::Drive(fault))),
+        _ => told(write_failure(output, Fault::Drive(fault))),
     }
 }
 
-/// Writes the refused items of a list of orders.
-pub fn tell_refused<W: Write>(writer: &mut W, refused: &[(u64, ItemFault)]) -> Status
-    ensures { result ≢ Status.Unwritten → (result ≡ Status.Refused)
-        × Appends (W.contents writer.old) (W.contents writer.new) (refused_lines refused.now) }
+/// Writes the refused items of a list of orders, and nothing after them.
+///
+/// Where the output fails nothing more is written to it, and it ends as `Unwritten`.
+pub fn tell_refused<W: Write>(output: &mut Output<W>, refused: &[(u64, ItemFault)]) -> Status
+    ensures told { result ≢ Status.Unwritten → (result ≡ Status.Refused)
+        × Takes W.contents output.old output.new (refused_lines refused.now) }
+    ensures unwritten { result ≡ Status.Unwritten ↔ has_failed output.new ≡ true }
+    ensures flushed { result ≢ Status.Unwritten → is_flushed output.new ≡ true }
 {
-    told(write_refused(writer, refused))
+    told(write_refused(output, refused))
 }
 
-// The same, or the error of the writer.
+// The same, or that the output has failed.
 #[tactic(auto, using(dali_text::proofs::StreamLemmas::appends_kept))]
-fn write_refused<W: Write>(writer: &mut W, refused: &[(u64, ItemFault)]) -> io::Result<Status>
-    ensures { IfOk result (λ status. (status ≡ Status.Refused)
-        × Appends (W.contents writer.old) (W.contents writer.new) (refused_lines refused.now)) }
+fn write_refused<W: Write>(
+    output: &mut Output<W>,
+    refused: &[(u64, ItemFault)],
+) -> Result<Status, Unwritten>
+    ensures told { IfOk result (λ status. (status ≡ Status.Refused)
+        × Takes W.contents output.old output.new (refused_lines refused.now)) }
+    ensures end { TellsEnd result output.new }
 {
-    write_items(writer, refused)?;
-    writer.flush()?;
+    write_items(output, refused)?;
+    output.flush()?;
     Ok(Status::Refused)
 }
 
 // Writes a line for each refused item.
 #[tactic(auto, using(dali_text::proofs::StreamLemmas::appends_both))]
-fn write_items<W: Write>(writer: &mut W, refused: &[(u64, ItemFault)]) -> io::Result<()>
-    ensures { OnOk result (Appends (W.contents writer.old) (W.contents writer.new) (refused_lines refused.now)) }
+fn write_items<W: Write>(
+    output: &mut Output<W>,
+    refused: &[(u64, ItemFault)],
+) -> Result<(), Unwritten>
+    ensures lines { OnOk result (Takes W.contents output.old output.new (refused_lines refused.now)) }
+    ensures failed { TellsFailure result output.old output.new }
 {
     for &(item, fault) in refused {
-        write_refused_item(writer, item, fault)?;
+        write_refused_item(output, item, fault)?;
     }
     Ok(())
 }
 
 /// How a command ended that wrote what it tells, or couldn't.
-pub fn told(written: io::Result<Status>) -> Status
+pub fn told(written: Result<Status, Unwritten>) -> Status
     ensures ok { IfOk written (λ status. result ≡ status) }
     ensures err { IfErr written (λ _. result ≡ Status.Unwritten) }
 {

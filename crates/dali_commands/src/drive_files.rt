@@ -2,12 +2,14 @@ use crate::drive::{drive_over, tell_refused, told};
 use crate::fault::{Fault, Status};
 use crate::fault_lines::write_failure;
 use crate::journal_file::{Hindrance, open_journal};
+use crate::lines::Lines;
 use dali_bank::Order;
 use dali_drive::{StdSink, StdSource};
-use dali_input::{InputFault, ItemFault, read_orders};
+use dali_input::{Input, InputFault, ItemFault, read_orders};
+use dali_text::{Output, Unwritten};
+use std::fs;
 use std::fs::{File, Files};
 use std::io::{Read, Write};
-use std::{fs, io};
 
 /// Carries out the orders of a file over a link, with the journal that another file holds.
 ///
@@ -19,11 +21,11 @@ pub fn drive_files<
     I: Read + Drop,
     L: Write + Drop,
     O: Write + Drop,
->(rt: &R, orders: &str, journal: &str, link_in: I, link_out: L, mut lines: O) -> Status {
+>(rt: &R, orders: &str, journal: &str, link_in: I, link_out: L, lines: O) -> Status {
     match orders_in(rt, orders) {
         Ok(Ok(found)) => on_journal(rt, journal, found.as_slice(), link_in, link_out, lines),
-        Ok(Err(refused)) => tell_refused(&mut lines, refused.as_slice()),
-        Err(hindrance) => told(write_hindrance(&mut lines, orders, hindrance)),
+        Ok(Err(refused)) => tell_refused(&mut Output::new(lines), refused.as_slice()),
+        Err(hindrance) => told(write_hindrance(&mut Output::new(lines), orders, hindrance)),
     }
 }
 
@@ -32,8 +34,8 @@ fn orders_in<R: Files + AllocGlobal>(
     rt: &R,
     name: &str,
 ) -> Result<Result<Vec<Order>, Vec<(u64, ItemFault)>>, Hindrance> {
-    let mut file = fs::open(rt, name)?;
-    let orders = read_orders(rt.alloc(), &mut file)?;
+    let file = fs::open(rt, name)?;
+    let orders = read_orders(rt.alloc(), &mut Input::new(file))?;
     Ok(orders)
 }
 
@@ -43,7 +45,7 @@ fn on_journal<
     I: Read + Drop,
     L: Write + Drop,
     O: Write + Drop,
->(rt: &R, name: &str, orders: &[Order], link_in: I, link_out: L, mut lines: O) -> Status {
+>(rt: &R, name: &str, orders: &[Order], link_in: I, link_out: L, lines: O) -> Status {
     match open_journal(rt, name) {
         Ok((file, journal)) => drive_over(
             journal,
@@ -51,31 +53,33 @@ fn on_journal<
             &mut StdSource::new(link_in),
             &mut StdSink::new(link_out),
             &mut StdSink::new(file),
-            &mut StdSink::new(lines),
+            &mut Lines {
+                output: Output::new(lines),
+            },
         ),
-        Err(hindrance) => told(write_hindrance(&mut lines, name, hindrance)),
+        Err(hindrance) => told(write_hindrance(&mut Output::new(lines), name, hindrance)),
     }
 }
 
 // Writes why a file can't serve a drive.
 fn write_hindrance<W: Write>(
-    lines: &mut W,
+    output: &mut Output<W>,
     name: &str,
     hindrance: Hindrance,
-) -> io::Result<Status> {
+) -> Result<Status, Unwritten> {
     let fault = Fault::Input(InputFault::File);
     match hindrance {
-        Hindrance::Fault(fault) => write_failure(lines, fault),
+        Hindrance::Fault(fault) => write_failure(output, fault),
         Hindrance::System(cause) => {
-            writeln!(lines, "error: the file can't be used: {name}: {cause}")?;
-            write_failure(lines, fault)
+            writeln!(output, "error: the file can't be used: {name}: {cause}")?;
+            write_failure(output, fault)
         }
         Hindrance::InUse => {
             writeln!(
-                lines,
+                output,
                 "error: the journal is in use by another drive: {name}"
             )?;
-            write_failure(lines, fault)
+            write_failure(output, fault)
         }
     }
 }

@@ -1,5 +1,6 @@
-ghost use Rattle.std.specs.Prelude.{◌≡◌};
-ghost use Rattle.dali_commands.specs.Faults.{code_of, drive_status as status_of_drive, input_status as status_of_input, status_of};
+ghost use Rattle.std.specs.Prelude.{◌≡◌, ◌≢◌};
+ghost use Rattle.dali_commands.specs.Faults.{exit_code, drive_status as status_of_drive};
+ghost use Rattle.dali_commands.specs.Faults.{input_status as status_of_input, status_of};
 
 use dali_drive::DriveFault;
 use dali_input::{InputFault, SetupFault};
@@ -23,7 +24,7 @@ pub enum Status {
 impl Status {
     /// The exit status: 0, 1 or 2.
     pub fn code(&self) -> u8
-        ensures { result ≡ code_of self.now }
+        ensures { result ≡ exit_code self.now }
     {
         match self {
             Status::Good => 0,
@@ -56,7 +57,8 @@ pub enum Fault {
 impl Fault {
     /// How the program ends at the fault.
     pub fn status(&self) -> Status
-        ensures { result ≡ status_of self.now }
+        ensures status { result ≡ status_of self.now }
+        ensures unwritten { result ≡ Status.Unwritten → self.now ≡ Fault.Drive DriveFault.Out }
     {
         match self {
             Fault::Input(fault) | Fault::Setup(SetupFault::Input(fault)) => input_status(*fault),
@@ -71,7 +73,8 @@ impl Fault {
 
 // How the program ends at a fault of a drive. Where the replies can't be written, nothing can be told.
 fn drive_status(fault: DriveFault) -> Status
-    ensures { result ≡ status_of_drive fault }
+    ensures status { result ≡ status_of_drive fault }
+    ensures unwritten { result ≡ Status.Unwritten → fault ≡ DriveFault.Out }
 {
     match fault {
         DriveFault::Line(_) | DriveFault::End | DriveFault::TooLong => Status::Refused,
@@ -82,7 +85,8 @@ fn drive_status(fault: DriveFault) -> Status
 
 // How the program ends at a fault of a whole input.
 fn input_status(fault: InputFault) -> Status
-    ensures { result ≡ status_of_input fault }
+    ensures status { result ≡ status_of_input fault }
+    ensures unwritten { result ≢ Status.Unwritten }
 {
     match fault {
         InputFault::Json | InputFault::Document | InputFault::TooBig | InputFault::Hex => {

@@ -1,6 +1,6 @@
-ghost use Rattle.std.specs.Prelude.{◌≢◌, ℕ, List};
-ghost use Rattle.std.specs.Io.KnownBytes.{Appends};
-ghost use Rattle.dali_input.specs.Input.{ReadsAtMost};
+ghost use Rattle.std.specs.Prelude.{◌≡◌, ◌≢◌, ◌↔◌, ℕ, List, true};
+ghost use Rattle.dali_text.specs.Output.{Takes, has_failed, is_flushed};
+ghost use Rattle.dali_input.specs.Input.{ReadsAtMost, state_of};
 ghost use Rattle.dali_commands.specs.FileCommands.{IsCarriedOut, limit_of};
 
 use crate::check::check;
@@ -8,6 +8,8 @@ use crate::fault::Status;
 use crate::journal::journal;
 use crate::run_scenario::run_scenario;
 use crate::show::show;
+use dali_input::Input;
+use dali_text::Output;
 use std::alloc::Global;
 use std::io::{Read, Write};
 
@@ -30,24 +32,22 @@ impl FileCommand {
     pub fn carry_out<R: Read, W: Write>(
         &self,
         alloc: Global,
-        reader: &mut R,
-        writer: &mut W,
+        input: &mut Input<R>,
+        output: &mut Output<W>,
     ) -> Status
         ensures carried_out { result ≢ Status.Unwritten → (text : List ℕ)
-            × IsCarriedOut self.now (R.remaining reader.old) (R.remaining reader.new) result text
-            × Appends (W.contents writer.old) (W.contents writer.new) text }
-        ensures read { ReadsAtMost (limit_of self.now) (R.remaining reader.old) (R.remaining reader.new) }
+            × IsCarriedOut self.now (state_of R.remaining input.old) (state_of R.remaining input.new) result text
+            × Takes W.contents output.old output.new text }
+        ensures read { ReadsAtMost (limit_of self.now) (state_of R.remaining input.old)
+            (state_of R.remaining input.new) }
+        ensures unwritten { result ≡ Status.Unwritten ↔ has_failed output.new ≡ true }
+        ensures flushed { result ≢ Status.Unwritten → is_flushed output.new ≡ true }
     {
         match *self {
-            FileCommand::Check => check(alloc, reader, writer),
-            FileCommand::Run { single_frames } => run_scenario(
-                alloc,
-                reader,
-                writer,
-                single_frames,
-            ),
-            FileCommand::Show => show(alloc, reader, writer),
-            FileCommand::Journal => journal(alloc, reader, writer),
+            FileCommand::Check => check(alloc, input, output),
+            FileCommand::Run { single_frames } => run_scenario(alloc, input, output, single_frames),
+            FileCommand::Show => show(alloc, input, output),
+            FileCommand::Journal => journal(alloc, input, output),
         }
     }
 }

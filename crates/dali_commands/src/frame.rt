@@ -1,40 +1,45 @@
-ghost use Rattle.std.specs.Prelude.{◌≡◌, ◌≢◌, ◌↔◌, ℕ, List, IsSome, IfSome, IfOk};
-ghost use Rattle.std.specs.Io.KnownBytes.{Appends};
+ghost use Rattle.std.specs.Prelude.{◌≡◌, ◌≢◌, ◌↔◌, ℕ, List, IsSome, IfSome, IfOk, true};
 ghost use Rattle.dali_frame.specs.Frame.{Spells};
 ghost use Rattle.dali_frame.specs.Hex.{SpellsHexNumber};
 ghost use Rattle.dali_frame.specs.declared.forward.Frame.{Frame};
 ghost use Rattle.dali_text.specs.FrameLine.{frame_line};
+ghost use Rattle.dali_text.specs.Output.{Takes, has_failed, is_flushed};
+ghost use Rattle.dali_commands.specs.Ends.{TellsEnd};
 ghost use Rattle.dali_commands.specs.FrameAnswers.{AreFourDigits, IsFrameAnswer};
 
 use crate::fault::{Fault, Status};
 use crate::fault_lines::write_failure;
 use dali_input::InputFault;
-use dali_text::write_frame;
-use std::io;
+use dali_text::{Output, Unwritten, write_frame};
 use std::io::Write;
 
 /// Prints what the word of a forward frame means: the word, the standard's name of the frame, and its
 /// operand or its short address.
 ///
 /// Where the argument isn't four hexadecimal digits it writes fault 14 Hex.
-pub fn frame<W: Write>(argument: &str, writer: &mut W) -> Status
-    ensures { result ≢ Status.Unwritten → (text : List ℕ) × IsFrameAnswer argument.now result text
-        × Appends (W.contents writer.old) (W.contents writer.new) text }
+///
+/// Where the output fails nothing more is written to it, and it ends as `Unwritten`.
+pub fn frame<W: Write>(argument: &str, output: &mut Output<W>) -> Status
+    ensures told { result ≢ Status.Unwritten → (text : List ℕ) × IsFrameAnswer argument.now result text
+        × Takes W.contents output.old output.new text }
+    ensures unwritten { result ≡ Status.Unwritten ↔ has_failed output.new ≡ true }
+    ensures flushed { result ≢ Status.Unwritten → is_flushed output.new ≡ true }
 {
-    match try_frame(argument, writer) {
+    match try_frame(argument, output) {
         Ok(status) => status,
         Err(_) => Status::Unwritten,
     }
 }
 
-// The same, or the error of the output.
-fn try_frame<W: Write>(argument: &str, writer: &mut W) -> io::Result<Status>
-    ensures { IfOk result (λ status. (text : List ℕ) × IsFrameAnswer argument.now status text
-        × Appends (W.contents writer.old) (W.contents writer.new) text) }
+// The same, or that the output has failed.
+fn try_frame<W: Write>(argument: &str, output: &mut Output<W>) -> Result<Status, Unwritten>
+    ensures told { IfOk result (λ status. (text : List ℕ) × IsFrameAnswer argument.now status text
+        × Takes W.contents output.old output.new text) }
+    ensures end { TellsEnd result output.new }
 {
     match word_in(argument) {
-        Some(word) => write_word(writer, word),
-        None => write_failure(writer, Fault::Input(InputFault::Hex)),
+        Some(word) => write_word(output, word),
+        None => write_failure(output, Fault::Input(InputFault::Hex)),
     }
 }
 
@@ -55,11 +60,12 @@ fn word_in(argument: &str) -> Option<u16>
 
 // Writes a word and the frame that it spells, and nothing after it.
 #[tactic(auto, using(dali_text::proofs::StreamLemmas::appends_kept))]
-fn write_word<W: Write>(writer: &mut W, word: u16) -> io::Result<Status>
-    ensures { IfOk result (λ status. (status ≡ Status.Good) × (frame : Frame) × Spells frame word
-        × Appends (W.contents writer.old) (W.contents writer.new) (frame_line word frame)) }
+fn write_word<W: Write>(output: &mut Output<W>, word: u16) -> Result<Status, Unwritten>
+    ensures line { IfOk result (λ status. (status ≡ Status.Good) × (frame : Frame) × Spells frame word
+        × Takes W.contents output.old output.new (frame_line word frame)) }
+    ensures end { TellsEnd result output.new }
 {
-    write_frame(writer, word)?;
-    writer.flush()?;
+    write_frame(output, word)?;
+    output.flush()?;
     Ok(Status::Good)
 }

@@ -166,7 +166,8 @@ fn job_in<'a>(matches: &ArgMatches<'a>) -> Option<Job<'a>>
 // The job of the command that drives, where a parse entered it.
 fn drive_in<'a>(matches: &ArgMatches<'a>) -> Option<Job<'a>>
     ensures named { IfSome result (IsJob (subcommand_rows_of matches.now)) }
-    ensures none { IfNone result ((orders journal : Bor (List ℕ)) → ¬ IsJob (subcommand_rows_of matches.now) (Drive orders journal)) }
+    ensures none { IfNone result
+        ((orders journal : Bor (List ℕ)) → ¬ IsJob (subcommand_rows_of matches.now) (Drive orders journal)) }
 {
     let Some(orders) = value_of(matches, "drive", "ORDERS") else {
         return None;
@@ -180,7 +181,8 @@ fn drive_in<'a>(matches: &ArgMatches<'a>) -> Option<Job<'a>>
 // The value of a command's argument, where a parse entered that command.
 fn value_of<'a>(matches: &ArgMatches<'a>, command: &str, id: &str) -> Option<&'a str>
     ensures found { IfSome result (λ value. HasValue (subcommand_rows_of matches.now) command.now id.now value.now) }
-    ensures none { IfNone result ((value : List ℕ) → ¬ HasValue (subcommand_rows_of matches.now) command.now id.now value) }
+    ensures none { IfNone result
+        ((value : List ℕ) → ¬ HasValue (subcommand_rows_of matches.now) command.now id.now value) }
 {
     match matches.subcommand_matches(command) {
         Some(found) => found.get_str(id),

@@ -1,16 +1,17 @@
-ghost use Rattle.std.specs.Prelude.{◌≢◌, List, ℕ, IfErr, IfOk};
-ghost use Rattle.std.specs.Io.KnownBytes.{Appends};
-ghost use Rattle.dali_input.specs.Input.{ReadsAtMost};
+ghost use Rattle.std.specs.Prelude.{◌≡◌, ◌≢◌, ◌↔◌, List, ℕ, IfErr, IfOk, true};
+ghost use Rattle.dali_text.specs.Output.{Takes, has_failed, is_flushed};
+ghost use Rattle.dali_input.specs.Input.{ReadsAtMost, state_of};
 ghost use Rattle.dali_commands.specs.DriveAnswers.{HasJournal, HasNoJournal};
-ghost use Rattle.dali_commands.specs.JournalAnswers.{IsJournalAnswer, IsJournalIn, IsUnloaded, TellsInput, journal_limit};
+ghost use Rattle.dali_commands.specs.Ends.{TellsEnd};
+ghost use Rattle.dali_commands.specs.JournalAnswers.{IsJournalAnswer, IsJournalIn, IsUnloaded, TellsInput};
+ghost use Rattle.dali_commands.specs.JournalAnswers.{journal_limit};
 
 use crate::fault::{Fault, Status};
 use crate::fault_lines::write_failure;
-use dali_input::{InputFault, read_input};
+use dali_input::{Input, InputFault, read_input};
 use dali_journal::Journal;
-use dali_text::write_journal;
+use dali_text::{Output, Unwritten, write_journal};
 use std::alloc::Global;
-use std::io;
 use std::io::{Read, Write};
 
 /// The most bytes of a journal.
@@ -26,47 +27,61 @@ const MOST_ORDERS: u32 = 100_000;
 /// Where the input is no journal it writes the fault alone: 13 TooBig over 33554432 bytes; with the
 /// place of the record 3 Record, 4 Sequence, 5 Repeated, 6 Full (over 100000 orders); 20 Memory or 21
 /// File.
-pub fn journal<R: Read, W: Write>(alloc: Global, reader: &mut R, writer: &mut W) -> Status
+///
+/// Where the output fails nothing more is written to it, and it ends as `Unwritten`.
+pub fn journal<R: Read, W: Write>(
+    alloc: Global,
+    input: &mut Input<R>,
+    output: &mut Output<W>,
+) -> Status
     ensures told { result ≢ Status.Unwritten → (text : List ℕ)
-        × IsJournalAnswer (R.remaining reader.old) (R.remaining reader.new) result text
-        × Appends (W.contents writer.old) (W.contents writer.new) text }
-    ensures read { ReadsAtMost journal_limit (R.remaining reader.old) (R.remaining reader.new) }
+        × IsJournalAnswer (state_of R.remaining input.old) (state_of R.remaining input.new) result text
+        × Takes W.contents output.old output.new text }
+    ensures read { ReadsAtMost journal_limit (state_of R.remaining input.old) (state_of R.remaining input.new) }
+    ensures unwritten { result ≡ Status.Unwritten ↔ has_failed output.new ≡ true }
+    ensures flushed { result ≢ Status.Unwritten → is_flushed output.new ≡ true }
 {
-    match try_journal(alloc, reader, writer) {
+    match try_journal(alloc, input, output) {
         Ok(status) => status,
         Err(_) => Status::Unwritten,
     }
 }
 
-// The same, or the error of the output.
+// The same, or that the output has failed.
 fn try_journal<R: Read, W: Write>(
     alloc: Global,
-    reader: &mut R,
-    writer: &mut W,
-) -> io::Result<Status>
+    input: &mut Input<R>,
+    output: &mut Output<W>,
+) -> Result<Status, Unwritten>
     ensures told { IfOk result (λ status. (text : List ℕ)
-        × IsJournalAnswer (R.remaining reader.old) (R.remaining reader.new) status text
-        × Appends (W.contents writer.old) (W.contents writer.new) text) }
-    ensures read { ReadsAtMost journal_limit (R.remaining reader.old) (R.remaining reader.new) }
+        × IsJournalAnswer (state_of R.remaining input.old) (state_of R.remaining input.new) status text
+        × Takes W.contents output.old output.new text) }
+    ensures read { ReadsAtMost journal_limit (state_of R.remaining input.old) (state_of R.remaining input.new) }
+    ensures end { TellsEnd result output.new }
 {
-    match read_input(alloc, reader, JOURNAL_LIMIT) {
-        Ok(input) => write_input(alloc, input.as_slice(), writer),
-        Err(fault) => write_failure(writer, Fault::Input(fault)),
+    match read_input(alloc, input, JOURNAL_LIMIT) {
+        Ok(bytes) => write_input(alloc, bytes.as_slice(), output),
+        Err(fault) => write_failure(output, Fault::Input(fault)),
     }
 }
 
 // Writes what an input says as a journal.
-fn write_input<W: Write>(alloc: Global, input: &[u8], writer: &mut W) -> io::Result<Status>
-    ensures { IfOk result (λ status. (text : List ℕ) × TellsInput input.now status text
-        × Appends (W.contents writer.old) (W.contents writer.new) text) }
+fn write_input<W: Write>(
+    alloc: Global,
+    input: &[u8],
+    output: &mut Output<W>,
+) -> Result<Status, Unwritten>
+    ensures told { IfOk result (λ status. (text : List ℕ) × TellsInput input.now status text
+        × Takes W.contents output.old output.new text) }
+    ensures end { TellsEnd result output.new }
 {
     match journal_in(alloc, input) {
         Ok((journal, counted)) => {
-            write_journal(writer, &journal, &input[..counted], input.len())?;
-            writer.flush()?;
+            write_journal(output, &journal, &input[..counted], input.len())?;
+            output.flush()?;
             Ok(Status::Good)
         }
-        Err(fault) => write_failure(writer, fault),
+        Err(fault) => write_failure(output, fault),
     }
 }
 
@@ -76,15 +91,16 @@ fn write_input<W: Write>(alloc: Global, input: &[u8], writer: &mut W) -> io::Res
 /// Full (over 100000 orders); 20 Memory, or 21 File where the reader failed.
 pub(crate) fn read_journal<R: Read>(
     alloc: Global,
-    reader: &mut R,
+    input: &mut Input<R>,
 ) -> Result<(Journal, usize, usize), Fault>
-    ensures ok { IfOk result (λ found. HasJournal (R.remaining reader.old) (R.remaining reader.new) found.0 found.1 found.2) }
-    ensures err { IfErr result (HasNoJournal (R.remaining reader.old) (R.remaining reader.new)) }
-    ensures read { ReadsAtMost journal_limit (R.remaining reader.old) (R.remaining reader.new) }
+    ensures ok { IfOk result (λ found.
+        HasJournal (state_of R.remaining input.old) (state_of R.remaining input.new) found.0 found.1 found.2) }
+    ensures err { IfErr result (HasNoJournal (state_of R.remaining input.old) (state_of R.remaining input.new)) }
+    ensures read { ReadsAtMost journal_limit (state_of R.remaining input.old) (state_of R.remaining input.new) }
 {
-    match read_input(alloc, reader, JOURNAL_LIMIT) {
-        Ok(input) => match journal_in(alloc, input.as_slice()) {
-            Ok((journal, counted)) => Ok((journal, counted, input.len())),
+    match read_input(alloc, input, JOURNAL_LIMIT) {
+        Ok(bytes) => match journal_in(alloc, bytes.as_slice()) {
+            Ok((journal, counted)) => Ok((journal, counted, bytes.len())),
             Err(fault) => Err(fault),
         },
         Err(fault) => Err(Fault::Input(fault)),

@@ -4,7 +4,7 @@ ghost use Rattle.dali_commands.specs.JournalAnswers.{IsJournalIn};
 
 use crate::fault::Fault;
 use crate::journal::read_journal;
-use dali_input::InputFault;
+use dali_input::{Input, InputFault};
 use dali_journal::Journal;
 use std::fs::{File, Files, OpenOptions, TryLockError};
 use std::io::Write;
@@ -76,7 +76,7 @@ pub fn open_journal<R: Files<File = File> + AllocGlobal>(
 {
     let mut file = locked(rt, name)?;
     let is_regular = file.metadata()?.is_file();
-    let (journal, counted, all) = read_journal(rt.alloc(), &mut file)?;
+    let (journal, counted, all) = read_journal(rt.alloc(), &mut Input::new(&mut file))?;
     if is_regular {
         if counted < all {
             file.set_len(counted as u64)?;

@@ -12,6 +12,7 @@ pub mod frame;
 mod job;
 pub mod journal;
 mod journal_file;
+mod lines;
 pub mod run_scenario;
 pub mod show;
 

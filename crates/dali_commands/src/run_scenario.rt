@@ -1,18 +1,18 @@
-ghost use Rattle.std.specs.Prelude.{◌≡◌, ◌≢◌, List, ℕ, IfOk, IfErr, length, reverse};
-ghost use Rattle.std.specs.Io.KnownBytes.{Appends};
+ghost use Rattle.std.specs.Prelude.{◌≡◌, ◌≢◌, ◌↔◌, List, ℕ, IfOk, IfErr, length, reverse, true};
 ghost use Rattle.dali_trace.specs.Runs.{SendsAllProper};
 ghost use Rattle.dali_text.specs.RunText.{run_text};
-ghost use Rattle.dali_input.specs.Input.{ReadsAtMost};
+ghost use Rattle.dali_text.specs.Output.{Takes, has_failed, is_flushed};
+ghost use Rattle.dali_input.specs.Input.{ReadsAtMost, state_of};
+ghost use Rattle.dali_commands.specs.Ends.{TellsEnd};
 ghost use Rattle.dali_commands.specs.RunAnswers.{IsRan, IsRunAnswer, IsUnrun, scenario_limit};
 
 use crate::fault::{Fault, Status};
 use crate::fault_lines::write_failure;
 use dali_gear::SimBus;
-use dali_input::{Setup, json_of, read_input, scenario_of, setup_of};
-use dali_text::write_outcome;
+use dali_input::{Input, Setup, json_of, read_input, scenario_of, setup_of};
+use dali_text::{Output, Unwritten, write_outcome};
 use dali_writer::{Outcome, RunFault, run_sim};
 use std::alloc::Global;
-use std::io;
 use std::io::{Read, Write};
 
 /// The most bytes of a scenario.
@@ -33,50 +33,55 @@ struct Ran {
 /// over 16777216 bytes, 11 Json, 12 Document, 13 TooBig over 20000 events or fates, the fault of a
 /// unit (1 Address, 2 Size, 3 Fixed), 5 SameAddress, the fault of an order, 1 Limit; 20 Memory or 21
 /// File where the memory or the reader failed.
+///
+/// Where the output fails nothing more is written to it, and it ends as `Unwritten`.
 pub fn run_scenario<R: Read, W: Write>(
     alloc: Global,
-    reader: &mut R,
-    writer: &mut W,
+    input: &mut Input<R>,
+    output: &mut Output<W>,
     single_frames: bool,
 ) -> Status
     ensures ran { result ≢ Status.Unwritten → (text : List ℕ)
-        × IsRunAnswer single_frames (R.remaining reader.old) (R.remaining reader.new) result text
-        × Appends (W.contents writer.old) (W.contents writer.new) text }
-    ensures read { ReadsAtMost scenario_limit (R.remaining reader.old) (R.remaining reader.new) }
+        × IsRunAnswer single_frames (state_of R.remaining input.old) (state_of R.remaining input.new) result text
+        × Takes W.contents output.old output.new text }
+    ensures read { ReadsAtMost scenario_limit (state_of R.remaining input.old) (state_of R.remaining input.new) }
+    ensures unwritten { result ≡ Status.Unwritten ↔ has_failed output.new ≡ true }
+    ensures flushed { result ≢ Status.Unwritten → is_flushed output.new ≡ true }
 {
-    match try_run(alloc, reader, writer, single_frames) {
+    match try_run(alloc, input, output, single_frames) {
         Ok(status) => status,
         Err(_) => Status::Unwritten,
     }
 }
 
-// The same, or the error of the output.
+// The same, or that the output has failed.
 fn try_run<R: Read, W: Write>(
     alloc: Global,
-    reader: &mut R,
-    writer: &mut W,
+    input: &mut Input<R>,
+    output: &mut Output<W>,
     single_frames: bool,
-) -> io::Result<Status>
+) -> Result<Status, Unwritten>
     ensures ran { IfOk result (λ status. (text : List ℕ)
-        × IsRunAnswer single_frames (R.remaining reader.old) (R.remaining reader.new) status text
-        × Appends (W.contents writer.old) (W.contents writer.new) text) }
-    ensures read { ReadsAtMost scenario_limit (R.remaining reader.old) (R.remaining reader.new) }
+        × IsRunAnswer single_frames (state_of R.remaining input.old) (state_of R.remaining input.new) status text
+        × Takes W.contents output.old output.new text) }
+    ensures read { ReadsAtMost scenario_limit (state_of R.remaining input.old) (state_of R.remaining input.new) }
+    ensures end { TellsEnd result output.new }
 {
-    match ran_of(alloc, reader) {
-        Ok(ran) => write_ran(writer, single_frames, &ran),
-        Err(fault) => write_failure(writer, fault),
+    match ran_of(alloc, input) {
+        Ok(ran) => write_ran(output, single_frames, &ran),
+        Err(fault) => write_failure(output, fault),
     }
 }
 
 // Reads, understands, sets up and runs a scenario.
-fn ran_of<R: Read>(alloc: Global, reader: &mut R) -> Result<Ran, Fault>
-    ensures ok { IfOk result (λ ran. IsRan (R.remaining reader.old) (R.remaining reader.new)
+fn ran_of<R: Read>(alloc: Global, input: &mut Input<R>) -> Result<Ran, Fault>
+    ensures ok { IfOk result (λ ran. IsRan (state_of R.remaining input.old) (state_of R.remaining input.new)
         ran.outcome.trace.items ran.outcome.journal.items ran.bus) }
-    ensures err { IfErr result (IsUnrun (R.remaining reader.old) (R.remaining reader.new)) }
-    ensures read { ReadsAtMost scenario_limit (R.remaining reader.old) (R.remaining reader.new) }
+    ensures err { IfErr result (IsUnrun (state_of R.remaining input.old) (state_of R.remaining input.new)) }
+    ensures read { ReadsAtMost scenario_limit (state_of R.remaining input.old) (state_of R.remaining input.new) }
 {
-    let input = read_input(alloc, reader, SCENARIO_LIMIT)?;
-    let json = json_of(alloc, input.as_slice(), SCENARIO_LIMIT)?;
+    let bytes = read_input(alloc, input, SCENARIO_LIMIT)?;
+    let json = json_of(alloc, bytes.as_slice(), SCENARIO_LIMIT)?;
     let scenario = scenario_of(alloc, &json)?;
     let Setup { mut bus, events } = setup_of(alloc, &scenario)?;
     let Ok(limit) = u32::try_from(scenario.limit) else {
@@ -88,12 +93,17 @@ fn ran_of<R: Read>(alloc: Global, reader: &mut R) -> Result<Ran, Fault>
 
 // Tells a run.
 #[tactic(auto, using(dali_text::proofs::StreamLemmas::appends_kept))]
-fn write_ran<W: Write>(writer: &mut W, single_frames: bool, ran: &Ran) -> io::Result<Status>
+fn write_ran<W: Write>(
+    output: &mut Output<W>,
+    single_frames: bool,
+    ran: &Ran,
+) -> Result<Status, Unwritten>
     requires { SendsAllProper (reverse ran.now.outcome.trace.items) }
-    ensures { IfOk result (λ status. (status ≡ Status.Good) × Appends (W.contents writer.old) (W.contents writer.new)
+    ensures told { IfOk result (λ status. (status ≡ Status.Good) × Takes W.contents output.old output.new
         (run_text single_frames ran.now.outcome.trace.items (length ran.now.outcome.journal.items) ran.now.bus.units)) }
+    ensures end { TellsEnd result output.new }
 {
-    write_outcome(writer, single_frames, &ran.outcome, ran.bus.units())?;
-    writer.flush()?;
+    write_outcome(output, single_frames, &ran.outcome, ran.bus.units())?;
+    output.flush()?;
     Ok(Status::Good)
 }

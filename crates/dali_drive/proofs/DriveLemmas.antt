@@ -1,5 +1,6 @@
 -- How a driven trace grows, and how it is broken off.
-use Rattle.std.proofs.Common.{◌≡◌, ◌<◌, ◌≤◌, ◌+◌, ◌∙◌, refl, sym, ap, get_or, inl, inr, ℕ, suc, List, [], ◌∷◌, ◌++◌, Option, Ok, Err, false, length, take, drop, drop-cons, reverse}
+use Rattle.std.proofs.Common.{◌≡◌, ◌<◌, ◌≤◌, ◌+◌, ◌∙◌, refl, sym, ap, get_or, inl, inr, ℕ, suc, List, [], ◌∷◌, ◌++◌}
+use Rattle.std.proofs.Common.{Option, Ok, Err, false, length, take, drop, drop-cons, reverse}
 use Rattle.std.proofs.lemmas.List.{take_more, take_all, take-append-drop, reverse-append, reverse-reverse}
 use Rattle.std.specs.Io.KnownBytes.{Appends}
 use Rattle.std.proofs.KnownBytes.{Appends-trans, Appends-nil, Consumes-trans, Consumes-nil, Keeps-refl}
@@ -22,74 +23,132 @@ use Rattle.dali_writer.specs.Held.{Held}
 use Rattle.dali_writer.specs.Describes.{Describes}
 use Rattle.dali_writer.specs.Follows.{Follows}
 use Rattle.dali_drive.specs.WorkedOn.{IsDrivenAt}
-use Rattle.dali_drive.specs.Lines.{frame_line, reply_line, TakesLine}
+use Rattle.dali_drive.specs.Lines.{link_line, reply_line, TakesLine}
 use Rattle.dali_drive.specs.Transcript.{Streams, Transcript, shown}
 use Rattle.dali_drive.specs.Driven.{IsInTurn, KeepsRecords, IsDriven, IsNextFrame, BrokenOff, AppendsPart}
 
 -- nothing has happened yet
-driven_nothing : (start : Start) (j l a o : Option (List ℕ)) → Legal start [] → IsDriven start [] (shown j l a o) (shown j l a o)
+driven_nothing : (start : Start) (j l a o : Option (List ℕ)) → Legal start []
+    → IsDriven start [] (shown j l a o) (shown j l a o)
 driven_nothing start j l a o legal = record {
   legal = legal;
   planned = tt;
   in_turn = tt;
   in_range = tt;
-  text = record { heard = []; lines = refl; journal = Appends-nil j; link = Appends-nil l; answers = Consumes-nil a; out = Appends-nil o };
+  text = record {
+    heard = [];
+    lines = refl;
+    journal = Appends-nil j;
+    link = Appends-nil l;
+    answers = Consumes-nil a;
+    out = Appends-nil o;
+  };
 }
 
-pub begun_at : (start : Start) (writer : Held) (j l a o : Option (List ℕ)) → Describes start [] writer → Follows start [] writer
+pub begun_at : (start : Start) (writer : Held) (j l a o : Option (List ℕ)) → Describes start [] writer
+    → Follows start [] writer
     → IsDrivenAt start [] writer (shown j l a o) (shown j l a o)
-begun_at start writer j l a o described follows = record { driven = driven_nothing start j l a o described.legal; described = described; follows = follows }
+begun_at start writer j l a o described follows =
+    record { driven = driven_nothing start j l a o described.legal; described = described; follows = follows }
 
 -- what is next was done, and its text written and read
-goes_on : (start : Start) (past : List Happening) (next : Happening) (first old new : Streams) → IsDriven start past first old → IsNext start past next
-    → (IsInTurn start past → IsInTurn start (next ∷ past)) → (KeepsRecords past → KeepsRecords (next ∷ past)) → Transcript (next ∷ past) first new → IsDriven start (next ∷ past) first new
+goes_on : (start : Start) (past : List Happening) (next : Happening) (first old new : Streams)
+    → IsDriven start past first old → IsNext start past next
+    → (IsInTurn start past → IsInTurn start (next ∷ past)) → (KeepsRecords past → KeepsRecords (next ∷ past))
+    → Transcript (next ∷ past) first new → IsDriven start (next ∷ past) first new
 goes_on start past next first old new d is turn range text =
-    record { legal = (d.legal, is.may); planned = (d.planned, is.planned); in_turn = turn d.in_turn; in_range = range d.in_range; text = text }
+    record {
+      legal = (d.legal, is.may);
+      planned = (d.planned, is.planned);
+      in_turn = turn d.in_turn;
+      in_range = range d.in_range;
+      text = text;
+    }
 
-pub keeps_on : (start : Start) (past : List Happening) (first : Streams) (j more l a o : Option (List ℕ)) (entry : Record) → IsDriven start past first (shown j l a o)
-    → IsNext start past (Kept entry) → IsRecord entry → Appends j more (spelling entry) → IsDriven start (Kept entry ∷ past) first (shown more l a o)
-keeps_on start past first j more l a o entry d next range added = goes_on start past (Kept entry) first (shown j l a o) (shown more l a o) d next (λ t. t) (λ t. (range, t))
-    (record { heard = d.text.heard; lines = d.text.lines; journal = Appends-trans _ _ _ _ _ d.text.journal added; link = d.text.link; answers = d.text.answers; out = d.text.out })
+pub keeps_on : (start : Start) (past : List Happening) (first : Streams) (j more l a o : Option (List ℕ))
+    (entry : Record)
+    → IsDriven start past first (shown j l a o)
+    → IsNext start past (Kept entry) → IsRecord entry → Appends j more (spelling entry)
+    → IsDriven start (Kept entry ∷ past) first (shown more l a o)
+keeps_on start past first j more l a o entry d next range added =
+    goes_on start past (Kept entry) first (shown j l a o) (shown more l a o) d next (λ t. t) (λ t. (range, t))
+    (record {
+      heard = d.text.heard;
+      lines = d.text.lines;
+      journal = Appends-trans _ _ _ _ _ d.text.journal added;
+      link = d.text.link;
+      answers = d.text.answers;
+      out = d.text.out;
+    })
 
-pub sends_on : (start : Start) (past : List Happening) (first : Streams) (j l more a less o : Option (List ℕ)) (frame : Frame) (answer : Option ℕ)
-    → IsDriven start past first (shown j l a o) → IsNext start past (Sent frame answer) → Appends l more (frame_line frame) → TakesLine a less (Ok answer)
+pub sends_on : (start : Start) (past : List Happening) (first : Streams) (j l more a less o : Option (List ℕ))
+    (frame : Frame) (answer : Option ℕ)
+    → IsDriven start past first (shown j l a o) → IsNext start past (Sent frame answer)
+    → Appends l more (link_line frame) → TakesLine a less (Ok answer)
     → IsDriven start (Sent frame answer ∷ past) first (shown j more less o)
-sends_on start past first j l more a less o frame answer d next added taken = goes_on start past (Sent frame answer) first (shown j l a o) (shown j more less o) d next (λ t. t) (λ t. t) (record {
-  heard = d.text.heard ++ taken.0;
-  lines = (d.text.heard, taken.0, d.text.lines, taken.1, refl);
-  journal = d.text.journal;
-  link = Appends-trans _ _ _ _ _ d.text.link added;
-  answers = Consumes-trans _ _ _ _ _ d.text.answers taken.2;
-  out = d.text.out;
-})
+sends_on start past first j l more a less o frame answer d next added taken =
+    goes_on start past (Sent frame answer) first (shown j l a o) (shown j more less o) d next (λ t. t) (λ t. t)
+    (record {
+      heard = d.text.heard ++ taken.0;
+      lines = (d.text.heard, taken.0, d.text.lines, taken.1, refl);
+      journal = d.text.journal;
+      link = Appends-trans _ _ _ _ _ d.text.link added;
+      answers = Consumes-trans _ _ _ _ _ d.text.answers taken.2;
+      out = d.text.out;
+    })
 
-pub says_on : (start : Start) (past : List Happening) (first : Streams) (j l a o more : Option (List ℕ)) (id : ℕ) (reply : Reply) → IsDriven start past first (shown j l a o)
-    → IsNext start past (Answered id reply) → Appends o more (reply_line id reply) → IsDriven start (Answered id reply ∷ past) first (shown j l a more)
-says_on start past first j l a o more id reply d next added = goes_on start past (Answered id reply) first (shown j l a o) (shown j l a more) d next (λ t. t) (λ t. t)
-    (record { heard = d.text.heard; lines = d.text.lines; journal = d.text.journal; link = d.text.link; answers = d.text.answers; out = Appends-trans _ _ _ _ _ d.text.out added })
+pub says_on : (start : Start) (past : List Happening) (first : Streams) (j l a o more : Option (List ℕ)) (id : ℕ)
+    (reply : Reply)
+    → IsDriven start past first (shown j l a o)
+    → IsNext start past (Answered id reply) → Appends o more (reply_line id reply)
+    → IsDriven start (Answered id reply ∷ past) first (shown j l a more)
+says_on start past first j l a o more id reply d next added =
+    goes_on start past (Answered id reply) first (shown j l a o) (shown j l a more) d next (λ t. t) (λ t. t)
+    (record {
+      heard = d.text.heard;
+      lines = d.text.lines;
+      journal = d.text.journal;
+      link = d.text.link;
+      answers = d.text.answers;
+      out = Appends-trans _ _ _ _ _ d.text.out added;
+    })
 
 -- an order was asked, and nothing written
-pub asks_on : (start : Start) (past : List Happening) (first now : Streams) (order : Contents) → IsDriven start past first now → is_busy start past ≡ false → Legal start (Asked order ∷ past)
+pub asks_on : (start : Start) (past : List Happening) (first now : Streams) (order : Contents)
+    → IsDriven start past first now → is_busy start past ≡ false → Legal start (Asked order ∷ past)
     → IsDriven start (Asked order ∷ past) first now
 asks_on start past first now order d quiet legal = record {
   legal = legal;
   planned = (d.planned, tt);
   in_turn = (quiet, d.in_turn);
   in_range = d.in_range;
-  text = record { heard = d.text.heard; lines = d.text.lines; journal = d.text.journal; link = d.text.link; answers = d.text.answers; out = d.text.out };
+  text = record {
+    heard = d.text.heard;
+    lines = d.text.lines;
+    journal = d.text.journal;
+    link = d.text.link;
+    answers = d.text.answers;
+    out = d.text.out;
+  };
 }
 
 -- the reply to it is next
-pub reply_next : (start : Start) (past : List Happening) (order : Contents) (reply : Reply) → Legal start (Answered order.id reply ∷ Asked order ∷ past)
-    → ByPlan start (Answered order.id reply ∷ Asked order ∷ past) → IsNext start (Asked order ∷ past) (Answered order.id reply)
+pub reply_next : (start : Start) (past : List Happening) (order : Contents) (reply : Reply)
+    → Legal start (Answered order.id reply ∷ Asked order ∷ past)
+    → ByPlan start (Answered order.id reply ∷ Asked order ∷ past)
+    → IsNext start (Asked order ∷ past) (Answered order.id reply)
 reply_next start past order reply legal planned = record { work = tt; may = legal.1; planned = planned.1 }
 
-pub replied_at : (start : Start) (past : List Happening) (old new : Held) (first : Streams) (j l a o more : Option (List ℕ)) (order : Contents) (reply : Reply)
-    → IsDrivenAt start past old first (shown j l a o) → is_busy start past ≡ false → Describes start (Answered order.id reply ∷ Asked order ∷ past) new
+pub replied_at : (start : Start) (past : List Happening) (old new : Held) (first : Streams)
+    (j l a o more : Option (List ℕ)) (order : Contents) (reply : Reply)
+    → IsDrivenAt start past old first (shown j l a o) → is_busy start past ≡ false
+    → Describes start (Answered order.id reply ∷ Asked order ∷ past) new
     → Follows start (Answered order.id reply ∷ Asked order ∷ past) new → Appends o more (reply_line order.id reply)
     → IsDrivenAt start (Answered order.id reply ∷ Asked order ∷ past) new first (shown j l a more)
 replied_at start past old new first j l a o more order reply d quiet described follows added = record {
-  driven = says_on start (Asked order ∷ past) first j l a o more order.id reply (asks_on start past first (shown j l a o) order d.driven quiet described.legal.0)
+  driven =
+      says_on start (Asked order ∷ past) first j l a o more order.id reply
+      (asks_on start past first (shown j l a o) order d.driven quiet described.legal.0)
       (reply_next start past order reply described.legal follows.planned) added;
   described = described;
   follows = follows;
@@ -98,15 +157,19 @@ replied_at start past old new first j l a o more order reply d quiet described f
 -- The orders
 
 -- one more was asked
-pub asked_more : (xs asked : List Contents) (n : ℕ) (d order : Contents) → n < length xs → order ≡ get_or xs n d → asked ≡ reverse (take n xs)
+pub asked_more : (xs asked : List Contents) (n : ℕ) (d order : Contents) → n < length xs → order ≡ get_or xs n d
+    → asked ≡ reverse (take n xs)
     → order ∷ asked ≡ reverse (take (n + 1) xs)
-asked_more xs asked n d order h is e = rw (is, e) (sym (ap reverse (take_more xs n d h) ∙ reverse-append (take n xs) (get_or xs n d ∷ [])))
+asked_more xs asked n d order h is e =
+    rw (is, e) (sym (ap reverse (take_more xs n d h) ∙ reverse-append (take n xs) (get_or xs n d ∷ [])))
 
 -- those that were asked and those that are still to be asked are all
 pub asked_so_far : (xs asked : List Contents) (n : ℕ) → asked ≡ reverse (take n xs) → reverse asked ++ drop n xs ≡ xs
-asked_so_far xs asked n e = rw e (ap (λ (front : List Contents). front ++ drop n xs) (reverse-reverse (take n xs)) ∙ take-append-drop n xs)
+asked_so_far xs asked n e =
+    rw e (ap (λ (front : List Contents). front ++ drop n xs) (reverse-reverse (take n xs)) ∙ take-append-drop n xs)
 
-pub asked_then : (xs asked : List Contents) (n : ℕ) (d order : Contents) → n < length xs → order ≡ get_or xs n d → asked ≡ reverse (take n xs)
+pub asked_then : (xs asked : List Contents) (n : ℕ) (d order : Contents) → n < length xs → order ≡ get_or xs n d
+    → asked ≡ reverse (take n xs)
     → reverse asked ++ order ∷ drop (suc n) xs ≡ xs
 asked_then xs asked n d order h is e =
     rw is (ap (λ (rest : List Contents). reverse asked ++ rest) (sym (drop-cons xs n d h)) ∙ asked_so_far xs asked n e)
@@ -123,27 +186,71 @@ IsCut old new bytes = (k : ℕ) × (k ≤ length bytes) × Appends old new (take
 part_of_it : (old new : Option (List ℕ)) (bytes : List ℕ) → IsCut old new bytes → AppendsPart old new bytes
 part_of_it old new bytes cut = record { count = cut.0; within = cut.1; part = cut.2 }
 
-pub breaks_record : (start : Start) (past : List Happening) (rest : List Contents) (j more l a o : Option (List ℕ)) (entry : Record) → IsNext start past (Kept entry)
-    → IsRecord entry → IsCut j more (spelling entry) → BrokenOff start past rest Journal (shown j l a o) (shown more l a o)
-breaks_record start past rest j more l a o entry next range cut =
-    (entry, next, record { in_range = range; journal = part_of_it j more (spelling entry) cut; link = Keeps-refl l; answers = Keeps-refl a; out = Keeps-refl o })
+pub breaks_record : (start : Start) (past : List Happening) (rest : List Contents) (j more l a o : Option (List ℕ))
+    (entry : Record)
+    → IsNext start past (Kept entry)
+    → IsRecord entry → IsCut j more (spelling entry)
+    → BrokenOff start past rest Journal (shown j l a o) (shown more l a o)
+breaks_record start past rest j more l a o entry next range cut = (
+  entry,
+  next,
+  record {
+    in_range = range;
+    journal = part_of_it j more (spelling entry) cut;
+    link = Keeps-refl l;
+    answers = Keeps-refl a;
+    out = Keeps-refl o;
+  },
+)
 
-pub breaks_frame : (start : Start) (past : List Happening) (rest : List Contents) (j l more a o : Option (List ℕ)) (frame : Frame) → IsNextFrame start past frame
-    → IsCut l more (frame_line frame) → BrokenOff start past rest Link (shown j l a o) (shown j more a o)
-breaks_frame start past rest j l more a o frame next cut =
-    (frame, next, inl (record { journal = Keeps-refl j; link = part_of_it l more (frame_line frame) cut; answers = Keeps-refl a; out = Keeps-refl o }))
+pub breaks_frame : (start : Start) (past : List Happening) (rest : List Contents) (j l more a o : Option (List ℕ))
+    (frame : Frame)
+    → IsNextFrame start past frame
+    → IsCut l more (link_line frame) → BrokenOff start past rest Link (shown j l a o) (shown j more a o)
+breaks_frame start past rest j l more a o frame next cut = (
+  frame,
+  next,
+  inl (record {
+    journal = Keeps-refl j;
+    link = part_of_it l more (link_line frame) cut;
+    answers = Keeps-refl a;
+    out = Keeps-refl o;
+  }),
+)
 
-pub breaks_saying : (start : Start) (past : List Happening) (rest : List Contents) (j l a o more : Option (List ℕ)) (id : ℕ) (reply : Reply) → IsNext start past (Answered id reply)
+pub breaks_saying : (start : Start) (past : List Happening) (rest : List Contents) (j l a o more : Option (List ℕ))
+    (id : ℕ) (reply : Reply)
+    → IsNext start past (Answered id reply)
     → IsCut o more (reply_line id reply) → BrokenOff start past rest Out (shown j l a o) (shown j l a more)
-breaks_saying start past rest j l a o more id reply next cut =
-    (id, reply, next, record { journal = Keeps-refl j; link = Keeps-refl l; answers = Keeps-refl a; out = part_of_it o more (reply_line id reply) cut })
+breaks_saying start past rest j l a o more id reply next cut = (
+  id,
+  reply,
+  next,
+  record {
+    journal = Keeps-refl j;
+    link = Keeps-refl l;
+    answers = Keeps-refl a;
+    out = part_of_it o more (reply_line id reply) cut;
+  },
+)
 
-pub breaks_memory : (start : Start) (past : List Happening) (order : Contents) (rest : List Contents) (j l a o : Option (List ℕ)) → IsFinished past
-    → is_busy start past ≡ false → IsReply start past order replies.Taken → BrokenOff start past (order ∷ rest) NoMemory (shown j l a o) (shown j l a o)
-breaks_memory start past order rest j l a o finished quiet due = (finished, quiet, due, record { journal = Keeps-refl j; link = Keeps-refl l; answers = Keeps-refl a; out = Keeps-refl o })
+pub breaks_memory : (start : Start) (past : List Happening) (order : Contents) (rest : List Contents)
+    (j l a o : Option (List ℕ))
+    → IsFinished past
+    → is_busy start past ≡ false → IsReply start past order replies.Taken
+    → BrokenOff start past (order ∷ rest) NoMemory (shown j l a o) (shown j l a o)
+breaks_memory start past order rest j l a o finished quiet due = (
+  finished,
+  quiet,
+  due,
+  record { journal = Keeps-refl j; link = Keeps-refl l; answers = Keeps-refl a; out = Keeps-refl o },
+)
 
-pub breaks_reading : (fault : DriveFault) (start : Start) (past : List Happening) (rest : List Contents) (j l more a less o : Option (List ℕ)) (frame : Frame) → IsNextFrame start past frame
-    → Appends l more (frame_line frame) → TakesLine a less (Err fault) → BrokenOff start past rest fault (shown j l a o) (shown j more less o)
+pub breaks_reading : (fault : DriveFault) (start : Start) (past : List Happening) (rest : List Contents)
+    (j l more a less o : Option (List ℕ)) (frame : Frame)
+    → IsNextFrame start past frame
+    → Appends l more (link_line frame) → TakesLine a less (Err fault)
+    → BrokenOff start past rest fault (shown j l a o) (shown j more less o)
 breaks_reading Journal start past rest j l more a less o frame next added taken = absurd taken
 breaks_reading NoMemory start past rest j l more a less o frame next added taken = absurd taken
 breaks_reading Out start past rest j l more a less o frame next added taken = absurd taken

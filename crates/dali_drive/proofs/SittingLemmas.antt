@@ -1,5 +1,6 @@
 -- Drives one after another, each from the file that the one before it left.
-use Rattle.std.proofs.Common.{◌≡◌, ◌<◌, ◌⊎◌, refl, sym, ap, ◌∙◌, subst, inl, inr, ℕ, List, [], ◌∷◌, ◌++◌, Option, Some, None, length, take}
+use Rattle.std.proofs.Common.{◌≡◌, ◌<◌, ◌⊎◌, refl, sym, ap, ◌∙◌, subst, inl, inr, ℕ, List, [], ◌∷◌, ◌++◌, Option, Some}
+use Rattle.std.proofs.Common.{None, length, take}
 use Rattle.std.proofs.lemmas.List.{append_assoc, append-nil}
 use Rattle.std.proofs.Math.Nat.{eq-or-lt_of_le}
 use Rattle.std.proofs.Math.Seq.{take-length}
@@ -11,7 +12,7 @@ use Rattle.dali_gear.specs.World.{World}
 use Rattle.dali_gear.specs.Chain.{IsChain}
 use Rattle.dali_journal.specs.declared.record.Record.{Record}
 use Rattle.dali_journal.specs.Spelling.{spelling, journal_spelling, IsRecord}
-use Rattle.dali_journal.specs.Loading.{AreKept}
+use Rattle.dali_journal.specs.JournalState.{AreKept}
 use Rattle.dali_journal.proofs.TornLemmas.{torn_no_fault}
 use Rattle.dali_trace.specs.declared.happening.Happening.{Happening}
 use Rattle.dali_trace.specs.declared.happening.Happening.TheVariants.{Asked, Answered, Sent, Kept, Stopped}
@@ -23,7 +24,8 @@ use Rattle.dali_trace.specs.ByPlan.{ByPlan}
 use Rattle.dali_trace.specs.Next.{IsNext}
 use Rattle.dali_writer.specs.Held.{Held}
 use Rattle.dali_drive.specs.Transcript.{Streams, recorded}
-use Rattle.dali_drive.specs.Driven.{KeepsRecords, IsDriven, IsDrive, IsBrokenDrive, BrokenOff, AppendsPart, CutFrame, Unanswered}
+use Rattle.dali_drive.specs.Driven.{KeepsRecords, IsDriven, IsDrive, IsBrokenDrive, BrokenOff, AppendsPart, CutFrame}
+use Rattle.dali_drive.specs.Driven.{Unanswered}
 use Rattle.dali_laws.specs.Joined.{Sitting, joined, FollowOn}
 use Rattle.dali_trace.specs.Moves.{Moves}
 use Rattle.dali_trace.specs.Fits.{Fits, OnlyNamed}
@@ -34,22 +36,26 @@ use Rattle.dali_laws.proofs.RepeatLemmas.{legal_sentence}
 use Rattle.dali_writer.proofs.StopLemmas.{cut_of_none, cut_of_some}
 
 -- what happened is legal and by plan
-happened : (start : Start) (trace past : List Happening) → Legal start trace → ByPlan start trace → MayHaveHappened start trace past → Legal start past × ByPlan start past
+happened : (start : Start) (trace past : List Happening) → Legal start trace → ByPlan start trace
+    → MayHaveHappened start trace past → Legal start past × ByPlan start past
 happened start trace past legal planned (inl same) = rw same (legal, planned)
 happened start trace past legal planned (inr (next, is, same)) = rw same ((legal, is.may), (planned, is.planned))
 
 -- the journal's bytes are those of the start and the recorded ones
-journal_recorded : (start : Start) (past : List Happening) → journal_spelling (records_of start past) ≡ journal_spelling start.records ++ recorded past
+journal_recorded : (start : Start) (past : List Happening)
+    → journal_spelling (records_of start past) ≡ journal_spelling start.records ++ recorded past
 journal_recorded start [] = sym (append-nil (journal_spelling start.records))
 journal_recorded start (Asked order ∷ past) = journal_recorded start past
 journal_recorded start (Answered id reply ∷ past) = journal_recorded start past
 journal_recorded start (Sent frame answer ∷ past) = journal_recorded start past
 journal_recorded start (Stopped ∷ past) = journal_recorded start past
 journal_recorded start (Kept entry ∷ past) =
-    ap (λ (b : List ℕ). b ++ spelling entry) (journal_recorded start past) ∙ append_assoc (journal_spelling start.records) (recorded past) (spelling entry)
+    ap (λ (b : List ℕ). b ++ spelling entry) (journal_recorded start past)
+    ∙ append_assoc (journal_spelling start.records) (recorded past) (spelling entry)
 
 -- the records of a driven trace are kept ones
-in_range : (start : Start) (past : List Happening) → AllByRecursion IsRecord start.records → KeepsRecords past → AllByRecursion IsRecord (records_of start past)
+in_range : (start : Start) (past : List Happening) → AllByRecursion IsRecord start.records → KeepsRecords past
+    → AllByRecursion IsRecord (records_of start past)
 in_range start [] all keeps = all
 in_range start (Asked order ∷ past) all keeps = in_range start past all keeps
 in_range start (Answered id reply ∷ past) all keeps = in_range start past all keeps
@@ -57,27 +63,49 @@ in_range start (Sent frame answer ∷ past) all keeps = in_range start past all 
 in_range start (Stopped ∷ past) all keeps = in_range start past all keeps
 in_range start (Kept entry ∷ past) all keeps = (keeps.0, in_range start past all keeps.1)
 
-kept_so : (start : Start) (past : List Happening) → AreKept start.limit start.records → Legal start past → KeepsRecords past → AreKept start.limit (records_of start past)
+kept_so : (start : Start) (past : List Happening) → AreKept start.limit start.records → Legal start past
+    → KeepsRecords past → AreKept start.limit (records_of start past)
 kept_so start past kept legal keeps =
-    let sentence = legal_sentence start past legal in record { in_range = in_range start past kept.in_range keeps; sentence = sentence.0; within = sentence.1 }
+    record { in_range = in_range start past kept.in_range keeps; whole = legal_sentence start past legal }
 
 -- a file of just these records, or of them and a cut one behind them
 whole_file : (start : Start) (past : List Happening) → AreKept start.limit (records_of start past)
-    → IsFileOf (journal_spelling (records_of start past)) (after start past) (length (journal_spelling (records_of start past)))
+    → IsFileOf (journal_spelling (records_of start past)) (after start past)
+    (length (journal_spelling (records_of start past)))
 whole_file start past kept =
-    record { kept = kept; torn = record { rest = []; spelled = sym (append-nil (journal_spelling (records_of start past))); cut = cut_of_none; counts = refl } }
+    record {
+      kept = kept;
+      torn = record {
+        rest = [];
+        spelled = sym (append-nil (journal_spelling (records_of start past)));
+        cut = cut_of_none;
+        counts = refl;
+      };
+    }
 
-cut_file : (start : Start) (past : List Happening) (entry : Record) (count : ℕ) → AreKept start.limit (records_of start past) → IsRecord entry → count < length (spelling entry)
-    → IsFileOf (journal_spelling (records_of start past) ++ take count (spelling entry)) (after start past) (length (journal_spelling (records_of start past)))
+cut_file : (start : Start) (past : List Happening) (entry : Record) (count : ℕ)
+    → AreKept start.limit (records_of start past) → IsRecord entry → count < length (spelling entry)
+    → IsFileOf (journal_spelling (records_of start past) ++ take count (spelling entry)) (after start past)
+    (length (journal_spelling (records_of start past)))
 cut_file start past entry count kept range less =
-    record { kept = kept; torn = record { rest = take count (spelling entry); spelled = refl; cut = cut_of_some entry (spelling entry) count refl range less; counts = refl } }
+    record {
+      kept = kept;
+      torn = record {
+        rest = take count (spelling entry);
+        spelled = refl;
+        cut = cut_of_some entry (spelling entry) count refl range less;
+        counts = refl;
+      };
+    }
 
 -- What the journal's stream holds
 
-shows_more : (old new : Option (List ℕ)) (was more : List ℕ) → old ≡ Some was → Appends old new more → new ≡ Some (was ++ more)
+shows_more : (old new : Option (List ℕ)) (was more : List ℕ) → old ≡ Some was → Appends old new more
+    → new ≡ Some (was ++ more)
 shows_more None new was more is added = cc
 shows_more (Some bytes) None was more is added = absurd added
-shows_more (Some bytes) (Some longer) was more is added = let same : bytes ≡ was = cc in ap Some (added ∙ ap (λ (b : List ℕ). b ++ more) same)
+shows_more (Some bytes) (Some longer) was more is added =
+    let same : bytes ≡ was = cc in ap Some (added ∙ ap (λ (b : List ℕ). b ++ more) same)
 
 shows_still : (old new : Option (List ℕ)) (was : List ℕ) → old ≡ Some was → Keeps old new → new ≡ Some was
 shows_still None new was is same = cc
@@ -85,13 +113,17 @@ shows_still (Some bytes) None was is same = absurd same
 shows_still (Some bytes) (Some still) was is same = cc
 
 drive_holds : (start : Start) (past : List Happening) (first last : Streams) → IsDriven start past first last
-    → first.journal ≡ Some (journal_spelling start.records) → last.journal ≡ Some (journal_spelling (records_of start past))
+    → first.journal ≡ Some (journal_spelling start.records)
+    → last.journal ≡ Some (journal_spelling (records_of start past))
 drive_holds start past first last d is =
-    shows_more first.journal last.journal (journal_spelling start.records) (recorded past) is d.text.journal ∙ ap Some (sym (journal_recorded start past))
+    shows_more first.journal last.journal (journal_spelling start.records) (recorded past) is d.text.journal
+    ∙ ap Some (sym (journal_recorded start past))
 
 -- nothing more stands in the journal, and this happened
-left_still : (start : Start) (trace past : List Happening) (old new : Streams) → AreKept start.limit (records_of start past) → MayHaveHappened start trace past → IsFinished past
-    → old.journal ≡ Some (journal_spelling (records_of start past)) → Keeps old.journal new.journal → LeavesFile start trace new
+left_still : (start : Start) (trace past : List Happening) (old new : Streams)
+    → AreKept start.limit (records_of start past) → MayHaveHappened start trace past → IsFinished past
+    → old.journal ≡ Some (journal_spelling (records_of start past)) → Keeps old.journal new.journal
+    → LeavesFile start trace new
 left_still start trace past old new kept may finished is same = record {
   past = past;
   happened = may;
@@ -103,38 +135,46 @@ left_still start trace past old new kept may finished is same = record {
 }
 
 -- a part of a record stands there, or all of it
-left_record : (start : Start) (trace : List Happening) (old new : Streams) (entry : Record) → AreKept start.limit start.records → Legal start trace → KeepsRecords trace
-    → IsFinished trace → old.journal ≡ Some (journal_spelling (records_of start trace)) → IsNext start trace (Kept entry) → IsRecord entry
+left_record : (start : Start) (trace : List Happening) (old new : Streams) (entry : Record)
+    → AreKept start.limit start.records → Legal start trace → KeepsRecords trace
+    → IsFinished trace → old.journal ≡ Some (journal_spelling (records_of start trace))
+    → IsNext start trace (Kept entry) → IsRecord entry
     → AppendsPart old.journal new.journal (spelling entry) → LeavesFile start trace new
-left_record start trace old new entry kept legal keeps finished is next range part = by (eq-or-lt_of_le part.within) where
-  was : List ℕ
-  was = journal_spelling (records_of start trace)
+left_record start trace old new entry kept legal keeps finished is next range part =
+    by (eq-or-lt_of_le part.within) where
+      was : List ℕ
+      was = journal_spelling (records_of start trace)
 
-  now : new.journal ≡ Some (was ++ take part.count (spelling entry))
-  now = shows_more old.journal new.journal was (take part.count (spelling entry)) is part.part
+      now : new.journal ≡ Some (was ++ take part.count (spelling entry))
+      now = shows_more old.journal new.journal was (take part.count (spelling entry)) is part.part
 
-  by : (part.count ≡ length (spelling entry)) ⊎ (part.count < length (spelling entry)) → LeavesFile start trace new
-  by (inr less) = record {
-    past = trace;
-    happened = inl refl;
-    finished = finished;
-    left = was ++ take part.count (spelling entry);
-    held = now;
-    count = length was;
-    file = cut_file start trace entry part.count (kept_so start trace kept legal keeps) range less;
-  }
-  by (inl all) = record {
-    past = Kept entry ∷ trace;
-    happened = inr (Kept entry, next, refl);
-    finished = tt;
-    left = was ++ spelling entry;
-    held = now ∙ ap (λ (b : List ℕ). Some (was ++ b)) (ap (λ (k : ℕ). take k (spelling entry)) all ∙ take-length (spelling entry));
-    count = length (was ++ spelling entry);
-    file = whole_file start (Kept entry ∷ trace) (kept_so start (Kept entry ∷ trace) kept (legal, next.may) (range, keeps));
-  }
+      by : (part.count ≡ length (spelling entry)) ⊎ (part.count < length (spelling entry)) → LeavesFile start trace new
+      by (inr less) = record {
+        past = trace;
+        happened = inl refl;
+        finished = finished;
+        left = was ++ take part.count (spelling entry);
+        held = now;
+        count = length was;
+        file = cut_file start trace entry part.count (kept_so start trace kept legal keeps) range less;
+      }
+      by (inl all) = record {
+        past = Kept entry ∷ trace;
+        happened = inr (Kept entry, next, refl);
+        finished = tt;
+        left = was ++ spelling entry;
+        held =
+            now
+            ∙ ap (λ (b : List ℕ). Some (was ++ b))
+            (ap (λ (k : ℕ). take k (spelling entry)) all ∙ take-length (spelling entry));
+        count = length (was ++ spelling entry);
+        file = whole_file start (Kept entry ∷ trace)
+            (kept_so start (Kept entry ∷ trace) kept (legal, next.may) (range, keeps));
+      }
 
 -- where a frame or a record is next, no reply is due
-frame_finished : (start : Start) (past : List Happening) (frame : Frame) (answer : Option ℕ) → IsNext start past (Sent frame answer) → IsFinished past
+frame_finished : (start : Start) (past : List Happening) (frame : Frame) (answer : Option ℕ)
+    → IsNext start past (Sent frame answer) → IsFinished past
 frame_finished start [] frame answer next = tt
 frame_finished start (Asked order ∷ past) frame answer next = absurd next.may
 frame_finished start (Answered id reply ∷ past) frame answer next = tt
@@ -142,7 +182,8 @@ frame_finished start (Sent last heard ∷ past) frame answer next = tt
 frame_finished start (Kept entry ∷ past) frame answer next = tt
 frame_finished start (Stopped ∷ past) frame answer next = tt
 
-record_finished : (start : Start) (past : List Happening) (entry : Record) → IsNext start past (Kept entry) → IsFinished past
+record_finished : (start : Start) (past : List Happening) (entry : Record) → IsNext start past (Kept entry)
+    → IsFinished past
 record_finished start [] entry next = tt
 record_finished start (Asked order ∷ past) entry next = absurd next.may
 record_finished start (Answered id reply ∷ past) entry next = tt
@@ -152,7 +193,9 @@ record_finished start (Stopped ∷ past) entry next = tt
 
 -- the file that a drive leaves
 
-pub drive_leaves : (start : Start) (orders : List Contents) (writer : Held) (first last : Streams) (d : IsDrive start orders first writer last) → AreKept start.limit start.records
+pub drive_leaves : (start : Start) (orders : List Contents) (writer : Held) (first last : Streams)
+    (d : IsDrive start orders first writer last)
+    → AreKept start.limit start.records
     → first.journal ≡ Some (journal_spelling start.records) → LeavesFile start d.past last
 drive_leaves start orders writer first last d kept is = record {
   past = d.past;
@@ -164,7 +207,9 @@ drive_leaves start orders writer first last d kept is = record {
   file = whole_file start d.past (kept_so start d.past kept d.driven.legal d.driven.in_range);
 }
 
-pub broken_leaves : (start : Start) (orders : List Contents) (fault : DriveFault) (first last : Streams) (b : IsBrokenDrive start orders fault first last) → AreKept start.limit start.records
+pub broken_leaves : (start : Start) (orders : List Contents) (fault : DriveFault) (first last : Streams)
+    (b : IsBrokenDrive start orders fault first last)
+    → AreKept start.limit start.records
     → first.journal ≡ Some (journal_spelling start.records) → LeavesFile start b.past last
 broken_leaves start orders fault first last b kept is = by fault b.rest b.broken where
   trace : List Happening
@@ -179,35 +224,46 @@ broken_leaves start orders fault first last b kept is = by fault b.rest b.broken
   still : IsFinished trace → Keeps b.middle.journal last.journal → LeavesFile start trace last
   still finished same = left_still start trace trace b.middle last so (inl refl) finished held same
 
-  link : (frame : Frame) → CutFrame frame b.middle last ⊎ Unanswered frame Link b.middle last → Keeps b.middle.journal last.journal
+  link : (frame : Frame) → CutFrame frame b.middle last ⊎ Unanswered frame Link b.middle last
+      → Keeps b.middle.journal last.journal
   link frame (inl cut) = cut.journal
   link frame (inr unanswered) = unanswered.journal
 
-  by : (fault : DriveFault) (rest : List Contents) → BrokenOff start trace rest fault b.middle last → LeavesFile start trace last
+  by : (fault : DriveFault) (rest : List Contents) → BrokenOff start trace rest fault b.middle last
+      → LeavesFile start trace last
   by Journal rest (entry, next, cut) =
-      left_record start trace b.middle last entry kept b.driven.legal b.driven.in_range (record_finished start trace entry next) held next cut.in_range cut.journal
+      left_record start trace b.middle last entry kept b.driven.legal b.driven.in_range
+      (record_finished start trace entry next) held next cut.in_range cut.journal
   by Link rest (frame, next, cut) = still (frame_finished start trace frame None (next None)) (link frame cut)
-  by (Line fault) rest (frame, next, unanswered) = still (frame_finished start trace frame None (next None)) unanswered.journal
+  by (Line fault) rest (frame, next, unanswered) =
+      still (frame_finished start trace frame None (next None)) unanswered.journal
   by End rest (frame, next, unanswered) = still (frame_finished start trace frame None (next None)) unanswered.journal
-  by TooLong rest (frame, next, unanswered) = still (frame_finished start trace frame None (next None)) unanswered.journal
+  by TooLong rest (frame, next, unanswered) =
+      still (frame_finished start trace frame None (next None)) unanswered.journal
   by NoMemory (order ∷ rest) (finished, quiet, due, none) = still finished none.journal
   by NoMemory [] never = absurd never
   by Out rest (id, reply, next, cut) =
-      left_still start trace (Answered id reply ∷ trace) b.middle last so (inr (Answered id reply, next, refl)) tt held cut.journal
+      left_still start trace (Answered id reply ∷ trace) b.middle last so (inr (Answered id reply, next, refl)) tt
+      held cut.journal
 
 -- Sittings
 
-driven_so : (start : Start) (past : List Happening) (first last : Streams) → WasDriven start past first last → Legal start past × ByPlan start past
+driven_so : (start : Start) (past : List Happening) (first last : Streams) → WasDriven start past first last
+    → Legal start past × ByPlan start past
 driven_so start past first last (inl driven) = (driven.legal, driven.planned)
-driven_so start past first last (inr (orders, fault, broken, may)) = happened start broken.past past broken.driven.legal broken.driven.planned may
+driven_so start past first last (inr (orders, fault, broken, may)) =
+    happened start broken.past past broken.driven.legal broken.driven.planned may
 
 -- a file is that of no other records
-pub one_file : (bytes : List ℕ) (one other : Start) (len count : ℕ) → one.limit ≡ other.limit → IsFileOf bytes one len → IsFileOf bytes other count → other.records ≡ one.records
+pub one_file : (bytes : List ℕ) (one other : Start) (len count : ℕ) → one.limit ≡ other.limit → IsFileOf bytes one len
+    → IsFileOf bytes other count → other.records ≡ one.records
 one_file bytes one other len count limit is also =
-    ((torn_no_fault one.limit bytes one.records len is.kept is.torn).1 other.records count (rw limit also.kept) also.torn).0
+    ((torn_no_fault one.limit bytes one.records len is.kept is.torn).1 other.records count
+    (rw limit also.kept) also.torn).0
 
 -- what sittings come to
-joined_after : (start : Start) (newest : Sitting) (older : List Sitting) → newest.start.records ≡ records_of start (joined older)
+joined_after : (start : Start) (newest : Sitting) (older : List Sitting)
+    → newest.start.records ≡ records_of start (joined older)
     → records_of start (joined (newest ∷ older)) ≡ records_of newest.start newest.past
 joined_after start newest [] same = by newest.past where
   by : (past : List Happening) → records_of start past ≡ records_of newest.start past
@@ -217,23 +273,31 @@ joined_after start newest [] same = by newest.past where
   by (Sent frame answer ∷ past) = by past
   by (Kept entry ∷ past) = ap (λ (records : List Record). entry ∷ records) (by past)
   by (Stopped ∷ past) = by past
-joined_after start newest (last ∷ older) same = joined_records start newest.start (joined (last ∷ older)) newest.past same
+joined_after start newest (last ∷ older) same =
+    joined_records start newest.start (joined (last ∷ older)) newest.past same
 
-pub sittings_follow : (start : Start) (first last : List ℕ) (len : ℕ) (sittings : List Sitting) → IsFileOf first start len → AreSittings start.limit first sittings last
+pub sittings_follow : (start : Start) (first last : List ℕ) (len : ℕ) (sittings : List Sitting)
+    → IsFileOf first start len → AreSittings start.limit first sittings last
     → FollowOn start sittings × (count : ℕ) × IsFileOf last (after start (joined sittings)) count
-sittings_follow start first last len [] is sat = ((is.kept.sentence, is.kept.within), len, subst (λ (b : List ℕ). IsFileOf b start len) (sym sat) is)
+sittings_follow start first last len [] is sat =
+    (is.kept.whole, len, subst (λ (b : List ℕ). IsFileOf b start len) (sym sat) is)
 sittings_follow start first last len (newest ∷ older) is (before, sat, limit, one) =
     let old = sittings_follow start first before len older is sat in
-    let same : newest.start.records ≡ records_of start (joined older) = one_file before (after start (joined older)) newest.start old.1 one.len (sym limit) old.2 one.loaded in
+    let same : newest.start.records ≡ records_of start (joined older) =
+    one_file before (after start (joined older)) newest.start old.1 one.len (sym limit) old.2 one.loaded in
     let so = driven_so newest.start newest.past one.first one.last one.drove in
-    let now : after newest.start newest.past ≡ after start (joined (newest ∷ older)) = rw (limit, joined_after start newest older same) refl in (
+    let now : after newest.start newest.past ≡ after start (joined (newest ∷ older)) =
+    rw (limit, joined_after start newest older same) refl in (
       (so.0, so.1, one.finished, same, limit, old.0),
       one.count,
       subst (λ (s : Start). IsFileOf last s one.count) now one.file,
     )
 
-pub act_once : (zero : World) (start : Start) (first left : List ℕ) (len : ℕ) (sittings : List Sitting) (now last : World) (states : List World) → IsFileOf first start len
-    → AreSittings start.limit first sittings left → Fits zero start.records now → OnlyNamed start.records now → IsChain Moves now (joined sittings) last states
+pub act_once : (zero : World) (start : Start) (first left : List ℕ) (len : ℕ) (sittings : List Sitting)
+    (now last : World) (states : List World)
+    → IsFileOf first start len
+    → AreSittings start.limit first sittings left → Fits zero start.records now → OnlyNamed start.records now
+    → IsChain Moves now (joined sittings) last states
     → ActOnce zero start sittings left last states
 act_once zero start first left len sittings now last states is sat fits only chain =
     let all = sittings_follow start first left len sittings is sat in

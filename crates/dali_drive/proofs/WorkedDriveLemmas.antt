@@ -32,18 +32,38 @@ first_is_record = (
     some = omega arith;
     few = omega arith;
     rising = (omega arith, (omega arith, (omega arith, (omega arith, (omega arith, (omega arith, tt))))));
-    writable = (inl (omega arith, omega arith), (inl (omega arith, omega arith), (inl (omega arith, omega arith), (inl (omega arith, omega arith), (inl (omega arith, omega arith), (inl (omega arith, omega arith), tt))))));
+    writable = (
+      inl (omega arith, omega arith),
+      (
+        inl (omega arith, omega arith),
+        (
+          inl (omega arith, omega arith),
+          (inl (omega arith, omega arith), (inl (omega arith, omega arith), (inl (omega arith, omega arith), tt))),
+        ),
+      ),
+    );
   },
   (omega arith, (omega arith, (omega arith, (omega arith, (omega arith, (omega arith, tt)))))),
 )
 
 none_line : IsAnswerLine None (codes "--\n")
-none_line = record { line = codes "--"; is_short = record { short = omega arith; inside = All-from_recursion (λ byte. byte ≢ 10) (codes "--") ((λ e. cc), ((λ e. cc), tt)) }; spells = refl; ended = refl }
+none_line = record {
+  line = codes "--";
+  is_short = record {
+    short = omega arith;
+    inside = All-from_recursion (λ byte. byte ≢ 10) (codes "--") ((λ e. cc), ((λ e. cc), tt));
+  };
+  spells = refl;
+  ended = refl;
+}
 
 one_line : IsAnswerLine (Some 1) (codes "01\r\n")
 one_line = record {
   line = codes "01\r";
-  is_short = record { short = omega arith; inside = All-from_recursion (λ byte. byte ≢ 10) (codes "01\r") ((λ e. cc), ((λ e. cc), ((λ e. cc), tt))) };
+  is_short = record {
+    short = omega arith;
+    inside = All-from_recursion (λ byte. byte ≢ 10) (codes "01\r") ((λ e. cc), ((λ e. cc), ((λ e. cc), tt)));
+  };
   spells = (refl, ((omega arith, (omega arith, tt)), refl));
   ended = refl;
 }
@@ -75,8 +95,13 @@ two_driven = record {
 
 pub torn_is : IsFileOf torn_file (after empty begun) 23
 torn_is = record {
-  kept = record { in_range = (first_is_record, tt); sentence = (tt, tt, refl); within = omega arith };
-  torn = record { rest = 79 ∷ []; spelled = refl; cut = (Opened 5, (omega arith, 5 ∷ [], (λ none. cc), refl)); counts = refl };
+  kept = record { in_range = (first_is_record, tt); whole = ((tt, tt, refl), omega arith) };
+  torn = record {
+    rest = 79 ∷ [];
+    spelled = refl;
+    cut = (Opened 5, (omega arith, 5 ∷ [], (λ none. cc), refl));
+    counts = refl;
+  };
 }
 
 pub not_empty : (count : ℕ) → IsFileOf torn_file empty count → ⊥
@@ -86,10 +111,11 @@ pub not_another_frame : IsNext empty begun (Sent (Dtr0 0) None) → ⊥
 not_another_frame next = not_another_first (first_planned.0, next.planned)
 
 no_record : (entry : Record) → IsNext empty begun (Kept entry) → ⊥
-no_record (Began order) next = absurd next.may.sentence.1
+no_record (Began order) next = absurd next.may.whole.0.1
 no_record (Opened unit) next = let planned = next.planned in none_ended 5 _ _ planned.0 planned.1
 no_record (Ended code) next = let planned = next.planned in none_ended 5 _ _ planned.0 planned.1
 no_record (Closed unit) next = let planned = next.planned in none_ended 5 _ _ planned.0 planned.1
 
-pub no_record_broken : (rest : List Contents) (old new : Streams) → BrokenOff empty begun rest faults.Journal old new → ⊥
+pub no_record_broken : (rest : List Contents) (old new : Streams) → BrokenOff empty begun rest faults.Journal old new
+    → ⊥
 no_record_broken rest old new (entry, next, cut) = no_record entry next

@@ -1,5 +1,6 @@
 -- Which traces a drive makes, and where a fault leaves one.
-use Rattle.std.specs.Prelude.{◌≡◌, ◌≤◌, ◌⊎◌, ◌++◌, ℕ, Bool, true, false, List, [], ◌∷◌, Option, Result, Err, length, take, reverse}
+use Rattle.std.specs.Prelude.{◌≡◌, ◌≤◌, ◌⊎◌, ◌++◌, ℕ, Bool, true, false, List, [], ◌∷◌, Option, Result, Err, length}
+use Rattle.std.specs.Prelude.{take, reverse}
 use Rattle.std.specs.Io.KnownBytes.{Appends, Keeps}
 use Rattle.dali_frame.specs.declared.forward.Frame.{Frame}
 use Rattle.dali_bank.specs.Order.{Contents}
@@ -19,7 +20,7 @@ use Rattle.dali_trace.specs.Next.{IsNext}
 use Rattle.dali_writer.specs.Held.{Held}
 use Rattle.dali_writer.specs.Describes.{Describes}
 use Rattle.dali_writer.specs.Follows.{Follows}
-use Rattle.dali_drive.specs.Lines.{frame_line, reply_line, TakesLine}
+use Rattle.dali_drive.specs.Lines.{link_line, reply_line, TakesLine}
 use Rattle.dali_drive.specs.Transcript.{Streams, Transcript}
 
 -- the orders that were asked, the newest first
@@ -41,7 +42,8 @@ KeepsRecords [] = Unit {0}
 KeepsRecords (Kept entry ∷ past) = IsRecord entry × KeepsRecords past
 KeepsRecords (other ∷ past) = KeepsRecords past
 
--- this trace was driven: each happening was one that might follow those before it and that the plan asked for, and the trace's text was written and read
+-- this trace was driven: each happening was one that might follow those before it and that the plan asked for, and
+-- the trace's text was written and read
 pub record IsDriven (start : Start) (past : List Happening) (first last : Streams) : Type 0 where
   pub legal : Legal start past
   pub planned : ByPlan start past
@@ -82,14 +84,14 @@ pub record CutReply (id : ℕ) (reply : Reply) (old new : Streams) : Type 0 wher
 -- a part of a frame's line was written, and nothing read
 pub record CutFrame (frame : Frame) (old new : Streams) : Type 0 where
   pub journal : Keeps old.journal new.journal
-  pub link : AppendsPart old.link new.link (frame_line frame)
+  pub link : AppendsPart old.link new.link (link_line frame)
   pub answers : Keeps old.answers new.answers
   pub out : Keeps old.out new.out
 
 -- a frame's line was written, and what was read of its answer's shows the fault
 pub record Unanswered (frame : Frame) (fault : DriveFault) (old new : Streams) : Type 0 where
   pub journal : Keeps old.journal new.journal
-  pub link : Appends old.link new.link (frame_line frame)
+  pub link : Appends old.link new.link (link_line frame)
   pub answers : TakesLine old.answers new.answers (Err fault)
   pub out : Keeps old.out new.out
 
@@ -100,16 +102,22 @@ IsNextFrame start past frame = (answer : Option ℕ) → IsNext start past (Sent
 -- the step after this trace that the fault broke off, where these orders were still to be asked
 abbrev pub BrokenOff : Start → List Happening → List Contents → DriveFault → Streams → Streams → Type 0
 BrokenOff start past rest Journal old new = (entry : Record) × IsNext start past (Kept entry) × CutRecord entry old new
-BrokenOff start past rest Link old new = (frame : Frame) × IsNextFrame start past frame × (CutFrame frame old new ⊎ Unanswered frame Link old new)
-BrokenOff start past (order ∷ rest) NoMemory old new = IsFinished past × (is_busy start past ≡ false) × IsReply start past order replies.Taken × NoMore old new
+BrokenOff start past rest Link old new =
+    (frame : Frame) × IsNextFrame start past frame × (CutFrame frame old new ⊎ Unanswered frame Link old new)
+BrokenOff start past (order ∷ rest) NoMemory old new =
+    IsFinished past × (is_busy start past ≡ false) × IsReply start past order replies.Taken × NoMore old new
 BrokenOff start past [] NoMemory old new = ⊥
-BrokenOff start past rest Out old new = (id : ℕ) × (reply : Reply) × IsNext start past (Answered id reply) × CutReply id reply old new
-BrokenOff start past rest fault old new = (frame : Frame) × IsNextFrame start past frame × Unanswered frame fault old new
+BrokenOff start past rest Out old new =
+    (id : ℕ) × (reply : Reply) × IsNext start past (Answered id reply) × CutReply id reply old new
+BrokenOff start past rest fault old new =
+    (frame : Frame) × IsNextFrame start past frame × Unanswered frame fault old new
 
 -- What a drive comes to
 
--- from this start all these orders were asked in their order and nothing more is to be done, and the trace describes the writer
-pub record IsDrive (start : Start) (orders : List Contents) (first : Streams) (writer : Held) (last : Streams) : Type 0 where
+-- from this start all these orders were asked in their order and nothing more is to be done, and the trace describes
+-- the writer
+pub record IsDrive (start : Start) (orders : List Contents) (first : Streams) (writer : Held) (last : Streams)
+    : Type 0 where
   pub past : List Happening
   pub driven : IsDriven start past first last
   pub asked : reverse (orders_asked past) ≡ orders
@@ -117,8 +125,10 @@ pub record IsDrive (start : Start) (orders : List Contents) (first : Streams) (w
   pub described : Describes start past writer
   pub follows : Follows start past writer
 
--- from this start the first of these orders were asked in their order, and after the trace at most one step was broken off
-pub record IsBrokenDrive (start : Start) (orders : List Contents) (fault : DriveFault) (first last : Streams) : Type 0 where
+-- from this start the first of these orders were asked in their order, and after the trace at most one step was
+-- broken off
+pub record IsBrokenDrive (start : Start) (orders : List Contents) (fault : DriveFault) (first last : Streams)
+    : Type 0 where
   pub past : List Happening
   pub rest : List Contents
   pub middle : Streams
@@ -134,9 +144,11 @@ NoneFailed journal link_out link_in out = (journal ≡ false) × (link_out ≡ f
 
 -- which of them have failed where this fault comes
 abbrev pub FailedAs : DriveFault → Bool → Bool → Bool → Bool → Type 0
-FailedAs Journal journal link_out link_in out = (journal ≡ true) × (link_out ≡ false) × (link_in ≡ false) × (out ≡ false)
+FailedAs Journal journal link_out link_in out =
+    (journal ≡ true) × (link_out ≡ false) × (link_in ≡ false) × (out ≡ false)
 FailedAs Link journal link_out link_in out =
-    (journal ≡ false) × (((link_out ≡ true) × (link_in ≡ false)) ⊎ ((link_out ≡ false) × (link_in ≡ true))) × (out ≡ false)
+    (journal ≡ false) × (((link_out ≡ true) × (link_in ≡ false)) ⊎ ((link_out ≡ false) × (link_in ≡ true)))
+    × (out ≡ false)
 FailedAs Out journal link_out link_in out = (journal ≡ false) × (link_out ≡ false) × (link_in ≡ false) × (out ≡ true)
 FailedAs other journal link_out link_in out = NoneFailed journal link_out link_in out
 

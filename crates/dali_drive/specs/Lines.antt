@@ -1,9 +1,10 @@
 -- The lines that are written and read while a writer is driven: of frames, of replies, and of answers.
-use Rattle.std.specs.Prelude.{◌≡◌, ◌≢◌, ◌≤◌, ◌++◌, ℕ, List, [], ◌∷◌, Option, Result, Ok, Err, length, All, codes, decimal}
+use Rattle.std.specs.Prelude.{◌≡◌, ◌≢◌, ◌≤◌, ◌++◌, ℕ, List, [], ◌∷◌, Option, Result, Ok, Err, length, All, codes}
+use Rattle.std.specs.Prelude.{decimal}
 use Rattle.std.specs.Io.BufRead.{strip_last}
 use Rattle.std.specs.Io.KnownBytes.{Consumes, IsAtEnd}
 use Rattle.dali_frame.specs.declared.forward.Frame.{Frame}
-use Rattle.dali_frame.specs.Frame.{spelling}
+use Rattle.dali_frame.specs.Frame.{frame_word}
 use Rattle.dali_frame.specs.Line.{word_line, SpellsAnswer, IsLineFault}
 use Rattle.dali_drive.specs.declared.fault.DriveFault.{DriveFault}
 use Rattle.dali_drive.specs.declared.fault.DriveFault.TheVariants.{Link, Line, End, TooLong}
@@ -11,8 +12,8 @@ use Rattle.dali_trace.specs.declared.happening.Reply.{Reply}
 use Rattle.dali_trace.specs.Replies.{reply_text}
 
 -- the line of a frame: the four upper-case hexadecimal digits of its word
-abbrev pub frame_line : Frame → List ℕ
-frame_line frame = word_line (spelling frame)
+abbrev pub link_line : Frame → List ℕ
+link_line frame = word_line (frame_word frame)
 
 -- the line of a reply to the order of this number, or of a saying
 abbrev pub reply_line : ℕ → Reply → List ℕ
@@ -34,11 +35,13 @@ pub record IsAnswerLine (answer : Option ℕ) (bytes : List ℕ) : Type 0 where
   pub spells : SpellsAnswer (strip_last 13 line) answer
   pub ended : bytes ≡ line ++ 10 ∷ []
 
--- what reading an answer's line takes from a link, and why it gives no answer: the link failed or ended inside the line or before it, the line is no answer, or eight bytes before its line feed are exceeded by one
+-- what reading an answer's line takes from a link, and why it gives no answer: the link failed or ended inside the
+-- line or before it, the line is no answer, or eight bytes before its line feed are exceeded by one
 abbrev pub TakesLine : Option (List ℕ) → Option (List ℕ) → Result (Option ℕ) DriveFault → Type 0
 TakesLine old new (Ok answer) = (bytes : List ℕ) × IsAnswerLine answer bytes × Consumes old new bytes
 TakesLine old new (Err Link) = (bytes : List ℕ) × IsShort bytes × Consumes old new bytes
-TakesLine old new (Err (Line fault)) = (line : List ℕ) × IsShort line × IsLineFault fault (strip_last 13 line) × Consumes old new (line ++ 10 ∷ [])
+TakesLine old new (Err (Line fault)) =
+    (line : List ℕ) × IsShort line × IsLineFault fault (strip_last 13 line) × Consumes old new (line ++ 10 ∷ [])
 TakesLine old new (Err End) = (bytes : List ℕ) × IsShort bytes × Consumes old new bytes × IsAtEnd new
 TakesLine old new (Err TooLong) = (bytes : List ℕ) × (length bytes ≡ 9) × IsInLine bytes × Consumes old new bytes
 TakesLine old new (Err other) = ⊥

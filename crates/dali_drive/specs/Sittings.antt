@@ -3,7 +3,8 @@ use Rattle.std.specs.Prelude.{◌≡◌, ◌⊎◌, ◌++◌, ℕ, List, [], ◌
 use Rattle.dali_bank.specs.Order.{Contents}
 use Rattle.dali_gear.specs.World.{World}
 use Rattle.dali_gear.specs.Chain.{AtEachMoment}
-use Rattle.dali_journal.specs.Loading.{AreKept, IsTorn}
+use Rattle.dali_journal.specs.JournalState.{AreKept}
+use Rattle.dali_journal.specs.Loading.{IsTorn}
 use Rattle.dali_drive.specs.declared.fault.DriveFault.{DriveFault}
 use Rattle.dali_trace.specs.declared.happening.Happening.{Happening}
 use Rattle.dali_trace.specs.Trace.{Start, records_of}
@@ -15,7 +16,8 @@ use Rattle.dali_trace.specs.Taken.{taken_orders, begun_orders}
 use Rattle.dali_trace.specs.Moments.{IsRight}
 use Rattle.dali_laws.specs.Joined.{Sitting, joined, IsOneTrace}
 
--- a journal's file: the bytes of these records, so many, and behind them at most a cut one. That is what `Journal::load` finds in them
+-- a journal's file: the bytes of these records, so many, and behind them at most a cut one. That is what
+-- `Journal::load` finds in them
 pub record IsFileOf (bytes : List ℕ) (start : Start) (len : ℕ) : Type 0 where
   pub kept : AreKept start.limit start.records
   pub torn : IsTorn bytes start.records len
@@ -24,17 +26,21 @@ pub record IsFileOf (bytes : List ℕ) (start : Start) (len : ℕ) : Type 0 wher
 abbrev pub after : Start → List Happening → Start
 after start past = record { records = records_of start past; limit = start.limit }
 
--- What may have happened where a drive broke off: what its trace tells, or that and the step that was broken off. A record may be whole in the file, and a frame may have been carried, with whatever answer.
+-- What may have happened where a drive broke off: what its trace tells, or that and the step that was broken off. A
+-- record may be whole in the file, and a frame may have been carried, with whatever answer.
 abbrev pub MayHaveHappened : Start → List Happening → List Happening → Type 0
-MayHaveHappened start trace past = (past ≡ trace) ⊎ ((next : Happening) × IsNext start trace next × (past ≡ next ∷ trace))
+MayHaveHappened start trace past =
+    (past ≡ trace) ⊎ ((next : Happening) × IsNext start trace next × (past ≡ next ∷ trace))
 
 -- a drive came to its end, or it was broken off, and then this happened
 abbrev pub WasDriven : Start → List Happening → Streams → Streams → Type 0
 WasDriven start past first last =
     IsDriven start past first last
-    ⊎ ((orders : List Contents) × (fault : DriveFault) × (broken : IsBrokenDrive start orders fault first last) × MayHaveHappened start broken.past past)
+    ⊎ ((orders : List Contents) × (fault : DriveFault) × (broken : IsBrokenDrive start orders fault first last)
+    × MayHaveHappened start broken.past past)
 
--- From the bytes that the journal's file had before a sitting to those after it: the journal was loaded from them, the file cut to the bytes that count, and a drive appended to it. What happened is borne out by the file.
+-- From the bytes that the journal's file had before a sitting to those after it: the journal was loaded from them,
+-- the file cut to the bytes that count, and a drive appended to it. What happened is borne out by the file.
 pub record IsSitting (before : List ℕ) (sitting : Sitting) (left : List ℕ) : Type 0 where
   pub len : ℕ
   pub loaded : IsFileOf before sitting.start len
@@ -51,9 +57,11 @@ pub record IsSitting (before : List ℕ) (sitting : Sitting) (left : List ℕ) :
 abbrev pub AreSittings : ℕ → List ℕ → List Sitting → List ℕ → Type 0
 AreSittings limit first [] last = last ≡ first
 AreSittings limit first (newest ∷ older) last =
-    (before : List ℕ) × AreSittings limit first older before × (newest.start.limit ≡ limit) × IsSitting before newest last
+    (before : List ℕ) × AreSittings limit first older before × (newest.start.limit ≡ limit)
+    × IsSitting before newest last
 
--- A drive from the bytes of its start's records leaves a file that bears out something that may have happened: all of it where it came to its end.
+-- A drive from the bytes of its start's records leaves a file that bears out something that may have happened: all of
+-- it where it came to its end.
 pub record LeavesFile (start : Start) (trace : List Happening) (last : Streams) : Type 0 where
   pub past : List Happening
   pub happened : MayHaveHappened start trace past
@@ -63,10 +71,14 @@ pub record LeavesFile (start : Start) (trace : List Happening) (last : Streams) 
   pub count : ℕ
   pub file : IsFileOf left (after start past) count
 
--- What a bench may rely on that is switched off and on again any number of times: all that happened is one legal trace that keeps to the plans, the file is again that of its records, the orders that were begun are the taken ones, each once, and every moment is right.
-pub record ActOnce (zero : World) (start : Start) (sittings : List Sitting) (left : List ℕ) (last : World) (states : List World) : Type 0 where
+-- What a bench may rely on that is switched off and on again any number of times: all that happened is one legal
+-- trace that keeps to the plans, the file is again that of its records, the orders that were begun are the taken
+-- ones, each once, and every moment is right.
+pub record ActOnce (zero : World) (start : Start) (sittings : List Sitting) (left : List ℕ) (last : World)
+    (states : List World) : Type 0 where
   pub trace : IsOneTrace start sittings
   pub count : ℕ
   pub file : IsFileOf left (after start (joined sittings)) count
-  pub once : begun_orders (records_of start (joined sittings)) ≡ taken_orders (joined sittings) ++ begun_orders start.records
+  pub once : begun_orders (records_of start (joined sittings))
+      ≡ taken_orders (joined sittings) ++ begun_orders start.records
   pub right : AtEachMoment (IsRight zero start) (joined sittings) last states

@@ -4,7 +4,7 @@ use Rattle.std.specs.Io.KnownBytes.{Appends, Consumes}
 use Rattle.dali_journal.specs.Spelling.{spelling}
 use Rattle.dali_trace.specs.declared.happening.Happening.{Happening}
 use Rattle.dali_trace.specs.declared.happening.Happening.TheVariants.{Answered, Sent, Kept}
-use Rattle.dali_drive.specs.Lines.{frame_line, reply_line, IsAnswerLine}
+use Rattle.dali_drive.specs.Lines.{link_line, reply_line, IsAnswerLine}
 
 -- the bytes of the records that were kept
 abbrev pub recorded : List Happening → List ℕ
@@ -15,7 +15,7 @@ recorded (other ∷ past) = recorded past
 -- the lines of the frames that were sent
 abbrev pub sent_lines : List Happening → List ℕ
 sent_lines [] = []
-sent_lines (Sent frame answer ∷ past) = sent_lines past ++ frame_line frame
+sent_lines (Sent frame answer ∷ past) = sent_lines past ++ link_line frame
 sent_lines (other ∷ past) = sent_lines past
 
 -- the lines of the replies and the sayings

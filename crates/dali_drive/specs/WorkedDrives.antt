@@ -6,19 +6,27 @@ use Rattle.dali_drive.specs.Transcript.{Streams, shown}
 use Rattle.dali_laws.specs.Joined.{Sitting}
 use Rattle.dali_trace.specs.Worked.{empty, first_order, begun}
 
--- an order is begun and two frames are sent and answered: the streams before and after, with one line that is still to be read
+-- an order is begun and two frames are sent and answered: the streams before and after, with one line that is still
+-- to be read
 abbrev pub before_two : Streams
 before_two = shown (Some []) (Some []) (Some (codes "--\n01\r\n--\n")) (Some [])
 
 abbrev pub after_two : Streams
-after_two = shown (Some (spelling (Began first_order))) (Some (codes "C301\n0B9C\n")) (Some (codes "--\n")) (Some (codes "reply 1 taken\n"))
+after_two =
+    shown (Some (spelling (Began first_order))) (Some (codes "C301\n0B9C\n")) (Some (codes "--\n"))
+    (Some (codes "reply 1 taken\n"))
 
--- the same with the frames' lines the other way round, with one answer's line for both, and with the record not in the journal
+-- the same with the frames' lines the other way round, with one answer's line for both, and with the record not in
+-- the journal
 abbrev pub frames_turned : Streams
-frames_turned = shown (Some (spelling (Began first_order))) (Some (codes "0B9C\nC301\n")) (Some (codes "--\n")) (Some (codes "reply 1 taken\n"))
+frames_turned =
+    shown (Some (spelling (Began first_order))) (Some (codes "0B9C\nC301\n")) (Some (codes "--\n"))
+    (Some (codes "reply 1 taken\n"))
 
 abbrev pub one_line_read : Streams
-one_line_read = shown (Some (spelling (Began first_order))) (Some (codes "C301\n0B9C\n")) (Some (codes "01\r\n--\n")) (Some (codes "reply 1 taken\n"))
+one_line_read =
+    shown (Some (spelling (Began first_order))) (Some (codes "C301\n0B9C\n")) (Some (codes "01\r\n--\n"))
+    (Some (codes "reply 1 taken\n"))
 
 abbrev pub record_left_out : Streams
 record_left_out = shown (Some []) (Some (codes "C301\n0B9C\n")) (Some (codes "--\n")) (Some (codes "reply 1 taken\n"))

@@ -16,8 +16,11 @@ pub record IsDrivenAt (start : Start) (past : List Happening) (writer : Held) (f
   pub described : Describes start past writer
   pub follows : Follows start past writer
 
--- after work in which no order was asked, so that just these were: a trace that was driven, or a step that was broken off
+-- after work in which no order was asked, so that just these were: a trace that was driven, or a step that was broken
+-- off
 abbrev pub WorkedOn : {A : Type 0} → Start → List Contents → Streams → Result A DriveFault → Held → Streams → Type 0
-WorkedOn start asked first (Ok done) writer last = (past : List Happening) × IsDrivenAt start past writer first last × (orders_asked past ≡ asked)
+WorkedOn start asked first (Ok done) writer last =
+    (past : List Happening) × IsDrivenAt start past writer first last × (orders_asked past ≡ asked)
 WorkedOn start asked first (Err fault) writer last =
-    (past : List Happening) × (middle : Streams) × IsDriven start past first middle × ((rest : List Contents) → BrokenOff start past rest fault middle last) × (orders_asked past ≡ asked)
+    (past : List Happening) × (middle : Streams) × IsDriven start past first middle
+    × ((rest : List Contents) → BrokenOff start past rest fault middle last) × (orders_asked past ≡ asked)

@@ -28,13 +28,18 @@ fn advance<I: Source, L: Sink, J: Sink, O: Sink>(
     requires link_in { I.failed link_in.old ≡ false }
     requires out { O.failed out.old ≡ false }
     ensures worked { (start : Start) (past : List Happening) (first : Streams)
-        → IsDrivenAt start past writer.old first (shown (J.held journal_out.old) (L.held link_out.old) (I.left link_in.old) (O.held out.old))
-        → WorkedOn start (orders_asked past) first result writer.new (shown (J.held journal_out.new) (L.held link_out.new) (I.left link_in.new) (O.held out.new)) }
+        → IsDrivenAt start past writer.old first
+        (shown (J.held journal_out.old) (L.held link_out.old) (I.left link_in.old) (O.held out.old))
+        → WorkedOn start (orders_asked past) first result writer.new
+        (shown (J.held journal_out.new) (L.held link_out.new) (I.left link_in.new) (O.held out.new)) }
     ensures fewer { IfOk result (λ busy. busy ≡ true → work_left writer.new.phase < work_left writer.old.phase) }
     ensures rests { IfOk result (λ busy. busy ≡ false → IsAtRest writer.new) }
-    ensures quiet { IfOk result (λ busy. busy ≡ false → (start : Start) (past : List Happening) → Describes start past writer.new → is_busy start past ≡ false) }
-    ensures ok { OnOk result (NoneFailed (J.failed journal_out.new) (L.failed link_out.new) (I.failed link_in.new) (O.failed out.new)) }
-    ensures err { IfErr result (λ fault. FailedAs fault (J.failed journal_out.new) (L.failed link_out.new) (I.failed link_in.new) (O.failed out.new)) }
+    ensures quiet { IfOk result (λ busy. busy ≡ false → (start : Start) (past : List Happening)
+        → Describes start past writer.new → is_busy start past ≡ false) }
+    ensures ok { OnOk result
+        (NoneFailed (J.failed journal_out.new) (L.failed link_out.new) (I.failed link_in.new) (O.failed out.new)) }
+    ensures err { IfErr result (λ fault.
+        FailedAs fault (J.failed journal_out.new) (L.failed link_out.new) (I.failed link_in.new) (O.failed out.new)) }
 {
     match writer.want() {
         Want::Idle => return Ok(false),
@@ -74,12 +79,17 @@ fn work<I: Source, L: Sink, J: Sink, O: Sink>(
     requires link_in { I.failed link_in.old ≡ false }
     requires out { O.failed out.old ≡ false }
     ensures worked { (start : Start) (past : List Happening) (first : Streams)
-        → IsDrivenAt start past writer.old first (shown (J.held journal_out.old) (L.held link_out.old) (I.left link_in.old) (O.held out.old))
-        → WorkedOn start (orders_asked past) first result writer.new (shown (J.held journal_out.new) (L.held link_out.new) (I.left link_in.new) (O.held out.new)) }
+        → IsDrivenAt start past writer.old first
+        (shown (J.held journal_out.old) (L.held link_out.old) (I.left link_in.old) (O.held out.old))
+        → WorkedOn start (orders_asked past) first result writer.new
+        (shown (J.held journal_out.new) (L.held link_out.new) (I.left link_in.new) (O.held out.new)) }
     ensures rests { OnOk result (IsAtRest writer.new) }
-    ensures quiet { OnOk result ((start : Start) (past : List Happening) → Describes start past writer.new → is_busy start past ≡ false) }
-    ensures ok { OnOk result (NoneFailed (J.failed journal_out.new) (L.failed link_out.new) (I.failed link_in.new) (O.failed out.new)) }
-    ensures err { IfErr result (λ fault. FailedAs fault (J.failed journal_out.new) (L.failed link_out.new) (I.failed link_in.new) (O.failed out.new)) }
+    ensures quiet { OnOk result
+        ((start : Start) (past : List Happening) → Describes start past writer.new → is_busy start past ≡ false) }
+    ensures ok { OnOk result
+        (NoneFailed (J.failed journal_out.new) (L.failed link_out.new) (I.failed link_in.new) (O.failed out.new)) }
+    ensures err { IfErr result (λ fault.
+        FailedAs fault (J.failed journal_out.new) (L.failed link_out.new) (I.failed link_in.new) (O.failed out.new)) }
 {
     while advance(writer, link_in, link_out, journal_out, out)? {}
     Ok(())
@@ -96,8 +106,8 @@ fn work<I: Source, L: Sink, J: Sink, O: Sink>(
 ///
 /// The writer has to be at rest: idle, or as `Writer::new` made it. No stream may have failed.
 ///
-/// Each `DriveFault` says what ended the drive. The writer is gone then, and what goes on is a new one, from the journal
-/// that is loaded from what `journal_out` holds: whole records, and at most one that is cut.
+/// Each `DriveFault` says what ended the drive. The writer is gone then, and what goes on is a new one, from the
+/// journal that is loaded from what `journal_out` holds: whole records, and at most one that is cut.
 pub fn drive<I: Source, L: Sink, J: Sink, O: Sink>(
     writer: Writer,
     orders: &[Order],
@@ -111,13 +121,17 @@ pub fn drive<I: Source, L: Sink, J: Sink, O: Sink>(
     requires link_out { L.failed link_out.old ≡ false }
     requires link_in { I.failed link_in.old ≡ false }
     requires out { O.failed out.old ≡ false }
-    ensures driven { IfOk result (λ driven. IsDrive (start_of writer) orders.now (shown (J.held journal_out.old) (L.held link_out.old) (I.left link_in.old) (O.held out.old))
+    ensures driven { IfOk result (λ driven. IsDrive (start_of writer) orders.now
+        (shown (J.held journal_out.old) (L.held link_out.old) (I.left link_in.old) (O.held out.old))
         driven (shown (J.held journal_out.new) (L.held link_out.new) (I.left link_in.new) (O.held out.new))) }
     ensures rests { IfOk result IsAtRest }
-    ensures ok { OnOk result (NoneFailed (J.failed journal_out.new) (L.failed link_out.new) (I.failed link_in.new) (O.failed out.new)) }
-    ensures broken { IfErr result (λ fault. IsBrokenDrive (start_of writer) orders.now fault (shown (J.held journal_out.old) (L.held link_out.old) (I.left link_in.old) (O.held out.old))
+    ensures ok { OnOk result
+        (NoneFailed (J.failed journal_out.new) (L.failed link_out.new) (I.failed link_in.new) (O.failed out.new)) }
+    ensures broken { IfErr result (λ fault. IsBrokenDrive (start_of writer) orders.now fault
+        (shown (J.held journal_out.old) (L.held link_out.old) (I.left link_in.old) (O.held out.old))
         (shown (J.held journal_out.new) (L.held link_out.new) (I.left link_in.new) (O.held out.new))) }
-    ensures err { IfErr result (λ fault. FailedAs fault (J.failed journal_out.new) (L.failed link_out.new) (I.failed link_in.new) (O.failed out.new)) }
+    ensures err { IfErr result (λ fault.
+        FailedAs fault (J.failed journal_out.new) (L.failed link_out.new) (I.failed link_in.new) (O.failed out.new)) }
 {
     let mut writer = writer;
     writer.rest();

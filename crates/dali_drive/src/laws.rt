@@ -5,7 +5,7 @@ ghost use Rattle.dali_bank.specs.Order.{Contents};
 ghost use Rattle.dali_gear.specs.World.{World};
 ghost use Rattle.dali_gear.specs.Chain.{IsChain};
 ghost use Rattle.dali_journal.specs.Spelling.{journal_spelling};
-ghost use Rattle.dali_journal.specs.Loading.{AreKept};
+ghost use Rattle.dali_journal.specs.JournalState.{AreKept};
 ghost use Rattle.dali_trace.specs.Trace.{Start};
 ghost use Rattle.dali_writer.specs.Held.{Held};
 ghost use Rattle.dali_trace.specs.Moves.{Moves};
@@ -16,21 +16,27 @@ ghost use Rattle.dali_drive.specs.Transcript.{Streams};
 ghost use Rattle.dali_drive.specs.Driven.{IsDrive, IsBrokenDrive};
 ghost use Rattle.dali_drive.specs.Sittings.{IsFileOf, AreSittings, LeavesFile, ActOnce};
 
-/// A drive from the bytes of its start's records leaves the journal's file with whole records, and behind them at most a cut
-/// one: those of its trace where it came to its end, and else those of what may have happened.
+/// A drive from the bytes of its start's records leaves the journal's file with whole records, and behind them at
+/// most a cut one: those of its trace where it came to its end, and else those of what may have happened.
 pub fn drives_leave_their_journal()
-    ensures driven { (start : Start) (orders : List Contents) (writer : Held) (first last : Streams) (d : IsDrive start orders first writer last)
-        → AreKept start.limit start.records → first.journal ≡ Some (journal_spelling start.records) → LeavesFile start d.past last }
-    ensures broken { (start : Start) (orders : List Contents) (fault : DriveFault) (first last : Streams) (b : IsBrokenDrive start orders fault first last)
-        → AreKept start.limit start.records → first.journal ≡ Some (journal_spelling start.records) → LeavesFile start b.past last }
+    ensures driven { (start : Start) (orders : List Contents) (writer : Held) (first last : Streams)
+        (d : IsDrive start orders first writer last)
+        → AreKept start.limit start.records → first.journal ≡ Some (journal_spelling start.records)
+        → LeavesFile start d.past last }
+    ensures broken { (start : Start) (orders : List Contents) (fault : DriveFault) (first last : Streams)
+        (b : IsBrokenDrive start orders fault first last)
+        → AreKept start.limit start.records → first.journal ≡ Some (journal_spelling start.records)
+        → LeavesFile start b.past last }
 {}
 
-/// Drives one after another, however many and however each ended, each from the journal that is loaded from the file that the
-/// one before it left, over one chain of worlds from a world that fits the start world and the start records and in which no
-/// unit is write-enabled but the one that they name: together they act as one, and each order once.
+/// Drives one after another, however many and however each ended, each from the journal that is loaded from the file
+/// that the one before it left, over one chain of worlds from a world that fits the start world and the start records
+/// and in which no unit is write-enabled but the one that they name: together they act as one, and each order once.
 pub fn drives_act_once()
-    ensures follow { (start : Start) (first left : List ℕ) (len : ℕ) (sittings : List Sitting) → IsFileOf first start len → AreSittings start.limit first sittings left → FollowOn start sittings }
-    ensures once { (zero : World) (start : Start) (first left : List ℕ) (len : ℕ) (sittings : List Sitting) (now last : World) (states : List World)
+    ensures follow { (start : Start) (first left : List ℕ) (len : ℕ) (sittings : List Sitting)
+        → IsFileOf first start len → AreSittings start.limit first sittings left → FollowOn start sittings }
+    ensures once { (zero : World) (start : Start) (first left : List ℕ) (len : ℕ) (sittings : List Sitting)
+        (now last : World) (states : List World)
         → IsFileOf first start len → AreSittings start.limit first sittings left
         → Fits zero start.records now → OnlyNamed start.records now → IsChain Moves now (joined sittings) last states
         → ActOnce zero start sittings left last states }

@@ -1,5 +1,6 @@
-//! Drives of a writer over streams (profile): its records go to a journal, its frames to a link from which the answers come
-//! back, its replies to a third stream; and what is so along one drive after another, wherever each was broken off.
+//! Drives of a writer over streams (profile): its records go to a journal, its frames to a link from which the
+//! answers come back, its replies to a third stream; and what is so along one drive after another, wherever each was
+//! broken off.
 #![tactic(auto)]
 
 mod driving;

@@ -62,7 +62,8 @@ pub trait Sink {
 // Puts all the bytes. Where that fails, just the first so many are held.
 pub(crate) fn put_all<S: Sink>(sink: &mut S, bytes: &[u8]) -> bool
     ensures whole { result ≡ true → Appends (S.held sink.old) (S.held sink.new) bytes.now }
-    ensures cut { result ≡ false → (k : ℕ) × (k ≤ length bytes.now) × Appends (S.held sink.old) (S.held sink.new) (take k bytes.now) }
+    ensures cut { result ≡ false
+        → (k : ℕ) × (k ≤ length bytes.now) × Appends (S.held sink.old) (S.held sink.new) (take k bytes.now) }
     ensures failed { S.failed sink.new ≡ (S.failed sink.old || not result) }
 {
     let mut done = 0;
@@ -78,7 +79,8 @@ pub(crate) fn put_all<S: Sink>(sink: &mut S, bytes: &[u8]) -> bool
 // Puts all the bytes and flushes.
 pub(crate) fn send<S: Sink>(sink: &mut S, bytes: &[u8]) -> bool
     ensures whole { result ≡ true → Appends (S.held sink.old) (S.held sink.new) bytes.now }
-    ensures cut { result ≡ false → (k : ℕ) × (k ≤ length bytes.now) × Appends (S.held sink.old) (S.held sink.new) (take k bytes.now) }
+    ensures cut { result ≡ false
+        → (k : ℕ) × (k ≤ length bytes.now) × Appends (S.held sink.old) (S.held sink.new) (take k bytes.now) }
     ensures failed { S.failed sink.new ≡ (S.failed sink.old || not result) }
 {
     put_all(sink, bytes) && sink.flush()

@@ -1,7 +1,8 @@
 -- Which word spells which frame.
 use Rattle.std.specs.Prelude.{◌≡◌, ◌≢◌, ℕ, ◌+◌, ◌*◌, ◌^◌, ◌<◌}
 use Rattle.dali_frame.specs.declared.forward.Frame.{Frame}
-use Rattle.dali_frame.specs.declared.forward.Frame.TheVariants.{Dtr0, Dtr1, Dtr2, Write, WriteSilent, Enable, AskDtr0, AskDtr1, AskDtr2, Read, Other}
+use Rattle.dali_frame.specs.declared.forward.Frame.TheVariants.{Dtr0, Dtr1, Dtr2, Write, WriteSilent, Enable, AskDtr0}
+use Rattle.dali_frame.specs.declared.forward.Frame.TheVariants.{AskDtr1, AskDtr2, Read, Other}
 
 -- the word of a special command: the address byte that names it, and then its operand
 abbrev pub special_word : ℕ → ℕ → ℕ
@@ -12,18 +13,18 @@ abbrev pub command_word : ℕ → ℕ → ℕ
 command_word address opcode = 256 * (2 * address + 1) + opcode
 
 -- the word of a frame: the standard's table, and the word that an `Other` holds
-abbrev pub spelling : Frame → ℕ
-spelling (Dtr0 operand) = special_word 0xA3 operand
-spelling (Dtr1 operand) = special_word 0xC3 operand
-spelling (Dtr2 operand) = special_word 0xC5 operand
-spelling (Write operand) = special_word 0xC7 operand
-spelling (WriteSilent operand) = special_word 0xC9 operand
-spelling (Enable address) = command_word address 0x81
-spelling (AskDtr0 address) = command_word address 0x98
-spelling (AskDtr1 address) = command_word address 0x9C
-spelling (AskDtr2 address) = command_word address 0x9D
-spelling (Read address) = command_word address 0xC5
-spelling (Other word) = word
+abbrev pub frame_word : Frame → ℕ
+frame_word (Dtr0 operand) = special_word 0xA3 operand
+frame_word (Dtr1 operand) = special_word 0xC3 operand
+frame_word (Dtr2 operand) = special_word 0xC5 operand
+frame_word (Write operand) = special_word 0xC7 operand
+frame_word (WriteSilent operand) = special_word 0xC9 operand
+frame_word (Enable address) = command_word address 0x81
+frame_word (AskDtr0 address) = command_word address 0x98
+frame_word (AskDtr1 address) = command_word address 0x9C
+frame_word (AskDtr2 address) = command_word address 0x9D
+frame_word (Read address) = command_word address 0xC5
+frame_word (Other word) = word
 
 -- the frame stands in the table: its operand is a byte, or its address is a short address
 abbrev pub IsListed : Frame → Type 0
@@ -41,11 +42,11 @@ IsListed (Other word) = ⊥
 
 -- the frame stands in the table with this word
 abbrev pub Lists : Frame → ℕ → Type 0
-Lists frame word = IsListed frame × (spelling frame ≡ word)
+Lists frame word = IsListed frame × (frame_word frame ≡ word)
 
 -- a word of sixteen bits that no frame of the table has
 abbrev pub IsUnlisted : ℕ → Type 0
-IsUnlisted word = (word < 2 ^ 16) × ((frame : Frame) → IsListed frame → spelling frame ≢ word)
+IsUnlisted word = (word < 2 ^ 16) × ((frame : Frame) → IsListed frame → frame_word frame ≢ word)
 
 -- the frame stands in the table, or it is an `Other` with a word that no frame of the table has
 abbrev pub IsProper : Frame → Type 0
@@ -54,4 +55,4 @@ IsProper frame = IsListed frame
 
 -- the pairs of a frame and its word: those of the table, and an `Other` with each word that is left
 abbrev pub Spells : Frame → ℕ → Type 0
-Spells frame word = IsProper frame × (spelling frame ≡ word)
+Spells frame word = IsProper frame × (frame_word frame ≡ word)

@@ -1,5 +1,5 @@
 ghost use Rattle.std.specs.Prelude.{◌≡◌, ℕ, ◌+◌, ◌*◌, ◌<◌, ◌↔◌, IsTrue, IfSome, IfNone};
-ghost use Rattle.dali_frame.specs.Frame.{spelling, command_word, IsUnlisted, IsProper, Spells, Lists};
+ghost use Rattle.dali_frame.specs.Frame.{frame_word, command_word, IsUnlisted, IsProper, Spells, Lists};
 ghost use Rattle.dali_frame.specs.declared.forward.Frame.{Frame};
 
 // The address bytes that name the special commands.
@@ -93,7 +93,7 @@ pub fn frame_of(word: u16) -> Frame
 /// `frame_of` gives the frame back.
 pub fn word_of(frame: &Frame) -> u16
     requires { IsProper frame.now }
-    ensures { result ≡ spelling frame.now }
+    ensures { result ≡ frame_word frame.now }
 {
     match *frame {
         Frame::Dtr0(operand) => u16::from_be_bytes([DTR0, operand]),

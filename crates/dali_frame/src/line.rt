@@ -1,7 +1,7 @@
 ghost use Rattle.std.specs.Prelude.{◌≡◌, ℕ, ◌<◌, ◌≤◌, ◌↔◌, length, take, true, Option, IfOk, MatchResult};
 ghost use Rattle.std.specs.Char.{digit_value};
 ghost use Rattle.std.specs.Fmt.{digit_glyph};
-ghost use Rattle.dali_frame.specs.Frame.{spelling, IsProper};
+ghost use Rattle.dali_frame.specs.Frame.{frame_word, IsProper};
 ghost use Rattle.dali_frame.specs.Hex.{SpellsHexNumber, byte_digits as digits_of};
 ghost use Rattle.dali_frame.specs.Line.{word_line, SpellsAnswer, IsLineFault};
 
@@ -11,8 +11,8 @@ use crate::{Frame, LineFault, word_of};
 /// (profile).
 pub fn line_of(frame: &Frame) -> [u8; 5]
     requires { IsProper frame.now }
-    ensures line { result ≡ word_line (spelling frame.now) }
-    ensures spells { SpellsHexNumber (take 4 result) (spelling frame.now) }
+    ensures line { result ≡ word_line (frame_word frame.now) }
+    ensures spells { SpellsHexNumber (take 4 result) (frame_word frame.now) }
 {
     let [first, second] = word_of(frame).to_be_bytes();
     let ([a, b], [c, d]) = (byte_digits(first), byte_digits(second));

@@ -14,19 +14,24 @@ chain_on {mid = mid} newest chain here = record { states = mid ∷ chain.states;
 
 -- the same over a list of happenings that is kept oldest first
 pub chain_pushed : {S E : Type 0} {step : S → E → S → Type 0} {first mid last : S} (happened : List E) (newest : E)
-    → Chain step first (reverse happened) mid → step mid newest last → Chain step first (reverse (happened ++ newest ∷ [])) last
+    → Chain step first (reverse happened) mid → step mid newest last
+    → Chain step first (reverse (happened ++ newest ∷ [])) last
 chain_pushed {S = S} {E = E} {step = step} {first = first} {last = last} happened newest chain here =
     let P : List E → Type 0 = λ past. Chain step first past last in
     subst P (sym (reverse-append happened (newest ∷ []))) (chain_on newest chain here)
 
 -- what holds at first, and what each step keeps, holds at each moment
 pub kept_at_each_moment : {S E : Type 0} (step : S → E → S → Type 0) (holds : List E → S → Type 0)
-    → ((past : List E) (old : S) (newest : E) (new : S) → holds past old → step old newest new → holds (newest ∷ past) new)
+    → ((past : List E) (old : S) (newest : E) (new : S) → holds past old → step old newest new
+    → holds (newest ∷ past) new)
     → (first : S) → holds [] first
-    → (past : List E) (last : S) (states : List S) → IsChain step first past last states → AtEachMoment holds past last states
-kept_at_each_moment {S = S} {E = E} step holds keeps first begins past last states steps = (each past last states steps).1
+    → (past : List E) (last : S) (states : List S) → IsChain step first past last states
+    → AtEachMoment holds past last states
+kept_at_each_moment {S = S} {E = E} step holds keeps first begins past last states steps =
+    (each past last states steps).1
   where
-    each : (past : List E) (last : S) (states : List S) → IsChain step first past last states → holds past last × AtEachMoment holds past last states
+    each : (past : List E) (last : S) (states : List S) → IsChain step first past last states
+        → holds past last × AtEachMoment holds past last states
     each [] last [] same =
         let P : S → Type 0 = λ state. holds [] state in
         let here : holds [] last = subst P (sym same) begins in
@@ -50,9 +55,12 @@ shown_chain step shown_step shows law first (newest ∷ past) last (state ∷ st
     (law state newest last steps.0, shown_chain step shown_step shows law first past state states steps.1)
 
 -- what holds at each moment of the shown chain holds of what the states show
-pub shown_moments : {S W E : Type 0} (shows : S → W) (holds : List E → W → Type 0) (past : List E) (last : S) (states : List S)
-    → AtEachMoment holds past (shows last) (map shows states) → AtEachMoment (λ happened state. holds happened (shows state)) past last states
+pub shown_moments : {S W E : Type 0} (shows : S → W) (holds : List E → W → Type 0) (past : List E) (last : S)
+    (states : List S)
+    → AtEachMoment holds past (shows last) (map shows states)
+    → AtEachMoment (λ happened state. holds happened (shows state)) past last states
 shown_moments shows holds [] last [] here = here
 shown_moments shows holds [] last (state ∷ states) wrong = absurd wrong
 shown_moments shows holds (newest ∷ past) last [] wrong = absurd wrong
-shown_moments shows holds (newest ∷ past) last (state ∷ states) each = (each.0, shown_moments shows holds past state states each.1)
+shown_moments shows holds (newest ∷ past) last (state ∷ states) each =
+    (each.0, shown_moments shows holds past state states each.1)

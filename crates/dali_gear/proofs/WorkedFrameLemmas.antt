@@ -1,6 +1,7 @@
 -- What a small unit may do with a frame and what it may not, and the same of a bus with two.
 use Rattle.std.proofs.lemmas.Bool.{eqb-true}
-use Rattle.std.proofs.Common.{◌≡◌, ℕ, Bool, true, false, inl, inr, Option, Some, None, refl, sym, subst, arith, ap, ◌∙◌, ◌==◌}
+use Rattle.std.proofs.Common.{◌≡◌, ℕ, Bool, true, false, inl, inr, Option, Some, None, refl, sym, subst, arith, ap, ◌∙◌}
+use Rattle.std.proofs.Common.{◌==◌}
 use Rattle.dali_frame.specs.declared.forward.Frame.TheVariants.{Dtr0, Dtr1, Write, Enable, AskDtr0, AskDtr1, Read}
 use Rattle.dali_gear.specs.World.{Gear, Memory, World}
 use Rattle.dali_gear.specs.Hears.{Hears, Obeys, MayEnd}
@@ -42,7 +43,8 @@ byte_kept old new ends = ap (λ (m : Memory). m 1 3) (memory_kept old new ends)
 pub not_elsewhere : Hears 5 (small true) (Write 9) (Some 9) (written true 2) → ⊥
 not_elsewhere h = by h.obeyed h.obeys h.ends where
   by : (obeyed : Gear) → (Obeys 5 (small true) (Write 9) (Some 9) obeyed) → MayEnd obeyed (written true 2) → ⊥
-  by obeyed (inl did) ends = omega (arith, same_byte 7 9 (byte_kept obeyed (written true 2) ends ∙ ap (λ (g : Gear). g.memory 1 3) did.0.2))
+  by obeyed (inl did) ends =
+      omega (arith, same_byte 7 9 (byte_kept obeyed (written true 2) ends ∙ ap (λ (g : Gear). g.memory 1 3) did.0.2))
   by obeyed (inr passed) ends = let none : Some 9 ≡ None = passed.3 in cc
 
 pub not_another_answer : Hears 5 (small true) (Write 9) (Some 8) (written true 3) → ⊥
@@ -55,7 +57,8 @@ pub not_unenabled : (answer : Option ℕ) → Hears 5 (small false) (Write 9) an
 not_unenabled answer h = by h.obeyed h.obeys h.ends where
   by : (obeyed : Gear) → Obeys 5 (small false) (Write 9) answer obeyed → MayEnd obeyed (written false 3) → ⊥
   by obeyed (inl did) ends = let on : false ≡ true = did.0.0 in cc
-  by obeyed (inr passed) ends = omega (arith, same_byte 9 7 (byte_kept obeyed (written false 3) ends ∙ ap (λ (g : Gear). g.memory 1 3) passed.2))
+  by obeyed (inr passed) ends =
+      omega (arith, same_byte 9 7 (byte_kept obeyed (written false 3) ends ∙ ap (λ (g : Gear). g.memory 1 3) passed.2))
 
 off : (old new : Gear) → old.enabled ≡ false → MayEnd old new → new.enabled ≡ false
 off old new is (inl same) = ap (λ (g : Gear). g.enabled) same ∙ is
@@ -65,12 +68,14 @@ pub not_by_another : Hears 5 (small false) (Enable 6) None (small true) → ⊥
 not_by_another h = by h.obeyed h.obeys h.ends where
   by : (obeyed : Gear) → Obeys 5 (small false) (Enable 6) None obeyed → MayEnd obeyed (small true) → ⊥
   by obeyed (inl did) ends = omega (arith, did.0)
-  by obeyed (inr ignored) ends = let on : true ≡ false = off obeyed (small true) (ap (λ (g : Gear). g.enabled) ignored.0) ends in cc
+  by obeyed (inr ignored) ends =
+      let on : true ≡ false = off obeyed (small true) (ap (λ (g : Gear). g.enabled) ignored.0) ends in cc
 
 pub not_still_enabled : Hears 5 (small true) (Read 5) (Some 7) (moved true) → ⊥
 not_still_enabled h = by h.obeyed h.obeys h.ends where
   by : (obeyed : Gear) → Obeys 5 (small true) (Read 5) (Some 7) obeyed → MayEnd obeyed (moved true) → ⊥
-  by obeyed (inl (mine, inl did)) ends = let on : true ≡ false = off obeyed (moved true) (ap (λ (g : Gear). g.enabled) did.2) ends in cc
+  by obeyed (inl (mine, inl did)) ends =
+      let on : true ≡ false = off obeyed (moved true) (ap (λ (g : Gear). g.enabled) did.2) ends in cc
   by obeyed (inl (mine, inr nothing)) ends = let none : Some 7 ≡ None = nothing.1.3 in cc
   by obeyed (inr (others, ignored)) ends = others refl
 
@@ -105,15 +110,21 @@ not_dtr0_by_dtr1 h = omega (arith, dtr0_kept h.obeyed (moved true) h.ends ∙ ap
 apart : (P : ℕ → Option Gear → Option Gear → Type 0) (a b c d : Gear) → P 5 (Some a) (Some c) → P 6 (Some b) (Some d)
     → ((address : ℕ) → P address None None) → (address : ℕ) → P address (pair a b address) (pair c d address)
 apart P a b c d five six none address = by (address == 5) (address == 6) refl refl where
-  by : (is_five is_six : Bool) → (address == 5) ≡ is_five → (address == 6) ≡ is_six → P address (pair a b address) (pair c d address)
-  by true is_six e f = let here : address ≡ 5 = eqb-true address 5 e in subst (λ (at : ℕ). P at (pair a b at) (pair c d at)) (sym here) five
-  by false true e f = let here : address ≡ 6 = eqb-true address 6 f in subst (λ (at : ℕ). P at (pair a b at) (pair c d at)) (sym here) six
+  by : (is_five is_six : Bool) → (address == 5) ≡ is_five → (address == 6) ≡ is_six
+      → P address (pair a b address) (pair c d address)
+  by true is_six e f =
+      let here : address ≡ 5 = eqb-true address 5 e in
+      subst (λ (at : ℕ). P at (pair a b at) (pair c d at)) (sym here) five
+  by false true e f =
+      let here : address ≡ 6 = eqb-true address 6 f in
+      subst (λ (at : ℕ). P at (pair a b at) (pair c d at)) (sym here) six
   by false false e f = rw (e, f) (none address)
 
 -- a frame that one unit hears and the other doesn't
 pub lost_to_one : Carry (pair (small true) (small true)) (Dtr0 4) None (pair (moved true) (small true))
 lost_to_one = record {
-  units = apart (λ address old new. MayHear address old (Dtr0 4) new) (small true) (small true) (moved true) (small true)
+  units =
+      apart (λ address old new. MayHear address old (Dtr0 4) new) (small true) (small true) (moved true) (small true)
       (inr (None, record { obeyed = moved true; obeys = (refl, refl); ends = inl refl })) (inl refl) (λ address. tt);
   answers = tt;
 }
@@ -121,8 +132,12 @@ lost_to_one = record {
 -- where both answer, the answer of one may come back
 pub one_of_two : Carry (pair (small true) (small true)) (Write 9) (Some 9) (pair (written true 3) (written true 3))
 one_of_two = record {
-  units = apart (λ address old new. MayHear address old (Write 9) new) (small true) (small true) (written true 3) (written true 3)
-      (inr (Some 9, stores)) (inr (Some 9, record { obeyed = written true 3; obeys = inl ((refl, refl, refl), refl); ends = inl refl })) (λ address. tt);
+  units =
+      apart (λ address old new. MayHear address old (Write 9) new) (small true) (small true) (written true 3)
+      (written true 3)
+      (inr (Some 9, stores))
+      (inr (Some 9, record { obeyed = written true 3; obeys = inl ((refl, refl, refl), refl); ends = inl refl }))
+      (λ address. tt);
   answers = record { address = 5; before = small true; after = written true 3; was = refl; is = refl; hears = stores };
 }
 
@@ -134,5 +149,7 @@ not_by_none new carried = by carried.answers.before carried.answers.hears.obeyed
   by before obeyed (inr passed) = let none : Some 8 ≡ None = passed.3 in cc
 
 -- no unit comes
-pub not_a_third : (gear : Gear) (new : World) → new 7 ≡ Some gear → Carry (pair (small true) (small true)) (Write 9) None new → ⊥
-not_a_third gear new there carried = subst (λ (unit : Option Gear). MayHear 7 None (Write 9) unit) there (carried.units 7)
+pub not_a_third : (gear : Gear) (new : World) → new 7 ≡ Some gear
+    → Carry (pair (small true) (small true)) (Write 9) None new → ⊥
+not_a_third gear new there carried =
+    subst (λ (unit : Option Gear). MayHear 7 None (Write 9) unit) there (carried.units 7)

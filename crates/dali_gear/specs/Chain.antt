@@ -11,7 +11,8 @@ IsChain step first (newest ∷ past) last [] = ⊥
 -- it holds at each moment: of what happened up to there, and the state there
 abbrev pub AtEachMoment : {S E : Type 0} → (List E → S → Type 0) → List E → S → List S → Type 0
 AtEachMoment holds [] last [] = holds [] last
-AtEachMoment holds (newest ∷ past) last (state ∷ states) = holds (newest ∷ past) last × AtEachMoment holds past state states
+AtEachMoment holds (newest ∷ past) last (state ∷ states) =
+    holds (newest ∷ past) last × AtEachMoment holds past state states
 AtEachMoment holds [] last (state ∷ states) = ⊥
 AtEachMoment holds (newest ∷ past) last [] = ⊥
 

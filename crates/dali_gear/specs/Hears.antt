@@ -2,9 +2,11 @@
 --
 -- What isn't named stays as it is. A unit may refuse a write, for its lock byte or for any other reason. What it
 -- doesn't carry out may move DTR0 on all the same. And its write enable may end at any frame.
-use Rattle.std.specs.Prelude.{◌≡◌, ◌≢◌, ℕ, ◌+◌, true, false, ◌⊎◌, Option, Some, None, IsSome, IsNone, ◌==◌, ⊤, if◌then◌else◌}
+use Rattle.std.specs.Prelude.{◌≡◌, ◌≢◌, ℕ, ◌+◌, true, false, ◌⊎◌, Option, Some, None, IsSome, IsNone, ◌==◌, ⊤}
+use Rattle.std.specs.Prelude.{if◌then◌else◌}
 use Rattle.dali_frame.specs.declared.forward.Frame.{Frame}
-use Rattle.dali_frame.specs.declared.forward.Frame.TheVariants.{Dtr0, Dtr1, Dtr2, Write, WriteSilent, Enable, AskDtr0, AskDtr1, AskDtr2, Read, Other}
+use Rattle.dali_frame.specs.declared.forward.Frame.TheVariants.{Dtr0, Dtr1, Dtr2, Write, WriteSilent, Enable, AskDtr0}
+use Rattle.dali_frame.specs.declared.forward.Frame.TheVariants.{AskDtr1, AskDtr2, Read, Other}
 use Rattle.dali_gear.specs.World.{Gear, stored}
 
 -- DTR0 after it moved on: it stays at FFh
@@ -33,11 +35,14 @@ PassesBy old answer new = (dtr0 : ℕ) × MayGoUp old.dtr0 dtr0 × (new ≡ reco
 
 -- it was write-enabled, and has stored the byte at the place that DTR1 and DTR0 named and nowhere else
 abbrev pub Stores : ℕ → Gear → Gear → Type 0
-Stores byte old new = (old.enabled ≡ true) × IsSome (selected old) × (new ≡ record old { dtr0 = up old.dtr0; memory = stored old.memory old.dtr1 old.dtr0 byte })
+Stores byte old new =
+    (old.enabled ≡ true) × IsSome (selected old)
+    × (new ≡ record old { dtr0 = up old.dtr0; memory = stored old.memory old.dtr1 old.dtr0 byte })
 
 -- it answers the byte at the place that DTR1 and DTR0 named, and isn't write-enabled any more
 abbrev pub ReadsByte : Gear → Option ℕ → Gear → Type 0
-ReadsByte old answer new = IsSome (selected old) × (answer ≡ selected old) × (new ≡ record old { dtr0 = up old.dtr0; enabled = false })
+ReadsByte old answer new =
+    IsSome (selected old) × (answer ≡ selected old) × (new ≡ record old { dtr0 = up old.dtr0; enabled = false })
 
 -- the place that DTR1 and DTR0 named doesn't exist
 abbrev pub ReadsNothing : Gear → Option ℕ → Gear → Type 0
@@ -50,11 +55,16 @@ Obeys at old (Dtr1 byte) answer new = (new ≡ record old { dtr1 = byte }) × (a
 Obeys at old (Dtr2 byte) answer new = (new ≡ record old { dtr2 = byte }) × (answer ≡ None)
 Obeys at old (Write byte) answer new = (Stores byte old new × (answer ≡ Some byte)) ⊎ PassesBy old answer new
 Obeys at old (WriteSilent byte) answer new = (Stores byte old new ⊎ PassesBy old None new) × (answer ≡ None)
-Obeys at old (Enable to) answer new = ((to ≡ at) × (new ≡ record old { enabled = true }) × (answer ≡ None)) ⊎ Ignores old answer new
-Obeys at old (AskDtr0 to) answer new = ((to ≡ at) × Tells old.dtr0 old answer new) ⊎ ((to ≢ at) × Ignores old answer new)
-Obeys at old (AskDtr1 to) answer new = ((to ≡ at) × Tells old.dtr1 old answer new) ⊎ ((to ≢ at) × Ignores old answer new)
-Obeys at old (AskDtr2 to) answer new = ((to ≡ at) × Tells old.dtr2 old answer new) ⊎ ((to ≢ at) × Ignores old answer new)
-Obeys at old (Read to) answer new = ((to ≡ at) × (ReadsByte old answer new ⊎ ReadsNothing old answer new)) ⊎ ((to ≢ at) × Ignores old answer new)
+Obeys at old (Enable to) answer new =
+    ((to ≡ at) × (new ≡ record old { enabled = true }) × (answer ≡ None)) ⊎ Ignores old answer new
+Obeys at old (AskDtr0 to) answer new =
+    ((to ≡ at) × Tells old.dtr0 old answer new) ⊎ ((to ≢ at) × Ignores old answer new)
+Obeys at old (AskDtr1 to) answer new =
+    ((to ≡ at) × Tells old.dtr1 old answer new) ⊎ ((to ≢ at) × Ignores old answer new)
+Obeys at old (AskDtr2 to) answer new =
+    ((to ≡ at) × Tells old.dtr2 old answer new) ⊎ ((to ≢ at) × Ignores old answer new)
+Obeys at old (Read to) answer new =
+    ((to ≡ at) × (ReadsByte old answer new ⊎ ReadsNothing old answer new)) ⊎ ((to ≢ at) × Ignores old answer new)
 Obeys at old (Other word) answer new = ⊤
 
 -- the unit is as it was, or its write enable has ended

@@ -51,7 +51,8 @@ pub record SimCarry (old : SimState) (frame : Frame) (answer : Option ℕ) (new 
   pub banks : AreBanks old.units
   pub units : new.units ≡ map (unit_after (next_fate old.fates) frame) old.units
   pub fates : new.fates ≡ fates_after old.fates
-  pub answers : answer ≡ bus_answer (next_fate old.fates) (filter_map (unit_answer (next_fate old.fates) frame) old.units)
+  pub answers : answer
+      ≡ bus_answer (next_fate old.fates) (filter_map (unit_answer (next_fate old.fates) frame) old.units)
 
 -- what the simulated bus does when this happens
 abbrev pub SimStep : SimState → BusEvent → SimState → Type 0

@@ -1,75 +1,101 @@
 -- Each step of the simulated bus is one that its units may make: lemmas, of which the last says it.
 --
 -- They stand in specs/ since the bus's law cites it.
-use Rattle.std.proofs.Common.{◌≡◌, ℕ, Bool, true, false, List, [], ◌∷◌, map, Option, Some, None, inl, inr, refl, sym, subst, ◌∙◌}
+use Rattle.std.proofs.Common.{◌≡◌, ℕ, Bool, true, false, List, [], ◌∷◌, map, Option, Some, None, inl, inr, refl, sym}
+use Rattle.std.proofs.Common.{subst, ◌∙◌}
 use Rattle.std.specs.Prelude.{◌==◌, slice_get, if◌then◌else◌}
 use Rattle.std.specs.List.{filter_map, cons_option}
 use Rattle.std.proofs.lemmas.Bool.{eqb-true, eq-eqb, ne_eqb}
 use Rattle.dali_frame.specs.declared.forward.Frame.{Frame}
-use Rattle.dali_frame.specs.declared.forward.Frame.TheVariants.{Dtr0, Dtr1, Dtr2, Write, WriteSilent, Enable, AskDtr0, AskDtr1, AskDtr2, Read, Other}
+use Rattle.dali_frame.specs.declared.forward.Frame.TheVariants.{Dtr0, Dtr1, Dtr2, Write, WriteSilent, Enable, AskDtr0}
+use Rattle.dali_frame.specs.declared.forward.Frame.TheVariants.{AskDtr1, AskDtr2, Read, Other}
 use Rattle.dali_gear.specs.declared.fate.Fate.{Fate}
 use Rattle.dali_gear.specs.Fate.{is_lost, next_fate}
-use Rattle.dali_gear.specs.UnitState.{UnitState, with_byte, has_bank, carries_out, stores, after_frame, answer_to, gear_of}
+use Rattle.dali_gear.specs.UnitState.{UnitState, with_byte, has_bank, carries_out, stores, after_frame, answer_to}
+use Rattle.dali_gear.specs.UnitState.{gear_of}
 use Rattle.dali_gear.specs.Hears.{Hears, up}
-use Rattle.dali_gear.specs.SimState.{SimState, SimCarry, SimStep, world_of, AreApart, unit_after, unit_answer, bus_answer}
+use Rattle.dali_gear.specs.SimState.{SimState, SimCarry, SimStep, world_of, AreApart, unit_after, unit_answer}
+use Rattle.dali_gear.specs.SimState.{bus_answer}
 use Rattle.dali_gear.specs.World.{Gear}
 use Rattle.dali_gear.specs.Carry.{BusEvent, Carried, WorldStep, Carry, MayHear, Answered, MayAnswer}
 use Rattle.dali_gear.specs.UnitHears.{unit_hears}
 
 -- a write keeps the address
 write_keeps : (unit : UnitState) (byte : ℕ) (carried done first : Bool)
-    → (if carried then record (if done then (if first then record unit { bank1 = with_byte unit.bank1 unit.dtr0 byte } else record unit { bank2 = with_byte unit.bank2 unit.dtr0 byte }) else unit) { dtr0 = up unit.dtr0 } else unit).address ≡ unit.address
+    → (if carried
+    then record (if done
+    then (if first
+    then record unit { bank1 = with_byte unit.bank1 unit.dtr0 byte }
+    else record unit { bank2 = with_byte unit.bank2 unit.dtr0 byte })
+    else unit) { dtr0 = up unit.dtr0 }
+    else unit).address
+    ≡ unit.address
 write_keeps unit byte true true true = refl
 write_keeps unit byte true true false = refl
 write_keeps unit byte true false first = refl
 write_keeps unit byte false done first = refl
 
 read_keeps : (unit : UnitState) (mine has : Bool)
-    → (if mine then (if has then record unit { enabled = false; dtr0 = up unit.dtr0 } else record unit { enabled = false }) else unit).address ≡ unit.address
+    → (if mine
+    then (if has then record unit { enabled = false; dtr0 = up unit.dtr0 } else record unit { enabled = false })
+    else unit).address
+    ≡ unit.address
 read_keeps unit true true = refl
 read_keeps unit true false = refl
 read_keeps unit false has = refl
 
 enable_keeps : (unit : UnitState) (mine half : Bool)
-    → (if mine then (if half then record unit { enabled = true; half_pair = false } else record unit { half_pair = true }) else record unit { half_pair = false }).address ≡ unit.address
+    → (if mine
+    then (if half then record unit { enabled = true; half_pair = false } else record unit { half_pair = true })
+    else record unit { half_pair = false }).address
+    ≡ unit.address
 enable_keeps unit true true = refl
 enable_keeps unit true false = refl
 enable_keeps unit false half_pair = refl
 
 -- a frame keeps the address
-frame_keeps : (refuses : Bool) (unit : UnitState) (frame : Frame) → (after_frame refuses unit frame).address ≡ unit.address
+frame_keeps : (refuses : Bool) (unit : UnitState) (frame : Frame)
+    → (after_frame refuses unit frame).address ≡ unit.address
 frame_keeps refuses unit (Dtr0 byte) = refl
 frame_keeps refuses unit (Dtr1 byte) = refl
 frame_keeps refuses unit (Dtr2 byte) = refl
-frame_keeps refuses unit (Write byte) = write_keeps (record unit { half_pair = false }) byte (carries_out unit) (stores refuses unit) (unit.dtr1 == 1)
-frame_keeps refuses unit (WriteSilent byte) = write_keeps (record unit { half_pair = false }) byte (carries_out unit) (stores refuses unit) (unit.dtr1 == 1)
+frame_keeps refuses unit (Write byte) =
+    write_keeps (record unit { half_pair = false }) byte (carries_out unit) (stores refuses unit) (unit.dtr1 == 1)
+frame_keeps refuses unit (WriteSilent byte) =
+    write_keeps (record unit { half_pair = false }) byte (carries_out unit) (stores refuses unit) (unit.dtr1 == 1)
 frame_keeps refuses unit (Enable to) = enable_keeps unit (to == unit.address) unit.half_pair
 frame_keeps refuses unit (AskDtr0 to) = refl
 frame_keeps refuses unit (AskDtr1 to) = refl
 frame_keeps refuses unit (AskDtr2 to) = refl
-frame_keeps refuses unit (Read to) = read_keeps (record unit { half_pair = false }) (to == unit.address) (has_bank unit.dtr1)
+frame_keeps refuses unit (Read to) =
+    read_keeps (record unit { half_pair = false }) (to == unit.address) (has_bank unit.dtr1)
 frame_keeps refuses unit (Other word) = refl
 
 -- and so it does under any fate
 pub fate_keeps : (fate : Fate) (frame : Frame) (unit : UnitState) → (unit_after fate frame unit).address ≡ unit.address
 fate_keeps fate frame unit =
-    elim (is_lost fate unit.address) as (λ b. (if b then unit else after_frame fate.refuse unit frame).address ≡ unit.address) [
+    elim (is_lost fate unit.address)
+    as (λ b. (if b then unit else after_frame fate.refuse unit frame).address ≡ unit.address) [
       | true ↦ refl
       | false ↦ frame_keeps fate.refuse unit frame
     ]
 
 -- a unit of the bus, after the frame or without it
-unit_may : (fate : Fate) (frame : Frame) (unit : UnitState) → MayHear unit.address (Some (gear_of unit)) frame (Some (gear_of (unit_after fate frame unit)))
+unit_may : (fate : Fate) (frame : Frame) (unit : UnitState)
+    → MayHear unit.address (Some (gear_of unit)) frame (Some (gear_of (unit_after fate frame unit)))
 unit_may fate frame unit =
-    elim (is_lost fate unit.address) as (λ b. MayHear unit.address (Some (gear_of unit)) frame (Some (gear_of (if b then unit else after_frame fate.refuse unit frame)))) [
+    elim (is_lost fate unit.address) as (λ b. MayHear unit.address (Some (gear_of unit)) frame
+    (Some (gear_of (if b then unit else after_frame fate.refuse unit frame)))) [
       | true ↦ inl refl
       | false ↦ inr (answer_to fate.refuse unit frame, unit_hears fate.refuse unit frame)
     ]
 
 -- a unit and the rest of them, at an address
-first_may : (fate : Fate) (frame : Frame) (unit : UnitState) (old new : Option Gear) (address : ℕ) (mine : Bool) → (address == unit.address) ≡ mine
+first_may : (fate : Fate) (frame : Frame) (unit : UnitState) (old new : Option Gear) (address : ℕ) (mine : Bool)
+    → (address == unit.address) ≡ mine
     → MayHear address old frame new
-    → MayHear address (if mine then Some (gear_of unit) else old) frame (if mine then Some (gear_of (unit_after fate frame unit)) else new)
+    → MayHear address (if mine then Some (gear_of unit) else old) frame
+    (if mine then Some (gear_of (unit_after fate frame unit)) else new)
 first_may fate frame unit old new address true e rest = rw (eqb-true address unit.address e) (unit_may fate frame unit)
 first_may fate frame unit old new address false e rest = rest
 
@@ -78,7 +104,8 @@ units_may : (fate : Fate) (frame : Frame) (units : List UnitState) (address : �
     → MayHear address (world_of units address) frame (world_of (map (unit_after fate frame) units) address)
 units_may fate frame [] address = tt
 units_may fate frame (unit ∷ units) address =
-    rw (fate_keeps fate frame unit) (first_may fate frame unit _ _ address (address == unit.address) refl (units_may fate frame units address))
+    rw (fate_keeps fate frame unit)
+    (first_may fate frame unit _ _ address (address == unit.address) refl (units_may fate frame units address))
 
 -- a unit that answered this byte
 record Answerer (fate : Fate) (frame : Frame) (units : List UnitState) (byte : ℕ) : Type 0 where
@@ -88,7 +115,8 @@ record Answerer (fate : Fate) (frame : Frame) (units : List UnitState) (byte : �
   answers : unit_answer fate frame unit ≡ Some byte
 
 -- the unit at the head
-at_head : (fate : Fate) (frame : Frame) (unit : UnitState) (units : List UnitState) (byte : ℕ) → unit_answer fate frame unit ≡ Some byte
+at_head : (fate : Fate) (frame : Frame) (unit : UnitState) (units : List UnitState) (byte : ℕ)
+    → unit_answer fate frame unit ≡ Some byte
     → Answerer fate frame (unit ∷ units) byte
 at_head fate frame unit units byte e =
     record {
@@ -99,12 +127,15 @@ at_head fate frame unit units byte e =
     }
 
 -- a unit further on
-further : (fate : Fate) (frame : Frame) (unit : UnitState) (units : List UnitState) (byte : ℕ) → world_of units unit.address ≡ None
+further : (fate : Fate) (frame : Frame) (unit : UnitState) (units : List UnitState) (byte : ℕ)
+    → world_of units unit.address ≡ None
     → Answerer fate frame units byte → Answerer fate frame (unit ∷ units) byte
 further fate frame unit units byte free found =
     let other : (found.unit.address == unit.address) ≡ false
     = ne_eqb found.unit.address unit.address
-    (λ e. let P : ℕ → Type 0 = λ a. world_of units a ≡ Some (gear_of found.unit) in let h : world_of units unit.address ≡ Some (gear_of found.unit) = subst P e found.was in cc) in
+    (λ e.
+    let P : ℕ → Type 0 = λ a. world_of units a ≡ Some (gear_of found.unit) in
+    let h : world_of units unit.address ≡ Some (gear_of found.unit) = subst P e found.was in cc) in
     record {
       unit = found.unit;
       was = rw other found.was;
@@ -113,10 +144,12 @@ further fate frame unit units byte free found =
     }
 
 -- the first of the answers is that of a unit, at its first or further on
-found_in : (fate : Fate) (frame : Frame) (unit : UnitState) (units : List UnitState) (byte : ℕ) → world_of units unit.address ≡ None
+found_in : (fate : Fate) (frame : Frame) (unit : UnitState) (units : List UnitState) (byte : ℕ)
+    → world_of units unit.address ≡ None
     → (answer : Option ℕ) → unit_answer fate frame unit ≡ answer
     → (slice_get (filter_map (unit_answer fate frame) units) 0 ≡ Some byte → Answerer fate frame units byte)
-    → slice_get (cons_option answer (filter_map (unit_answer fate frame) units)) 0 ≡ Some byte → Answerer fate frame (unit ∷ units) byte
+    → slice_get (cons_option answer (filter_map (unit_answer fate frame) units)) 0 ≡ Some byte
+    → Answerer fate frame (unit ∷ units) byte
 found_in fate frame unit units byte free (Some other) e rest h = at_head fate frame unit units byte (e ∙ h)
 found_in fate frame unit units byte free None e rest h = further fate frame unit units byte free (rest h)
 
@@ -125,19 +158,23 @@ found_first : (fate : Fate) (frame : Frame) (units : List UnitState) (byte : ℕ
     → slice_get (filter_map (unit_answer fate frame) units) 0 ≡ Some byte → Answerer fate frame units byte
 found_first fate frame [] byte apart h = cc
 found_first fate frame (unit ∷ units) byte apart h =
-    found_in fate frame unit units byte apart.0 (unit_answer fate frame unit) refl (found_first fate frame units byte apart.1) h
+    found_in fate frame unit units byte apart.0 (unit_answer fate frame unit) refl
+    (found_first fate frame units byte apart.1) h
 
-came_back : (lost one : Bool) (first : Option ℕ) (byte : ℕ) → Some byte ≡ (if lost then None else (if one then first else None)) → first ≡ Some byte
+came_back : (lost one : Bool) (first : Option ℕ) (byte : ℕ)
+    → Some byte ≡ (if lost then None else (if one then first else None)) → first ≡ Some byte
 came_back true one first byte h = cc
 came_back false true first byte h = sym h
 came_back false false first byte h = cc
 
 heard : (fate : Fate) (frame : Frame) (unit : UnitState) (byte : ℕ) (lost : Bool)
     → (if lost then None else answer_to fate.refuse unit frame) ≡ Some byte
-    → Hears unit.address (gear_of unit) frame (Some byte) (gear_of (if lost then unit else after_frame fate.refuse unit frame))
+    → Hears unit.address (gear_of unit) frame (Some byte)
+    (gear_of (if lost then unit else after_frame fate.refuse unit frame))
 heard fate frame unit byte true h = cc
 heard fate frame unit byte false h =
-    let P : Option ℕ → Type 0 = λ o. Hears unit.address (gear_of unit) frame o (gear_of (after_frame fate.refuse unit frame)) in
+    let P : Option ℕ → Type 0 =
+    λ o. Hears unit.address (gear_of unit) frame o (gear_of (after_frame fate.refuse unit frame)) in
     subst P h (unit_hears fate.refuse unit frame)
 
 answerer_answered : (fate : Fate) (frame : Frame) (units : List UnitState) (byte : ℕ) → Answerer fate frame units byte
@@ -157,10 +194,12 @@ may_answer : (fate : Fate) (frame : Frame) (units : List UnitState) (answer : Op
     → MayAnswer (world_of units) frame answer (world_of (map (unit_after fate frame) units))
 may_answer fate frame units None apart h = tt
 may_answer fate frame units (Some byte) apart h =
-    answerer_answered fate frame units byte (found_first fate frame units byte apart (came_back fate.answer_lost _ _ byte h))
+    answerer_answered fate frame units byte
+    (found_first fate frame units byte apart (came_back fate.answer_lost _ _ byte h))
 
 -- a frame on the simulated bus
-sim_carry-allowed : (old : SimState) (frame : Frame) (answer : Option ℕ) (new : SimState) → SimCarry old frame answer new
+sim_carry-allowed : (old : SimState) (frame : Frame) (answer : Option ℕ) (new : SimState)
+    → SimCarry old frame answer new
     → Carry (world_of old.units) frame answer (world_of new.units)
 sim_carry-allowed old frame answer new step =
     rw step.units

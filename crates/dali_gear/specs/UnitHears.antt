@@ -1,16 +1,20 @@
 -- What a simulated unit does with a frame is one of the things that a unit may do: lemmas, of which the last says it.
 --
 -- They stand in specs/ since the law of the simulated bus's steps rests on them.
-use Rattle.std.proofs.Common.{◌≡◌, ◌≢◌, ◌<◌, ℕ, zero, suc, Bool, true, false, not, ◌&&◌, ◌||◌, ◌⊎◌, inl, inr, List, [], ◌∷◌, length, Option, Some, None, IsSome, IsNone, refl, sym, subst, arith}
+use Rattle.std.proofs.Common.{◌≡◌, ◌≢◌, ◌<◌, ℕ, zero, suc, Bool, true, false, not, ◌&&◌, ◌||◌, ◌⊎◌, inl, inr, List, []}
+use Rattle.std.proofs.Common.{◌∷◌, length, Option, Some, None, IsSome, IsNone, refl, sym, subst, arith}
 use Rattle.std.specs.Prelude.{◌==◌, nat_lt, slice_get, slice_set, if◌then◌else◌}
 use Rattle.std.proofs.Math.Dec.{eqb-suc-suc}
 use Rattle.std.proofs.lemmas.Bool.{eqb-true, eqb-false, ne_eqb, ltb-true, and_parts, and_from, both_ways}
 use Rattle.std.proofs.lemmas.Option.{slice_get-get_or}
 use Rattle.dali_frame.specs.declared.forward.Frame.{Frame}
-use Rattle.dali_frame.specs.declared.forward.Frame.TheVariants.{Dtr0, Dtr1, Dtr2, Write, WriteSilent, Enable, AskDtr0, AskDtr1, AskDtr2, Read, Other}
-use Rattle.dali_gear.specs.UnitState.{BankState, UnitState, is_writable, with_byte, has_bank, bank_of, with_stored, carries_out, stores, selected_byte, after_read, after_frame, answer_to, gear_of}
+use Rattle.dali_frame.specs.declared.forward.Frame.TheVariants.{Dtr0, Dtr1, Dtr2, Write, WriteSilent, Enable, AskDtr0}
+use Rattle.dali_frame.specs.declared.forward.Frame.TheVariants.{AskDtr1, AskDtr2, Read, Other}
+use Rattle.dali_gear.specs.UnitState.{BankState, UnitState, is_writable, with_byte, has_bank, bank_of, with_stored}
+use Rattle.dali_gear.specs.UnitState.{carries_out, stores, selected_byte, after_read, after_frame, answer_to, gear_of}
 use Rattle.dali_gear.specs.World.{Gear, stored}
-use Rattle.dali_gear.specs.Hears.{Hears, MayEnd, Obeys, Ignores, Tells, PassesBy, Stores, ReadsByte, ReadsNothing, selected, up}
+use Rattle.dali_gear.specs.Hears.{Hears, MayEnd, Obeys, Ignores, Tells, PassesBy, Stores, ReadsByte, ReadsNothing}
+use Rattle.dali_gear.specs.Hears.{selected, up}
 
 -- a byte after a write
 slice_get-slice_set : (xs : List ℕ) (i : ℕ) (x : ℕ) (j : ℕ) → i < length xs
@@ -35,7 +39,9 @@ asked to at register old false e = inr (eqb-false to at e, (refl, refl))
 -- one of the two frames that enable it
 enabling : (to : ℕ) (unit : UnitState) (b h : Bool) → (to == unit.address) ≡ b → unit.half_pair ≡ h
     → Obeys unit.address (gear_of unit) (Enable to) None
-    (gear_of (if b then (if h then record unit { enabled = true; half_pair = false } else record unit { half_pair = true }) else record unit { half_pair = false }))
+    (gear_of (if b
+    then (if h then record unit { enabled = true; half_pair = false } else record unit { half_pair = true })
+    else record unit { half_pair = false }))
 enabling to unit true true e h = inl (eqb-true to unit.address e, refl, refl)
 enabling to unit true false e h = inr (refl, refl)
 enabling to unit false h e f = inr (refl, refl)
@@ -43,25 +49,34 @@ enabling to unit false h e f = inr (refl, refl)
 -- the memory with a byte stored in bank 1
 in_bank1 : (bank1 bank2 : BankState) (dtr0 byte location : ℕ) (first second : Bool) → dtr0 < length bank1.bytes
     → (if first || second then slice_get (if first then with_byte bank1 dtr0 byte else bank2).bytes location else None)
-    ≡ (if first && (location == dtr0) then Some byte else (if first || second then slice_get (if first then bank1 else bank2).bytes location else None))
+    ≡ (if first && (location == dtr0)
+    then Some byte
+    else (if first || second then slice_get (if first then bank1 else bank2).bytes location else None))
 in_bank1 bank1 bank2 dtr0 byte location true second within = slice_get-slice_set bank1.bytes dtr0 byte location within
 in_bank1 bank1 bank2 dtr0 byte location false second within = refl
 
 -- the same in bank 2
-in_bank2 : (bank1 bank2 : BankState) (dtr0 byte location : ℕ) (first second : Bool) → (first ≡ true → second ≡ true → ⊥) → dtr0 < length bank2.bytes
+in_bank2 : (bank1 bank2 : BankState) (dtr0 byte location : ℕ) (first second : Bool) → (first ≡ true → second ≡ true → ⊥)
+    → dtr0 < length bank2.bytes
     → (if first || second then slice_get (if first then bank1 else with_byte bank2 dtr0 byte).bytes location else None)
-    ≡ (if second && (location == dtr0) then Some byte else (if first || second then slice_get (if first then bank1 else bank2).bytes location else None))
+    ≡ (if second && (location == dtr0)
+    then Some byte
+    else (if first || second then slice_get (if first then bank1 else bank2).bytes location else None))
 in_bank2 bank1 bank2 dtr0 byte location true true apart within = absurd (apart refl refl)
 in_bank2 bank1 bank2 dtr0 byte location true false apart within = refl
-in_bank2 bank1 bank2 dtr0 byte location false true apart within = slice_get-slice_set bank2.bytes dtr0 byte location within
+in_bank2 bank1 bank2 dtr0 byte location false true apart within =
+    slice_get-slice_set bank2.bytes dtr0 byte location within
 in_bank2 bank1 bank2 dtr0 byte location false false apart within = refl
 
 not_both : (bank : ℕ) → (bank == 1) ≡ true → (bank == 2) ≡ true → ⊥
 not_both bank e f = omega (arith, eqb-true bank 1 e, eqb-true bank 2 f)
 
 -- the unit that has stored a byte shows the memory with that byte
-stored_shows : (unit : UnitState) (byte : ℕ) (first : Bool) → (unit.dtr1 == 1) ≡ first → has_bank unit.dtr1 ≡ true → unit.dtr0 < length (bank_of unit unit.dtr1).bytes
-    → gear_of (record (if first then record unit { bank1 = with_byte unit.bank1 unit.dtr0 byte } else record unit { bank2 = with_byte unit.bank2 unit.dtr0 byte }) { dtr0 = up unit.dtr0 })
+stored_shows : (unit : UnitState) (byte : ℕ) (first : Bool) → (unit.dtr1 == 1) ≡ first → has_bank unit.dtr1 ≡ true
+    → unit.dtr0 < length (bank_of unit unit.dtr1).bytes
+    → gear_of (record (if first
+    then record unit { bank1 = with_byte unit.bank1 unit.dtr0 byte }
+    else record unit { bank2 = with_byte unit.bank2 unit.dtr0 byte }) { dtr0 = up unit.dtr0 })
     ≡ record (gear_of unit) { dtr0 = up unit.dtr0; memory = stored (gear_of unit).memory unit.dtr1 unit.dtr0 byte }
 stored_shows unit byte true e has within =
     let P : Bool → Type 0 = λ b. unit.dtr0 < length (if b then unit.bank1 else unit.bank2).bytes in
@@ -69,7 +84,8 @@ stored_shows unit byte true e has within =
     let memory : (bank location : ℕ)
     → (gear_of (record unit { bank1 = with_byte unit.bank1 unit.dtr0 byte })).memory bank location
     ≡ stored (gear_of unit).memory unit.dtr1 unit.dtr0 byte bank location
-    = λ bank location. rw (eqb-true unit.dtr1 1 e) (in_bank1 unit.bank1 unit.bank2 unit.dtr0 byte location (bank == 1) (bank == 2) here) in
+    = λ bank location.
+    rw (eqb-true unit.dtr1 1 e) (in_bank1 unit.bank1 unit.bank2 unit.dtr0 byte location (bank == 1) (bank == 2) here) in
     λ i. record (gear_of unit) { dtr0 = up unit.dtr0; memory = λ bank location. memory bank location i }
 stored_shows unit byte false e has within =
     let P : Bool → Type 0 = λ b. unit.dtr0 < length (if b then unit.bank1 else unit.bank2).bytes in
@@ -79,7 +95,8 @@ stored_shows unit byte false e has within =
     let memory : (bank location : ℕ)
     → (gear_of (record unit { bank2 = with_byte unit.bank2 unit.dtr0 byte })).memory bank location
     ≡ stored (gear_of unit).memory unit.dtr1 unit.dtr0 byte bank location
-    = λ bank location. rw (eqb-true unit.dtr1 2 second) (in_bank2 unit.bank1 unit.bank2 unit.dtr0 byte location (bank == 1) (bank == 2) (not_both bank) here) in
+    = λ bank location. rw (eqb-true unit.dtr1 2 second)
+    (in_bank2 unit.bank1 unit.bank2 unit.dtr0 byte location (bank == 1) (bank == 2) (not_both bank) here) in
     λ i. record (gear_of unit) { dtr0 = up unit.dtr0; memory = λ bank location. memory bank location i }
 
 -- what a stored write needs
@@ -103,8 +120,10 @@ selected_is unit is =
     subst P (sym is.has) (is_some-within _ _ is.within)
 
 -- a write, in the forms that it may take
-writing : (refuses : Bool) (unit : UnitState) (byte : ℕ) (carried done : Bool) → carries_out unit ≡ carried → stores refuses unit ≡ done
-    → let new = if carried then record (if done then with_stored unit byte else unit) { dtr0 = up unit.dtr0 } else unit in
+writing : (refuses : Bool) (unit : UnitState) (byte : ℕ) (carried done : Bool) → carries_out unit ≡ carried
+    → stores refuses unit ≡ done
+    → let new =
+    if carried then record (if done then with_stored unit byte else unit) { dtr0 = up unit.dtr0 } else unit in
     (Stores byte (gear_of unit) (gear_of new) × ((if done then Some byte else None) ≡ Some byte))
     ⊎ PassesBy (gear_of unit) (if done then Some byte else None) (gear_of new)
 writing refuses unit byte true true c s =
@@ -117,8 +136,10 @@ writing refuses unit byte false true c s =
 writing refuses unit byte false false c s = inr (unit.dtr0, inr refl, refl, refl)
 
 -- a silent write: the same with no answer
-silently : (refuses : Bool) (unit : UnitState) (byte : ℕ) (carried done : Bool) → carries_out unit ≡ carried → stores refuses unit ≡ done
-    → let new = if carried then record (if done then with_stored unit byte else unit) { dtr0 = up unit.dtr0 } else unit in
+silently : (refuses : Bool) (unit : UnitState) (byte : ℕ) (carried done : Bool) → carries_out unit ≡ carried
+    → stores refuses unit ≡ done
+    → let new =
+    if carried then record (if done then with_stored unit byte else unit) { dtr0 = up unit.dtr0 } else unit in
     Stores byte (gear_of unit) (gear_of new) ⊎ PassesBy (gear_of unit) None (gear_of new)
 silently refuses unit byte true true c s =
     let is = stored_parts refuses unit s in
@@ -131,8 +152,10 @@ silently refuses unit byte false false c s = inr (unit.dtr0, inr refl, refl, ref
 
 -- a read, in the forms that it may take
 reading : (unit : UnitState) (has : Bool) → has_bank unit.dtr1 ≡ has → (byte : Option ℕ) → selected_byte unit ≡ byte
-    → (obeyed : Gear) × (ReadsByte (gear_of unit) (selected_byte unit) obeyed ⊎ ReadsNothing (gear_of unit) (selected_byte unit) obeyed)
-    × MayEnd obeyed (gear_of (if has then record unit { enabled = false; dtr0 = up unit.dtr0 } else record unit { enabled = false }))
+    → (obeyed : Gear)
+    × (ReadsByte (gear_of unit) (selected_byte unit) obeyed ⊎ ReadsNothing (gear_of unit) (selected_byte unit) obeyed)
+    × MayEnd obeyed
+    (gear_of (if has then record unit { enabled = false; dtr0 = up unit.dtr0 } else record unit { enabled = false }))
 reading unit true e (Some byte) f =
     let some : IsSome (selected_byte unit) = rw f refl in
     (record (gear_of unit) { dtr0 = up unit.dtr0; enabled = false }, inl (some, refl, refl), inl refl)
@@ -147,26 +170,43 @@ reading unit false e byte f =
 
 -- a read that is put to a unit
 read_by : (to : ℕ) (unit : UnitState) (mine : Bool) → (to == unit.address) ≡ mine
-    → Hears unit.address (gear_of unit) (Read to) (if mine then selected_byte unit else None) (gear_of (if mine then after_read unit else unit))
+    → Hears unit.address (gear_of unit) (Read to) (if mine then selected_byte unit else None)
+    (gear_of (if mine then after_read unit else unit))
 read_by to unit true e =
     let way = reading unit (has_bank unit.dtr1) refl (selected_byte unit) refl in
     record { obeyed = way.0; obeys = inl (eqb-true to unit.address e, way.1); ends = way.2 }
-read_by to unit false e = record { obeyed = gear_of unit; obeys = inr (eqb-false to unit.address e, (refl, refl)); ends = inl refl }
+read_by to unit false e =
+    record { obeyed = gear_of unit; obeys = inr (eqb-false to unit.address e, (refl, refl)); ends = inl refl }
 
 -- what a simulated unit does with any frame is one of the things that a unit may do
 pub unit_hears : (refuses : Bool) (unit : UnitState) (frame : Frame)
     → Hears unit.address (gear_of unit) frame (answer_to refuses unit frame) (gear_of (after_frame refuses unit frame))
-unit_hears refuses unit (Dtr0 byte) = record { obeyed = record (gear_of unit) { dtr0 = byte }; obeys = (refl, refl); ends = inl refl }
-unit_hears refuses unit (Dtr1 byte) = record { obeyed = record (gear_of unit) { dtr1 = byte }; obeys = (refl, refl); ends = inl refl }
-unit_hears refuses unit (Dtr2 byte) = record { obeyed = record (gear_of unit) { dtr2 = byte }; obeys = (refl, refl); ends = inl refl }
+unit_hears refuses unit (Dtr0 byte) =
+    record { obeyed = record (gear_of unit) { dtr0 = byte }; obeys = (refl, refl); ends = inl refl }
+unit_hears refuses unit (Dtr1 byte) =
+    record { obeyed = record (gear_of unit) { dtr1 = byte }; obeys = (refl, refl); ends = inl refl }
+unit_hears refuses unit (Dtr2 byte) =
+    record { obeyed = record (gear_of unit) { dtr2 = byte }; obeys = (refl, refl); ends = inl refl }
 unit_hears refuses unit (Write byte) =
-    record { obeyed = _; obeys = writing refuses (record unit { half_pair = false }) byte _ _ refl refl; ends = inl refl }
+    record {
+      obeyed = _;
+      obeys = writing refuses (record unit { half_pair = false }) byte _ _ refl refl;
+      ends = inl refl;
+    }
 unit_hears refuses unit (WriteSilent byte) =
-    record { obeyed = _; obeys = (silently refuses (record unit { half_pair = false }) byte _ _ refl refl, refl); ends = inl refl }
+    record {
+      obeyed = _;
+      obeys = (silently refuses (record unit { half_pair = false }) byte _ _ refl refl, refl);
+      ends = inl refl;
+    }
 unit_hears refuses unit (Enable to) =
     record { obeyed = _; obeys = enabling to unit (to == unit.address) unit.half_pair refl refl; ends = inl refl }
-unit_hears refuses unit (AskDtr0 to) = record { obeyed = gear_of unit; obeys = asked to unit.address unit.dtr0 (gear_of unit) _ refl; ends = inl refl }
-unit_hears refuses unit (AskDtr1 to) = record { obeyed = gear_of unit; obeys = asked to unit.address unit.dtr1 (gear_of unit) _ refl; ends = inl refl }
-unit_hears refuses unit (AskDtr2 to) = record { obeyed = gear_of unit; obeys = asked to unit.address unit.dtr2 (gear_of unit) _ refl; ends = inl refl }
+unit_hears refuses unit (AskDtr0 to) =
+    record { obeyed = gear_of unit; obeys = asked to unit.address unit.dtr0 (gear_of unit) _ refl; ends = inl refl }
+unit_hears refuses unit (AskDtr1 to) =
+    record { obeyed = gear_of unit; obeys = asked to unit.address unit.dtr1 (gear_of unit) _ refl; ends = inl refl }
+unit_hears refuses unit (AskDtr2 to) =
+    record { obeyed = gear_of unit; obeys = asked to unit.address unit.dtr2 (gear_of unit) _ refl; ends = inl refl }
 unit_hears refuses unit (Read to) = read_by to (record unit { half_pair = false }) _ refl
-unit_hears refuses unit (Other word) = record { obeyed = gear_of (record unit { enabled = false }); obeys = tt; ends = inl refl }
+unit_hears refuses unit (Other word) =
+    record { obeyed = gear_of (record unit { enabled = false }); obeys = tt; ends = inl refl }

@@ -1,8 +1,10 @@
 -- What a simulated unit holds, and what it does with each frame that it hears.
-use Rattle.std.specs.Prelude.{ℕ, Bool, true, false, not, ◌&&◌, ◌||◌, ◌==◌, nat_lt, nat_le, List, [], ◌∷◌, replicate, length, slice_get, slice_index, slice_set, Option, Some, None, if◌then◌else◌}
+use Rattle.std.specs.Prelude.{ℕ, Bool, true, false, not, ◌&&◌, ◌||◌, ◌==◌, nat_lt, nat_le, List, [], ◌∷◌, replicate}
+use Rattle.std.specs.Prelude.{length, slice_get, slice_index, slice_set, Option, Some, None, if◌then◌else◌}
 use Rattle.std.specs.List.{list_any}
 use Rattle.dali_frame.specs.declared.forward.Frame.{Frame}
-use Rattle.dali_frame.specs.declared.forward.Frame.TheVariants.{Dtr0, Dtr1, Dtr2, Write, WriteSilent, Enable, AskDtr0, AskDtr1, AskDtr2, Read, Other}
+use Rattle.dali_frame.specs.declared.forward.Frame.TheVariants.{Dtr0, Dtr1, Dtr2, Write, WriteSilent, Enable, AskDtr0}
+use Rattle.dali_frame.specs.declared.forward.Frame.TheVariants.{AskDtr1, AskDtr2, Read, Other}
 use Rattle.dali_gear.specs.Hears.{up}
 use Rattle.dali_gear.specs.World.{Gear}
 
@@ -26,7 +28,9 @@ pub record UnitState : Type 0 where
 abbrev pub is_writable : BankState → ℕ → Bool
 is_writable bank location =
     nat_lt location (length bank.bytes)
-    && ((location == 2) || (nat_le 3 location && not (list_any (λ fixed. fixed == location) bank.fixed) && (slice_index bank.bytes 2 == 0x55)))
+    && ((location == 2)
+    || (nat_le 3 location && not (list_any (λ fixed. fixed == location) bank.fixed)
+    && (slice_index bank.bytes 2 == 0x55)))
 
 -- the bank with this byte at that location
 abbrev pub with_byte : BankState → ℕ → ℕ → BankState
@@ -75,7 +79,8 @@ after_read unit =
 
 -- after a frame of a pair: the second one enables it, the first one is half of a pair
 abbrev pub after_enable : UnitState → UnitState
-after_enable unit = if unit.half_pair then record unit { enabled = true; half_pair = false } else record unit { half_pair = true }
+after_enable unit =
+    if unit.half_pair then record unit { enabled = true; half_pair = false } else record unit { half_pair = true }
 
 -- after a frame other than ENABLE WRITE MEMORY to this unit
 abbrev pub after_other_frame : Bool → UnitState → Frame → UnitState

@@ -54,7 +54,8 @@ impl Bank {
     // Stores a byte where it can be written, unless the unit is to refuse, and says whether it did.
     pub(crate) fn write(&mut self, location: u8, byte: u8, refuses: bool) -> bool
         ensures is_stored { result ≡ (not refuses && is_writable self.old location) }
-        ensures after { self.new ≡ (if not refuses && is_writable self.old location then with_byte self.old location byte else self.old) }
+        ensures after { self.new
+            ≡ (if not refuses && is_writable self.old location then with_byte self.old location byte else self.old) }
     {
         let is_stored = !refuses && self.is_writable(location);
         if is_stored {

@@ -21,5 +21,6 @@ pub trait Bus {
         ensures { step self.old (Carried frame.now result) self.new };
 
     /// What this bus does is what its units may do.
-    ghost allowed: { (old : Self) (event : BusEvent) (new : Self) → step old event new → WorldStep (world old) event (world new) };
+    ghost allowed: { (old : Self) (event : BusEvent) (new : Self) → step old event new
+        → WorldStep (world old) event (world new) };
 }

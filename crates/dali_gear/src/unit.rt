@@ -1,7 +1,9 @@
-ghost use Rattle.std.specs.Prelude.{◌≡◌, ◌==◌, ◌≤◌, ◌<◌, ◌↔◌, [], true, false, if◌then◌else◌, IfOk, IfErr, OnOk, IsTrue};
+ghost use Rattle.std.specs.Prelude.{◌≡◌, ◌==◌, ◌≤◌, ◌<◌, ◌↔◌, [], true, false, if◌then◌else◌, IfOk, IfErr, OnOk};
+ghost use Rattle.std.specs.Prelude.{IsTrue};
 ghost use Rattle.std.specs.List.{AllByRecursion};
 ghost use Rattle.dali_bank.specs.Blank.{blank_bank};
-ghost use Rattle.dali_gear.specs.UnitState.{UnitState, after_frame, after_write, after_read, answer_to, selected_byte, stores, gear_of, new_unit};
+ghost use Rattle.dali_gear.specs.UnitState.{UnitState, after_frame, after_write, after_read, answer_to, selected_byte};
+ghost use Rattle.dali_gear.specs.UnitState.{stores, gear_of, new_unit};
 ghost use Rattle.dali_gear.specs.Hears.{Hears, up};
 ghost use Rattle.dali_gear.specs.Faults.{IsBank, AreFixed, LocationsRiseAbove, IsUnitFault, IsBlankFault};
 
@@ -201,7 +203,10 @@ impl Unit {
 
     // Does what a frame of a pair does: the second one enables writes, the first is half of a pair.
     fn enable(&mut self, was_half_pair_pending: bool)
-        ensures { self.new ≡ (if was_half_pair_pending then record self.old { enabled = true } else record self.old { half_pair = true }) }
+        ensures { self.new
+            ≡ (if was_half_pair_pending
+            then record self.old { enabled = true }
+            else record self.old { half_pair = true }) }
     {
         if was_half_pair_pending {
             self.is_enabled = true;
@@ -257,7 +262,8 @@ fn is_bank(bytes: &[u8]) -> bool
 
 // Whether locations rise from above the bound on, and lie below the end.
 fn rise_within(bound: u8, end: usize, locations: &[u8]) -> bool
-    ensures { IsTrue result ↔ (LocationsRiseAbove bound locations.now × AllByRecursion (λ location. location < end) locations.now) }
+    ensures { IsTrue result
+        ↔ (LocationsRiseAbove bound locations.now × AllByRecursion (λ location. location < end) locations.now) }
 {
     match locations {
         [] => true,

@@ -17,7 +17,8 @@ use Rattle.dali_input.proofs.ValueLemmas.{needs}
 
 -- one key isn't found by the other
 abbrev AreOther : List ℕ → List ℕ → Type 0
-AreOther key other = (found value : Option Data) → match_ordering (slice_cmp nat_cmp key other) found value found ≡ found
+AreOther key other =
+    (found value : Option Data) → match_ordering (slice_cmp nat_cmp key other) found value found ≡ found
 
 same_key : (key other : List ℕ) → (bytes_eq key other || false) ≡ true → key ≡ other
 same_key key other is = by (bytes_eq key other) refl is
@@ -26,14 +27,17 @@ same_key key other is = by (bytes_eq key other) refl is
     by true e is = (bytes_eq-Decides key other).0 e
     by false e is = cc
 
-only_member : (key other : List ℕ) (members : Members) → AreOther key other → list_all (λ k. list_any (bytes_eq k) (other ∷ [])) (keys_of members) ≡ true → get_member key members ≡ None
+only_member : (key other : List ℕ) (members : Members) → AreOther key other
+    → list_all (λ k. list_any (bytes_eq k) (other ∷ [])) (keys_of members) ≡ true → get_member key members ≡ None
 only_member key other no_members apart only = refl
 only_member key other (member k value members) apart only =
     let is = same_key k other (first_so (bytes_eq k other || false) _ only) in
-    rw is (apart (get_member key members) (Some value) ∙ only_member key other members apart (second_so (bytes_eq k other || false) _ only))
+    rw is (apart (get_member key members) (Some value)
+    ∙ only_member key other members apart (second_so (bytes_eq k other || false) _ only))
 
 -- an object with one key alone has nothing at another
-only_key : (key other : List ℕ) (json value : Data) → AreOther key other → has_only_keys (other ∷ []) json ≡ true → get key json ≡ Some value → ⊥
+only_key : (key other : List ℕ) (json value : Data) → AreOther key other → has_only_keys (other ∷ []) json ≡ true
+    → get key json ≡ Some value → ⊥
 only_key key other (object members) value apart only there = let none = only_member key other members apart only in cc
 only_key key other null value apart only there = cc
 only_key key other (boolean b) value apart only there = cc
@@ -42,11 +46,14 @@ only_key key other (string s) value apart only there = cc
 only_key key other (array items) value apart only there = cc
 
 -- an event whose number of steps can't be read
-pub no_steps : (json value : Data) (fault : InputFault) → get (codes "steps") json ≡ Some value → IsNoReading (IsWhole 1 most_events value) fault
+pub no_steps : (json value : Data) (fault : InputFault) → get (codes "steps") json ≡ Some value
+    → IsNoReading (IsWhole 1 most_events value) fault
     → IsNoReading (IsEvent json) fault
 no_steps json value fault there none = needs (IsWhole 1 most_events value) (IsEvent json) fault by none
   where
     by : (event : PlannedEvent) → IsEvent json event → (count : ℕ) × IsWhole 1 most_events value count
-    by (submit order) (only, is) = absurd (only_key (codes "steps") (codes "submit") json value (λ found v. refl) only there)
-    by (stop bytes) (only, is) = absurd (only_key (codes "steps") (codes "stop") json value (λ found v. refl) only there)
+    by (submit order) (only, is) =
+        absurd (only_key (codes "steps") (codes "submit") json value (λ found v. refl) only there)
+    by (stop bytes) (only, is) =
+        absurd (only_key (codes "steps") (codes "stop") json value (λ found v. refl) only there)
     by (steps count) (only, is) = (count, rw there at is)

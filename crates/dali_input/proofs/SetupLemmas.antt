@@ -1,5 +1,6 @@
 -- Lemmas on what a scenario sets up.
-use Rattle.std.proofs.Common.{◌≡◌, ◌≢◌, ◌<◌, ◌+◌, ℕ, suc, Bool, true, false, Option, Some, List, [], ◌∷◌, ◌++◌, length, get_or, map, take, drop, replicate, append_assoc, arith, refl, sym, subst, ap, ◌∙◌}
+use Rattle.std.proofs.Common.{◌≡◌, ◌≢◌, ◌<◌, ◌+◌, ℕ, suc, Bool, true, false, Option, Some, List, [], ◌∷◌, ◌++◌, length}
+use Rattle.std.proofs.Common.{get_or, map, take, drop, replicate, append_assoc, arith, refl, sym, subst, ap, ◌∙◌}
 use Rattle.std.specs.Prelude.{◌==◌, if◌then◌else◌}
 use Rattle.std.specs.List.{AllByRecursion}
 use Rattle.std.proofs.Math.Seq.{split_at}
@@ -21,41 +22,57 @@ use Rattle.dali_input.specs.declared.scenario.EventPlan.{EventPlan}
 use Rattle.dali_input.specs.declared.setup.SetupFault.{SetupFault}
 use Rattle.dali_input.specs.declared.setup.SetupFault.TheVariants as faults
 use Rattle.dali_input.specs.Items.{IsFaultOf}
-use Rattle.dali_input.specs.Scenario.{PlannedUnit, PlannedEvent, submit, steps, stop, Planned, IsSmall, unit_of, event_of}
-use Rattle.dali_input.specs.Setup.{IsMakeable, made_unit, AreUnits, IsFirstUnitFault, IsUnitRefusal, AreEvents, IsFirstOrderFault, IsOrderRefusal, HasBus, IsSetupRefused}
+use Rattle.dali_input.specs.Scenario.{PlannedUnit, PlannedEvent, submit, steps, stop, Planned, IsSmall, unit_planned}
+use Rattle.dali_input.specs.Scenario.{event_of}
+use Rattle.dali_input.specs.Setup.{IsMakeable, made_unit, AreUnits, IsFirstUnitFault, IsUnitRefusal, AreEvents}
+use Rattle.dali_input.specs.Setup.{IsFirstOrderFault, IsOrderRefusal, HasBus, IsSetupRefused}
 
-all_one_more : {X : Type 0} (P : X → Type 0) (xs : List X) (x : X) → AllByRecursion P xs → P x → AllByRecursion P (xs ++ x ∷ [])
+all_one_more : {X : Type 0} (P : X → Type 0) (xs : List X) (x : X) → AllByRecursion P xs → P x
+    → AllByRecursion P (xs ++ x ∷ [])
 all_one_more P [] x all holds = (holds, tt)
 all_one_more P (y ∷ xs) x all holds = (all.0, all_one_more P xs x all.1 holds)
 
 -- the plans up to one more
-one_more : {X Y : Type 0} (f : X → Y) (xs : List X) (i : ℕ) (x : X) → i < length xs → x ≡ get_or xs i x → map f (take (i + 1) xs) ≡ map f (take i xs) ++ f x ∷ []
-one_more f xs i x within is = ap (map f) (take_more xs i x within ∙ ap (λ y. take i xs ++ y ∷ []) (sym is)) ∙ map-append f (take i xs) (x ∷ [])
+one_more : {X Y : Type 0} (f : X → Y) (xs : List X) (i : ℕ) (x : X) → i < length xs → x ≡ get_or xs i x
+    → map f (take (i + 1) xs) ≡ map f (take i xs) ++ f x ∷ []
+one_more f xs i x within is =
+    ap (map f) (take_more xs i x within ∙ ap (λ y. take i xs ++ y ∷ []) (sym is)) ∙ map-append f (take i xs) (x ∷ [])
 
 -- and all of them, around one
-around : {X Y : Type 0} (f : X → Y) (xs : List X) (i : ℕ) (x : X) → i < length xs → x ≡ get_or xs i x → map f xs ≡ map f (take i xs) ++ f x ∷ map f (drop (suc i) xs)
-around f xs i x within is = ap (map f) (split_at xs i x within ∙ ap (λ y. take i xs ++ y ∷ drop (suc i) xs) (sym is)) ∙ map-append f (take i xs) (x ∷ drop (suc i) xs)
+around : {X Y : Type 0} (f : X → Y) (xs : List X) (i : ℕ) (x : X) → i < length xs → x ≡ get_or xs i x
+    → map f xs ≡ map f (take i xs) ++ f x ∷ map f (drop (suc i) xs)
+around f xs i x within is =
+    ap (map f) (split_at xs i x within ∙ ap (λ y. take i xs ++ y ∷ drop (suc i) xs) (sym is))
+    ∙ map-append f (take i xs) (x ∷ drop (suc i) xs)
 
-counted_at : {X Y : Type 0} (f : X → Y) (xs : List X) (i number : ℕ) → i < length xs → number ≡ i → number + 1 ≡ length (map f (take i xs)) + 1
+counted_at : {X Y : Type 0} (f : X → Y) (xs : List X) (i number : ℕ) → i < length xs → number ≡ i
+    → number + 1 ≡ length (map f (take i xs)) + 1
 counted_at f xs i number within counted = rw (length-map, length-take-le i xs (omega (arith, within)), counted) refl
 
 -- one unit more is made
-pub units_more : (plans : List UnitPlan) (i : ℕ) (plan : UnitPlan) (units : List UnitState) → i < length plans → plan ≡ get_or plans i plan
-    → AreUnits (map unit_of (take i plans)) units → IsMakeable (unit_of plan) → AreUnits (map unit_of (take (i + 1) plans)) (units ++ made_unit (unit_of plan) ∷ [])
-units_more plans i plan units within is made makeable = rw (one_more unit_of plans i plan within is) (record {
-  makeable = all_one_more IsMakeable (map unit_of (take i plans)) (unit_of plan) made.makeable makeable;
-  made = ap (λ us. us ++ made_unit (unit_of plan) ∷ []) made.made ∙ sym (map-append made_unit (map unit_of (take i plans)) (unit_of plan ∷ []));
+pub units_more : (plans : List UnitPlan) (i : ℕ) (plan : UnitPlan) (units : List UnitState) → i < length plans
+    → plan ≡ get_or plans i plan
+    → AreUnits (map unit_planned (take i plans)) units → IsMakeable (unit_planned plan)
+    → AreUnits (map unit_planned (take (i + 1) plans)) (units ++ made_unit (unit_planned plan) ∷ [])
+units_more plans i plan units within is made makeable = rw (one_more unit_planned plans i plan within is) (record {
+  makeable = all_one_more IsMakeable (map unit_planned (take i plans)) (unit_planned plan) made.makeable makeable;
+  made =
+      ap (λ us. us ++ made_unit (unit_planned plan) ∷ []) made.made
+      ∙ sym (map-append made_unit (map unit_planned (take i plans)) (unit_planned plan ∷ []));
 })
 
 -- a unit can't be made, and those before it can
-pub first_unit_fault : (plans : List UnitPlan) (i number : ℕ) (plan : UnitPlan) (units : List UnitState) (fault : GearFault) → i < length plans → plan ≡ get_or plans i plan → number ≡ i
-    → AreUnits (map unit_of (take i plans)) units → IsUnitFault plan.address plan.bank.items plan.fixed.items fault → fault ≢ NoMemory → IsFirstUnitFault (map unit_of plans) (number + 1) fault
+pub first_unit_fault : (plans : List UnitPlan) (i number : ℕ) (plan : UnitPlan) (units : List UnitState)
+    (fault : GearFault)
+    → i < length plans → plan ≡ get_or plans i plan → number ≡ i
+    → AreUnits (map unit_planned (take i plans)) units → IsUnitFault plan.address plan.bank.items plan.fixed.items fault
+    → fault ≢ NoMemory → IsFirstUnitFault (map unit_planned plans) (number + 1) fault
 first_unit_fault plans i number plan units fault within is counted made refused not_memory = record {
-  front = map unit_of (take i plans);
-  unit = unit_of plan;
-  behind = map unit_of (drop (suc i) plans);
-  split = around unit_of plans i plan within is;
-  counted = counted_at unit_of plans i number within counted;
+  front = map unit_planned (take i plans);
+  unit = unit_planned plan;
+  behind = map unit_planned (drop (suc i) plans);
+  split = around unit_planned plans i plan within is;
+  counted = counted_at unit_planned plans i number within counted;
   makeable = made.makeable;
   refused = refused;
   not_memory = not_memory;
@@ -63,28 +80,41 @@ first_unit_fault plans i number plan units fault within is counted made refused 
 
 -- ---- events
 
-events_more : (front : List PlannedEvent) (last : PlannedEvent) (all more : List Event) → AreEvents front all → AreEvents (last ∷ []) more → AreEvents (front ++ last ∷ []) (all ++ more)
+events_more : (front : List PlannedEvent) (last : PlannedEvent) (all more : List Event) → AreEvents front all
+    → AreEvents (last ∷ []) more → AreEvents (front ++ last ∷ []) (all ++ more)
 events_more [] last all more are is = rw are is
 events_more (submit source ∷ front) last all more are is =
     (are.0, are.1 ++ more, are.2, events_more front last are.1 more are.3 is, ap (λ es. es ++ more) are.4)
-events_more (steps count ∷ front) last all more are is =
-    (are.0 ++ more, events_more front last are.0 more are.1 is, ap (λ es. es ++ more) are.2 ∙ append_assoc (replicate count events.Step) are.0 more)
-events_more (stop bytes ∷ front) last all more are is = (are.0 ++ more, events_more front last are.0 more are.1 is, ap (λ es. es ++ more) are.2)
+events_more (steps count ∷ front) last all more are is = (
+  are.0 ++ more,
+  events_more front last are.0 more are.1 is,
+  ap (λ es. es ++ more) are.2 ∙ append_assoc (replicate count events.Step) are.0 more,
+)
+events_more (stop bytes ∷ front) last all more are is =
+    (are.0 ++ more, events_more front last are.0 more are.1 is, ap (λ es. es ++ more) are.2)
 
 -- what one plan more adds
-pub more_events : (plans : List EventPlan) (i : ℕ) (plan : EventPlan) (all more : List Event) (last : PlannedEvent) → i < length plans → plan ≡ get_or plans i plan → event_of plan ≡ last
-    → AreEvents (map event_of (take i plans)) all → AreEvents (last ∷ []) more → AreEvents (map event_of (take (i + 1) plans)) (all ++ more)
+pub more_events : (plans : List EventPlan) (i : ℕ) (plan : EventPlan) (all more : List Event) (last : PlannedEvent)
+    → i < length plans → plan ≡ get_or plans i plan → event_of plan ≡ last
+    → AreEvents (map event_of (take i plans)) all → AreEvents (last ∷ []) more
+    → AreEvents (map event_of (take (i + 1) plans)) (all ++ more)
 more_events plans i plan all more last within is plans_it are adds =
-    rw (one_more event_of plans i plan within is, plans_it) (events_more (map event_of (take i plans)) last all more are adds)
+    rw (one_more event_of plans i plan within is, plans_it)
+    (events_more (map event_of (take i plans)) last all more are adds)
 
 -- an order is refused, and those before it aren't
-pub first_order_fault : (plans : List EventPlan) (i number : ℕ) (plan : EventPlan) (all : List Event) (source : Data) (fault : ItemFault) → i < length plans → plan ≡ get_or plans i plan → number ≡ i
-    → event_of plan ≡ submit source → AreEvents (map event_of (take i plans)) all → IsFaultOf source fault → IsFirstOrderFault (map event_of plans) (number + 1) fault
+pub first_order_fault : (plans : List EventPlan) (i number : ℕ) (plan : EventPlan) (all : List Event) (source : Data)
+    (fault : ItemFault)
+    → i < length plans → plan ≡ get_or plans i plan → number ≡ i
+    → event_of plan ≡ submit source → AreEvents (map event_of (take i plans)) all → IsFaultOf source fault
+    → IsFirstOrderFault (map event_of plans) (number + 1) fault
 first_order_fault plans i number plan all source fault within is counted submits are refused = record {
   front = map event_of (take i plans);
   source = source;
   behind = map event_of (drop (suc i) plans);
-  split = subst (λ e. map event_of plans ≡ map event_of (take i plans) ++ e ∷ map event_of (drop (suc i) plans)) submits (around event_of plans i plan within is);
+  split =
+      subst (λ e. map event_of plans ≡ map event_of (take i plans) ++ e ∷ map event_of (drop (suc i) plans)) submits
+      (around event_of plans i plan within is);
   counted = counted_at event_of plans i number within counted;
   accepted = (all, are);
   refused = refused;
@@ -92,7 +122,8 @@ first_order_fault plans i number plan all source fault within is counted submits
 
 -- ---- why nothing is set up
 
-pub units_refused : (planned : Planned) (fault : SetupFault) → IsSmall planned → IsUnitRefusal planned.units fault → IsSetupRefused planned fault
+pub units_refused : (planned : Planned) (fault : SetupFault) → IsSmall planned → IsUnitRefusal planned.units fault
+    → IsSetupRefused planned fault
 units_refused planned (faults.Input Json) small refused = absurd refused
 units_refused planned (faults.Input Document) small refused = absurd refused
 units_refused planned (faults.Input TooBig) small refused = absurd refused
@@ -103,7 +134,8 @@ units_refused planned (faults.Unit number fault) small refused = (small, refused
 units_refused planned faults.SameAddress small refused = absurd refused
 units_refused planned (faults.Order number fault) small refused = absurd refused
 
-pub orders_refused : (planned : Planned) (fault : SetupFault) → HasBus planned → IsOrderRefusal planned.events fault → IsSetupRefused planned fault
+pub orders_refused : (planned : Planned) (fault : SetupFault) → HasBus planned → IsOrderRefusal planned.events fault
+    → IsSetupRefused planned fault
 orders_refused planned (faults.Input Json) bus refused = absurd refused
 orders_refused planned (faults.Input Document) bus refused = absurd refused
 orders_refused planned (faults.Input TooBig) bus refused = absurd refused
@@ -116,14 +148,17 @@ orders_refused planned (faults.Order number fault) bus refused = (bus, refused)
 
 -- ---- units at first
 
-none_at : (unit : PlannedUnit) (here : Bool) (rest : Option Gear) → is_open rest ≡ false → is_open (if here then Some (gear_of (made_unit unit)) else rest) ≡ false
+none_at : (unit : PlannedUnit) (here : Bool) (rest : Option Gear) → is_open rest ≡ false
+    → is_open (if here then Some (gear_of (made_unit unit)) else rest) ≡ false
 none_at unit true rest none = refl
 none_at unit false rest none = none
 
 none_in : (units : List PlannedUnit) (address : ℕ) → is_open (world_of (map made_unit units) address) ≡ false
 none_in [] address = refl
-none_in (unit ∷ units) address = none_at unit (address == unit.address) (world_of (map made_unit units) address) (none_in units address)
+none_in (unit ∷ units) address =
+    none_at unit (address == unit.address) (world_of (map made_unit units) address) (none_in units address)
 
 -- no new unit is write-enabled
-pub none_enabled : (planned : List PlannedUnit) (units : List UnitState) → AreUnits planned units → NoneEnabled (world_of units)
+pub none_enabled : (planned : List PlannedUnit) (units : List UnitState) → AreUnits planned units
+    → NoneEnabled (world_of units)
 none_enabled planned units are = λ address. rw are.made (none_in planned address)

@@ -1,31 +1,44 @@
--- What is read, and the JSON in it.
-use Rattle.std.specs.Prelude.{◌≡◌, ◌+◌, ◌<◌, ◌≤◌, ℕ, List, ◌++◌, Option, Some, None, length, IsUtf8, ⊤}
+-- What is read of a reader, and the JSON in it.
+use Rattle.std.specs.Prelude.{◌≡◌, ◌+◌, ◌<◌, ◌≤◌, ℕ, Bool, true, List, ◌++◌, Option, Some, None, length, IsUtf8, ⊤}
 use Rattle.std.specs.Io.KnownBytes.{Consumes, IsAtEnd}
 use Rattle.serde_json.specs.Data.{Data}
 use Rattle.serde_json.specs.Read.{read}
+use Rattle.dali_input.specs.declared.input.Input.{Input}
 use Rattle.dali_input.specs.declared.fault.InputFault.{InputFault}
 use Rattle.dali_input.specs.declared.fault.InputFault.TheVariants.{Json, Document, TooBig, Hex, Memory, File}
 
+-- how a reader stands: the bytes that it has left, where they are known, and whether a read has failed
+pub record InputState : Type 0 where
+  pub left : Option (List ℕ)
+  pub failed : Bool
+
+abbrev pub reader_of : {R : Type 0} → Input R → R
+reader_of input = input.reader
+
+abbrev pub state_of : {R : Type 0} → (R → Option (List ℕ)) → Input R → InputState
+state_of remaining input = record { left = remaining (reader_of input); failed = input.failed }
+
 -- at most one byte past the limit is read
-pub record ReadsAtMost (limit : ℕ) (before after : Option (List ℕ)) : Type 0 where
+pub record ReadsAtMost (limit : ℕ) (before after : InputState) : Type 0 where
   pub input : List ℕ
-  pub consumed : Consumes before after input
+  pub consumed : Consumes before.left after.left input
   pub bounded : length input ≤ limit + 1
 
--- all that the reader has is read, or its first bytes up to one past the limit
-pub record ReadsInput (limit : ℕ) (before after : Option (List ℕ)) (input : List ℕ) : Type 0 where
-  pub consumed : Consumes before after input
+-- all that the reader has is read, or its first bytes up to one past the limit, and no read failed
+pub record ReadsInput (limit : ℕ) (before after : InputState) (input : List ℕ) : Type 0 where
+  pub consumed : Consumes before.left after.left input
   pub bounded : length input ≤ limit + 1
-  pub whole : length input ≤ limit → IsAtEnd after
+  pub whole : length input ≤ limit → IsAtEnd after.left
+  pub unfailed : after.failed ≡ before.failed
 
--- why nothing is read: memory ran out, or the reader failed, which may come at any reader
-abbrev pub IsReadFailure : InputFault → Type 0
-IsReadFailure Memory = ⊤
-IsReadFailure File = ⊤
-IsReadFailure Json = ⊥
-IsReadFailure Document = ⊥
-IsReadFailure TooBig = ⊥
-IsReadFailure Hex = ⊥
+-- why nothing is read: memory ran out, which may come at any reader, or the reader has failed
+abbrev pub IsReadFailure : InputState → InputState → InputFault → Type 0
+IsReadFailure before after Memory = after.failed ≡ before.failed
+IsReadFailure before after File = after.failed ≡ true
+IsReadFailure before after Json = ⊥
+IsReadFailure before after Document = ⊥
+IsReadFailure before after TooBig = ⊥
+IsReadFailure before after Hex = ⊥
 
 -- what JSON the bytes are, as `serde_json` reads them: a value, or none
 abbrev pub IsReading : List ℕ → Option Data → Type 0
@@ -46,8 +59,9 @@ IsNoJson limit input Hex = ⊥
 IsNoJson limit input File = ⊥
 
 -- some bytes more are read, at most so many, and stand behind the old ones
-pub record ReadsMore (most : ℕ) (before after : Option (List ℕ)) (old new : List ℕ) : Type 0 where
+pub record ReadsMore (most : ℕ) (before after : InputState) (old new : List ℕ) : Type 0 where
   pub bytes : List ℕ
-  pub consumed : Consumes before after bytes
+  pub consumed : Consumes before.left after.left bytes
   pub bounded : length bytes ≤ most
   pub behind : new ≡ old ++ bytes
+  pub unfailed : after.failed ≡ before.failed

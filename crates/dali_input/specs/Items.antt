@@ -1,5 +1,6 @@
 -- What becomes of an order object of the input.
-use Rattle.std.specs.Prelude.{◌≡◌, ◌≢◌, ◌⊎◌, ◌<◌, ◌≤◌, ◌||◌, ℕ, List, [], ◌∷◌, ◌++◌, Bool, true, false, Option, Some, None, Result, Ok, Err, option_map, option_and_then, codes, length, MatchOption, ⊤}
+use Rattle.std.specs.Prelude.{◌≡◌, ◌≢◌, ◌⊎◌, ◌<◌, ◌≤◌, ◌||◌, ℕ, List, [], ◌∷◌, ◌++◌, Bool, true, false, Option, Some}
+use Rattle.std.specs.Prelude.{None, Result, Ok, Err, option_map, option_and_then, codes, length, MatchOption, ⊤}
 use Rattle.std.specs.List.{AllByRecursion, list_all, list_any}
 use Rattle.std.specs.Str.{bytes_eq}
 use Rattle.serde_json.specs.Data.{Data, null, number, string, Members, no_members, member}
@@ -22,7 +23,9 @@ use Rattle.dali_input.specs.declared.item.ItemFault.TheVariants.{Bank, Shape, Ke
 
 -- the key of an order's number, of its unit, or of a field
 abbrev pub is_key : List ℕ → Bool
-is_key key = bytes_eq key (codes "order") || (bytes_eq key (codes "unit") || list_any (λ field. bytes_eq key (key_of field)) fields)
+is_key key =
+    bytes_eq key (codes "order")
+    || (bytes_eq key (codes "unit") || list_any (λ field. bytes_eq key (key_of field)) fields)
 
 abbrev pub keys_of : Members → List (List ℕ)
 keys_of no_members = []
@@ -30,7 +33,8 @@ keys_of (member key value others) = key ∷ keys_of others
 
 -- each key of the object is known, or one is not
 abbrev pub KnowsKeys : Data → Bool → Type 0
-KnowsKeys source answer = (members : Members) × (as_object source ≡ Some members) × (list_all is_key (keys_of members) ≡ answer)
+KnowsKeys source answer =
+    (members : Members) × (as_object source ≡ Some members) × (list_all is_key (keys_of members) ≡ answer)
 
 -- ---- numbers
 
@@ -67,7 +71,8 @@ given field _ = None
 -- the field is found as the object gives it: not at all, or with the bytes of its value
 abbrev pub IsFoundIn : Data → Field → Option (List ℕ) → Type 0
 IsFoundIn source field found = MatchOption (get (key_of field) source) (found ≡ None)
-    (λ json. (value : Plain) × (bytes : List ℕ) × (given field json ≡ Some value) × AreFieldBytes field value bytes × (found ≡ Some bytes))
+    (λ json. (value : Plain) × (bytes : List ℕ) × (given field json ≡ Some value) × AreFieldBytes field value bytes
+    × (found ≡ Some bytes))
 
 -- the object gives nothing to the field, or a value that has bytes
 abbrev pub IsAcceptable : Data → Field → Type 0
@@ -104,16 +109,20 @@ pub record IsDraftOf (source : Data) (draft : Drafted) : Type 0 where
 
 -- the order that an object spells
 abbrev pub IsOrderOf : Data → Contents → Type 0
-IsOrderOf source order = (draft : Drafted) × IsDraftOf source draft × (¬ VoltagesCross draft) × (updates_of draft ≢ []) × (order ≡ order_of draft)
+IsOrderOf source order =
+    (draft : Drafted) × IsDraftOf source draft × (¬ VoltagesCross draft) × (updates_of draft ≢ [])
+    × (order ≡ order_of draft)
 
 -- why an object spells none: the first fault that stands
 abbrev pub IsFaultOf : Data → ItemFault → Type 0
 IsFaultOf source Shape = (whole_at (codes "order") source ≡ None) ⊎ (whole_at (codes "unit") source ≡ None)
 IsFaultOf source Key = (id : ℕ) × (unit : ℕ) × HasNumbers source id unit × KnowsKeys source false
-IsFaultOf source (Bank bank.Unit) = (id : ℕ) × (unit : ℕ) × HasNumbers source id unit × KnowsKeys source true × (63 < unit)
+IsFaultOf source (Bank bank.Unit) =
+    (id : ℕ) × (unit : ℕ) × HasNumbers source id unit × KnowsKeys source true × (63 < unit)
 IsFaultOf source (Bank bank.Twice) = ⊥
 IsFaultOf source (Bank bank.Voltage) = (draft : Drafted) × IsDraftOf source draft × VoltagesCross draft
-IsFaultOf source (Bank bank.Empty) = (draft : Drafted) × IsDraftOf source draft × (¬ VoltagesCross draft) × (updates_of draft ≡ [])
+IsFaultOf source (Bank bank.Empty) =
+    (draft : Drafted) × IsDraftOf source draft × (¬ VoltagesCross draft) × (updates_of draft ≡ [])
 IsFaultOf source (Bank fault) = (id : ℕ) × (unit : ℕ) × IsForUnit source id unit × IsFieldFault source fault
 
 -- what becomes of an item

@@ -29,7 +29,9 @@ pub record AreMembersOf (source : Data) (members : Members) : Type 0 where
 
 -- after is before with the field as the value gives it
 abbrev pub IsGivenBy : Data → Field → Drafted → Drafted → Type 0
-IsGivenBy json field before after = (value : Plain) × (bytes : List ℕ) × (given field json ≡ Some value) × AreFieldBytes field value bytes × (after ≡ with_field field bytes before)
+IsGivenBy json field before after =
+    (value : Plain) × (bytes : List ℕ) × (given field json ≡ Some value) × AreFieldBytes field value bytes
+    × (after ≡ with_field field bytes before)
 
 -- the value is of no kind that orders have, or one that the field refuses by this fault
 abbrev pub IsRefusedAs : Data → Field → BankFault → Type 0

@@ -1,12 +1,12 @@
 -- What a list of orders says: its items, and what becomes of each.
-use Rattle.std.specs.Prelude.{◌≡◌, ◌≢◌, ◌⊎◌, ◌+◌, ℕ, List, [], ◌∷◌, Option, Some, None, Result, Ok, Err, map, ⊤}
+use Rattle.std.specs.Prelude.{◌≡◌, ◌≢◌, ◌⊎◌, ◌+◌, ℕ, List, [], ◌∷◌, Some, None, Result, Ok, Err, map, ⊤}
 use Rattle.serde_json.specs.Data.{Data, Items, no_items, item}
 use Rattle.serde_json.specs.Find.{as_array}
 use Rattle.dali_bank.specs.Order.{Contents}
 use Rattle.dali_input.specs.declared.fault.InputFault.{InputFault}
 use Rattle.dali_input.specs.declared.fault.InputFault.TheVariants.{Document}
 use Rattle.dali_input.specs.declared.item.ItemFault.{ItemFault}
-use Rattle.dali_input.specs.Input.{IsJson, IsNoJson, IsReadFailure, ReadsInput}
+use Rattle.dali_input.specs.Input.{IsJson, IsNoJson, IsReadFailure, ReadsInput, InputState}
 use Rattle.dali_input.specs.Items.{Judges}
 
 -- the most bytes of a list of orders
@@ -41,22 +41,26 @@ refused_from number (Err fault ∷ outcomes) = (number, fault) ∷ refused_from 
 
 -- some items are refused, and these are all of them
 abbrev pub AreRefused : Items → List (ℕ × ItemFault) → Type 0
-AreRefused items refused = (outcomes : List Outcome) × JudgesEach items outcomes × (refused ≡ refused_from 1 outcomes) × (refused ≢ [])
+AreRefused items refused =
+    (outcomes : List Outcome) × JudgesEach items outcomes × (refused ≡ refused_from 1 outcomes) × (refused ≢ [])
 
 -- ---- a reader of a list of orders, by what it had before and has after it
 
 -- its items, in an input that it gave
-abbrev pub HasItems : Option (List ℕ) → Option (List ℕ) → Items → Type 0
-HasItems before after items = (input : List ℕ) × ReadsInput orders_limit before after input × AreItems orders_limit input items
+abbrev pub HasItems : InputState → InputState → Items → Type 0
+HasItems before after items =
+    (input : List ℕ) × ReadsInput orders_limit before after input × AreItems orders_limit input items
 
 -- each item spells its order
-abbrev pub HasOrders : Option (List ℕ) → Option (List ℕ) → List Contents → Type 0
+abbrev pub HasOrders : InputState → InputState → List Contents → Type 0
 HasOrders before after orders = (items : Items) × HasItems before after items × JudgesEach items (map Ok orders)
 
 -- some items are refused
-abbrev pub HasRefused : Option (List ℕ) → Option (List ℕ) → List (ℕ × ItemFault) → Type 0
+abbrev pub HasRefused : InputState → InputState → List (ℕ × ItemFault) → Type 0
 HasRefused before after refused = (items : Items) × HasItems before after items × AreRefused items refused
 
 -- why it has no items: it or the memory failed, or the input has none
-abbrev pub HasNoOrders : Option (List ℕ) → Option (List ℕ) → InputFault → Type 0
-HasNoOrders before after fault = IsReadFailure fault ⊎ ((input : List ℕ) × ReadsInput orders_limit before after input × IsInputFault orders_limit input fault)
+abbrev pub HasNoOrders : InputState → InputState → InputFault → Type 0
+HasNoOrders before after fault =
+    IsReadFailure before after fault
+    ⊎ ((input : List ℕ) × ReadsInput orders_limit before after input × IsInputFault orders_limit input fault)

@@ -1,5 +1,6 @@
 -- What a scenario file says.
-use Rattle.std.specs.Prelude.{◌≡◌, ◌↔◌, ◌≤◌, ◌^◌, ◌-◌, ℕ, List, [], ◌∷◌, Bool, true, false, Some, Ok, codes, length, map}
+use Rattle.std.specs.Prelude.{◌≡◌, ◌↔◌, ◌≤◌, ◌^◌, ◌-◌, ℕ, List, [], ◌∷◌, Bool, true, false, Some, Ok, codes, length}
+use Rattle.std.specs.Prelude.{map}
 use Rattle.std.specs.Int.{bit_at}
 use Rattle.std.specs.List.{Contains, sum_by}
 use Rattle.serde_json.specs.Data.{Data}
@@ -69,7 +70,8 @@ pub record IsFate (json : Data) (plan : FatePlan) : Type 0 where
 
 -- ---- events
 
--- an order is submitted, whatever stands there; so many steps are made; or the program stops, and so many bytes of a record reach the journal
+-- an order is submitted, whatever stands there; so many steps are made; or the program stops, and so many bytes of a
+-- record reach the journal
 pub data PlannedEvent : Type 0 where
   submit : Data → PlannedEvent
   steps : ℕ → PlannedEvent
@@ -77,7 +79,8 @@ pub data PlannedEvent : Type 0 where
 
 -- an object with one key
 abbrev pub IsEvent : Data → PlannedEvent → Type 0
-IsEvent json (submit order) = (has_only_keys (codes "submit" ∷ []) json ≡ true) × (get (codes "submit") json ≡ Some order)
+IsEvent json (submit order) =
+    (has_only_keys (codes "submit" ∷ []) json ≡ true) × (get (codes "submit") json ≡ Some order)
 IsEvent json (steps count) = (has_only_keys (codes "steps" ∷ []) json ≡ true)
     × IsRequired (IsWhole 1 most_events) (get (codes "steps") json) count
 IsEvent json (stop bytes) = (has_only_keys (codes "stop" ∷ []) json ≡ true)
@@ -111,8 +114,9 @@ pub record IsSmall (planned : Planned) : Type 0 where
 
 -- ---- the same, of what a scenario holds
 
-abbrev pub unit_of : UnitPlan → PlannedUnit
-unit_of plan = record { address = plan.address; bank = plan.bank.items; fixed = plan.fixed.items; dtrs = plan.dtrs }
+abbrev pub unit_planned : UnitPlan → PlannedUnit
+unit_planned plan =
+    record { address = plan.address; bank = plan.bank.items; fixed = plan.fixed.items; dtrs = plan.dtrs }
 
 abbrev pub event_of : EventPlan → PlannedEvent
 event_of (Submit order) = submit (view order.now)
@@ -122,7 +126,7 @@ event_of (Stop bytes) = stop bytes
 abbrev pub planned_of : Scenario → Planned
 planned_of scenario = record {
   limit = scenario.limit;
-  units = map unit_of scenario.units.items;
+  units = map unit_planned scenario.units.items;
   fates = scenario.fates.items;
   events = map event_of scenario.events.items;
 }

@@ -29,7 +29,8 @@ pub record IsMakeable (unit : PlannedUnit) : Type 0 where
 
 -- a new unit with these registers
 abbrev pub made_unit : PlannedUnit → UnitState
-made_unit unit = record (new_unit unit.address unit.bank unit.fixed) { dtr0 = unit.dtrs.0; dtr1 = unit.dtrs.1; dtr2 = unit.dtrs.2 }
+made_unit unit =
+    record (new_unit unit.address unit.bank unit.fixed) { dtr0 = unit.dtrs.0; dtr1 = unit.dtrs.1; dtr2 = unit.dtrs.2 }
 
 -- each unit is made, in their order
 pub record AreUnits (planned : List PlannedUnit) (units : List UnitState) : Type 0 where
@@ -66,7 +67,8 @@ abbrev pub AreEvents : List PlannedEvent → List Event → Type 0
 AreEvents [] all = all ≡ []
 AreEvents (submit source ∷ planned) all = (order : Contents) × (rest : List Event)
     × IsOrderOf source order × AreEvents planned rest × (all ≡ events.Submit order ∷ rest)
-AreEvents (steps count ∷ planned) all = (rest : List Event) × AreEvents planned rest × (all ≡ replicate count events.Step ++ rest)
+AreEvents (steps count ∷ planned) all =
+    (rest : List Event) × AreEvents planned rest × (all ≡ replicate count events.Step ++ rest)
 AreEvents (stop bytes ∷ planned) all = (rest : List Event) × AreEvents planned rest × (all ≡ events.Stop bytes ∷ rest)
 
 -- the first event with an order that is refused, counted from 1, and why

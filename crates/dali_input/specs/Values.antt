@@ -1,5 +1,6 @@
 -- What JSON values say.
-use Rattle.std.specs.Prelude.{◌≡◌, ◌≤◌, ℕ, List, [], ◌∷◌, Bool, false, Option, Some, None, option_and_then, option_map, ⊤}
+use Rattle.std.specs.Prelude.{◌≡◌, ◌≤◌, ℕ, List, [], ◌∷◌, Bool, false, Option, Some, None, option_and_then, option_map}
+use Rattle.std.specs.Prelude.{⊤}
 use Rattle.std.specs.Borrow.{Bor}
 use Rattle.std.specs.Option.{option_map_or}
 use Rattle.std.specs.List.{list_all, list_any}
@@ -47,7 +48,8 @@ IsOptional Says missing (Some json) x = Says json x
 
 -- an object with no key but these
 abbrev pub has_only_keys : List (List ℕ) → Data → Bool
-has_only_keys keys json = option_map_or (λ members. list_all (λ key. list_any (bytes_eq key) keys) (keys_of members)) (as_object json) false
+has_only_keys keys json =
+    option_map_or (λ members. list_all (λ key. list_any (bytes_eq key) keys) (keys_of members)) (as_object json) false
 
 -- why nothing is read of a value: it says nothing of this kind, or memory ran out, which may come at any value
 abbrev pub IsNoReading : {X : Type 0} → (X → Type 0) → InputFault → Type 0

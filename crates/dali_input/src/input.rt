@@ -1,7 +1,7 @@
-ghost use Rattle.std.specs.Prelude.{◌≡◌, ◌<◌, false, IfOk, IfErr, length};
-ghost use Rattle.std.specs.Io.KnownBytes.{IsAtEnd, Keeps};
+ghost use Rattle.std.specs.Prelude.{◌≡◌, ◌<◌, ◌≤◌, true, false, IfOk, IfErr, OnErr, OnOk, length};
+ghost use Rattle.std.specs.Io.KnownBytes.{IsAtEnd, Keeps, ReadConsumes};
 ghost use Rattle.serde_json.specs.View.{view};
-ghost use Rattle.dali_input.specs.Input.{IsJson, IsNoJson, IsReadFailure, ReadsInput, ReadsAtMost, ReadsMore};
+ghost use Rattle.dali_input.specs.Input.{IsJson, IsNoJson, IsReadFailure, ReadsInput, ReadsAtMost, ReadsMore, state_of};
 
 use crate::fault::InputFault;
 use serde_json::Value;
@@ -11,54 +11,110 @@ use std::io::{ErrorKind, Read};
 // How many bytes are read at a time.
 const CHUNK: usize = 65536;
 
+/// A reader that knows whether it has failed. From then on it gives nothing more, and its reader is left alone.
+#[derive(Drop)]
+pub struct Input<R> {
+    reader: R,
+    // Whether a read has failed.
+    failed: bool,
+}
+
+impl<R: Read> Input<R> {
+    ghost use Rattle.dali_input.specs.Input.{IsReadFailure, reader_of, state_of};
+
+    /// An input from the reader, which hasn't failed.
+    pub fn new(reader: R) -> Input<R>
+        ensures left { (state_of R.remaining result).left ≡ R.remaining reader }
+        ensures failed { (state_of R.remaining result).failed ≡ false }
+    {
+        Input {
+            reader,
+            failed: false,
+        }
+    }
+
+    /// The reader, with what it has left.
+    pub fn into_reader(self) -> R
+        ensures { result ≡ reader_of self }
+    {
+        self.reader
+    }
+
+    // Reads once, over the chunk. A read that a signal interrupts is made again, so often that no program lives to
+    // see the end of it. InputFault 20 Memory where the reader has no memory, else 21 File where it failed.
+    fn read(&mut self, chunk: &mut [u8]) -> Result<usize, InputFault>
+        ensures bound { IfOk result (λ count. count ≤ length chunk.new) }
+        ensures bytes { ReadConsumes (R.remaining self.old.reader) (R.remaining self.new.reader) result chunk.new }
+        ensures unfailed { OnOk result (self.new.failed ≡ self.old.failed) }
+        ensures err { IfErr result (IsReadFailure (state_of R.remaining self.old) (state_of R.remaining self.new)) }
+        ensures failed_before { self.old.failed ≡ true → self.new ≡ self.old }
+    {
+        if self.failed {
+            return Err(InputFault::File);
+        }
+        for _ in 0..u64::MAX {
+            match self.reader.read(chunk) {
+                Ok(count) => return Ok(count),
+                Err(error) => match error.kind() {
+                    ErrorKind::Interrupted => {}
+                    ErrorKind::OutOfMemory => return Err(InputFault::Memory),
+                    _ => break,
+                },
+            }
+        }
+        self.failed = true;
+        Err(InputFault::File)
+    }
+}
+
 /// All that the reader has, or its first bytes up to one past the limit, any number: an input with more
 /// bytes than the limit is too big, and no more of it is read.
 ///
-/// InputFault 20 Memory where there is no memory, 21 File where the reader failed.
-pub fn read_input<R: Read>(alloc: Global, reader: &mut R, limit: u32) -> Result<Vec<u8>, InputFault>
-    ensures ok { IfOk result (λ input.
-        ReadsInput limit (R.remaining reader.old) (R.remaining reader.new) input.items) }
-    ensures err { IfErr result IsReadFailure }
-    ensures read { ReadsAtMost limit (R.remaining reader.old) (R.remaining reader.new) }
+/// InputFault 20 Memory where there is no memory, 21 File where the reader has failed.
+pub fn read_input<R: Read>(
+    alloc: Global,
+    input: &mut Input<R>,
+    limit: u32,
+) -> Result<Vec<u8>, InputFault>
+    ensures ok { IfOk result (λ bytes.
+        ReadsInput limit (state_of R.remaining input.old) (state_of R.remaining input.new) bytes.items) }
+    ensures err { IfErr result (IsReadFailure (state_of R.remaining input.old) (state_of R.remaining input.new)) }
+    ensures read { ReadsAtMost limit (state_of R.remaining input.old) (state_of R.remaining input.new) }
 {
     let most = limit as usize + 1;
-    let mut input = Vec::new(alloc);
+    let mut bytes = Vec::new(alloc);
     let mut chunk = [0; CHUNK];
-    for _ in 0..u64::MAX {
-        let room = most - input.len();
-        if room == 0 || !read_more(reader, &mut input, &mut chunk[..room.min(CHUNK)])? {
-            return Ok(input);
+    while bytes.len() < most {
+        let room = (most - bytes.len()).min(CHUNK);
+        if !read_more(input, &mut bytes, &mut chunk[..room])? {
+            break;
         }
     }
-    Err(InputFault::File)
+    Ok(bytes)
 }
 
-// Reads once, over the chunk, and puts what it read behind the input. Whether there may be more.
+// Reads once, over the chunk, and puts what it read behind the bytes. Whether that was anything.
 fn read_more<R: Read>(
-    reader: &mut R,
-    input: &mut Vec<u8>,
+    input: &mut Input<R>,
+    bytes: &mut Vec<u8>,
     chunk: &mut [u8],
 ) -> Result<bool, InputFault>
     requires { 0 < length chunk.old }
-    ensures ok { IfOk result (λ more. (more ≡ false → IsAtEnd (R.remaining reader.new))
-        × ReadsMore (length chunk.old) (R.remaining reader.old) (R.remaining reader.new) input.old.items input.new.items) }
-    ensures err { IfErr result (λ fault. IsReadFailure fault
-        × Keeps (R.remaining reader.old) (R.remaining reader.new)) }
+    ensures more { IfOk result (λ more. more ≡ true → length bytes.old.items < length bytes.new.items) }
+    ensures ended { IfOk result (λ more. more ≡ false → IsAtEnd (R.remaining input.new.reader)) }
+    ensures ok { OnOk result (ReadsMore (length chunk.old) (state_of R.remaining input.old)
+        (state_of R.remaining input.new) bytes.old.items bytes.new.items) }
+    ensures err { IfErr result (IsReadFailure (state_of R.remaining input.old) (state_of R.remaining input.new)) }
+    ensures kept { OnErr result (Keeps (R.remaining input.old.reader) (R.remaining input.new.reader)) }
 {
     // Room is made first, so that no byte is lost for want of memory.
-    if input.reserve(chunk.len()).is_err() {
+    if bytes.reserve(chunk.len()).is_err() {
         return Err(InputFault::Memory);
     }
-    match reader.read(chunk) {
-        Ok(count) => match input.extend_from_slice(&chunk[..count]) {
-            Ok(()) => Ok(count != 0),
-            Err(_) => unreachable!(),
-        },
-        Err(error) => match error.kind() {
-            ErrorKind::Interrupted => Ok(true),
-            ErrorKind::OutOfMemory => Err(InputFault::Memory),
-            _ => Err(InputFault::File),
-        },
+    let count = input.read(chunk)?;
+    match bytes.extend_from_slice(&chunk[..count]) {
+        Ok(()) => Ok(count != 0),
+        Err(_) => unreachable!(),
     }
 }
 

@@ -4,7 +4,8 @@ ghost use Rattle.serde_json.specs.Find.{as_number, as_u64};
 ghost use Rattle.serde_json.specs.View.{view};
 ghost use Rattle.dali_bank.specs.Spelling.{plain};
 ghost use Rattle.dali_bank.specs.Draft.{found_of, empty_draft};
-ghost use Rattle.dali_input.specs.Items.{given as given_value, text_given as given_text, HasNumbers, IsForUnit, HasFieldsOf, IsFieldFault, IsOrderOf, IsFaultOf};
+ghost use Rattle.dali_input.specs.Items.{given as given_value, text_given as given_text, HasNumbers, IsForUnit};
+ghost use Rattle.dali_input.specs.Items.{HasFieldsOf, IsFieldFault, IsOrderOf, IsFaultOf};
 ghost use Rattle.dali_input.specs.Members.{AreMembersOf, IsGivenBy, IsRefusedAs};
 ghost use Rattle.dali_input.specs.Values.{value_if_any};
 

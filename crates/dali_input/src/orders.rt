@@ -1,10 +1,11 @@
 ghost use Rattle.std.specs.Prelude.{IfOk, IfErr, Ok, map};
 ghost use Rattle.serde_json.specs.View.{items_view};
-ghost use Rattle.dali_input.specs.Input.{ReadsAtMost};
-ghost use Rattle.dali_input.specs.Orders.{AreItems, AreRefused, HasNoOrders, HasOrders, HasRefused, IsInputFault, JudgesEach, orders_limit};
+ghost use Rattle.dali_input.specs.Input.{ReadsAtMost, state_of};
+ghost use Rattle.dali_input.specs.Orders.{AreItems, AreRefused, HasNoOrders, HasOrders, HasRefused, IsInputFault};
+ghost use Rattle.dali_input.specs.Orders.{JudgesEach, orders_limit};
 
 use crate::fault::InputFault;
-use crate::input::{json_of, read_input};
+use crate::input::{Input, json_of, read_input};
 use crate::item::{ItemFault, order_of};
 use dali_bank::Order;
 use serde_json::Value;
@@ -36,7 +37,8 @@ pub fn orders_of(
     alloc: Global,
     items: &[Value],
 ) -> Result<Result<Vec<Order>, Vec<(u64, ItemFault)>>, AllocError>
-    ensures ok { IfOk result (λ judged. IfOk judged (λ orders. JudgesEach (items_view items.now) (map Ok orders.items))) }
+    ensures ok { IfOk result
+        (λ judged. IfOk judged (λ orders. JudgesEach (items_view items.now) (map Ok orders.items))) }
     ensures err { IfOk result (λ judged. IfErr judged (λ refused. AreRefused (items_view items.now) refused.items)) }
 {
     let mut orders = Vec::new(alloc);
@@ -62,17 +64,17 @@ pub fn orders_of(
 /// where the reader failed.
 pub fn read_orders<R: Read>(
     alloc: Global,
-    reader: &mut R,
+    input: &mut Input<R>,
 ) -> Result<Result<Vec<Order>, Vec<(u64, ItemFault)>>, InputFault>
     ensures ok { IfOk result (λ judged. IfOk judged (λ orders.
-        HasOrders (R.remaining reader.old) (R.remaining reader.new) orders.items)) }
+        HasOrders (state_of R.remaining input.old) (state_of R.remaining input.new) orders.items)) }
     ensures refused { IfOk result (λ judged. IfErr judged (λ refused.
-        HasRefused (R.remaining reader.old) (R.remaining reader.new) refused.items)) }
-    ensures err { IfErr result (HasNoOrders (R.remaining reader.old) (R.remaining reader.new)) }
-    ensures read { ReadsAtMost orders_limit (R.remaining reader.old) (R.remaining reader.new) }
+        HasRefused (state_of R.remaining input.old) (state_of R.remaining input.new) refused.items)) }
+    ensures err { IfErr result (HasNoOrders (state_of R.remaining input.old) (state_of R.remaining input.new)) }
+    ensures read { ReadsAtMost orders_limit (state_of R.remaining input.old) (state_of R.remaining input.new) }
 {
-    let input = read_input(alloc, reader, ORDERS_LIMIT)?;
-    match items_of(alloc, input.as_slice(), ORDERS_LIMIT) {
+    let bytes = read_input(alloc, input, ORDERS_LIMIT)?;
+    match items_of(alloc, bytes.as_slice(), ORDERS_LIMIT) {
         Ok(items) => Ok(orders_of(alloc, items.as_slice())?),
         Err(fault) => Err(fault),
     }

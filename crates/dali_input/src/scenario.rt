@@ -4,7 +4,9 @@ ghost use Rattle.std.specs.List.{AllByRecursion, Contains, sum_by};
 ghost use Rattle.serde_json.specs.View.{view};
 ghost use Rattle.dali_bank.specs.Blank.{blank_bank};
 ghost use Rattle.dali_input.specs.Values.{IsWhole, IsArrayOf, IsRequired, IsOptional, IsNoReading, value_if_any};
-ghost use Rattle.dali_input.specs.Scenario.{AreBytes, AreDtrs, AreLost, IsBankText, IsBoolean, IsEvent, IsFate, IsScenario, IsSmall, IsUnit, event_count, event_of, most_events, planned_of, unit_of};
+ghost use Rattle.dali_input.specs.Scenario.{AreBytes, AreDtrs, AreLost, IsBankText, IsBoolean, IsEvent, IsFate};
+ghost use Rattle.dali_input.specs.Scenario.{IsScenario, IsSmall, IsUnit, event_count, event_of, most_events};
+ghost use Rattle.dali_input.specs.Scenario.{planned_of, unit_planned};
 
 use crate::fault::InputFault;
 use crate::values::{has_only_keys, numbers_of, whole_within};
@@ -81,7 +83,7 @@ pub struct Scenario<'a> {
 
 // What a unit's object says.
 fn unit_plan(alloc: Global, json: &Json) -> Result<UnitPlan, InputFault>
-    ensures ok { IfOk result (λ plan. IsUnit (view json.now) (unit_of plan)) }
+    ensures ok { IfOk result (λ plan. IsUnit (view json.now) (unit_planned plan)) }
     ensures err { IfErr result (IsNoReading (IsUnit (view json.now))) }
 {
     if !has_only_keys(json, &["address", "bank", "fixed", "dtr"]) {
@@ -246,7 +248,8 @@ fn event_plan(json: &Json) -> Result<EventPlan<'_>, InputFault>
 
 // What the values of an array of units say.
 fn unit_plans(alloc: Global, json: Option<&Json>) -> Result<Vec<UnitPlan>, InputFault>
-    ensures ok { IfOk result (λ plans. IsRequired (IsArrayOf IsUnit) (value_if_any json.entry) (map unit_of plans.items)) }
+    ensures ok { IfOk result
+        (λ plans. IsRequired (IsArrayOf IsUnit) (value_if_any json.entry) (map unit_planned plans.items)) }
     ensures err { IfErr result (IsNoReading (IsRequired (IsArrayOf IsUnit) (value_if_any json.entry))) }
 {
     let Some(json) = json else {
@@ -282,7 +285,8 @@ fn fate_plans(alloc: Global, json: Option<&Json>) -> Result<Vec<FatePlan>, Input
 
 // What the values of an array of events say.
 fn event_plans<'a>(alloc: Global, json: Option<&'a Json>) -> Result<Vec<EventPlan<'a>>, InputFault>
-    ensures ok { IfOk result (λ plans. IsRequired (IsArrayOf IsEvent) (value_if_any json.entry) (map event_of plans.items)) }
+    ensures ok { IfOk result
+        (λ plans. IsRequired (IsArrayOf IsEvent) (value_if_any json.entry) (map event_of plans.items)) }
     ensures err { IfErr result (IsNoReading (IsRequired (IsArrayOf IsEvent) (value_if_any json.entry))) }
 {
     let Some(json) = json else {

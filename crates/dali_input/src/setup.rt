@@ -1,8 +1,10 @@
 ghost use Rattle.std.specs.Prelude.{◌≡◌, ◌≢◌, ◌++◌, List, IfOk, IfErr, OnOk, map, replicate};
 ghost use Rattle.dali_gear.specs.Faults.{IsUnitFault};
 ghost use Rattle.dali_trace.specs.declared.happening.Event.TheVariants.{Step};
-ghost use Rattle.dali_input.specs.Scenario.{PlannedUnit, event_of, planned_of, unit_of};
-ghost use Rattle.dali_input.specs.Setup.{AreEvents, AreUnits, IsFirstUnitFault, IsMakeable, IsOrderRefusal, IsSetupRefused, IsSetUp, IsUnitRefusal, fates_of as expanded, made_unit as made};
+ghost use Rattle.dali_input.specs.Scenario.{PlannedUnit, event_of, planned_of, unit_planned};
+ghost use Rattle.dali_input.specs.Setup.{AreEvents, AreUnits, IsFirstUnitFault, IsMakeable, IsOrderRefusal};
+ghost use Rattle.dali_input.specs.Setup.{IsSetupRefused, IsSetUp, IsUnitRefusal, fates_of as expanded};
+ghost use Rattle.dali_input.specs.Setup.{made_unit as made};
 
 use crate::fault::InputFault;
 use crate::item::{ItemFault, order_of};
@@ -63,7 +65,8 @@ pub struct Setup {
 /// the first unit that can't be made, 1 Address, 2 Size or 3 Fixed; 5 SameAddress where two units are
 /// at one address; the fault of the first order that is refused. 20 Memory where there is no memory.
 pub fn setup_of(alloc: Global, scenario: &Scenario<'_>) -> Result<Setup, SetupFault>
-    ensures ok { IfOk result (λ setup. IsSetUp (planned_of scenario.now) setup.bus.units setup.bus.fates setup.events.items) }
+    ensures ok { IfOk result
+        (λ setup. IsSetUp (planned_of scenario.now) setup.bus.units setup.bus.fates setup.events.items) }
     ensures err { IfErr result (IsSetupRefused (planned_of scenario.now)) }
 {
     if !scenario.is_small() {
@@ -80,8 +83,8 @@ pub fn setup_of(alloc: Global, scenario: &Scenario<'_>) -> Result<Setup, SetupFa
 
 // The units, in their order.
 fn units_of(alloc: Global, plans: &[UnitPlan]) -> Result<Vec<Unit>, SetupFault>
-    ensures ok { IfOk result (λ units. AreUnits (map unit_of plans.now) units.items) }
-    ensures err { IfErr result (IsUnitRefusal (map unit_of plans.now)) }
+    ensures ok { IfOk result (λ units. AreUnits (map unit_planned plans.now) units.items) }
+    ensures err { IfErr result (IsUnitRefusal (map unit_planned plans.now)) }
 {
     let mut units = Vec::new(alloc);
     let mut number: u64 = 0;
@@ -97,7 +100,8 @@ fn units_of(alloc: Global, plans: &[UnitPlan]) -> Result<Vec<Unit>, SetupFault>
 
 // Why no scenario is set up at the fault of a unit.
 fn unit_fault(number: u64, fault: GearFault) -> SetupFault
-    ensures { (planned : List PlannedUnit) → (fault ≢ GearFault.NoMemory → IsFirstUnitFault planned number fault) → IsUnitRefusal planned result }
+    ensures { (planned : List PlannedUnit) → (fault ≢ GearFault.NoMemory → IsFirstUnitFault planned number fault)
+        → IsUnitRefusal planned result }
 {
     match fault {
         GearFault::NoMemory => SetupFault::Input(InputFault::Memory),
@@ -107,7 +111,7 @@ fn unit_fault(number: u64, fault: GearFault) -> SetupFault
 
 // A unit, with its registers.
 fn made_unit(alloc: Global, plan: &UnitPlan) -> Result<Unit, GearFault>
-    ensures ok { IfOk result (λ unit. IsMakeable (unit_of plan.now) × (unit ≡ made (unit_of plan.now))) }
+    ensures ok { IfOk result (λ unit. IsMakeable (unit_planned plan.now) × (unit ≡ made (unit_planned plan.now))) }
     ensures err { IfErr result (IsUnitFault plan.now.address plan.now.bank.items plan.now.fixed.items) }
 {
     let (bank, fixed) = (plan.bank.as_slice(), plan.fixed.as_slice());

@@ -22,7 +22,8 @@ abbrev is_among : ℕ → List (Contents × Stage) → Bool
 is_among id [] = false
 is_among id (newest ∷ older) = newest.0.id == id || is_among id older
 
-among_come : (id : ℕ) (stage : Stage) (orders : List (Contents × Stage)) → is_among id (come_to stage orders) ≡ is_among id orders
+among_come : (id : ℕ) (stage : Stage) (orders : List (Contents × Stage))
+    → is_among id (come_to stage orders) ≡ is_among id orders
 among_come id stage [] = refl
 among_come id stage (newest ∷ older) = refl
 
@@ -50,12 +51,14 @@ among_kept id (newest ∷ older) = by (newest.0.id == id) (among_kept id older)
 pub kept_where_begun : (id : ℕ) (records : List Record) → is_begun id records ≡ is_kept (kept_of id records)
 kept_where_begun id records = begun_among id records ∙ among_kept id (orders_of records)
 
-agrees_begun : (bytes : List ℕ) (place : Place) (kept : Kept) → Agrees bytes place kept → is_begun_at place ≡ is_kept kept
+agrees_begun : (bytes : List ℕ) (place : Place) (kept : Kept) → Agrees bytes place kept
+    → is_begun_at place ≡ is_kept kept
 agrees_begun bytes places.NotBegun kept a = sym (ap is_kept a)
 agrees_begun bytes (places.Begun at) kept a = sym (ap is_kept a.1)
 agrees_begun bytes (places.Ended at code) kept a = sym (ap is_kept a.1)
 
-pub begun_told : (id : ℕ) (bytes : List ℕ) (place : Place) (records : List Record) → Agrees bytes place (kept_of id records)
+pub begun_told : (id : ℕ) (bytes : List ℕ) (place : Place) (records : List Record)
+    → Agrees bytes place (kept_of id records)
     → is_begun_at place ≡ is_begun id records
 begun_told id bytes place records a =
     agrees_begun bytes place (kept_of id records) a ∙ sym (kept_where_begun id records)

@@ -11,8 +11,9 @@ use Rattle.dali_journal.specs.Sentence.{IsSentence}
 use Rattle.dali_journal.specs.Orders.{orders_of}
 use Rattle.dali_journal.specs.Spelling.{journal_spelling}
 use Rattle.dali_journal.specs.Reading.{BeginsWith, IsCutOf}
-use Rattle.dali_journal.specs.Decoding.{read_on, records_in}
-use Rattle.dali_journal.specs.Loading.{AreKept, MayNotStand, IsFault, BytesHaveOneFault}
+use Rattle.dali_journal.specs.Decoding.{records_from, records_in}
+use Rattle.dali_journal.specs.JournalState.{AreKept}
+use Rattle.dali_journal.specs.Loading.{MayNotStand, IsFault, BytesHaveOneFault}
 use Rattle.dali_journal.proofs.PairLemmas.{AreBytes}
 use Rattle.dali_journal.proofs.DecodeLemmas.{AreRecords, read_all, enough_bytes}
 use Rattle.dali_journal.proofs.TornLemmas.{bytes_back, record_stands, bad_read, stands, older_sentence, older_orders}
@@ -23,9 +24,11 @@ IsBad rest = (entry : Record) → (¬ BeginsWith rest entry) × (¬ IsCutOf rest
 -- a fault is of one of two kinds
 abbrev Kind : JournalFault → ℕ → ℕ → List Record → List ℕ → Type 0
 Kind fault limit place records rest =
-    ((fault ≡ faults.Record place) × IsBad rest) ⊎ ((entry : Record) × BeginsWith rest entry × MayNotStand fault limit place records entry)
+    ((fault ≡ faults.Record place) × IsBad rest)
+    ⊎ ((entry : Record) × BeginsWith rest entry × MayNotStand fault limit place records entry)
 
-kind_of : (fault : JournalFault) (limit place : ℕ) (records : List Record) (rest : List ℕ) → IsFault fault limit place records rest
+kind_of : (fault : JournalFault) (limit place : ℕ) (records : List Record) (rest : List ℕ)
+    → IsFault fault limit place records rest
     → Kind fault limit place records rest
 kind_of (faults.Record at) limit place records rest f = inl (ap faults.Record f.0, f.1)
 kind_of faults.Limit limit place records rest f = inr f
@@ -35,7 +38,8 @@ kind_of (faults.Repeated at) limit place records rest f = inr f
 kind_of (faults.Full at) limit place records rest f = inr f
 
 -- bytes in front of what is neither are read as the records in front
-bad_records : (bytes : List ℕ) (records : List Record) (rest : List ℕ) → AreBytes bytes → AreRecords records → bytes ≡ journal_spelling records ++ rest
+bad_records : (bytes : List ℕ) (records : List Record) (rest : List ℕ) → AreBytes bytes → AreRecords records
+    → bytes ≡ journal_spelling records ++ rest
     → IsBad rest → records_in bytes ≡ records
 bad_records bytes records rest are in_range spelled bad =
     let enough = enough_bytes records in
@@ -43,40 +47,49 @@ bad_records bytes records rest are in_range spelled bad =
     let most : ℕ = length bytes - length records in
     let count : length bytes ≡ length records + most = omega arith in
     let rest_are = bytes_back (journal_spelling records) rest (subst AreBytes spelled are) in
-    ap (λ n. read_on n [] bytes) count ∙ ap (read_on (length records + most) []) spelled ∙ read_all records most [] rest in_range rest_are
-    ∙ ap (λ those. read_on most those rest) (append-nil records) ∙ bad_read most records rest rest_are bad
+    ap (λ n. records_from n [] bytes) count ∙ ap (records_from (length records + most) []) spelled
+    ∙ read_all records most [] rest in_range rest_are
+    ∙ ap (λ those. records_from most those rest) (append-nil records) ∙ bad_read most records rest rest_are bad
 
 -- a record of a journal is none that may not stand
-stands_in : (limit place : ℕ) (whole more records : List Record) (entry : Record) (fault : JournalFault) → AreKept limit whole → whole ≡ more ++ entry ∷ records
+stands_in : (limit place : ℕ) (whole more records : List Record) (entry : Record) (fault : JournalFault)
+    → AreKept limit whole → whole ≡ more ++ entry ∷ records
     → MayNotStand fault limit place records entry → ⊥
 stands_in limit place whole more records entry fault kept same not =
-    let few = kept.within in
+    let few = kept.whole.1 in
     let fewer = ap (λ those. length (orders_of those)) same in
-    stands fault limit place records entry (older_sentence more (entry ∷ records) (subst IsSentence same kept.sentence))
+    stands fault limit place records entry (older_sentence more (entry ∷ records) (subst IsSentence same kept.whole.0))
     (let older = older_orders more (entry ∷ records) in omega arith) not
 
 -- two places in one list are the same, or one is before the other
 abbrev Places : Record → List Record → Record → List Record → Type 0
 Places a ones b twos =
-    ((a ≡ b) × (ones ≡ twos)) ⊎ (((more : List Record) × (twos ≡ more ++ a ∷ ones)) ⊎ ((more : List Record) × (ones ≡ more ++ b ∷ twos)))
+    ((a ≡ b) × (ones ≡ twos))
+    ⊎ (((more : List Record) × (twos ≡ more ++ a ∷ ones)) ⊎ ((more : List Record) × (ones ≡ more ++ b ∷ twos)))
 
-places : (ms ns : List Record) (a b : Record) (ones twos : List Record) → ms ++ a ∷ ones ≡ ns ++ b ∷ twos → Places a ones b twos
+places : (ms ns : List Record) (a b : Record) (ones twos : List Record) → ms ++ a ∷ ones ≡ ns ++ b ∷ twos
+    → Places a ones b twos
 places [] [] a b ones twos e = inl (cc, ap (drop 1) e)
 places [] (n ∷ ns) a b ones twos e = inr (inr (ns, ap (drop 1) e))
 places (m ∷ ms) [] a b ones twos e = inr (inl (ms, sym (ap (drop 1) e)))
 places (m ∷ ms) (n ∷ ns) a b ones twos e = places ms ns a b ones twos (ap (drop 1) e)
 
 -- what may not stand in one place is one fault
-same_fault : (f g : JournalFault) (limit place : ℕ) (records : List Record) (entry : Record) → MayNotStand f limit place records entry
+same_fault : (f g : JournalFault) (limit place : ℕ) (records : List Record) (entry : Record)
+    → MayNotStand f limit place records entry
     → MayNotStand g limit place records entry → f ≡ g
-same_fault (faults.Sequence at) (faults.Sequence other) limit place records entry a b = ap faults.Sequence (a.0 ∙ sym b.0)
+same_fault (faults.Sequence at) (faults.Sequence other) limit place records entry a b =
+    ap faults.Sequence (a.0 ∙ sym b.0)
 same_fault (faults.Sequence at) (faults.Repeated other) limit place records (Began order) a b = absurd (a.1 b.1)
 same_fault (faults.Sequence at) (faults.Full other) limit place records (Began order) a b = absurd (a.1 b.1)
 same_fault (faults.Repeated at) (faults.Sequence other) limit place records (Began order) a b = absurd (b.1 a.1)
-same_fault (faults.Repeated at) (faults.Repeated other) limit place records (Began order) a b = ap faults.Repeated (a.0 ∙ sym b.0)
-same_fault (faults.Repeated at) (faults.Full other) limit place records (Began order) a b = absurd (true≢false (sym a.2 ∙ b.2))
+same_fault (faults.Repeated at) (faults.Repeated other) limit place records (Began order) a b =
+    ap faults.Repeated (a.0 ∙ sym b.0)
+same_fault (faults.Repeated at) (faults.Full other) limit place records (Began order) a b =
+    absurd (true≢false (sym a.2 ∙ b.2))
 same_fault (faults.Full at) (faults.Sequence other) limit place records (Began order) a b = absurd (b.1 a.1)
-same_fault (faults.Full at) (faults.Repeated other) limit place records (Began order) a b = absurd (true≢false (sym b.2 ∙ a.2))
+same_fault (faults.Full at) (faults.Repeated other) limit place records (Began order) a b =
+    absurd (true≢false (sym b.2 ∙ a.2))
 same_fault (faults.Full at) (faults.Full other) limit place records (Began order) a b = ap faults.Full (a.0 ∙ sym b.0)
 same_fault faults.Limit g limit place records entry a b = absurd a
 same_fault f faults.Limit limit place records entry a b = absurd b
@@ -90,18 +103,24 @@ same_fault _ _ _ _ _ _ a b = absurd a
 abbrev place_behind : List Record → ℕ
 place_behind records = length (journal_spelling records)
 
-one_of : (limit : ℕ) (bytes : List ℕ) (f g : JournalFault) (ones twos : List Record) (rest more : List ℕ) → AreBytes bytes
-    → AreKept limit ones → AreKept limit twos → bytes ≡ journal_spelling ones ++ rest → bytes ≡ journal_spelling twos ++ more
+one_of : (limit : ℕ) (bytes : List ℕ) (f g : JournalFault) (ones twos : List Record) (rest more : List ℕ)
+    → AreBytes bytes
+    → AreKept limit ones → AreKept limit twos → bytes ≡ journal_spelling ones ++ rest
+    → bytes ≡ journal_spelling twos ++ more
     → Kind f limit (place_behind ones) ones rest → Kind g limit (place_behind twos) twos more → f ≡ g
 one_of limit bytes f g ones twos rest more are kept also spelled again (inl a) (inl b) =
-    let same : ones ≡ twos = sym (bad_records bytes ones rest are kept.in_range spelled a.1) ∙ bad_records bytes twos more are also.in_range again b.1 in
+    let same : ones ≡ twos =
+    sym (bad_records bytes ones rest are kept.in_range spelled a.1)
+    ∙ bad_records bytes twos more are also.in_range again b.1 in
     a.0 ∙ ap (λ those. faults.Record (place_behind those)) same ∙ sym b.0
 one_of limit bytes f g ones twos rest more are kept also spelled again (inl a) (inr b) =
     let found = record_stands limit bytes (records_in bytes) twos more b.0 refl are also.in_range again b.1 in
-    absurd (stands_in limit (place_behind twos) ones found.0 twos b.0 g kept (sym (bad_records bytes ones rest are kept.in_range spelled a.1) ∙ found.1) b.2)
+    absurd (stands_in limit (place_behind twos) ones found.0 twos b.0 g kept
+    (sym (bad_records bytes ones rest are kept.in_range spelled a.1) ∙ found.1) b.2)
 one_of limit bytes f g ones twos rest more are kept also spelled again (inr a) (inl b) =
     let found = record_stands limit bytes (records_in bytes) ones rest a.0 refl are kept.in_range spelled a.1 in
-    absurd (stands_in limit (place_behind ones) twos found.0 ones a.0 f also (sym (bad_records bytes twos more are also.in_range again b.1) ∙ found.1) a.2)
+    absurd (stands_in limit (place_behind ones) twos found.0 ones a.0 f also
+    (sym (bad_records bytes twos more are also.in_range again b.1) ∙ found.1) a.2)
 one_of limit bytes f g ones twos rest more are kept also spelled again (inr a) (inr b) =
     let first = record_stands limit bytes (records_in bytes) ones rest a.0 refl are kept.in_range spelled a.1 in
     let second = record_stands limit bytes (records_in bytes) twos more b.0 refl are also.in_range again b.1 in
@@ -110,11 +129,14 @@ one_of limit bytes f g ones twos rest more are kept also spelled again (inr a) (
     by : Places a.0 ones b.0 twos → f ≡ g
     by (inl same) =
         same_fault f g limit (place_behind twos) twos b.0
-        (subst (λ those. MayNotStand f limit (place_behind those) those b.0) same.1 (subst (MayNotStand f limit (place_behind ones) ones) same.0 a.2)) b.2
+        (subst (λ those. MayNotStand f limit (place_behind those) those b.0) same.1
+        (subst (MayNotStand f limit (place_behind ones) ones) same.0 a.2))
+        b.2
     by (inr (inl before)) = absurd (stands_in limit (place_behind ones) twos before.0 ones a.0 f also before.1 a.2)
     by (inr (inr behind)) = absurd (stands_in limit (place_behind twos) ones behind.0 twos b.0 g kept behind.1 b.2)
 
 pub one_fault : BytesHaveOneFault
 one_fault limit bytes f g are a b =
     one_of limit bytes f g a.records b.records a.rest b.rest are a.kept b.kept a.spelled b.spelled
-    (kind_of f limit (place_behind a.records) a.records a.rest a.behind) (kind_of g limit (place_behind b.records) b.records b.rest b.behind)
+    (kind_of f limit (place_behind a.records) a.records a.rest a.behind)
+    (kind_of g limit (place_behind b.records) b.records b.rest b.behind)

@@ -1,5 +1,6 @@
 -- What the table allows, record by record, is a list of groups.
-use Rattle.std.proofs.Common.{◌≡◌, ℕ, Bool, true, false, List, [], ◌∷◌, ◌++◌, reverse, refl, sym, ap, ◌∙◌, subst, arith, ◌||◌, ◌==◌}
+use Rattle.std.proofs.Common.{◌≡◌, ℕ, Bool, true, false, List, [], ◌∷◌, ◌++◌, reverse, refl, sym, ap, ◌∙◌, subst, arith}
+use Rattle.std.proofs.Common.{◌||◌, ◌==◌}
 use Rattle.std.proofs.Math.Bool.{or_assoc, or-false}
 use Rattle.std.proofs.lemmas.Bool.{or_from, or_parts}
 use Rattle.std.proofs.lemmas.Bool.Decides.{nat_tests}
@@ -56,12 +57,14 @@ allowed_groups (_ ∷ _) h = absurd h.0
 
 -- one record more at the end
 allowed_push : (standing : Standing) (entries : List Record) (entry : Record) →
-    AllowedFrom standing entries → Allows (standing_after standing entries) entry → AllowedFrom standing (entries ++ entry ∷ [])
+    AllowedFrom standing entries → Allows (standing_after standing entries) entry
+    → AllowedFrom standing (entries ++ entry ∷ [])
 allowed_push standing [] entry h may = (may, tt)
 allowed_push standing (first ∷ rest) entry h may = (h.0, allowed_push (next_standing standing first) rest entry h.1 may)
 
 allowed_pop : (standing : Standing) (entries : List Record) (entry : Record) →
-    AllowedFrom standing (entries ++ entry ∷ []) → AllowedFrom standing entries × Allows (standing_after standing entries) entry
+    AllowedFrom standing (entries ++ entry ∷ [])
+    → AllowedFrom standing entries × Allows (standing_after standing entries) entry
 allowed_pop standing [] entry h = (tt, h.0)
 allowed_pop standing (first ∷ rest) entry h =
     let more = allowed_pop (next_standing standing first) rest entry h.1 in ((h.0, more.0), more.1)
@@ -95,12 +98,14 @@ begun_push : (id : ℕ) (entries : List Record) (entry : Record) →
     is_begun id (entries ++ entry ∷ []) ≡ (is_begun id entries || is_begun id (entry ∷ []))
 begun_push id [] entry = refl
 begun_push id (Began order ∷ rest) entry =
-    ap (λ more. order.id == id || more) (begun_push id rest entry) ∙ sym (or_assoc (order.id == id) (is_begun id rest) (is_begun id (entry ∷ [])))
+    ap (λ more. order.id == id || more) (begun_push id rest entry)
+    ∙ sym (or_assoc (order.id == id) (is_begun id rest) (is_begun id (entry ∷ [])))
 begun_push id (Opened unit ∷ rest) entry = begun_push id rest entry
 begun_push id (Ended code ∷ rest) entry = begun_push id rest entry
 begun_push id (Closed unit ∷ rest) entry = begun_push id rest entry
 
-one_more : (id : ℕ) (entry : Record) (older : List Record) → (is_begun id older || is_begun id (entry ∷ [])) ≡ is_begun id (entry ∷ older)
+one_more : (id : ℕ) (entry : Record) (older : List Record)
+    → (is_begun id older || is_begun id (entry ∷ [])) ≡ is_begun id (entry ∷ older)
 one_more id (Began order) older = or_swap (order.id == id) (is_begun id older)
 one_more id (Opened unit) older = or-false (is_begun id older)
 one_more id (Ended code) older = or-false (is_begun id older)
@@ -112,7 +117,8 @@ begun_reverse id (entry ∷ older) =
     ap (is_begun id) (reverse_cons entry older) ∙ begun_push id (reverse older) entry
     ∙ ap (λ b. b || is_begun id (entry ∷ [])) (begun_reverse id older) ∙ one_more id entry older
 
-new_same : (entry : Record) (some same : List Record) → ((id : ℕ) → is_begun id same ≡ is_begun id some) → IsNew entry some → IsNew entry same
+new_same : (entry : Record) (some same : List Record) → ((id : ℕ) → is_begun id same ≡ is_begun id some)
+    → IsNew entry some → IsNew entry same
 new_same (Began order) some same f new = f order.id ∙ new
 new_same (Opened unit) some same f new = tt
 new_same (Ended code) some same f new = tt
@@ -131,42 +137,54 @@ new_alone (Ended code) = tt
 new_alone (Closed unit) = tt
 
 -- a new number is another than the first
-new_first : (first : Contents) (rest : List Record) (entry : Record) → IsNew entry (Began first ∷ rest) → is_begun first.id (entry ∷ []) ≡ false
+new_first : (first : Contents) (rest : List Record) (entry : Record) → IsNew entry (Began first ∷ rest)
+    → is_begun first.id (entry ∷ []) ≡ false
 new_first first rest (Began order) new =
-    or_from (order.id == first.id) false (apart first.id order.id (or_parts (first.id == order.id) (is_begun order.id rest) new).0) refl
+    or_from (order.id == first.id) false
+    (apart first.id order.id (or_parts (first.id == order.id) (is_begun order.id rest) new).0) refl
 new_first first rest (Opened unit) new = refl
 new_first first rest (Ended code) new = refl
 new_first first rest (Closed unit) new = refl
 
-new_rest : (first : Contents) (rest : List Record) (entry : Record) → IsNew entry (Began first ∷ rest) → IsNew entry rest
+new_rest : (first : Contents) (rest : List Record) (entry : Record) → IsNew entry (Began first ∷ rest)
+    → IsNew entry rest
 new_rest first rest (Began order) new = (or_parts (first.id == order.id) (is_begun order.id rest) new).1
 new_rest first rest (Opened unit) new = tt
 new_rest first rest (Ended code) new = tt
 new_rest first rest (Closed unit) new = tt
 
-new_both : (first : Contents) (rest : List Record) (entry : Record) → is_begun first.id (entry ∷ []) ≡ false → IsNew entry rest
+new_both : (first : Contents) (rest : List Record) (entry : Record) → is_begun first.id (entry ∷ []) ≡ false
+    → IsNew entry rest
     → IsNew entry (Began first ∷ rest)
 new_both first rest (Began order) other new =
-    or_from (first.id == order.id) (is_begun order.id rest) (apart order.id first.id (or_parts (order.id == first.id) false other).0) new
+    or_from (first.id == order.id) (is_begun order.id rest)
+    (apart order.id first.id (or_parts (order.id == first.id) false other).0) new
 new_both first rest (Opened unit) other new = tt
 new_both first rest (Ended code) other new = tt
 new_both first rest (Closed unit) other new = tt
 
-distinct_push : (entries : List Record) (entry : Record) → HaveDistinctNumbers entries → IsNew entry entries → HaveDistinctNumbers (entries ++ entry ∷ [])
+distinct_push : (entries : List Record) (entry : Record) → HaveDistinctNumbers entries → IsNew entry entries
+    → HaveDistinctNumbers (entries ++ entry ∷ [])
 distinct_push [] entry h new = alone entry
 distinct_push (Began first ∷ rest) entry h new = (
-  begun_push first.id rest entry ∙ or_from (is_begun first.id rest) (is_begun first.id (entry ∷ [])) h.0 (new_first first rest entry new),
+  begun_push first.id rest entry
+      ∙ or_from (is_begun first.id rest) (is_begun first.id (entry ∷ [])) h.0 (new_first first rest entry new),
   distinct_push rest entry h.1 (new_rest first rest entry new),
 )
-distinct_push (Opened unit ∷ rest) entry h new = distinct_push rest entry h (new_same entry (Opened unit ∷ rest) rest (λ id. refl) new)
-distinct_push (Ended code ∷ rest) entry h new = distinct_push rest entry h (new_same entry (Ended code ∷ rest) rest (λ id. refl) new)
-distinct_push (Closed unit ∷ rest) entry h new = distinct_push rest entry h (new_same entry (Closed unit ∷ rest) rest (λ id. refl) new)
+distinct_push (Opened unit ∷ rest) entry h new =
+    distinct_push rest entry h (new_same entry (Opened unit ∷ rest) rest (λ id. refl) new)
+distinct_push (Ended code ∷ rest) entry h new =
+    distinct_push rest entry h (new_same entry (Ended code ∷ rest) rest (λ id. refl) new)
+distinct_push (Closed unit ∷ rest) entry h new =
+    distinct_push rest entry h (new_same entry (Closed unit ∷ rest) rest (λ id. refl) new)
 
-distinct_pop : (entries : List Record) (entry : Record) → HaveDistinctNumbers (entries ++ entry ∷ []) → HaveDistinctNumbers entries × IsNew entry entries
+distinct_pop : (entries : List Record) (entry : Record) → HaveDistinctNumbers (entries ++ entry ∷ [])
+    → HaveDistinctNumbers entries × IsNew entry entries
 distinct_pop [] entry h = (tt, new_alone entry)
 distinct_pop (Began first ∷ rest) entry h =
     let more = distinct_pop rest entry h.1 in
-    let both = or_parts (is_begun first.id rest) (is_begun first.id (entry ∷ [])) (sym (begun_push first.id rest entry) ∙ h.0) in
+    let both =
+    or_parts (is_begun first.id rest) (is_begun first.id (entry ∷ [])) (sym (begun_push first.id rest entry) ∙ h.0) in
     ((both.0, more.0), new_both first rest entry both.1 more.1)
 distinct_pop (Opened unit ∷ rest) entry h =
     let more = distinct_pop rest entry h in (more.0, new_same entry rest (Opened unit ∷ rest) (λ id. refl) more.1)
@@ -184,8 +202,10 @@ sentence_allowed [] sentence = (tt, tt)
 sentence_allowed (entry ∷ older) sentence =
     let before = sentence_allowed older sentence.0 in
     subst AreAllowed (sym (reverse_cons entry older)) (
-      allowed_push standings.Idle (reverse older) entry before.0 (subst (λ stands. Allows stands entry) (sym (standing_reverse older)) sentence.1),
-      distinct_push (reverse older) entry before.1 (new_same entry older (reverse older) (λ id. begun_reverse id older) sentence.2),
+      allowed_push standings.Idle (reverse older) entry before.0
+          (subst (λ stands. Allows stands entry) (sym (standing_reverse older)) sentence.1),
+      distinct_push (reverse older) entry before.1
+          (new_same entry older (reverse older) (λ id. begun_reverse id older) sentence.2),
     )
 
 allowed_sentence : (records : List Record) → AreAllowed (reverse records) → IsSentence records
@@ -199,9 +219,11 @@ allowed_sentence (entry ∷ older) h =
       new_same entry (reverse older) older (λ id. sym (begun_reverse id older)) distinct.1,
     )
 
-pub sentence_groups : (records : List Record) → IsSentence records → AreGroups (reverse records) × HaveDistinctNumbers (reverse records)
+pub sentence_groups : (records : List Record) → IsSentence records
+    → AreGroups (reverse records) × HaveDistinctNumbers (reverse records)
 sentence_groups records sentence =
     let allowed = sentence_allowed records sentence in (allowed_groups (reverse records) allowed.0, allowed.1)
 
-pub groups_sentence : (records : List Record) → AreGroups (reverse records) × HaveDistinctNumbers (reverse records) → IsSentence records
+pub groups_sentence : (records : List Record) → AreGroups (reverse records) × HaveDistinctNumbers (reverse records)
+    → IsSentence records
 groups_sentence records h = allowed_sentence records (groups_allowed (reverse records) h.0, h.1)

@@ -33,7 +33,8 @@ IsNewest (standings.Began order) orders = (older : List (Contents × Stage)) × 
 IsNewest (standings.Opened order) orders = (older : List (Contents × Stage)) × (orders ≡ (order, stages.Open) ∷ older)
 IsNewest other orders = ⊤
 
-newest_next : (standing : Standing) (entry : Record) (older : List Record) → Allows standing entry → IsNewest standing (orders_of older)
+newest_next : (standing : Standing) (entry : Record) (older : List Record) → Allows standing entry
+    → IsNewest standing (orders_of older)
     → IsNewest (next_standing standing entry) (orders_of (entry ∷ older))
 newest_next standings.Idle (Began order) older a n = (orders_of older, refl)
 newest_next (standings.Began order) (Opened unit) older a n = (n.0, ap (come_to stages.Open) n.1)
@@ -56,19 +57,27 @@ drop_append (suc n) [] ys h = absurd (omega arith)
 drop_append (suc n) (x ∷ xs) ys h = drop_append n xs ys (omega arith)
 
 -- what stands in bytes stands in longer ones
-stands_more : (bytes more : List ℕ) (at : ℕ) (entry : Record) → StandsAt bytes at entry → StandsAt (bytes ++ more) at entry
+stands_more : (bytes more : List ℕ) (at : ℕ) (entry : Record) → StandsAt bytes at entry
+    → StandsAt (bytes ++ more) at entry
 stands_more bytes more at entry stands = (
   let n = length-append bytes more in let h = stands.0 in omega arith,
-  (stands.1.0, stands.1.1 ++ more, drop_append at bytes more stands.0 ∙ ap (λ bs. bs ++ more) stands.1.2 ∙ append_assoc (spelling entry) stands.1.1 more),
+  (
+    stands.1.0,
+    stands.1.1 ++ more,
+    drop_append at bytes more stands.0 ∙ ap (λ bs. bs ++ more) stands.1.2
+        ∙ append_assoc (spelling entry) stands.1.1 more,
+  ),
 )
 
-agrees_more : (bytes more : List ℕ) (place : Place) (kept : Kept) → Agrees bytes place kept → Agrees (bytes ++ more) place kept
+agrees_more : (bytes more : List ℕ) (place : Place) (kept : Kept) → Agrees bytes place kept
+    → Agrees (bytes ++ more) place kept
 agrees_more bytes more places.NotBegun kept a = a
 agrees_more bytes more (places.Begun at) kept a = (a.0, a.1, stands_more bytes more at (Began a.0) a.2)
 agrees_more bytes more (places.Ended at code) kept a = (a.0, a.1, stands_more bytes more at (Began a.0) a.2)
 
 -- an end is noted where the order was begun
-ended_agrees : (bytes : List ℕ) (place : Place) (code : Code) (order : Contents) → Agrees bytes place (kepts.Unfinished order)
+ended_agrees : (bytes : List ℕ) (place : Place) (code : Code) (order : Contents)
+    → Agrees bytes place (kepts.Unfinished order)
     → Agrees bytes (ended_place code place) (kepts.Ended order code)
 ended_agrees bytes places.NotBegun code order a = cc
 ended_agrees bytes (places.Begun at) code order a =
@@ -76,7 +85,8 @@ ended_agrees bytes (places.Begun at) code order a =
 ended_agrees bytes (places.Ended at other) code order a = let e = a.1 in cc
 
 -- an end changes what is kept of the order at work, which is the newest, and of no other
-end_agrees : (bytes : List ℕ) (place : Place) (code : Code) (order : Contents) (stage : Stage) (orders older : List (Contents × Stage)) (id : ℕ) (test : Bool)
+end_agrees : (bytes : List ℕ) (place : Place) (code : Code) (order : Contents) (stage : Stage)
+    (orders older : List (Contents × Stage)) (id : ℕ) (test : Bool)
     → (order.id == id) ≡ test → kept_at order stage ≡ kepts.Unfinished order → orders ≡ (order, stage) ∷ older
     → Agrees bytes place (kept_among id orders)
     → Agrees bytes (cond test (ended_place code place) place) (kept_among id (come_to (stages.Ended code) orders))
@@ -84,13 +94,16 @@ end_agrees bytes place code order stage orders older id true t begun is a =
     let before : kept_among id orders ≡ kepts.Unfinished order =
     ap (kept_among id) is ∙ ap (λ b. cond b (kept_at order stage) (kept_among id older)) t ∙ begun in
     let after : kept_among id (come_to (stages.Ended code) orders) ≡ kepts.Ended order code =
-    ap (λ os. kept_among id (come_to (stages.Ended code) os)) is ∙ ap (λ b. cond b (kepts.Ended order code) (kept_among id older)) t in
-    subst (Agrees bytes (ended_place code place)) (sym after) (ended_agrees bytes place code order (subst (Agrees bytes place) before a))
+    ap (λ os. kept_among id (come_to (stages.Ended code) os)) is
+    ∙ ap (λ b. cond b (kepts.Ended order code) (kept_among id older)) t in
+    subst (Agrees bytes (ended_place code place)) (sym after)
+    (ended_agrees bytes place code order (subst (Agrees bytes place) before a))
 end_agrees bytes place code order stage orders older id false t begun is a =
     let before : kept_among id orders ≡ kept_among id older =
     ap (kept_among id) is ∙ ap (λ b. cond b (kept_at order stage) (kept_among id older)) t in
     let after : kept_among id (come_to (stages.Ended code) orders) ≡ kept_among id older =
-    ap (λ os. kept_among id (come_to (stages.Ended code) os)) is ∙ ap (λ b. cond b (kepts.Ended order code) (kept_among id older)) t in
+    ap (λ os. kept_among id (come_to (stages.Ended code) os)) is
+    ∙ ap (λ b. cond b (kepts.Ended order code) (kept_among id older)) t in
     subst (Agrees bytes place) (before ∙ sym after) a
 
 ended_by : (bytes : List ℕ) (standing : Standing) (code : Code) (older : List Record) (id : ℕ) (place : Place)
@@ -103,49 +116,62 @@ ended_by bytes (standings.Opened order) code older id place a n k =
 ended_by bytes _ code older id place a n k = absurd a
 
 -- an order that is opened stays unfinished
-pub opened_same : (standing : Standing) (unit : ℕ) (older : List Record) (id : ℕ) → Allows standing (Opened unit) → IsNewest standing (orders_of older)
+pub opened_same : (standing : Standing) (unit : ℕ) (older : List Record) (id : ℕ) → Allows standing (Opened unit)
+    → IsNewest standing (orders_of older)
     → kept_of id older ≡ kept_of id (Opened unit ∷ older)
 opened_same (standings.Began order) unit older id a n =
     ap (kept_among id) n.1 ∙ sym (ap (λ os. kept_among id (come_to stages.Open os)) n.1)
 opened_same _ unit older id a n = absurd a
 
 -- the new record stands where the bytes ended
-stands_new : (bytes : List ℕ) (entry : Record) → IsRecord entry → StandsAt (bytes ++ spelling entry) (length bytes) entry
+stands_new : (bytes : List ℕ) (entry : Record) → IsRecord entry
+    → StandsAt (bytes ++ spelling entry) (length bytes) entry
 stands_new bytes entry is = (
   let n = length-append bytes (spelling entry) in omega arith,
   (is, [], drop-append_seam bytes (spelling entry) ∙ sym (append-nil (spelling entry))),
 )
 
-began_agrees : (bytes : List ℕ) (order : Contents) (older : List Record) (id : ℕ) (place : Place) (test : Bool) → IsRecord (Began order)
+began_agrees : (bytes : List ℕ) (order : Contents) (older : List Record) (id : ℕ) (place : Place) (test : Bool)
+    → IsRecord (Began order)
     → (order.id == id) ≡ test → Agrees bytes place (kept_of id older)
-    → Agrees (bytes ++ spelling (Began order)) (cond test (places.Begun (length bytes)) place) (kept_of id (Began order ∷ older))
+    → Agrees (bytes ++ spelling (Began order)) (cond test (places.Begun (length bytes)) place)
+    (kept_of id (Began order ∷ older))
 began_agrees bytes order older id place true is t a =
     (order, ap (λ b. cond b (kepts.Unfinished order) (kept_of id older)) t, stands_new bytes (Began order) is)
 began_agrees bytes order older id place false is t a =
-    subst (Agrees (bytes ++ spelling (Began order)) place) (sym (ap (λ b. cond b (kepts.Unfinished order) (kept_of id older)) t))
+    subst (Agrees (bytes ++ spelling (Began order)) place)
+    (sym (ap (λ b. cond b (kepts.Unfinished order) (kept_of id older)) t))
     (agrees_more bytes (spelling (Began order)) place (kept_of id older) a)
 
 -- what the index tells with one record more is what is then kept
-pub place_next : (bytes : List ℕ) (older : List Record) (entry : Record) (id : ℕ) (place : Place) → IsRecord entry → IsSentence older
+pub place_next : (bytes : List ℕ) (older : List Record) (entry : Record) (id : ℕ) (place : Place) → IsRecord entry
+    → IsSentence older
     → Allows (standing_of older) entry → Agrees bytes place (kept_of id older)
-    → Agrees (bytes ++ spelling entry) (place_after (standing_of older) entry (length bytes) id place) (kept_of id (entry ∷ older))
-place_next bytes older (Began order) id place is s a k = began_agrees bytes order older id place (order.id == id) is refl k
+    → Agrees (bytes ++ spelling entry) (place_after (standing_of older) entry (length bytes) id place)
+    (kept_of id (entry ∷ older))
+place_next bytes older (Began order) id place is s a k =
+    began_agrees bytes order older id place (order.id == id) is refl k
 place_next bytes older (Opened unit) id place is s a k =
-    subst (Agrees (bytes ++ spelling (Opened unit)) place) (opened_same (standing_of older) unit older id a (newest older s))
+    subst (Agrees (bytes ++ spelling (Opened unit)) place)
+    (opened_same (standing_of older) unit older id a (newest older s))
     (agrees_more bytes (spelling (Opened unit)) place (kept_of id older) k)
 place_next bytes older (Ended code) id place is s a k =
-    agrees_more bytes (spelling (Ended code)) (place_after (standing_of older) (Ended code) (length bytes) id place) (kept_of id (Ended code ∷ older))
+    agrees_more bytes (spelling (Ended code)) (place_after (standing_of older) (Ended code) (length bytes) id place)
+    (kept_of id (Ended code ∷ older))
     (ended_by bytes (standing_of older) code older id place a (newest older s) k)
-place_next bytes older (Closed unit) id place is s a k = agrees_more bytes (spelling (Closed unit)) place (kept_of id older) k
+place_next bytes older (Closed unit) id place is s a k =
+    agrees_more bytes (spelling (Closed unit)) place (kept_of id older) k
 
 -- a slice from a place to the end is what is left there
 pub slice_rest : (at : ℕ) (bytes : List ℕ) → take (length bytes - at) (drop at bytes) ≡ drop at bytes
 slice_rest at bytes = ap (λ k. take k (drop at bytes)) (sym (length-drop at bytes)) ∙ take-length (drop at bytes)
 
-pub order_there : (bytes : List ℕ) (at : ℕ) (order : Contents) (piece : Piece) → IsRead (take (length bytes - at) (drop at bytes)) piece
+pub order_there : (bytes : List ℕ) (at : ℕ) (order : Contents) (piece : Piece)
+    → IsRead (take (length bytes - at) (drop at bytes)) piece
     → StandsAt bytes at (Began order) → piece ≡ Whole (Began order) (length (spelling (Began order)))
 order_there bytes at order piece reads stands =
-    read_is (drop at bytes) (Began order) piece (subst (λ (bs : List ℕ). IsRead bs piece) (slice_rest at bytes) reads) stands.1
+    read_is (drop at bytes) (Began order) piece
+    (subst (λ (bs : List ℕ). IsRead bs piece) (slice_rest at bytes) reads) stands.1
 
 some_same : (order other : Contents) → Some order ≡ Some other → order ≡ other
 some_same order other e = cc
@@ -154,14 +180,18 @@ none_some : (order : Contents) → None ≡ Some order → ⊥
 none_some order e = cc
 
 -- what is told of an order whose place agrees with what was kept
-pub told_unfinished : (bytes : List ℕ) (place : Place) (at : ℕ) (kept : Kept) (order : Contents) → place ≡ places.Begun at
-    → ((o : Contents) → StandsAt bytes at (Began o) → Some order ≡ Some o) → Agrees bytes place kept → kepts.Unfinished order ≡ kept
+pub told_unfinished : (bytes : List ℕ) (place : Place) (at : ℕ) (kept : Kept) (order : Contents)
+    → place ≡ places.Begun at
+    → ((o : Contents) → StandsAt bytes at (Began o) → Some order ≡ Some o) → Agrees bytes place kept
+    → kepts.Unfinished order ≡ kept
 told_unfinished bytes place at kept order is found agrees =
     let a = subst (λ (p : Place). Agrees bytes p kept) is agrees in
     ap kepts.Unfinished (some_same order a.0 (found a.0 a.2)) ∙ sym a.1
 
-pub told_ended : (bytes : List ℕ) (place : Place) (at : ℕ) (code : Code) (kept : Kept) (order : Contents) → place ≡ places.Ended at code
-    → ((o : Contents) → StandsAt bytes at (Began o) → Some order ≡ Some o) → Agrees bytes place kept → kepts.Ended order code ≡ kept
+pub told_ended : (bytes : List ℕ) (place : Place) (at : ℕ) (code : Code) (kept : Kept) (order : Contents)
+    → place ≡ places.Ended at code
+    → ((o : Contents) → StandsAt bytes at (Began o) → Some order ≡ Some o) → Agrees bytes place kept
+    → kepts.Ended order code ≡ kept
 told_ended bytes place at code kept order is found agrees =
     let a = subst (λ (p : Place). Agrees bytes p kept) is agrees in
     ap (λ (o : Contents). kepts.Ended o code) (some_same order a.0 (found a.0 a.2)) ∙ sym a.1

@@ -32,7 +32,8 @@ IsNamed (standings.Began order) = IsRecord (Began order)
 IsNamed (standings.Opened order) = IsRecord (Began order)
 IsNamed (standings.Left unit) = unit ≤ 63
 
-named_next : (standing : Standing) (entry : Record) → Allows standing entry → IsRecord entry → IsNamed standing → IsNamed (next_standing standing entry)
+named_next : (standing : Standing) (entry : Record) → Allows standing entry → IsRecord entry → IsNamed standing
+    → IsNamed (next_standing standing entry)
 named_next standings.Idle (Began order) a r n = r
 named_next (standings.Began order) (Opened unit) a r n = n
 named_next (standings.Began order) (Ended Short) a r n = tt
@@ -49,7 +50,8 @@ named [] s r = tt
 named (entry ∷ older) s r = named_next (standing_of older) entry s.1 r.0 (named older s.0 r.1)
 
 -- a record that may come is in range
-allowed_record : (standing : Standing) (entry : Record) → Allows standing entry → BeginsInRange entry → IsNamed standing → IsRecord entry
+allowed_record : (standing : Standing) (entry : Record) → Allows standing entry → BeginsInRange entry → IsNamed standing
+    → IsRecord entry
 allowed_record standings.Idle (Began order) a o n = o
 allowed_record (standings.Began order) (Opened unit) a o n = rw a n.1
 allowed_record (standings.Began order) (Ended Short) a o n = tt
@@ -65,7 +67,8 @@ allowed_record _ _ a o n = absurd a
 due_next : (standing : Standing) (entry : Record) (records : List Record) (limit room new_room : ℕ) (numbers : List ℕ)
     → standing ≡ standing_of records → Allows standing entry
     → MayBegin (record { records = records; limit = limit; room = room; numbers = numbers }) entry
-    → bytes_due standing ≤ room → room ≤ new_room + length (spelling entry) → bytes_due (next_standing standing entry) ≤ new_room
+    → bytes_due standing ≤ room → room ≤ new_room + length (spelling entry)
+    → bytes_due (next_standing standing entry) ≤ new_room
 due_next standings.Idle (Began order) records limit room new_room numbers s a may d r = let h = may.0.0 in omega arith
 due_next (standings.Began order) (Opened unit) records limit room new_room numbers s a may d r = omega arith
 due_next (standings.Began order) (Ended Short) records limit room new_room numbers s a may d r = omega arith
@@ -81,13 +84,15 @@ length_come : (stage : Stage) (orders : List (Contents × Stage)) → length (co
 length_come stage [] = refl
 length_come stage (newest ∷ older) = refl
 
-pub orders_more : (records : List Record) (entry : Record) → length (orders_of (entry ∷ records)) ≡ length (orders_of records) + orders_begun entry
+pub orders_more : (records : List Record) (entry : Record)
+    → length (orders_of (entry ∷ records)) ≡ length (orders_of records) + orders_begun entry
 orders_more records (Began order) = omega arith
 orders_more records (Opened unit) = omega (arith, length_come stages.Open (orders_of records))
 orders_more records (Ended code) = omega (arith, length_come (stages.Ended code) (orders_of records))
 orders_more records (Closed unit) = omega arith
 
-within_next : (journal : JournalState) (entry : Record) → MayBegin journal entry → length (orders_of journal.records) ≤ journal.limit
+within_next : (journal : JournalState) (entry : Record) → MayBegin journal entry
+    → length (orders_of journal.records) ≤ journal.limit
     → length (orders_of journal.records) + orders_begun entry ≤ journal.limit
 within_next journal (Began order) may w = let h = may.1 in omega arith
 within_next journal (Opened unit) may w = omega arith
@@ -101,59 +106,80 @@ new_next journal (Ended code) may = tt
 new_next journal (Closed unit) may = tt
 
 -- a record that comes is in range
-pub entry_record : (bytes : List ℕ) (records : List Record) (standing : Standing) (orders limit room : ℕ) (index : List (ℕ × Place)) (entry : Record)
-    → IsSound bytes records standing orders limit room index → Allows (standing_of records) entry → BeginsInRange entry → IsRecord entry
+pub entry_record : (bytes : List ℕ) (records : List Record) (standing : Standing) (orders limit room : ℕ)
+    (index : List (ℕ × Place)) (entry : Record)
+    → IsSound bytes records standing orders limit room index → Allows (standing_of records) entry → BeginsInRange entry
+    → IsRecord entry
 entry_record bytes records standing orders limit room index entry sound a o =
-    allowed_record (standing_of records) entry a o (named records sound.journal.sentence sound.journal.in_range)
+    allowed_record (standing_of records) entry a o
+    (named records sound.journal.kept.whole.0 sound.journal.kept.in_range)
 
 sound_more : (bytes : List ℕ) (records : List Record) (standing : Standing) (orders limit room new_room : ℕ)
     (index new_index : List (ℕ × Place)) (entry : Record)
     → IsSound bytes records standing orders limit room index → Allows (standing_of records) entry → BeginsInRange entry
     → MayBegin (record { records = records; limit = limit; room = room; numbers = keys_of index }) entry
-    → ((id : ℕ) → place_of (lookup (nat_eq id) new_index) ≡ place_after standing entry (length bytes) id (place_of (lookup (nat_eq id) index)))
+    → ((id : ℕ)
+    → place_of (lookup (nat_eq id) new_index)
+    ≡ place_after standing entry (length bytes) id (place_of (lookup (nat_eq id) index)))
     → HasShortUnit (next_standing standing entry) → room ≤ new_room + length (spelling entry)
-    → IsSound (bytes ++ spelling entry) (entry ∷ records) (next_standing standing entry) (orders + orders_begun entry) limit new_room new_index
+    → IsSound (bytes ++ spelling entry) (entry ∷ records) (next_standing standing entry) (orders + orders_begun entry)
+    limit new_room new_index
 sound_more bytes records standing orders limit room new_room index new_index entry sound a o may wrote short rest =
     let journal : JournalState = record { records = records; limit = limit; room = room; numbers = keys_of index } in
     let is = entry_record bytes records standing orders limit room index entry sound a o in
     let more = orders_more records entry in
-    let within = within_next journal entry may sound.journal.within in
+    let within = within_next journal entry may sound.journal.kept.whole.1 in
     record {
       spelled = ap (λ front. front ++ spelling entry) sound.spelled;
       standing_is = ap (λ st. next_standing st entry) sound.standing_is;
       short = short;
       count = ap (λ n. n + orders_begun entry) sound.count ∙ sym more;
       journal = record {
-        in_range = (is, sound.journal.in_range);
-        sentence = (sound.journal.sentence, a, new_next journal entry may);
-        within = omega arith;
+        kept = record {
+          in_range = (is, sound.journal.kept.in_range);
+          whole = ((sound.journal.kept.whole.0, a, new_next journal entry may), omega arith);
+        };
         limited = sound.journal.limited;
-        due = due_next (standing_of records) entry records limit room new_room (keys_of index) refl a may sound.journal.due rest;
+        due =
+            due_next (standing_of records) entry records limit room new_room (keys_of index) refl a may
+            sound.journal.due rest;
       };
       known = λ id.
           subst (λ (place : Place). Agrees (bytes ++ spelling entry) place (kept_of id (entry ∷ records)))
-          (ap (λ (st : Standing). place_after st entry (length bytes) id (place_of (lookup (nat_eq id) index))) (sym sound.standing_is) ∙ sym (wrote id))
-          (place_next bytes records entry id (place_of (lookup (nat_eq id) index)) is sound.journal.sentence a (sound.known id));
+          (ap (λ (st : Standing). place_after st entry (length bytes) id (place_of (lookup (nat_eq id) index)))
+          (sym sound.standing_is)
+          ∙ sym (wrote id))
+          (place_next bytes records entry id (place_of (lookup (nat_eq id) index)) is sound.journal.kept.whole.0 a
+          (sound.known id));
     }
 
 -- the bytes of one record more are read as one record more
-pub records_more : (bytes : List ℕ) (standing : Standing) (orders limit room : ℕ) (index : List (ℕ × Place)) (entry : Record)
-    → IsSound bytes (records_in bytes) standing orders limit room index → Allows (standing_of (records_in bytes)) entry → BeginsInRange entry
+pub records_more : (bytes : List ℕ) (standing : Standing) (orders limit room : ℕ) (index : List (ℕ × Place))
+    (entry : Record)
+    → IsSound bytes (records_in bytes) standing orders limit room index → Allows (standing_of (records_in bytes)) entry
+    → BeginsInRange entry
     → records_in (bytes ++ spelling entry) ≡ entry ∷ records_in bytes
 records_more bytes standing orders limit room index entry sound a o =
     ap (λ front. records_in (front ++ spelling entry)) sound.spelled
-    ∙ spelling_read (entry ∷ records_in bytes) (entry_record bytes (records_in bytes) standing orders limit room index entry sound a o, sound.journal.in_range)
+    ∙ spelling_read (entry ∷ records_in bytes) (
+      entry_record bytes (records_in bytes) standing orders limit room index entry sound a o,
+      sound.journal.kept.in_range,
+    )
 
-pub sound_next : (bytes : List ℕ) (standing : Standing) (orders limit room new_room at : ℕ) (index new_index : List (ℕ × Place)) (entry : Record)
-    → IsSound bytes (records_in bytes) standing orders limit room index → Allows (standing_of (records_in bytes)) entry → BeginsInRange entry
+pub sound_next : (bytes : List ℕ) (standing : Standing) (orders limit room new_room at : ℕ)
+    (index new_index : List (ℕ × Place)) (entry : Record)
+    → IsSound bytes (records_in bytes) standing orders limit room index → Allows (standing_of (records_in bytes)) entry
+    → BeginsInRange entry
     → MayBegin (record { records = records_in bytes; limit = limit; room = room; numbers = keys_of index }) entry
-    → ((id : ℕ) → place_of (lookup (nat_eq id) new_index) ≡ place_after standing entry at id (place_of (lookup (nat_eq id) index)))
+    → ((id : ℕ)
+    → place_of (lookup (nat_eq id) new_index) ≡ place_after standing entry at id (place_of (lookup (nat_eq id) index)))
     → at ≡ length bytes → HasShortUnit (next_standing standing entry) → room ≤ new_room + length (spelling entry)
     → IsSound (bytes ++ spelling entry) (records_in (bytes ++ spelling entry)) (next_standing standing entry)
     (orders + orders_begun entry) limit new_room new_index
 sound_next bytes standing orders limit room new_room at index new_index entry sound a o may wrote there short rest =
     subst (λ (those : List Record).
-    IsSound (bytes ++ spelling entry) those (next_standing standing entry) (orders + orders_begun entry) limit new_room new_index)
+    IsSound (bytes ++ spelling entry) those (next_standing standing entry) (orders + orders_begun entry) limit
+    new_room new_index)
     (sym (records_more bytes standing orders limit room index entry sound a o))
     (sound_more bytes (records_in bytes) standing orders limit room new_room index new_index entry sound a o may
     (λ id. wrote id ∙ ap (λ n. place_after standing entry n id (place_of (lookup (nat_eq id) index))) there) short rest)
@@ -187,26 +213,33 @@ due_falls (standings.Left left) (Closed unit) room new_room wanted a later rest 
 due_falls _ _ room new_room wanted a later rest h = absurd a
 
 room_left : (journal new : JournalState) (entry : Record) → Allows (standing_of journal.records) entry → IsLater entry
-    → new.records ≡ entry ∷ journal.records → new.numbers ≡ journal.numbers → journal.room ≤ new.room + length (spelling entry)
+    → new.records ≡ entry ∷ journal.records → new.numbers ≡ journal.numbers
+    → journal.room ≤ new.room + length (spelling entry)
     → (order : Contents) → HasRoom journal order → HasRoom new order
 room_left journal new entry a later records numbers rest = λ order room. (
-  rw records (due_falls (standing_of journal.records) entry journal.room new.room (length (spelling (Began order))) a later rest room.0),
+  rw records (due_falls (standing_of journal.records) entry journal.room new.room (length (spelling (Began order))) a
+      later rest room.0),
   rw numbers room.1,
 )
 
-pub keeps_room : (journal new : JournalState) (entry : Record) → Allows (standing_of journal.records) entry → new.records ≡ entry ∷ journal.records
+pub keeps_room : (journal new : JournalState) (entry : Record) → Allows (standing_of journal.records) entry
+    → new.records ≡ entry ∷ journal.records
     → new.numbers ≡ journal.numbers → journal.room ≤ new.room + length (spelling entry) → KeepsRoom entry journal new
 keeps_room journal new (Began order) a records numbers rest = tt
-keeps_room journal new (Opened unit) a records numbers rest = room_left journal new (Opened unit) a tt records numbers rest
-keeps_room journal new (Ended code) a records numbers rest = room_left journal new (Ended code) a tt records numbers rest
-keeps_room journal new (Closed unit) a records numbers rest = room_left journal new (Closed unit) a tt records numbers rest
+keeps_room journal new (Opened unit) a records numbers rest =
+    room_left journal new (Opened unit) a tt records numbers rest
+keeps_room journal new (Ended code) a records numbers rest =
+    room_left journal new (Ended code) a tt records numbers rest
+keeps_room journal new (Closed unit) a records numbers rest =
+    room_left journal new (Closed unit) a tt records numbers rest
 
 -- the bytes of updates that are spelled
 pairs_in_range : (pairs : List (ℕ × ℕ)) → AreBytes (pairs_spelling pairs) → AllByRecursion (λ pair. pair.1 < 256) pairs
 pairs_in_range [] bytes = tt
 pairs_in_range (pair ∷ pairs) bytes = (bytes.1.0, pairs_in_range pairs bytes.1.1)
 
-pub order_in_range : (bytes : List ℕ) (order : Contents) → AreBytes bytes → bytes ≡ spelling (Began order) → order.id < 2 ^ 64 → order.unit ≤ 63 → AreUpdates order.updates
+pub order_in_range : (bytes : List ℕ) (order : Contents) → AreBytes bytes → bytes ≡ spelling (Began order)
+    → order.id < 2 ^ 64 → order.unit ≤ 63 → AreUpdates order.updates
     → IsRecord (Began order)
 order_in_range bytes order are same id unit updates =
     let spelled : AreBytes (spelling (Began order)) = subst AreBytes same are in
@@ -219,13 +252,16 @@ begins_in_range (Ended code) tells = tt
 begins_in_range (Closed unit) tells = tt
 
 -- a number is in the index where a look-up finds it
-pub found_in : (id : ℕ) (index : List (ℕ × Place)) → is_some (lookup (nat_eq id) index) ≡ list_any (nat_eq id) (keys_of index)
+pub found_in : (id : ℕ) (index : List (ℕ × Place))
+    → is_some (lookup (nat_eq id) index) ≡ list_any (nat_eq id) (keys_of index)
 found_in id index = is_some-lookup (nat_eq id) index
 
 -- the bytes that a reserve makes room for
 pub reserved : (bytes new : List ℕ) (standing : Standing) (order : Contents) (wanted len capacity : ℕ)
-    → new ≡ bytes → standing ≡ standing_of (records_in bytes) → wanted ≡ bytes_due standing + length (spelling (Began order)) + 6
-    → len + wanted ≤ capacity → bytes_due (standing_of (records_in new)) + length (spelling (Began order)) + 6 ≤ capacity - len
+    → new ≡ bytes → standing ≡ standing_of (records_in bytes)
+    → wanted ≡ bytes_due standing + length (spelling (Began order)) + 6
+    → len + wanted ≤ capacity
+    → bytes_due (standing_of (records_in new)) + length (spelling (Began order)) + 6 ≤ capacity - len
 reserved bytes new standing order wanted len capacity same stands w h =
     let due = ap bytes_due (stands ∙ ap (λ bs. standing_of (records_in bs)) (sym same)) in omega arith
 
@@ -236,7 +272,8 @@ pub room_kept : (journal : JournalState) (bytes new : List ℕ) (room : ℕ) (in
     → (order : Contents) → HasRoom journal order
     → HasRoom (record { records = records_in new; limit = 0; room = room; numbers = keys_of new_index }) order
 room_kept journal bytes new room index new_index same records numbers more stays order h = (
-  let due = ap (λ (those : List Record). bytes_due (standing_of those)) (ap records_in same ∙ records) in let enough = h.0 in omega arith,
+  let due = ap (λ (those : List Record). bytes_due (standing_of those)) (ap records_in same ∙ records) in
+      let enough = h.0 in omega arith,
   sym (found_in order.id new_index)
       ∙ stays order.id (found_in order.id index ∙ ap (list_any (nat_eq order.id)) numbers ∙ h.1),
 )

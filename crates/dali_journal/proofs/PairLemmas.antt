@@ -1,4 +1,5 @@
--- What is read of pairs is exact: whole where the bytes begin with pairs, cut where they are a proper front of some, else bad.
+-- What is read of pairs is exact: whole where the bytes begin with pairs, cut where they are a proper front of some,
+-- else bad.
 use Rattle.std.proofs.Common.{◌≡◌, ◌≢◌, ℕ, zero, suc, ◌+◌, ◌^◌, ◌<◌, ◌≤◌, max, ◌&&◌, ◌||◌, Bool, true, false}
 use Rattle.std.proofs.Common.{cond, List, [], ◌∷◌, ◌++◌, length, get_or, refl, sym, ap, subst, arith, inl, inr}
 use Rattle.std.specs.Prelude.{nat_le, ⊤}
@@ -18,7 +19,8 @@ abbrev pub Climb : ℕ → List (ℕ × ℕ) → Type 0
 Climb low [] = ⊤
 Climb low (update ∷ updates) = IsWritable update.0 × (low < update.0) × (update.1 < 256) × Climb update.0 updates
 
-climb : (low : ℕ) (updates : List (ℕ × ℕ)) → RisesAbove low updates → AllByRecursion (λ update. IsWritable update.0) updates
+climb : (low : ℕ) (updates : List (ℕ × ℕ)) → RisesAbove low updates
+    → AllByRecursion (λ update. IsWritable update.0) updates
     → AllByRecursion (λ update. update.1 < 256) updates → Climb low updates
 climb low [] rises writable bytes = tt
 climb low (update ∷ updates) rises writable bytes =
@@ -28,7 +30,8 @@ climb_rises : (low : ℕ) (updates : List (ℕ × ℕ)) → Climb low updates �
 climb_rises low [] c = tt
 climb_rises low (update ∷ updates) c = (c.1, climb_rises update.0 updates c.3)
 
-climb_writable : (low : ℕ) (updates : List (ℕ × ℕ)) → Climb low updates → AllByRecursion (λ update. IsWritable update.0) updates
+climb_writable : (low : ℕ) (updates : List (ℕ × ℕ)) → Climb low updates
+    → AllByRecursion (λ update. IsWritable update.0) updates
 climb_writable low [] c = tt
 climb_writable low (update ∷ updates) c = (c.0, climb_writable update.0 updates c.3)
 
@@ -48,12 +51,18 @@ length-climb low (u ∷ us) c = omega (arith, places_fall low u.0 c.0 c.1, lengt
 pub order-climbs : (order : Contents) → IsRecord (Began order) → Climb 0 order.updates
 order-climbs order is = climb 0 order.updates is.2.rising is.2.writable is.3
 
-pub climbs-order : (id unit : ℕ) (updates : List (ℕ × ℕ)) → id < 2 ^ 64 → unit ≤ 63 → 1 ≤ length updates → Climb 0 updates →
+pub climbs-order : (id unit : ℕ) (updates : List (ℕ × ℕ)) → id < 2 ^ 64 → unit ≤ 63 → 1 ≤ length updates
+    → Climb 0 updates →
     IsRecord (Began (record { id = id; unit = unit; updates = updates }))
 climbs-order id unit updates i u some c = (
   i,
   u,
-  record { some = some; few = (let few = length-climb 0 updates c in omega arith); rising = climb_rises 0 updates c; writable = climb_writable 0 updates c },
+  record {
+    some = some;
+    few = (let few = length-climb 0 updates c in omega arith);
+    rising = climb_rises 0 updates c;
+    writable = climb_writable 0 updates c;
+  },
   climb_bytes 0 updates c,
 )
 
@@ -71,24 +80,30 @@ abbrev pub ReadsPairs : ℕ → ℕ → List ℕ → Pairs → Type 0
 ReadsPairs count low bytes (lists.Whole pairs) =
     Updates count low pairs.items × (rest : List ℕ) × (bytes ≡ pairs_spelling pairs.items ++ rest)
 ReadsPairs count low bytes lists.Cut =
-    (pairs : List (ℕ × ℕ)) × Updates count low pairs × (more : List ℕ) × (more ≢ []) × (pairs_spelling pairs ≡ bytes ++ more)
+    (pairs : List (ℕ × ℕ)) × Updates count low pairs × (more : List ℕ) × (more ≢ [])
+    × (pairs_spelling pairs ≡ bytes ++ more)
 ReadsPairs count low bytes lists.Bad =
-    (pairs : List (ℕ × ℕ)) → Updates count low pairs → (rest more : List ℕ) → pairs_spelling pairs ++ rest ≡ bytes ++ more → ⊥
+    (pairs : List (ℕ × ℕ)) → Updates count low pairs → (rest more : List ℕ)
+    → pairs_spelling pairs ++ rest ≡ bytes ++ more → ⊥
 
 pub and-parts : (a b : Bool) → (a && b) ≡ true → (a ≡ true) × (b ≡ true)
 and-parts true b e = (refl, e)
 and-parts false b e = cc
 
 -- The tests of a location mean what they say.
-writable : (location : ℕ) → ((nat_le 3 location && nat_le location 16) || (nat_le 19 location && nat_le location 119)) ≡ true → IsWritable location
+writable : (location : ℕ)
+    → ((nat_le 3 location && nat_le location 16) || (nat_le 19 location && nat_le location 119)) ≡ true
+    → IsWritable location
 writable location e = grind (arith, nat_tests)
 
-fits-true : (to_come low location : ℕ) → fits to_come low location ≡ true → IsWritable location × (low < location) × (to_come ≤ places_above location)
+fits-true : (to_come low location : ℕ) → fits to_come low location ≡ true
+    → IsWritable location × (low < location) × (to_come ≤ places_above location)
 fits-true to_come low location e =
     let both = and-parts _ _ e in let two = and-parts _ _ both.0 in
     (writable location two.0, grind (arith, nat_tests), grind (arith, nat_tests))
 
-fits-holds : (to_come low location : ℕ) → IsWritable location → low < location → to_come ≤ places_above location → fits to_come low location ≡ true
+fits-holds : (to_come low location : ℕ) → IsWritable location → low < location → to_come ≤ places_above location
+    → fits to_come low location ≡ true
 fits-holds to_come low location (inl w) l p = grind (arith, nat_tests)
 fits-holds to_come low location (inr w) l p = grind (arith, nat_tests)
 
@@ -105,8 +120,13 @@ filled : (count low : ℕ) → count ≤ places_above low → (pairs : List (ℕ
 filled zero low h = ([], record { length_is = refl; rises = tt })
 filled (suc count) low h =
     let next = next-place low (omega arith) in
-    let more = filled count next.0 (let e = next.3 in omega arith) in
-    ((next.0, 0) ∷ more.0, record { length_is = (let e = more.1.length_is in omega arith); rises = (next.1, next.2, omega arith, more.1.rises) })
+    let more = filled count next.0 (let e = next.3 in omega arith) in (
+      (next.0, 0) ∷ more.0,
+      record {
+        length_is = (let e = more.1.length_is in omega arith);
+        rises = (next.1, next.2, omega arith, more.1.rises);
+      },
+    )
 
 -- a list of pairs that is not empty
 head-fits : (count low location : ℕ) (pairs : List (ℕ × ℕ)) (rest more : List ℕ) → Updates (suc count) low pairs →
@@ -130,7 +150,8 @@ cut-empty count low h =
     (some.0, some.1, pairs_spelling some.0, some-spelling count some.0 some.1.length_is, refl)
 
 -- the byte behind a location may be any
-cut-location : (count low location : ℕ) → fits count low location ≡ true → ReadsPairs (suc count) low (location ∷ []) lists.Cut
+cut-location : (count low location : ℕ) → fits count low location ≡ true
+    → ReadsPairs (suc count) low (location ∷ []) lists.Cut
 cut-location count low location e =
     let test = fits-true count low location e in
     let more = filled count location test.2 in (
@@ -142,16 +163,21 @@ cut-location count low location e =
     )
 
 -- no updates have a location that does not fit
-bad-location : (count low location : ℕ) (after : List ℕ) → fits count low location ≡ false → ReadsPairs (suc count) low (location ∷ after) lists.Bad
+bad-location : (count low location : ℕ) (after : List ℕ) → fits count low location ≡ false
+    → ReadsPairs (suc count) low (location ∷ after) lists.Bad
 bad-location count low location after e = λ pairs updates rest more same.
     let yes = head-fits count low location pairs rest (after ++ more) updates same in cc
 
 -- one pair in front
 behind : (count low location byte : ℕ) (rest : List ℕ) (piece : Pairs) → fits count low location ≡ true → byte < 256 →
-    ReadsPairs count location rest piece → ReadsPairs (suc count) low (location ∷ byte ∷ rest) (behind_pair (location, byte) piece)
+    ReadsPairs count location rest piece
+    → ReadsPairs (suc count) low (location ∷ byte ∷ rest) (behind_pair (location, byte) piece)
 behind count low location byte rest (lists.Whole pairs) e small reads =
-    let test = fits-true count low location e in
-    (record { length_is = ap suc reads.0.length_is; rises = (test.0, test.1, small, reads.0.rises) }, reads.1, ap (λ bs. location ∷ byte ∷ bs) reads.2)
+    let test = fits-true count low location e in (
+      record { length_is = ap suc reads.0.length_is; rises = (test.0, test.1, small, reads.0.rises) },
+      reads.1,
+      ap (λ bs. location ∷ byte ∷ bs) reads.2,
+    )
 behind count low location byte rest lists.Cut e small reads =
     let test = fits-true count low location e in (
       (location, byte) ∷ reads.0,
@@ -168,7 +194,8 @@ behind count low location byte rest lists.Bad e small reads = bad
         let first : pair.0 ≡ location = cc in
         let tail : pairs_spelling pairs ++ after ≡ rest ++ more = cc in
         let count_is : length pairs ≡ count = (let h = updates.length_is in omega arith) in
-        reads pairs (record { length_is = count_is; rises = subst (λ l. Climb l pairs) first updates.rises.3 }) after more tail
+        reads pairs (record { length_is = count_is; rises = subst (λ l. Climb l pairs) first updates.rises.3 }) after
+        more tail
 
 step : (count low location byte : ℕ) (rest : List ℕ) → location < 256 → byte < 256 →
     (count ≤ places_above location → ReadsPairs count location rest (pairs_of count location rest)) →
@@ -183,12 +210,14 @@ step count low location byte rest l b reads = more (fits count low location) ref
     more false e = bad-location count low location (byte ∷ rest) e
 
 -- What is read of pairs is exact.
-pub reads-pairs_of : (count low : ℕ) (bytes : List ℕ) → count ≤ places_above low → AreBytes bytes → ReadsPairs count low bytes (pairs_of count low bytes)
+pub reads-pairs_of : (count low : ℕ) (bytes : List ℕ) → count ≤ places_above low → AreBytes bytes
+    → ReadsPairs count low bytes (pairs_of count low bytes)
 reads-pairs_of zero low bytes h fit = (record { length_is = refl; rises = tt }, bytes, refl)
 reads-pairs_of (suc count) low [] h fit = cut-empty count low h
 reads-pairs_of (suc count) low (location ∷ []) h fit = one (fits count low location) refl
   where
-    one : (test : Bool) → fits count low location ≡ test → ReadsPairs (suc count) low (location ∷ []) (cond test lists.Cut lists.Bad)
+    one : (test : Bool) → fits count low location ≡ test
+        → ReadsPairs (suc count) low (location ∷ []) (cond test lists.Cut lists.Bad)
     one true e = cut-location count low location e
     one false e = bad-location count low location [] e
 reads-pairs_of (suc count) low (location ∷ byte ∷ rest) h fit =
@@ -200,8 +229,10 @@ are-bytes (byte ∷ rest) h = (h 0, are-bytes rest (λ i. h (suc i)))
 
 -- pairs that were read whole are updates
 pub updates-read : (count : ℕ) (rest : List ℕ) (pairs : ArrayVec (ℕ × ℕ)) (updates : List (ℕ × ℕ)) →
-    1 ≤ count → count ≤ 115 → AreBytes rest → lists.Whole pairs ≡ pairs_of count 0 rest → updates ≡ pairs.items → AreUpdates updates
+    1 ≤ count → count ≤ 115 → AreBytes rest → lists.Whole pairs ≡ pairs_of count 0 rest → updates ≡ pairs.items
+    → AreUpdates updates
 updates-read count rest pairs updates some few fit is same =
-    let reads = subst (λ (p : Pairs). ReadsPairs count 0 rest p) (sym is) (reads-pairs_of count 0 rest (omega arith) fit) in
+    let reads =
+    subst (λ (p : Pairs). ReadsPairs count 0 rest p) (sym is) (reads-pairs_of count 0 rest (omega arith) fit) in
     let long = reads.0.length_is in
     rw same (climbs-order 0 0 pairs.items (omega arith) (omega arith) (omega arith) reads.0.rises).2

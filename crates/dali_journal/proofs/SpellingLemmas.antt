@@ -9,7 +9,7 @@ use Rattle.dali_journal.specs.declared.record.Code.TheVariants.{Done, Short, For
 use Rattle.dali_journal.specs.declared.record.Record.{Record}
 use Rattle.dali_journal.specs.declared.record.Record.TheVariants.{Began, Opened, Ended, Closed}
 use Rattle.dali_journal.specs.Spelling.{spelling, pairs_spelling, code_number, IsRecord}
-use Rattle.dali_journal.specs.Decoding.{code_of}
+use Rattle.dali_journal.specs.Decoding.{code_numbered}
 use Rattle.dali_journal.specs.Law.{NoSpellingBeginsAnother}
 
 pairs_same : (pairs others : List (ℕ × ℕ)) (rest more : List ℕ) → length pairs ≡ length others
@@ -29,7 +29,8 @@ orders_same : (order other : Contents) (rest more : List ℕ) → IsRecord (Bega
 orders_same order other rest more is other_is same =
     let ids : to_be_bytes w64 order.id ≡ to_be_bytes w64 other.id = ap (λ bytes. take 8 (drop 1 bytes)) same in
     let id : order.id ≡ other.id =
-    sym (from_be_bytes-to_be_bytes_8 order.id is.0) ∙ ap (from_be_bytes w64) ids ∙ from_be_bytes-to_be_bytes_8 other.id other_is.0 in
+    sym (from_be_bytes-to_be_bytes_8 order.id is.0) ∙ ap (from_be_bytes w64) ids
+    ∙ from_be_bytes-to_be_bytes_8 other.id other_is.0 in
     let unit : order.unit ≡ other.unit = ap (λ bytes. get_or bytes 9 0) same in
     let count : length order.updates ≡ length other.updates = ap (λ bytes. get_or bytes 10 0) same in
     let behind : pairs_spelling order.updates ++ rest ≡ pairs_spelling other.updates ++ more = ap (drop 11) same in
@@ -37,9 +38,9 @@ orders_same order other rest more is other_is same =
     λ i. record { id = id i; unit = unit i; updates = updates i }
 
 codes_same : (code other : Code) → code_number code ≡ code_number other → code ≡ other
-codes_same code other same = sym (of code) ∙ ap code_of same ∙ of other
+codes_same code other same = sym (of code) ∙ ap code_numbered same ∙ of other
   where
-    of : (code : Code) → code_of (code_number code) ≡ code
+    of : (code : Code) → code_numbered (code_number code) ≡ code
     of Done = refl
     of Short = refl
     of Format = refl
@@ -60,14 +61,18 @@ letter_at (Opened unit) rest = refl
 letter_at (Ended code) rest = refl
 letter_at (Closed unit) rest = refl
 
-letters_same : (entry other : Record) (rest more : List ℕ) → spelling entry ++ rest ≡ spelling other ++ more → letter_of entry ≡ letter_of other
-letters_same entry other rest more same = sym (letter_at entry rest) ∙ ap (λ bytes. get_or bytes 0 0) same ∙ letter_at other more
+letters_same : (entry other : Record) (rest more : List ℕ) → spelling entry ++ rest ≡ spelling other ++ more
+    → letter_of entry ≡ letter_of other
+letters_same entry other rest more same =
+    sym (letter_at entry rest) ∙ ap (λ bytes. get_or bytes 0 0) same ∙ letter_at other more
 
 pub records_same : (entry other : Record) (rest more : List ℕ) → IsRecord entry → IsRecord other
     → spelling entry ++ rest ≡ spelling other ++ more → entry ≡ other
-records_same (Began order) (Began other) rest more is other_is same = ap Began (orders_same order other rest more is other_is same)
+records_same (Began order) (Began other) rest more is other_is same =
+    ap Began (orders_same order other rest more is other_is same)
 records_same (Opened unit) (Opened other) rest more is other_is same = ap Opened (ap (λ bytes. get_or bytes 1 0) same)
-records_same (Ended code) (Ended other) rest more is other_is same = ap Ended (codes_same code other (ap (λ bytes. get_or bytes 1 0) same))
+records_same (Ended code) (Ended other) rest more is other_is same =
+    ap Ended (codes_same code other (ap (λ bytes. get_or bytes 1 0) same))
 records_same (Closed unit) (Closed other) rest more is other_is same = ap Closed (ap (λ bytes. get_or bytes 1 0) same)
 records_same entry other rest more is other_is same =
     absurd (let letters : letter_of entry ≡ letter_of other = letters_same entry other rest more same in omega arith)

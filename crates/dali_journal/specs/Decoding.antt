@@ -43,8 +43,8 @@ pairs_of (suc count) low (location ∷ byte ∷ rest) =
     if fits count low location then behind_pair (location, byte) (pairs_of count location rest) else lists.Bad
 
 -- the code of a number
-abbrev pub code_of : ℕ → Code
-code_of number =
+abbrev pub code_numbered : ℕ → Code
+code_numbered number =
     if number == 0 then Done else if number == 1 then Short else if number == 2 then Format
     else if number == 3 then Silent else if number == 4 then Doubt else DoubtOpen
 
@@ -82,7 +82,7 @@ piece_of [] = Cut
 piece_of (letter ∷ rest) =
     if letter == 0x42 then order_piece rest
     else if letter == 0x4F then short_piece Opened 63 rest
-    else if letter == 0x45 then short_piece (λ number. Ended (code_of number)) 5 rest
+    else if letter == 0x45 then short_piece (λ number. Ended (code_numbered number)) 5 rest
     else if letter == 0x43 then short_piece Closed 63 rest
     else Bad
 
@@ -93,11 +93,11 @@ read_further Cut older further = older
 read_further Bad older further = older
 
 -- these records, and in front of them those that bytes begin with, at most so many: the newest first
-abbrev pub read_on : ℕ → List Record → List ℕ → List Record
-read_on zero older bytes = older
-read_on (suc most) older bytes =
-    read_further (piece_of bytes) older (λ entry len. read_on most (entry ∷ older) (drop len bytes))
+abbrev pub records_from : ℕ → List Record → List ℕ → List Record
+records_from zero older bytes = older
+records_from (suc most) older bytes =
+    read_further (piece_of bytes) older (λ entry len. records_from most (entry ∷ older) (drop len bytes))
 
 -- the records that bytes begin with, the newest first
 abbrev pub records_in : List ℕ → List Record
-records_in bytes = read_on (length bytes) [] bytes
+records_in bytes = records_from (length bytes) [] bytes

@@ -16,7 +16,8 @@ AreGroups (Began order ∷ Opened unit ∷ []) = unit ≡ order.unit
 AreGroups (Began order ∷ Opened unit ∷ Ended Done ∷ rest) = (unit ≡ order.unit) × AreGroups rest
 AreGroups (Began order ∷ Opened unit ∷ Ended Doubt ∷ rest) = (unit ≡ order.unit) × AreGroups rest
 AreGroups (Began order ∷ Opened unit ∷ Ended DoubtOpen ∷ []) = unit ≡ order.unit
-AreGroups (Began order ∷ Opened unit ∷ Ended DoubtOpen ∷ Closed closed ∷ rest) = (unit ≡ order.unit) × (closed ≡ order.unit) × AreGroups rest
+AreGroups (Began order ∷ Opened unit ∷ Ended DoubtOpen ∷ Closed closed ∷ rest) =
+    (unit ≡ order.unit) × (closed ≡ order.unit) × AreGroups rest
 AreGroups _ = ⊥
 
 -- no number stands twice

@@ -49,15 +49,15 @@ ended_place code (places.Begun at) = places.Ended at code
 ended_place code other = other
 
 -- the order that is at work has this number
-abbrev pub is_at_work : Standing → ℕ → Bool
-is_at_work (standings.Began order) id = order.id == id
-is_at_work (standings.Opened order) id = order.id == id
-is_at_work other id = false
+abbrev pub works_on : Standing → ℕ → Bool
+works_on (standings.Began order) id = order.id == id
+works_on (standings.Opened order) id = order.id == id
+works_on other id = false
 
 -- what a record that stands there makes of a number's place
 abbrev pub place_after : Standing → Record → ℕ → ℕ → Place → Place
 place_after standing (Began order) at id place = if order.id == id then places.Begun at else place
-place_after standing (Ended code) at id place = if is_at_work standing id then ended_place code place else place
+place_after standing (Ended code) at id place = if works_on standing id then ended_place code place else place
 place_after standing other at id place = place
 
 -- an order's number is in the index before it begins

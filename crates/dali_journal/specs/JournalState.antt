@@ -6,7 +6,7 @@ use Rattle.dali_journal.specs.declared.record.Record.{Record}
 use Rattle.dali_journal.specs.declared.record.Record.TheVariants.{Began}
 use Rattle.dali_journal.specs.declared.standing.Standing.{Standing}
 use Rattle.dali_journal.specs.declared.standing.Standing.TheVariants as standings
-use Rattle.dali_journal.specs.Sentence.{standing_of, is_begun, IsSentence}
+use Rattle.dali_journal.specs.Sentence.{standing_of, is_begun, IsSentenceWithin}
 use Rattle.dali_journal.specs.Orders.{orders_of}
 use Rattle.dali_journal.specs.Spelling.{spelling, IsRecord}
 
@@ -52,11 +52,13 @@ KeepsRoom other old new = (order : Contents) → HasRoom old order → HasRoom n
 abbrev pub IsLimit : ℕ → Type 0
 IsLimit limit = (1 ≤ limit) × (limit ≤ 100000)
 
--- what is so of every journal: its records are a sentence within its limit, each in its range, and there is
--- memory for what is due
+-- the records of a journal for at most so many orders
+pub record AreKept (limit : ℕ) (records : List Record) : Type 0 where
+  pub in_range : AllByRecursion IsRecord records
+  pub whole : IsSentenceWithin limit records
+
+-- what is so of every journal, and that there is memory for what is due
 pub record IsJournal (journal : JournalState) : Type 0 where
-  pub in_range : AllByRecursion IsRecord journal.records
-  pub sentence : IsSentence journal.records
-  pub within : order_count journal ≤ journal.limit
+  pub kept : AreKept journal.limit journal.records
   pub limited : IsLimit journal.limit
   pub due : bytes_due (standing_of journal.records) ≤ journal.room

@@ -27,15 +27,17 @@ IsUnended order records =
 abbrev pub HasEnded : Contents → Code → List Record → Type 0
 HasEnded order code records =
     (newer : List Record) × (older : List Record)
-    × ((records ≡ newer ++ Ended code ∷ Began order ∷ older) ⊎ (records ≡ newer ++ Ended code ∷ Opened order.unit ∷ Began order ∷ older))
+    × ((records ≡ newer ++ Ended code ∷ Began order ∷ older)
+    ⊎ (records ≡ newer ++ Ended code ∷ Opened order.unit ∷ Began order ∷ older))
 
--- What is kept of a number is what the groups say: nothing where no order was begun under it, the order whose group hasn't
--- ended, or an order and how its group ended.
+-- What is kept of a number is what the groups say: nothing where no order was begun under it, the order whose group
+-- hasn't ended, or an order and how its group ended.
 abbrev pub KeptIsInTheGroups : Type 0
 KeptIsInTheGroups = (records : List Record) (id : ℕ) → IsSentence records
     → ((kept_of id records ≡ kepts.Absent) ↔ (is_begun id records ≡ false))
     × ((order : Contents) → (kept_of id records ≡ kepts.Unfinished order) ↔ ((order.id ≡ id) × IsUnended order records))
-    × ((order : Contents) (code : Code) → (kept_of id records ≡ kepts.Ended order code) ↔ ((order.id ≡ id) × HasEnded order code records))
+    × ((order : Contents) (code : Code)
+    → (kept_of id records ≡ kepts.Ended order code) ↔ ((order.id ≡ id) × HasEnded order code records))
 
 -- Where the bytes of one record begin those of another, the two are one record.
 abbrev pub NoSpellingBeginsAnother : Type 0

@@ -5,17 +5,11 @@ use Rattle.dali_journal.specs.declared.fault.JournalFault.{JournalFault}
 use Rattle.dali_journal.specs.declared.fault.JournalFault.TheVariants as faults
 use Rattle.dali_journal.specs.declared.record.Record.{Record}
 use Rattle.dali_journal.specs.declared.record.Record.TheVariants.{Began}
-use Rattle.dali_journal.specs.Sentence.{Allows, standing_of, is_begun, IsSentence}
+use Rattle.dali_journal.specs.Sentence.{Allows, standing_of, is_begun}
 use Rattle.dali_journal.specs.Orders.{orders_of}
-use Rattle.dali_journal.specs.Spelling.{journal_spelling, IsRecord}
+use Rattle.dali_journal.specs.Spelling.{journal_spelling}
 use Rattle.dali_journal.specs.Reading.{BeginsWith, IsCutOf}
-use Rattle.dali_journal.specs.JournalState.{JournalState, IsLimit, IsJournal}
-
--- the records of a journal for at most so many orders
-pub record AreKept (limit : ℕ) (records : List Record) : Type 0 where
-  pub in_range : AllByRecursion IsRecord records
-  pub sentence : IsSentence records
-  pub within : length (orders_of records) ≤ limit
+use Rattle.dali_journal.specs.JournalState.{JournalState, AreKept, IsLimit, IsJournal}
 
 -- a torn journal: the bytes are those of the records, this many, and behind them a proper front of some record's
 pub record IsTorn (bytes : List ℕ) (records : List Record) (len : ℕ) : Type 0 where

@@ -1,10 +1,11 @@
 -- Which lists of records a journal may hold, by the table of standings. The newest record comes first.
-use Rattle.std.specs.Prelude.{◌≡◌, ◌≤◌, ◌||◌, ◌==◌, ℕ, Bool, false, List, [], ◌∷◌, Option, Some, None, ⊤}
+use Rattle.std.specs.Prelude.{◌≡◌, ◌≤◌, ◌||◌, ◌==◌, ℕ, Bool, false, List, [], ◌∷◌, Option, Some, None, length, ⊤}
 use Rattle.dali_journal.specs.declared.record.Code.TheVariants.{Done, Short, Format, Silent, Doubt, DoubtOpen}
 use Rattle.dali_journal.specs.declared.record.Record.{Record}
 use Rattle.dali_journal.specs.declared.record.Record.TheVariants.{Began, Opened, Ended, Closed}
 use Rattle.dali_journal.specs.declared.standing.Standing.{Standing}
 use Rattle.dali_journal.specs.declared.standing.Standing.TheVariants as standings
+use Rattle.dali_journal.specs.Orders.{orders_of}
 
 -- the table: which record may come next
 abbrev pub Allows : Standing → Record → Type 0
@@ -58,3 +59,7 @@ IsNew other older = ⊤
 abbrev pub IsSentence : List Record → Type 0
 IsSentence [] = ⊤
 IsSentence (newest ∷ older) = IsSentence older × Allows (standing_of older) newest × IsNew newest older
+
+-- a sentence of at most so many orders
+abbrev pub IsSentenceWithin : ℕ → List Record → Type 0
+IsSentenceWithin limit records = IsSentence records × (length (orders_of records) ≤ limit)

@@ -30,9 +30,11 @@ code_name DoubtOpen = codes "DoubtOpen"
 abbrev pub pairs_spelling : List (ℕ × ℕ) → List ℕ
 pairs_spelling pairs = flat_map (λ pair. pair.0 ∷ pair.1 ∷ []) pairs
 
--- an order behind its letter: its number in eight bytes, the most significant first, its unit, how many updates it has, and these
+-- an order behind its letter: its number in eight bytes, the most significant first, its unit, how many updates it
+-- has, and these
 abbrev pub order_spelling : Contents → List ℕ
-order_spelling order = to_be_bytes w64 order.id ++ (order.unit ∷ length order.updates ∷ []) ++ pairs_spelling order.updates
+order_spelling order =
+    to_be_bytes w64 order.id ++ (order.unit ∷ length order.updates ∷ []) ++ pairs_spelling order.updates
 
 -- a record: a letter, B, O, E or C, and what it is about
 abbrev pub spelling : Record → List ℕ
@@ -54,7 +56,9 @@ NamesShortUnit entry = ⊤
 
 -- a record whose numbers are in their ranges
 abbrev pub IsRecord : Record → Type 0
-IsRecord (Began order) = (order.id < 2 ^ 64) × (order.unit ≤ 63) × AreUpdates order.updates × AllByRecursion (λ update. update.1 < 256) order.updates
+IsRecord (Began order) =
+    (order.id < 2 ^ 64) × (order.unit ≤ 63) × AreUpdates order.updates
+    × AllByRecursion (λ update. update.1 < 256) order.updates
 IsRecord (Opened unit) = unit ≤ 63
 IsRecord (Ended code) = ⊤
 IsRecord (Closed unit) = unit ≤ 63

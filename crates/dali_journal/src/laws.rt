@@ -1,6 +1,7 @@
 //! Laws of journals. Each is the contract of a function that does nothing.
 
-ghost use Rattle.dali_journal.specs.Law.{SentencesAreGroups, KeptIsInTheGroups, NoSpellingBeginsAnother, BytesBeginWithOnePiece};
+ghost use Rattle.dali_journal.specs.Law.{SentencesAreGroups, KeptIsInTheGroups, NoSpellingBeginsAnother};
+ghost use Rattle.dali_journal.specs.Law.{BytesBeginWithOnePiece};
 ghost use Rattle.dali_journal.specs.Loading.{TornHasNoFault, BytesHaveOneFault, JournalsLoadAgain};
 
 /// What the table of standings allows, record by record, is a list of groups, one for each order.
@@ -8,7 +9,8 @@ pub fn sentences_are_groups()
     ensures { SentencesAreGroups }
 {}
 
-/// What a journal has kept of a number is what its groups say of it, and nothing just where no order was begun under it:
+/// What a journal has kept of a number is what its groups say of it, and nothing just where no order was begun under
+/// it:
 /// so a new order may be appended just where nothing is kept of its number.
 pub fn kept_is_in_the_groups()
     ensures { KeptIsInTheGroups }

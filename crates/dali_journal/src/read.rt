@@ -1,6 +1,6 @@
 ghost use Rattle.std.specs.Prelude.{◌≡◌, ◌≤◌};
 ghost use Rattle.dali_journal.specs.Reading.{IsRead};
-ghost use Rattle.dali_journal.specs.Decoding.{piece_of, code_of, order_piece, numbered_piece};
+ghost use Rattle.dali_journal.specs.Decoding.{piece_of, code_numbered, order_piece, numbered_piece};
 ghost use Rattle.dali_journal.specs.Decoding.{counted_piece, pairs_of, fits, places_above};
 
 use crate::record::{Code, Record};
@@ -47,15 +47,18 @@ fn piece_of(bytes: &[u8]) -> Piece
         [] | [b'O' | b'E' | b'C'] => Piece::Cut,
         [b'B', rest @ ..] => read_order(rest),
         [b'O', unit, ..] if *unit <= 63 => Piece::Whole(Record::Opened(*unit), 2),
-        [b'E', number, ..] if *number <= 5 => Piece::Whole(Record::Ended(code_of(*number)), 2),
+        [b'E', number, ..] if *number <= 5 => Piece::Whole(
+            Record::Ended(code_numbered(*number)),
+            2,
+        ),
         [b'C', unit, ..] if *unit <= 63 => Piece::Whole(Record::Closed(*unit), 2),
         _ => Piece::Bad,
     }
 }
 
 // The code of a number of at most 5.
-fn code_of(number: u8) -> Code
-    ensures { result ≡ code_of number }
+fn code_numbered(number: u8) -> Code
+    ensures { result ≡ code_numbered number }
 {
     match number {
         0 => Code::Done,

@@ -1,7 +1,8 @@
 ghost use Rattle.std.specs.Prelude.{◌≡◌, ◌+◌, ◌*◌, ◌≤◌, ◌++◌, ◌∷◌, [], length};
 ghost use Rattle.arrayvec.specs.ArrayVec.{array_vec_len};
 ghost use Rattle.dali_journal.specs.declared.record.Record.TheVariants.{Began};
-ghost use Rattle.dali_journal.specs.Spelling.{spelling, order_spelling, pairs_spelling, code_number, code_name, NamesShortUnit, IsRecord};
+ghost use Rattle.dali_journal.specs.Spelling.{spelling, order_spelling, pairs_spelling, code_number, code_name};
+ghost use Rattle.dali_journal.specs.Spelling.{NamesShortUnit, IsRecord};
 
 use arrayvec::ArrayVec;
 use dali_bank::Order;

@@ -5,11 +5,13 @@ use Rattle.dali_gear.specs.World.{World, byte_at}
 use Rattle.dali_journal.specs.declared.record.Record.{Record}
 use Rattle.dali_journal.specs.declared.kept.Stage.{Stage}
 use Rattle.dali_journal.specs.Orders.{orders_of}
-use Rattle.dali_trace.specs.Possible.{Mark, Applied, Untouched, InDoubt, mark_of, byte_for, MayHold, IsPossible, Settles, IsSettled, applied_to, applied}
+use Rattle.dali_trace.specs.Possible.{Mark, Applied, Untouched, InDoubt, mark_of, byte_for, MayHold, IsPossible}
+use Rattle.dali_trace.specs.Possible.{Settles, IsSettled, applied_to, applied}
 use Rattle.dali_trace.specs.Fits.{Fits, IsApplied}
 
 -- after one order more one byte alone is possible
-settled : (mark : Mark) (found : Option ℕ) (before : ℕ → Type 0) (sole : Type 0) (byte one : ℕ) → Settles mark found sole → (sole → before byte → byte ≡ one)
+settled : (mark : Mark) (found : Option ℕ) (before : ℕ → Type 0) (sole : Type 0) (byte one : ℕ)
+    → Settles mark found sole → (sole → before byte → byte ≡ one)
     → MayHold mark found before byte → byte ≡ applied_to mark found one
 settled Applied (Some update) before sole byte one is only may = may
 settled Applied None before sole byte one is only may = only is may
@@ -18,7 +20,8 @@ settled Untouched None before sole byte one is only may = only is may
 settled InDoubt (Some update) before sole byte one is only may = absurd is
 settled InDoubt None before sole byte one is only may = only is may
 
-is_applied : (first address bank location byte : ℕ) (orders : List (Contents × Stage)) → IsSettled address bank location orders
+is_applied : (first address bank location byte : ℕ) (orders : List (Contents × Stage))
+    → IsSettled address bank location orders
     → IsPossible first address bank location orders byte → byte ≡ applied first address bank location orders
 is_applied first address bank location byte [] is possible = possible
 is_applied first address bank location byte (newest ∷ older) is possible =
@@ -31,7 +34,8 @@ byte_there : (found : Option ℕ) → is_some found ≡ true → (byte : ℕ) ×
 byte_there None some = cc
 byte_there (Some byte) some = (byte, refl)
 
-pub fits_applied : (zero : World) (records : List Record) (now : World) → Fits zero records now → IsApplied zero records now
+pub fits_applied : (zero : World) (records : List Record) (now : World) → Fits zero records now
+    → IsApplied zero records now
 fits_applied zero records now fits = λ address bank location first lock was is.
     let there = byte_there (byte_at now address bank location) (fits.places address bank location ∙ ap is_some was) in
     let possible = fits.bytes address bank location first there.0 lock was there.1 in

@@ -1,7 +1,9 @@
 -- A legal trace that keeps to the plans is on course.
-use Rattle.std.proofs.Common.{◌≡◌, inl, inr, refl, sym, ap, subst, ℕ, suc, ◌≤◌, Bool, true, false, List, [], ◌∷◌, Option, Some, None, IsSome, arith}
+use Rattle.std.proofs.Common.{◌≡◌, inl, inr, refl, sym, ap, subst, ℕ, suc, ◌≤◌, Bool, true, false, List, [], ◌∷◌}
+use Rattle.std.proofs.Common.{Option, Some, None, IsSome, arith}
 use Rattle.dali_frame.specs.declared.forward.Frame.{Frame}
-use Rattle.dali_frame.specs.declared.forward.Frame.TheVariants.{Dtr0, Dtr1, Dtr2, Write, WriteSilent, Enable, AskDtr0, AskDtr1, AskDtr2, Read, Other}
+use Rattle.dali_frame.specs.declared.forward.Frame.TheVariants.{Dtr0, Dtr1, Dtr2, Write, WriteSilent, Enable, AskDtr0}
+use Rattle.dali_frame.specs.declared.forward.Frame.TheVariants.{AskDtr1, AskDtr2, Read, Other}
 use Rattle.dali_bank.specs.Order.{Contents}
 use Rattle.dali_journal.specs.declared.record.Code.{Code}
 use Rattle.dali_journal.specs.declared.record.Code.TheVariants as codes
@@ -22,9 +24,11 @@ use Rattle.dali_write.specs.Tries.{Wants}
 use Rattle.dali_trace.specs.declared.happening.Reply.TheVariants as replies
 use Rattle.dali_trace.specs.declared.happening.Happening.{Happening}
 use Rattle.dali_trace.specs.declared.happening.Happening.TheVariants.{Asked, Answered, Sent, Kept, Stopped}
-use Rattle.dali_trace.specs.Trace.{Start, records_of, standing_at, sent_since_taken, waiting, has_ended, is_unsaid, is_at_work}
+use Rattle.dali_trace.specs.Trace.{Start, records_of, standing_at, sent_since_taken, waiting, has_ended, is_unsaid}
+use Rattle.dali_trace.specs.Trace.{is_at_work}
 use Rattle.dali_trace.specs.Legal.{Legal, MaySend}
-use Rattle.dali_trace.specs.ByPlan.{told_in, Asks, EndsIn, IsPlanned, ByPlan}
+use Rattle.dali_trace.specs.Grounds.{EndsIn}
+use Rattle.dali_trace.specs.ByPlan.{told_in, Asks, IsPlanned, ByPlan}
 use Rattle.dali_trace.specs.Work.{stood_at, kept_since}
 use Rattle.dali_laws.proofs.Courses.{ClosedBy, CheckedBy, OpenedBy, EndedBy, NewestEndedBy, HasCome, IsOnCourse}
 use Rattle.dali_laws.proofs.TakenLemmas.{neither, waits}
@@ -32,7 +36,8 @@ use Rattle.dali_laws.proofs.MomentLemmas.{may_keep, may_send}
 use Rattle.dali_laws.proofs.StandingLemmas.{begun_order, open_order}
 
 -- a start: an order is taken where none is at work, a trace begins or was stopped
-begins_taken : (stands : Standing) (order : Contents) (ended : Bool) (orders : List (Contents × Stage)) → is_at_work stands ≡ false → HasCome stands stands (Some order) ended orders [] [] 0
+begins_taken : (stands : Standing) (order : Contents) (ended : Bool) (orders : List (Contents × Stage))
+    → is_at_work stands ≡ false → HasCome stands stands (Some order) ended orders [] [] 0
 begins_taken standings.Idle order ended orders idle = (refl, refl, omega arith)
 begins_taken (standings.Left unit) order ended orders idle = (refl, refl, omega arith)
 begins_taken (standings.Began other) order ended orders idle = cc
@@ -45,7 +50,8 @@ begins_anew (standings.Began order) orders = ([], refl, refl, omega arith)
 begins_anew (standings.Opened order) orders = ([], refl, (refl, refl), omega arith)
 
 -- a saying
-after_saying : (first now : Standing) (waits : Option Contents) (ended : Bool) (orders : List (Contents × Stage)) (sent told : List Exchange) (kept : ℕ)
+after_saying : (first now : Standing) (waits : Option Contents) (ended : Bool) (orders : List (Contents × Stage))
+    (sent told : List Exchange) (kept : ℕ)
     → HasCome first now waits ended orders sent told kept → HasCome first now None false orders sent told kept
 after_saying first standings.Idle waits ended orders sent told kept come = tt
 after_saying first (standings.Left unit) waits ended orders sent told kept come = tt
@@ -53,7 +59,8 @@ after_saying first (standings.Began order) waits ended orders sent told kept com
 after_saying first (standings.Opened order) waits ended orders sent told kept come = come
 
 -- a frame may be sent to a left unit only while an order waits
-pub waits_on : (past : List Happening) (unit : ℕ) (frame : Frame) → MaySend past (standings.Left unit) frame → IsSome (waiting past)
+pub waits_on : (past : List Happening) (unit : ℕ) (frame : Frame) → MaySend past (standings.Left unit) frame
+    → IsSome (waiting past)
 waits_on past unit (Dtr0 byte) may = may.1.1
 waits_on past unit (Dtr1 byte) may = may.1.1
 waits_on past unit (AskDtr0 to) may = may.1
@@ -67,44 +74,51 @@ waits_on past unit (AskDtr2 to) may = absurd may
 waits_on past unit (Other word) may = absurd may
 
 -- a frame
-after_frame : (past : List Happening) (first now : Standing) (waiter : Option Contents) (ended : Bool) (orders : List (Contents × Stage)) (sent told : List Exchange) (kept : ℕ) (x : Exchange)
+after_frame : (past : List Happening) (first now : Standing) (waiter : Option Contents) (ended : Bool)
+    (orders : List (Contents × Stage)) (sent told : List Exchange) (kept : ℕ) (x : Exchange)
     → waiting past ≡ waiter → MaySend past now x.frame → Asks now told (asks.Send x.frame)
-    → HasCome first now waiter ended orders sent told kept → HasCome first now waiter ended orders (x ∷ sent) (x ∷ told) kept
+    → HasCome first now waiter ended orders sent told kept
+    → HasCome first now waiter ended orders (x ∷ sent) (x ∷ told) kept
 after_frame past first standings.Idle waiter ended orders sent told kept x at may asked come = absurd asked
-after_frame past first (standings.Began order) waiter ended orders sent told kept x at may asked come = (come.0, ap (λ t. x ∷ t) come.1, come.2, come.3)
-after_frame past first (standings.Opened order) waiter ended orders sent told kept x at may asked come = (come.0, ap (λ t. x ∷ t) come.1, come.2, come.3)
-after_frame past first (standings.Left unit) (Some order) ended orders sent told kept x at may asked come = (come.0, ap (λ t. x ∷ t) come.1, come.2)
+after_frame past first (standings.Began order) waiter ended orders sent told kept x at may asked come =
+    (come.0, ap (λ t. x ∷ t) come.1, come.2, come.3)
+after_frame past first (standings.Opened order) waiter ended orders sent told kept x at may asked come =
+    (come.0, ap (λ t. x ∷ t) come.1, come.2, come.3)
+after_frame past first (standings.Left unit) (Some order) ended orders sent told kept x at may asked come =
+    (come.0, ap (λ t. x ∷ t) come.1, come.2)
 after_frame past first (standings.Left unit) None ended orders sent told kept x at may asked come =
-    let some : IsSome (waiting past) = waits_on past unit x.frame may in let never : IsSome {T = Contents} None = rw at at some in cc
+    let some : IsSome (waiting past) = waits_on past unit x.frame may in
+    let never : IsSome {T = Contents} None = rw at at some in cc
 
 -- a record
 
-opened_verdict : (order : Contents) (other : ℕ) (verdict : Verdict) → EndsIn (standings.Began order) verdict (Opened other) → verdict ≡ verdicts.MayOpen
-opened_verdict order other verdicts.MayOpen ends = refl
-opened_verdict order other verdicts.Short ends = cc
-opened_verdict order other verdicts.Format ends = cc
-opened_verdict order other verdicts.Silent ends = cc
-opened_verdict order other _ ends = absurd ends
+opened_verdict : (order : Contents) (other : ℕ) (verdict : Verdict)
+    → EndsIn (standings.Began order) verdict (Opened other) → verdict ≡ verdicts.MayOpen
+opened_verdict order other verdict ends = let told = ends.1 in cc
 
 -- a left unit is closed, and no order ends there
-pub closed_verdict : (unit : ℕ) (verdict : Verdict) (entry : Record) → EndsIn (standings.Left unit) verdict entry → (verdict ≡ verdicts.Closed) × (entry ≡ Closed unit)
-closed_verdict unit verdicts.Closed entry ends = (refl, ends)
-closed_verdict unit _ entry ends = absurd ends
+pub closed_verdict : (unit : ℕ) (verdict : Verdict) (entry : Record) → EndsIn (standings.Left unit) verdict entry
+    → (verdict ≡ verdicts.Closed) × (entry ≡ Closed unit)
+closed_verdict unit verdict (Closed closed) ends = let told = ends.1 in let is = ends.0 in (cc, cc)
+closed_verdict unit verdict _ ends = absurd ends.0
 
-newest_ended : (first : Standing) (order : Contents) (code : Code) (stage : Stage) (orders : List (Contents × Stage)) (sent : List Exchange)
-    → (older : List (Contents × Stage)) × (orders ≡ (order, stage) ∷ older) → EndedBy first order code sent → NewestEndedBy first (come_to (stages.Ended code) orders) sent
+newest_ended : (first : Standing) (order : Contents) (code : Code) (stage : Stage) (orders : List (Contents × Stage))
+    (sent : List Exchange)
+    → (older : List (Contents × Stage)) × (orders ≡ (order, stage) ∷ older) → EndedBy first order code sent
+    → NewestEndedBy first (come_to (stages.Ended code) orders) sent
 newest_ended first order code stage orders sent newest ended = rw newest.1 ended
 
 -- where no order waits, and the newest one has ended
-now_ended : (first now : Standing) (waiter : Option Contents) (orders : List (Contents × Stage)) (sent told : List Exchange) (kept : ℕ) → is_at_work now ≡ false → waiter ≡ None
-    → NewestEndedBy first orders sent → kept ≤ 4 → HasCome first now waiter true orders sent told kept
-now_ended first standings.Idle None orders sent told kept idle none newest few = (newest, few)
-now_ended first (standings.Left unit) None orders sent told kept idle none newest few = (newest, few)
-now_ended first (standings.Began order) None orders sent told kept idle none newest few = cc
-now_ended first (standings.Opened order) None orders sent told kept idle none newest few = cc
-now_ended first now (Some order) orders sent told kept idle none newest few = cc
+now_ended : (first now : Standing) (orders : List (Contents × Stage)) (sent told : List Exchange) (kept : ℕ)
+    → is_at_work now ≡ false
+    → NewestEndedBy first orders sent → kept ≤ 4 → HasCome first now None true orders sent told kept
+now_ended first standings.Idle orders sent told kept idle newest few = (newest, few)
+now_ended first (standings.Left unit) orders sent told kept idle newest few = (newest, few)
+now_ended first (standings.Began order) orders sent told kept idle newest few = cc
+now_ended first (standings.Opened order) orders sent told kept idle newest few = cc
 
-pub idle_next : (stands : Standing) (code : Code) → Allows stands (Ended code) → is_at_work (next_standing stands (Ended code)) ≡ false
+pub idle_next : (stands : Standing) (code : Code) → Allows stands (Ended code)
+    → is_at_work (next_standing stands (Ended code)) ≡ false
 idle_next (standings.Began order) codes.Short allowed = refl
 idle_next (standings.Began order) codes.Format allowed = refl
 idle_next (standings.Began order) codes.Silent allowed = refl
@@ -113,11 +127,14 @@ idle_next (standings.Opened order) codes.Doubt allowed = refl
 idle_next (standings.Opened order) codes.DoubtOpen allowed = refl
 idle_next _ _ allowed = absurd allowed
 
-ended_newest : (first stands : Standing) (records : List Record) (code : Code) (waiter : Option Contents) (ended : Bool) (sent told : List Exchange) (kept : ℕ) (verdict : Verdict)
+ended_newest : (first stands : Standing) (records : List Record) (code : Code) (waiter : Option Contents) (ended : Bool)
+    (sent told : List Exchange) (kept : ℕ) (verdict : Verdict)
     → standing_of records ≡ stands → Asks stands told (asks.Ended verdict) → EndsIn stands verdict (Ended code)
-    → HasCome first stands waiter ended (orders_of records) sent told kept → NewestEndedBy first (come_to (stages.Ended code) (orders_of records)) sent × (kept ≤ 3)
+    → HasCome first stands waiter ended (orders_of records) sent told kept
+    → NewestEndedBy first (come_to (stages.Ended code) (orders_of records)) sent × (kept ≤ 3)
 ended_newest first standings.Idle records code waiter ended sent told kept verdict at asked ends come = absurd asked
-ended_newest first (standings.Left unit) records code waiter ended sent told kept verdict at asked ends come = let no = (closed_verdict unit verdict (Ended code) ends).1 in cc
+ended_newest first (standings.Left unit) records code waiter ended sent told kept verdict at asked ends come =
+    let no = (closed_verdict unit verdict (Ended code) ends).1 in cc
 ended_newest first (standings.Began order) records code waiter ended sent told kept verdict at asked ends come =
     let few = come.3 in (
       newest_ended first order code stages.Begun (orders_of records) sent (begun_order records order at)
@@ -130,37 +147,38 @@ ended_newest first (standings.Opened order) records code waiter ended sent told 
   come.3,
 )
 
-after_ended : (start : Start) (past : List Happening) (code : Code) → Legal start past → Allows (standing_at start past) (Ended code)
+after_ended : (start : Start) (past : List Happening) (code : Code) → Allows (standing_at start past) (Ended code)
     → IsPlanned start past (Kept (Ended code)) → IsOnCourse start past → IsOnCourse start (Kept (Ended code) ∷ past)
-after_ended start past code legal allowed planned come =
-    let newest = ended_newest (stood_at start past) (standing_at start past) (records_of start past) code (waiting past) (has_ended past) (sent_since_taken past) (told_in past) (kept_since past) planned.0
+after_ended start past code allowed planned come =
+    let newest =
+    ended_newest (stood_at start past) (standing_at start past) (records_of start past) code (waiting past)
+    (has_ended past) (sent_since_taken past) (told_in past) (kept_since past) planned.0
     refl planned.1 planned.2 come in
     let few = newest.1 in
-    now_ended (stood_at start past) (next_standing (standing_at start past) (Ended code)) (waiting past) (come_to (stages.Ended code) (orders_of (records_of start past))) (sent_since_taken past) []
-    (suc (kept_since past)) (idle_next (standing_at start past) code allowed) (none_waits (waiting past) refl) newest.0 (omega arith)
-  where
-    at_work : (stands : Standing) (verdict : Verdict) → Asks stands (told_in past) (asks.Ended verdict) → EndsIn stands verdict (Ended code) → is_at_work stands ≡ true
-    at_work standings.Idle verdict asked ends = absurd asked
-    at_work (standings.Left unit) verdict asked ends = let no = (closed_verdict unit verdict (Ended code) ends).1 in cc
-    at_work (standings.Began order) verdict asked ends = refl
-    at_work (standings.Opened order) verdict asked ends = refl
+    now_ended (stood_at start past) (next_standing (standing_at start past) (Ended code))
+    (come_to (stages.Ended code) (orders_of (records_of start past)))
+    (sent_since_taken past) [] (suc (kept_since past)) (idle_next (standing_at start past) code allowed) newest.0
+    (omega arith)
 
-    none_waits : (waiter : Option Contents) → waiting past ≡ waiter → waiting past ≡ None
-    none_waits None e = e
-    none_waits (Some order) e =
-        let idle = (waits start past order legal e).idle in
-        let working = at_work (standing_at start past) planned.0 planned.1 planned.2 in cc
-
-after_opened : (first stands : Standing) (unit : ℕ) (waiter : Option Contents) (ended : Bool) (orders others : List (Contents × Stage)) (sent told : List Exchange) (kept : ℕ) (verdict : Verdict)
+after_opened : (first stands : Standing) (unit : ℕ) (waiter : Option Contents) (ended : Bool)
+    (orders others : List (Contents × Stage)) (sent told : List Exchange) (kept : ℕ) (verdict : Verdict)
     → Allows stands (Opened unit) → Asks stands told (asks.Ended verdict) → EndsIn stands verdict (Opened unit)
-    → HasCome first stands waiter ended orders sent told kept → HasCome first (next_standing stands (Opened unit)) waiter false others sent [] (suc kept)
-after_opened first standings.Idle unit waiter ended orders others sent told kept verdict allowed asked ends come = absurd allowed
-after_opened first (standings.Opened order) unit waiter ended orders others sent told kept verdict allowed asked ends come = absurd allowed
-after_opened first (standings.Left left) unit waiter ended orders others sent told kept verdict allowed asked ends come = absurd allowed
-after_opened first (standings.Began order) unit waiter ended orders others sent told kept verdict allowed asked ends come =
+    → HasCome first stands waiter ended orders sent told kept
+    → HasCome first (next_standing stands (Opened unit)) waiter ended others sent [] (suc kept)
+after_opened first standings.Idle unit waiter ended orders others sent told kept verdict allowed asked ends come =
+    absurd allowed
+after_opened first (standings.Opened order) unit waiter ended orders others sent told kept verdict allowed asked
+    ends come =
+    absurd allowed
+after_opened first (standings.Left left) unit waiter ended orders others sent told kept verdict allowed asked
+    ends come =
+    absurd allowed
+after_opened first (standings.Began order) unit waiter ended orders others sent told kept verdict allowed asked
+    ends come =
     let few = come.3 in
     let is = opened_verdict order unit verdict ends in
-    let wants : Wants order.unit (read_length order.updates) told (asks.Ended verdicts.MayOpen) = subst (λ (v : Verdict). Wants order.unit (read_length order.updates) told (asks.Ended v)) is asked in
+    let wants : Wants order.unit (read_length order.updates) told (asks.Ended verdicts.MayOpen) =
+    subst (λ (v : Verdict). Wants order.unit (read_length order.updates) told (asks.Ended v)) is asked in
     (sent, refl, checked first come.2 (told, come.0, come.1, wants, come.2), omega arith)
   where
     checked : (first : Standing) → ClosedBy first come.0 → CheckedBy first order sent → OpenedBy first order sent
@@ -169,25 +187,42 @@ after_opened first (standings.Began order) unit waiter ended orders others sent 
     checked (standings.Left left) closed by = by
     checked (standings.Opened opened) closed by = absurd closed
 
-after_closed : (first stands : Standing) (unit : ℕ) (waiter : Option Contents) (ended : Bool) (orders : List (Contents × Stage)) (sent told : List Exchange) (kept : ℕ) (verdict : Verdict)
-    → Allows stands (Closed unit) → IsSome waiter → Asks stands told (asks.Ended verdict) → EndsIn stands verdict (Closed unit)
-    → HasCome first stands waiter ended orders sent told kept → HasCome first standings.Idle waiter false orders sent [] (suc kept)
-after_closed first standings.Idle unit waiter ended orders sent told kept verdict allowed some asked ends come = absurd allowed
-after_closed first (standings.Began order) unit waiter ended orders sent told kept verdict allowed some asked ends come = absurd allowed
-after_closed first (standings.Opened order) unit waiter ended orders sent told kept verdict allowed some asked ends come = absurd allowed
+after_closed : (first stands : Standing) (unit : ℕ) (waiter : Option Contents) (ended : Bool)
+    (orders : List (Contents × Stage)) (sent told : List Exchange) (kept : ℕ) (verdict : Verdict)
+    → Allows stands (Closed unit) → IsSome waiter → Asks stands told (asks.Ended verdict)
+    → EndsIn stands verdict (Closed unit)
+    → HasCome first stands waiter ended orders sent told kept
+    → HasCome first standings.Idle waiter ended orders sent [] (suc kept)
+after_closed first standings.Idle unit waiter ended orders sent told kept verdict allowed some asked ends come =
+    absurd allowed
+after_closed first (standings.Began order) unit waiter ended orders sent told kept verdict allowed some asked
+    ends come =
+    absurd allowed
+after_closed first (standings.Opened order) unit waiter ended orders sent told kept verdict allowed some asked
+    ends come =
+    absurd allowed
 after_closed first (standings.Left left) unit None ended orders sent told kept verdict allowed some asked ends come = cc
-after_closed first (standings.Left left) unit (Some order) ended orders sent told kept verdict allowed some asked ends come =
+after_closed first (standings.Left left) unit (Some order) ended orders sent told kept verdict allowed some asked
+    ends come =
     let few = come.2 in
     let wants : Wants left (close verdicts.Closed verdicts.NotClosed) told (asks.Ended verdicts.Closed) =
-    subst (λ (v : Verdict). Wants left (close verdicts.Closed verdicts.NotClosed) told (asks.Ended v)) (closed_verdict left verdict (Closed unit) ends).0 asked in
-    let closed : ClosedBy (standings.Left left) sent = subst (λ (t : List Exchange). Wants left (close verdicts.Closed verdicts.NotClosed) t (asks.Ended verdicts.Closed)) (sym come.1) wants in
+    subst (λ (v : Verdict). Wants left (close verdicts.Closed verdicts.NotClosed) told (asks.Ended v))
+    (closed_verdict left verdict (Closed unit) ends).0 asked in
+    let closed : ClosedBy (standings.Left left) sent =
+    subst (λ (t : List Exchange). Wants left (close verdicts.Closed verdicts.NotClosed) t (asks.Ended verdicts.Closed))
+    (sym come.1) wants in
     (refl, subst (λ (s : Standing). ClosedBy s sent) (sym come.0) closed, omega arith)
 
-after_began : (first stands : Standing) (order : Contents) (waiter next : Option Contents) (ended : Bool) (orders others : List (Contents × Stage)) (sent told : List Exchange) (kept : ℕ)
-    → Allows stands (Began order) → waiter ≡ Some order → HasCome first stands waiter ended orders sent told kept → HasCome first (standings.Began order) next false others sent [] (suc kept)
-after_began first (standings.Began other) order waiter next ended orders others sent told kept allowed waits come = absurd allowed
-after_began first (standings.Opened other) order waiter next ended orders others sent told kept allowed waits come = absurd allowed
-after_began first (standings.Left left) order waiter next ended orders others sent told kept allowed waits come = absurd allowed
+after_began : (first stands : Standing) (order : Contents) (waiter next : Option Contents) (ended : Bool)
+    (orders others : List (Contents × Stage)) (sent told : List Exchange) (kept : ℕ)
+    → Allows stands (Began order) → waiter ≡ Some order → HasCome first stands waiter ended orders sent told kept
+    → HasCome first (standings.Began order) next false others sent [] (suc kept)
+after_began first (standings.Began other) order waiter next ended orders others sent told kept allowed waits come =
+    absurd allowed
+after_began first (standings.Opened other) order waiter next ended orders others sent told kept allowed waits come =
+    absurd allowed
+after_began first (standings.Left left) order waiter next ended orders others sent told kept allowed waits come =
+    absurd allowed
 after_began first standings.Idle order None next ended orders others sent told kept allowed waits come = cc
 after_began first standings.Idle order (Some other) next ended orders others sent told kept allowed waits come =
     let few = come.2 in (sent, refl, come.1, omega arith)
@@ -197,37 +232,52 @@ on_course start [] legal planned = begins_anew (standing_of start.records) (orde
 on_course start (Asked order ∷ past) legal planned = on_course start past legal.0 planned.0
 on_course start (Answered id replies.Taken ∷ Asked order ∷ past) legal planned =
     let rest = neither (is_at_work (standing_at start past)) (is_unsaid past) legal.1.1.1 in
-    begins_taken (standing_at start past) order (has_ended past) (orders_of (records_of start past)) rest.0
-on_course start (Answered id (replies.Kept code) ∷ Asked order ∷ past) legal planned = on_course start past legal.0.0 planned.0.0
-on_course start (Answered id replies.IdReused ∷ Asked order ∷ past) legal planned = on_course start past legal.0.0 planned.0.0
-on_course start (Answered id replies.Busy ∷ Asked order ∷ past) legal planned = on_course start past legal.0.0 planned.0.0
-on_course start (Answered id replies.Full ∷ Asked order ∷ past) legal planned = on_course start past legal.0.0 planned.0.0
+    begins_taken (standing_at start past) order false (orders_of (records_of start past)) rest.0
+on_course start (Answered id (replies.Kept code) ∷ Asked order ∷ past) legal planned =
+    on_course start past legal.0.0 planned.0.0
+on_course start (Answered id replies.IdReused ∷ Asked order ∷ past) legal planned =
+    on_course start past legal.0.0 planned.0.0
+on_course start (Answered id replies.Busy ∷ Asked order ∷ past) legal planned =
+    on_course start past legal.0.0 planned.0.0
+on_course start (Answered id replies.Full ∷ Asked order ∷ past) legal planned =
+    on_course start past legal.0.0 planned.0.0
 on_course start (Answered id (replies.Blocked unit) ∷ Asked order ∷ past) legal planned = absurd legal.1.1
 on_course start (Answered id (replies.Kept code) ∷ past) legal planned =
-    after_saying (stood_at start past) (standing_at start past) (waiting past) (has_ended past) (orders_of (records_of start past)) (sent_since_taken past) (told_in past) (kept_since past)
+    after_saying (stood_at start past) (standing_at start past) (waiting past) (has_ended past)
+    (orders_of (records_of start past)) (sent_since_taken past) (told_in past) (kept_since past)
     (on_course start past legal.0 planned.0)
 on_course start (Answered id (replies.Blocked unit) ∷ past) legal planned =
-    after_saying (stood_at start past) (standing_at start past) (waiting past) (has_ended past) (orders_of (records_of start past)) (sent_since_taken past) (told_in past) (kept_since past)
+    after_saying (stood_at start past) (standing_at start past) (waiting past) (has_ended past)
+    (orders_of (records_of start past)) (sent_since_taken past) (told_in past) (kept_since past)
     (on_course start past legal.0 planned.0)
 on_course start (Answered id reply ∷ past) legal planned = absurd legal.1
 on_course start (Sent frame answer ∷ past) legal planned =
-    after_frame past (stood_at start past) (standing_at start past) (waiting past) (has_ended past) (orders_of (records_of start past)) (sent_since_taken past) (told_in past) (kept_since past)
-    (record { frame = frame; answer = answer }) refl (may_send start past frame answer legal.1) planned.1 (on_course start past legal.0 planned.0)
+    after_frame past (stood_at start past) (standing_at start past) (waiting past) (has_ended past)
+    (orders_of (records_of start past)) (sent_since_taken past) (told_in past) (kept_since past)
+    (record { frame = frame; answer = answer }) refl (may_send start past frame answer legal.1) planned.1
+    (on_course start past legal.0 planned.0)
 on_course start (Kept (Began order) ∷ past) legal planned =
     let may = may_keep start past (Began order) legal.1 in
-    after_began (stood_at start past) (standing_at start past) order (waiting past) None (has_ended past) (orders_of (records_of start past)) (orders_of (Began order ∷ records_of start past))
-    (sent_since_taken past) (told_in past) (kept_since past) may.sentence.1 may.due (on_course start past legal.0 planned.0)
+    after_began (stood_at start past) (standing_at start past) order (waiting past) None (has_ended past)
+    (orders_of (records_of start past)) (orders_of (Began order ∷ records_of start past))
+    (sent_since_taken past) (told_in past) (kept_since past) may.whole.0.1 may.due
+    (on_course start past legal.0 planned.0)
 on_course start (Kept (Opened unit) ∷ past) legal planned =
     let may = may_keep start past (Opened unit) legal.1 in
     let next = planned.1 in
-    after_opened (stood_at start past) (standing_at start past) unit (waiting past) (has_ended past) (orders_of (records_of start past)) (orders_of (Opened unit ∷ records_of start past))
-    (sent_since_taken past) (told_in past) (kept_since past) next.0 may.sentence.1 next.1 next.2 (on_course start past legal.0 planned.0)
+    after_opened (stood_at start past) (standing_at start past) unit (waiting past) (has_ended past)
+    (orders_of (records_of start past)) (orders_of (Opened unit ∷ records_of start past))
+    (sent_since_taken past) (told_in past) (kept_since past) next.0 may.whole.0.1 next.1 next.2
+    (on_course start past legal.0 planned.0)
 on_course start (Kept (Ended code) ∷ past) legal planned =
     let may = may_keep start past (Ended code) legal.1 in
-    after_ended start past code legal.0 may.sentence.1 planned.1 (on_course start past legal.0 planned.0)
+    after_ended start past code may.whole.0.1 planned.1 (on_course start past legal.0 planned.0)
 on_course start (Kept (Closed unit) ∷ past) legal planned =
     let may = may_keep start past (Closed unit) legal.1 in
     let next = planned.1 in
-    after_closed (stood_at start past) (standing_at start past) unit (waiting past) (has_ended past) (orders_of (records_of start past))
-    (sent_since_taken past) (told_in past) (kept_since past) next.0 may.sentence.1 may.due.0 next.1 next.2 (on_course start past legal.0 planned.0)
-on_course start (Stopped ∷ past) legal planned = begins_anew (standing_at start past) (orders_of (records_of start past))
+    after_closed (stood_at start past) (standing_at start past) unit (waiting past) (has_ended past)
+    (orders_of (records_of start past))
+    (sent_since_taken past) (told_in past) (kept_since past) next.0 may.whole.0.1 may.due.0 next.1 next.2
+    (on_course start past legal.0 planned.0)
+on_course start (Stopped ∷ past) legal planned =
+    begins_anew (standing_at start past) (orders_of (records_of start past))

@@ -1,8 +1,10 @@
 -- A frame that may be sent keeps a world fitting, and enables no unit but the named one.
-use Rattle.std.proofs.Common.{◌≡◌, ◌⊎◌, inl, inr, refl, sym, ap, subst, ◌∙◌, ℕ, Bool, true, false, ◌==◌, List, [], ◌∷◌, Option, Some, None, IsSome, is_some}
+use Rattle.std.proofs.Common.{◌≡◌, ◌⊎◌, inl, inr, refl, sym, ap, subst, ◌∙◌, ℕ, Bool, true, false, ◌==◌, List, [], ◌∷◌}
+use Rattle.std.proofs.Common.{Option, Some, None, IsSome, is_some}
 use Rattle.std.proofs.lemmas.Bool.{eqb-true, eqb-false}
 use Rattle.dali_frame.specs.declared.forward.Frame.{Frame}
-use Rattle.dali_frame.specs.declared.forward.Frame.TheVariants.{Dtr0, Dtr1, Dtr2, Write, WriteSilent, Enable, AskDtr0, AskDtr1, AskDtr2, Read, Other}
+use Rattle.dali_frame.specs.declared.forward.Frame.TheVariants.{Dtr0, Dtr1, Dtr2, Write, WriteSilent, Enable, AskDtr0}
+use Rattle.dali_frame.specs.declared.forward.Frame.TheVariants.{AskDtr1, AskDtr2, Read, Other}
 use Rattle.dali_gear.specs.World.{World, Gear, byte_at, is_open, is_enabled}
 use Rattle.dali_gear.specs.Carry.{Carry}
 use Rattle.dali_journal.specs.declared.record.Record.{Record}
@@ -52,24 +54,32 @@ was_open old new keeps on = by (is_open old) refl where
   by false e = absurd (not_both new (keeps (off_where old e)) on)
 
 -- no unit but the named one is enabled
-others_off : (records : List Record) (unit : ℕ) (now : World) → named_unit (standing_of records) ≡ Some unit → OnlyNamed records now → OnlyEnabled unit now
-others_off records unit now is_named only = λ address other. off_unless (now address) (λ on. other (same address (only address on))) where
-  same : (address : ℕ) → named_unit (standing_of records) ≡ Some address → address ≡ unit
-  same address is = cc
+others_off : (records : List Record) (unit : ℕ) (now : World) → named_unit (standing_of records) ≡ Some unit
+    → OnlyNamed records now → OnlyEnabled unit now
+others_off records unit now is_named only =
+    λ address other. off_unless (now address) (λ on. other (same address (only address on))) where
+      same : (address : ℕ) → named_unit (standing_of records) ≡ Some address → address ≡ unit
+      same address is = cc
 
 -- a frame that enables no unit and writes nothing
 pub same_bytes_fit : (zero old new : World) (records : List Record)
-    → ((address bank location : ℕ) → byte_at new address bank location ≡ byte_at old address bank location) → Fits zero records old → Fits zero records new
+    → ((address bank location : ℕ) → byte_at new address bank location ≡ byte_at old address bank location)
+    → Fits zero records old → Fits zero records new
 same_bytes_fit zero old new records same fits = record {
   places = λ address bank location. ap is_some (same address bank location) ∙ fits.places address bank location;
-  bytes = λ address bank location first byte lock was is. fits.bytes address bank location first byte lock was (sym (same address bank location) ∙ is);
+  bytes =
+      λ address bank location first byte lock was is.
+      fits.bytes address bank location first byte lock was (sym (same address bank location) ∙ is);
   locks = λ address closed. same address 1 2 ∙ fits.locks address closed;
 }
 
-after_passive : (zero old new : World) (records : List Record) (frame : Frame) (answer : Option ℕ) → IsPassive frame → Carry old frame answer new
+after_passive : (zero old new : World) (records : List Record) (frame : Frame) (answer : Option ℕ) → IsPassive frame
+    → Carry old frame answer new
     → IsFine zero records old → IsFine zero records new
 after_passive zero old new records frame answer passive carry fine = record {
-  fits = same_bytes_fit zero old new records (λ address bank location. same_byte (old address) (new address) (keeps address).memory bank location) fine.fits;
+  fits =
+      same_bytes_fit zero old new records
+      (λ address bank location. same_byte (old address) (new address) (keeps address).memory bank location) fine.fits;
   only = λ address on. fine.only address (was_open (old address) (new address) (keeps address).off on);
 } where
   keeps : (address : ℕ) → KeepsAt old new address
@@ -85,101 +95,145 @@ record IsPut (writes : List (ℕ × ℕ)) (unit address bank location : ℕ) (ol
   is : byte_at new address bank location ≡ Some byte
 
 -- each place is as it was, or one of the writes was put there
-changed : (writes : List (ℕ × ℕ)) (unit : ℕ) (old new : World) → Touches writes unit old new → (address bank location : ℕ)
-    → (byte_at new address bank location ≡ byte_at old address bank location) ⊎ IsPut writes unit address bank location old new
+changed : (writes : List (ℕ × ℕ)) (unit : ℕ) (old new : World) → Touches writes unit old new
+    → (address bank location : ℕ)
+    → (byte_at new address bank location ≡ byte_at old address bank location)
+    ⊎ IsPut writes unit address bank location old new
 changed writes unit old new touches address bank location = by (address == unit) refl where
   by : (here : Bool) → (address == unit) ≡ here
-      → (byte_at new address bank location ≡ byte_at old address bank location) ⊎ IsPut writes unit address bank location old new
+      → (byte_at new address bank location ≡ byte_at old address bank location)
+      ⊎ IsPut writes unit address bank location old new
   by true e =
       let here : address ≡ unit = eqb-true address unit e in
-      let at : OldOrNew writes (old address) (new address) = subst (λ (a : ℕ). OldOrNew writes (old a) (new a)) (sym here) touches.here in
+      let at : OldOrNew writes (old address) (new address) =
+      subst (λ (a : ℕ). OldOrNew writes (old a) (new a)) (sym here) touches.here in
       elim (at bank location) [
         | inl same ↦ inl same
         | inr put ↦ inr (record { byte = put.0; here = here; one = put.1; has = put.2; was = put.3; is = put.4 })
       ]
-  by false e = inl (same_byte (old address) (new address) (touches.others address (eqb-false address unit e)).memory bank location)
+  by false e =
+      inl
+      (same_byte (old address) (new address) (touches.others address (eqb-false address unit e)).memory bank location)
 
 -- what may be put is possible, where it isn't a lock byte
-is_possible : (first unit location byte : ℕ) (records : List Record) (stands : Standing) → standing_of records ≡ stands → named_unit stands ≡ Some unit
-    → MayPut stands location byte → (IsLockByte 1 location → ⊥) → IsPossible first unit 1 location (orders_of records) byte
+is_possible : (first unit location byte : ℕ) (records : List Record) (stands : Standing) → standing_of records ≡ stands
+    → named_unit stands ≡ Some unit
+    → MayPut stands location byte → (IsLockByte 1 location → ⊥)
+    → IsPossible first unit 1 location (orders_of records) byte
 is_possible first unit location byte records standings.Idle at is_named may lock = absurd may
 is_possible first unit location byte records (standings.Began order) at is_named may lock = absurd may
-is_possible first unit location byte records (standings.Opened order) at is_named (inr opens) lock = absurd (lock (refl, opens.0))
+is_possible first unit location byte records (standings.Opened order) at is_named (inr opens) lock =
+    absurd (lock (refl, opens.0))
 is_possible first unit location byte records (standings.Left left) at is_named may lock = absurd (lock (refl, may.0))
 is_possible first unit location byte records (standings.Opened order) at is_named (inl update) lock =
     let newest = open_order records order at in
     let here : order.unit ≡ unit = cc in
-    let has : byte_for order unit 1 location ≡ Some byte = subst (λ (a : ℕ). byte_for order a 1 location ≡ Some byte) here (byte_for_here order location byte update) in
+    let has : byte_for order unit 1 location ≡ Some byte =
+    subst (λ (a : ℕ). byte_for order a 1 location ≡ Some byte) here (byte_for_here order location byte update) in
     let P : Option ℕ → Type 0 = λ found. MayHold InDoubt found (IsPossible first unit 1 location newest.0) byte in
     rw newest.1 (subst P (sym has) (inr refl))
 
 -- a frame by which the named unit may be enabled, or one of the writes put that may be
 pub after_touch : (zero old new : World) (records : List Record) (writes : List (ℕ × ℕ)) (unit : ℕ) → IsSentence records
-    → named_unit (standing_of records) ≡ Some unit → ((location byte : ℕ) → Has writes location byte → MayPut (standing_of records) location byte)
+    → named_unit (standing_of records) ≡ Some unit
+    → ((location byte : ℕ) → Has writes location byte → MayPut (standing_of records) location byte)
     → Touches writes unit old new → IsFine zero records old → IsFine zero records new
 after_touch zero old new records writes unit sentence is_named may touches fine = record {
   fits = record {
-    places = λ address bank location. places address bank location (changed writes unit old new touches address bank location);
-    bytes = λ address bank location first byte lock was is. bytes address bank location first byte lock was is (changed writes unit old new touches address bank location);
+    places =
+        λ address bank location.
+        places address bank location (changed writes unit old new touches address bank location);
+    bytes =
+        λ address bank location first byte lock was is.
+        bytes address bank location first byte lock was is (changed writes unit old new touches address bank location);
     locks = λ address closed. locks address closed (changed writes unit old new touches address 1 2);
   };
   only = λ address on. enabled address on (address == unit) refl;
 } where
-  places : (address bank location : ℕ) → (byte_at new address bank location ≡ byte_at old address bank location) ⊎ IsPut writes unit address bank location old new
+  places : (address bank location : ℕ)
+      → (byte_at new address bank location ≡ byte_at old address bank location)
+      ⊎ IsPut writes unit address bank location old new
       → is_some (byte_at new address bank location) ≡ is_some (byte_at zero address bank location)
   places address bank location (inl same) = ap is_some same ∙ fine.fits.places address bank location
   places address bank location (inr put) =
       let was : is_some (byte_at old address bank location) ≡ true = put.was in
       ap is_some put.is ∙ sym was ∙ fine.fits.places address bank location
 
-  bytes : (address bank location first byte : ℕ) → (IsLockByte bank location → ⊥) → byte_at zero address bank location ≡ Some first
+  bytes : (address bank location first byte : ℕ) → (IsLockByte bank location → ⊥)
+      → byte_at zero address bank location ≡ Some first
       → byte_at new address bank location ≡ Some byte
-      → (byte_at new address bank location ≡ byte_at old address bank location) ⊎ IsPut writes unit address bank location old new
+      → (byte_at new address bank location ≡ byte_at old address bank location)
+      ⊎ IsPut writes unit address bank location old new
       → IsPossible first address bank location (orders_of records) byte
-  bytes address bank location first byte lock was is (inl same) = fine.fits.bytes address bank location first byte lock was (sym same ∙ is)
+  bytes address bank location first byte lock was is (inl same) =
+      fine.fits.bytes address bank location first byte lock was (sym same ∙ is)
   bytes address bank location first byte lock was is (inr put) =
       let both : Some put.byte ≡ Some byte = sym put.is ∙ is in
       let same : put.byte ≡ byte = cc in
       let at : IsPossible first unit 1 location (orders_of records) put.byte =
-      is_possible first unit location put.byte records (standing_of records) refl is_named (may location put.byte put.has) (λ e. lock (put.one, e.1)) in
+      is_possible first unit location put.byte records (standing_of records) refl is_named
+      (may location put.byte put.has) (λ e. lock (put.one, e.1)) in
       rw (put.here, put.one, ← same) at
 
-  locks : (address : ℕ) → (HasBeenOpened address records → ⊥) → (byte_at new address 1 2 ≡ byte_at old address 1 2) ⊎ IsPut writes unit address 1 2 old new
+  locks : (address : ℕ) → (HasBeenOpened address records → ⊥)
+      → (byte_at new address 1 2 ≡ byte_at old address 1 2) ⊎ IsPut writes unit address 1 2 old new
       → byte_at new address 1 2 ≡ byte_at zero address 1 2
   locks address closed (inl same) = same ∙ fine.fits.locks address closed
-  locks address closed (inr put) = absurd (closed (named_opened records address sentence (is_named ∙ ap Some (sym put.here))))
+  locks address closed (inr put) =
+      absurd (closed (named_opened records address sentence (is_named ∙ ap Some (sym put.here))))
 
-  enabled : (address : ℕ) → is_enabled new address ≡ true → (here : Bool) → (address == unit) ≡ here → named_unit (standing_of records) ≡ Some address
+  enabled : (address : ℕ) → is_enabled new address ≡ true → (here : Bool) → (address == unit) ≡ here
+      → named_unit (standing_of records) ≡ Some address
   enabled address on true e = is_named ∙ ap Some (sym (eqb-true address unit e))
-  enabled address on false e = fine.only address (was_open (old address) (new address) (touches.others address (eqb-false address unit e)).off on)
+  enabled address on false e =
+      fine.only address
+      (was_open (old address) (new address) (touches.others address (eqb-false address unit e)).off on)
 
-after_enable : (zero old new : World) (records : List Record) (unit : ℕ) (answer : Option ℕ) → IsSentence records → named_unit (standing_of records) ≡ Some unit
+after_enable : (zero old new : World) (records : List Record) (unit : ℕ) (answer : Option ℕ) → IsSentence records
+    → named_unit (standing_of records) ≡ Some unit
     → Carry old (Enable unit) answer new → IsFine zero records old → IsFine zero records new
 after_enable zero old new records unit answer sentence is_named carry fine =
-    let touches = enable_safe [] unit [] old old new answer (others_off records unit old is_named fine.only) refl carry in
+    let touches =
+    enable_safe [] unit [] old old new answer (others_off records unit old is_named fine.only) refl carry in
     after_touch zero old new records [] unit sentence is_named (λ location byte has. absurd has) touches fine
 
-after_write : (zero old new since : World) (records : List Record) (past : List Happening) (byte : ℕ) (answer : Option ℕ) → IsSentence records
-    → Run (sent_of past) since old → IsGuardedWrite past (standing_of records) byte → Carry old (Write byte) answer new → IsFine zero records old → IsFine zero records new
+after_write : (zero old new since : World) (records : List Record) (past : List Happening) (byte : ℕ)
+    (answer : Option ℕ)
+    → IsSentence records
+    → Run (sent_of past) since old → IsGuardedWrite past (standing_of records) byte → Carry old (Write byte) answer new
+    → IsFine zero records old → IsFine zero records new
 after_write zero old new since records past byte answer sentence run guarded carry fine =
     let writes : List (ℕ × ℕ) = (guarded.location, byte) ∷ [] in
-    let touches = guarded_safe writes guarded.unit guarded.location byte (sent_of past) (inl (refl, refl)) guarded.selected since old new answer
+    let touches =
+    guarded_safe writes guarded.unit guarded.location byte (sent_of past) (inl (refl, refl)) guarded.selected since old
+    new answer
     (others_off records guarded.unit old guarded.is_named fine.only) run carry in
     after_touch zero old new records writes guarded.unit sentence guarded.is_named may touches fine where
-      may : (location value : ℕ) → Has ((guarded.location, byte) ∷ []) location value → MayPut (standing_of records) location value
+      may : (location value : ℕ) → Has ((guarded.location, byte) ∷ []) location value
+          → MayPut (standing_of records) location value
       may location value (inl is) = rw (← is.0, ← is.1) guarded.may
       may location value (inr never) = absurd never
 
 -- a frame that may be sent
-pub after_sent : (zero old new since : World) (records : List Record) (past : List Happening) (frame : Frame) (answer : Option ℕ) → IsSentence records
-    → Run (sent_of past) since old → MaySend past (standing_of records) frame → Carry old frame answer new → IsFine zero records old → IsFine zero records new
-after_sent zero old new since records past (Dtr0 byte) answer sentence run may carry fine = after_passive zero old new records (Dtr0 byte) answer tt carry fine
-after_sent zero old new since records past (Dtr1 byte) answer sentence run may carry fine = after_passive zero old new records (Dtr1 byte) answer tt carry fine
-after_sent zero old new since records past (AskDtr0 unit) answer sentence run may carry fine = after_passive zero old new records (AskDtr0 unit) answer tt carry fine
-after_sent zero old new since records past (AskDtr1 unit) answer sentence run may carry fine = after_passive zero old new records (AskDtr1 unit) answer tt carry fine
-after_sent zero old new since records past (Read unit) answer sentence run may carry fine = after_passive zero old new records (Read unit) answer tt carry fine
-after_sent zero old new since records past (Enable unit) answer sentence run may carry fine = after_enable zero old new records unit answer sentence may.1 carry fine
-after_sent zero old new since records past (Write byte) answer sentence run may carry fine = after_write zero old new since records past byte answer sentence run may carry fine
+pub after_sent : (zero old new since : World) (records : List Record) (past : List Happening) (frame : Frame)
+    (answer : Option ℕ)
+    → IsSentence records
+    → Run (sent_of past) since old → MaySend past (standing_of records) frame → Carry old frame answer new
+    → IsFine zero records old → IsFine zero records new
+after_sent zero old new since records past (Dtr0 byte) answer sentence run may carry fine =
+    after_passive zero old new records (Dtr0 byte) answer tt carry fine
+after_sent zero old new since records past (Dtr1 byte) answer sentence run may carry fine =
+    after_passive zero old new records (Dtr1 byte) answer tt carry fine
+after_sent zero old new since records past (AskDtr0 unit) answer sentence run may carry fine =
+    after_passive zero old new records (AskDtr0 unit) answer tt carry fine
+after_sent zero old new since records past (AskDtr1 unit) answer sentence run may carry fine =
+    after_passive zero old new records (AskDtr1 unit) answer tt carry fine
+after_sent zero old new since records past (Read unit) answer sentence run may carry fine =
+    after_passive zero old new records (Read unit) answer tt carry fine
+after_sent zero old new since records past (Enable unit) answer sentence run may carry fine =
+    after_enable zero old new records unit answer sentence may.1 carry fine
+after_sent zero old new since records past (Write byte) answer sentence run may carry fine =
+    after_write zero old new since records past byte answer sentence run may carry fine
 after_sent zero old new since records past (Dtr2 byte) answer sentence run may carry fine = absurd may
 after_sent zero old new since records past (WriteSilent byte) answer sentence run may carry fine = absurd may
 after_sent zero old new since records past (AskDtr2 unit) answer sentence run may carry fine = absurd may

@@ -1,10 +1,11 @@
--- A trace that begins anew from the records of the one before it tells what it would tell after that one and a stop. So the two are one trace.
+-- A trace that begins anew from the records of the one before it tells what it would tell after that one and a stop.
+-- So the two are one trace.
 use Rattle.std.proofs.Common.{◌≡◌, refl, sym, ap, subst, List, [], ◌∷◌, ◌++◌}
-use Rattle.dali_journal.specs.declared.record.Record.TheVariants.{Began, Ended}
 use Rattle.dali_trace.specs.declared.happening.Reply.TheVariants as replies
 use Rattle.dali_trace.specs.declared.happening.Happening.{Happening}
 use Rattle.dali_trace.specs.declared.happening.Happening.TheVariants.{Asked, Answered, Sent, Kept, Stopped}
-use Rattle.dali_trace.specs.Trace.{Start, records_of, sent_of, sent_since_taken, waiting, is_unsaid, has_ended}
+use Rattle.dali_trace.specs.Trace.{Start, records_of, sent_of, sent_since_taken, Course, replied, next_course}
+use Rattle.dali_trace.specs.Trace.{course_of}
 use Rattle.dali_trace.specs.Legal.{MayFollow, Legal, IsFinished}
 use Rattle.dali_trace.specs.ByPlan.{told_in, ByPlan}
 use Rattle.dali_laws.specs.Joined.{Sitting, joined, FollowOn, IsOneTrace, SittingsAreRight}
@@ -21,73 +22,55 @@ joined_records start next past (other ∷ more) same = joined_records start next
 
 joined_sent : (past more : List Happening) → sent_of (more ++ Stopped ∷ past) ≡ sent_of more
 joined_sent past [] = refl
-joined_sent past (Sent frame answer ∷ more) = ap (◌∷◌ (record { frame = frame; answer = answer })) (joined_sent past more)
+joined_sent past (Sent frame answer ∷ more) =
+    ap (◌∷◌ (record { frame = frame; answer = answer })) (joined_sent past more)
 joined_sent past (Stopped ∷ more) = refl
 joined_sent past (other ∷ more) = joined_sent past more
 
 joined_since : (past more : List Happening) → sent_since_taken (more ++ Stopped ∷ past) ≡ sent_since_taken more
 joined_since past [] = refl
-joined_since past (Sent frame answer ∷ more) = ap (◌∷◌ (record { frame = frame; answer = answer })) (joined_since past more)
+joined_since past (Sent frame answer ∷ more) =
+    ap (◌∷◌ (record { frame = frame; answer = answer })) (joined_since past more)
 joined_since past (Answered id replies.Taken ∷ more) = refl
 joined_since past (Stopped ∷ more) = refl
 joined_since past (other ∷ more) = joined_since past more
 
 joined_told : (past more : List Happening) → told_in (more ++ Stopped ∷ past) ≡ told_in more
 joined_told past [] = refl
-joined_told past (Sent frame answer ∷ more) = ap (◌∷◌ (record { frame = frame; answer = answer })) (joined_told past more)
+joined_told past (Sent frame answer ∷ more) =
+    ap (◌∷◌ (record { frame = frame; answer = answer })) (joined_told past more)
 joined_told past (Answered id replies.Taken ∷ more) = refl
 joined_told past (Kept entry ∷ more) = refl
 joined_told past (Stopped ∷ more) = refl
 joined_told past (other ∷ more) = joined_told past more
 
-joined_waiting : (past more : List Happening) → waiting (more ++ Stopped ∷ past) ≡ waiting more
-joined_waiting past [] = refl
-joined_waiting past (Answered id replies.Taken ∷ Asked order ∷ more) = refl
-joined_waiting past (Answered id reply ∷ Asked order ∷ more) = joined_waiting past more
-joined_waiting past (Answered id replies.Taken ∷ more) = refl
-joined_waiting past (Answered id reply ∷ more) = refl
-joined_waiting past (Kept (Began order) ∷ more) = refl
-joined_waiting past (Stopped ∷ more) = refl
-joined_waiting past (other ∷ more) = joined_waiting past more
+joined_course : (past more : List Happening) → course_of (more ++ Stopped ∷ past) ≡ course_of more
+joined_course past [] = refl
+joined_course past (Answered id reply ∷ Asked order ∷ more) = ap (replied order reply) (joined_course past more)
+joined_course past (newest ∷ more) = ap (λ (before : Course). next_course before newest) (joined_course past more)
 
-joined_unsaid : (past more : List Happening) → is_unsaid (more ++ Stopped ∷ past) ≡ is_unsaid more
-joined_unsaid past [] = refl
-joined_unsaid past (Answered id replies.Taken ∷ Asked order ∷ more) = refl
-joined_unsaid past (Answered id reply ∷ Asked order ∷ more) = joined_unsaid past more
-joined_unsaid past (Answered id reply ∷ more) = refl
-joined_unsaid past (Kept (Ended code) ∷ more) = refl
-joined_unsaid past (Stopped ∷ more) = refl
-joined_unsaid past (other ∷ more) = joined_unsaid past more
-
-joined_ended : (past more : List Happening) → has_ended (more ++ Stopped ∷ past) ≡ has_ended more
-joined_ended past [] = refl
-joined_ended past (Answered id reply ∷ Asked order ∷ more) = joined_ended past more
-joined_ended past (Answered id reply ∷ more) = refl
-joined_ended past (Kept (Ended code) ∷ more) = refl
-joined_ended past (Kept entry ∷ more) = refl
-joined_ended past (Stopped ∷ more) = refl
-joined_ended past (other ∷ more) = joined_ended past more
-
-joined_agree : (start next : Start) (past more : List Happening) → next.records ≡ records_of start past → next.limit ≡ start.limit
+joined_agree : (start next : Start) (past more : List Happening) → next.records ≡ records_of start past
+    → next.limit ≡ start.limit
     → Agree start next (more ++ Stopped ∷ past) more
 joined_agree start next past more records limit = record {
   limit = sym limit;
   records = joined_records start next past more records;
   sent = joined_sent past more;
   since = joined_since past more;
-  waits = joined_waiting past more;
-  unsaid = joined_unsaid past more;
-  ended = joined_ended past more;
+  course = joined_course past more;
 }
 
-follows_too : (start next : Start) (past more : List Happening) (newest : Happening) → next.records ≡ records_of start past → next.limit ≡ start.limit
+follows_too : (start next : Start) (past more : List Happening) (newest : Happening)
+    → next.records ≡ records_of start past → next.limit ≡ start.limit
     → MayFollow next more newest → MayFollow start (more ++ Stopped ∷ past) newest
 follows_too start next past (Asked order ∷ more) newest records limit may =
-    replies_too start next (more ++ Stopped ∷ past) more order newest (joined_agree start next past more records limit) may
+    replies_too start next (more ++ Stopped ∷ past) more order newest
+    (joined_agree start next past more records limit) may
 follows_too start next past [] newest records limit may =
     happens_too start next (Stopped ∷ past) [] newest (joined_agree start next past [] records limit) may
 follows_too start next past (last ∷ more) newest records limit may =
-    happens_too start next (last ∷ more ++ Stopped ∷ past) (last ∷ more) newest (joined_agree start next past (last ∷ more) records limit) may
+    happens_too start next (last ∷ more ++ Stopped ∷ past) (last ∷ more) newest
+    (joined_agree start next past (last ∷ more) records limit) may
 
 -- a program may be stopped where no reply is due
 may_stop : (start : Start) (past : List Happening) → IsFinished past → MayFollow start past Stopped
@@ -95,18 +78,23 @@ may_stop start (Asked order ∷ past) finished = absurd finished
 may_stop start [] finished = tt
 may_stop start (other ∷ past) finished = tt
 
-pub joined_legal : (start next : Start) (past more : List Happening) → Legal start past → IsFinished past → next.records ≡ records_of start past
+pub joined_legal : (start next : Start) (past more : List Happening) → Legal start past → IsFinished past
+    → next.records ≡ records_of start past
     → next.limit ≡ start.limit → Legal next more → Legal start (more ++ Stopped ∷ past)
 joined_legal start next past [] legal finished records limit after = (legal, may_stop start past finished)
-joined_legal start next past (newest ∷ more) legal finished records limit after =
-    (joined_legal start next past more legal finished records limit after.0, follows_too start next past more newest records limit after.1)
+joined_legal start next past (newest ∷ more) legal finished records limit after = (
+  joined_legal start next past more legal finished records limit after.0,
+  follows_too start next past more newest records limit after.1,
+)
 
-pub joined_planned : (start next : Start) (past more : List Happening) → ByPlan start past → next.records ≡ records_of start past → ByPlan next more
+pub joined_planned : (start next : Start) (past more : List Happening) → ByPlan start past
+    → next.records ≡ records_of start past → ByPlan next more
     → ByPlan start (more ++ Stopped ∷ past)
 joined_planned start next past [] planned same after = (planned, tt)
 joined_planned start next past (newest ∷ more) planned same after = (
   joined_planned start next past more planned same after.0,
-  planned_too start next (more ++ Stopped ∷ past) more newest (joined_records start next past more same) (joined_told past more) after.1,
+  planned_too start next (more ++ Stopped ∷ past) more newest (joined_records start next past more same)
+      (joined_told past more) after.1,
 )
 
 pub joined_finished : (past more : List Happening) → IsFinished more → IsFinished (more ++ Stopped ∷ past)
@@ -119,8 +107,11 @@ joined_finished past (other ∷ more) finished = tt
 -- the first one starts from the start
 first_sitting : (start : Start) (first : Sitting) → FollowOn start (first ∷ []) → IsOneTrace start (first ∷ [])
 first_sitting start first follow =
-    let same : first.start ≡ start = λ i. record { records = follow.3 i; limit = follow.4 i } in
-    (subst (λ (from : Start). Legal from first.past) same follow.0, subst (λ (from : Start). ByPlan from first.past) same follow.1, follow.2)
+    let same : first.start ≡ start = λ i. record { records = follow.3 i; limit = follow.4 i } in (
+      subst (λ (from : Start). Legal from first.past) same follow.0,
+      subst (λ (from : Start). ByPlan from first.past) same follow.1,
+      follow.2,
+    )
 
 pub joined_sittings : (start : Start) (sittings : List Sitting) → FollowOn start sittings → IsOneTrace start sittings
 joined_sittings start [] follow = (follow, tt, tt)
@@ -136,4 +127,5 @@ joined_sittings start (newest ∷ last ∷ older) follow =
 pub sittings_right : SittingsAreRight
 sittings_right zero start sittings first last states follow fits only chain =
     let one = joined_sittings start sittings follow in
-    every_moment zero start first (joined sittings) last states (record { legal = one.0; fits = fits; only = only; chain = chain })
+    every_moment zero start first (joined sittings) last states
+    (record { legal = one.0; fits = fits; only = only; chain = chain })

@@ -12,6 +12,7 @@ pub mod Courses
 pub mod CourseLemmas
 pub mod WorkLemmas
 pub mod NextLemmas
+pub mod RunLossLemmas
 pub mod SparedLemmas
 pub mod ValidLemmas
 pub mod OnsetLemmas

@@ -1,8 +1,9 @@
--- One thing is next at most: how an order ended is said, the waiting order is begun, or it is done what the plan asks for,
--- and no two of them at once.
+-- One thing is next at most: how an order ended is said, the waiting order is begun, or it is done what the plan asks
+-- for, and no two of them at once.
 use Rattle.std.proofs.Common.{◌≡◌, refl, sym, ap, ◌∙◌, true, false, ℕ, List, [], ◌∷◌, Option, Some, None, IsSome}
 use Rattle.dali_bank.specs.Order.{Contents}
 use Rattle.dali_journal.specs.declared.record.Code.{Code}
+use Rattle.dali_journal.specs.declared.record.Code.TheVariants as codes
 use Rattle.dali_journal.specs.declared.record.Record.{Record}
 use Rattle.dali_journal.specs.declared.record.Record.TheVariants.{Began, Opened, Ended, Closed}
 use Rattle.dali_journal.specs.declared.kept.Stage.{Stage}
@@ -23,8 +24,10 @@ use Rattle.dali_trace.specs.declared.happening.Reply.TheVariants as replies
 use Rattle.dali_trace.specs.declared.happening.Happening.{Happening}
 use Rattle.dali_trace.specs.declared.happening.Happening.TheVariants.{Asked, Answered, Sent, Kept}
 use Rattle.dali_trace.specs.Trace.{Start, records_of, standing_at, waiting, has_ended, is_at_work, is_busy, is_full}
+use Rattle.dali_trace.specs.Trace.{course_of}
 use Rattle.dali_trace.specs.Legal.{EndsAs, HasNumber, IsDue, MaySend, MayHappen, Replies, Legal}
-use Rattle.dali_trace.specs.ByPlan.{told_in, Asks, EndsIn, IsPlanned}
+use Rattle.dali_trace.specs.Grounds.{verdict_told, EndsIn}
+use Rattle.dali_trace.specs.ByPlan.{told_in, Asks, IsPlanned}
 use Rattle.dali_trace.specs.Parts.{IsWork}
 use Rattle.dali_trace.specs.Next.{IsNext, IsSameBut}
 use Rattle.dali_laws.proofs.ReplyLemmas.{only_due}
@@ -43,78 +46,109 @@ IsAtHand stands waits = Unit {0}
 -- it is done what is asked for: the frame is sent, or the end is kept or said
 abbrev Does : Standing → Option Contents → Ask → Happening → Type 0
 Does stands waits (asks.Send frame) next = (answer : Option ℕ) × (next ≡ Sent frame answer)
-Does (standings.Left unit) waits (asks.Ended verdicts.NotClosed) next = (id : ℕ) × HasNumber id waits × (next ≡ Answered id (replies.Blocked unit))
+Does (standings.Left unit) waits (asks.Ended verdicts.NotClosed) next =
+    (id : ℕ) × HasNumber id waits × (next ≡ Answered id (replies.Blocked unit))
 Does stands waits (asks.Ended verdict) next = (entry : Record) × EndsIn stands verdict entry × (next ≡ Kept entry)
 
-asks_one : (stands : Standing) (told : List Exchange) (one other : Ask) → Asks stands told one → Asks stands told other → one ≡ other
+asks_one : (stands : Standing) (told : List Exchange) (one other : Ask) → Asks stands told one → Asks stands told other
+    → one ≡ other
 asks_one standings.Idle told one other first second = absurd first
-asks_one (standings.Began order) told one other first second = wants_one told order.unit (read_length order.updates) one other first second
-asks_one (standings.Opened order) told one other first second = wants_one told order.unit (unlock order.updates) one other first second
-asks_one (standings.Left unit) told one other first second = wants_one told unit (close verdicts.Closed verdicts.NotClosed) one other first second
+asks_one (standings.Began order) told one other first second =
+    wants_one told order.unit (read_length order.updates) one other first second
+asks_one (standings.Opened order) told one other first second =
+    wants_one told order.unit (unlock order.updates) one other first second
+asks_one (standings.Left unit) told one other first second =
+    wants_one told unit (close verdicts.Closed verdicts.NotClosed) one other first second
 
-ends_one : (stands : Standing) (verdict : Verdict) (one other : Record) → EndsIn stands verdict one → EndsIn stands verdict other → other ≡ one
-ends_one standings.Idle verdict one other first second = absurd first
-ends_one (standings.Began order) verdicts.MayOpen one other first second = second ∙ sym first
-ends_one (standings.Began order) verdicts.Short one other first second = second ∙ sym first
-ends_one (standings.Began order) verdicts.Format one other first second = second ∙ sym first
-ends_one (standings.Began order) verdicts.Silent one other first second = second ∙ sym first
-ends_one (standings.Began order) _ one other first second = absurd first
-ends_one (standings.Opened order) verdicts.Done one other first second = second ∙ sym first
-ends_one (standings.Opened order) verdicts.Doubt one other first second = second ∙ sym first
-ends_one (standings.Opened order) verdicts.DoubtOpen one other first second = second ∙ sym first
-ends_one (standings.Opened order) _ one other first second = absurd first
-ends_one (standings.Left unit) verdict one other first second = (closed_verdict unit verdict other second).1 ∙ sym (closed_verdict unit verdict one first).1
+-- no code tells that an order may be opened
+not_opened : (order : Contents) (code : Code)
+    → verdict_told (standings.Began order) (Ended code) ≡ Some verdicts.MayOpen → ⊥
+not_opened order codes.Short e = cc
+not_opened order codes.Format e = cc
+not_opened order codes.Silent e = cc
+not_opened order _ e = cc
+
+-- one record tells of a verdict
+ends_one : (stands : Standing) (verdict : Verdict) (one other : Record) → EndsIn stands verdict one
+    → EndsIn stands verdict other → other ≡ one
+ends_one (standings.Began order) verdict (Opened unit) (Opened left) first second =
+    let is = first.0 in let same = second.0 in cc
+ends_one (standings.Began order) verdict (Opened unit) (Ended code) first second =
+    absurd (not_opened order code (second.1 ∙ sym first.1))
+ends_one (standings.Began order) verdict (Ended codes.Short) (Ended codes.Short) first second = refl
+ends_one (standings.Began order) verdict (Ended codes.Format) (Ended codes.Format) first second = refl
+ends_one (standings.Began order) verdict (Ended codes.Silent) (Ended codes.Silent) first second = refl
+ends_one (standings.Opened order) verdict (Ended codes.Done) (Ended codes.Done) first second = refl
+ends_one (standings.Opened order) verdict (Ended codes.Doubt) (Ended codes.Doubt) first second = refl
+ends_one (standings.Opened order) verdict (Ended codes.DoubtOpen) (Ended codes.DoubtOpen) first second = refl
+ends_one (standings.Left unit) verdict (Closed one) (Closed other) first second =
+    let is = first.0 in let same = second.0 in cc
+ends_one _ verdict _ _ first second = let told = first.1 in let other = second.1 in cc
 
 number_one : (one other : ℕ) (waits : Option Contents) → HasNumber one waits → HasNumber other waits → other ≡ one
 number_one one other None first second = absurd first
 number_one one other (Some order) first second = cc
 
-kept_one : (stands : Standing) (verdict : Verdict) (one other : Happening) → (entry : Record) × EndsIn stands verdict entry × (one ≡ Kept entry)
+kept_one : (stands : Standing) (verdict : Verdict) (one other : Happening)
+    → (entry : Record) × EndsIn stands verdict entry × (one ≡ Kept entry)
     → (entry : Record) × EndsIn stands verdict entry × (other ≡ Kept entry) → IsSameBut one other
-kept_one stands verdict one other first second = rw first.2 (second.2 ∙ ap Kept (ends_one stands verdict first.0 second.0 first.1 second.1))
+kept_one stands verdict one other first second =
+    rw first.2 (second.2 ∙ ap Kept (ends_one stands verdict first.0 second.0 first.1 second.1))
 
-does_one : (stands : Standing) (waits : Option Contents) (ask : Ask) (one other : Happening) → Does stands waits ask one → Does stands waits ask other
+does_one : (stands : Standing) (waits : Option Contents) (ask : Ask) (one other : Happening) → Does stands waits ask one
+    → Does stands waits ask other
     → IsSameBut one other
 does_one stands waits (asks.Send frame) one other first second = rw first.1 second
 does_one (standings.Left unit) waits (asks.Ended verdicts.NotClosed) one other first second =
-    rw first.2 (second.2 ∙ ap (λ id. Answered id (replies.Blocked unit)) (number_one first.0 second.0 waits first.1 second.1))
-does_one (standings.Left unit) waits (asks.Ended verdict) one other first second = kept_one (standings.Left unit) verdict one other first second
+    rw first.2
+    (second.2 ∙ ap (λ id. Answered id (replies.Blocked unit)) (number_one first.0 second.0 waits first.1 second.1))
+does_one (standings.Left unit) waits (asks.Ended verdict) one other first second =
+    kept_one (standings.Left unit) verdict one other first second
 does_one stands waits (asks.Ended verdict) one other first second = kept_one stands verdict one other first second
 
 -- What is next
 
 -- where no reply is due: an end is said, the waiting order begun, or the session goes on
 data Due (start : Start) (past : List Happening) (next : Happening) : Type 0 where
-  Says : (id : ℕ) (code : Code) → has_ended past ≡ true → EndsAs id code (orders_of (records_of start past)) → next ≡ Answered id (replies.Kept code)
+  Says : (id : ℕ) (code : Code) → has_ended past ≡ true → EndsAs id code (orders_of (records_of start past))
+      → next ≡ Answered id (replies.Kept code)
       → Due start past next
-  Begins : (order : Contents) → standing_at start past ≡ standings.Idle → waiting past ≡ Some order → next ≡ Kept (Began order) → Due start past next
-  GoesOn : (ask : Ask) → Asks (standing_at start past) (told_in past) ask → IsAtHand (standing_at start past) (waiting past)
+  Begins : (order : Contents) → standing_at start past ≡ standings.Idle → waiting past ≡ Some order
+      → next ≡ Kept (Began order) → Due start past next
+  GoesOn : (ask : Ask) → Asks (standing_at start past) (told_in past) ask
+      → IsAtHand (standing_at start past) (waiting past)
       → Does (standing_at start past) (waiting past) ask next → Due start past next
 
 idle_began : (stands : Standing) (order : Contents) → Allows stands (Began order) → stands ≡ standings.Idle
 idle_began standings.Idle order allowed = refl
 idle_began stands order allowed = absurd allowed
 
-sent_at_hand : (past : List Happening) (stands : Standing) (told : List Exchange) (frame : Frame) → MaySend past stands frame
+sent_at_hand : (past : List Happening) (stands : Standing) (told : List Exchange) (frame : Frame)
+    → MaySend past stands frame
     → Asks stands told (asks.Send frame) → IsAtHand stands (waiting past)
 sent_at_hand past standings.Idle told frame may asked = asked
 sent_at_hand past (standings.Left unit) told frame may asked = waits_on past unit frame may
 sent_at_hand past stands told frame may asked = tt
 
-kept_at_hand : (past : List Happening) (stands : Standing) (verdict : Verdict) (entry : Record) → IsDue past entry → EndsIn stands verdict entry
+kept_at_hand : (past : List Happening) (stands : Standing) (verdict : Verdict) (entry : Record) → IsDue past entry
+    → EndsIn stands verdict entry
     → IsAtHand stands (waiting past)
-kept_at_hand past standings.Idle verdict entry due ends = ends
-kept_at_hand past (standings.Left unit) verdict entry due ends = let is = (closed_verdict unit verdict entry ends).1 in (rw is at due).0
+kept_at_hand past standings.Idle verdict entry due ends = let none = ends.1 in cc
+kept_at_hand past (standings.Left unit) verdict entry due ends =
+    let is = (closed_verdict unit verdict entry ends).1 in (rw is at due).0
 kept_at_hand past stands verdict entry due ends = tt
 
-does_keep : (stands : Standing) (waits : Option Contents) (verdict : Verdict) (entry : Record) → EndsIn stands verdict entry
+does_keep : (stands : Standing) (waits : Option Contents) (verdict : Verdict) (entry : Record)
+    → EndsIn stands verdict entry
     → Does stands waits (asks.Ended verdict) (Kept entry)
-does_keep (standings.Left unit) waits verdicts.NotClosed entry ends = absurd ends
+does_keep (standings.Left unit) waits verdicts.NotClosed entry ends =
+    let no = (closed_verdict unit verdicts.NotClosed entry ends).0 in cc
 does_keep (standings.Left unit) waits verdict entry ends = (entry, ends, refl)
 does_keep stands waits verdict entry ends = (entry, ends, refl)
 
 kept_due : (start : Start) (past : List Happening) (entry : Record) → IsDue past entry
-    → (verdict : Verdict) × Asks (standing_at start past) (told_in past) (asks.Ended verdict) × EndsIn (standing_at start past) verdict entry
+    → (verdict : Verdict) × Asks (standing_at start past) (told_in past) (asks.Ended verdict)
+    × EndsIn (standing_at start past) verdict entry
     → Due start past (Kept entry)
 kept_due start past entry due (verdict, asked, ends) =
     GoesOn (asks.Ended verdict) asked (kept_at_hand past (standing_at start past) verdict entry due ends)
@@ -124,14 +158,18 @@ some_waits : (id : ℕ) (waits : Option Contents) → HasNumber id waits → IsS
 some_waits id None number = absurd number
 some_waits id (Some order) number = refl
 
-due : (start : Start) (past : List Happening) (next : Happening) → IsWork next → MayHappen start past next → IsPlanned start past next → Due start past next
+due : (start : Start) (past : List Happening) (next : Happening) → IsWork next → MayHappen start past next
+    → IsPlanned start past next → Due start past next
 due start past (Answered id (replies.Kept code)) work may planned = Says id code may.0 may.1 refl
 due start past (Answered id (replies.Blocked unit)) work may planned =
-    GoesOn (asks.Ended verdicts.NotClosed) planned (rw may.0 (some_waits id (waiting past) may.1)) (rw may.0 (id, may.1, refl))
+    GoesOn (asks.Ended verdicts.NotClosed) planned (rw may.0 (some_waits id (waiting past) may.1))
+    (rw may.0 (id, may.1, refl))
 due start past (Answered id reply) work may planned = absurd may
 due start past (Sent frame answer) work may planned =
-    GoesOn (asks.Send frame) planned (sent_at_hand past (standing_at start past) (told_in past) frame may planned) (answer, refl)
-due start past (Kept (Began order)) work may planned = Begins order (idle_began (standing_at start past) order may.sentence.1) may.due refl
+    GoesOn (asks.Send frame) planned (sent_at_hand past (standing_at start past) (told_in past) frame may planned)
+    (answer, refl)
+due start past (Kept (Began order)) work may planned =
+    Begins order (idle_began (standing_at start past) order may.whole.0.1) may.due refl
 due start past (Kept (Opened unit)) work may planned = kept_due start past (Opened unit) may.due planned
 due start past (Kept (Ended code)) work may planned = kept_due start past (Ended code) may.due planned
 due start past (Kept (Closed unit)) work may planned = kept_due start past (Closed unit) may.due planned
@@ -139,17 +177,20 @@ due start past other work may planned = absurd work
 
 -- No two of them at once
 
-ends_as_one : (one other : ℕ) (code last : Code) (orders : List (Contents × Stage)) → EndsAs one code orders → EndsAs other last orders
+ends_as_one : (one other : ℕ) (code last : Code) (orders : List (Contents × Stage)) → EndsAs one code orders
+    → EndsAs other last orders
     → Answered other (replies.Kept last) ≡ Answered one (replies.Kept code)
 ends_as_one one other code last ((order, stages.Ended newest) ∷ older) first second =
     let a = first.0 in let b = second.0 in let c = first.1 in let d = second.1 in cc
 ends_as_one one other code last orders first second = absurd first
 
-ended_not_waiting : {A : Type 0} (start : Start) (past : List Happening) (order : Contents) → Legal start past → has_ended past ≡ true
+ended_not_waiting : {A : Type 0} (start : Start) (past : List Happening) (order : Contents) → Legal start past
+    → has_ended past ≡ true
     → waiting past ≡ Some order → A
-ended_not_waiting start past order legal ended waits = let none = none_waits_ended start past legal ended in cc
+ended_not_waiting start past order legal ended waits = let none = none_waits_ended (course_of past) ended in cc
 
-ended_not_at_hand : {A : Type 0} (stands : Standing) (waits : Option Contents) → is_at_work stands ≡ false → waits ≡ None → IsAtHand stands waits → A
+ended_not_at_hand : {A : Type 0} (stands : Standing) (waits : Option Contents) → is_at_work stands ≡ false
+    → waits ≡ None → IsAtHand stands waits → A
 ended_not_at_hand standings.Idle waits idle none hand = absurd hand
 ended_not_at_hand (standings.Left unit) waits idle none hand = let some : false ≡ true = rw none at hand in cc
 ended_not_at_hand (standings.Began order) waits idle none hand = cc
@@ -158,12 +199,15 @@ ended_not_at_hand (standings.Opened order) waits idle none hand = cc
 ended_not_on : {A : Type 0} (start : Start) (past : List Happening) → Legal start past → has_ended past ≡ true
     → IsAtHand (standing_at start past) (waiting past) → A
 ended_not_on start past legal ended hand =
-    ended_not_at_hand (standing_at start past) (waiting past) (ended_idle start past legal ended) (none_waits_ended start past legal ended) hand
+    ended_not_at_hand (standing_at start past) (waiting past) (ended_idle start past legal ended)
+    (none_waits_ended (course_of past) ended) hand
 
-idle_not_on : {A : Type 0} (stands : Standing) (waits : Option Contents) → stands ≡ standings.Idle → IsAtHand stands waits → A
+idle_not_on : {A : Type 0} (stands : Standing) (waits : Option Contents) → stands ≡ standings.Idle
+    → IsAtHand stands waits → A
 idle_not_on stands waits idle hand = let none : ⊥ = rw idle at hand in absurd none
 
-one_due : (start : Start) (past : List Happening) (one other : Happening) → Legal start past → Due start past one → Due start past other → IsSameBut one other
+one_due : (start : Start) (past : List Happening) (one other : Happening) → Legal start past → Due start past one
+    → Due start past other → IsSameBut one other
 one_due start past one other legal (Says id code ended ends is) (Says number last _ so same) =
     rw is (same ∙ ends_as_one id number code last (orders_of (records_of start past)) ends so)
 one_due start past one other legal (Begins order idle waits is) (Begins waiter _ so same) =
@@ -171,26 +215,39 @@ one_due start past one other legal (Begins order idle waits is) (Begins waiter _
 one_due start past one other legal (GoesOn ask asked hand does) (GoesOn wish wished _ did) =
     let same = asks_one (standing_at start past) (told_in past) wish ask wished asked in
     does_one (standing_at start past) (waiting past) ask one other does (rw same at did)
-one_due start past one other legal (Says id code ended ends is) (Begins order idle waits same) = ended_not_waiting start past order legal ended waits
-one_due start past one other legal (Begins order idle waits is) (Says id code ended ends same) = ended_not_waiting start past order legal ended waits
-one_due start past one other legal (Says id code ended ends is) (GoesOn ask asked hand does) = ended_not_on start past legal ended hand
-one_due start past one other legal (GoesOn ask asked hand does) (Says id code ended ends same) = ended_not_on start past legal ended hand
-one_due start past one other legal (Begins order idle waits is) (GoesOn ask asked hand does) = idle_not_on (standing_at start past) (waiting past) idle hand
-one_due start past one other legal (GoesOn ask asked hand does) (Begins order idle waits same) = idle_not_on (standing_at start past) (waiting past) idle hand
+one_due start past one other legal (Says id code ended ends is) (Begins order idle waits same) =
+    ended_not_waiting start past order legal ended waits
+one_due start past one other legal (Begins order idle waits is) (Says id code ended ends same) =
+    ended_not_waiting start past order legal ended waits
+one_due start past one other legal (Says id code ended ends is) (GoesOn ask asked hand does) =
+    ended_not_on start past legal ended hand
+one_due start past one other legal (GoesOn ask asked hand does) (Says id code ended ends same) =
+    ended_not_on start past legal ended hand
+one_due start past one other legal (Begins order idle waits is) (GoesOn ask asked hand does) =
+    idle_not_on (standing_at start past) (waiting past) idle hand
+one_due start past one other legal (GoesOn ask asked hand does) (Begins order idle waits same) =
+    idle_not_on (standing_at start past) (waiting past) idle hand
 
-one_reply : (start : Start) (past : List Happening) (order : Contents) (one other : Happening) → Replies start past order one → Replies start past order other
+one_reply : (start : Start) (past : List Happening) (order : Contents) (one other : Happening)
+    → Replies start past order one → Replies start past order other
     → IsSameBut one other
 one_reply start past order (Answered id reply) (Answered number last) first second =
     let a = first.0 in let b = second.0 in
-    let same = only_due order (kept_of order.id (records_of start past)) (is_busy start past) (is_full start past) reply last first.1 second.1 in cc
+    let same =
+    only_due order (kept_of order.id (records_of start past)) (is_busy start past) (is_full start past) reply last
+    first.1 second.1 in
+    cc
 one_reply start past order (Answered id reply) other first second = absurd second
 one_reply start past order one other first second = absurd first
 
-pub one_next : (start : Start) (past : List Happening) (one other : Happening) → Legal start past → IsNext start past one → IsNext start past other
+pub one_next : (start : Start) (past : List Happening) (one other : Happening) → Legal start past
+    → IsNext start past one → IsNext start past other
     → IsSameBut one other
-one_next start (Asked order ∷ past) one other legal first second = one_reply start past order one other first.may second.may
+one_next start (Asked order ∷ past) one other legal first second =
+    one_reply start past order one other first.may second.may
 one_next start [] one other legal first second =
-    one_due start [] one other legal (due start [] one first.work first.may first.planned) (due start [] other second.work second.may second.planned)
+    one_due start [] one other legal (due start [] one first.work first.may first.planned)
+    (due start [] other second.work second.may second.planned)
 one_next start (newest ∷ past) one other legal first second =
     one_due start (newest ∷ past) one other legal (due start (newest ∷ past) one first.work first.may first.planned)
     (due start (newest ∷ past) other second.work second.may second.planned)

@@ -10,7 +10,7 @@ use Rattle.dali_trace.specs.declared.happening.Reply.{Reply}
 use Rattle.dali_trace.specs.declared.happening.Reply.TheVariants as replies
 use Rattle.dali_trace.specs.declared.happening.Happening.{Happening}
 use Rattle.dali_trace.specs.declared.happening.Happening.TheVariants.{Asked, Answered, Sent, Kept, Stopped}
-use Rattle.dali_trace.specs.Trace.{Start, records_of, standing_at, waiting, is_unsaid, is_at_work, is_busy}
+use Rattle.dali_trace.specs.Trace.{Start, records_of, standing_at, waiting, is_unsaid, is_at_work, is_busy, course_of}
 use Rattle.dali_trace.specs.Legal.{Serves, MaySay, MaySend, MayKeep, Legal}
 use Rattle.dali_trace.specs.Quiet.{NoneTaken, NoneSent}
 use Rattle.dali_laws.proofs.MomentLemmas.{may_keep, may_send}
@@ -18,14 +18,16 @@ use Rattle.dali_laws.proofs.TakenLemmas.{neither, ended_unsaid, none_waits, no_o
 
 -- where no order is at work and none waits
 
-serves_none : {A : Type 0} (past : List Happening) (stands : Standing) (unit : ℕ) → is_at_work stands ≡ false → waiting past ≡ None
+serves_none : {A : Type 0} (past : List Happening) (stands : Standing) (unit : ℕ) → is_at_work stands ≡ false
+    → waiting past ≡ None
     → Serves past stands unit → A
 serves_none past standings.Idle unit idle none serves = absurd serves
 serves_none past (standings.Began order) unit idle none serves = cc
 serves_none past (standings.Opened order) unit idle none serves = cc
 serves_none past (standings.Left left) unit idle none serves = let some : false ≡ true = rw none at serves.1 in cc
 
-sends_none : {A : Type 0} (past : List Happening) (stands : Standing) (frame : Frame) → is_at_work stands ≡ false → waiting past ≡ None
+sends_none : {A : Type 0} (past : List Happening) (stands : Standing) (frame : Frame) → is_at_work stands ≡ false
+    → waiting past ≡ None
     → MaySend past stands frame → A
 sends_none past stands (Dtr0 byte) idle none may = serves_none past stands may.0 idle none may.1
 sends_none past stands (Dtr1 byte) idle none may = serves_none past stands may.0 idle none may.1
@@ -42,35 +44,46 @@ pub record IsStill (start : Start) (past : List Happening) : Type 0 where
   pub said : is_unsaid past ≡ false
   pub none : waiting past ≡ None
 
-pub is_still : (start : Start) (past : List Happening) → Legal start past → is_busy start past ≡ false → IsStill start past
+pub is_still : (start : Start) (past : List Happening) → Legal start past → is_busy start past ≡ false
+    → IsStill start past
 is_still start past legal e =
     let both = neither (is_at_work (standing_at start past)) (is_unsaid past) e in
-    record { idle = both.0; said = both.1; none = none_waits start past legal both.1 }
+    record { idle = both.0; said = both.1; none = none_waits (course_of past) both.1 }
 
-keeps_none : {A : Type 0} (start : Start) (past : List Happening) (entry : Record) → IsStill start past → MayKeep start past entry → A
+keeps_none : {A : Type 0} (start : Start) (past : List Happening) (entry : Record) → IsStill start past
+    → MayKeep start past entry → A
 keeps_none start past (Began order) still may = let due = may.due in let none = still.none in cc
-keeps_none start past (Opened unit) still may = no_opened (standing_at start past) unit still.idle may.sentence.1
-keeps_none start past (Ended code) still may = no_ended (standing_at start past) code still.idle may.sentence.1
+keeps_none start past (Opened unit) still may = no_opened (standing_at start past) unit still.idle may.whole.0.1
+keeps_none start past (Ended code) still may = no_ended (standing_at start past) code still.idle may.whole.0.1
 keeps_none start past (Closed unit) still may = let some : false ≡ true = rw still.none at may.due.0 in cc
 
-says_none : {A : Type 0} (start : Start) (past : List Happening) (id : ℕ) (reply : Reply) → IsStill start past → MaySay start past id reply → A
-says_none start past id (replies.Kept code) still may = let unsaid = ended_unsaid past may.0 in let said = still.said in cc
+says_none : {A : Type 0} (start : Start) (past : List Happening) (id : ℕ) (reply : Reply) → IsStill start past
+    → MaySay start past id reply → A
+says_none start past id (replies.Kept code) still may =
+    let unsaid = ended_unsaid (course_of past) may.0 in let said = still.said in cc
 says_none start past id (replies.Blocked unit) still may = absurd (rw still.none at may.1)
 says_none start past id reply still may = absurd may
 
 -- an answer that takes no order
-after_answer : (start : Start) (past : List Happening) (id : ℕ) (reply : Reply) → Legal start (Answered id reply ∷ past) → IsStill start past
+after_answer : (start : Start) (past : List Happening) (id : ℕ) (reply : Reply) → Legal start (Answered id reply ∷ past)
+    → IsStill start past
     → (reply ≡ replies.Taken → ⊥) → IsStill start (Answered id reply ∷ past)
 after_answer start (Asked order ∷ past) id replies.Taken legal still not = absurd (not refl)
-after_answer start (Asked order ∷ past) id (replies.Kept code) legal still not = record { idle = still.idle; said = still.said; none = still.none }
-after_answer start (Asked order ∷ past) id replies.IdReused legal still not = record { idle = still.idle; said = still.said; none = still.none }
-after_answer start (Asked order ∷ past) id replies.Busy legal still not = record { idle = still.idle; said = still.said; none = still.none }
-after_answer start (Asked order ∷ past) id replies.Full legal still not = record { idle = still.idle; said = still.said; none = still.none }
-after_answer start (Asked order ∷ past) id (replies.Blocked unit) legal still not = record { idle = still.idle; said = still.said; none = still.none }
+after_answer start (Asked order ∷ past) id (replies.Kept code) legal still not =
+    record { idle = still.idle; said = still.said; none = still.none }
+after_answer start (Asked order ∷ past) id replies.IdReused legal still not =
+    record { idle = still.idle; said = still.said; none = still.none }
+after_answer start (Asked order ∷ past) id replies.Busy legal still not =
+    record { idle = still.idle; said = still.said; none = still.none }
+after_answer start (Asked order ∷ past) id replies.Full legal still not =
+    record { idle = still.idle; said = still.said; none = still.none }
+after_answer start (Asked order ∷ past) id (replies.Blocked unit) legal still not =
+    record { idle = still.idle; said = still.said; none = still.none }
 after_answer start past id reply legal still not = says_none start past id reply still legal.1
 
 -- nothing is done until an order is taken
-pub stays_still : (start : Start) (past more : List Happening) → Legal start (more ++ past) → is_busy start past ≡ false → NoneTaken more
+pub stays_still : (start : Start) (past more : List Happening) → Legal start (more ++ past) → is_busy start past ≡ false
+    → NoneTaken more
     → IsStill start (more ++ past) × NoneSent more × (records_of start (more ++ past) ≡ records_of start past)
 stays_still start past [] legal e none = (is_still start past legal e, tt, refl)
 stays_still start past (Asked order ∷ more) legal e none =

@@ -1,5 +1,6 @@
 -- A record that may be kept leaves a world that fits.
-use Rattle.std.proofs.Common.{◌≡◌, ◌⊎◌, inl, inr, refl, sym, ap, subst, ◌∙◌, ℕ, Bool, true, false, ◌==◌, List, [], ◌∷◌, Option, Some, None}
+use Rattle.std.proofs.Common.{◌≡◌, ◌⊎◌, inl, inr, refl, sym, ap, subst, ◌∙◌, ℕ, Bool, true, false, ◌==◌, List, [], ◌∷◌}
+use Rattle.std.proofs.Common.{Option, Some, None}
 use Rattle.std.proofs.lemmas.Bool.{eqb-true}
 use Rattle.dali_bank.specs.Order.{Contents, update_at}
 use Rattle.dali_gear.specs.World.{World, byte_at, byte_in, is_open, is_enabled}
@@ -14,61 +15,77 @@ use Rattle.dali_journal.specs.Sentence.{Allows, next_standing, standing_of, name
 use Rattle.dali_journal.specs.Orders.{orders_of, come_to}
 use Rattle.dali_write.specs.Findings.{ShowsAll, IsWritten}
 use Rattle.dali_write.specs.Worlds.{Shows}
-use Rattle.dali_write.proofs.RestLemmas.{Shown, suits_too, short_too, format_too, written_too}
-use Rattle.dali_trace.specs.Grounds.{Grounds}
+use Rattle.dali_write.specs.declared.ask.Verdict.{Verdict}
+use Rattle.dali_write.proofs.RestLemmas.{Shown, rests_too}
+use Rattle.dali_trace.specs.Grounds.{verdict_told, RestsIfTold, Grounds}
 use Rattle.dali_trace.specs.Possible.{Applied, Untouched, InDoubt, byte_for, MayHold, IsPossible}
 use Rattle.dali_trace.specs.Fits.{Fits, HasBeenOpened}
 use Rattle.dali_laws.proofs.StandingLemmas.{begun_order, open_order, HasByte, byte_for_or_none}
 
 -- what a world shows, in two parts
-pub shown_byte : (now : World) (unit location byte : ℕ) → Shows now unit location byte → byte_at now unit 1 location ≡ Some byte
+pub shown_byte : (now : World) (unit location byte : ℕ) → Shows now unit location byte
+    → byte_at now unit 1 location ≡ Some byte
 shown_byte now unit location byte shows = ap (λ gear. byte_in gear 1 location) shows.is ∙ shows.byte_is
 
 pub shown_off : (now : World) (unit location byte : ℕ) → Shows now unit location byte → is_enabled now unit ≡ false
 shown_off now unit location byte shows = ap is_open shows.is ∙ shows.off
 
 -- what all updates show, the one for a location shows
-at_update : (P : ℕ → ℕ → Type 0) (updates : List (ℕ × ℕ)) (location byte : ℕ) → ShowsAll P updates → update_at updates location ≡ Some byte → P location byte
+at_update : (P : ℕ → ℕ → Type 0) (updates : List (ℕ × ℕ)) (location byte : ℕ) → ShowsAll P updates
+    → update_at updates location ≡ Some byte → P location byte
 at_update P [] location byte all e = cc
-at_update P (update ∷ updates) location byte all e = by (λ found. at_update P updates location byte all.1 found) (update.0 == location) refl where
-  by : (update_at updates location ≡ Some byte → P location byte) → (x : Bool) → (update.0 == location) ≡ x → P location byte
-  by more true p =
-      let found : Some update.1 ≡ Some byte = rw p at e in
-      let is : update.1 ≡ byte = cc in
-      let at : update.0 ≡ location = eqb-true update.0 location p in
-      subst (λ l. P l byte) at (subst (λ b. P update.0 b) is all.0)
-  by more false p = more (rw p at e)
+at_update P (update ∷ updates) location byte all e =
+    by (λ found. at_update P updates location byte all.1 found) (update.0 == location) refl where
+      by : (update_at updates location ≡ Some byte → P location byte) → (x : Bool) → (update.0 == location) ≡ x
+          → P location byte
+      by more true p =
+          let found : Some update.1 ≡ Some byte = rw p at e in
+          let is : update.1 ≡ byte = cc in
+          let at : update.0 ≡ location = eqb-true update.0 location p in
+          subst (λ l. P l byte) at (subst (λ b. P update.0 b) is all.0)
+      by more false p = more (rw p at e)
 
 -- more may be possible, and more opened
 changed_fits : (zero now : World) (records more : List Record)
-    → ((address bank location first byte : ℕ) → byte_at now address bank location ≡ Some byte → IsPossible first address bank location (orders_of records) byte
+    → ((address bank location first byte : ℕ) → byte_at now address bank location ≡ Some byte
+    → IsPossible first address bank location (orders_of records) byte
     → IsPossible first address bank location (orders_of more) byte)
-    → ((address : ℕ) → HasBeenOpened address records → HasBeenOpened address more) → Fits zero records now → Fits zero more now
+    → ((address : ℕ) → HasBeenOpened address records → HasBeenOpened address more) → Fits zero records now
+    → Fits zero more now
 changed_fits zero now records more possible opened fits = record {
   places = fits.places;
-  bytes = λ address bank location first byte lock was is. possible address bank location first byte is (fits.bytes address bank location first byte lock was is);
+  bytes =
+      λ address bank location first byte lock was is.
+      possible address bank location first byte is (fits.bytes address bank location first byte lock was is);
   locks = λ address closed. fits.locks address (λ was. closed (opened address was));
 }
 
 -- from untouched to in doubt
-doubted : (found : Option ℕ) (before : ℕ → Type 0) (byte : ℕ) → MayHold Untouched found before byte → MayHold InDoubt found before byte
+doubted : (found : Option ℕ) (before : ℕ → Type 0) (byte : ℕ) → MayHold Untouched found before byte
+    → MayHold InDoubt found before byte
 doubted None before byte may = may
 doubted (Some update) before byte may = inl may
 
 -- from in doubt to done, where the byte is there
-written : (found : Option ℕ) (before : ℕ → Type 0) (byte : ℕ) → ((update : ℕ) → found ≡ Some update → byte ≡ update) → MayHold InDoubt found before byte
+written : (found : Option ℕ) (before : ℕ → Type 0) (byte : ℕ) → ((update : ℕ) → found ≡ Some update → byte ≡ update)
+    → MayHold InDoubt found before byte
     → MayHold Applied found before byte
 written None before byte is may = may
 written (Some update) before byte is may = is update refl
 
 -- the newest order comes from one stage to another
 abbrev Comes : World → Stage → Stage → Contents → Type 0
-Comes now old new order = (older : List (Contents × Stage)) (address bank location first byte : ℕ) → byte_at now address bank location ≡ Some byte
-    → IsPossible first address bank location ((order, old) ∷ older) byte → IsPossible first address bank location ((order, new) ∷ older) byte
+Comes now old new order =
+    (older : List (Contents × Stage)) (address bank location first byte : ℕ)
+    → byte_at now address bank location ≡ Some byte
+    → IsPossible first address bank location ((order, old) ∷ older) byte
+    → IsPossible first address bank location ((order, new) ∷ older) byte
 
 comes_fit : (zero now : World) (records : List Record) (entry : Record) (order : Contents) (old new : Stage)
-    → ((older : List (Contents × Stage)) × orders_of records ≡ (order, old) ∷ older) → orders_of (entry ∷ records) ≡ come_to new (orders_of records)
-    → ((address : ℕ) → HasBeenOpened address records → HasBeenOpened address (entry ∷ records)) → Comes now old new order → Fits zero records now → Fits zero (entry ∷ records) now
+    → ((older : List (Contents × Stage)) × orders_of records ≡ (order, old) ∷ older)
+    → orders_of (entry ∷ records) ≡ come_to new (orders_of records)
+    → ((address : ℕ) → HasBeenOpened address records → HasBeenOpened address (entry ∷ records))
+    → Comes now old new order → Fits zero records now → Fits zero (entry ∷ records) now
 comes_fit zero now records entry order old new newest came opened comes fits =
     let so : orders_of (entry ∷ records) ≡ (order, new) ∷ newest.0 = came ∙ ap (come_to new) newest.1 in
     changed_fits zero now records (entry ∷ records)
@@ -78,66 +95,85 @@ comes_fit zero now records entry order old new newest came opened comes fits =
     opened fits
 
 -- the bytes of an order that is done
-done_comes : (now : World) (order : Contents) → IsWritten (Shows now order.unit) order.updates → Comes now stages.Open (stages.Ended Done) order
+done_comes : (now : World) (order : Contents) → IsWritten (Shows now order.unit) order.updates
+    → Comes now stages.Open (stages.Ended Done) order
 done_comes now order done older address bank location first byte is possible =
     written (byte_for order address bank location) (IsPossible first address bank location older) byte
     (λ update found. by update found (byte_for_or_none order address bank location)) possible where
       by : (update : ℕ) → byte_for order address bank location ≡ Some update
-          → (byte_for order address bank location ≡ None) ⊎ ((other : ℕ) × HasByte order address bank location other) → byte ≡ update
+          → (byte_for order address bank location ≡ None) ⊎ ((other : ℕ) × HasByte order address bank location other)
+          → byte ≡ update
       by update found (inl none) = cc
       by update found (inr (other, has)) =
           let holds : byte_at now order.unit 1 location ≡ Some other =
-          shown_byte now order.unit location other (at_update (Shows now order.unit) order.updates location other done.1 has.is) in
+          shown_byte now order.unit location other
+          (at_update (Shows now order.unit) order.updates location other done.1 has.is) in
           let there : byte_at now address bank location ≡ Some other =
-          subst (λ a. byte_at now a bank location ≡ Some other) has.unit (subst (λ b. byte_at now order.unit b location ≡ Some other) (sym has.one) holds) in
+          subst (λ a. byte_at now a bank location ≡ Some other) has.unit
+          (subst (λ b. byte_at now order.unit b location ≡ Some other) (sym has.one) holds) in
           let both = has.for in
           cc
 
-pub keeps_fitting : (zero now : World) (records : List Record) (entry : Record) (stands : Standing) → standing_of records ≡ stands → Allows stands entry
+pub keeps_fitting : (zero now : World) (records : List Record) (entry : Record) (stands : Standing)
+    → standing_of records ≡ stands → Allows stands entry
     → Grounds (Shows now) stands entry → Fits zero records now → Fits zero (entry ∷ records) now
 keeps_fitting zero now records (Began order) stands at allowed grounds fits =
     changed_fits zero now records (Began order ∷ records)
-    (λ address bank location first byte is possible. by (byte_for order address bank location) (IsPossible first address bank location (orders_of records)) byte possible)
+    (λ address bank location first byte is possible. by (byte_for order address bank location)
+    (IsPossible first address bank location (orders_of records)) byte possible)
     (λ address opened. opened) fits where
       by : (found : Option ℕ) (before : ℕ → Type 0) (byte : ℕ) → before byte → MayHold Untouched found before byte
       by None before byte may = may
       by (Some update) before byte may = may
 keeps_fitting zero now records (Opened unit) (standings.Began order) at allowed grounds fits =
-    comes_fit zero now records (Opened unit) order stages.Begun stages.Open (begun_order records order at) refl (λ address opened. inr opened)
-    (λ older address bank location first byte is possible. doubted (byte_for order address bank location) (IsPossible first address bank location older) byte possible) fits
+    comes_fit zero now records (Opened unit) order stages.Begun stages.Open (begun_order records order at) refl
+    (λ address opened. inr opened)
+    (λ older address bank location first byte is possible.
+    doubted (byte_for order address bank location) (IsPossible first address bank location older) byte possible)
+    fits
 keeps_fitting zero now records (Ended Short) (standings.Began order) at allowed grounds fits =
-    comes_fit zero now records (Ended Short) order stages.Begun (stages.Ended Short) (begun_order records order at) refl (λ address opened. opened)
+    comes_fit zero now records (Ended Short) order stages.Begun (stages.Ended Short) (begun_order records order at) refl
+    (λ address opened. opened)
     (λ older address bank location first byte is possible. possible) fits
 keeps_fitting zero now records (Ended Format) (standings.Began order) at allowed grounds fits =
-    comes_fit zero now records (Ended Format) order stages.Begun (stages.Ended Format) (begun_order records order at) refl (λ address opened. opened)
+    comes_fit zero now records (Ended Format) order stages.Begun (stages.Ended Format) (begun_order records order at)
+    refl (λ address opened. opened)
     (λ older address bank location first byte is possible. possible) fits
 keeps_fitting zero now records (Ended Silent) (standings.Began order) at allowed grounds fits =
-    comes_fit zero now records (Ended Silent) order stages.Begun (stages.Ended Silent) (begun_order records order at) refl (λ address opened. opened)
+    comes_fit zero now records (Ended Silent) order stages.Begun (stages.Ended Silent) (begun_order records order at)
+    refl (λ address opened. opened)
     (λ older address bank location first byte is possible. possible) fits
 keeps_fitting zero now records (Ended Done) (standings.Opened order) at allowed grounds fits =
-    comes_fit zero now records (Ended Done) order stages.Open (stages.Ended Done) (open_order records order at) refl (λ address opened. opened)
+    comes_fit zero now records (Ended Done) order stages.Open (stages.Ended Done) (open_order records order at) refl
+    (λ address opened. opened)
     (done_comes now order grounds) fits
 keeps_fitting zero now records (Ended Doubt) (standings.Opened order) at allowed grounds fits =
-    comes_fit zero now records (Ended Doubt) order stages.Open (stages.Ended Doubt) (open_order records order at) refl (λ address opened. opened)
+    comes_fit zero now records (Ended Doubt) order stages.Open (stages.Ended Doubt) (open_order records order at) refl
+    (λ address opened. opened)
     (λ older address bank location first byte is possible. possible) fits
 keeps_fitting zero now records (Ended DoubtOpen) (standings.Opened order) at allowed grounds fits =
-    comes_fit zero now records (Ended DoubtOpen) order stages.Open (stages.Ended DoubtOpen) (open_order records order at) refl (λ address opened. opened)
+    comes_fit zero now records (Ended DoubtOpen) order stages.Open (stages.Ended DoubtOpen)
+    (open_order records order at) refl (λ address opened. opened)
     (λ older address bank location first byte is possible. possible) fits
 keeps_fitting zero now records (Closed unit) (standings.Left left) at allowed grounds fits =
-    changed_fits zero now records (Closed unit ∷ records) (λ address bank location first byte is possible. possible) (λ address opened. opened) fits
+    changed_fits zero now records (Closed unit ∷ records) (λ address bank location first byte is possible. possible)
+    (λ address opened. opened) fits
 keeps_fitting zero now records _ _ at allowed grounds fits = absurd allowed
 
 -- a unit that isn't enabled is none that is
-not_both : {A : Type 0} (now : World) (unit address : ℕ) → is_enabled now unit ≡ false → Some unit ≡ Some address → is_enabled now address ≡ true → A
+not_both : {A : Type 0} (now : World) (unit address : ℕ) → is_enabled now unit ≡ false → Some unit ≡ Some address
+    → is_enabled now address ≡ true → A
 not_both now unit address off same on =
     let here : unit ≡ address = cc in
     let off_there : is_enabled now address ≡ false = rw here at off in cc
 
-pub keeps_only : (now : World) (stands : Standing) (entry : Record) → Allows stands entry → Grounds (Shows now) stands entry
+pub keeps_only : (now : World) (stands : Standing) (entry : Record) → Allows stands entry
+    → Grounds (Shows now) stands entry
     → ((address : ℕ) → is_enabled now address ≡ true → named_unit stands ≡ Some address)
     → (address : ℕ) → is_enabled now address ≡ true → named_unit (next_standing stands entry) ≡ Some address
 keeps_only now standings.Idle (Began order) allowed grounds only address on = let none = only address on in cc
-keeps_only now (standings.Began order) (Opened unit) allowed grounds only address on = let none : None ≡ Some address = only address on in cc
+keeps_only now (standings.Began order) (Opened unit) allowed grounds only address on =
+    let none : None ≡ Some address = only address on in cc
 keeps_only now (standings.Began order) (Ended code) allowed grounds only address on = only address on
 keeps_only now (standings.Opened order) (Ended Done) allowed grounds only address on =
     not_both now order.unit address (shown_off now order.unit 2 0xFF grounds.0) (only address on) on
@@ -149,12 +185,21 @@ keeps_only now (standings.Left unit) (Closed closed) allowed grounds only addres
 keeps_only now _ _ allowed grounds only address on = absurd allowed
 
 -- what a record rests on is so of one way of showing where it is so of another that shows no less
-pub grounds_too : (P Q : ℕ → ℕ → ℕ → Type 0) → ((unit : ℕ) → Shown (P unit) (Q unit)) → (stands : Standing) (entry : Record)
+told_too : (P Q : ℕ → ℕ → Type 0) (updates : List (ℕ × ℕ)) (told : Option Verdict) → Shown P Q
+    → RestsIfTold P updates told
+    → RestsIfTold Q updates told
+told_too P Q updates None f rests = tt
+told_too P Q updates (Some verdict) f rests = rests_too P Q updates verdict f rests
+
+pub grounds_too : (P Q : ℕ → ℕ → ℕ → Type 0) → ((unit : ℕ) → Shown (P unit) (Q unit))
+    → (stands : Standing) (entry : Record)
     → Grounds P stands entry → Grounds Q stands entry
-grounds_too P Q f (standings.Began order) (Opened unit) grounds = suits_too (P order.unit) (Q order.unit) order.updates (f order.unit) grounds
-grounds_too P Q f (standings.Began order) (Ended Short) grounds = short_too (P order.unit) (Q order.unit) order.updates (f order.unit) grounds
-grounds_too P Q f (standings.Began order) (Ended Format) grounds = format_too (P order.unit) (Q order.unit) order.updates (f order.unit) grounds
-grounds_too P Q f (standings.Opened order) (Ended Done) grounds = written_too (P order.unit) (Q order.unit) order.updates (f order.unit) grounds
-grounds_too P Q f (standings.Opened order) (Ended Doubt) grounds = (grounds.0, grounds.1, f order.unit grounds.0 grounds.1 grounds.2)
-grounds_too P Q f (standings.Left unit) (Closed closed) grounds = (grounds.0, grounds.1, f unit grounds.0 grounds.1 grounds.2)
-grounds_too P Q f _ _ grounds = tt
+grounds_too P Q f standings.Idle entry grounds = tt
+grounds_too P Q f (standings.Began order) entry grounds =
+    told_too (P order.unit) (Q order.unit) order.updates (verdict_told (standings.Began order) entry)
+    (f order.unit) grounds
+grounds_too P Q f (standings.Opened order) entry grounds =
+    told_too (P order.unit) (Q order.unit) order.updates (verdict_told (standings.Opened order) entry)
+    (f order.unit) grounds
+grounds_too P Q f (standings.Left unit) entry grounds =
+    told_too (P unit) (Q unit) [] (verdict_told (standings.Left unit) entry) (f unit) grounds

@@ -1,5 +1,6 @@
 -- An order that has ended is the one that is found under its number, so that a repeat is answered by what is kept.
-use Rattle.std.proofs.Common.{◌≡◌, refl, sym, ◌∙◌, subst, Contains, length, get_or, ◌<◌, ◌≤◌, zero, suc, Bool, true, false, ◌==◌, ℕ, List, [], ◌∷◌, ◌++◌, arith}
+use Rattle.std.proofs.Common.{◌≡◌, refl, sym, ◌∙◌, subst, Contains, length, get_or, ◌<◌, ◌≤◌, zero, suc, Bool, true}
+use Rattle.std.proofs.Common.{false, ◌==◌, ℕ, List, [], ◌∷◌, ◌++◌, arith}
 use Rattle.std.proofs.lemmas.Bool.{eqb-true, eq-eqb}
 use Rattle.std.proofs.lemmas.List.{append_assoc}
 use Rattle.dali_bank.specs.Order.{Contents}
@@ -34,7 +35,8 @@ never_absent order stages.Begun e = cc
 never_absent order stages.Open e = cc
 never_absent order (stages.Ended code) e = cc
 
-none_come : (id : ℕ) (stage : Stage) (orders : List (Contents × Stage)) → kept_among id orders ≡ kepts.Absent → kept_among id (come_to stage orders) ≡ kepts.Absent
+none_come : (id : ℕ) (stage : Stage) (orders : List (Contents × Stage)) → kept_among id orders ≡ kepts.Absent
+    → kept_among id (come_to stage orders) ≡ kepts.Absent
 none_come id stage [] e = refl
 none_come id stage (newest ∷ older) e = by (newest.0.id == id) refl where
   by : (x : Bool) → (newest.0.id == id) ≡ x → kept_among id (come_to stage (newest ∷ older)) ≡ kepts.Absent
@@ -49,21 +51,26 @@ absent id (Opened unit ∷ older) e = none_come id stages.Open (orders_of older)
 absent id (Ended code ∷ older) e = none_come id (stages.Ended code) (orders_of older) (absent id older e)
 absent id (Closed unit ∷ older) e = absent id older e
 
-distinct_come : (stage : Stage) (orders : List (Contents × Stage)) → AreDistinct orders → AreDistinct (come_to stage orders)
+distinct_come : (stage : Stage) (orders : List (Contents × Stage)) → AreDistinct orders
+    → AreDistinct (come_to stage orders)
 distinct_come stage [] distinct = tt
 distinct_come stage (newest ∷ older) distinct = distinct
 
 distinct_orders : (records : List Record) → IsSentence records → AreDistinct (orders_of records)
 distinct_orders [] sentence = tt
 distinct_orders (Began order ∷ older) sentence = (absent order.id older sentence.2, distinct_orders older sentence.0)
-distinct_orders (Opened unit ∷ older) sentence = distinct_come stages.Open (orders_of older) (distinct_orders older sentence.0)
-distinct_orders (Ended code ∷ older) sentence = distinct_come (stages.Ended code) (orders_of older) (distinct_orders older sentence.0)
+distinct_orders (Opened unit ∷ older) sentence =
+    distinct_come stages.Open (orders_of older) (distinct_orders older sentence.0)
+distinct_orders (Ended code ∷ older) sentence =
+    distinct_come (stages.Ended code) (orders_of older) (distinct_orders older sentence.0)
 distinct_orders (Closed unit ∷ older) sentence = distinct_orders older sentence.0
 
-found_first : (x newest : Contents × Stage) (older : List (Contents × Stage)) → newest ≡ x → kept_among x.0.id (newest ∷ older) ≡ kept_at x.0 x.1
+found_first : (x newest : Contents × Stage) (older : List (Contents × Stage)) → newest ≡ x
+    → kept_among x.0.id (newest ∷ older) ≡ kept_at x.0 x.1
 found_first x newest older e = rw e (rw (eq-eqb x.0.id x.0.id refl) refl)
 
-found_later : (x newest : Contents × Stage) (older : List (Contents × Stage)) → kept_among newest.0.id older ≡ kepts.Absent
+found_later : (x newest : Contents × Stage) (older : List (Contents × Stage))
+    → kept_among newest.0.id older ≡ kepts.Absent
     → kept_among x.0.id older ≡ kept_at x.0 x.1 → kept_among x.0.id (newest ∷ older) ≡ kept_at x.0 x.1
 found_later x newest older none some = by (newest.0.id == x.0.id) refl where
   by : (b : Bool) → (newest.0.id == x.0.id) ≡ b → kept_among x.0.id (newest ∷ older) ≡ kept_at x.0 x.1
@@ -73,14 +80,17 @@ found_later x newest older none some = by (newest.0.id == x.0.id) refl where
       never_absent x.0 x.1 (sym some ∙ gone)
   by false p = rw p some
 
-found_at : (x : Contents × Stage) (orders : List (Contents × Stage)) (k : ℕ) → AreDistinct orders → k < length orders → get_or orders k x ≡ x
+found_at : (x : Contents × Stage) (orders : List (Contents × Stage)) (k : ℕ) → AreDistinct orders → k < length orders
+    → get_or orders k x ≡ x
     → kept_among x.0.id orders ≡ kept_at x.0 x.1
 found_at x [] k distinct less e = absurd (omega arith)
 found_at x (newest ∷ older) zero distinct less e = found_first x newest older e
-found_at x (newest ∷ older) (suc k) distinct less e = found_later x newest older distinct.0 (found_at x older k distinct.1 (omega arith) e)
+found_at x (newest ∷ older) (suc k) distinct less e =
+    found_later x newest older distinct.0 (found_at x older k distinct.1 (omega arith) e)
 
 -- an order that has ended is what is kept of its number
-pub ended_kept : (records : List Record) (order : Contents) (code : Code) → IsSentence records → Contains (orders_of records) (order, stages.Ended code)
+pub ended_kept : (records : List Record) (order : Contents) (code : Code) → IsSentence records
+    → Contains (orders_of records) (order, stages.Ended code)
     → kept_of order.id records ≡ kepts.Ended order code
 ended_kept records order code sentence among =
     found_at (order, stages.Ended code) (orders_of records) among.0 (distinct_orders records sentence) among.1 among.2
@@ -92,14 +102,17 @@ legal_sentence start [] legal = legal
 legal_sentence start (Asked order ∷ past) legal = legal_sentence start past legal.0
 legal_sentence start (Answered id reply ∷ past) legal = legal_sentence start past legal.0
 legal_sentence start (Sent frame answer ∷ past) legal = legal_sentence start past legal.0
-legal_sentence start (Keeps entry ∷ past) legal = let may = may_keep start past entry legal.1 in (may.sentence, may.within)
+legal_sentence start (Keeps entry ∷ past) legal = let may = may_keep start past entry legal.1 in may.whole
 legal_sentence start (Stopped ∷ past) legal = legal_sentence start past legal.0
 
 -- what follows a repeat at once
 answered : (start : Start) (past : List Happening) (order : Contents) (code : Code) (next : Happening)
-    → kept_of order.id (records_of start past) ≡ kepts.Ended order code → Replies start past order next → next ≡ Answered order.id (replies.Kept code)
+    → kept_of order.id (records_of start past) ≡ kepts.Ended order code → Replies start past order next
+    → next ≡ Answered order.id (replies.Kept code)
 answered start past order code (Answered id reply) ended (same, due) =
-    let is = only_due order (kept_of order.id (records_of start past)) (is_busy start past) (is_full start past) (replies.Kept code) reply ended due in
+    let is =
+    only_due order (kept_of order.id (records_of start past)) (is_busy start past) (is_full start past)
+    (replies.Kept code) reply ended due in
     λ i. Answered (same i) (is i)
 answered start past order code (Asked other) ended due = absurd due
 answered start past order code (Sent frame answer) ended due = absurd due
@@ -134,11 +147,15 @@ none_more (Stopped ∷ more) older none before = none_more more older none befor
 
 pub repeat_quiet : (start : Start) (past more : List Happening) (order : Contents) (code : Code) (next : Happening)
     → Contains (orders_of (records_of start past)) (order, stages.Ended code) → is_busy start past ≡ false
-    → Legal start (more ++ next ∷ Asked order ∷ past) → NoneTaken more → NothingIsDone start (more ++ next ∷ Asked order ∷ []) past
+    → Legal start (more ++ next ∷ Asked order ∷ past) → NoneTaken more
+    → NothingIsDone start (more ++ next ∷ Asked order ∷ []) past
 repeat_quiet start past more order code next among busy legal none =
-    let is = repeat_answered start past order code next among (legal_before start (next ∷ Asked order ∷ past) more legal) in
+    let is =
+    repeat_answered start past order code next among (legal_before start (next ∷ Asked order ∷ past) more legal) in
     let part : List Happening = more ++ next ∷ Asked order ∷ [] in
-    let so : Legal start (part ++ past) = subst (Legal start) (sym (append_assoc more (next ∷ Asked order ∷ []) past)) legal in
-    let reply : NoneTaken (next ∷ Asked order ∷ []) = subst (λ (h : Happening). NoneTaken (h ∷ Asked order ∷ [])) (sym is) tt in
+    let so : Legal start (part ++ past) =
+    subst (Legal start) (sym (append_assoc more (next ∷ Asked order ∷ []) past)) legal in
+    let reply : NoneTaken (next ∷ Asked order ∷ []) =
+    subst (λ (h : Happening). NoneTaken (h ∷ Asked order ∷ [])) (sym is) tt in
     let still = stays_still start past part so busy (none_more more (next ∷ Asked order ∷ []) none reply) in
     (still.1, still.2)

@@ -44,14 +44,16 @@ order_is a b id unit updates = λ i. record { id = id i; unit = unit i; updates 
 
 orders : (a b : Contents) → (a ≡ b) ⊎ (a ≢ b)
 orders a b = by (numbers a.id b.id) (numbers a.unit b.unit) (lists a.updates b.updates) where
-  by : (a.id ≡ b.id) ⊎ (a.id ≢ b.id) → (a.unit ≡ b.unit) ⊎ (a.unit ≢ b.unit) → (a.updates ≡ b.updates) ⊎ (a.updates ≢ b.updates) → (a ≡ b) ⊎ (a ≢ b)
+  by : (a.id ≡ b.id) ⊎ (a.id ≢ b.id) → (a.unit ≡ b.unit) ⊎ (a.unit ≢ b.unit)
+      → (a.updates ≡ b.updates) ⊎ (a.updates ≢ b.updates) → (a ≡ b) ⊎ (a ≢ b)
   by (inl id) (inl unit) (inl updates) = inl (order_is a b id unit updates)
   by (inr id) unit updates = inr (λ e. id (ap (λ (order : Contents). order.id) e))
   by (inl id) (inr unit) updates = inr (λ e. unit (ap (λ (order : Contents). order.unit) e))
   by (inl id) (inl unit) (inr updates) = inr (λ e. updates (ap (λ (order : Contents). order.updates) e))
 
 -- some reply is due
-open_due : (order : Contents) (kept : Kept) (busy full : Bool) → IsNotEnded order kept → (due : Reply) × IsReplyBy order kept busy full due
+open_due : (order : Contents) (kept : Kept) (busy full : Bool) → IsNotEnded order kept
+    → (due : Reply) × IsReplyBy order kept busy full due
 open_due order kept true full is = (replies.Busy, (is, refl))
 open_due order kept false true is = (replies.Full, (is, refl, refl))
 open_due order kept false false is = (replies.Taken, (is, refl, refl))
@@ -75,36 +77,49 @@ not_reused order kepts.Absent reused is = reused
 not_reused order (kepts.Unfinished old) reused is = reused is
 not_reused order (kepts.Ended old code) reused is = is
 
-ended_not_reused : (order : Contents) (kept : Kept) (code : Code) → kept ≡ kepts.Ended order code → IsReused order kept → ⊥
+ended_not_reused : (order : Contents) (kept : Kept) (code : Code) → kept ≡ kepts.Ended order code → IsReused order kept
+    → ⊥
 ended_not_reused order kept code ended reused = (subst (IsReused order) ended reused) refl
 
-ended_not_open : (order : Contents) (kept : Kept) (code : Code) → kept ≡ kepts.Ended order code → IsNotEnded order kept → ⊥
+ended_not_open : (order : Contents) (kept : Kept) (code : Code) → kept ≡ kepts.Ended order code → IsNotEnded order kept
+    → ⊥
 ended_not_open order kept code ended is = subst (IsNotEnded order) ended is
 
 -- and no other reply
-pub only_due : (order : Contents) (kept : Kept) (busy full : Bool) (due other : Reply) → IsReplyBy order kept busy full due → IsReplyBy order kept busy full other
+pub only_due : (order : Contents) (kept : Kept) (busy full : Bool) (due other : Reply)
+    → IsReplyBy order kept busy full due → IsReplyBy order kept busy full other
     → other ≡ due
-only_due order kept busy full (replies.Kept code) (replies.Kept last) one two = let same : kepts.Ended order code ≡ kepts.Ended order last = sym one ∙ two in let is : last ≡ code = cc in ap replies.Kept is
-only_due order kept busy full (replies.Kept code) replies.IdReused one two = absurd (ended_not_reused order kept code one two)
-only_due order kept busy full (replies.Kept code) replies.Busy one two = absurd (ended_not_open order kept code one two.0)
-only_due order kept busy full (replies.Kept code) replies.Full one two = absurd (ended_not_open order kept code one two.0)
-only_due order kept busy full (replies.Kept code) replies.Taken one two = absurd (ended_not_open order kept code one two.0)
-only_due order kept busy full replies.IdReused (replies.Kept last) one two = absurd (ended_not_reused order kept last two one)
+only_due order kept busy full (replies.Kept code) (replies.Kept last) one two =
+    let same : kepts.Ended order code ≡ kepts.Ended order last = sym one ∙ two in
+    let is : last ≡ code = cc in ap replies.Kept is
+only_due order kept busy full (replies.Kept code) replies.IdReused one two =
+    absurd (ended_not_reused order kept code one two)
+only_due order kept busy full (replies.Kept code) replies.Busy one two =
+    absurd (ended_not_open order kept code one two.0)
+only_due order kept busy full (replies.Kept code) replies.Full one two =
+    absurd (ended_not_open order kept code one two.0)
+only_due order kept busy full (replies.Kept code) replies.Taken one two =
+    absurd (ended_not_open order kept code one two.0)
+only_due order kept busy full replies.IdReused (replies.Kept last) one two =
+    absurd (ended_not_reused order kept last two one)
 only_due order kept busy full replies.IdReused replies.IdReused one two = refl
 only_due order kept busy full replies.IdReused replies.Busy one two = absurd (not_reused order kept one two.0)
 only_due order kept busy full replies.IdReused replies.Full one two = absurd (not_reused order kept one two.0)
 only_due order kept busy full replies.IdReused replies.Taken one two = absurd (not_reused order kept one two.0)
-only_due order kept busy full replies.Busy (replies.Kept last) one two = absurd (ended_not_open order kept last two one.0)
+only_due order kept busy full replies.Busy (replies.Kept last) one two =
+    absurd (ended_not_open order kept last two one.0)
 only_due order kept busy full replies.Busy replies.IdReused one two = absurd (not_reused order kept two one.0)
 only_due order kept busy full replies.Busy replies.Busy one two = refl
 only_due order kept busy full replies.Busy replies.Full one two = let a = one.1 in let b = two.1 in cc
 only_due order kept busy full replies.Busy replies.Taken one two = let a = one.1 in let b = two.1 in cc
-only_due order kept busy full replies.Full (replies.Kept last) one two = absurd (ended_not_open order kept last two one.0)
+only_due order kept busy full replies.Full (replies.Kept last) one two =
+    absurd (ended_not_open order kept last two one.0)
 only_due order kept busy full replies.Full replies.IdReused one two = absurd (not_reused order kept two one.0)
 only_due order kept busy full replies.Full replies.Busy one two = let a = one.1 in let b = two.1 in cc
 only_due order kept busy full replies.Full replies.Full one two = refl
 only_due order kept busy full replies.Full replies.Taken one two = let a = one.2 in let b = two.2 in cc
-only_due order kept busy full replies.Taken (replies.Kept last) one two = absurd (ended_not_open order kept last two one.0)
+only_due order kept busy full replies.Taken (replies.Kept last) one two =
+    absurd (ended_not_open order kept last two one.0)
 only_due order kept busy full replies.Taken replies.IdReused one two = absurd (not_reused order kept two one.0)
 only_due order kept busy full replies.Taken replies.Busy one two = let a = one.1 in let b = two.1 in cc
 only_due order kept busy full replies.Taken replies.Full one two = let a = one.2 in let b = two.2 in cc

@@ -1,15 +1,14 @@
 -- Over the simulated bus an order that loses little ends as its unit's bytes say.
-use Rattle.std.proofs.Common.{◌≡◌, ◌≢◌, inl, inr, refl, sym, ap, ◌∙◌, subst, ℕ, ◌+◌, ◌≤◌, ◌<◌, Bool, true, false, ◌||◌, ◌==◌, nat_lt, if◌then◌else◌, List, [], ◌∷◌, ◌++◌, append-nil, Option, Some, None, arith}
+use Rattle.std.proofs.Common.{◌≡◌, ◌≢◌, inl, inr, refl, sym, ap, ◌∙◌, subst, ℕ, ◌≤◌, ◌<◌, Bool, true, false}
+use Rattle.std.proofs.Common.{◌==◌, nat_lt, if◌then◌else◌, List, [], ◌∷◌, ◌++◌, append-nil, Option, Some, None, arith}
 use Rattle.std.specs.Prelude.{slice_get, slice_index}
 use Rattle.std.proofs.lemmas.Bool.{eqb-true, eqb-false}
 use Rattle.std.proofs.lemmas.Option.{unwrap_or-slice_get}
 use Rattle.std.specs.Option.{unwrap_or}
-use Rattle.dali_frame.specs.declared.forward.Frame.{Frame}
 use Rattle.dali_bank.specs.Order.{Contents, AreUpdates, RisesAbove}
-use Rattle.dali_gear.specs.Chain.{IsChain}
 use Rattle.dali_gear.specs.World.{Gear}
 use Rattle.dali_gear.specs.UnitState.{BankState, UnitState, gear_of}
-use Rattle.dali_gear.specs.SimState.{SimState, SimStep, AreApart, world_of}
+use Rattle.dali_gear.specs.SimState.{SimState, AreApart, world_of}
 use Rattle.dali_gear.specs.Faults.{IsBank}
 use Rattle.dali_journal.specs.declared.record.Code.{Code}
 use Rattle.dali_journal.specs.declared.record.Code.TheVariants as codes
@@ -24,7 +23,7 @@ use Rattle.dali_write.specs.declared.ask.Verdict.TheVariants as verdicts
 use Rattle.dali_write.specs.Plans.{greatest, read_length, unlock, close}
 use Rattle.dali_write.specs.Tries.{most_tries, Wants}
 use Rattle.dali_write.specs.Worlds.{IsOff, OnlyEnabled}
-use Rattle.dali_write.specs.Losses.{SimRun, is_loss, losses, Unrefused, IsAlone, OnlyDiffers}
+use Rattle.dali_write.specs.Losses.{SimRun, losses, Unrefused, IsAlone, OnlyDiffers}
 use Rattle.dali_write.specs.Misses.{misses_in}
 use Rattle.dali_write.specs.Successes.{HasBank, TakesAll, has_format, found_verdict, Spared}
 use Rattle.dali_write.proofs.RunLemmas.{sim_run}
@@ -34,119 +33,29 @@ use Rattle.dali_write.proofs.SuccessLemmas.{gone, closing_goes, fresh_goes, unlo
 use Rattle.dali_write.proofs.ElseLemmas.{closing_keeps_bank, run_apart, none_on, same_bank, alone_with}
 use Rattle.dali_trace.specs.declared.happening.Reply.TheVariants as replies
 use Rattle.dali_trace.specs.declared.happening.Happening.{Happening}
-use Rattle.dali_trace.specs.declared.happening.Happening.TheVariants.{Asked, Answered, Sent, Kept, Stopped}
+use Rattle.dali_trace.specs.declared.happening.Happening.TheVariants.{Answered}
 use Rattle.dali_trace.specs.Trace.{Start, records_of, standing_at, sent_since_taken, waiting, has_ended, is_at_work}
 use Rattle.dali_trace.specs.Legal.{Legal, MaySay, HasNumber}
 use Rattle.dali_journal.specs.declared.kept.Stage.{Stage}
 use Rattle.dali_journal.specs.Orders.{orders_of}
-use Rattle.dali_trace.specs.Moves.{MovesBy}
-use Rattle.dali_trace.specs.ByPlan.{told_in, Asks, EndsIn, IsPlanned, ByPlan}
+use Rattle.dali_trace.specs.Grounds.{EndsIn}
+use Rattle.dali_trace.specs.ByPlan.{told_in, Asks, IsPlanned, ByPlan}
 use Rattle.dali_laws.proofs.Courses.{ClosedBy, CheckedBy, OpenedBy, EndedBy, HasCome}
 use Rattle.dali_trace.specs.Work.{stood_at, kept_since, order_at_hand}
 use Rattle.dali_laws.proofs.CourseLemmas.{on_course}
 use Rattle.dali_laws.proofs.WorkLemmas.{said_end}
-use Rattle.dali_trace.specs.Spared.{is_lost_to, state_at_start, losses_since, UnrefusedSince, due_code}
+use Rattle.dali_trace.specs.Spared.{state_at_start, losses_since, UnrefusedSince, due_code}
+use Rattle.dali_laws.proofs.RunLossLemmas.{losses_to, Since, own_losses, left_losses, halves}
 
--- so many of the exchanges are: one that is lost to both counts once
-abbrev pub losses_to : ℕ → Option ℕ → (told : List Exchange) (first last : SimState) → SimRun told first last → ℕ
-losses_to unit left [] first last run = 0
-losses_to unit left (x ∷ told) first last run = (if is_lost_to unit left run.0 x.frame then 1 else 0) + losses_to unit left told first run.0 run.1
-
--- exchanges as a run of the simulated bus, with so many losses, and unrefused where it is so
-pub record RunSo (told : List Exchange) (first last : SimState) (count : ℕ → Option ℕ → ℕ) (Kind : Type 0) : Type 0 where
-  pub run : SimRun told first last
-  pub losses : (unit : ℕ) (left : Option ℕ) → losses_to unit left told first last run ≡ count unit left
-  pub kind : Kind → Unrefused told first last run
-
--- the frames since the last start
-abbrev pub Since : List Happening → SimState → List SimState → Type 0
-Since past last states =
-    RunSo (sent_since_taken past) (state_at_start past last states) last (λ unit left. losses_since unit left past states) (UnrefusedSince past states)
-
-begins_run : (last : SimState) → RunSo [] last last (λ unit left. 0) (Unit {0})
-begins_run last = record { run = refl; losses = λ unit left. refl; kind = λ kind. tt }
-
-stays : (told : List Exchange) (first last state : SimState) (count : ℕ → Option ℕ → ℕ) (Kind : Type 0) → last ≡ state → RunSo told first state count Kind → RunSo told first last count Kind
-stays told first last state count Kind same since = subst (λ (s : SimState). RunSo told first s count Kind) (sym same) since
-
-pub since_start : (first : SimState) (past : List Happening) (last : SimState) (states : List SimState) → IsChain (MovesBy SimStep) first past last states → Since past last states
-since_start first [] last [] chain = begins_run last
-since_start first [] last (state ∷ states) chain = absurd chain
-since_start first (next ∷ past) last [] chain = absurd chain
-since_start first (Answered id replies.Taken ∷ past) last (state ∷ states) chain = begins_run last
-since_start first (Stopped ∷ past) last (state ∷ states) chain = begins_run last
-since_start first (Sent frame answer ∷ past) last (state ∷ states) chain =
-    let before = since_start first past state states chain.1 in
-    record {
-      run = (state, before.run, chain.0);
-      losses = λ unit left. ap (λ (n : ℕ). (if is_lost_to unit left state frame then 1 else 0) + n) (before.losses unit left);
-      kind = λ kind. (kind.0, before.kind kind.1);
-    }
-since_start first (Asked order ∷ past) last (state ∷ states) chain = stays _ _ last state _ _ chain.0 (since_start first past state states chain.1)
-since_start first (Kept entry ∷ past) last (state ∷ states) chain = stays _ _ last state _ _ chain.0 (since_start first past state states chain.1)
-since_start first (Answered id (replies.Kept code) ∷ past) last (state ∷ states) chain = stays _ _ last state _ _ chain.0 (since_start first past state states chain.1)
-since_start first (Answered id replies.IdReused ∷ past) last (state ∷ states) chain = stays _ _ last state _ _ chain.0 (since_start first past state states chain.1)
-since_start first (Answered id replies.Busy ∷ past) last (state ∷ states) chain = stays _ _ last state _ _ chain.0 (since_start first past state states chain.1)
-since_start first (Answered id replies.Full ∷ past) last (state ∷ states) chain = stays _ _ last state _ _ chain.0 (since_start first past state states chain.1)
-since_start first (Answered id (replies.Blocked unit) ∷ past) last (state ∷ states) chain = stays _ _ last state _ _ chain.0 (since_start first past state states chain.1)
-
--- losses to the one unit, or to the one that was left, are losses to either
-bit_le : (a b : Bool) → (if a then 1 else 0) ≤ (if a || b then 1 else 0)
-bit_le true b = omega arith
-bit_le false true = omega arith
-bit_le false false = omega arith
-
-bit_right : (a b : Bool) → (if b then 1 else 0) ≤ (if a || b then 1 else 0)
-bit_right true true = omega arith
-bit_right true false = omega arith
-bit_right false b = omega arith
-
-one_le : (unit : ℕ) (left : Option ℕ) (state : SimState) (frame : Frame) → (if is_loss unit state frame then 1 else 0) ≤ (if is_lost_to unit left state frame then 1 else 0)
-one_le unit None state frame = omega arith
-one_le unit (Some left) state frame = bit_le (is_loss unit state frame) (is_loss left state frame)
-
-own_losses : (unit : ℕ) (left : Option ℕ) (told : List Exchange) (first last : SimState) (run : SimRun told first last) → losses unit told first last run ≤ losses_to unit left told first last run
-own_losses unit left [] first last run = omega arith
-own_losses unit left (x ∷ told) first last run =
-    let here = one_le unit left run.0 x.frame in let rest = own_losses unit left told first run.0 run.1 in omega arith
-
-left_losses : (unit left : ℕ) (told : List Exchange) (first last : SimState) (run : SimRun told first last) → losses left told first last run ≤ losses_to unit (Some left) told first last run
-left_losses unit left [] first last run = omega arith
-left_losses unit left (x ∷ told) first last run =
-    let here = bit_right (is_loss unit run.0 x.frame) (is_loss left run.0 x.frame) in let rest = left_losses unit left told first run.0 run.1 in omega arith
-
--- a run in two parts
-record Halves (unit : ℕ) (left : Option ℕ) (sent told older : List Exchange) (first last : SimState) (run : SimRun sent first last) : Type 0 where
-  mid : SimState
-  before : SimRun older first mid
-  after : SimRun told mid last
-  sum : losses_to unit left sent first last run ≡ losses_to unit left told mid last after + losses_to unit left older first mid before
-  kinds : Unrefused sent first last run → Unrefused older first mid before × Unrefused told mid last after
-
-joined_halves : (unit : ℕ) (left : Option ℕ) (told older : List Exchange) (first last : SimState) (run : SimRun (told ++ older) first last) → Halves unit left (told ++ older) told older first last run
-joined_halves unit left [] older first last run = record { mid = last; before = run; after = refl; sum = omega arith; kinds = λ kind. (kind, tt) }
-joined_halves unit left (x ∷ told) older first last run =
-    let rest = joined_halves unit left told older first run.0 run.1 in
-    let sum = rest.sum in
-    record {
-      mid = rest.mid;
-      before = rest.before;
-      after = (run.0, rest.after, run.2);
-      sum = omega arith;
-      kinds = λ kind. let both = rest.kinds kind.1 in (both.0, (kind.0, both.1));
-    }
-
-halves : (unit : ℕ) (left : Option ℕ) (sent told older : List Exchange) (first last : SimState) (run : SimRun sent first last) → sent ≡ told ++ older → Halves unit left sent told older first last run
-halves unit left sent told older first last run same =
-    subst (λ (t : List Exchange). (r : SimRun t first last) → Halves unit left t told older first last r) (sym same) (joined_halves unit left told older first last) run
-
--- Where an order starts, and this unit or none was left: the units are apart, none is enabled but the left one, the order's unit has this bank 1, and the left one has some.
+-- Where an order starts, and this unit or none was left: the units are apart, none is enabled but the left one, the
+-- order's unit has this bank 1, and the left one has some.
 pub record Onset (left : Option ℕ) (unit : ℕ) (bank : BankState) (state : SimState) : Type 0 where
   pub apart : AreApart state.units
   pub only : (address : ℕ) → left ≢ Some address → IsOff (world_of state.units address)
   pub has : HasBank unit bank state.units
   pub whole : IsBank bank.bytes
-  pub left_has : (address : ℕ) → left ≡ Some address → (other : BankState) × HasBank address other state.units × IsBank other.bytes
+  pub left_has : (address : ℕ) → left ≡ Some address
+      → (other : BankState) × HasBank address other state.units × IsBank other.bytes
 
 -- the order's unit, once a left one is closed
 record Cleared (unit : ℕ) (bank : BankState) (mid : SimState) (older : List Exchange) (lost : ℕ) : Type 0 where
@@ -158,41 +67,59 @@ record Cleared (unit : ℕ) (bank : BankState) (mid : SimState) (older : List Ex
 as_before : (bank : BankState) → OnlyDiffers bank 2 bank
 as_before bank = record { others = λ other away. refl; lengths = refl; fixed = refl }
 
-some_bank : (unit : ℕ) (bank : BankState) (state : SimState) (older : List Exchange) (lost : ℕ) → AreApart state.units → OnlyEnabled unit (world_of state.units) → HasBank unit bank state.units
+some_bank : (unit : ℕ) (bank : BankState) (state : SimState) (older : List Exchange) (lost : ℕ) → AreApart state.units
+    → OnlyEnabled unit (world_of state.units) → HasBank unit bank state.units
     → misses_in older ≤ lost → Cleared unit bank state older lost
 some_bank unit bank state older lost apart only has few =
     let found = alone_with unit bank state.units apart only has in
-    record { now = found.0; alone = found.1; like = subst (λ (b : BankState). OnlyDiffers bank 2 b) (sym found.2) (as_before bank); few = few }
+    record {
+      now = found.0;
+      alone = found.1;
+      like = subst (λ (b : BankState). OnlyDiffers bank 2 b) (sym found.2) (as_before bank);
+      few = few;
+    }
 
 -- a unit that was closed isn't enabled
-closed_off : (left : ℕ) (now : UnitState) (older : List Exchange) (begun mid : SimState) → SimRun older begun mid → Wants left (close verdicts.Closed verdicts.NotClosed) older (asks.Ended verdicts.Closed)
+closed_off : (left : ℕ) (now : UnitState) (older : List Exchange) (begun mid : SimState) → SimRun older begun mid
+    → Wants left (close verdicts.Closed verdicts.NotClosed) older (asks.Ended verdicts.Closed)
     → IsAlone left now mid.units → now.enabled ≡ false
 closed_off left now older begun mid run closed alone =
     let read = closing_rests older left verdicts.Closed closed in
-    let shows = stands_true older (world_of begun.units) (world_of mid.units) left 2 read.0 (sim_run older begun mid run) read.1 in
+    let shows =
+    stands_true older (world_of begun.units) (world_of mid.units) left read.0 read.1
+    (sim_run older begun mid run) read.2 in
     let both : Some shows.gear ≡ Some (gear_of now) = sym shows.is ∙ world_alone left now mid.units alone in
     let same : shows.gear ≡ gear_of now = cc in
     ap (λ (g : Gear). g.enabled) (sym same) ∙ shows.off
 
-cleared : (first : Standing) (unit : ℕ) (bank : BankState) (older : List Exchange) (begun mid : SimState) (run : SimRun older begun mid) → is_at_work first ≡ false
-    → Onset (named_unit first) unit bank begun → ClosedBy first older → Unrefused older begun mid run → losses_to unit (named_unit first) older begun mid run < most_tries
+cleared : (first : Standing) (unit : ℕ) (bank : BankState) (older : List Exchange) (begun mid : SimState)
+    (run : SimRun older begun mid)
+    → is_at_work first ≡ false
+    → Onset (named_unit first) unit bank begun → ClosedBy first older → Unrefused older begun mid run
+    → losses_to unit (named_unit first) older begun mid run < most_tries
     → Cleared unit bank mid older (losses_to unit (named_unit first) older begun mid run)
 cleared standings.Idle unit bank older begun mid run idle onset closed kind few =
     let still : SimRun [] begun mid = subst (λ (t : List Exchange). SimRun t begun mid) closed run in
     let none : misses_in older ≡ 0 = ap misses_in closed in
     some_bank unit bank mid older _ (subst (λ (s : SimState). AreApart s.units) (sym still) onset.apart)
-    (λ address other. subst (λ (s : SimState). IsOff (world_of s.units address)) (sym still) (onset.only address (λ same. cc)))
+    (λ address other.
+    subst (λ (s : SimState). IsOff (world_of s.units address)) (sym still) (onset.only address (λ same. cc)))
     (subst (λ (s : SimState). HasBank unit bank s.units) (sym still) onset.has) (omega arith)
 cleared (standings.Began order) unit bank older begun mid run idle onset closed kind few = cc
 cleared (standings.Opened order) unit bank older begun mid run idle onset closed kind few = cc
 cleared (standings.Left left) unit bank older begun mid run idle onset closed kind few =
     let there = onset.left_has left refl in
-    let at_left = alone_with left there.0 begun.units onset.apart (λ address other. onset.only address (λ same. other (let is : address ≡ left = cc in is))) there.1 in
+    let at_left =
+    alone_with left there.0 begun.units onset.apart
+    (λ address other. onset.only address (λ same. other (let is : address ≡ left = cc in is))) there.1 in
     let lost = left_losses unit left older begun mid run in
     let whole : IsBank at_left.0.bank1.bytes = subst (λ (b : BankState). IsBank b.bytes) (sym at_left.2) there.2 in
     let least = whole.least in
-    let spared : Spared left at_left.0 older begun mid = record { run = run; alone = at_left.1; kind = kind; few = omega arith } in
-    let end = gone (OnlyDiffers at_left.0.bank1 2) verdicts.Closed verdicts.Closed left (close verdicts.Closed verdicts.NotClosed) at_left.0 older [] begun mid spared
+    let spared : Spared left at_left.0 older begun mid =
+    record { run = run; alone = at_left.1; kind = kind; few = omega arith } in
+    let end =
+    gone (OnlyDiffers at_left.0.bank1 2) verdicts.Closed verdicts.Closed left (close verdicts.Closed verdicts.NotClosed)
+    at_left.0 older [] begun mid spared
     (closing_goes at_left.0.bank1 (omega arith)) closed in
     let off = closed_off left end.2.now older begun mid run closed end.2.alone in
     let same_misses : misses_in (older ++ []) ≡ misses_in older = ap misses_in (append-nil older) in
@@ -200,11 +127,14 @@ cleared (standings.Left left) unit bank older begun mid run idle onset closed ki
     let less = end.2.few in
     by (unit == left) refl at_left.0 at_left.1 end.2.now end.2.alone end.2.bank off (omega arith)
   where
-    by : (b : Bool) → (unit == left) ≡ b → (u : UnitState) → IsAlone left u begun.units → (now : UnitState) → IsAlone left now mid.units → OnlyDiffers u.bank1 2 now.bank1 → now.enabled ≡ false
-        → misses_in older ≤ losses_to unit (Some left) older begun mid run → Cleared unit bank mid older (losses_to unit (Some left) older begun mid run)
+    by : (b : Bool) → (unit == left) ≡ b → (u : UnitState) → IsAlone left u begun.units → (now : UnitState)
+        → IsAlone left now mid.units → OnlyDiffers u.bank1 2 now.bank1 → now.enabled ≡ false
+        → misses_in older ≤ losses_to unit (Some left) older begun mid run
+        → Cleared unit bank mid older (losses_to unit (Some left) older begun mid run)
     by true e u was now alone only off few =
         let here : unit ≡ left = eqb-true unit left e in
-        let is : u.bank1 ≡ bank = same_bank left bank u begun.units was (subst (λ (a : ℕ). HasBank a bank begun.units) here onset.has) in
+        let is : u.bank1 ≡ bank =
+        same_bank left bank u begun.units was (subst (λ (a : ℕ). HasBank a bank begun.units) here onset.has) in
         record {
           now = now;
           alone = subst (λ (a : ℕ). IsAlone a now mid.units) (sym here) alone;
@@ -212,13 +142,19 @@ cleared (standings.Left left) unit bank older begun mid run idle onset closed ki
           few = few;
         }
     by false e u was now alone only off few =
-        some_bank unit bank mid older (losses_to unit (Some left) older begun mid run) (run_apart older begun mid run onset.apart)
+        some_bank unit bank mid older (losses_to unit (Some left) older begun mid run)
+        (run_apart older begun mid run onset.apart)
         (λ address other. none_on left address now mid.units alone off)
-        (closing_keeps_bank left unit bank u older (asks.Ended verdicts.Closed) begun mid run closed (eqb-false unit left e) was onset.has) few
+        (closing_keeps_bank left unit bank u older (asks.Ended verdicts.Closed) begun mid run closed
+        (eqb-false unit left e) was onset.has)
+        few
 
 -- what a bank that is like another says of the updates
-same_byte : (one other : List ℕ) (location : ℕ) → slice_get one location ≡ slice_get other location → slice_index one location ≡ slice_index other location
-same_byte one other location same = sym (unwrap_or-slice_get one location 0) ∙ ap (λ (o : Option ℕ). unwrap_or o 0) same ∙ unwrap_or-slice_get other location 0
+same_byte : (one other : List ℕ) (location : ℕ) → slice_get one location ≡ slice_get other location
+    → slice_index one location ≡ slice_index other location
+same_byte one other location same =
+    sym (unwrap_or-slice_get one location 0) ∙ ap (λ (o : Option ℕ). unwrap_or o 0) same
+    ∙ unwrap_or-slice_get other location 0
 
 like_bank : (bank now : BankState) → OnlyDiffers bank 2 now → IsBank bank.bytes → IsBank now.bytes
 like_bank bank now like is =
@@ -229,53 +165,91 @@ like_bank bank now like is =
     let last = is.last in
     record { least = omega arith; most = omega arith; last = omega arith }
 
-like_found : (bank now : BankState) (updates : List (ℕ × ℕ)) → OnlyDiffers bank 2 now → found_verdict now.bytes updates ≡ found_verdict bank.bytes updates
+like_found : (bank now : BankState) (updates : List (ℕ × ℕ)) → OnlyDiffers bank 2 now
+    → found_verdict now.bytes updates ≡ found_verdict bank.bytes updates
 like_found bank now updates like =
     let first = same_byte now.bytes bank.bytes 0 (like.others 0 (λ same. absurd (omega arith))) in
     let high = same_byte now.bytes bank.bytes 0x11 (like.others 0x11 (λ same. absurd (omega arith))) in
     let low = same_byte now.bytes bank.bytes 0x12 (like.others 0x12 (λ same. absurd (omega arith))) in
     rw (first, high, low) refl
 
-like_takes : (bank now : BankState) (updates : List (ℕ × ℕ)) → OnlyDiffers bank 2 now → TakesAll bank updates → TakesAll now updates
+like_takes : (bank now : BankState) (updates : List (ℕ × ℕ)) → OnlyDiffers bank 2 now → TakesAll bank updates
+    → TakesAll now updates
 like_takes bank now [] like takes = tt
-like_takes bank now (update ∷ updates) like takes = (takes_still bank 2 now update.0 like takes.0, like_takes bank now updates like takes.1)
+like_takes bank now (update ∷ updates) like takes =
+    (takes_still bank 2 now update.0 like takes.0, like_takes bank now updates like takes.1)
+
+-- the code of the verdict's name
+abbrev code_told : Verdict → Code
+code_told verdicts.Short = codes.Short
+code_told verdicts.Format = codes.Format
+code_told verdicts.MayOpen = codes.Done
+code_told _ = codes.Silent
+
+told_code : (order : Contents) (code : Code) (verdict : Verdict) → EndsIn (standings.Began order) verdict (Ended code)
+    → code ≡ code_told verdict
+told_code order codes.Short verdict ends = let is = ends.1 in let same : verdict ≡ verdicts.Short = cc in rw same refl
+told_code order codes.Format verdict ends = let is = ends.1 in let same : verdict ≡ verdicts.Format = cc in rw same refl
+told_code order codes.Silent verdict ends = let is = ends.1 in let same : verdict ≡ verdicts.Silent = cc in rw same refl
+told_code order _ verdict ends = absurd ends.0
 
 -- how a fresh session that ended an order says its code
-short_code : (order : Contents) (code : Code) (bytes : List ℕ) (updates : List (ℕ × ℕ)) → EndsIn (standings.Began order) (found_verdict bytes updates) (Ended code) → code ≡ due_code bytes updates
-short_code order code bytes updates e = by (nat_lt (slice_index bytes 0) (greatest updates)) (nat_lt (greatest updates) 0x13) (has_format bytes) e
+short_code : (order : Contents) (code : Code) (bytes : List ℕ) (updates : List (ℕ × ℕ))
+    → EndsIn (standings.Began order) (found_verdict bytes updates) (Ended code) → code ≡ due_code bytes updates
+short_code order code bytes updates e =
+    by (nat_lt (slice_index bytes 0) (greatest updates)) (nat_lt (greatest updates) 0x13) (has_format bytes) e
   where
-    by : (short low format : Bool) → EndsIn (standings.Began order) (if short then verdicts.Short else (if low then verdicts.MayOpen else (if format then verdicts.MayOpen else verdicts.Format))) (Ended code)
-        → code ≡ (if short then codes.Short else (if low then codes.Done else (if format then codes.Done else codes.Format)))
-    by true low format e = cc
-    by false true format e = cc
-    by false false true e = cc
-    by false false false e = cc
+    by : (short low format : Bool)
+        → EndsIn (standings.Began order) (if short
+        then verdicts.Short
+        else (if low then verdicts.MayOpen else (if format then verdicts.MayOpen else verdicts.Format)))
+        (Ended code)
+        → code
+        ≡ (if short then codes.Short else (if low then codes.Done else (if format then codes.Done else codes.Format)))
+    by true low format e = told_code order code verdicts.Short e
+    by false true format e = told_code order code verdicts.MayOpen e
+    by false false true e = told_code order code verdicts.MayOpen e
+    by false false false e = told_code order code verdicts.Format e
 
 -- where the order may be opened, it is to be done
-open_due : (bytes : List ℕ) (updates : List (ℕ × ℕ)) → verdicts.MayOpen ≡ found_verdict bytes updates → due_code bytes updates ≡ codes.Done
-open_due bytes updates e = by (nat_lt (slice_index bytes 0) (greatest updates)) (nat_lt (greatest updates) 0x13) (has_format bytes) e
+open_due : (bytes : List ℕ) (updates : List (ℕ × ℕ)) → verdicts.MayOpen ≡ found_verdict bytes updates
+    → due_code bytes updates ≡ codes.Done
+open_due bytes updates e =
+    by (nat_lt (slice_index bytes 0) (greatest updates)) (nat_lt (greatest updates) 0x13) (has_format bytes) e
   where
-    by : (short low format : Bool) → verdicts.MayOpen ≡ (if short then verdicts.Short else (if low then verdicts.MayOpen else (if format then verdicts.MayOpen else verdicts.Format)))
-        → (if short then codes.Short else (if low then codes.Done else (if format then codes.Done else codes.Format))) ≡ codes.Done
+    by : (short low format : Bool)
+        → verdicts.MayOpen
+        ≡ (if short
+        then verdicts.Short
+        else (if low then verdicts.MayOpen else (if format then verdicts.MayOpen else verdicts.Format)))
+        → (if short then codes.Short else (if low then codes.Done else (if format then codes.Done else codes.Format)))
+        ≡ codes.Done
     by true low format e = cc
     by false true format e = refl
     by false false true e = refl
     by false false false e = cc
 
-done_code : (code : Code) → Ended code ≡ Ended codes.Done → code ≡ codes.Done
-done_code code e = cc
+done_code : (order : Contents) (code : Code) → EndsIn (standings.Opened order) verdicts.Done (Ended code)
+    → code ≡ codes.Done
+done_code order codes.Done ends = refl
+done_code order _ ends = let is = ends.1 in cc
 
 -- a fresh session after the left unit was closed
-record Looked (order : Contents) (bank : BankState) (verdict : Verdict) (sent : List Exchange) (last : SimState) (lost : ℕ) : Type 0 where
+record Looked (order : Contents) (bank : BankState) (verdict : Verdict) (sent : List Exchange) (last : SimState)
+    (lost : ℕ) : Type 0 where
   verdict_is : verdict ≡ found_verdict bank.bytes order.updates
   now : UnitState
   alone : IsAlone order.unit now last.units
   like : OnlyDiffers bank 2 now.bank1
   few : misses_in sent ≤ lost
 
-looked : (first : Standing) (order : Contents) (bank : BankState) (verdict : Verdict) (sent told older : List Exchange) (begun last : SimState) (run : SimRun sent begun last) → is_at_work first ≡ false
-    → Onset (named_unit first) order.unit bank begun → Unrefused sent begun last run → losses_to order.unit (named_unit first) sent begun last run < most_tries
-    → sent ≡ told ++ older → Wants order.unit (read_length order.updates) told (asks.Ended verdict) → ClosedBy first older
+looked : (first : Standing) (order : Contents) (bank : BankState) (verdict : Verdict) (sent told older : List Exchange)
+    (begun last : SimState) (run : SimRun sent begun last)
+    → is_at_work first ≡ false
+    → Onset (named_unit first) order.unit bank begun → Unrefused sent begun last run
+    → losses_to order.unit (named_unit first) sent begun last run < most_tries
+    → sent ≡ told ++ older → Wants order.unit (read_length order.updates) told (asks.Ended verdict)
+    → ClosedBy first older
     → Looked order bank verdict sent last (losses_to order.unit (named_unit first) sent begun last run)
 looked first order bank verdict sent told older begun last run idle onset kind few same wants closed =
     let two = halves order.unit (named_unit first) sent told older begun last run same in
@@ -283,8 +257,11 @@ looked first order bank verdict sent told older begun last run idle onset kind f
     let kinds = two.kinds kind in
     let clear = cleared first order.unit bank older begun two.mid two.before idle onset closed kinds.0 (omega arith) in
     let own = own_losses order.unit (named_unit first) told two.mid last two.after in
-    let spared : Spared order.unit clear.now told two.mid last = record { run = two.after; alone = clear.alone; kind = kinds.1; few = omega arith } in
-    let end = gone (λ now. now ≡ clear.now.bank1) (found_verdict clear.now.bank1.bytes order.updates) verdict order.unit (read_length order.updates) clear.now told older two.mid last spared
+    let spared : Spared order.unit clear.now told two.mid last =
+    record { run = two.after; alone = clear.alone; kind = kinds.1; few = omega arith } in
+    let end =
+    gone (λ now. now ≡ clear.now.bank1) (found_verdict clear.now.bank1.bytes order.updates) verdict order.unit
+    (read_length order.updates) clear.now told older two.mid last spared
     (fresh_goes order.updates clear.now.bank1 (like_bank bank clear.now.bank1 clear.like onset.whole)) wants in
     let count = end.1 in
     let less = end.2.few in
@@ -294,39 +271,56 @@ looked first order bank verdict sent told older begun last run idle onset kind f
       verdict_is = end.2.ends ∙ like_found bank clear.now.bank1 order.updates clear.like;
       now = end.2.now;
       alone = end.2.alone;
-      like = subst (λ (b : BankState). OnlyDiffers bank 2 b) {y = end.2.now.bank1} (sym {a = end.2.now.bank1} end.2.bank) clear.like;
+      like =
+          subst (λ (b : BankState). OnlyDiffers bank 2 b) {y = end.2.now.bank1}
+          (sym {a = end.2.now.bank1} end.2.bank) clear.like;
       few = omega arith;
     }
 
 -- the end of an order that loses little
-pub spared_end : (first : Standing) (order : Contents) (code : Code) (bank : BankState) (sent : List Exchange) (begun last : SimState) (run : SimRun sent begun last) → is_at_work first ≡ false
-    → Onset (named_unit first) order.unit bank begun → RisesAbove 0 order.updates → Unrefused sent begun last run → losses_to order.unit (named_unit first) sent begun last run < most_tries
+pub spared_end : (first : Standing) (order : Contents) (code : Code) (bank : BankState) (sent : List Exchange)
+    (begun last : SimState) (run : SimRun sent begun last)
+    → is_at_work first ≡ false
+    → Onset (named_unit first) order.unit bank begun → RisesAbove 0 order.updates → Unrefused sent begun last run
+    → losses_to order.unit (named_unit first) sent begun last run < most_tries
     → (due_code bank.bytes order.updates ≡ codes.Done → TakesAll bank order.updates) → EndedBy first order code sent
-    → (code ≡ due_code bank.bytes order.updates) × (misses_in sent ≤ losses_to order.unit (named_unit first) sent begun last run)
-spared_end first order code bank sent begun last run idle onset rises kind few takes (verdict, told, older, same, inl (ends, wants, closed)) =
+    → (code ≡ due_code bank.bytes order.updates)
+    × (misses_in sent ≤ losses_to order.unit (named_unit first) sent begun last run)
+spared_end first order code bank sent begun last run idle onset rises kind few takes
+    (verdict, told, older, same, inl (ends, wants, closed)) =
     let look = looked first order bank verdict sent told older begun last run idle onset kind few same wants closed in
     let is : EndsIn (standings.Began order) (found_verdict bank.bytes order.updates) (Ended code) =
     subst (λ (v : Verdict). EndsIn (standings.Began order) v (Ended code)) look.verdict_is ends in
     (short_code order code bank.bytes order.updates is, look.few)
-spared_end first order code bank sent begun last run idle onset rises kind few takes (verdict, told, older, same, inr (ends, wants, opened)) =
+spared_end first order code bank sent begun last run idle onset rises kind few takes
+    (verdict, told, older, same, inr (ends, wants, opened)) =
     let two = halves order.unit (named_unit first) sent told older begun last run same in
     let sum = two.sum in
     let kinds = two.kinds kind in
     let check = checked first idle opened in
-    let look = looked first order bank verdicts.MayOpen older check.0 check.1 begun two.mid two.before idle onset kinds.0 (omega arith) check.2 check.3 check.4 in
+    let look =
+    looked first order bank verdicts.MayOpen older check.0 check.1 begun two.mid two.before idle onset kinds.0
+    (omega arith) check.2 check.3 check.4 in
     let due = open_due bank.bytes order.updates look.verdict_is in
     let own = own_losses order.unit (named_unit first) told two.mid last two.after in
-    let spared : Spared order.unit look.now told two.mid last = record { run = two.after; alone = look.alone; kind = kinds.1; few = omega arith } in
+    let spared : Spared order.unit look.now told two.mid last =
+    record { run = two.after; alone = look.alone; kind = kinds.1; few = omega arith } in
     let least = onset.whole.least in
     let long = look.like.lengths in
-    let end = gone (λ now. Unit {0}) verdicts.Done verdict order.unit (unlock order.updates) look.now told older two.mid last spared
-    (unlock_goes order.updates look.now.bank1 rises (omega arith) (like_takes bank look.now.bank1 order.updates look.like (takes due))) wants in
+    let end =
+    gone (λ now. Unit {0}) verdicts.Done verdict order.unit (unlock order.updates) look.now told older two.mid
+    last spared
+    (unlock_goes order.updates look.now.bank1 rises (omega arith)
+    (like_takes bank look.now.bank1 order.updates look.like (takes due)))
+    wants in
     let count = end.1 in
     let less = end.2.few in
     let before = look.few in
-    let all : misses_in sent ≡ misses_in (told ++ older) = ap misses_in same in
-    let done : Ended code ≡ Ended codes.Done = subst (λ (v : Verdict). EndsIn (standings.Opened order) v (Ended code)) end.2.ends ends in
-    (done_code code done ∙ sym due, omega arith)
+    let all : misses_in sent ≡ misses_in (told ++ older) = ap misses_in same in (
+      done_code order code (subst (λ (v : Verdict). EndsIn (standings.Opened order) v (Ended code)) end.2.ends ends)
+          ∙ sym due,
+      omega arith,
+    )
   where
     checked : (first : Standing) → is_at_work first ≡ false → OpenedBy first order older → CheckedBy first order older
     checked standings.Idle idle opened = opened
@@ -335,8 +329,11 @@ spared_end first order code bank sent begun last run idle onset rises kind few t
     checked (standings.Opened other) idle opened = cc
 
 -- a left unit that loses little is closed
-spared_closed : (first : Standing) (left unit : ℕ) (bank : BankState) (sent : List Exchange) (begun last : SimState) (run : SimRun sent begun last) → first ≡ standings.Left left
-    → Onset (named_unit first) unit bank begun → Unrefused sent begun last run → losses_to unit (named_unit first) sent begun last run < most_tries
+spared_closed : (first : Standing) (left unit : ℕ) (bank : BankState) (sent : List Exchange) (begun last : SimState)
+    (run : SimRun sent begun last)
+    → first ≡ standings.Left left
+    → Onset (named_unit first) unit bank begun → Unrefused sent begun last run
+    → losses_to unit (named_unit first) sent begun last run < most_tries
     → Wants left (close verdicts.Closed verdicts.NotClosed) sent (asks.Ended verdicts.NotClosed) → ⊥
 spared_closed standings.Idle left unit bank sent begun last run at onset kind few wants = cc
 spared_closed (standings.Began order) left unit bank sent begun last run at onset kind few wants = cc
@@ -344,13 +341,20 @@ spared_closed (standings.Opened order) left unit bank sent begun last run at ons
 spared_closed (standings.Left other) left unit bank sent begun last run at onset kind few wants =
     let same : other ≡ left = cc in
     let there = onset.left_has left (ap Some same) in
-    let at_left = alone_with left there.0 begun.units onset.apart (λ address elsewhere. onset.only address (λ is. elsewhere (let one : other ≡ address = cc in sym one ∙ same))) there.1 in
+    let at_left =
+    alone_with left there.0 begun.units onset.apart
+    (λ address elsewhere. onset.only address (λ is. elsewhere (let one : other ≡ address = cc in sym one ∙ same)))
+    there.1 in
     let lost = left_losses unit other sent begun last run in
     let whole : IsBank at_left.0.bank1.bytes = subst (λ (b : BankState). IsBank b.bytes) (sym at_left.2) there.2 in
     let least = whole.least in
-    let lost_here : losses left sent begun last run ≤ losses_to unit (Some other) sent begun last run = subst (λ (l : ℕ). losses l sent begun last run ≤ losses_to unit (Some other) sent begun last run) same lost in
-    let spared : Spared left at_left.0 sent begun last = record { run = run; alone = at_left.1; kind = kind; few = omega arith } in
-    let end = gone (OnlyDiffers at_left.0.bank1 2) verdicts.Closed verdicts.NotClosed left (close verdicts.Closed verdicts.NotClosed) at_left.0 sent [] begun last spared
+    let lost_here : losses left sent begun last run ≤ losses_to unit (Some other) sent begun last run =
+    subst (λ (l : ℕ). losses l sent begun last run ≤ losses_to unit (Some other) sent begun last run) same lost in
+    let spared : Spared left at_left.0 sent begun last =
+    record { run = run; alone = at_left.1; kind = kind; few = omega arith } in
+    let end =
+    gone (OnlyDiffers at_left.0.bank1 2) verdicts.Closed verdicts.NotClosed left
+    (close verdicts.Closed verdicts.NotClosed) at_left.0 sent [] begun last spared
     (closing_goes at_left.0.bank1 (omega arith)) wants in
     let never = end.2.ends in cc
 
@@ -359,40 +363,60 @@ spared_closed (standings.Left other) left unit bank sent begun last run at onset
 same_order : (one other : Contents) (hand : Option Contents) → hand ≡ Some one → hand ≡ Some other → one ≡ other
 same_order one other hand is also = let both : Some one ≡ Some other = sym is ∙ also in cc
 
-pub blocked_never : (first now : Standing) (waiter : Option Contents) (ended : Bool) (orders : List (Contents × Stage)) (sent told : List Exchange) (kept id left : ℕ) → now ≡ standings.Left left
-    → HasNumber id waiter → Asks now told (asks.Ended verdicts.NotClosed) → HasCome first now waiter ended orders sent told kept
-    → (first ≡ standings.Left left) × Wants left (close verdicts.Closed verdicts.NotClosed) sent (asks.Ended verdicts.NotClosed)
+pub blocked_never : (first now : Standing) (waiter : Option Contents) (ended : Bool) (orders : List (Contents × Stage))
+    (sent told : List Exchange) (kept id left : ℕ)
+    → now ≡ standings.Left left
+    → HasNumber id waiter → Asks now told (asks.Ended verdicts.NotClosed)
+    → HasCome first now waiter ended orders sent told kept
+    → (first ≡ standings.Left left)
+    × Wants left (close verdicts.Closed verdicts.NotClosed) sent (asks.Ended verdicts.NotClosed)
 blocked_never first (standings.Left other) (Some order) ended orders sent told kept id left at number asked come =
     let same : other ≡ left = cc in (
       come.0 ∙ at,
       subst (λ (l : ℕ). Wants l (close verdicts.Closed verdicts.NotClosed) sent (asks.Ended verdicts.NotClosed)) same
-          (subst (λ (t : List Exchange). Wants other (close verdicts.Closed verdicts.NotClosed) t (asks.Ended verdicts.NotClosed)) (sym come.1) asked),
+          (subst (λ (t : List Exchange).
+          Wants other (close verdicts.Closed verdicts.NotClosed) t (asks.Ended verdicts.NotClosed))
+          (sym come.1) asked),
     )
 blocked_never first (standings.Left other) None ended orders sent told kept id left at number asked come = absurd number
 blocked_never first standings.Idle waiter ended orders sent told kept id left at number asked come = absurd asked
 blocked_never first (standings.Began order) waiter ended orders sent told kept id left at number asked come = cc
 blocked_never first (standings.Opened order) waiter ended orders sent told kept id left at number asked come = cc
 
-pub kept_spared : (start : Start) (past : List Happening) (id : ℕ) (code : Code) (state : SimState) (states : List SimState) → Legal start past → ByPlan start past → MaySay start past id (replies.Kept code)
-    → Since past state states → (order : Contents) (bank : BankState) → order_at_hand start past ≡ Some order → AreUpdates order.updates → is_at_work (stood_at start past) ≡ false
-    → Onset (named_unit (stood_at start past)) order.unit bank (state_at_start past state states) → UnrefusedSince past states
-    → losses_since order.unit (named_unit (stood_at start past)) past states < most_tries → (due_code bank.bytes order.updates ≡ codes.Done → TakesAll bank order.updates)
-    → (replies.Kept code ≡ replies.Kept (due_code bank.bytes order.updates)) × (misses_in (sent_since_taken past) ≤ losses_since order.unit (named_unit (stood_at start past)) past states)
+pub kept_spared : (start : Start) (past : List Happening) (id : ℕ) (code : Code) (state : SimState)
+    (states : List SimState)
+    → Legal start past → ByPlan start past → MaySay start past id (replies.Kept code)
+    → Since past state states → (order : Contents) (bank : BankState) → order_at_hand start past ≡ Some order
+    → AreUpdates order.updates → is_at_work (stood_at start past) ≡ false
+    → Onset (named_unit (stood_at start past)) order.unit bank (state_at_start past state states)
+    → UnrefusedSince past states
+    → losses_since order.unit (named_unit (stood_at start past)) past states < most_tries
+    → (due_code bank.bytes order.updates ≡ codes.Done → TakesAll bank order.updates)
+    → (replies.Kept code ≡ replies.Kept (due_code bank.bytes order.updates))
+    × (misses_in (sent_since_taken past) ≤ losses_since order.unit (named_unit (stood_at start past)) past states)
 kept_spared start past id code state states legal planned may since order bank hand valid idle onset kind few takes =
     let said = said_end start past id code legal planned may in
     let same = same_order said.0 order (order_at_hand start past) said.2 hand in
-    let ended : EndedBy (stood_at start past) order code (sent_since_taken past) = subst (λ (o : Contents). EndedBy (stood_at start past) o code (sent_since_taken past)) same said.3 in
+    let ended : EndedBy (stood_at start past) order code (sent_since_taken past) =
+    subst (λ (o : Contents). EndedBy (stood_at start past) o code (sent_since_taken past)) same said.3 in
     let count = since.losses order.unit (named_unit (stood_at start past)) in
-    let end = spared_end (stood_at start past) order code bank (sent_since_taken past) (state_at_start past state states) state since.run idle onset valid.rising (since.kind kind) (omega arith) takes ended in
+    let end =
+    spared_end (stood_at start past) order code bank (sent_since_taken past) (state_at_start past state states) state
+    since.run idle onset valid.rising (since.kind kind) (omega arith) takes ended in
     let less = end.1 in
     (ap replies.Kept end.0, omega arith)
 
-pub blocked_spared : (start : Start) (past : List Happening) (id left : ℕ) (state : SimState) (states : List SimState) → Legal start past → ByPlan start past → MaySay start past id (replies.Blocked left)
-    → IsPlanned start past (Answered id (replies.Blocked left)) → Since past state states → (unit : ℕ) (bank : BankState)
+pub blocked_spared : (start : Start) (past : List Happening) (id left : ℕ) (state : SimState) (states : List SimState)
+    → Legal start past → ByPlan start past → MaySay start past id (replies.Blocked left)
+    → IsPlanned start past (Answered id (replies.Blocked left)) → Since past state states
+    → (unit : ℕ) (bank : BankState)
     → Onset (named_unit (stood_at start past)) unit bank (state_at_start past state states) → UnrefusedSince past states
     → losses_since unit (named_unit (stood_at start past)) past states < most_tries → ⊥
 blocked_spared start past id left state states legal planned may asked since unit bank onset kind few =
-    let never = blocked_never (stood_at start past) (standing_at start past) (waiting past) (has_ended past) (orders_of (records_of start past)) (sent_since_taken past) (told_in past) (kept_since past)
+    let never =
+    blocked_never (stood_at start past) (standing_at start past) (waiting past) (has_ended past)
+    (orders_of (records_of start past)) (sent_since_taken past) (told_in past) (kept_since past)
     id left may.0 may.1 asked (on_course start past legal planned) in
     let count = since.losses unit (named_unit (stood_at start past)) in
-    spared_closed (stood_at start past) left unit bank (sent_since_taken past) (state_at_start past state states) state since.run never.0 onset (since.kind kind) (omega arith) never.1
+    spared_closed (stood_at start past) left unit bank (sent_since_taken past) (state_at_start past state states) state
+    since.run never.0 onset (since.kind kind) (omega arith) never.1

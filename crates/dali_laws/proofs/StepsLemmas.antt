@@ -1,5 +1,6 @@
 -- Steps lead to what is said of an order.
-use Rattle.std.proofs.Common.{◌≡◌, ◌⊎◌, inl, inr, refl, sym, ap, ◌∙◌, subst, ℕ, suc, ◌+◌, ◌≤◌, Bool, true, false, ◌||◌, List, [], ◌∷◌, ◌++◌, length, Option, Some, None, IfSome, IsSome, arith}
+use Rattle.std.proofs.Common.{◌≡◌, ◌⊎◌, inl, inr, refl, sym, ap, ◌∙◌, subst, ℕ, suc, ◌+◌, ◌≤◌, Bool, true, false, ◌||◌}
+use Rattle.std.proofs.Common.{List, [], ◌∷◌, ◌++◌, length, Option, Some, None, IfSome, IsSome, arith}
 use Rattle.dali_bank.specs.Order.{Contents}
 use Rattle.dali_journal.specs.declared.record.Code.{Code}
 use Rattle.dali_journal.specs.declared.record.Record.{Record}
@@ -16,21 +17,25 @@ use Rattle.dali_trace.specs.declared.happening.Reply.{Reply}
 use Rattle.dali_trace.specs.declared.happening.Reply.TheVariants as replies
 use Rattle.dali_trace.specs.declared.happening.Happening.{Happening}
 use Rattle.dali_trace.specs.declared.happening.Happening.TheVariants.{Asked, Answered, Sent, Kept, Stopped}
-use Rattle.dali_trace.specs.Trace.{Start, records_of, standing_at, sent_since_taken, waiting, has_ended, is_unsaid, is_at_work, is_busy}
+use Rattle.dali_trace.specs.Trace.{Start, records_of, standing_at, sent_since_taken, waiting, has_ended, is_unsaid}
+use Rattle.dali_trace.specs.Trace.{is_at_work, is_busy, course_of}
 use Rattle.dali_trace.specs.Legal.{Legal, MaySay, HasNumber, IsFinished}
 use Rattle.dali_trace.specs.ByPlan.{ByPlan}
 use Rattle.dali_trace.specs.Parts.{IsWork, Part, AreParts}
 use Rattle.dali_trace.specs.Work.{stood_at, kept_since, work_limit, order_at, order_at_hand, IsWithinLimit}
 use Rattle.dali_trace.specs.Steps.{steps_in, NoneStops, IsSaid, PartsSince, IsSaidInTime, SaysInTime}
-use Rattle.dali_laws.proofs.TakenLemmas.{waits, ended_unsaid}
+use Rattle.dali_laws.proofs.TakenLemmas.{ended_unsaid, waits_unsaid}
 use Rattle.dali_laws.proofs.MomentLemmas.{may_keep}
 use Rattle.dali_laws.proofs.StandingLemmas.{begun_order, open_order}
 use Rattle.dali_laws.proofs.CourseLemmas.{idle_next}
 use Rattle.dali_laws.proofs.WorkLemmas.{within_limit, said_end}
 
 -- while an order is at hand the trace is busy
-at_hand_busy : (now : Standing) (waiter : Option Contents) (ended unsaid : Bool) (orders : List (Contents × Stage)) (order : Contents) → order_at now waiter ended orders ≡ Some order
-    → ((o : Contents) → waiter ≡ Some o → unsaid ≡ true) → (ended ≡ true → unsaid ≡ true) → (is_at_work now || unsaid) ≡ true
+at_hand_busy : (now : Standing) (waiter : Option Contents) (ended unsaid : Bool) (orders : List (Contents × Stage))
+    (order : Contents)
+    → order_at now waiter ended orders ≡ Some order
+    → ((o : Contents) → waiter ≡ Some o → unsaid ≡ true) → (ended ≡ true → unsaid ≡ true)
+    → (is_at_work now || unsaid) ≡ true
 at_hand_busy (standings.Began other) waiter ended unsaid orders order hand one two = refl
 at_hand_busy (standings.Opened other) waiter ended unsaid orders order hand one two = refl
 at_hand_busy standings.Idle (Some other) ended unsaid orders order hand one two = one other refl
@@ -40,28 +45,37 @@ at_hand_busy (standings.Left unit) None true unsaid orders order hand one two = 
 at_hand_busy standings.Idle None false unsaid orders order hand one two = cc
 at_hand_busy (standings.Left unit) None false unsaid orders order hand one two = cc
 
-busy : (start : Start) (past : List Happening) (order : Contents) → Legal start past → order_at_hand start past ≡ Some order → is_busy start past ≡ true
+busy : (start : Start) (past : List Happening) (order : Contents) → Legal start past
+    → order_at_hand start past ≡ Some order → is_busy start past ≡ true
 busy start past order legal hand =
-    at_hand_busy (standing_at start past) (waiting past) (has_ended past) (is_unsaid past) (orders_of (records_of start past)) order hand
-    (λ o waits_is. (waits start past o legal waits_is).unsaid) (ended_unsaid past)
+    at_hand_busy (standing_at start past) (waiting past) (has_ended past) (is_unsaid past)
+    (orders_of (records_of start past)) order hand
+    (λ o waits_is. waits_unsaid (course_of past) o waits_is) (ended_unsaid (course_of past))
 
 -- a record leaves the order at hand
-still_opened : (now : Standing) (unit : ℕ) (waiter : Option Contents) (ended : Bool) (orders others : List (Contents × Stage)) (order : Contents) → Allows now (Opened unit)
-    → order_at now waiter ended orders ≡ Some order → order_at (next_standing now (Opened unit)) waiter false others ≡ Some order
+still_opened : (now : Standing) (unit : ℕ) (waiter : Option Contents) (ended : Bool)
+    (orders others : List (Contents × Stage)) (order : Contents)
+    → Allows now (Opened unit)
+    → order_at now waiter ended orders ≡ Some order
+    → order_at (next_standing now (Opened unit)) waiter ended others ≡ Some order
 still_opened (standings.Began other) unit waiter ended orders others order allowed hand = hand
 still_opened standings.Idle unit waiter ended orders others order allowed hand = absurd allowed
 still_opened (standings.Opened other) unit waiter ended orders others order allowed hand = absurd allowed
 still_opened (standings.Left left) unit waiter ended orders others order allowed hand = absurd allowed
 
-still_closed : (now : Standing) (unit : ℕ) (waiter : Option Contents) (ended : Bool) (orders : List (Contents × Stage)) (order : Contents) → Allows now (Closed unit) → IsSome waiter
-    → order_at now waiter ended orders ≡ Some order → order_at standings.Idle waiter false orders ≡ Some order
+still_closed : (now : Standing) (unit : ℕ) (waiter : Option Contents) (ended : Bool) (orders : List (Contents × Stage))
+    (order : Contents)
+    → Allows now (Closed unit) → IsSome waiter
+    → order_at now waiter ended orders ≡ Some order → order_at standings.Idle waiter ended orders ≡ Some order
 still_closed (standings.Left left) unit (Some other) ended orders order allowed some hand = hand
 still_closed (standings.Left left) unit None ended orders order allowed some hand = cc
 still_closed standings.Idle unit waiter ended orders order allowed some hand = absurd allowed
 still_closed (standings.Began other) unit waiter ended orders order allowed some hand = absurd allowed
 still_closed (standings.Opened other) unit waiter ended orders order allowed some hand = absurd allowed
 
-still_began : (now : Standing) (begun : Contents) (waiter : Option Contents) (ended : Bool) (orders : List (Contents × Stage)) (order : Contents) → Allows now (Began begun) → waiter ≡ Some begun
+still_began : (now : Standing) (begun : Contents) (waiter : Option Contents) (ended : Bool)
+    (orders : List (Contents × Stage)) (order : Contents)
+    → Allows now (Began begun) → waiter ≡ Some begun
     → order_at now waiter ended orders ≡ Some order → Some begun ≡ Some order
 still_began standings.Idle begun (Some other) ended orders order allowed is hand = sym is ∙ hand
 still_began standings.Idle begun None ended orders order allowed is hand = cc
@@ -69,69 +83,78 @@ still_began (standings.Began other) begun waiter ended orders order allowed is h
 still_began (standings.Opened other) begun waiter ended orders order allowed is hand = absurd allowed
 still_began (standings.Left left) begun waiter ended orders order allowed is hand = absurd allowed
 
-newest_is : (next : Standing) (order : Contents) (stage : Stage) (older : List (Contents × Stage)) → is_at_work next ≡ false → order_at next None true ((order, stage) ∷ older) ≡ Some order
+newest_is : (next : Standing) (order : Contents) (stage : Stage) (older : List (Contents × Stage))
+    → is_at_work next ≡ false → order_at next None true ((order, stage) ∷ older) ≡ Some order
 newest_is standings.Idle order stage older idle = refl
 newest_is (standings.Left unit) order stage older idle = refl
 newest_is (standings.Began other) order stage older idle = cc
 newest_is (standings.Opened other) order stage older idle = cc
 
-still_ended : (now : Standing) (records : List Record) (code : Code) (waiter : Option Contents) (ended : Bool) (order : Contents) → standing_of records ≡ now → Allows now (Ended code)
-    → waiter ≡ None → order_at now waiter ended (orders_of records) ≡ Some order → order_at (next_standing now (Ended code)) waiter true (come_to (stages.Ended code) (orders_of records)) ≡ Some order
-still_ended standings.Idle records code waiter ended order at allowed none hand = absurd allowed
-still_ended (standings.Left unit) records code waiter ended order at allowed none hand = absurd allowed
-still_ended now records code (Some other) ended order at allowed none hand = cc
-still_ended (standings.Began begun) records code None ended order at allowed none hand =
+still_ended : (now : Standing) (records : List Record) (code : Code) (waiter : Option Contents) (ended : Bool)
+    (order : Contents)
+    → standing_of records ≡ now → Allows now (Ended code)
+    → order_at now waiter ended (orders_of records) ≡ Some order
+    → order_at (next_standing now (Ended code)) None true (come_to (stages.Ended code) (orders_of records)) ≡ Some order
+still_ended standings.Idle records code waiter ended order at allowed hand = absurd allowed
+still_ended (standings.Left unit) records code waiter ended order at allowed hand = absurd allowed
+still_ended (standings.Began begun) records code waiter ended order at allowed hand =
     let newest = begun_order records begun at in
-    rw newest.1 (newest_is (next_standing (standings.Began begun) (Ended code)) begun (stages.Ended code) newest.0 (idle_next (standings.Began begun) code allowed) ∙ hand)
-still_ended (standings.Opened opened) records code None ended order at allowed none hand =
+    rw newest.1 (newest_is (next_standing (standings.Began begun) (Ended code)) begun (stages.Ended code) newest.0
+    (idle_next (standings.Began begun) code allowed)
+    ∙ hand)
+still_ended (standings.Opened opened) records code waiter ended order at allowed hand =
     let newest = open_order records opened at in
-    rw newest.1 (newest_is (next_standing (standings.Opened opened) (Ended code)) opened (stages.Ended code) newest.0 (idle_next (standings.Opened opened) code allowed) ∙ hand)
+    rw newest.1 (newest_is (next_standing (standings.Opened opened) (Ended code)) opened (stages.Ended code) newest.0
+    (idle_next (standings.Opened opened) code allowed)
+    ∙ hand)
 
-ends_at_work : (now : Standing) (code : Code) → Allows now (Ended code) → is_at_work now ≡ true
-ends_at_work (standings.Began order) code allowed = refl
-ends_at_work (standings.Opened order) code allowed = refl
-ends_at_work standings.Idle code allowed = absurd allowed
-ends_at_work (standings.Left unit) code allowed = absurd allowed
-
-still_kept : (start : Start) (past : List Happening) (entry : Record) (order : Contents) → Legal start (Kept entry ∷ past) → order_at_hand start past ≡ Some order
+still_kept : (start : Start) (past : List Happening) (entry : Record) (order : Contents)
+    → Legal start (Kept entry ∷ past) → order_at_hand start past ≡ Some order
     → order_at_hand start (Kept entry ∷ past) ≡ Some order
 still_kept start past (Began begun) order legal hand =
     let may = may_keep start past (Began begun) legal.1 in
-    still_began (standing_at start past) begun (waiting past) (has_ended past) (orders_of (records_of start past)) order may.sentence.1 may.due hand
+    still_began (standing_at start past) begun (waiting past) (has_ended past) (orders_of (records_of start past)) order
+    may.whole.0.1 may.due hand
 still_kept start past (Opened unit) order legal hand =
     let may = may_keep start past (Opened unit) legal.1 in
-    still_opened (standing_at start past) unit (waiting past) (has_ended past) (orders_of (records_of start past)) (orders_of (Opened unit ∷ records_of start past)) order may.sentence.1 hand
+    still_opened (standing_at start past) unit (waiting past) (has_ended past) (orders_of (records_of start past))
+    (orders_of (Opened unit ∷ records_of start past)) order may.whole.0.1 hand
 still_kept start past (Closed unit) order legal hand =
     let may = may_keep start past (Closed unit) legal.1 in
-    still_closed (standing_at start past) unit (waiting past) (has_ended past) (orders_of (records_of start past)) order may.sentence.1 may.due.0 hand
+    still_closed (standing_at start past) unit (waiting past) (has_ended past) (orders_of (records_of start past)) order
+    may.whole.0.1 may.due.0 hand
 still_kept start past (Ended code) order legal hand =
     let may = may_keep start past (Ended code) legal.1 in
-    still_ended (standing_at start past) (records_of start past) code (waiting past) (has_ended past) order refl may.sentence.1 (none_waits (waiting past) refl) hand
-  where
-    none_waits : (waiter : Option Contents) → waiting past ≡ waiter → waiting past ≡ None
-    none_waits None e = e
-    none_waits (Some other) e =
-        let idle = (waits start past other legal.0 e).idle in
-        let working = ends_at_work (standing_at start past) code (may_keep start past (Ended code) legal.1).sentence.1 in cc
+    still_ended (standing_at start past) (records_of start past) code (waiting past) (has_ended past) order refl
+    may.whole.0.1 hand
 
 -- a saying is of the order at hand
-same_number : (one other : Contents) (id : ℕ) (hand : Option Contents) → hand ≡ Some one → hand ≡ Some other → one.id ≡ id → id ≡ other.id
-same_number one other id hand is also number = let both : Some one ≡ Some other = sym is ∙ also in let same : one ≡ other = cc in sym number ∙ ap (λ (o : Contents). o.id) same
+same_number : (one other : Contents) (id : ℕ) (hand : Option Contents) → hand ≡ Some one → hand ≡ Some other
+    → one.id ≡ id → id ≡ other.id
+same_number one other id hand is also number =
+    let both : Some one ≡ Some other = sym is ∙ also in
+    let same : one ≡ other = cc in sym number ∙ ap (λ (o : Contents). o.id) same
 
-blocked_number : (now : Standing) (waiter : Option Contents) (ended : Bool) (orders : List (Contents × Stage)) (unit id : ℕ) (order : Contents) → now ≡ standings.Left unit
+blocked_number : (now : Standing) (waiter : Option Contents) (ended : Bool) (orders : List (Contents × Stage))
+    (unit id : ℕ) (order : Contents)
+    → now ≡ standings.Left unit
     → HasNumber id waiter → order_at now waiter ended orders ≡ Some order → id ≡ order.id
-blocked_number (standings.Left left) (Some other) ended orders unit id order at number hand = let same : other ≡ order = cc in sym number ∙ ap (λ (o : Contents). o.id) same
+blocked_number (standings.Left left) (Some other) ended orders unit id order at number hand =
+    let same : other ≡ order = cc in sym number ∙ ap (λ (o : Contents). o.id) same
 blocked_number (standings.Left left) None ended orders unit id order at number hand = absurd number
 blocked_number standings.Idle waiter ended orders unit id order at number hand = cc
 blocked_number (standings.Began other) waiter ended orders unit id order at number hand = cc
 blocked_number (standings.Opened other) waiter ended orders unit id order at number hand = cc
 
-said_number : (start : Start) (past : List Happening) (id : ℕ) (reply : Reply) (order : Contents) → Legal start past → ByPlan start past → MaySay start past id reply
+said_number : (start : Start) (past : List Happening) (id : ℕ) (reply : Reply) (order : Contents) → Legal start past
+    → ByPlan start past → MaySay start past id reply
     → order_at_hand start past ≡ Some order → id ≡ order.id
 said_number start past id (replies.Kept code) order legal planned may hand =
-    let said = said_end start past id code legal planned may in same_number said.0 order id (order_at_hand start past) said.2 hand said.1
+    let said = said_end start past id code legal planned may in
+    same_number said.0 order id (order_at_hand start past) said.2 hand said.1
 said_number start past id (replies.Blocked unit) order legal planned may hand =
-    blocked_number (standing_at start past) (waiting past) (has_ended past) (orders_of (records_of start past)) unit id order may.0 may.1 hand
+    blocked_number (standing_at start past) (waiting past) (has_ended past) (orders_of (records_of start past)) unit id
+    order may.0 may.1 hand
 said_number start past id _ order legal planned may hand = absurd may
 
 -- the order was said since the trace before, or it is at hand still, and each step sent a frame or kept a record
@@ -147,12 +170,22 @@ abbrev GoesOn : Start → List Happening → List Happening → Contents → ℕ
 GoesOn start before after order steps = IsSaid start order before after ⊎ IsAtHand start before after order steps
 
 -- what was said stays said
-said_more : (start : Start) (order : Contents) (before after : List Happening) (next : Happening) → IsSaid start order before after → IsSaid start order before (next ∷ after)
+said_more : (start : Start) (order : Contents) (before after : List Happening) (next : Happening)
+    → IsSaid start order before after → IsSaid start order before (next ∷ after)
 said_more start order before after next said =
-    record { later = next ∷ said.later; reply = said.reply; since = said.since; parts = ap (λ (t : List Happening). next ∷ t) said.parts; finished = said.finished; hand = said.hand; start_is = said.start_is }
+    record {
+      later = next ∷ said.later;
+      reply = said.reply;
+      since = said.since;
+      parts = ap (λ (t : List Happening). next ∷ t) said.parts;
+      finished = said.finished;
+      hand = said.hand;
+      start_is = said.start_is;
+    }
 
 -- a saying where no reply is due
-may_say : (start : Start) (past : List Happening) (id : ℕ) (reply : Reply) → IsFinished past → Legal start (Answered id reply ∷ past) → MaySay start past id reply
+may_say : (start : Start) (past : List Happening) (id : ℕ) (reply : Reply) → IsFinished past
+    → Legal start (Answered id reply ∷ past) → MaySay start past id reply
 may_say start [] id reply finished legal = legal.1
 may_say start (Asked order ∷ past) id reply finished legal = absurd finished
 may_say start (Answered other last ∷ past) id reply finished legal = legal.1
@@ -160,21 +193,39 @@ may_say start (Sent frame answer ∷ past) id reply finished legal = legal.1
 may_say start (Kept entry ∷ past) id reply finished legal = legal.1
 may_say start (Stopped ∷ past) id reply finished legal = legal.1
 
-one_step : (start : Start) (before mid : List Happening) (order : Contents) (steps : ℕ) (work : Happening) → IsWork work → Legal start (work ∷ mid) → ByPlan start (work ∷ mid)
+one_step : (start : Start) (before mid : List Happening) (order : Contents) (steps : ℕ) (work : Happening) → IsWork work
+    → Legal start (work ∷ mid) → ByPlan start (work ∷ mid)
     → IsAtHand start before mid order steps → GoesOn start before (work ∷ mid) order (suc steps)
 one_step start before mid order steps (Sent frame answer) is legal planned at =
     let some = at.work in
-    inr (record { more = Sent frame answer ∷ at.more; parts = ap (λ (t : List Happening). Sent frame answer ∷ t) at.parts; finished = tt; hand = at.hand; start_is = at.start_is; work = omega arith })
+    inr (record {
+      more = Sent frame answer ∷ at.more;
+      parts = ap (λ (t : List Happening). Sent frame answer ∷ t) at.parts;
+      finished = tt;
+      hand = at.hand;
+      start_is = at.start_is;
+      work = omega arith;
+    })
 one_step start before mid order steps (Kept entry) is legal planned at =
     let some = at.work in
-    inr (record { more = Kept entry ∷ at.more; parts = ap (λ (t : List Happening). Kept entry ∷ t) at.parts; finished = tt; hand = still_kept start mid entry order legal at.hand; start_is = at.start_is; work = omega arith })
+    inr (record {
+      more = Kept entry ∷ at.more;
+      parts = ap (λ (t : List Happening). Kept entry ∷ t) at.parts;
+      finished = tt;
+      hand = still_kept start mid entry order legal at.hand;
+      start_is = at.start_is;
+      work = omega arith;
+    })
 one_step start before mid order steps (Answered id reply) is legal planned at =
-    let number = said_number start mid id reply order legal.0 planned.0 (may_say start mid id reply at.finished legal) at.hand in
+    let number =
+    said_number start mid id reply order legal.0 planned.0 (may_say start mid id reply at.finished legal) at.hand in
     inl (record {
       later = [];
       reply = reply;
       since = at.more;
-      parts = ap (λ (t : List Happening). Answered id reply ∷ t) at.parts ∙ ap (λ (n : ℕ). Answered n reply ∷ (at.more ++ before)) number;
+      parts =
+          ap (λ (t : List Happening). Answered id reply ∷ t) at.parts
+          ∙ ap (λ (n : ℕ). Answered n reply ∷ (at.more ++ before)) number;
       finished = subst IsFinished at.parts at.finished;
       hand = subst (λ (t : List Happening). order_at_hand start t ≡ Some order) at.parts at.hand;
       start_is = subst (λ (t : List Happening). stood_at start t ≡ stood_at start before) at.parts at.start_is;
@@ -185,97 +236,103 @@ one_step start before mid order steps Stopped is legal planned at = absurd is
 not_idle : {A : Type 0} (b : Bool) → b ≡ true → b ≡ false → A
 not_idle b one two = let both : true ≡ false = sym one ∙ two in cc
 
-after_step : (start : Start) (before mid after : List Happening) (order : Contents) (steps : ℕ) → Part start Step mid after → Legal start after → ByPlan start after
-    → (Legal start mid → ByPlan start mid → GoesOn start before mid order steps) → GoesOn start before after order (suc steps)
+after_step : (start : Start) (before mid after : List Happening) (order : Contents) (steps : ℕ)
+    → Part start Step mid after → Legal start after → ByPlan start after
+    → (Legal start mid → ByPlan start mid → GoesOn start before mid order steps)
+    → GoesOn start before after order (suc steps)
 after_step start before mid after order steps (inl (work_due, (work, is, same))) legal planned rest =
     let legal_now : Legal start (work ∷ mid) = subst (Legal start) same legal in
     let planned_now : ByPlan start (work ∷ mid) = subst (ByPlan start) same planned in
-    subst (λ (t : List Happening). GoesOn start before t order (suc steps)) (sym same) (by legal_now planned_now (rest legal_now.0 planned_now.0))
+    subst (λ (t : List Happening). GoesOn start before t order (suc steps)) (sym same)
+    (by legal_now planned_now (rest legal_now.0 planned_now.0))
   where
-    by : Legal start (work ∷ mid) → ByPlan start (work ∷ mid) → GoesOn start before mid order steps → GoesOn start before (work ∷ mid) order (suc steps)
+    by : Legal start (work ∷ mid) → ByPlan start (work ∷ mid) → GoesOn start before mid order steps
+        → GoesOn start before (work ∷ mid) order (suc steps)
     by legal planned (inl said) = inl (said_more start order before mid work said)
     by legal planned (inr at) = one_step start before mid order steps work is legal planned at
 after_step start before mid after order steps (inr (none_due, same)) legal planned rest =
     let legal_now : Legal start mid = subst (Legal start) same legal in
-    subst (λ (t : List Happening). GoesOn start before t order (suc steps)) (sym same) (by legal_now (rest legal_now (subst (ByPlan start) same planned)))
+    subst (λ (t : List Happening). GoesOn start before t order (suc steps)) (sym same)
+    (by legal_now (rest legal_now (subst (ByPlan start) same planned)))
   where
     by : Legal start mid → GoesOn start before mid order steps → GoesOn start before mid order (suc steps)
     by legal (inl said) = inl said
     by legal (inr at) = not_idle (is_busy start mid) (busy start mid order legal at.hand) none_due
 
-reply_on : (start : Start) (before mid : List Happening) (order asked : Contents) (steps : ℕ) (reply : Reply) → Legal start (Answered asked.id reply ∷ Asked asked ∷ mid)
-    → IsAtHand start before mid order steps → IsAtHand start before (Answered asked.id reply ∷ Asked asked ∷ mid) order steps
-reply_on start before mid order asked steps replies.Taken legal at = not_idle (is_busy start mid) (busy start mid order legal.0.0 at.hand) legal.1.1.1
-reply_on start before mid order asked steps (replies.Kept code) legal at = record {
-  more = Answered asked.id (replies.Kept code) ∷ Asked asked ∷ at.more;
-  parts = ap (λ (t : List Happening). Answered asked.id (replies.Kept code) ∷ Asked asked ∷ t) at.parts;
+reply_on : (start : Start) (before mid : List Happening) (order asked : Contents) (steps : ℕ) (reply : Reply)
+    → Legal start (Answered asked.id reply ∷ Asked asked ∷ mid)
+    → IsAtHand start before mid order steps
+    → IsAtHand start before (Answered asked.id reply ∷ Asked asked ∷ mid) order steps
+reply_on start before mid order asked steps replies.Taken legal at =
+    not_idle (is_busy start mid) (busy start mid order legal.0.0 at.hand) legal.1.1.1
+reply_on start before mid order asked steps reply legal at = record {
+  more = Answered asked.id reply ∷ Asked asked ∷ at.more;
+  parts = ap (λ (t : List Happening). Answered asked.id reply ∷ Asked asked ∷ t) at.parts;
   finished = tt;
   hand = at.hand;
   start_is = at.start_is;
   work = at.work;
 }
-reply_on start before mid order asked steps replies.IdReused legal at = record {
-  more = Answered asked.id replies.IdReused ∷ Asked asked ∷ at.more;
-  parts = ap (λ (t : List Happening). Answered asked.id replies.IdReused ∷ Asked asked ∷ t) at.parts;
-  finished = tt;
-  hand = at.hand;
-  start_is = at.start_is;
-  work = at.work;
-}
-reply_on start before mid order asked steps replies.Busy legal at = record {
-  more = Answered asked.id replies.Busy ∷ Asked asked ∷ at.more;
-  parts = ap (λ (t : List Happening). Answered asked.id replies.Busy ∷ Asked asked ∷ t) at.parts;
-  finished = tt;
-  hand = at.hand;
-  start_is = at.start_is;
-  work = at.work;
-}
-reply_on start before mid order asked steps replies.Full legal at = record {
-  more = Answered asked.id replies.Full ∷ Asked asked ∷ at.more;
-  parts = ap (λ (t : List Happening). Answered asked.id replies.Full ∷ Asked asked ∷ t) at.parts;
-  finished = tt;
-  hand = at.hand;
-  start_is = at.start_is;
-  work = at.work;
-}
-reply_on start before mid order asked steps (replies.Blocked unit) legal at = absurd legal.1.1
 
-after_submit : (start : Start) (before mid after : List Happening) (order asked : Contents) (steps : ℕ) → Part start (Submit asked) mid after → Legal start after → ByPlan start after
+after_submit : (start : Start) (before mid after : List Happening) (order asked : Contents) (steps : ℕ)
+    → Part start (Submit asked) mid after → Legal start after → ByPlan start after
     → (Legal start mid → ByPlan start mid → GoesOn start before mid order steps) → GoesOn start before after order steps
 after_submit start before mid after order asked steps (reply, same) legal planned rest =
     let legal_now : Legal start (Answered asked.id reply ∷ Asked asked ∷ mid) = subst (Legal start) same legal in
     let planned_now : ByPlan start (Answered asked.id reply ∷ Asked asked ∷ mid) = subst (ByPlan start) same planned in
-    subst (λ (t : List Happening). GoesOn start before t order steps) (sym same) (by legal_now (rest legal_now.0.0 planned_now.0.0))
+    subst (λ (t : List Happening). GoesOn start before t order steps) (sym same)
+    (by legal_now (rest legal_now.0.0 planned_now.0.0))
   where
-    by : Legal start (Answered asked.id reply ∷ Asked asked ∷ mid) → GoesOn start before mid order steps → GoesOn start before (Answered asked.id reply ∷ Asked asked ∷ mid) order steps
-    by legal (inl said) = inl (said_more start order before (Asked asked ∷ mid) (Answered asked.id reply) (said_more start order before mid (Asked asked) said))
+    by : Legal start (Answered asked.id reply ∷ Asked asked ∷ mid) → GoesOn start before mid order steps
+        → GoesOn start before (Answered asked.id reply ∷ Asked asked ∷ mid) order steps
+    by legal (inl said) =
+        inl (said_more start order before (Asked asked ∷ mid) (Answered asked.id reply)
+        (said_more start order before mid (Asked asked) said))
     by legal (inr at) = inr (reply_on start before mid order asked steps reply legal at)
 
-goes_on : (start : Start) (before : List Happening) (order : Contents) (events : List Event) (after : List Happening) → IsFinished before → order_at_hand start before ≡ Some order
-    → PartsSince start events before after → NoneStops events → Legal start after → ByPlan start after → GoesOn start before after order (steps_in events)
+goes_on : (start : Start) (before : List Happening) (order : Contents) (events : List Event) (after : List Happening)
+    → IsFinished before → order_at_hand start before ≡ Some order
+    → PartsSince start events before after → NoneStops events → Legal start after → ByPlan start after
+    → GoesOn start before after order (steps_in events)
 goes_on start before order [] after finished hand same none legal planned =
-    inr (record { more = []; parts = same; finished = subst IsFinished (sym same) finished; hand = subst (λ (t : List Happening). order_at_hand start t ≡ Some order) (sym same) hand; start_is = ap (stood_at start) same; work = omega arith })
+    inr (record {
+      more = [];
+      parts = same;
+      finished = subst IsFinished (sym same) finished;
+      hand = subst (λ (t : List Happening). order_at_hand start t ≡ Some order) (sym same) hand;
+      start_is = ap (stood_at start) same;
+      work = omega arith;
+    })
 goes_on start before order (Step ∷ events) after finished hand (mid, part, rest) none legal planned =
-    after_step start before mid after order (steps_in events) part legal planned (λ legal planned. goes_on start before order events mid finished hand rest none legal planned)
+    after_step start before mid after order (steps_in events) part legal planned
+    (λ legal planned. goes_on start before order events mid finished hand rest none legal planned)
 goes_on start before order (Submit asked ∷ events) after finished hand (mid, part, rest) none legal planned =
-    after_submit start before mid after order asked (steps_in events) part legal planned (λ legal planned. goes_on start before order events mid finished hand rest none legal planned)
+    after_submit start before mid after order asked (steps_in events) part legal planned
+    (λ legal planned. goes_on start before order events mid finished hand rest none legal planned)
 goes_on start before order (Stop bytes ∷ events) after finished hand parts none legal planned = absurd none
 
-within_at : (start : Start) (past : List Happening) (order : Contents) → IsWithinLimit start past → order_at_hand start past ≡ Some order
+within_at : (start : Start) (past : List Happening) (order : Contents) → IsWithinLimit start past
+    → order_at_hand start past ≡ Some order
     → (length (sent_since_taken past) ≤ work_limit (length order.updates)) × (kept_since past ≤ 4)
 within_at start past order within hand = by (order_at_hand start past) hand within
   where
-    by : (found : Option Contents) → found ≡ Some order → IfSome found (λ o. (length (sent_since_taken past) ≤ work_limit (length o.updates)) × (kept_since past ≤ 4))
+    by : (found : Option Contents) → found ≡ Some order
+        → IfSome found (λ o. (length (sent_since_taken past) ≤ work_limit (length o.updates)) × (kept_since past ≤ 4))
         → (length (sent_since_taken past) ≤ work_limit (length order.updates)) × (kept_since past ≤ 4)
     by None is within = cc
     by (Some o) is within =
-        let same : o ≡ order = cc in subst (λ (x : Contents). (length (sent_since_taken past) ≤ work_limit (length x.updates)) × (kept_since past ≤ 4)) same within
+        let same : o ≡ order = cc in
+        subst
+        (λ (x : Contents). (length (sent_since_taken past) ≤ work_limit (length x.updates)) × (kept_since past ≤ 4))
+        same within
 
-pub said_in_time : (start : Start) (before after : List Happening) → Legal start after → ByPlan start after → IsFinished before → IsSaidInTime start before after
+pub said_in_time : (start : Start) (before after : List Happening) → Legal start after → ByPlan start after
+    → IsFinished before → IsSaidInTime start before after
 said_in_time start before after legal planned finished = λ events order parts hand none many.
     by events order many (goes_on start before order events after finished hand parts none legal planned)
   where
-    by : (events : List Event) (order : Contents) → work_limit (length order.updates) + 5 ≤ steps_in events → GoesOn start before after order (steps_in events)
+    by : (events : List Event) (order : Contents) → work_limit (length order.updates) + 5 ≤ steps_in events
+        → GoesOn start before after order (steps_in events)
         → IsSaid start order before after
     by events order many (inl said) = said
     by events order many (inr at) =
@@ -287,13 +344,15 @@ said_in_time start before after legal planned finished = λ events order parts h
 
 -- parts of older events, and of newer ones
 
-split_parts : (start : Start) (newer older : List Event) (trace : List Happening) → AreParts start (newer ++ older) trace
+split_parts : (start : Start) (newer older : List Event) (trace : List Happening)
+    → AreParts start (newer ++ older) trace
     → (before : List Happening) × AreParts start older before × PartsSince start newer before trace
 split_parts start [] older trace parts = (trace, parts, refl)
 split_parts start (event ∷ newer) older trace (mid, part, rest) =
     let split = split_parts start newer older mid rest in (split.0, split.1, (mid, part, split.2))
 
-part_finished : (start : Start) (event : Event) (before after : List Happening) → Part start event before after → IsFinished before → IsFinished after
+part_finished : (start : Start) (event : Event) (before after : List Happening) → Part start event before after
+    → IsFinished before → IsFinished after
 part_finished start (Submit order) before after (reply, same) finished = subst IsFinished (sym same) tt
 part_finished start Step before after (inl (due, (work, is, same))) finished = subst IsFinished (sym same) (by work is)
   where
@@ -307,13 +366,21 @@ part_finished start Step before after (inr (due, same)) finished = subst IsFinis
 part_finished start (Stop bytes) before after (inl (same, none)) finished = subst IsFinished (sym same) tt
 part_finished start (Stop bytes) before after (inr (entry, next, few, same)) finished = subst IsFinished (sym same) tt
 
-parts_finished : (start : Start) (events : List Event) (trace : List Happening) → AreParts start events trace → IsFinished trace
+parts_finished : (start : Start) (events : List Event) (trace : List Happening) → AreParts start events trace
+    → IsFinished trace
 parts_finished start [] trace same = subst IsFinished (sym same) tt
-parts_finished start (event ∷ events) trace (before, part, rest) = part_finished start event before trace part (parts_finished start events before rest)
+parts_finished start (event ∷ events) trace (before, part, rest) =
+    part_finished start event before trace part (parts_finished start events before rest)
 
-pub says_in_time : (start : Start) (events newer older : List Event) (trace : List Happening) → Legal start trace → ByPlan start trace → AreParts start events trace → events ≡ newer ++ older
+pub says_in_time : (start : Start) (events newer older : List Event) (trace : List Happening) → Legal start trace
+    → ByPlan start trace → AreParts start events trace → events ≡ newer ++ older
     → SaysInTime start newer older trace
 says_in_time start events newer older trace legal planned parts same =
     let split = split_parts start newer older trace (subst (λ (es : List Event). AreParts start es trace) same parts) in
-    let finished = parts_finished start older split.0 split.1 in
-    (split.0, split.1, split.2, λ order hand none many. said_in_time start split.0 trace legal planned finished newer order split.2 hand none many)
+    let finished = parts_finished start older split.0 split.1 in (
+      split.0,
+      split.1,
+      split.2,
+      λ order hand none many.
+          said_in_time start split.0 trace legal planned finished newer order split.2 hand none many,
+    )

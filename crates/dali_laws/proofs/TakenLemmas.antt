@@ -1,5 +1,6 @@
 -- The orders of the records are the taken ones.
-use Rattle.std.proofs.Common.{◌≡◌, refl, ap, ◌∙◌, Bool, true, false, ◌||◌, ℕ, List, [], ◌∷◌, ◌++◌, map, Option, Some, None}
+use Rattle.std.proofs.Common.{◌≡◌, refl, ap, ◌∙◌, Bool, true, false, ◌||◌, ℕ, List, [], ◌∷◌, ◌++◌, map, Option, Some}
+use Rattle.std.proofs.Common.{None}
 use Rattle.std.proofs.lemmas.List.{append-nil}
 use Rattle.dali_bank.specs.Order.{Contents}
 use Rattle.dali_journal.specs.declared.record.Code.{Code}
@@ -13,7 +14,8 @@ use Rattle.dali_journal.specs.Orders.{orders_of, come_to}
 use Rattle.dali_trace.specs.declared.happening.Reply.TheVariants as replies
 use Rattle.dali_trace.specs.declared.happening.Happening.{Happening}
 use Rattle.dali_trace.specs.declared.happening.Happening.TheVariants.{Asked, Answered, Sent, Kept, Stopped}
-use Rattle.dali_trace.specs.Trace.{Start, records_of, standing_at, waiting, is_unsaid, has_ended, is_at_work, is_busy}
+use Rattle.dali_trace.specs.Trace.{Start, records_of, standing_at, waiting, is_unsaid, is_at_work, is_busy}
+use Rattle.dali_trace.specs.Trace.{Course, Quiet, Waiting, Working, JustEnded, course_of, waits_in, unsaid_in, ended_in}
 use Rattle.dali_trace.specs.Taken.{without, taken_or_waiting, taken_orders, begun_orders}
 use Rattle.dali_trace.specs.Legal.{Legal}
 use Rattle.dali_laws.proofs.MomentLemmas.{may_keep}
@@ -23,32 +25,37 @@ neither true b e = cc
 neither false b e = (refl, e)
 
 -- where an order has ended, that is unsaid
-pub ended_unsaid : (past : List Happening) → has_ended past ≡ true → is_unsaid past ≡ true
-ended_unsaid [] e = cc
-ended_unsaid (Asked order ∷ past) e = ended_unsaid past e
-ended_unsaid (Answered id replies.Taken ∷ Asked order ∷ past) e = refl
-ended_unsaid (Answered id (replies.Kept code) ∷ Asked order ∷ past) e = ended_unsaid past e
-ended_unsaid (Answered id replies.IdReused ∷ Asked order ∷ past) e = ended_unsaid past e
-ended_unsaid (Answered id replies.Busy ∷ Asked order ∷ past) e = ended_unsaid past e
-ended_unsaid (Answered id replies.Full ∷ Asked order ∷ past) e = ended_unsaid past e
-ended_unsaid (Answered id (replies.Blocked unit) ∷ Asked order ∷ past) e = ended_unsaid past e
-ended_unsaid (Answered id reply ∷ past) e = cc
-ended_unsaid (Sent frame answer ∷ past) e = ended_unsaid past e
-ended_unsaid (Kept (Ended code) ∷ past) e = refl
-ended_unsaid (Kept entry ∷ past) e = cc
-ended_unsaid (Stopped ∷ past) e = cc
+pub ended_unsaid : (course : Course) → ended_in course ≡ true → unsaid_in course ≡ true
+ended_unsaid Quiet e = cc
+ended_unsaid (Waiting order) e = refl
+ended_unsaid Working e = refl
+ended_unsaid JustEnded e = refl
+
+pub waits_unsaid : (course : Course) (order : Contents) → waits_in course ≡ Some order → unsaid_in course ≡ true
+waits_unsaid Quiet order e = cc
+waits_unsaid (Waiting other) order e = refl
+waits_unsaid Working order e = cc
+waits_unsaid JustEnded order e = cc
+
+-- where all is said, no order waits
+pub none_waits : (course : Course) → unsaid_in course ≡ false → waits_in course ≡ None
+none_waits Quiet e = refl
+none_waits (Waiting order) e = cc
+none_waits Working e = cc
+none_waits JustEnded e = cc
+
+-- nor where an order has ended
+pub none_waits_ended : (course : Course) → ended_in course ≡ true → waits_in course ≡ None
+none_waits_ended Quiet e = cc
+none_waits_ended (Waiting order) e = cc
+none_waits_ended Working e = cc
+none_waits_ended JustEnded e = refl
 
 -- what is so while an order waits
 pub record Waits (start : Start) (past : List Happening) (order : Contents) : Type 0 where
   pub older : List Contents
   pub taken : taken_or_waiting past ≡ order ∷ older
-  pub unsaid : is_unsaid past ≡ true
   pub idle : is_at_work (standing_at start past) ≡ false
-  pub going : has_ended past ≡ false
-
-is_false : (b : Bool) → (b ≡ true → true ≡ false) → b ≡ false
-is_false true f = f refl
-is_false false f = refl
 
 newly : (start : Start) (past : List Happening) (id : ℕ) (order : Contents) → is_busy start past ≡ false
     → Waits start (Answered id replies.Taken ∷ Asked order ∷ past) order
@@ -56,77 +63,76 @@ newly start past id order e =
     let both = neither (is_at_work (standing_at start past)) (is_unsaid past) e in record {
       older = taken_or_waiting past;
       taken = refl;
-      unsaid = refl;
       idle = both.0;
-      going = is_false (has_ended past) (λ ended. let unsaid = ended_unsaid past ended in let said = both.1 in cc);
     }
 
 -- where no order is at work, none is opened and none ends
-pub no_opened : {A : Type 0} (stands : Standing) (unit : ℕ) → is_at_work stands ≡ false → Allows stands (Opened unit) → A
+pub no_opened : {A : Type 0} (stands : Standing) (unit : ℕ) → is_at_work stands ≡ false → Allows stands (Opened unit)
+    → A
 no_opened standings.Idle unit idle allowed = absurd allowed
 no_opened (standings.Began order) unit idle allowed = cc
 no_opened (standings.Opened order) unit idle allowed = cc
 no_opened (standings.Left left) unit idle allowed = absurd allowed
 
-pub no_ended : {A : Type 0} (stands : Standing) (code : Code) → is_at_work stands ≡ false → Allows stands (Ended code) → A
+pub no_ended : {A : Type 0} (stands : Standing) (code : Code) → is_at_work stands ≡ false → Allows stands (Ended code)
+    → A
 no_ended standings.Idle code idle allowed = absurd allowed
 no_ended (standings.Began order) code idle allowed = cc
 no_ended (standings.Opened order) code idle allowed = cc
 no_ended (standings.Left left) code idle allowed = absurd allowed
 
-pub waits : (start : Start) (past : List Happening) (order : Contents) → Legal start past → waiting past ≡ Some order → Waits start past order
+pub waits : (start : Start) (past : List Happening) (order : Contents) → Legal start past → waiting past ≡ Some order
+    → Waits start past order
 waits start [] order legal e = cc
 waits start (Asked other ∷ past) order legal e =
-    let w = waits start past order legal.0 e in record { older = w.older; taken = w.taken; unsaid = w.unsaid; idle = w.idle; going = w.going }
+    let w = waits start past order legal.0 e in record { older = w.older; taken = w.taken; idle = w.idle }
 waits start (Answered id replies.Taken ∷ Asked other ∷ past) order legal e =
     let same : other ≡ order = cc in rw (← same) (newly start past id other legal.1.1.1)
 waits start (Answered id (replies.Kept code) ∷ Asked other ∷ past) order legal e =
-    let w = waits start past order legal.0.0 e in record { older = w.older; taken = w.taken; unsaid = w.unsaid; idle = w.idle; going = w.going }
+    let w = waits start past order legal.0.0 e in record { older = w.older; taken = w.taken; idle = w.idle }
 waits start (Answered id replies.IdReused ∷ Asked other ∷ past) order legal e =
-    let w = waits start past order legal.0.0 e in record { older = w.older; taken = w.taken; unsaid = w.unsaid; idle = w.idle; going = w.going }
+    let w = waits start past order legal.0.0 e in record { older = w.older; taken = w.taken; idle = w.idle }
 waits start (Answered id replies.Busy ∷ Asked other ∷ past) order legal e =
-    let w = waits start past order legal.0.0 e in record { older = w.older; taken = w.taken; unsaid = w.unsaid; idle = w.idle; going = w.going }
+    let w = waits start past order legal.0.0 e in record { older = w.older; taken = w.taken; idle = w.idle }
 waits start (Answered id replies.Full ∷ Asked other ∷ past) order legal e =
-    let w = waits start past order legal.0.0 e in record { older = w.older; taken = w.taken; unsaid = w.unsaid; idle = w.idle; going = w.going }
+    let w = waits start past order legal.0.0 e in record { older = w.older; taken = w.taken; idle = w.idle }
 waits start (Answered id (replies.Blocked unit) ∷ Asked other ∷ past) order legal e = absurd legal.1.1
 waits start (Answered id reply ∷ past) order legal e = cc
 waits start (Sent frame answer ∷ past) order legal e =
-    let w = waits start past order legal.0 e in record { older = w.older; taken = w.taken; unsaid = w.unsaid; idle = w.idle; going = w.going }
+    let w = waits start past order legal.0 e in record { older = w.older; taken = w.taken; idle = w.idle }
 waits start (Kept (Began other) ∷ past) order legal e = cc
 waits start (Kept (Opened unit) ∷ past) order legal e =
-    no_opened (standing_at start past) unit (waits start past order legal.0 e).idle (may_keep start past (Opened unit) legal.1).sentence.1
-waits start (Kept (Ended code) ∷ past) order legal e =
-    no_ended (standing_at start past) code (waits start past order legal.0 e).idle (may_keep start past (Ended code) legal.1).sentence.1
+    no_opened (standing_at start past) unit (waits start past order legal.0 e).idle
+    (may_keep start past (Opened unit) legal.1).whole.0.1
+waits start (Kept (Ended code) ∷ past) order legal e = cc
 waits start (Kept (Closed unit) ∷ past) order legal e =
-    let w = waits start past order legal.0 e in record { older = w.older; taken = w.taken; unsaid = w.unsaid; idle = refl; going = refl }
+    let w = waits start past order legal.0 e in record { older = w.older; taken = w.taken; idle = refl }
 waits start (Stopped ∷ past) order legal e = cc
 
--- where all is said, no order waits
-pub none_waits : (start : Start) (past : List Happening) → Legal start past → is_unsaid past ≡ false → waiting past ≡ None
-none_waits start past legal said = by (waiting past) refl where
+-- nor where one ends
+pub none_waits_at_work : (start : Start) (past : List Happening) (code : Code) → Legal start past
+    → Allows (standing_at start past) (Ended code)
+    → waiting past ≡ None
+none_waits_at_work start past code legal allowed = by (waiting past) refl where
   by : (found : Option Contents) → waiting past ≡ found → waiting past ≡ None
   by None e = e
-  by (Some order) e = let unsaid = (waits start past order legal e).unsaid in cc
-
--- nor where an order has ended
-pub none_waits_ended : (start : Start) (past : List Happening) → Legal start past → has_ended past ≡ true → waiting past ≡ None
-none_waits_ended start past legal ended = by (waiting past) refl where
-  by : (found : Option Contents) → waiting past ≡ found → waiting past ≡ None
-  by None e = e
-  by (Some order) e = let going = (waits start past order legal e).going in cc
+  by (Some order) e = no_ended (standing_at start past) code (waits start past order legal e).idle allowed
 
 -- no order more by a record that begins none
 come_same : (stage : Stage) (orders : List (Contents × Stage))
-    → map (λ (order : Contents × Stage). order.0) (come_to stage orders) ≡ map (λ (order : Contents × Stage). order.0) orders
+    → map (λ (order : Contents × Stage). order.0) (come_to stage orders)
+    ≡ map (λ (order : Contents × Stage). order.0) orders
 come_same stage [] = refl
 come_same stage (newest ∷ older) = refl
 
-begins : (order : Contents) (waiter : Option Contents) (taken older begun first : List Contents) → waiter ≡ Some order → taken ≡ order ∷ older
+begins : (order : Contents) (waiter : Option Contents) (taken older begun first : List Contents) → waiter ≡ Some order
+    → taken ≡ order ∷ older
     → begun ≡ without waiter taken ++ first → (order ∷ begun) ≡ taken ++ first
 begins order waiter taken older begun first due is e =
     let more : begun ≡ older ++ first = rw (due, is) at e in rw is (ap (λ orders. order ∷ orders) more)
 
-stays : (waiter : Option Contents) (taken begun first : List Contents) → waiter ≡ None → begun ≡ without waiter taken ++ first
+stays : (waiter : Option Contents) (taken begun first : List Contents) → waiter ≡ None
+    → begun ≡ without waiter taken ++ first
     → begun ≡ taken ++ first
 stays waiter taken begun first none e = rw none at e
 
@@ -136,8 +142,9 @@ kept_are_taken start [] legal = refl
 kept_are_taken start (Asked order ∷ past) legal = kept_are_taken start past legal.0
 kept_are_taken start (Answered id replies.Taken ∷ Asked order ∷ past) legal =
     let both = neither (is_at_work (standing_at start past)) (is_unsaid past) legal.1.1.1 in
-    let none = none_waits start past legal.0.0 both.1 in
-    stays (waiting past) (taken_or_waiting past) (begun_orders (records_of start past)) (begun_orders start.records) none
+    let none = none_waits (course_of past) both.1 in
+    stays (waiting past) (taken_or_waiting past) (begun_orders (records_of start past))
+    (begun_orders start.records) none
     (kept_are_taken start past legal.0.0)
 kept_are_taken start (Answered id (replies.Kept code) ∷ Asked order ∷ past) legal = kept_are_taken start past legal.0.0
 kept_are_taken start (Answered id replies.IdReused ∷ Asked order ∷ past) legal = kept_are_taken start past legal.0.0
@@ -146,20 +153,29 @@ kept_are_taken start (Answered id replies.Full ∷ Asked order ∷ past) legal =
 kept_are_taken start (Answered id (replies.Blocked unit) ∷ Asked order ∷ past) legal = absurd legal.1.1
 kept_are_taken start (Answered id (replies.Kept code) ∷ past) legal =
     stays (waiting past) (taken_or_waiting past) (begun_orders (records_of start past)) (begun_orders start.records)
-    (none_waits_ended start past legal.0 legal.1.0) (kept_are_taken start past legal.0)
+    (none_waits_ended (course_of past) legal.1.0) (kept_are_taken start past legal.0)
 kept_are_taken start (Answered id (replies.Blocked unit) ∷ past) legal = kept_are_taken start past legal.0
 kept_are_taken start (Answered id reply ∷ past) legal = absurd legal.1
 kept_are_taken start (Sent frame answer ∷ past) legal = kept_are_taken start past legal.0
 kept_are_taken start (Kept (Began order) ∷ past) legal =
     let due = (may_keep start past (Began order) legal.1).due in
     let w = waits start past order legal.0 due in
-    begins order (waiting past) (taken_or_waiting past) w.older (begun_orders (records_of start past)) (begun_orders start.records) due w.taken
+    begins order (waiting past) (taken_or_waiting past) w.older (begun_orders (records_of start past))
+    (begun_orders start.records) due w.taken
     (kept_are_taken start past legal.0)
-kept_are_taken start (Kept (Opened unit) ∷ past) legal = come_same stages.Open (orders_of (records_of start past)) ∙ kept_are_taken start past legal.0
-kept_are_taken start (Kept (Ended code) ∷ past) legal = come_same (stages.Ended code) (orders_of (records_of start past)) ∙ kept_are_taken start past legal.0
+kept_are_taken start (Kept (Opened unit) ∷ past) legal =
+    come_same stages.Open (orders_of (records_of start past)) ∙ kept_are_taken start past legal.0
+kept_are_taken start (Kept (Ended code) ∷ past) legal =
+    let none = none_waits_at_work start past code legal.0 (may_keep start past (Ended code) legal.1).whole.0.1 in
+    come_same (stages.Ended code) (orders_of (records_of start past))
+    ∙ stays (waiting past) (taken_or_waiting past) (begun_orders (records_of start past))
+    (begun_orders start.records) none
+    (kept_are_taken start past legal.0)
 kept_are_taken start (Kept (Closed unit) ∷ past) legal = kept_are_taken start past legal.0
 kept_are_taken start (Stopped ∷ past) legal = kept_are_taken start past legal.0
 
-pub taken_from_none : (start : Start) (past : List Happening) → start.records ≡ [] → Legal start past → begun_orders (records_of start past) ≡ taken_orders past
+pub taken_from_none : (start : Start) (past : List Happening) → start.records ≡ [] → Legal start past
+    → begun_orders (records_of start past) ≡ taken_orders past
 taken_from_none start past none legal =
-    kept_are_taken start past legal ∙ ap (λ records. taken_orders past ++ begun_orders records) none ∙ append-nil (taken_orders past)
+    kept_are_taken start past legal ∙ ap (λ records. taken_orders past ++ begun_orders records) none
+    ∙ append-nil (taken_orders past)

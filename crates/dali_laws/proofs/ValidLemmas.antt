@@ -1,5 +1,6 @@
 -- The order at hand holds what an order may hold.
-use Rattle.std.proofs.Common.{◌≡◌, refl, sym, subst, inl, inr, ℕ, ◌≤◌, ◌<◌, max, nat_lt, if◌then◌else◌, length, arith, Bool, true, false, List, [], ◌∷◌, Option, Some, None}
+use Rattle.std.proofs.Common.{◌≡◌, refl, sym, subst, inl, inr, ℕ, ◌≤◌, ◌<◌, max, nat_lt, if◌then◌else◌, length, arith}
+use Rattle.std.proofs.Common.{Bool, true, false, List, [], ◌∷◌, Option, Some, None}
 use Rattle.std.specs.Prelude.{slice_index}
 use Rattle.std.specs.List.{AllByRecursion}
 use Rattle.std.proofs.lemmas.Bool.{ltb-false}
@@ -36,70 +37,96 @@ come_valid : (stage : Stage) (orders : List (Contents × Stage)) → AllValid or
 come_valid stage [] valid = tt
 come_valid stage (newest ∷ older) valid = valid
 
-waiting_valid : (past : List Happening) (order : Contents) → AsksAllProper past → waiting past ≡ Some order → AreUpdates order.updates
+waiting_valid : (past : List Happening) (order : Contents) → AsksAllProper past → waiting past ≡ Some order
+    → AreUpdates order.updates
 waiting_valid [] order asks e = cc
 waiting_valid (Asked other ∷ past) order asks e = waiting_valid past order asks.1 e
-waiting_valid (Answered id replies.Taken ∷ Asked other ∷ past) order asks e = let same : other ≡ order = cc in subst (λ (o : Contents). AreUpdates o.updates) same asks.1.0
+waiting_valid (Answered id replies.Taken ∷ Asked other ∷ past) order asks e =
+    let same : other ≡ order = cc in subst (λ (o : Contents). AreUpdates o.updates) same asks.1.0
 waiting_valid (Answered id (replies.Kept code) ∷ Asked other ∷ past) order asks e = waiting_valid past order asks.1.1 e
 waiting_valid (Answered id replies.IdReused ∷ Asked other ∷ past) order asks e = waiting_valid past order asks.1.1 e
 waiting_valid (Answered id replies.Busy ∷ Asked other ∷ past) order asks e = waiting_valid past order asks.1.1 e
 waiting_valid (Answered id replies.Full ∷ Asked other ∷ past) order asks e = waiting_valid past order asks.1.1 e
-waiting_valid (Answered id (replies.Blocked unit) ∷ Asked other ∷ past) order asks e = waiting_valid past order asks.1.1 e
+waiting_valid (Answered id (replies.Blocked unit) ∷ Asked other ∷ past) order asks e =
+    waiting_valid past order asks.1.1 e
 waiting_valid (Answered id reply ∷ past) order asks e = cc
 waiting_valid (Sent frame answer ∷ past) order asks e = waiting_valid past order asks.1 e
 waiting_valid (Kept (Began other) ∷ past) order asks e = cc
 waiting_valid (Kept (Opened unit) ∷ past) order asks e = waiting_valid past order asks.1 e
-waiting_valid (Kept (Ended code) ∷ past) order asks e = waiting_valid past order asks.1 e
+waiting_valid (Kept (Ended code) ∷ past) order asks e = cc
 waiting_valid (Kept (Closed unit) ∷ past) order asks e = waiting_valid past order asks.1 e
 waiting_valid (Stopped ∷ past) order asks e = cc
 
-orders_valid : (start : Start) (past : List Happening) → start.records ≡ [] → Legal start past → AsksAllProper past → AllValid (orders_of (records_of start past))
+orders_valid : (start : Start) (past : List Happening) → start.records ≡ [] → Legal start past → AsksAllProper past
+    → AllValid (orders_of (records_of start past))
 orders_valid start [] none legal asks = subst (λ (r : List Record). AllValid (orders_of r)) (sym none) tt
 orders_valid start (Asked order ∷ past) none legal asks = orders_valid start past none legal.0 asks.1
 orders_valid start (Answered id reply ∷ past) none legal asks = orders_valid start past none legal.0 asks.1
 orders_valid start (Sent frame answer ∷ past) none legal asks = orders_valid start past none legal.0 asks.1
 orders_valid start (Stopped ∷ past) none legal asks = orders_valid start past none legal.0 asks.1
-orders_valid start (Kept (Began order) ∷ past) none legal asks =
-    (waiting_valid past order asks.1 (may_keep start past (Began order) legal.1).due, orders_valid start past none legal.0 asks.1)
-orders_valid start (Kept (Opened unit) ∷ past) none legal asks = come_valid stages.Open (orders_of (records_of start past)) (orders_valid start past none legal.0 asks.1)
-orders_valid start (Kept (Ended code) ∷ past) none legal asks = come_valid (stages.Ended code) (orders_of (records_of start past)) (orders_valid start past none legal.0 asks.1)
+orders_valid start (Kept (Began order) ∷ past) none legal asks = (
+  waiting_valid past order asks.1 (may_keep start past (Began order) legal.1).due,
+  orders_valid start past none legal.0 asks.1,
+)
+orders_valid start (Kept (Opened unit) ∷ past) none legal asks =
+    come_valid stages.Open (orders_of (records_of start past)) (orders_valid start past none legal.0 asks.1)
+orders_valid start (Kept (Ended code) ∷ past) none legal asks =
+    come_valid (stages.Ended code) (orders_of (records_of start past)) (orders_valid start past none legal.0 asks.1)
 orders_valid start (Kept (Closed unit) ∷ past) none legal asks = orders_valid start past none legal.0 asks.1
 
-newest_valid : (order : Contents) (stage : Stage) (orders : List (Contents × Stage)) → (older : List (Contents × Stage)) × (orders ≡ (order, stage) ∷ older) → AllValid orders → AreUpdates order.updates
-newest_valid order stage orders newest valid = let all : AllValid ((order, stage) ∷ newest.0) = rw newest.1 at valid in all.0
+newest_valid : (order : Contents) (stage : Stage) (orders : List (Contents × Stage))
+    → (older : List (Contents × Stage)) × (orders ≡ (order, stage) ∷ older) → AllValid orders → AreUpdates order.updates
+newest_valid order stage orders newest valid =
+    let all : AllValid ((order, stage) ∷ newest.0) = rw newest.1 at valid in all.0
 
-hand_by : (records : List Record) (now : Standing) (waiter : Option Contents) (ended : Bool) (order : Contents) → standing_of records ≡ now → AllValid (orders_of records)
-    → ((o : Contents) → waiter ≡ Some o → AreUpdates o.updates) → order_at now waiter ended (orders_of records) ≡ Some order → AreUpdates order.updates
+hand_by : (records : List Record) (now : Standing) (waiter : Option Contents) (ended : Bool) (order : Contents)
+    → standing_of records ≡ now → AllValid (orders_of records)
+    → ((o : Contents) → waiter ≡ Some o → AreUpdates o.updates)
+    → order_at now waiter ended (orders_of records) ≡ Some order → AreUpdates order.updates
 hand_by records (standings.Began other) waiter ended order at valid waits hand =
-    let same : other ≡ order = cc in subst (λ (o : Contents). AreUpdates o.updates) same (newest_valid other stages.Begun (orders_of records) (begun_order records other at) valid)
+    let same : other ≡ order = cc in
+    subst (λ (o : Contents). AreUpdates o.updates) same
+    (newest_valid other stages.Begun (orders_of records) (begun_order records other at) valid)
 hand_by records (standings.Opened other) waiter ended order at valid waits hand =
-    let same : other ≡ order = cc in subst (λ (o : Contents). AreUpdates o.updates) same (newest_valid other stages.Open (orders_of records) (open_order records other at) valid)
+    let same : other ≡ order = cc in
+    subst (λ (o : Contents). AreUpdates o.updates) same
+    (newest_valid other stages.Open (orders_of records) (open_order records other at) valid)
 hand_by records standings.Idle (Some other) ended order at valid waits hand = waits order hand
 hand_by records (standings.Left unit) (Some other) ended order at valid waits hand = waits order hand
 hand_by records standings.Idle None ended order at valid waits hand = by (orders_of records) ended valid hand
   where
-    by : (orders : List (Contents × Stage)) (ended : Bool) → AllValid orders → order_at standings.Idle None ended orders ≡ Some order → AreUpdates order.updates
+    by : (orders : List (Contents × Stage)) (ended : Bool) → AllValid orders
+        → order_at standings.Idle None ended orders ≡ Some order → AreUpdates order.updates
     by [] true valid hand = cc
-    by (newest ∷ older) true valid hand = let same : newest.0 ≡ order = cc in subst (λ (o : Contents). AreUpdates o.updates) same valid.0
+    by (newest ∷ older) true valid hand =
+        let same : newest.0 ≡ order = cc in subst (λ (o : Contents). AreUpdates o.updates) same valid.0
     by orders false valid hand = cc
 hand_by records (standings.Left unit) None ended order at valid waits hand = by (orders_of records) ended valid hand
   where
-    by : (orders : List (Contents × Stage)) (ended : Bool) → AllValid orders → order_at (standings.Left unit) None ended orders ≡ Some order → AreUpdates order.updates
+    by : (orders : List (Contents × Stage)) (ended : Bool) → AllValid orders
+        → order_at (standings.Left unit) None ended orders ≡ Some order → AreUpdates order.updates
     by [] true valid hand = cc
-    by (newest ∷ older) true valid hand = let same : newest.0 ≡ order = cc in subst (λ (o : Contents). AreUpdates o.updates) same valid.0
+    by (newest ∷ older) true valid hand =
+        let same : newest.0 ≡ order = cc in subst (λ (o : Contents). AreUpdates o.updates) same valid.0
     by orders false valid hand = cc
 
-pub hand_valid : (start : Start) (past : List Happening) (order : Contents) → start.records ≡ [] → Legal start past → AsksAllProper past → order_at_hand start past ≡ Some order → AreUpdates order.updates
+pub hand_valid : (start : Start) (past : List Happening) (order : Contents) → start.records ≡ [] → Legal start past
+    → AsksAllProper past → order_at_hand start past ≡ Some order → AreUpdates order.updates
 hand_valid start past order none legal asks hand =
-    hand_by (records_of start past) (standing_at start past) (waiting past) (has_ended past) order refl (orders_valid start past none legal asks) (λ o waits. waiting_valid past o asks waits) hand
+    hand_by (records_of start past) (standing_at start past) (waiting past) (has_ended past) order refl
+    (orders_valid start past none legal asks) (λ o waits. waiting_valid past o asks waits) hand
 
 -- where an order is to be done, its locations are there
 
-rest_below : (bytes : List ℕ) (bank : BankState) (updates : List (ℕ × ℕ)) → AllByRecursion (λ (update : ℕ × ℕ). IsWritable update.0) updates → greatest updates < length bank.bytes → NoneFixed bank updates
+rest_below : (bytes : List ℕ) (bank : BankState) (updates : List (ℕ × ℕ))
+    → AllByRecursion (λ (update : ℕ × ℕ). IsWritable update.0) updates → greatest updates < length bank.bytes
+    → NoneFixed bank updates
     → TakesAll bank updates
 rest_below bytes bank [] places below free = tt
-rest_below bytes bank (update ∷ updates) places below free =
-    ((past places.0, (let up = max_left update.0 (greatest updates) in omega arith), free.0), rest_below bytes bank updates places.1 (let up = max_right update.0 (greatest updates) in omega arith) free.1)
+rest_below bytes bank (update ∷ updates) places below free = (
+  (past places.0, (let up = max_left update.0 (greatest updates) in omega arith), free.0),
+  rest_below bytes bank updates places.1 (let up = max_right update.0 (greatest updates) in omega arith) free.1,
+)
   where
     past : IsWritable update.0 → 3 ≤ update.0
     past (inl low) = low.0
@@ -111,11 +138,18 @@ rest_below bytes bank (update ∷ updates) places below free =
     max_right : (a b : ℕ) → b ≤ max a b
     max_right a b = omega arith
 
-pub takes_all : (bank : BankState) (updates : List (ℕ × ℕ)) → IsBank bank.bytes → AreUpdates updates → NoneFixed bank updates → due_code bank.bytes updates ≡ codes.Done → TakesAll bank updates
+pub takes_all : (bank : BankState) (updates : List (ℕ × ℕ)) → IsBank bank.bytes → AreUpdates updates
+    → NoneFixed bank updates → due_code bank.bytes updates ≡ codes.Done → TakesAll bank updates
 takes_all bank updates is valid free due = by (nat_lt (slice_index bank.bytes 0) (greatest updates)) refl due
   where
     by : (short : Bool) → nat_lt (slice_index bank.bytes 0) (greatest updates) ≡ short
-        → (if short then codes.Short else (if nat_lt (greatest updates) 0x13 then codes.Done else (if has_format bank.bytes then codes.Done else codes.Format))) ≡ codes.Done → TakesAll bank updates
+        → (if short
+        then codes.Short
+        else (if nat_lt (greatest updates) 0x13
+        then codes.Done
+        else (if has_format bank.bytes then codes.Done else codes.Format)))
+        ≡ codes.Done
+        → TakesAll bank updates
     by true e due = cc
     by false e due =
         let reaches = ltb-false (slice_index bank.bytes 0) (greatest updates) e in

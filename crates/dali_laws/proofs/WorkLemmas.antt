@@ -1,5 +1,7 @@
 -- What a trace that is on course costs.
-use Rattle.std.proofs.Common.{◌≡◌, ◌⊎◌, inl, inr, refl, sym, ap, ◌∙◌, subst, ℕ, ◌+◌, ◌*◌, ◌≤◌, Bool, true, false, nat_lt, if◌then◌else◌, List, [], ◌∷◌, ◌++◌, length, length-append, append-nil, Option, Some, None, IfSome, arith}
+use Rattle.std.proofs.Common.{◌≡◌, ◌⊎◌, inl, inr, refl, sym, ap, ◌∙◌, subst, ℕ, ◌+◌, ◌*◌, ◌≤◌, Bool, true, false}
+use Rattle.std.proofs.Common.{nat_lt, if◌then◌else◌, List, [], ◌∷◌, ◌++◌, length, length-append, append-nil, Option}
+use Rattle.std.proofs.Common.{Some, None, IfSome, arith}
 use Rattle.std.proofs.lemmas.Bool.{ltb-true, ltb-false}
 use Rattle.dali_frame.specs.declared.forward.Frame.{Frame}
 use Rattle.dali_bank.specs.Order.{Contents}
@@ -28,18 +30,22 @@ use Rattle.dali_write.proofs.NextLemmas.{first_wanted, next_wanted, fresh_few, o
 use Rattle.dali_write.proofs.MissLemmas.{took_long}
 use Rattle.dali_write.proofs.ExactLemmas.{done_took}
 use Rattle.dali_write.proofs.ExactEndLemmas.{low_took, high_took, closed_took}
-use Rattle.dali_write.proofs.GiveUpLemmas.{fresh_late, opened_late, closing_late, unread_joined, unlooked_joined, failed_joined}
+use Rattle.dali_write.proofs.GiveUpLemmas.{fresh_late, opened_late, closing_late, unread_joined, unlooked_joined}
+use Rattle.dali_write.proofs.GiveUpLemmas.{failed_joined}
 use Rattle.dali_write.proofs.DoubtLemmas.{doubt_cause}
 use Rattle.dali_trace.specs.declared.happening.Reply.TheVariants as replies
 use Rattle.dali_trace.specs.declared.happening.Happening.{Happening}
 use Rattle.dali_trace.specs.declared.happening.Happening.TheVariants.{Asked, Answered, Sent, Kept, Stopped}
 use Rattle.dali_trace.specs.Trace.{Start, records_of, standing_at, sent_since_taken, waiting, has_ended, is_at_work}
+use Rattle.dali_trace.specs.Trace.{course_of}
 use Rattle.dali_trace.specs.Legal.{Legal, MaySay, EndsAs, HasNumber}
-use Rattle.dali_trace.specs.ByPlan.{told_in, Asks, EndsIn, ByPlan}
+use Rattle.dali_trace.specs.Grounds.{EndsIn}
+use Rattle.dali_trace.specs.ByPlan.{told_in, Asks, ByPlan}
 use Rattle.dali_laws.proofs.Courses.{ClosedBy, CheckedBy, OpenedBy, EndedBy, NewestEndedBy, HasCome}
-use Rattle.dali_trace.specs.Work.{stood_at, kept_since, work_limit, look_frames, frames_from, FindsAnother, IsEarned, order_at, IsWithinLimit, IsSaidSo, IsWorked}
+use Rattle.dali_trace.specs.Work.{stood_at, kept_since, work_limit, look_frames, frames_from, FindsAnother, IsEarned}
+use Rattle.dali_trace.specs.Work.{order_at, IsWithinLimit, IsSaidSo, IsWorked}
 use Rattle.dali_laws.proofs.CourseLemmas.{on_course, idle_next}
-use Rattle.dali_laws.proofs.TakenLemmas.{none_waits_ended}
+use Rattle.dali_laws.proofs.TakenLemmas.{none_waits_ended, no_opened}
 use Rattle.dali_laws.proofs.MomentLemmas.{may_keep}
 
 -- the session at hand wants something
@@ -55,13 +61,18 @@ begins_session (standings.Began order) = first_wanted order.unit (read_length or
 begins_session (standings.Opened order) = first_wanted order.unit (unlock order.updates)
 begins_session (standings.Left unit) = first_wanted unit (close verdicts.Closed verdicts.NotClosed)
 
-next_in : (stands : Standing) (told : List Exchange) (frame : Frame) (answer : Option ℕ) → Asks stands told (asks.Send frame) → InSession stands (record { frame = frame; answer = answer } ∷ told)
+next_in : (stands : Standing) (told : List Exchange) (frame : Frame) (answer : Option ℕ)
+    → Asks stands told (asks.Send frame) → InSession stands (record { frame = frame; answer = answer } ∷ told)
 next_in standings.Idle told frame answer asked = tt
-next_in (standings.Began order) told frame answer asked = next_wanted order.unit (read_length order.updates) told frame answer asked
-next_in (standings.Opened order) told frame answer asked = next_wanted order.unit (unlock order.updates) told frame answer asked
-next_in (standings.Left unit) told frame answer asked = next_wanted unit (close verdicts.Closed verdicts.NotClosed) told frame answer asked
+next_in (standings.Began order) told frame answer asked =
+    next_wanted order.unit (read_length order.updates) told frame answer asked
+next_in (standings.Opened order) told frame answer asked =
+    next_wanted order.unit (unlock order.updates) told frame answer asked
+next_in (standings.Left unit) told frame answer asked =
+    next_wanted unit (close verdicts.Closed verdicts.NotClosed) told frame answer asked
 
-in_session : (start : Start) (past : List Happening) → ByPlan start past → InSession (standing_at start past) (told_in past)
+in_session : (start : Start) (past : List Happening) → ByPlan start past
+    → InSession (standing_at start past) (told_in past)
 in_session start [] planned = begins_session (standing_of start.records)
 in_session start (Asked order ∷ past) planned = in_session start past planned.0
 in_session start (Answered id replies.Taken ∷ past) planned = begins_session (standing_at start past)
@@ -70,13 +81,15 @@ in_session start (Answered id replies.IdReused ∷ past) planned = in_session st
 in_session start (Answered id replies.Busy ∷ past) planned = in_session start past planned.0
 in_session start (Answered id replies.Full ∷ past) planned = in_session start past planned.0
 in_session start (Answered id (replies.Blocked unit) ∷ past) planned = in_session start past planned.0
-in_session start (Sent frame answer ∷ past) planned = next_in (standing_at start past) (told_in past) frame answer planned.1
+in_session start (Sent frame answer ∷ past) planned =
+    next_in (standing_at start past) (told_in past) frame answer planned.1
 in_session start (Kept entry ∷ past) planned = begins_session (standing_at start (Kept entry ∷ past))
 in_session start (Stopped ∷ past) planned = begins_session (standing_at start past)
 
 -- lengths
 
-both_few : (sent told older : List Exchange) (one two : ℕ) → sent ≡ told ++ older → length told ≤ one → length older ≤ two → length sent ≤ one + two
+both_few : (sent told older : List Exchange) (one two : ℕ) → sent ≡ told ++ older → length told ≤ one
+    → length older ≤ two → length sent ≤ one + two
 both_few sent told older one two parts few less =
     let all = ap (λ (t : List Exchange). length t) parts in
     let joined = length-append told older in
@@ -91,37 +104,53 @@ closed_few (standings.Began order) sent closed = none_few sent closing_limit clo
 closed_few (standings.Opened order) sent closed = absurd closed
 closed_few (standings.Left unit) sent closed = closing_few unit sent (asks.Ended verdicts.Closed) closed
 
-checked_few : (first : Standing) (order : Contents) (sent : List Exchange) → CheckedBy first order sent → length sent ≤ fresh_limit + closing_limit
+checked_few : (first : Standing) (order : Contents) (sent : List Exchange) → CheckedBy first order sent
+    → length sent ≤ fresh_limit + closing_limit
 checked_few first order sent (told, older, parts, wants, closed) =
-    both_few sent told older fresh_limit closing_limit parts (fresh_few order.unit order.updates told (asks.Ended verdicts.MayOpen) wants) (closed_few first older closed)
+    both_few sent told older fresh_limit closing_limit parts
+    (fresh_few order.unit order.updates told (asks.Ended verdicts.MayOpen) wants) (closed_few first older closed)
 
-opened_by_few : (first : Standing) (order : Contents) (sent : List Exchange) → OpenedBy first order sent → length sent ≤ fresh_limit + closing_limit
+opened_by_few : (first : Standing) (order : Contents) (sent : List Exchange) → OpenedBy first order sent
+    → length sent ≤ fresh_limit + closing_limit
 opened_by_few standings.Idle order sent opened = checked_few standings.Idle order sent opened
 opened_by_few (standings.Began begun) order sent opened = checked_few (standings.Began begun) order sent opened
 opened_by_few (standings.Left unit) order sent opened = checked_few (standings.Left unit) order sent opened
 opened_by_few (standings.Opened other) order sent opened = none_few sent (fresh_limit + closing_limit) opened.1
 
-ended_few : (first : Standing) (order : Contents) (code : Code) (sent : List Exchange) → EndedBy first order code sent → length sent ≤ work_limit (length order.updates)
+ended_few : (first : Standing) (order : Contents) (code : Code) (sent : List Exchange) → EndedBy first order code sent
+    → length sent ≤ work_limit (length order.updates)
 ended_few first order code sent (verdict, told, older, parts, inl (ends, wants, closed)) =
-    let few = both_few sent told older fresh_limit closing_limit parts (fresh_few order.unit order.updates told (asks.Ended verdict) wants) (closed_few first older closed) in omega arith
+    let few =
+    both_few sent told older fresh_limit closing_limit parts
+    (fresh_few order.unit order.updates told (asks.Ended verdict) wants) (closed_few first older closed) in
+    omega arith
 ended_few first order code sent (verdict, told, older, parts, inr (ends, wants, opened)) =
-    let few = both_few sent told older (opened_limit (length order.updates)) (fresh_limit + closing_limit) parts (opened_few order.unit order.updates told (asks.Ended verdict) wants)
+    let few =
+    both_few sent told older (opened_limit (length order.updates)) (fresh_limit + closing_limit) parts
+    (opened_few order.unit order.updates told (asks.Ended verdict) wants)
     (opened_by_few first order older opened) in omega arith
 
-newest_few : (first : Standing) (newest : Contents × Stage) (older : List (Contents × Stage)) (sent : List Exchange) → NewestEndedBy first (newest ∷ older) sent
+newest_few : (first : Standing) (newest : Contents × Stage) (older : List (Contents × Stage)) (sent : List Exchange)
+    → NewestEndedBy first (newest ∷ older) sent
     → length sent ≤ work_limit (length newest.0.updates)
 newest_few first (order, stages.Ended code) older sent ended = ended_few first order code sent ended
 newest_few first (order, stages.Begun) older sent ended = absurd ended
 newest_few first (order, stages.Open) older sent ended = absurd ended
 
-within : (first now : Standing) (waiter : Option Contents) (ended : Bool) (orders : List (Contents × Stage)) (sent told : List Exchange) (kept : ℕ)
+within : (first now : Standing) (waiter : Option Contents) (ended : Bool) (orders : List (Contents × Stage))
+    (sent told : List Exchange) (kept : ℕ)
     → InSession now told → HasCome first now waiter ended orders sent told kept
-    → IfSome (order_at now waiter ended orders) (λ order. (length sent ≤ work_limit (length order.updates)) × (kept ≤ 4))
+    → IfSome (order_at now waiter ended orders)
+    (λ order. (length sent ≤ work_limit (length order.updates)) × (kept ≤ 4))
 within first (standings.Began order) waiter ended orders sent told kept session come =
-    let few = both_few sent told come.0 fresh_limit closing_limit come.1 (fresh_few order.unit order.updates told session.0 session.1) (closed_few first come.0 come.2) in
+    let few =
+    both_few sent told come.0 fresh_limit closing_limit come.1
+    (fresh_few order.unit order.updates told session.0 session.1) (closed_few first come.0 come.2) in
     let some = come.3 in (omega arith, omega arith)
 within first (standings.Opened order) waiter ended orders sent told kept session come =
-    let few = both_few sent told come.0 (opened_limit (length order.updates)) (fresh_limit + closing_limit) come.1 (opened_few order.unit order.updates told session.0 session.1)
+    let few =
+    both_few sent told come.0 (opened_limit (length order.updates)) (fresh_limit + closing_limit) come.1
+    (opened_few order.unit order.updates told session.0 session.1)
     (opened_by_few first order come.0 come.2) in
     let some = come.3 in (omega arith, omega arith)
 within first (standings.Left unit) (Some order) ended orders sent told kept session come =
@@ -132,19 +161,24 @@ within first standings.Idle (Some order) ended orders sent told kept session com
     let few = closed_few first sent come.1 in let some = come.2 in (omega arith, omega arith)
 within first standings.Idle None true [] sent told kept session come = tt
 within first (standings.Left unit) None true [] sent told kept session come = tt
-within first standings.Idle None true (newest ∷ older) sent told kept session come = (newest_few first newest older sent come.0, come.1)
-within first (standings.Left unit) None true (newest ∷ older) sent told kept session come = (newest_few first newest older sent come.0, come.1)
+within first standings.Idle None true (newest ∷ older) sent told kept session come =
+    (newest_few first newest older sent come.0, come.1)
+within first (standings.Left unit) None true (newest ∷ older) sent told kept session come =
+    (newest_few first newest older sent come.0, come.1)
 within first standings.Idle None false orders sent told kept session come = tt
 within first (standings.Left unit) None false orders sent told kept session come = tt
 
-pub within_limit : (start : Start) (past : List Happening) → Legal start past → ByPlan start past → IsWithinLimit start past
+pub within_limit : (start : Start) (past : List Happening) → Legal start past → ByPlan start past
+    → IsWithinLimit start past
 within_limit start past legal planned =
-    within (stood_at start past) (standing_at start past) (waiting past) (has_ended past) (orders_of (records_of start past)) (sent_since_taken past) (told_in past) (kept_since past)
+    within (stood_at start past) (standing_at start past) (waiting past) (has_ended past)
+    (orders_of (records_of start past)) (sent_since_taken past) (told_in past) (kept_since past)
     (in_session start past planned) (on_course start past legal planned)
 
 -- exact counts
 
-joined_long : (unit frames before all : ℕ) (sent told older : List Exchange) (verdict : Verdict) (plan : Plan) → sent ≡ told ++ older → Took unit plan told verdict frames → IsLong before older
+joined_long : (unit frames before all : ℕ) (sent told older : List Exchange) (verdict : Verdict) (plan : Plan)
+    → sent ≡ told ++ older → Took unit plan told verdict frames → IsLong before older
     → frames + before ≡ all → IsLong all sent
 joined_long unit frames before all sent told older verdict plan parts took long sum =
     rw (parts, ← sum) (took_long unit plan told older verdict frames before took long)
@@ -161,123 +195,169 @@ closed_long standings.Idle sent closed = none_long sent closed
 closed_long (standings.Began order) sent closed = none_long sent closed
 closed_long (standings.Opened order) sent closed = absurd closed
 closed_long (standings.Left unit) sent closed =
-    joined_long unit (write_frames + read_frames) 0 (write_frames + read_frames) sent sent [] verdicts.Closed (close verdicts.Closed verdicts.NotClosed) (sym (append-nil sent))
+    joined_long unit (write_frames + read_frames) 0 (write_frames + read_frames) sent sent [] verdicts.Closed
+    (close verdicts.Closed verdicts.NotClosed) (sym (append-nil sent))
     (closed_took sent unit closed) (none_long [] refl) (omega arith)
 
-checked_long : (first : Standing) (order : Contents) (sent : List Exchange) → CheckedBy first order sent → IsLong (look_frames order.updates + closed_frames first) sent
+checked_long : (first : Standing) (order : Contents) (sent : List Exchange) → CheckedBy first order sent
+    → IsLong (look_frames order.updates + closed_frames first) sent
 checked_long first order sent (told, older, parts, wants, closed) = by (nat_lt (greatest order.updates) 0x13) refl
   where
-    by : (low : Bool) → nat_lt (greatest order.updates) 0x13 ≡ low → IsLong ((if low then read_frames else 3 * read_frames) + closed_frames first) sent
+    by : (low : Bool) → nat_lt (greatest order.updates) 0x13 ≡ low
+        → IsLong ((if low then read_frames else 3 * read_frames) + closed_frames first) sent
     by true e =
-        joined_long order.unit read_frames (closed_frames first) (read_frames + closed_frames first) sent told older verdicts.MayOpen (read_length order.updates) parts
-        (low_took told order.unit order.updates (ltb-true (greatest order.updates) 0x13 e) wants) (closed_long first older closed) refl
+        joined_long order.unit read_frames (closed_frames first) (read_frames + closed_frames first) sent told older
+        verdicts.MayOpen (read_length order.updates) parts
+        (low_took told order.unit order.updates (ltb-true (greatest order.updates) 0x13 e) wants)
+        (closed_long first older closed) refl
     by false e =
-        joined_long order.unit (3 * read_frames) (closed_frames first) (3 * read_frames + closed_frames first) sent told older verdicts.MayOpen (read_length order.updates) parts
-        (high_took told order.unit order.updates (ltb-false (greatest order.updates) 0x13 e) wants) (closed_long first older closed) refl
+        joined_long order.unit (3 * read_frames) (closed_frames first) (3 * read_frames + closed_frames first) sent told
+        older verdicts.MayOpen (read_length order.updates) parts
+        (high_took told order.unit order.updates (ltb-false (greatest order.updates) 0x13 e) wants)
+        (closed_long first older closed) refl
 
-done_long : (first : Standing) (order : Contents) (sent told older : List Exchange) → sent ≡ told ++ older → Wants order.unit (unlock order.updates) told (asks.Ended verdicts.Done)
+done_long : (first : Standing) (order : Contents) (sent told older : List Exchange) → sent ≡ told ++ older
+    → Wants order.unit (unlock order.updates) told (asks.Ended verdicts.Done)
     → OpenedBy first order older → IsLong (frames_from first order.updates) sent
 done_long standings.Idle order sent told older parts wants opened =
-    joined_long order.unit (done_frames (length order.updates)) (look_frames order.updates + 0) (frames_from standings.Idle order.updates) sent told older verdicts.Done (unlock order.updates) parts
+    joined_long order.unit (done_frames (length order.updates)) (look_frames order.updates + 0)
+    (frames_from standings.Idle order.updates) sent told older verdicts.Done (unlock order.updates) parts
     (done_took told order.unit order.updates wants) (checked_long standings.Idle order older opened) (omega arith)
 done_long (standings.Began begun) order sent told older parts wants opened =
-    joined_long order.unit (done_frames (length order.updates)) (look_frames order.updates + 0) (frames_from (standings.Began begun) order.updates) sent told older verdicts.Done (unlock order.updates) parts
-    (done_took told order.unit order.updates wants) (checked_long (standings.Began begun) order older opened) (omega arith)
+    joined_long order.unit (done_frames (length order.updates)) (look_frames order.updates + 0)
+    (frames_from (standings.Began begun) order.updates) sent told older verdicts.Done (unlock order.updates) parts
+    (done_took told order.unit order.updates wants) (checked_long (standings.Began begun) order older opened)
+    (omega arith)
 done_long (standings.Left unit) order sent told older parts wants opened =
-    joined_long order.unit (done_frames (length order.updates)) (look_frames order.updates + (write_frames + read_frames)) (frames_from (standings.Left unit) order.updates) sent told older verdicts.Done
-    (unlock order.updates) parts (done_took told order.unit order.updates wants) (checked_long (standings.Left unit) order older opened) (omega arith)
+    joined_long order.unit (done_frames (length order.updates))
+    (look_frames order.updates + (write_frames + read_frames)) (frames_from (standings.Left unit) order.updates) sent
+    told older verdicts.Done
+    (unlock order.updates) parts (done_took told order.unit order.updates wants)
+    (checked_long (standings.Left unit) order older opened) (omega arith)
 done_long (standings.Opened other) order sent told older parts wants opened =
-    joined_long order.unit (done_frames (length order.updates)) 0 (done_frames (length order.updates)) sent told older verdicts.Done (unlock order.updates) parts
+    joined_long order.unit (done_frames (length order.updates)) 0 (done_frames (length order.updates)) sent told older
+    verdicts.Done (unlock order.updates) parts
     (done_took told order.unit order.updates wants) (none_long older opened.1) (omega arith)
 
 -- what a session's end earns
 
--- the code that was kept
-same_code : (one other : Code) → Ended one ≡ Ended other → other ≡ one
-same_code one other e = cc
+fresh_earned : (first : Standing) (order : Contents) (code : Code) (sent told older : List Exchange) (verdict : Verdict)
+    → sent ≡ told ++ older
+    → EndsIn (standings.Began order) verdict (Ended code)
+    → Wants order.unit (read_length order.updates) told (asks.Ended verdict) → IsEarned first order code sent
+fresh_earned first order codes.Short sent told older verdict parts ends wants = tt
+fresh_earned first order codes.Format sent told older verdict parts ends wants = tt
+fresh_earned first order codes.Silent sent told older verdict parts ends wants =
+    let is = ends.1 in
+    let same : verdict ≡ verdicts.Silent = cc in
+    unlooked_joined order.unit sent told older parts (fresh_late told order.unit order.updates (rw same at wants))
+fresh_earned first order _ sent told older verdict parts ends wants = absurd ends.0
 
-fresh_earned : (first : Standing) (order : Contents) (code : Code) (sent told older : List Exchange) (verdict : Verdict) → sent ≡ told ++ older
-    → EndsIn (standings.Began order) verdict (Ended code) → Wants order.unit (read_length order.updates) told (asks.Ended verdict) → IsEarned first order code sent
-fresh_earned first order code sent told older verdicts.MayOpen parts ends wants = cc
-fresh_earned first order code sent told older verdicts.Short parts ends wants = subst (λ (c : Code). IsEarned first order c sent) (same_code code codes.Short ends) tt
-fresh_earned first order code sent told older verdicts.Format parts ends wants = subst (λ (c : Code). IsEarned first order c sent) (same_code code codes.Format ends) tt
-fresh_earned first order code sent told older verdicts.Silent parts ends wants =
-    subst (λ (c : Code). IsEarned first order c sent) (same_code code codes.Silent ends)
-    (unlooked_joined order.unit sent told older parts (fresh_late told order.unit order.updates wants))
-fresh_earned first order code sent told older _ parts ends wants = absurd ends
-
-opened_earned : (first : Standing) (order : Contents) (code : Code) (sent told older : List Exchange) (verdict : Verdict) → sent ≡ told ++ older
-    → EndsIn (standings.Opened order) verdict (Ended code) → Wants order.unit (unlock order.updates) told (asks.Ended verdict) → OpenedBy first order older → IsEarned first order code sent
-opened_earned first order code sent told older verdicts.Done parts ends wants opened =
-    subst (λ (c : Code). IsEarned first order c sent) (same_code code codes.Done ends) (done_long first order sent told older parts wants opened)
-opened_earned first order code sent told older verdicts.Doubt parts ends wants opened =
-    subst (λ (c : Code). IsEarned first order c sent) (same_code code codes.Doubt ends) (by (doubt_cause told order.unit order.updates wants))
+opened_earned : (first : Standing) (order : Contents) (code : Code) (sent told older : List Exchange)
+    (verdict : Verdict)
+    → sent ≡ told ++ older
+    → EndsIn (standings.Opened order) verdict (Ended code)
+    → Wants order.unit (unlock order.updates) told (asks.Ended verdict) → OpenedBy first order older
+    → IsEarned first order code sent
+opened_earned first order codes.Done sent told older verdict parts ends wants opened =
+    let is = ends.1 in
+    let same : verdict ≡ verdicts.Done = cc in
+    done_long first order sent told older parts (rw same at wants) opened
+opened_earned first order codes.Doubt sent told older verdict parts ends wants opened =
+    let is = ends.1 in
+    let same : verdict ≡ verdicts.Doubt = cc in
+    by (doubt_cause told order.unit order.updates (rw same at wants))
   where
-    by : HasFailed order.unit told ⊎ FoundAnother order.unit (unlock order.updates) (read_backs order.updates) told → HasFailed order.unit sent ⊎ FindsAnother order sent
+    by : HasFailed order.unit told ⊎ FoundAnother order.unit (unlock order.updates) (read_backs order.updates) told
+        → HasFailed order.unit sent ⊎ FindsAnother order sent
     by (inl failed) = inl (failed_joined order.unit sent told older parts failed)
     by (inr found) = inr (told, older, parts, found)
-opened_earned first order code sent told older verdicts.DoubtOpen parts ends wants opened =
-    subst (λ (c : Code). IsEarned first order c sent) (same_code code codes.DoubtOpen ends)
-    (unread_joined order.unit 0x02 sent told older parts (opened_late told order.unit order.updates wants))
-opened_earned first order code sent told older _ parts ends wants opened = absurd ends
+opened_earned first order codes.DoubtOpen sent told older verdict parts ends wants opened =
+    let is = ends.1 in
+    let same : verdict ≡ verdicts.DoubtOpen = cc in
+    unread_joined order.unit 0x02 sent told older parts (opened_late told order.unit order.updates (rw same at wants))
+opened_earned first order _ sent told older verdict parts ends wants opened = absurd ends.0
 
-ended_earned : (first : Standing) (order : Contents) (code : Code) (sent : List Exchange) → EndedBy first order code sent → IsEarned first order code sent
-ended_earned first order code sent (verdict, told, older, parts, inl (ends, wants, closed)) = fresh_earned first order code sent told older verdict parts ends wants
-ended_earned first order code sent (verdict, told, older, parts, inr (ends, wants, opened)) = opened_earned first order code sent told older verdict parts ends wants opened
+ended_earned : (first : Standing) (order : Contents) (code : Code) (sent : List Exchange)
+    → EndedBy first order code sent → IsEarned first order code sent
+ended_earned first order code sent (verdict, told, older, parts, inl (ends, wants, closed)) =
+    fresh_earned first order code sent told older verdict parts ends wants
+ended_earned first order code sent (verdict, told, older, parts, inr (ends, wants, opened)) =
+    opened_earned first order code sent told older verdict parts ends wants opened
 
 -- where an order has just ended, none is at work
-pub ended_idle : (start : Start) (past : List Happening) → Legal start past → has_ended past ≡ true → is_at_work (standing_at start past) ≡ false
+pub ended_idle : (start : Start) (past : List Happening) → Legal start past → has_ended past ≡ true
+    → is_at_work (standing_at start past) ≡ false
 ended_idle start [] legal e = cc
 ended_idle start (Asked order ∷ past) legal e = ended_idle start past legal.0 e
+ended_idle start (Answered id replies.Taken ∷ Asked order ∷ past) legal e = cc
 ended_idle start (Answered id reply ∷ Asked order ∷ past) legal e = ended_idle start past legal.0.0 e
-ended_idle start (Answered id reply ∷ []) legal e = cc
-ended_idle start (Answered id reply ∷ Answered other last ∷ past) legal e = cc
-ended_idle start (Answered id reply ∷ Sent frame answer ∷ past) legal e = cc
-ended_idle start (Answered id reply ∷ Kept entry ∷ past) legal e = cc
-ended_idle start (Answered id reply ∷ Stopped ∷ past) legal e = cc
+ended_idle start (Answered id reply ∷ past) legal e = cc
 ended_idle start (Sent frame answer ∷ past) legal e = ended_idle start past legal.0 e
-ended_idle start (Kept (Ended code) ∷ past) legal e = idle_next (standing_at start past) code (may_keep start past (Ended code) legal.1).sentence.1
+ended_idle start (Kept (Ended code) ∷ past) legal e =
+    idle_next (standing_at start past) code (may_keep start past (Ended code) legal.1).whole.0.1
 ended_idle start (Kept (Began order) ∷ past) legal e = cc
-ended_idle start (Kept (Opened unit) ∷ past) legal e = cc
-ended_idle start (Kept (Closed unit) ∷ past) legal e = cc
+ended_idle start (Kept (Opened unit) ∷ past) legal e =
+    no_opened (standing_at start past) unit (ended_idle start past legal.0 e)
+    (may_keep start past (Opened unit) legal.1).whole.0.1
+ended_idle start (Kept (Closed unit) ∷ past) legal e = refl
 ended_idle start (Stopped ∷ past) legal e = cc
 
 -- the newest order, that has ended so
-abbrev SaidEnd : Standing → Standing → Option Contents → Bool → List (Contents × Stage) → List Exchange → ℕ → Code → Type 0
-SaidEnd first now waiter ended orders sent id code = (order : Contents) × (order.id ≡ id) × (order_at now waiter ended orders ≡ Some order) × EndedBy first order code sent
+abbrev SaidEnd : Standing → Standing → Option Contents → Bool → List (Contents × Stage) → List Exchange → ℕ → Code
+    → Type 0
+SaidEnd first now waiter ended orders sent id code =
+    (order : Contents) × (order.id ≡ id) × (order_at now waiter ended orders ≡ Some order)
+    × EndedBy first order code sent
 
-said_newest : (first now : Standing) (orders : List (Contents × Stage)) (sent : List Exchange) (id : ℕ) (code : Code) → is_at_work now ≡ false
+said_newest : (first now : Standing) (orders : List (Contents × Stage)) (sent : List Exchange) (id : ℕ) (code : Code)
+    → is_at_work now ≡ false
     → EndsAs id code orders → NewestEndedBy first orders sent → SaidEnd first now None true orders sent id code
 said_newest first now [] sent id code idle ends ended = absurd ends
 said_newest first now ((order, stages.Begun) ∷ older) sent id code idle ends ended = absurd ends
 said_newest first now ((order, stages.Open) ∷ older) sent id code idle ends ended = absurd ends
-said_newest first standings.Idle ((order, stages.Ended last) ∷ older) sent id code idle ends ended = (order, ends.0, refl, subst (λ (c : Code). EndedBy first order c sent) ends.1 ended)
-said_newest first (standings.Left unit) ((order, stages.Ended last) ∷ older) sent id code idle ends ended = (order, ends.0, refl, subst (λ (c : Code). EndedBy first order c sent) ends.1 ended)
+said_newest first standings.Idle ((order, stages.Ended last) ∷ older) sent id code idle ends ended =
+    (order, ends.0, refl, subst (λ (c : Code). EndedBy first order c sent) ends.1 ended)
+said_newest first (standings.Left unit) ((order, stages.Ended last) ∷ older) sent id code idle ends ended =
+    (order, ends.0, refl, subst (λ (c : Code). EndedBy first order c sent) ends.1 ended)
 said_newest first (standings.Began other) ((order, stages.Ended last) ∷ older) sent id code idle ends ended = cc
 said_newest first (standings.Opened other) ((order, stages.Ended last) ∷ older) sent id code idle ends ended = cc
 
-said_by : (first now : Standing) (waiter : Option Contents) (ended : Bool) (orders : List (Contents × Stage)) (sent told : List Exchange) (kept id : ℕ) (code : Code) → is_at_work now ≡ false
-    → waiter ≡ None → ended ≡ true → EndsAs id code orders → HasCome first now waiter ended orders sent told kept → SaidEnd first now waiter ended orders sent id code
+said_by : (first now : Standing) (waiter : Option Contents) (ended : Bool) (orders : List (Contents × Stage))
+    (sent told : List Exchange) (kept id : ℕ) (code : Code)
+    → is_at_work now ≡ false
+    → waiter ≡ None → ended ≡ true → EndsAs id code orders → HasCome first now waiter ended orders sent told kept
+    → SaidEnd first now waiter ended orders sent id code
 said_by first now (Some order) ended orders sent told kept id code idle none true_is ends come = cc
 said_by first now None false orders sent told kept id code idle none true_is ends come = cc
-said_by first standings.Idle None true orders sent told kept id code idle none true_is ends come = said_newest first standings.Idle orders sent id code idle ends come.0
-said_by first (standings.Left unit) None true orders sent told kept id code idle none true_is ends come = said_newest first (standings.Left unit) orders sent id code idle ends come.0
+said_by first standings.Idle None true orders sent told kept id code idle none true_is ends come =
+    said_newest first standings.Idle orders sent id code idle ends come.0
+said_by first (standings.Left unit) None true orders sent told kept id code idle none true_is ends come =
+    said_newest first (standings.Left unit) orders sent id code idle ends come.0
 said_by first (standings.Began order) None true orders sent told kept id code idle none true_is ends come = cc
 said_by first (standings.Opened order) None true orders sent told kept id code idle none true_is ends come = cc
 
 -- the saying of an order's end
-pub said_end : (start : Start) (past : List Happening) (id : ℕ) (code : Code) → Legal start past → ByPlan start past → MaySay start past id (replies.Kept code)
-    → SaidEnd (stood_at start past) (standing_at start past) (waiting past) (has_ended past) (orders_of (records_of start past)) (sent_since_taken past) id code
+pub said_end : (start : Start) (past : List Happening) (id : ℕ) (code : Code) → Legal start past → ByPlan start past
+    → MaySay start past id (replies.Kept code)
+    → SaidEnd (stood_at start past) (standing_at start past) (waiting past) (has_ended past)
+    (orders_of (records_of start past)) (sent_since_taken past) id code
 said_end start past id code legal planned may =
-    said_by (stood_at start past) (standing_at start past) (waiting past) (has_ended past) (orders_of (records_of start past)) (sent_since_taken past) (told_in past) (kept_since past) id code
-    (ended_idle start past legal may.0) (none_waits_ended start past legal may.0) may.0 may.1 (on_course start past legal planned)
+    said_by (stood_at start past) (standing_at start past) (waiting past) (has_ended past)
+    (orders_of (records_of start past)) (sent_since_taken past) (told_in past) (kept_since past) id code
+    (ended_idle start past legal may.0) (none_waits_ended (course_of past) may.0) may.0 may.1
+    (on_course start past legal planned)
 
 -- the saying that an order is blocked
-blocked_by : (first now : Standing) (waiter : Option Contents) (ended : Bool) (orders : List (Contents × Stage)) (sent told : List Exchange) (kept id unit : ℕ) → now ≡ standings.Left unit
-    → HasNumber id waiter → Asks now told (asks.Ended verdicts.NotClosed) → HasCome first now waiter ended orders sent told kept → EndsUnread unit 0x02 sent
+blocked_by : (first now : Standing) (waiter : Option Contents) (ended : Bool) (orders : List (Contents × Stage))
+    (sent told : List Exchange) (kept id unit : ℕ)
+    → now ≡ standings.Left unit
+    → HasNumber id waiter → Asks now told (asks.Ended verdicts.NotClosed)
+    → HasCome first now waiter ended orders sent told kept → EndsUnread unit 0x02 sent
 blocked_by first (standings.Left left) (Some order) ended orders sent told kept id unit at number asked come =
     let same : left ≡ unit = cc in
-    subst (λ (u : ℕ). EndsUnread u 0x02 sent) same (unread_joined left 0x02 sent told [] (come.1 ∙ sym (append-nil told)) (closing_late told left asked))
+    subst (λ (u : ℕ). EndsUnread u 0x02 sent) same
+    (unread_joined left 0x02 sent told [] (come.1 ∙ sym (append-nil told)) (closing_late told left asked))
 blocked_by first (standings.Left left) None ended orders sent told kept id unit at number asked come = absurd number
 blocked_by first standings.Idle waiter ended orders sent told kept id unit at number asked come = absurd asked
 blocked_by first (standings.Began order) waiter ended orders sent told kept id unit at number asked come = cc
@@ -288,9 +368,11 @@ said_so start [] legal planned = tt
 said_so start (Asked order ∷ past) legal planned = tt
 said_so start (Answered id reply ∷ Asked order ∷ past) legal planned = tt
 said_so start (Answered id (replies.Kept code) ∷ past) legal planned =
-    let said = said_end start past id code legal.0 planned.0 legal.1 in (said.0, said.1, said.2, ended_earned (stood_at start past) said.0 code (sent_since_taken past) said.3)
+    let said = said_end start past id code legal.0 planned.0 legal.1 in
+    (said.0, said.1, said.2, ended_earned (stood_at start past) said.0 code (sent_since_taken past) said.3)
 said_so start (Answered id (replies.Blocked unit) ∷ past) legal planned =
-    blocked_by (stood_at start past) (standing_at start past) (waiting past) (has_ended past) (orders_of (records_of start past)) (sent_since_taken past) (told_in past) (kept_since past) id unit
+    blocked_by (stood_at start past) (standing_at start past) (waiting past) (has_ended past)
+    (orders_of (records_of start past)) (sent_since_taken past) (told_in past) (kept_since past) id unit
     legal.1.0 legal.1.1 planned.1 (on_course start past legal.0 planned.0)
 said_so start (Answered id reply ∷ past) legal planned = absurd legal.1
 said_so start (Sent frame answer ∷ past) legal planned = tt
@@ -299,5 +381,7 @@ said_so start (Stopped ∷ past) legal planned = tt
 
 pub worked : (start : Start) (past : List Happening) → Legal start past → ByPlan start past → IsWorked start past
 worked start [] legal planned = (within_limit start [] legal planned, tt)
-worked start (next ∷ past) legal planned =
-    ((within_limit start (next ∷ past) legal planned, said_so start (next ∷ past) legal planned), worked start past legal.0 planned.0)
+worked start (next ∷ past) legal planned = (
+  (within_limit start (next ∷ past) legal planned, said_so start (next ∷ past) legal planned),
+  worked start past legal.0 planned.0,
+)

@@ -22,20 +22,24 @@ joined [] = []
 joined (first ∷ []) = first.past
 joined (newest ∷ last ∷ older) = newest.past ++ Stopped ∷ joined (last ∷ older)
 
--- Each sitting's trace is legal, keeps to the plans and leaves no reply due. It starts with the limit of the start, and from the records that
--- the sittings before it left, the first one from those of the start.
+-- Each sitting's trace is legal, keeps to the plans and leaves no reply due. It starts with the limit of the start,
+-- and from the records that the sittings before it left, the first one from those of the start.
 abbrev pub FollowOn : Start → List Sitting → Type 0
 FollowOn start [] = Legal start []
 FollowOn start (newest ∷ older) =
     Legal newest.start newest.past × ByPlan newest.start newest.past × IsFinished newest.past
-    × (newest.start.records ≡ records_of start (joined older)) × (newest.start.limit ≡ start.limit) × FollowOn start older
+    × (newest.start.records ≡ records_of start (joined older)) × (newest.start.limit ≡ start.limit)
+    × FollowOn start older
 
 -- together they are one such trace from the start
 abbrev pub IsOneTrace : Start → List Sitting → Type 0
-IsOneTrace start sittings = Legal start (joined sittings) × ByPlan start (joined sittings) × IsFinished (joined sittings)
+IsOneTrace start sittings =
+    Legal start (joined sittings) × ByPlan start (joined sittings) × IsFinished (joined sittings)
 
 -- so along every chain of worlds of them, from a world as in Along of Moments.antt, all is right at each moment
 abbrev pub SittingsAreRight : Type 0
-SittingsAreRight = (zero : World) (start : Start) (sittings : List Sitting) (first last : World) (states : List World) → FollowOn start sittings
+SittingsAreRight =
+    (zero : World) (start : Start) (sittings : List Sitting) (first last : World) (states : List World)
+    → FollowOn start sittings
     → Fits zero start.records first → OnlyNamed start.records first → IsChain Moves first (joined sittings) last states
     → AtEachMoment (IsRight zero start) (joined sittings) last states

@@ -1,12 +1,12 @@
 -- The laws of a writer. They speak of traces and worlds alone.
-use Rattle.std.specs.Prelude.{◌≡◌, ◌≢◌, ◌↔◌, ◌≤◌, false, List, [], ◌∷◌, ◌++◌, length}
+use Rattle.std.specs.Prelude.{◌≡◌, ◌≢◌, ◌↔◌, false, List, [], ◌∷◌, ◌++◌}
 use Rattle.std.specs.List.{Contains}
 use Rattle.dali_bank.specs.Order.{Contents}
 use Rattle.dali_gear.specs.World.{World}
 use Rattle.dali_gear.specs.Chain.{IsChain, AtEachMoment}
 use Rattle.dali_journal.specs.declared.record.Code.{Code}
 use Rattle.dali_journal.specs.declared.kept.Stage.TheVariants as stages
-use Rattle.dali_journal.specs.Sentence.{IsSentence}
+use Rattle.dali_journal.specs.Sentence.{IsSentenceWithin}
 use Rattle.dali_journal.specs.Orders.{orders_of}
 use Rattle.dali_trace.specs.declared.happening.Reply.{Reply}
 use Rattle.dali_trace.specs.declared.happening.Reply.TheVariants as replies
@@ -29,7 +29,7 @@ RecordsAreTrue = (start : Start) (first : World) (past : List Happening) (last :
 -- the records are a sentence within the limit
 abbrev pub RecordsAreASentence : Type 0
 RecordsAreASentence = (start : Start) (past : List Happening) → Legal start past
-    → IsSentence (records_of start past) × (length (orders_of (records_of start past)) ≤ start.limit)
+    → IsSentenceWithin start.limit (records_of start past)
 
 -- the orders of the records are the taken ones, after those of the start (lists have the newest first)
 abbrev pub TakenOrdersAreKept : Type 0
@@ -56,15 +56,19 @@ abbrev pub QuietUntilTaken : Type 0
 QuietUntilTaken = (start : Start) (past more : List Happening)
     → Legal start (more ++ past) → is_busy start past ≡ false → NoneTaken more → NothingIsDone start more past
 
--- After an order that gets another reply than Taken, as each repeat does, just that may come next which might before, and the plan asks for just that. Anything may be at work.
+-- After an order that gets another reply than Taken, as each repeat does, just that may come next which might before,
+-- and the plan asks for just that. Anything may be at work.
 abbrev pub RefusedOrdersChangeNothing : Type 0
-RefusedOrdersChangeNothing = (start : Start) (past : List Happening) (order : Contents) (reply : Reply) (next : Happening)
+RefusedOrdersChangeNothing =
+    (start : Start) (past : List Happening) (order : Contents) (reply : Reply) (next : Happening)
     → IsFinished past → reply ≢ replies.Taken
     → (MayFollow start (Answered order.id reply ∷ Asked order ∷ past) next ↔ MayFollow start past next)
     × (IsPlanned start (Answered order.id reply ∷ Asked order ∷ past) next ↔ IsPlanned start past next)
 
--- where a trace isn't busy, nothing is done by the repeat of an order that has ended, nor from there until an order is taken
+-- where a trace isn't busy, nothing is done by the repeat of an order that has ended, nor from there until an order
+-- is taken
 abbrev pub RepeatsAreQuiet : Type 0
 RepeatsAreQuiet = (start : Start) (past more : List Happening) (order : Contents) (code : Code) (next : Happening)
     → Contains (orders_of (records_of start past)) (order, stages.Ended code) → is_busy start past ≡ false
-    → Legal start (more ++ next ∷ Asked order ∷ past) → NoneTaken more → NothingIsDone start (more ++ next ∷ Asked order ∷ []) past
+    → Legal start (more ++ next ∷ Asked order ∷ past) → NoneTaken more
+    → NothingIsDone start (more ++ next ∷ Asked order ∷ []) past

@@ -13,7 +13,8 @@ ghost use Rattle.dali_laws.specs.Joined.{Sitting, FollowOn, IsOneTrace, Sittings
 ghost use Rattle.dali_trace.specs.Next.{IsNext, IsSameBut};
 ghost use Rattle.dali_trace.specs.Work.{IsWorked};
 ghost use Rattle.dali_trace.specs.Moments.{Always, FitsAt, OnlyNamedAt, AppliedAt};
-ghost use Rattle.dali_laws.specs.Law.{RecordsAreTrue, RecordsAreASentence, TakenOrdersAreKept, OneReplyIsDue, RepeatsAreAnswered, RepeatsAreQuiet, RefusedOrdersChangeNothing, QuietUntilTaken};
+ghost use Rattle.dali_laws.specs.Law.{RecordsAreTrue, RecordsAreASentence, TakenOrdersAreKept, OneReplyIsDue};
+ghost use Rattle.dali_laws.specs.Law.{RepeatsAreAnswered, RepeatsAreQuiet, RefusedOrdersChangeNothing, QuietUntilTaken};
 
 /// Along every chain of worlds of every legal trace, from a world that fits the start world and the
 /// start records and in which no unit is write-enabled but the one that they name.
@@ -58,9 +59,9 @@ pub fn repeats_are_answered_by_what_is_kept()
     ensures quiet { RepeatsAreQuiet }
 {}
 
-/// An order that gets another reply than Taken, as each repeat of one that has ended does, changes nothing of what comes
-/// next, whatever is at work: just the frames, records and sayings that might come before it may come after its reply, and
-/// the plan asks for the same.
+/// An order that gets another reply than Taken, as each repeat of one that has ended does, changes nothing of what
+/// comes next, whatever is at work: just the frames, records and sayings that might come before it may come after its
+/// reply, and the plan asks for the same.
 pub fn refused_orders_change_nothing()
     ensures { RefusedOrdersChangeNothing }
 {}
@@ -70,35 +71,39 @@ pub fn nothing_is_done_until_an_order_is_taken()
     ensures { QuietUntilTaken }
 {}
 
-/// Along a legal trace that keeps to the plans: from a start of an order on, no more frames are sent than its limit and at
-/// most four records kept, and what is said of it comes after as many frames and misses as it must.
+/// Along a legal trace that keeps to the plans: from a start of an order on, no more frames are sent than its limit
+/// and at most four records kept, and what is said of it comes after as many frames and misses as it must.
 pub fn planned_work_is_limited()
     ensures { (start : Start) (past : List Happening) → Legal start past → ByPlan start past → IsWorked start past }
 {}
 
 /// With the same premises: wherever an order is at hand, it is said in what so many steps add, with no stop among them.
 pub fn orders_are_said_in_time()
-    ensures { (start : Start) (before past : List Happening) → Legal start past → ByPlan start past → IsFinished before → IsSaidInTime start before past }
+    ensures { (start : Start) (before past : List Happening) → Legal start past → ByPlan start past → IsFinished before
+        → IsSaidInTime start before past }
 {}
 
-/// The limit, and the frames of an order that is done: where it starts anew, with or without a left unit, and where it was
-/// opened.
+/// The limit, and the frames of an order that is done: where it starts anew, with or without a left unit, and where
+/// it was opened.
 pub fn limits_are_these()
     ensures limit { (updates : ℕ) → work_limit updates ≡ 96 * updates + 464 }
-    ensures low { (updates : List (ℕ × ℕ)) → greatest updates < 0x13 → frames_from standings.Idle updates ≡ 12 * length updates + 24 }
-    ensures high { (updates : List (ℕ × ℕ)) → 0x13 ≤ greatest updates → frames_from standings.Idle updates ≡ 12 * length updates + 34 }
-    ensures left { (unit : ℕ) (updates : List (ℕ × ℕ)) → frames_from (standings.Left unit) updates ≡ frames_from standings.Idle updates + 12 }
+    ensures low { (updates : List (ℕ × ℕ)) → greatest updates < 0x13
+        → frames_from standings.Idle updates ≡ 12 * length updates + 24 }
+    ensures high { (updates : List (ℕ × ℕ)) → 0x13 ≤ greatest updates
+        → frames_from standings.Idle updates ≡ 12 * length updates + 34 }
+    ensures left { (unit : ℕ) (updates : List (ℕ × ℕ))
+        → frames_from (standings.Left unit) updates ≡ frames_from standings.Idle updates + 12 }
 {}
 
-/// Sittings one after another, each from the records that those before it left, are one legal trace that keeps to the plans,
-/// with a stop between them. So whatever holds along such a trace holds along all of them.
+/// Sittings one after another, each from the records that those before it left, are one legal trace that keeps to the
+/// plans, with a stop between them. So whatever holds along such a trace holds along all of them.
 pub fn sittings_are_one_trace()
     ensures { (start : Start) (sittings : List Sitting) → FollowOn start sittings → IsOneTrace start sittings }
 {}
 
-/// Along every chain of worlds of such sittings, from a world that fits the start world and the start records and in which no
-/// unit is write-enabled but the one that they name: each moment fits, no unit but the named one is enabled, every place
-/// that is in no doubt is as the journal says, and when a record is kept, what it says is so.
+/// Along every chain of worlds of such sittings, from a world that fits the start world and the start records and in
+/// which no unit is write-enabled but the one that they name: each moment fits, no unit but the named one is enabled,
+/// every place that is in no doubt is as the journal says, and when a record is kept, what it says is so.
 pub fn every_moment_of_sittings_is_right()
     ensures { SittingsAreRight }
 {}

@@ -13,7 +13,8 @@ pub hears_dtr0 : (old byte : ℕ) → Carry (lone_unit old) (Dtr0 byte) None (lo
 unfolding gear
 hears_dtr0 old byte = record { units = λ address. at (address == 9) address; answers = tt }
   where
-    at : (here : Bool) (address : ℕ) → MayHear address (if here then Some (gear old) else None) (Dtr0 byte) (if here then Some (gear byte) else None)
+    at : (here : Bool) (address : ℕ)
+        → MayHear address (if here then Some (gear old) else None) (Dtr0 byte) (if here then Some (gear byte) else None)
     at true address = inr (None, record { obeyed = gear byte; obeys = (refl, refl); ends = inl refl })
     at false address = tt
 
@@ -22,9 +23,18 @@ unfolding gear
 tells_dtr0 dtr0 to mine =
     record {
       units = λ address. at (address == 9) address;
-      answers = record { address = 9; before = gear dtr0; after = gear dtr0; was = refl; is = refl; hears = record { obeyed = gear dtr0; obeys = inl (mine, (refl, refl)); ends = inl refl } };
+      answers = record {
+        address = 9;
+        before = gear dtr0;
+        after = gear dtr0;
+        was = refl;
+        is = refl;
+        hears = record { obeyed = gear dtr0; obeys = inl (mine, (refl, refl)); ends = inl refl };
+      };
     }
   where
-    at : (here : Bool) (address : ℕ) → MayHear address (if here then Some (gear dtr0) else None) (AskDtr0 to) (if here then Some (gear dtr0) else None)
+    at : (here : Bool) (address : ℕ)
+        → MayHear address (if here then Some (gear dtr0) else None) (AskDtr0 to)
+        (if here then Some (gear dtr0) else None)
     at true address = inl refl
     at false address = tt

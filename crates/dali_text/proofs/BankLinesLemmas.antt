@@ -1,5 +1,6 @@
 -- Lemmas on the lines of a memory bank.
-use Rattle.std.proofs.Common.{◌≡◌, ◌<◌, ◌-◌, ◌+◌, ◌^◌, ◌∙◌, ℕ, List, [], ◌∷◌, ◌++◌, Option, false, length, decimal, replicate, take, get_or, append-nil, ap, sym, subst, arith}
+use Rattle.std.proofs.Common.{◌≡◌, ◌<◌, ◌-◌, ◌+◌, ◌^◌, ◌∙◌, ℕ, List, [], ◌∷◌, ◌++◌, Option, false, length, decimal}
+use Rattle.std.proofs.Common.{replicate, take, get_or, append-nil, ap, sym, subst, arith}
 use Rattle.std.specs.Fmt.{padded_integral, format_spec, char_count}
 use Rattle.std.specs.List.{AllByRecursion}
 use Rattle.std.specs.Io.KnownBytes.{Appends}
@@ -9,13 +10,16 @@ use Rattle.dali_text.specs.BankLines.{AreLines, IsRowText, Line, fourteen_digits
 use Rattle.dali_text.proofs.StreamLemmas.{appends_both}
 
 -- what `{:014}` writes
-pub fourteen_padded : (n : ℕ) → padded_integral (format_spec 32 0 4 14 (2 ^ 64 - 1)) false [] (decimal n) ≡ fourteen_digits n
+pub fourteen_padded : (n : ℕ)
+    → padded_integral (format_spec 32 0 4 14 (2 ^ 64 - 1)) false [] (decimal n) ≡ fourteen_digits n
 unfolding padded_integral char_count
 fourteen_padded n =
     let padding : 14 - length (decimal n) - 0 - 0 ≡ 14 - length (decimal n) = omega arith in
-    ap (λ k. replicate k 48 ++ (decimal n ++ [])) padding ∙ ap (λ t. replicate (14 - length (decimal n)) 48 ++ t) (append-nil (decimal n))
+    ap (λ k. replicate k 48 ++ (decimal n ++ [])) padding
+    ∙ ap (λ t. replicate (14 - length (decimal n)) 48 ++ t) (append-nil (decimal n))
 
-pub all_one_more : {X : Type 0} (P : X → Type 0) (xs : List X) (x : X) → AllByRecursion P xs → P x → AllByRecursion P (xs ++ x ∷ [])
+pub all_one_more : {X : Type 0} (P : X → Type 0) (xs : List X) (x : X) → AllByRecursion P xs → P x
+    → AllByRecursion P (xs ++ x ∷ [])
 all_one_more P [] x all holds = (holds, tt)
 all_one_more P (y ∷ xs) x all holds = (all.0, all_one_more P xs x all.1 holds)
 
@@ -25,7 +29,8 @@ pub record Written (bank : List ℕ) (wanted : List Row) (before now : Option (L
   pub lines : AreLines bank wanted text
   pub appended : Appends before now text
 
-line_more : (bank : List ℕ) (wanted : List Row) (text : List ℕ) (line : Line) → AreLines bank wanted text → IsRowText bank line.row line.text
+line_more : (bank : List ℕ) (wanted : List Row) (text : List ℕ) (line : Line) → AreLines bank wanted text
+    → IsRowText bank line.row line.text
     → AreLines bank (wanted ++ line.row ∷ []) (text ++ line_text line)
 line_more bank wanted text line s says = record {
   lines = s.lines ++ line ∷ [];
@@ -35,12 +40,17 @@ line_more bank wanted text line s says = record {
 }
 
 -- the step of the loop: one more row's line
-pub row_more : (bank : List ℕ) (rows : List Row) (i : ℕ) (d : Row) (before mid now : Option (List ℕ)) (text : List ℕ) → i < length rows → Written bank (take i rows) before mid
-    → IsRowText bank (get_or rows i d) text → Appends mid now (line_text (record { row = get_or rows i d; text = text })) → Written bank (take (i + 1) rows) before now
+pub row_more : (bank : List ℕ) (rows : List Row) (i : ℕ) (d : Row) (before mid now : Option (List ℕ)) (text : List ℕ)
+    → i < length rows → Written bank (take i rows) before mid
+    → IsRowText bank (get_or rows i d) text
+    → Appends mid now (line_text (record { row = get_or rows i d; text = text }))
+    → Written bank (take (i + 1) rows) before now
 row_more bank rows i d before mid now text within s says appended =
     let line : Line = record { row = get_or rows i d; text = text } in
     record {
       text = s.text ++ line_text line;
-      lines = subst (λ rs. AreLines bank rs (s.text ++ line_text line)) (sym (take_more rows i d within)) (line_more bank (take i rows) s.text line s.lines says);
+      lines =
+          subst (λ rs. AreLines bank rs (s.text ++ line_text line)) (sym (take_more rows i d within))
+          (line_more bank (take i rows) s.text line s.lines says);
       appended = appends_both before mid now s.text (line_text line) s.appended appended;
     }

@@ -1,5 +1,6 @@
 -- Lemmas on what is told of a journal.
-use Rattle.std.proofs.Common.{◌≡◌, ◌∙◌, ℕ, List, [], ◌∷◌, ◌++◌, Option, Some, None, length, drop, reverse, length-append, append_assoc, append-nil, ap, sym, subst, refl, arith}
+use Rattle.std.proofs.Common.{◌≡◌, ◌∙◌, ℕ, List, [], ◌∷◌, ◌++◌, Option, Some, None, length, drop, reverse}
+use Rattle.std.proofs.Common.{length-append, append_assoc, append-nil, ap, sym, subst, refl, arith}
 use Rattle.std.specs.List.{AllByRecursion, flat_map}
 use Rattle.std.specs.Io.KnownBytes.{Appends}
 use Rattle.std.proofs.lemmas.List.{flat_map_more, reverse-append}
@@ -20,14 +21,16 @@ journal_forward (newest ∷ older) =
     ap (λ bytes. bytes ++ spelling newest) (journal_forward older) ∙ flat_map_more spelling [] (reverse older) newest
     ∙ ap (flat_map spelling) (sym (reverse-append (newest ∷ []) older))
 
-all_apart : {X : Type 0} (P : X → Type 0) (xs : List X) (x : X) → AllByRecursion P xs → P x → AllByRecursion P (xs ++ x ∷ [])
+all_apart : {X : Type 0} (P : X → Type 0) (xs : List X) (x : X) → AllByRecursion P xs → P x
+    → AllByRecursion P (xs ++ x ∷ [])
 all_apart P [] x all holds = (holds, tt)
 all_apart P (y ∷ xs) x all holds = (all.0, all_apart P xs x all.1 holds)
 
 pub all_forward : (records : List Record) → AllByRecursion IsRecord records → AllByRecursion IsRecord (reverse records)
 all_forward [] all = tt
 all_forward (newest ∷ older) all =
-    subst (AllByRecursion IsRecord) (sym (reverse-append (newest ∷ []) older)) (all_apart IsRecord (reverse older) newest (all_forward older all.1) all.0)
+    subst (AllByRecursion IsRecord) (sym (reverse-append (newest ∷ []) older))
+    (all_apart IsRecord (reverse older) newest (all_forward older all.1) all.0)
 
 -- so many of the records are told, and the rest of the bytes are those of the others
 pub record Told (records : List Record) (rest : List ℕ) (before now : Option (List ℕ)) : Type 0 where
@@ -43,18 +46,24 @@ appends_nothing None = tt
 appends_nothing (Some bytes) = sym (append-nil bytes)
 
 -- before the first
-pub none_told : (records : List Record) (bytes : List ℕ) (before : Option (List ℕ)) → AllByRecursion IsRecord records → bytes ≡ flat_map spelling records → Told records bytes before before
-none_told records bytes before all are = record { done = []; left = records; split = refl; in_range = all; bytes = are; appended = appends_nothing before }
+pub none_told : (records : List Record) (bytes : List ℕ) (before : Option (List ℕ)) → AllByRecursion IsRecord records
+    → bytes ≡ flat_map spelling records → Told records bytes before before
+none_told records bytes before all are =
+    record { done = []; left = records; split = refl; in_range = all; bytes = are; appended = appends_nothing before }
 
 -- a record is read off the rest, and told
-read_off : (records done left : List Record) (rest : List ℕ) (entry : Record) (len : ℕ) (before mid now : Option (List ℕ)) → IsRead rest (Whole entry len)
-    → records ≡ done ++ left → AllByRecursion IsRecord left → rest ≡ flat_map spelling left → Appends before mid (flat_map record_line done)
+read_off : (records done left : List Record) (rest : List ℕ) (entry : Record) (len : ℕ)
+    (before mid now : Option (List ℕ))
+    → IsRead rest (Whole entry len)
+    → records ≡ done ++ left → AllByRecursion IsRecord left → rest ≡ flat_map spelling left
+    → Appends before mid (flat_map record_line done)
     → Appends mid now (record_line entry) → Told records (drop len rest) before now
 read_off records done [] rest entry len before mid now reads split all bytes told line =
     let long = ap length (sym bytes ∙ reads.0.2) ∙ length-append (spelling entry) reads.0.1 in
     absurd (omega (arith, long, some_bytes entry))
 read_off records done (first ∷ others) rest entry len before mid now reads split all bytes told line =
-    let same : Whole entry len ≡ Whole first (length (spelling first)) = read_is rest first (Whole entry len) reads (all.0, flat_map spelling others, bytes) in
+    let same : Whole entry len ≡ Whole first (length (spelling first)) =
+    read_is rest first (Whole entry len) reads (all.0, flat_map spelling others, bytes) in
     let is : entry ≡ first = cc in
     let long : len ≡ length (spelling first) = cc in
     record {
@@ -62,26 +71,37 @@ read_off records done (first ∷ others) rest entry len before mid now reads spl
       left = others;
       split = split ∙ sym (append_assoc done (first ∷ []) others);
       in_range = all.1;
-      bytes = ap (λ n. drop n rest) long ∙ ap (drop (length (spelling first))) bytes ∙ drop-append_seam (spelling first) (flat_map spelling others);
-      appended = subst (λ text. Appends before now text) (ap (λ r. flat_map record_line done ++ record_line r) is ∙ flat_map_more record_line [] done first)
+      bytes =
+          ap (λ n. drop n rest) long ∙ ap (drop (length (spelling first))) bytes
+          ∙ drop-append_seam (spelling first) (flat_map spelling others);
+      appended =
+          subst (λ text. Appends before now text)
+          (ap (λ r. flat_map record_line done ++ record_line r) is ∙ flat_map_more record_line [] done first)
           (appends_both before mid now (flat_map record_line done) (record_line entry) told line);
     }
 
-pub told_more : (records : List Record) (rest : List ℕ) (entry : Record) (len : ℕ) (before mid now : Option (List ℕ)) → IsRead rest (Whole entry len)
+pub told_more : (records : List Record) (rest : List ℕ) (entry : Record) (len : ℕ) (before mid now : Option (List ℕ))
+    → IsRead rest (Whole entry len)
     → Told records rest before mid → Appends mid now (record_line entry) → Told records (drop len rest) before now
 told_more records rest entry len before mid now reads told line =
-    read_off records told.done told.left rest entry len before mid now reads told.split told.in_range told.bytes told.appended line
+    read_off records told.done told.left rest entry len before mid now reads told.split told.in_range told.bytes
+    told.appended line
 
 -- where the rest begins with no record, all are told
-none_left : (records done left : List Record) (rest : List ℕ) (piece : Piece) (before now : Option (List ℕ)) → IsRead rest piece → ((entry : Record) (len : ℕ) → ¬ (piece ≡ Whole entry len))
-    → records ≡ done ++ left → AllByRecursion IsRecord left → rest ≡ flat_map spelling left → Appends before now (flat_map record_line done)
+none_left : (records done left : List Record) (rest : List ℕ) (piece : Piece) (before now : Option (List ℕ))
+    → IsRead rest piece → ((entry : Record) (len : ℕ) → ¬ (piece ≡ Whole entry len))
+    → records ≡ done ++ left → AllByRecursion IsRecord left → rest ≡ flat_map spelling left
+    → Appends before now (flat_map record_line done)
     → Appends before now (flat_map record_line records)
 none_left records done [] rest piece before now reads other split all bytes told =
     subst (λ those. Appends before now (flat_map record_line those)) (sym (split ∙ append-nil done)) told
 none_left records done (first ∷ others) rest piece before now reads other split all bytes told =
-    absurd (other first (length (spelling first)) (read_is rest first piece reads (all.0, flat_map spelling others, bytes)))
+    absurd
+    (other first (length (spelling first)) (read_is rest first piece reads (all.0, flat_map spelling others, bytes)))
 
-pub all_told : (records : List Record) (rest : List ℕ) (piece : Piece) (before now : Option (List ℕ)) → IsRead rest piece → ((entry : Record) (len : ℕ) → ¬ (piece ≡ Whole entry len))
+pub all_told : (records : List Record) (rest : List ℕ) (piece : Piece) (before now : Option (List ℕ))
+    → IsRead rest piece → ((entry : Record) (len : ℕ) → ¬ (piece ≡ Whole entry len))
     → Told records rest before now → Appends before now (flat_map record_line records)
 all_told records rest piece before now reads other told =
-    none_left records told.done told.left rest piece before now reads other told.split told.in_range told.bytes told.appended
+    none_left records told.done told.left rest piece before now reads other told.split told.in_range
+    told.bytes told.appended

@@ -1,5 +1,7 @@
 -- Lemmas on the lines of a run and of its units.
-use Rattle.std.proofs.Common.{◌≡◌, ◌<◌, ◌≤◌, ◌+◌, ◌∙◌, ℕ, zero, suc, List, [], ◌∷◌, ◌++◌, Option, true, false, length, drop, take, get_or, reverse, append_assoc, append-nil, drop-cons, ap, sym, subst, refl, rules, arith, add-one, drop_of_length-le}
+use Rattle.std.proofs.Common.{◌≡◌, ◌<◌, ◌≤◌, ◌+◌, ◌∙◌, ℕ, zero, suc, List, [], ◌∷◌, ◌++◌, Option, true, false, length}
+use Rattle.std.proofs.Common.{drop, take, get_or, reverse, append_assoc, append-nil, drop-cons, ap, sym, subst, refl}
+use Rattle.std.proofs.Common.{rules, arith, add-one, drop_of_length-le}
 use Rattle.std.specs.List.{AllByRecursion, flat_map, range_with_len}
 use Rattle.std.specs.Io.KnownBytes.{Appends}
 use Rattle.std.proofs.lemmas.List.{flat_map_more, reverse-append, take_more}
@@ -14,7 +16,8 @@ use Rattle.dali_text.proofs.StreamLemmas.{appends_both}
 
 -- ---- proper frames
 
-proper_apart : (past : List Happening) (oldest : Happening) → SendsAllProper (past ++ oldest ∷ []) → SendsAllProper past × SendsProper oldest
+proper_apart : (past : List Happening) (oldest : Happening) → SendsAllProper (past ++ oldest ∷ [])
+    → SendsAllProper past × SendsProper oldest
 proper_apart [] oldest all = (tt, all.0)
 proper_apart (newest ∷ past) oldest all = let (rest, last) = proper_apart past oldest all.1 in ((all.0, rest), last)
 
@@ -22,7 +25,8 @@ proper_apart (newest ∷ past) oldest all = let (rest, last) = proper_apart past
 pub proper_forward : (trace : List Happening) → SendsAllProper (reverse trace) → AllByRecursion SendsProper trace
 proper_forward [] all = tt
 proper_forward (oldest ∷ trace) all =
-    let (rest, last) = proper_apart (reverse trace) oldest (subst SendsAllProper (reverse-append (oldest ∷ []) trace) all) in
+    let (rest, last) =
+    proper_apart (reverse trace) oldest (subst SendsAllProper (reverse-append (oldest ∷ []) trace) all) in
     (last, proper_forward trace rest)
 
 -- ---- groups
@@ -35,27 +39,33 @@ range_more a (suc n) b e = ap (λ ns. a ∷ ns) (range_more (a + 1) n b (omega a
 abbrev pub groups : ℕ → List ℕ → ℕ → List ℕ
 groups address bytes count = flat_map (λ number. group_line address number bytes) (range_with_len 0 count)
 
-pub groups_more : (address : ℕ) (bytes : List ℕ) (n : ℕ) → groups address bytes n ++ group_line address n bytes ≡ groups address bytes (n + 1)
+pub groups_more : (address : ℕ) (bytes : List ℕ) (n : ℕ)
+    → groups address bytes n ++ group_line address n bytes ≡ groups address bytes (n + 1)
 groups_more address bytes n =
-    rw (add-one n) (flat_map_more (λ number. group_line address number bytes) [] (range_with_len 0 n) n ∙ ap (flat_map (λ number. group_line address number bytes)) (sym (range_more 0 n n (omega arith))))
+    rw (add-one n) (flat_map_more (λ number. group_line address number bytes) [] (range_with_len 0 n) n
+    ∙ ap (flat_map (λ number. group_line address number bytes)) (sym (range_more 0 n n (omega arith))))
 
 -- ---- runs of frames
 
--- what is left to tell of a trace: where so many frames of a run aren't told yet, the line of this run, and then the rest
+-- what is left to tell of a trace: where so many frames of a run aren't told yet, the line of this run, and then the
+-- rest
 abbrev pub left_text : ℕ → List Happening → List ℕ
 left_text zero rest = summary false rest
 left_text (suc k) rest = frames_line (frames_ahead rest + suc k) ++ summary true rest
 
-left_sent : (frames : ℕ) (frame : Frame) (answer : Option ℕ) (rest : List Happening) → left_text frames (Sent frame answer ∷ rest) ≡ left_text (suc frames) rest
+left_sent : (frames : ℕ) (frame : Frame) (answer : Option ℕ) (rest : List Happening)
+    → left_text frames (Sent frame answer ∷ rest) ≡ left_text (suc frames) rest
 left_sent zero frame answer rest = refl
 left_sent (suc k) frame answer rest = ap (λ n. frames_line n ++ summary true rest) (omega arith)
 
 run_some : (k : ℕ) → run_line (suc k) ≡ frames_line (suc k)
 run_some k = search rules
 
-told_before : (k : ℕ) (line rest : List ℕ) → frames_line (0 + suc k) ++ (line ++ rest) ≡ (run_line (suc k) ++ line) ++ rest
+told_before : (k : ℕ) (line rest : List ℕ)
+    → frames_line (0 + suc k) ++ (line ++ rest) ≡ (run_line (suc k) ++ line) ++ rest
 told_before k line rest =
-    ap (λ n. frames_line n ++ (line ++ rest)) (omega arith) ∙ ap (λ t. t ++ (line ++ rest)) (sym (run_some k)) ∙ sym (append_assoc (run_line (suc k)) line rest)
+    ap (λ n. frames_line n ++ (line ++ rest)) (omega arith) ∙ ap (λ t. t ++ (line ++ rest)) (sym (run_some k))
+    ∙ sym (append_assoc (run_line (suc k)) line rest)
 
 left_other : (frames : ℕ) (happening : Happening) (rest : List Happening) → is_sent happening ≡ false
     → left_text frames (happening ∷ rest) ≡ (run_line frames ++ happening_line happening) ++ left_text 0 rest
@@ -65,7 +75,8 @@ left_other zero (Sent frame answer) rest other = cc
 left_other zero (Kept entry) rest other = refl
 left_other zero Stopped rest other = refl
 left_other (suc k) (Asked order) rest other = told_before k (happening_line (Asked order)) (summary false rest)
-left_other (suc k) (Answered id reply) rest other = told_before k (happening_line (Answered id reply)) (summary false rest)
+left_other (suc k) (Answered id reply) rest other =
+    told_before k (happening_line (Answered id reply)) (summary false rest)
 left_other (suc k) (Sent frame answer) rest other = cc
 left_other (suc k) (Kept entry) rest other = told_before k (happening_line (Kept entry)) (summary false rest)
 left_other (suc k) Stopped rest other = told_before k (happening_line Stopped) (summary false rest)
@@ -81,23 +92,33 @@ pub record Summing (trace : List Happening) (index frames : ℕ) (before now : O
   pub appended : Appends before now text
   pub whole : text ++ left_text frames (drop index trace) ≡ summary false trace
 
-next : (trace : List Happening) (i : ℕ) (happening : Happening) → i < length trace → happening ≡ get_or trace i happening → drop i trace ≡ happening ∷ drop (i + 1) trace
-next trace i happening within is = drop-cons trace i happening within ∙ ap (λ h. h ∷ drop (suc i) trace) (sym is) ∙ ap (λ k. happening ∷ drop k trace) (sym (add-one i))
+next : (trace : List Happening) (i : ℕ) (happening : Happening) → i < length trace
+    → happening ≡ get_or trace i happening → drop i trace ≡ happening ∷ drop (i + 1) trace
+next trace i happening within is =
+    drop-cons trace i happening within ∙ ap (λ h. h ∷ drop (suc i) trace) (sym is)
+    ∙ ap (λ k. happening ∷ drop k trace) (sym (add-one i))
 
-pub sum_sent : (trace : List Happening) (i frames : ℕ) (frame : Frame) (answer : Option ℕ) (happening : Happening) (before now : Option (List ℕ)) → i < length trace
-    → happening ≡ get_or trace i happening → happening ≡ Sent frame answer → Summing trace i frames before now → Summing trace (i + 1) (frames + 1) before now
+pub sum_sent : (trace : List Happening) (i frames : ℕ) (frame : Frame) (answer : Option ℕ) (happening : Happening)
+    (before now : Option (List ℕ))
+    → i < length trace
+    → happening ≡ get_or trace i happening → happening ≡ Sent frame answer → Summing trace i frames before now
+    → Summing trace (i + 1) (frames + 1) before now
 sum_sent trace i frames frame answer happening before now within is sent s = record {
   few = omega (arith, s.few);
   text = s.text;
   appended = s.appended;
   whole =
-      let split : drop i trace ≡ Sent frame answer ∷ drop (i + 1) trace = next trace i happening within is ∙ ap (λ h. h ∷ drop (i + 1) trace) sent in
-      ap (λ n. s.text ++ left_text n (drop (i + 1) trace)) (add-one frames) ∙ ap (λ t. s.text ++ t) (sym (left_sent frames frame answer (drop (i + 1) trace)))
+      let split : drop i trace ≡ Sent frame answer ∷ drop (i + 1) trace =
+      next trace i happening within is ∙ ap (λ h. h ∷ drop (i + 1) trace) sent in
+      ap (λ n. s.text ++ left_text n (drop (i + 1) trace)) (add-one frames)
+      ∙ ap (λ t. s.text ++ t) (sym (left_sent frames frame answer (drop (i + 1) trace)))
       ∙ ap (λ r. s.text ++ left_text frames r) (sym split) ∙ s.whole;
 }
 
-pub sum_other : (trace : List Happening) (i frames : ℕ) (happening : Happening) (before mid told now : Option (List ℕ)) → i < length trace → happening ≡ get_or trace i happening
-    → is_sent happening ≡ false → Summing trace i frames before mid → Appends mid told (run_line frames) → Appends told now (happening_line happening) → Summing trace (i + 1) 0 before now
+pub sum_other : (trace : List Happening) (i frames : ℕ) (happening : Happening) (before mid told now : Option (List ℕ))
+    → i < length trace → happening ≡ get_or trace i happening
+    → is_sent happening ≡ false → Summing trace i frames before mid → Appends mid told (run_line frames)
+    → Appends told now (happening_line happening) → Summing trace (i + 1) 0 before now
 sum_other trace i frames happening before mid told now within is other s run line = record {
   few = omega arith;
   text = s.text ++ (run_line frames ++ happening_line happening);
@@ -108,14 +129,17 @@ sum_other trace i frames happening before mid told now within is other s run lin
       ∙ ap (λ r. s.text ++ left_text frames r) (sym (next trace i happening within is)) ∙ s.whole;
 }
 
-pub summed : (trace : List Happening) (i frames : ℕ) (before mid now : Option (List ℕ)) → length trace ≤ i → Summing trace i frames before mid → Appends mid now (run_line frames)
+pub summed : (trace : List Happening) (i frames : ℕ) (before mid now : Option (List ℕ)) → length trace ≤ i
+    → Summing trace i frames before mid → Appends mid now (run_line frames)
     → Appends before now (summary false trace)
 summed trace i frames before mid now all s run =
     let whole : s.text ++ run_line frames ≡ summary false trace =
-    ap (λ t. s.text ++ t) (sym (left_nothing frames)) ∙ ap (λ r. s.text ++ left_text frames r) (sym (drop_of_length-le trace all)) ∙ s.whole in
+    ap (λ t. s.text ++ t) (sym (left_nothing frames))
+    ∙ ap (λ r. s.text ++ left_text frames r) (sym (drop_of_length-le trace all)) ∙ s.whole in
     subst (λ t. Appends before now t) whole (appends_both before mid now s.text (run_line frames) s.appended run)
 
-pub not_sent : (happening : Happening) → ((frame : Frame) (answer : Option ℕ) → ¬ (happening ≡ Sent frame answer)) → is_sent happening ≡ false
+pub not_sent : (happening : Happening) → ((frame : Frame) (answer : Option ℕ) → ¬ (happening ≡ Sent frame answer))
+    → is_sent happening ≡ false
 not_sent (Asked order) other = refl
 not_sent (Answered id reply) other = refl
 not_sent (Sent frame answer) other = absurd (other frame answer refl)
@@ -125,10 +149,13 @@ not_sent Stopped other = refl
 -- ---- units
 
 -- one more unit
-pub units_more : (units : List UnitState) (i : ℕ) (unit : UnitState) (before mid now : Option (List ℕ)) → i < length units → unit ≡ get_or units i unit
-    → Appends before mid (flat_map unit_text (take i units)) → Appends mid now (unit_text unit) → Appends before now (flat_map unit_text (take (i + 1) units))
+pub units_more : (units : List UnitState) (i : ℕ) (unit : UnitState) (before mid now : Option (List ℕ))
+    → i < length units → unit ≡ get_or units i unit
+    → Appends before mid (flat_map unit_text (take i units)) → Appends mid now (unit_text unit)
+    → Appends before now (flat_map unit_text (take (i + 1) units))
 units_more units i unit before mid now within is told line =
     subst (λ text. Appends before now text)
-    (ap (λ u. flat_map unit_text (take i units) ++ unit_text u) is ∙ flat_map_more unit_text [] (take i units) (get_or units i unit)
+    (ap (λ u. flat_map unit_text (take i units) ++ unit_text u) is
+    ∙ flat_map_more unit_text [] (take i units) (get_or units i unit)
     ∙ ap (λ us. flat_map unit_text us) (sym (take_more units i unit within)))
     (appends_both before mid now (flat_map unit_text (take i units)) (unit_text unit) told line)

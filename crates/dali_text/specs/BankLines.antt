@@ -1,8 +1,11 @@
 -- How the bytes of a memory bank 1 are told.
-use Rattle.std.specs.Prelude.{◌≡◌, ◌⊎◌, ◌+◌, ◌-◌, ◌<◌, ◌≤◌, ℕ, List, [], ◌∷◌, ◌++◌, codes, decimal, drop, length, map, replicate, take}
+use Rattle.std.specs.Prelude.{◌≡◌, ◌⊎◌, ◌+◌, ◌-◌, ◌<◌, ◌≤◌, ℕ, List, [], ◌∷◌, ◌++◌, codes, decimal, drop, length, map}
+use Rattle.std.specs.Prelude.{replicate, take}
 use Rattle.std.specs.List.{AllByRecursion, flat_map}
 use Rattle.dali_bank.specs.declared.field.Field.{Field}
-use Rattle.dali_bank.specs.declared.field.Field.TheVariants.{Gtin, Identification, Year, Week, InputPower, MinDimPower, MinVoltage, MaxVoltage, LightOutput, Cri, Cct, Distribution, Colour, Luminaire}
+use Rattle.dali_bank.specs.declared.field.Field.TheVariants.{Gtin, Identification, Year, Week, InputPower, MinDimPower}
+use Rattle.dali_bank.specs.declared.field.Field.TheVariants.{MinVoltage, MaxVoltage, LightOutput, Cri, Cct}
+use Rattle.dali_bank.specs.declared.field.Field.TheVariants.{Distribution, Colour, Luminaire}
 use Rattle.dali_bank.specs.declared.shown.Shown.{Shown}
 use Rattle.dali_bank.specs.declared.shown.Shown.TheVariants as shown
 use Rattle.dali_bank.specs.Keys.{key_of}
@@ -15,7 +18,9 @@ use Rattle.dali_text.specs.Digits.{bytes_digits}
 
 -- the rows, by rising location
 abbrev pub rows : List Row
-rows = Last ∷ Indicator ∷ Lock ∷ Of Gtin ∷ Of Identification ∷ Format ∷ Of Year ∷ Of Week ∷ Of InputPower ∷ Of MinDimPower ∷ Of MinVoltage ∷ Of MaxVoltage
+rows =
+    Last ∷ Indicator ∷ Lock ∷ Of Gtin ∷ Of Identification ∷ Format ∷ Of Year ∷ Of Week ∷ Of InputPower ∷ Of MinDimPower
+    ∷ Of MinVoltage ∷ Of MaxVoltage
     ∷ Of LightOutput ∷ Of Cri ∷ Of Cct ∷ Of Distribution ∷ Of Colour ∷ Of Luminaire ∷ []
 
 -- a row's word

@@ -27,4 +27,5 @@ counts_line counted total orders standing =
 -- the records, the oldest first, and what counts; records are listed newest first
 abbrev pub journal_text : List Record → ℕ → ℕ → List ℕ
 journal_text records counted total =
-    flat_map record_line (reverse records) ++ counts_line counted total (length (orders_of records)) (standing_of records)
+    flat_map record_line (reverse records)
+    ++ counts_line counted total (length (orders_of records)) (standing_of records)

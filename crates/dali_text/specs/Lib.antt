@@ -1,3 +1,4 @@
+pub mod Output
 pub mod Digits
 pub mod OrderLines
 pub mod FaultLines

@@ -1,7 +1,8 @@
 -- How a run is told.
-use Rattle.std.specs.Prelude.{ℕ, ◌+◌, ◌==◌, Bool, true, false, List, [], ◌∷◌, ◌++◌, Option, Some, None, codes, count_by, decimal, if◌then◌else◌}
+use Rattle.std.specs.Prelude.{ℕ, ◌+◌, ◌==◌, Bool, true, false, List, [], ◌∷◌, ◌++◌, Option, Some, None, codes, count_by}
+use Rattle.std.specs.Prelude.{decimal, if◌then◌else◌}
 use Rattle.std.specs.List.{flat_map}
-use Rattle.dali_frame.specs.Frame.{spelling}
+use Rattle.dali_frame.specs.Frame.{frame_word}
 use Rattle.dali_frame.specs.Hex.{byte_digits, word_digits}
 use Rattle.dali_gear.specs.UnitState.{UnitState}
 use Rattle.dali_trace.specs.declared.happening.Happening.{Happening}
@@ -22,7 +23,7 @@ abbrev pub happening_line : Happening → List ℕ
 happening_line (Asked order) = codes "ask " ++ decimal order.id ++ codes "\n"
 happening_line (Answered id reply) = codes "reply " ++ decimal id ++ codes " " ++ reply_text reply ++ codes "\n"
 happening_line (Sent frame answer) =
-    codes "send " ++ word_digits (spelling frame) ++ codes " " ++ answer_text answer ++ codes "\n"
+    codes "send " ++ word_digits (frame_word frame) ++ codes " " ++ answer_text answer ++ codes "\n"
 happening_line (Kept entry) = codes "keep " ++ record_text entry ++ codes "\n"
 happening_line Stopped = codes "stop\n"
 

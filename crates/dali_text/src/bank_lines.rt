@@ -1,12 +1,13 @@
 ghost use Rattle.std.specs.Prelude.{◌≡◌, ◌≤◌, ◌+◌, ℕ, List, ◌++◌, OnOk, codes, length};
-ghost use Rattle.std.specs.Io.KnownBytes.{Appends};
 ghost use Rattle.dali_bank.specs.Layout.{first_of, length_of};
 ghost use Rattle.dali_bank.specs.Shown.{IsShown, part_of};
-ghost use Rattle.dali_text.specs.BankLines.{AreLines, IsPlainText, IsRowText, number_text, rows, shown_text, word_of as row_word};
+ghost use Rattle.dali_text.specs.BankLines.{AreLines, IsPlainText, IsRowText, number_text, rows, shown_text};
+ghost use Rattle.dali_text.specs.BankLines.{word_of as row_word};
+ghost use Rattle.dali_text.specs.Output.{TellsFailure, Takes};
 
 use crate::digits::write_bytes;
+use crate::output::{Output, Unwritten};
 use dali_bank::{Field, Shown, read_field};
-use std::io;
 use std::io::Write;
 
 /// A row of what is told of a memory bank.
@@ -50,26 +51,28 @@ const ROWS: [Row; 18] = [
 /// location, with the row's word and what the bank has there.
 ///
 /// A bank of any length will do. A row that it ends before is absent.
-pub fn write_bank<W: Write>(writer: &mut W, bank: &[u8]) -> io::Result<()>
-    ensures { OnOk result ((text : List ℕ) × AreLines bank.now rows text
-        × Appends (W.contents writer.old) (W.contents writer.new) text) }
+pub fn write_bank<W: Write>(output: &mut Output<W>, bank: &[u8]) -> Result<(), Unwritten>
+    ensures text { OnOk result ((text : List ℕ) × AreLines bank.now rows text
+        × Takes W.contents output.old output.new text) }
+    ensures failed { TellsFailure result output.old output.new }
 {
     for &row in &ROWS {
-        write_row(writer, bank, row)?;
+        write_row(output, bank, row)?;
     }
     Ok(())
 }
 
 // Writes a row.
 #[tactic(auto, using(crate::proofs::StreamLemmas::appends_both))]
-fn write_row<W: Write>(writer: &mut W, bank: &[u8], row: Row) -> io::Result<()>
-    ensures { OnOk result ((text : List ℕ) × IsRowText bank.now row text
-        × Appends (W.contents writer.old) (W.contents writer.new) (row_word row ++ codes " " ++ text ++ codes "\n")) }
+fn write_row<W: Write>(output: &mut Output<W>, bank: &[u8], row: Row) -> Result<(), Unwritten>
+    ensures text { OnOk result ((text : List ℕ) × IsRowText bank.now row text
+        × Takes W.contents output.old output.new (row_word row ++ codes " " ++ text ++ codes "\n")) }
+    ensures failed { TellsFailure result output.old output.new }
 {
     let word = word_of(row);
-    write!(writer, "{word} ")?;
-    write_text(writer, bank, row)?;
-    writeln!(writer)
+    write!(output, "{word} ")?;
+    write_text(output, bank, row)?;
+    writeln!(output)
 }
 
 // A row's word.
@@ -86,50 +89,63 @@ fn word_of(row: Row) -> &'static str
 }
 
 // Writes what a row says of the bank.
-fn write_text<W: Write>(writer: &mut W, bank: &[u8], row: Row) -> io::Result<()>
-    ensures { OnOk result ((text : List ℕ) × IsRowText bank.now row text
-        × Appends (W.contents writer.old) (W.contents writer.new) text) }
+fn write_text<W: Write>(output: &mut Output<W>, bank: &[u8], row: Row) -> Result<(), Unwritten>
+    ensures text { OnOk result ((text : List ℕ) × IsRowText bank.now row text
+        × Takes W.contents output.old output.new text) }
+    ensures failed { TellsFailure result output.old output.new }
 {
     match row {
-        Row::Last => write_plain(writer, bank, 0x00, 1),
-        Row::Indicator => write_plain(writer, bank, 0x01, 1),
-        Row::Lock => write_plain(writer, bank, 0x02, 1),
-        Row::Format => write_plain(writer, bank, 0x11, 2),
-        Row::Of(field) => write_field(writer, bank, field, read_field(bank, field)),
+        Row::Last => write_plain(output, bank, 0x00, 1),
+        Row::Indicator => write_plain(output, bank, 0x01, 1),
+        Row::Lock => write_plain(output, bank, 0x02, 1),
+        Row::Format => write_plain(output, bank, 0x11, 2),
+        Row::Of(field) => write_field(output, bank, field, read_field(bank, field)),
     }
 }
 
 // Writes so many bytes of the bank as they are.
-fn write_plain<W: Write>(writer: &mut W, bank: &[u8], first: u8, count: u8) -> io::Result<()>
-    ensures { OnOk result ((text : List ℕ) × IsPlainText bank.now first count text
-        × Appends (W.contents writer.old) (W.contents writer.new) text) }
+fn write_plain<W: Write>(
+    output: &mut Output<W>,
+    bank: &[u8],
+    first: u8,
+    count: u8,
+) -> Result<(), Unwritten>
+    ensures text { OnOk result ((text : List ℕ) × IsPlainText bank.now first count text
+        × Takes W.contents output.old output.new text) }
+    ensures failed { TellsFailure result output.old output.new }
 {
     let (first, count) = (first as usize, count as usize);
     if bank.len() < first + count {
-        return write!(writer, "absent");
+        return write!(output, "absent");
     }
-    write_bytes(writer, &bank[first..][..count])
+    write_bytes(output, &bank[first..][..count])
 }
 
 // Writes a field that is shown in this way.
 #[tactic(auto, using(crate::proofs::StreamLemmas::appends_both))]
-fn write_field<W: Write>(writer: &mut W, bank: &[u8], field: Field, shown: Shown) -> io::Result<()>
+fn write_field<W: Write>(
+    output: &mut Output<W>,
+    bank: &[u8],
+    field: Field,
+    shown: Shown,
+) -> Result<(), Unwritten>
     requires { IsShown bank.now field shown }
-    ensures { OnOk result (Appends (W.contents writer.old) (W.contents writer.new)
+    ensures text { OnOk result (Takes W.contents output.old output.new
         (shown_text field (part_of field bank.now) shown)) }
+    ensures failed { TellsFailure result output.old output.new }
 {
     match shown {
-        Shown::Absent => write!(writer, "absent"),
-        Shown::Unknown => write!(writer, "unknown"),
-        Shown::Number(number) => write_number(writer, field, number),
-        Shown::Hex => write_bytes(writer, part(bank, field)),
+        Shown::Absent => write!(output, "absent"),
+        Shown::Unknown => write!(output, "unknown"),
+        Shown::Number(number) => write_number(output, field, number),
+        Shown::Hex => write_bytes(output, part(bank, field)),
         Shown::Text(count) => {
-            write!(writer, "text ")?;
-            writer.write_all(&part(bank, field)[..count as usize])
+            write!(output, "text ")?;
+            output.write_all(&part(bank, field)[..count as usize])
         }
         Shown::Raw => {
-            write!(writer, "raw ")?;
-            write_bytes(writer, part(bank, field))
+            write!(output, "raw ")?;
+            write_bytes(output, part(bank, field))
         }
     }
 }
@@ -144,11 +160,16 @@ fn part(bank: &[u8], field: Field) -> &[u8]
 
 // Writes a field's number.
 #[tactic(auto, using(crate::proofs::BankLinesLemmas::fourteen_padded))]
-fn write_number<W: Write>(writer: &mut W, field: Field, number: u64) -> io::Result<()>
-    ensures { OnOk result (Appends (W.contents writer.old) (W.contents writer.new) (number_text field number)) }
+fn write_number<W: Write>(
+    output: &mut Output<W>,
+    field: Field,
+    number: u64,
+) -> Result<(), Unwritten>
+    ensures text { OnOk result (Takes W.contents output.old output.new (number_text field number)) }
+    ensures failed { TellsFailure result output.old output.new }
 {
     match field {
-        Field::Gtin => write!(writer, "{number:014}"),
-        _ => write!(writer, "{number}"),
+        Field::Gtin => write!(output, "{number:014}"),
+        _ => write!(output, "{number}"),
     }
 }

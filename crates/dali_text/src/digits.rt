@@ -1,9 +1,10 @@
 ghost use Rattle.std.specs.Prelude.{OnOk};
-ghost use Rattle.std.specs.Io.KnownBytes.{Appends};
 ghost use Rattle.dali_text.specs.Digits.{bytes_digits};
+ghost use Rattle.dali_text.specs.Output.{TellsFailure, Takes};
 
+use crate::output::{Output, Unwritten};
+use std::fmt;
 use std::io::Write;
-use std::{fmt, io};
 
 /// The two upper-case hexadecimal digits of a byte.
 #[derive(Clone, Copy, Debug)]
@@ -40,12 +41,13 @@ impl fmt::Display for WordDigits {
 
 /// Writes the two upper-case hexadecimal digits of each byte, with nothing between them.
 #[tactic(auto, using(crate::proofs::StreamLemmas::appends_both))]
-pub fn write_bytes<W: Write>(writer: &mut W, bytes: &[u8]) -> io::Result<()>
-    ensures { OnOk result (Appends (W.contents writer.old) (W.contents writer.new) (bytes_digits bytes.now)) }
+pub fn write_bytes<W: Write>(output: &mut Output<W>, bytes: &[u8]) -> Result<(), Unwritten>
+    ensures text { OnOk result (Takes W.contents output.old output.new (bytes_digits bytes.now)) }
+    ensures failed { TellsFailure result output.old output.new }
 {
     for &byte in bytes {
         let digits = ByteDigits(byte);
-        write!(writer, "{digits}")?;
+        write!(output, "{digits}")?;
     }
     Ok(())
 }

@@ -1,14 +1,15 @@
 ghost use Rattle.std.specs.Prelude.{◌≡◌, ◌≤◌, List, OnOk, drop, length, reverse};
-ghost use Rattle.std.specs.Io.KnownBytes.{Appends};
 ghost use Rattle.std.specs.List.{AllByRecursion, flat_map};
 ghost use Rattle.dali_journal.specs.declared.record.Record.{Record as Entry};
 ghost use Rattle.dali_journal.specs.Spelling.{IsRecord, journal_spelling, spelling};
 ghost use Rattle.dali_text.specs.JournalLines.{counts_line, journal_text, record_line, standing_text};
+ghost use Rattle.dali_text.specs.Output.{TellsFailure, Takes};
 
+use crate::output::{Output, Unwritten};
 use crate::record_text::RecordText;
 use dali_journal::{Journal, Piece, Record, Standing};
+use std::fmt;
 use std::io::Write;
-use std::{fmt, io};
 
 // A standing as a program tells it.
 #[derive(Clone, Copy)]
@@ -36,39 +37,46 @@ impl fmt::Display for StandingText<'_> {
 /// `bytes` are the journal's, and `total` is how many the file has.
 #[tactic(auto, using(crate::proofs::StreamLemmas::appends_both))]
 pub fn write_journal<W: Write>(
-    writer: &mut W,
+    output: &mut Output<W>,
     journal: &Journal,
     bytes: &[u8],
     total: usize,
-) -> io::Result<()>
+) -> Result<(), Unwritten>
     requires { bytes.now ≡ journal_spelling journal.now.records }
-    ensures { OnOk result (Appends (W.contents writer.old) (W.contents writer.new)
+    ensures text { OnOk result (Takes W.contents output.old output.new
         (journal_text journal.now.records (length bytes.now) total)) }
+    ensures failed { TellsFailure result output.old output.new }
 {
-    write_records(writer, journal, bytes)?;
+    write_records(output, journal, bytes)?;
     let orders = journal.orders();
-    write_counts(writer, bytes.len(), total, orders, &journal.standing())
+    write_counts(output, bytes.len(), total, orders, &journal.standing())
 }
 
 // Writes a line for each record of a journal, the oldest first.
-fn write_records<W: Write>(writer: &mut W, journal: &Journal, bytes: &[u8]) -> io::Result<()>
+fn write_records<W: Write>(
+    output: &mut Output<W>,
+    journal: &Journal,
+    bytes: &[u8],
+) -> Result<(), Unwritten>
     requires { bytes.now ≡ journal_spelling journal.now.records }
-    ensures { OnOk result (Appends (W.contents writer.old) (W.contents writer.new)
+    ensures text { OnOk result (Takes W.contents output.old output.new
         (flat_map record_line (reverse journal.now.records))) }
+    ensures failed { TellsFailure result output.old output.new }
 {
     // it tells that the records' numbers are in range
     let _limit = journal.limit();
-    write_each(writer, bytes)
+    write_each(output, bytes)
 }
 
 // Writes a line for each record that the bytes are.
-fn write_each<W: Write>(writer: &mut W, bytes: &[u8]) -> io::Result<()>
-    ensures { (records : List Entry) → AllByRecursion IsRecord records → bytes.now ≡ flat_map spelling records
-        → OnOk result (Appends (W.contents writer.old) (W.contents writer.new) (flat_map record_line records)) }
+fn write_each<W: Write>(output: &mut Output<W>, bytes: &[u8]) -> Result<(), Unwritten>
+    ensures text { (records : List Entry) → AllByRecursion IsRecord records → bytes.now ≡ flat_map spelling records
+        → OnOk result (Takes W.contents output.old output.new (flat_map record_line records)) }
+    ensures failed { TellsFailure result output.old output.new }
 {
     let mut rest = bytes;
     while let Piece::Whole(entry, len) = Record::read(rest) {
-        write_record(writer, &entry)?;
+        write_record(output, &entry)?;
         rest = behind(rest, len);
     }
     Ok(())
@@ -83,27 +91,29 @@ fn behind(bytes: &[u8], count: usize) -> &[u8]
 }
 
 // Writes a record by itself.
-fn write_record<W: Write>(writer: &mut W, entry: &Record) -> io::Result<()>
-    ensures { OnOk result (Appends (W.contents writer.old) (W.contents writer.new) (record_line entry.now)) }
+fn write_record<W: Write>(output: &mut Output<W>, entry: &Record) -> Result<(), Unwritten>
+    ensures text { OnOk result (Takes W.contents output.old output.new (record_line entry.now)) }
+    ensures failed { TellsFailure result output.old output.new }
 {
     let entry = RecordText(entry);
-    writeln!(writer, "{entry}")
+    writeln!(output, "{entry}")
 }
 
 // Writes how many bytes count, how many orders they begin, and the standing that they leave.
 fn write_counts<W: Write>(
-    writer: &mut W,
+    output: &mut Output<W>,
     counted: usize,
     total: usize,
     orders: u32,
     standing: &Standing,
-) -> io::Result<()>
-    ensures { OnOk result (Appends (W.contents writer.old) (W.contents writer.new)
+) -> Result<(), Unwritten>
+    ensures text { OnOk result (Takes W.contents output.old output.new
         (counts_line counted total orders standing.now)) }
+    ensures failed { TellsFailure result output.old output.new }
 {
     let standing = StandingText(standing);
     writeln!(
-        writer,
+        output,
         "counts {counted} of {total} orders {orders} standing {standing}"
     )
 }

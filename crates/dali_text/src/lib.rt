@@ -1,8 +1,8 @@
 //! How things are told (profile): the lines of orders, of faults, of frames, of a memory bank, of
 //! a journal and its records, and of runs and the units after them.
 //!
-//! Each call writes to any writer, which it doesn't flush, and answers only the writer's own error.
-//! No call takes memory.
+//! Each call writes to an `Output`, a writer that knows whether it has failed. It doesn't flush it, and answers only
+//! that it has failed. No call takes memory.
 #![tactic(auto)]
 
 mod bank_lines;
@@ -11,6 +11,7 @@ mod fault_lines;
 mod frame_line;
 mod journal_lines;
 mod order_lines;
+mod output;
 mod record_text;
 mod run_lines;
 mod unit_lines;
@@ -21,5 +22,6 @@ pub use fault_lines::{write_counted_fault, write_fault, write_placed_fault, writ
 pub use frame_line::write_frame;
 pub use journal_lines::write_journal;
 pub use order_lines::{write_order, write_tally};
+pub use output::{Output, Unwritten};
 pub use record_text::RecordText;
 pub use run_lines::write_outcome;

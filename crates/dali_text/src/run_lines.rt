@@ -1,19 +1,19 @@
 ghost use Rattle.std.specs.Prelude.{◌≡◌, false, OnOk, length, reverse};
-ghost use Rattle.std.specs.Io.KnownBytes.{Appends};
 ghost use Rattle.std.specs.List.{AllByRecursion, flat_map};
 ghost use Rattle.dali_frame.specs.Frame.{IsProper};
 ghost use Rattle.dali_trace.specs.declared.happening.Happening.TheVariants.{Sent};
 ghost use Rattle.dali_trace.specs.Runs.{SendsAllProper, SendsProper};
 ghost use Rattle.dali_text.specs.RunText.{happening_line, run_line, run_text, summary, total as total_sent, trace_text};
 ghost use Rattle.dali_text.specs.UnitLines.{unit_text};
+ghost use Rattle.dali_text.specs.Output.{TellsFailure, Takes};
 
 use crate::digits::{ByteDigits, WordDigits};
+use crate::output::{Output, Unwritten};
 use crate::record_text::RecordText;
 use crate::unit_lines::write_unit;
 use dali_frame::{Frame, word_of};
 use dali_gear::Unit;
 use dali_writer::{Happening, Outcome};
-use std::io;
 use std::io::Write;
 
 /// Writes what a run gave (profile): its trace, how many frames were sent and how many bytes its
@@ -22,55 +22,63 @@ use std::io::Write;
 /// Frames are told one by one, or of each run of them only how many there were. It doesn't flush.
 #[tactic(auto, using(crate::proofs::StreamLemmas::appends_both))]
 pub fn write_outcome<W: Write>(
-    writer: &mut W,
+    output: &mut Output<W>,
     single_frames: bool,
     outcome: &Outcome,
     units: &[Unit],
-) -> io::Result<()>
+) -> Result<(), Unwritten>
     requires { SendsAllProper (reverse outcome.now.trace.items) }
-    ensures { OnOk result (Appends (W.contents writer.old) (W.contents writer.new)
+    ensures text { OnOk result (Takes W.contents output.old output.new
         (run_text single_frames outcome.now.trace.items (length outcome.now.journal.items) units.now)) }
+    ensures failed { TellsFailure result output.old output.new }
 {
     let trace = outcome.trace.as_slice();
-    write_trace(writer, single_frames, trace)?;
+    write_trace(output, single_frames, trace)?;
     let total = total_of(trace);
     let journal = outcome.journal.len();
-    writeln!(writer, "total {total}")?;
-    writeln!(writer, "journal {journal}")?;
-    write_units(writer, units)
+    writeln!(output, "total {total}")?;
+    writeln!(output, "journal {journal}")?;
+    write_units(output, units)
 }
 
 // Writes a trace.
 #[tactic(auto, using(crate::proofs::RunTextLemmas::proper_forward))]
-fn write_trace<W: Write>(writer: &mut W, single_frames: bool, trace: &[Happening]) -> io::Result<()>
+fn write_trace<W: Write>(
+    output: &mut Output<W>,
+    single_frames: bool,
+    trace: &[Happening],
+) -> Result<(), Unwritten>
     requires { SendsAllProper (reverse trace.now) }
-    ensures { OnOk result (Appends (W.contents writer.old) (W.contents writer.new)
+    ensures text { OnOk result (Takes W.contents output.old output.new
         (trace_text single_frames trace.now)) }
+    ensures failed { TellsFailure result output.old output.new }
 {
     if single_frames {
-        write_each(writer, trace)
+        write_each(output, trace)
     } else {
-        write_summary(writer, trace)
+        write_summary(output, trace)
     }
 }
 
 // Writes each happening by itself.
 #[tactic(auto, using(crate::proofs::StreamLemmas::appends_both))]
-fn write_each<W: Write>(writer: &mut W, trace: &[Happening]) -> io::Result<()>
+fn write_each<W: Write>(output: &mut Output<W>, trace: &[Happening]) -> Result<(), Unwritten>
     requires { AllByRecursion SendsProper trace.now }
-    ensures { OnOk result (Appends (W.contents writer.old) (W.contents writer.new)
+    ensures text { OnOk result (Takes W.contents output.old output.new
         (flat_map happening_line trace.now)) }
+    ensures failed { TellsFailure result output.old output.new }
 {
     for happening in trace {
-        write_happening(writer, happening)?;
+        write_happening(output, happening)?;
     }
     Ok(())
 }
 
 // Writes each happening but sent frames, of which each run is told by its length where it ends.
 #[tactic(auto, using(crate::proofs::RunTextLemmas::sum_other, crate::proofs::RunTextLemmas::not_sent))]
-fn write_summary<W: Write>(writer: &mut W, trace: &[Happening]) -> io::Result<()>
-    ensures { OnOk result (Appends (W.contents writer.old) (W.contents writer.new) (summary false trace.now)) }
+fn write_summary<W: Write>(output: &mut Output<W>, trace: &[Happening]) -> Result<(), Unwritten>
+    ensures text { OnOk result (Takes W.contents output.old output.new (summary false trace.now)) }
+    ensures failed { TellsFailure result output.old output.new }
 {
     let mut frames = 0;
     for happening in trace {
@@ -78,56 +86,63 @@ fn write_summary<W: Write>(writer: &mut W, trace: &[Happening]) -> io::Result<()
             frames += 1;
             continue;
         }
-        write_frames(writer, frames)?;
-        write_happening(writer, happening)?;
+        write_frames(output, frames)?;
+        write_happening(output, happening)?;
         frames = 0;
     }
-    write_frames(writer, frames)
+    write_frames(output, frames)
 }
 
 // Writes how many frames a run has, where there is one.
-fn write_frames<W: Write>(writer: &mut W, frames: usize) -> io::Result<()>
-    ensures { OnOk result (Appends (W.contents writer.old) (W.contents writer.new) (run_line frames)) }
+fn write_frames<W: Write>(output: &mut Output<W>, frames: usize) -> Result<(), Unwritten>
+    ensures text { OnOk result (Takes W.contents output.old output.new (run_line frames)) }
+    ensures failed { TellsFailure result output.old output.new }
 {
     if frames == 0 {
         return Ok(());
     }
-    writeln!(writer, "frames {frames}")
+    writeln!(output, "frames {frames}")
 }
 
 // Writes a happening by itself.
-fn write_happening<W: Write>(writer: &mut W, happening: &Happening) -> io::Result<()>
+fn write_happening<W: Write>(output: &mut Output<W>, happening: &Happening) -> Result<(), Unwritten>
     requires { SendsProper happening.now }
-    ensures { OnOk result (Appends (W.contents writer.old) (W.contents writer.new) (happening_line happening.now)) }
+    ensures text { OnOk result (Takes W.contents output.old output.new (happening_line happening.now)) }
+    ensures failed { TellsFailure result output.old output.new }
 {
     match happening {
         Happening::Asked(order) => {
             let id = order.id();
-            writeln!(writer, "ask {id}")
+            writeln!(output, "ask {id}")
         }
-        Happening::Answered(id, reply) => writeln!(writer, "reply {id} {reply}"),
-        Happening::Sent(frame, answer) => write_sent(writer, frame, *answer),
+        Happening::Answered(id, reply) => writeln!(output, "reply {id} {reply}"),
+        Happening::Sent(frame, answer) => write_sent(output, frame, *answer),
         Happening::Kept(entry) => {
             let entry = RecordText(entry);
-            writeln!(writer, "keep {entry}")
+            writeln!(output, "keep {entry}")
         }
-        Happening::Stopped => writeln!(writer, "stop"),
+        Happening::Stopped => writeln!(output, "stop"),
     }
 }
 
 // Writes a frame and its answer, or that none came.
-fn write_sent<W: Write>(writer: &mut W, frame: &Frame, answer: Option<u8>) -> io::Result<()>
+fn write_sent<W: Write>(
+    output: &mut Output<W>,
+    frame: &Frame,
+    answer: Option<u8>,
+) -> Result<(), Unwritten>
     requires { IsProper frame.now }
-    ensures { OnOk result (Appends (W.contents writer.old) (W.contents writer.new)
+    ensures text { OnOk result (Takes W.contents output.old output.new
         (happening_line (Sent frame.now answer))) }
+    ensures failed { TellsFailure result output.old output.new }
 {
     let word = WordDigits(word_of(frame));
     match answer {
         Some(byte) => {
             let byte = ByteDigits(byte);
-            writeln!(writer, "send {word} {byte}")
+            writeln!(output, "send {word} {byte}")
         }
-        None => writeln!(writer, "send {word} --"),
+        None => writeln!(output, "send {word} --"),
     }
 }
 
@@ -143,11 +158,12 @@ fn total_of(trace: &[Happening]) -> usize
 
 // Writes each unit.
 #[tactic(auto, using(crate::proofs::StreamLemmas::appends_both))]
-fn write_units<W: Write>(writer: &mut W, units: &[Unit]) -> io::Result<()>
-    ensures { OnOk result (Appends (W.contents writer.old) (W.contents writer.new) (flat_map unit_text units.now)) }
+fn write_units<W: Write>(output: &mut Output<W>, units: &[Unit]) -> Result<(), Unwritten>
+    ensures text { OnOk result (Takes W.contents output.old output.new (flat_map unit_text units.now)) }
+    ensures failed { TellsFailure result output.old output.new }
 {
     for unit in units {
-        write_unit(writer, unit)?;
+        write_unit(output, unit)?;
     }
     Ok(())
 }

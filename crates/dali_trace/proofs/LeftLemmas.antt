@@ -7,7 +7,8 @@ use Rattle.dali_trace.specs.declared.happening.Happening.{Happening}
 use Rattle.dali_trace.specs.declared.happening.Happening.TheVariants.{Sent}
 use Rattle.dali_trace.specs.Trace.{standing_at, sent_since_taken}
 use Rattle.dali_trace.specs.Legal.{Serves, MayFollow, Legal}
-use Rattle.dali_trace.specs.Worked.{read_at, enable_twice, write_at, read_try, lock_try, eight_times, left_open, second_taken, unreached, blocked, taken_again, second_begun}
+use Rattle.dali_trace.specs.Worked.{read_at, enable_twice, write_at, read_try, lock_try, eight_times, left_open}
+use Rattle.dali_trace.specs.Worked.{second_taken, unreached, blocked, taken_again, second_begun}
 use Rattle.dali_trace.proofs.WorkedLemmas.{next, enable_legal, read_legal, write_legal, read_stands}
 use Rattle.dali_trace.proofs.RefusedLemmas.{has_none}
 
@@ -30,9 +31,16 @@ lock_try_on : (past : List Happening) → GoesOn past → GoesOn (lock_try past)
 lock_try_on past on =
     let enabled = enable_legal left_open past 5 on.legal on.enable on.serves on.names in
     read_try_on (enable_twice 5 past)
-    (record { legal = enabled.0; serves = enabled.1; names = on.names; set = (5, enabled.1); enable = (enabled.1, on.names) })
+    (record {
+      legal = enabled.0;
+      serves = enabled.1;
+      names = on.names;
+      set = (5, enabled.1);
+      enable = (enabled.1, on.names);
+    })
 
-eight_on : (try : List Happening → List Happening) → ((past : List Happening) → GoesOn past → GoesOn (try past)) → (past : List Happening) → GoesOn past
+eight_on : (try : List Happening → List Happening) → ((past : List Happening) → GoesOn past → GoesOn (try past))
+    → (past : List Happening) → GoesOn past
     → GoesOn (eight_times try past)
 eight_on try f past on =
     let p1 = try past in let p2 = try p1 in let p3 = try p2 in let p4 = try p3 in
@@ -52,7 +60,9 @@ second_taken_on = record {
 }
 
 unreached_on : GoesOn unreached
-unreached_on = eight_on read_try read_try_on (eight_times lock_try second_taken) (eight_on lock_try lock_try_on second_taken second_taken_on)
+unreached_on =
+    eight_on read_try read_try_on (eight_times lock_try second_taken)
+    (eight_on lock_try lock_try_on second_taken second_taken_on)
 
 -- the order is blocked, is taken again, and begins once the unit is closed
 pub blocked_legal : Legal left_open blocked
@@ -63,7 +73,8 @@ taken_again_legal = ((blocked_legal, tt), (refl, (tt, refl, refl)))
 
 closing_legal : Legal left_open (read_at 5 0x02 0xFF (write_at 5 0x02 0xFF taken_again))
 closing_legal =
-    let locked = write_legal left_open taken_again 5 0x02 0xFF taken_again_legal ((refl, refl), refl) (refl, refl) refl (refl, refl) in
+    let locked = write_legal left_open taken_again 5 0x02 0xFF taken_again_legal ((refl, refl), refl) (refl, refl) refl
+    (refl, refl) in
     read_legal left_open (write_at 5 0x02 0xFF taken_again) 5 0x02 0xFF locked (5, (refl, refl)) (refl, refl)
 
 pub second_begun_legal : Legal left_open second_begun
@@ -71,11 +82,17 @@ second_begun_legal = (
   (
     closing_legal,
     record {
-      sentence = ((((tt, tt, refl), refl, tt), tt, tt), refl, tt);
-      within = omega arith;
-      due = (refl, inl (0x02, 0xFF, reads_by 5 0x02 0xFF None None (sent_since_taken (write_at 5 0x02 0xFF taken_again))));
+      whole = (((((tt, tt, refl), refl, tt), tt, tt), refl, tt), omega arith);
+      due = (
+        refl,
+        inl (0x02, 0xFF, reads_by 5 0x02 0xFF None None (sent_since_taken (write_at 5 0x02 0xFF taken_again))),
+      );
       grounds = (0x02, 0xFF, read_stands (write_at 5 0x02 0xFF taken_again) 5 0x02 0xFF);
     },
   ),
-  record { sentence = (((((tt, tt, refl), refl, tt), tt, tt), refl, tt), tt, refl); within = omega arith; due = refl; grounds = tt },
+  record {
+    whole = ((((((tt, tt, refl), refl, tt), tt, tt), refl, tt), tt, refl), omega arith);
+    due = refl;
+    grounds = tt;
+  },
 )

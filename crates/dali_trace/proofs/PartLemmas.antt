@@ -12,7 +12,8 @@ use Rattle.dali_trace.specs.Parts.{IsKeptNext, AreParts}
 use Rattle.dali_trace.specs.Worked.{empty, first_order, asked, taken, begun}
 
 -- a record of 23 bytes isn't kept where 22 reach the journal
-kept_is : (entry : Record) (before : List Happening) → Stopped ∷ begun ≡ Stopped ∷ Kept entry ∷ before → Began first_order ≡ entry
+kept_is : (entry : Record) (before : List Happening) → Stopped ∷ begun ≡ Stopped ∷ Kept entry ∷ before
+    → Began first_order ≡ entry
 kept_is entry before e = cc
 
 stopped_is : (before : List Happening) → Stopped ∷ begun ≡ Stopped ∷ before → before ≡ begun
@@ -24,12 +25,14 @@ not_cut (before, inl (stopped, none), (first, (reply, after), start)) =
     let never : begun ≡ Answered 1 reply ∷ Asked first_order ∷ first = sym is ∙ after in cc
 not_cut (before, inr (entry, next, few, stopped), rest) =
     let is : Began first_order ≡ entry = kept_is entry before stopped in
-    let long : length (spelling (Began first_order)) ≤ 22 = subst (λ (r : Record). length (spelling r) ≤ 22) (sym is) few in
+    let long : length (spelling (Began first_order)) ≤ 22 =
+    subst (λ (r : Record). length (spelling r) ≤ 22) (sym is) few in
     omega (arith, long)
 
 -- where nothing is at work a step adds nothing
 pub not_idle : AreParts empty (Step ∷ []) asked → ⊥
-not_idle (before, inl (busy, added), none) = let never : false ≡ true = subst (λ (past : List Happening). is_busy empty past ≡ true) none busy in cc
+not_idle (before, inl (busy, added), none) =
+    let never : false ≡ true = subst (λ (past : List Happening). is_busy empty past ≡ true) none busy in cc
 not_idle (before, inr (idle, same), none) = let never : asked ≡ [] = same ∙ none in cc
 
 -- where an order was just begun its session has not ended

@@ -1,31 +1,45 @@
 -- What may not happen on the way of the worked traces.
-use Rattle.std.proofs.Common.{◌≡◌, inl, inr, refl, sym, ap, ◌∙◌, subst, ℕ, Bool, true, false, ◌&&◌, not, List, [], ◌∷◌, Option, Some, None, arith}
+use Rattle.std.proofs.Common.{◌≡◌, inl, inr, refl, sym, ap, ◌∙◌, subst, ℕ, Bool, true, false, ◌&&◌, not, List, [], ◌∷◌}
+use Rattle.std.proofs.Common.{Option, Some, None, arith}
 use Rattle.std.specs.Prelude.{◌≢◌}
 use Rattle.std.proofs.lemmas.Bool.{and_parts}
 use Rattle.dali_frame.specs.declared.forward.Frame.{Frame}
 use Rattle.dali_frame.specs.declared.forward.Frame.TheVariants.{Dtr1, Write, Enable, AskDtr0, AskDtr1, Read}
 use Rattle.dali_bank.specs.Order.{update_at}
+use Rattle.dali_journal.specs.declared.record.Code.TheVariants as codes
 use Rattle.dali_journal.specs.declared.record.Record.TheVariants.{Began}
 use Rattle.dali_journal.specs.declared.standing.Standing.TheVariants as standings
 use Rattle.dali_write.specs.Exchanges.{Exchange}
 use Rattle.dali_write.specs.Worlds.{Selects}
 use Rattle.dali_write.specs.Reads.{EndsInRead, ReadStands, HasRead}
 use Rattle.dali_write.proofs.EndLemmas.{reads_by, ends_selecting, ends_reading}
+use Rattle.dali_trace.specs.declared.happening.Reply.TheVariants as replies
 use Rattle.dali_trace.specs.declared.happening.Happening.{Happening}
-use Rattle.dali_trace.specs.declared.happening.Happening.TheVariants.{Sent}
-use Rattle.dali_trace.specs.Trace.{sent_of, sent_since_taken}
+use Rattle.dali_trace.specs.declared.happening.Happening.TheVariants.{Answered, Sent}
+use Rattle.dali_trace.specs.Trace.{sent_of, sent_since_taken, waiting}
 use Rattle.dali_trace.specs.Legal.{MayPut, MayKeep, Legal}
-use Rattle.dali_trace.specs.Worked.{read_at, write_at, second_taken, empty, left_open, first_order, locked, unguarded, bank_not_asked, written_twice, another_byte, idle_frame, frame_to_another_unit, enabled_before_opened, opened_unread, done_unread, done_with_the_lock_unread, begun_twice, busy_at_once, reply_to_another, said_before_ended, begun_while_left, closed_unread, blocked_after_a_read, left_unit_unlocked, begun_after_a_stop, another_code_said, blocked_by_no_unit, silent_write, one_of_one, one_done_of_one, second_order, another_number_said, blocked_under_another_number, frame_to_another_unit_once_opened, frame_past_the_left_unit, another_lock_byte, opened_after_a_stop, written_after_a_stop, said_after_a_stop, closed_by_an_old_read}
+use Rattle.dali_trace.specs.Worked.{read_at, write_at, second_taken, empty, left_open, first_order, locked, unguarded}
+use Rattle.dali_trace.specs.Worked.{bank_not_asked, written_twice, another_byte, idle_frame, frame_to_another_unit}
+use Rattle.dali_trace.specs.Worked.{enabled_before_opened, opened_unread, done_unread, done_with_the_lock_unread}
+use Rattle.dali_trace.specs.Worked.{begun_twice, busy_at_once, reply_to_another, said_before_ended, begun_while_left}
+use Rattle.dali_trace.specs.Worked.{closed_unread, blocked_after_a_read, left_unit_unlocked, begun_after_a_stop}
+use Rattle.dali_trace.specs.Worked.{another_code_said, blocked_by_no_unit, silent_write, one_of_one, one_done_of_one}
+use Rattle.dali_trace.specs.Worked.{second_order, another_number_said, blocked_under_another_number}
+use Rattle.dali_trace.specs.Worked.{frame_to_another_unit_once_opened, frame_past_the_left_unit, another_lock_byte}
+use Rattle.dali_trace.specs.Worked.{opened_after_a_stop, written_after_a_stop, said_after_a_stop, closed_by_an_old_read}
+use Rattle.dali_trace.specs.Worked.{begun, said}
 
 -- the newest exchange and the third newest of those that select
-newest_is : (unit location : ℕ) (x : Exchange) (told : List Exchange) → Selects unit location (x ∷ told) → (x.frame ≡ AskDtr0 unit) × (x.answer ≡ Some location)
+newest_is : (unit location : ℕ) (x : Exchange) (told : List Exchange) → Selects unit location (x ∷ told)
+    → (x.frame ≡ AskDtr0 unit) × (x.answer ≡ Some location)
 newest_is unit location x told selects =
     let ends = ends_selecting unit location (x ∷ told) selects in
     let is = ends.is in
     let same : x ≡ ends.x4 = cc in
     (ap (λ (e : Exchange). e.frame) same ∙ ends.got4.frame_is, ap (λ (e : Exchange). e.answer) same ∙ ends.got4.meets)
 
-third_is : (unit location : ℕ) (x y z : Exchange) (told : List Exchange) → Selects unit location (x ∷ y ∷ z ∷ told) → z.frame ≡ AskDtr1 unit
+third_is : (unit location : ℕ) (x y z : Exchange) (told : List Exchange) → Selects unit location (x ∷ y ∷ z ∷ told)
+    → z.frame ≡ AskDtr1 unit
 third_is unit location x y z told selects =
     let ends = ends_selecting unit location (x ∷ y ∷ z ∷ told) selects in
     let is = ends.is in
@@ -33,14 +47,16 @@ third_is unit location x y z told selects =
     ap (λ (e : Exchange). e.frame) same ∙ ends.got2.frame_is
 
 -- the newest exchange of a checked read, and the one before it
-read_is : (unit location byte : ℕ) (x : Exchange) (told : List Exchange) → EndsInRead unit location byte (x ∷ told) → x.frame ≡ Read unit
+read_is : (unit location byte : ℕ) (x : Exchange) (told : List Exchange) → EndsInRead unit location byte (x ∷ told)
+    → x.frame ≡ Read unit
 read_is unit location byte x told reads =
     let ends = ends_reading unit location byte (x ∷ told) reads in
     let is = ends.is in
     let same : x ≡ ends.x5 = cc in
     ap (λ (e : Exchange). e.frame) same ∙ ends.got5.frame_is
 
-told_is : (unit location byte : ℕ) (x y : Exchange) (told : List Exchange) → EndsInRead unit location byte (x ∷ y ∷ told) → y.answer ≡ Some location
+told_is : (unit location byte : ℕ) (x y : Exchange) (told : List Exchange)
+    → EndsInRead unit location byte (x ∷ y ∷ told) → y.answer ≡ Some location
 told_is unit location byte x y told reads =
     let ends = ends_reading unit location byte (x ∷ y ∷ told) reads in
     let is = ends.is in
@@ -63,7 +79,8 @@ write_or_read byte unit e = cc
 -- after a write no read stands
 none_stands : (told : List Exchange) (byte : ℕ) (answer : Option ℕ) (unit location found : ℕ)
     → ReadStands (record { frame = Write byte; answer = answer } ∷ told) unit location found → ⊥
-none_stands told byte answer unit location found (inl reads) = write_or_read byte unit (read_is unit location found _ told reads)
+none_stands told byte answer unit location found (inl reads) =
+    write_or_read byte unit (read_is unit location found _ told reads)
 none_stands told byte answer unit location found (inr stands) = stands.0
 
 abbrev pub is_read : Frame → Bool
@@ -71,20 +88,29 @@ is_read (Read unit) = true
 is_read _ = false
 
 -- a frame other than a read ends no checked read
-ends_none : (unit location byte : ℕ) (x : Exchange) (told : List Exchange) → is_read x.frame ≡ false → EndsInRead unit location byte (x ∷ told) → ⊥
+ends_none : (unit location byte : ℕ) (x : Exchange) (told : List Exchange) → is_read x.frame ≡ false
+    → EndsInRead unit location byte (x ∷ told) → ⊥
 ends_none unit location byte x told is_not reads =
     let is : is_read x.frame ≡ true = ap is_read (read_is unit location byte x told reads) in cc
 
 -- a read of another location shows nothing of this one
 not_behind : (past : List Happening) (unit location byte other place found : ℕ) → place ≢ location
-    → ReadStands (sent_of (read_at other place found past)) unit location byte → ReadStands (sent_of past) unit location byte
+    → ReadStands (sent_of (read_at other place found past)) unit location byte
+    → ReadStands (sent_of past) unit location byte
 not_behind past unit location byte other place found differs (inl reads) =
-    let told : Some place ≡ Some location = told_is unit location byte _ _ _ reads in absurd (differs (let same : place ≡ location = cc in same))
-not_behind past unit location byte other place found differs (inr (t5, inl reads)) = absurd (ends_none unit location byte _ _ refl reads)
-not_behind past unit location byte other place found differs (inr (t5, inr (t4, inl reads))) = absurd (ends_none unit location byte _ _ refl reads)
-not_behind past unit location byte other place found differs (inr (t5, inr (t4, inr (t3, inl reads)))) = absurd (ends_none unit location byte _ _ refl reads)
-not_behind past unit location byte other place found differs (inr (t5, inr (t4, inr (t3, inr (t2, inl reads))))) = absurd (ends_none unit location byte _ _ refl reads)
-not_behind past unit location byte other place found differs (inr (t5, inr (t4, inr (t3, inr (t2, inr (t1, stands)))))) = stands
+    let told : Some place ≡ Some location = told_is unit location byte _ _ _ reads in
+    absurd (differs (let same : place ≡ location = cc in same))
+not_behind past unit location byte other place found differs (inr (t5, inl reads)) =
+    absurd (ends_none unit location byte _ _ refl reads)
+not_behind past unit location byte other place found differs (inr (t5, inr (t4, inl reads))) =
+    absurd (ends_none unit location byte _ _ refl reads)
+not_behind past unit location byte other place found differs (inr (t5, inr (t4, inr (t3, inl reads)))) =
+    absurd (ends_none unit location byte _ _ refl reads)
+not_behind past unit location byte other place found differs (inr (t5, inr (t4, inr (t3, inr (t2, inl reads))))) =
+    absurd (ends_none unit location byte _ _ refl reads)
+not_behind past unit location byte other place found differs
+    (inr (t5, inr (t4, inr (t3, inr (t2, inr (t1, stands)))))) =
+    stands
 
 -- where no read was sent, none was answered
 abbrev pub none_read : List Exchange → Bool
@@ -93,11 +119,14 @@ none_read (x ∷ told) = not (is_read x.frame) && none_read told
 
 pub has_none : (unit : ℕ) (told : List Exchange) → none_read told ≡ true → HasRead unit told → ⊥
 has_none unit [] none has = has
-has_none unit (x ∷ told) none (inl reads) = ends_none unit reads.0 reads.1 x told (off (is_read x.frame) (and_parts (not (is_read x.frame)) (none_read told) none).0) reads.2 where
-  off : (b : Bool) → not b ≡ true → b ≡ false
-  off true e = cc
-  off false e = refl
-has_none unit (x ∷ told) none (inr has) = has_none unit told (and_parts (not (is_read x.frame)) (none_read told) none).1 has
+has_none unit (x ∷ told) none (inl reads) =
+    ends_none unit reads.0 reads.1 x told
+    (off (is_read x.frame) (and_parts (not (is_read x.frame)) (none_read told) none).0) reads.2 where
+      off : (b : Bool) → not b ≡ true → b ≡ false
+      off true e = cc
+      off false e = refl
+has_none unit (x ∷ told) none (inr has) =
+    has_none unit told (and_parts (not (is_read x.frame)) (none_read told) none).1 has
 
 -- what may not happen
 
@@ -105,18 +134,23 @@ pub not_unguarded : Legal empty unguarded → ⊥
 not_unguarded legal = enable_or_ask 5 legal.1.unit (newest_is legal.1.unit legal.1.location _ _ legal.1.selected).0
 
 pub not_with_the_bank_not_asked : Legal empty bank_not_asked → ⊥
-not_with_the_bank_not_asked legal = set_or_ask 1 legal.1.unit (third_is legal.1.unit legal.1.location _ _ _ _ legal.1.selected)
+not_with_the_bank_not_asked legal =
+    set_or_ask 1 legal.1.unit (third_is legal.1.unit legal.1.location _ _ _ _ legal.1.selected)
 
 pub not_written_twice : Legal empty written_twice → ⊥
-not_written_twice legal = write_or_ask 0x55 legal.1.unit (newest_is legal.1.unit legal.1.location _ _ legal.1.selected).0
+not_written_twice legal =
+    write_or_ask 0x55 legal.1.unit (newest_is legal.1.unit legal.1.location _ _ legal.1.selected).0
 
 pub not_another_byte : Legal empty another_byte → ⊥
-not_another_byte legal = by legal.1.location (newest_is legal.1.unit legal.1.location _ _ legal.1.selected).1 legal.1.may where
-  by : (location : ℕ) → Some 3 ≡ Some location → MayPut (standings.Opened first_order) location 0x04 → ⊥
-  by location told (inl update) =
-      let is : 3 ≡ location = cc in
-      let there : update_at first_order.updates 3 ≡ Some 0x04 = subst (λ l. update_at first_order.updates l ≡ Some 0x04) (sym is) update in cc
-  by location told (inr lock) = let is : 3 ≡ location = cc in let two = lock.0 in omega (arith, is, two)
+not_another_byte legal =
+    by legal.1.location (newest_is legal.1.unit legal.1.location _ _ legal.1.selected).1 legal.1.may where
+      by : (location : ℕ) → Some 3 ≡ Some location → MayPut (standings.Opened first_order) location 0x04 → ⊥
+      by location told (inl update) =
+          let is : 3 ≡ location = cc in
+          let there : update_at first_order.updates 3 ≡ Some 0x04 =
+          subst (λ l. update_at first_order.updates l ≡ Some 0x04) (sym is) update in
+          cc
+      by location told (inr lock) = let is : 3 ≡ location = cc in let two = lock.0 in omega (arith, is, two)
 
 pub not_idle_frame : Legal empty idle_frame → ⊥
 not_idle_frame legal = legal.1.1
@@ -161,7 +195,7 @@ not_with_the_lock_unread legal = legal_none where
       (not_behind p7 5 2 0xFF 5 8 0xAB (λ e. omega (arith, e)) legal.1.grounds.0))))))
 
 pub not_begun_twice : Legal empty begun_twice → ⊥
-not_begun_twice legal = let e = legal.1.sentence.2 in cc
+not_begun_twice legal = let e = legal.1.whole.0.2 in cc
 
 pub not_busy_at_once : Legal empty busy_at_once → ⊥
 not_busy_at_once legal = let e = legal.1.1.1 in cc
@@ -173,7 +207,7 @@ pub not_said_before_ended : Legal empty said_before_ended → ⊥
 not_said_before_ended legal = let e = legal.1.0 in cc
 
 pub not_begun_while_left : Legal left_open begun_while_left → ⊥
-not_begun_while_left legal = legal.1.sentence.1
+not_begun_while_left legal = legal.1.whole.0.1
 
 pub not_closed_unread : Legal left_open closed_unread → ⊥
 not_closed_unread legal = has_none 5 (sent_since_taken (write_at 5 0x02 0xFF second_taken)) refl legal.1.due.1
@@ -212,13 +246,16 @@ pub not_past_the_left_unit : Legal left_open frame_past_the_left_unit → ⊥
 not_past_the_left_unit legal = let e = legal.1.0 in omega (arith, e)
 
 pub not_another_lock_byte : Legal empty another_lock_byte → ⊥
-not_another_lock_byte legal = by legal.1.location (newest_is legal.1.unit legal.1.location _ _ legal.1.selected).1 legal.1.may where
-  by : (location : ℕ) → Some 2 ≡ Some location → MayPut (standings.Opened first_order) location 0xAA → ⊥
-  by location told (inl update) =
-      let is : 2 ≡ location = cc in
-      let there : update_at first_order.updates 2 ≡ Some 0xAA = subst (λ l. update_at first_order.updates l ≡ Some 0xAA) (sym is) update in cc
-  by location told (inr (lock, inl opens)) = omega (arith, opens)
-  by location told (inr (lock, inr closes)) = omega (arith, closes)
+not_another_lock_byte legal =
+    by legal.1.location (newest_is legal.1.unit legal.1.location _ _ legal.1.selected).1 legal.1.may where
+      by : (location : ℕ) → Some 2 ≡ Some location → MayPut (standings.Opened first_order) location 0xAA → ⊥
+      by location told (inl update) =
+          let is : 2 ≡ location = cc in
+          let there : update_at first_order.updates 2 ≡ Some 0xAA =
+          subst (λ l. update_at first_order.updates l ≡ Some 0xAA) (sym is) update in
+          cc
+      by location told (inr (lock, inl opens)) = omega (arith, opens)
+      by location told (inr (lock, inr closes)) = omega (arith, closes)
 
 pub not_opened_after_a_stop : Legal empty opened_after_a_stop → ⊥
 not_opened_after_a_stop legal = legal.1.grounds.1
@@ -239,15 +276,24 @@ not_closed_by_an_old_read legal = legal.1.due.1
 -- the rules of a left unit, and the limit
 
 pub not_elsewhere_in_a_left_unit : Legal left_open (write_at 5 0x03 0xFF second_taken) → ⊥
-not_elsewhere_in_a_left_unit legal = by legal.1.location (newest_is legal.1.unit legal.1.location _ _ legal.1.selected).1 legal.1.may where
-  by : (location : ℕ) → Some 3 ≡ Some location → MayPut (standings.Left 5) location 0xFF → ⊥
-  by location told may = let is : 3 ≡ location = cc in let two = may.0 in omega (arith, is, two)
+not_elsewhere_in_a_left_unit legal =
+    by legal.1.location (newest_is legal.1.unit legal.1.location _ _ legal.1.selected).1 legal.1.may where
+      by : (location : ℕ) → Some 3 ≡ Some location → MayPut (standings.Left 5) location 0xFF → ⊥
+      by location told may = let is : 3 ≡ location = cc in let two = may.0 in omega (arith, is, two)
 
 pub not_with_none_waiting : Legal left_open (Sent (Dtr1 1) None ∷ []) → ⊥
 not_with_none_waiting legal = let e = legal.1.1.1 in cc
 
 pub not_begun_past_the_limit : MayKeep one_done_of_one second_taken (Began second_order) → ⊥
-not_begun_past_the_limit may = omega (arith, may.within)
+not_begun_past_the_limit may = omega (arith, may.whole.1)
 
 pub not_started_past_the_limit : Legal (record { records = Began first_order ∷ []; limit = 0 }) [] → ⊥
 not_started_past_the_limit legal = omega (arith, legal.1)
+
+-- what is still to be said
+
+pub none_waits_once_begun : waiting begun ≡ None
+none_waits_once_begun = refl
+
+pub not_said_twice : Legal empty (Answered 1 (replies.Kept codes.Done) ∷ said) → ⊥
+not_said_twice legal = let e = legal.1.0 in cc

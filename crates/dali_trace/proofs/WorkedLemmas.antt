@@ -14,17 +14,22 @@ use Rattle.dali_trace.specs.declared.happening.Happening.{Happening}
 use Rattle.dali_trace.specs.declared.happening.Happening.TheVariants.{Sent}
 use Rattle.dali_trace.specs.Trace.{Start, standing_at, sent_of}
 use Rattle.dali_trace.specs.Legal.{Serves, MayPut, MaySend, MayFollow, Legal}
-use Rattle.dali_trace.specs.Worked.{select_at, read_at, enable_twice, write_at, read_all, write_all, first_order, empty, taken, begun, measured, opened, unlocked, written, locked, lock_read, read_back, ended, said, whole, first_elsewhere, busy_while_at_work, number_used_again, one_of_one, full}
+use Rattle.dali_trace.specs.Worked.{select_at, read_at, enable_twice, write_at, reads_of, write_all, first_order, empty}
+use Rattle.dali_trace.specs.Worked.{taken, begun, measured, opened, unlocked, all_written, locked, lock_read}
+use Rattle.dali_trace.specs.Worked.{all_read_back, ended, said, first_carried_out, first_elsewhere, busy_while_at_work}
+use Rattle.dali_trace.specs.Worked.{number_used_again, one_of_one, full}
 
 -- a unit that is served is so after one frame more
-pub next : (past : List Happening) (frame : Frame) (answer : Option ℕ) (stands : Standing) (unit : ℕ) → Serves past stands unit → Serves (Sent frame answer ∷ past) stands unit
+pub next : (past : List Happening) (frame : Frame) (answer : Option ℕ) (stands : Standing) (unit : ℕ)
+    → Serves past stands unit → Serves (Sent frame answer ∷ past) stands unit
 next past frame answer standings.Idle unit serves = serves
 next past frame answer (standings.Began order) unit serves = serves
 next past frame answer (standings.Opened order) unit serves = serves
 next past frame answer (standings.Left left) unit serves = serves
 
 -- four frames that select may follow, and then it is served
-select_legal : (start : Start) (past : List Happening) (unit location : ℕ) → Legal start past → MayFollow start past (Sent (Dtr1 1) None)
+select_legal : (start : Start) (past : List Happening) (unit location : ℕ) → Legal start past
+    → MayFollow start past (Sent (Dtr1 1) None)
     → Serves past (standing_at start past) unit
     → Legal start (select_at unit location past) × Serves (select_at unit location past) (standing_at start past) unit
 select_legal start past unit location legal first serves =
@@ -32,16 +37,20 @@ select_legal start past unit location legal first serves =
     let s1 = next past (Dtr1 1) None stands unit serves in
     let s2 = next (Sent (Dtr1 1) None ∷ past) (AskDtr1 unit) (Some 1) stands unit s1 in
     let s3 = next (Sent (AskDtr1 unit) (Some 1) ∷ Sent (Dtr1 1) None ∷ past) (Dtr0 location) None stands unit s2 in
-    let s4 = next (Sent (Dtr0 location) None ∷ Sent (AskDtr1 unit) (Some 1) ∷ Sent (Dtr1 1) None ∷ past) (AskDtr0 unit) (Some location) stands unit s3 in
+    let s4 =
+    next (Sent (Dtr0 location) None ∷ Sent (AskDtr1 unit) (Some 1) ∷ Sent (Dtr1 1) None ∷ past) (AskDtr0 unit)
+    (Some location) stands unit s3 in
     (((((legal, first), s1), (unit, s2)), s3), s4)
 
 -- a checked read may follow
-pub read_legal : (start : Start) (past : List Happening) (unit location byte : ℕ) → Legal start past → MayFollow start past (Sent (Dtr1 1) None)
+pub read_legal : (start : Start) (past : List Happening) (unit location byte : ℕ) → Legal start past
+    → MayFollow start past (Sent (Dtr1 1) None)
     → Serves past (standing_at start past) unit → Legal start (read_at unit location byte past)
 read_legal start past unit location byte legal first serves = select_legal start past unit location legal first serves
 
 -- so may two frames that enable the unit
-pub enable_legal : (start : Start) (past : List Happening) (unit : ℕ) → Legal start past → MayFollow start past (Sent (Enable unit) None)
+pub enable_legal : (start : Start) (past : List Happening) (unit : ℕ) → Legal start past
+    → MayFollow start past (Sent (Enable unit) None)
     → Serves past (standing_at start past) unit → named_unit (standing_at start past) ≡ Some unit
     → Legal start (enable_twice unit past) × Serves (enable_twice unit past) (standing_at start past) unit
 enable_legal start past unit legal first serves is_named =
@@ -51,8 +60,10 @@ enable_legal start past unit legal first serves is_named =
     (((legal, first), (s1, is_named)), s2)
 
 -- and a checked write
-pub write_legal : (start : Start) (past : List Happening) (unit location byte : ℕ) → Legal start past → MayFollow start past (Sent (Enable unit) None)
-    → Serves past (standing_at start past) unit → named_unit (standing_at start past) ≡ Some unit → MayPut (standing_at start past) location byte
+pub write_legal : (start : Start) (past : List Happening) (unit location byte : ℕ) → Legal start past
+    → MayFollow start past (Sent (Enable unit) None)
+    → Serves past (standing_at start past) unit → named_unit (standing_at start past) ≡ Some unit
+    → MayPut (standing_at start past) location byte
     → Legal start (write_at unit location byte past)
 write_legal start past unit location byte legal first serves is_named may =
     let enabled = enable_legal start past unit legal first serves is_named in
@@ -69,20 +80,24 @@ write_legal start past unit location byte legal first serves is_named may =
     )
 
 -- a checked read stands, and goes on to stand behind another
-pub read_stands : (past : List Happening) (unit location byte : ℕ) → ReadStands (sent_of (read_at unit location byte past)) unit location byte
+pub read_stands : (past : List Happening) (unit location byte : ℕ)
+    → ReadStands (sent_of (read_at unit location byte past)) unit location byte
 read_stands past unit location byte = inl (reads_by unit location byte None None (sent_of past))
 
-pub behind_read : (past : List Happening) (unit location byte other place found : ℕ) → ReadStands (sent_of past) unit location byte
+pub behind_read : (past : List Happening) (unit location byte other place found : ℕ)
+    → ReadStands (sent_of past) unit location byte
     → ReadStands (sent_of (read_at other place found past)) unit location byte
 behind_read past unit location byte other place found stands = inr (tt, inr (tt, inr (tt, inr (tt, inr (tt, stands)))))
 
--- the same of all updates that are written, or read
+-- the same of all updates that are all_written, or read
 abbrev pub IsAmong : Contents → List (ℕ × ℕ) → Type 0
 IsAmong order [] = Unit {0}
 IsAmong order (update ∷ updates) = (update_at order.updates update.0 ≡ Some update.1) × IsAmong order updates
 
-pub writes_legal : (start : Start) (order : Contents) (updates : List (ℕ × ℕ)) (past : List Happening) → IsAmong order updates
-    → standing_at start past ≡ standings.Opened order → Legal start past → ((unit : ℕ) → unit ≡ order.unit → MayFollow start past (Sent (Enable unit) None))
+pub writes_legal : (start : Start) (order : Contents) (updates : List (ℕ × ℕ)) (past : List Happening)
+    → IsAmong order updates
+    → standing_at start past ≡ standings.Opened order → Legal start past
+    → ((unit : ℕ) → unit ≡ order.unit → MayFollow start past (Sent (Enable unit) None))
     → Legal start (write_all order.unit updates past)
 writes_legal start order [] past among at legal first = legal
 writes_legal start order (update ∷ updates) past among at legal first =
@@ -90,29 +105,35 @@ writes_legal start order (update ∷ updates) past among at legal first =
     let named : named_unit (standing_at start past) ≡ Some order.unit = rw at refl in
     let may : MayPut (standing_at start past) update.0 update.1 = rw at (inl among.0) in
     let one = write_legal start past order.unit update.0 update.1 legal (first order.unit refl) served named may in
-    writes_legal start order updates (write_at order.unit update.0 update.1 past) among.1 at one (λ unit is. rw at (is, ap Some (sym is)))
+    writes_legal start order updates (write_at order.unit update.0 update.1 past) among.1 at one
+    (λ unit is. rw at (is, ap Some (sym is)))
 
 pub reads_legal : (start : Start) (order : Contents) (updates : List (ℕ × ℕ)) (past : List Happening)
     → standing_at start past ≡ standings.Opened order → Legal start past → MayFollow start past (Sent (Dtr1 1) None)
-    → Legal start (read_all order.unit updates past)
+    → Legal start (reads_of order.unit updates past)
 reads_legal start order [] past at legal first = legal
 reads_legal start order (update ∷ updates) past at legal first =
     let served : Serves past (standing_at start past) order.unit = rw at refl in
     let one = read_legal start past order.unit update.0 update.1 legal first served in
-    let on : MaySend (read_at order.unit update.0 update.1 past) (standing_at start past) (Dtr1 1) = rw at (order.unit, refl) in
+    let on : MaySend (read_at order.unit update.0 update.1 past) (standing_at start past) (Dtr1 1) =
+    rw at (order.unit, refl) in
     reads_legal start order updates (read_at order.unit update.0 update.1 past) at one on
 
 -- what was read before all of them still stands, and so does each of them
-pub reads_behind : (unit location byte : ℕ) (updates : List (ℕ × ℕ)) (other : ℕ) (past : List Happening) → ReadStands (sent_of past) unit location byte
-    → ReadStands (sent_of (read_all other updates past)) unit location byte
+pub reads_behind : (unit location byte : ℕ) (updates : List (ℕ × ℕ)) (other : ℕ) (past : List Happening)
+    → ReadStands (sent_of past) unit location byte
+    → ReadStands (sent_of (reads_of other updates past)) unit location byte
 reads_behind unit location byte [] other past stands = stands
 reads_behind unit location byte (update ∷ updates) other past stands =
-    reads_behind unit location byte updates other (read_at other update.0 update.1 past) (behind_read past unit location byte other update.0 update.1 stands)
+    reads_behind unit location byte updates other (read_at other update.0 update.1 past)
+    (behind_read past unit location byte other update.0 update.1 stands)
 
-pub reads_stand : (unit : ℕ) (updates : List (ℕ × ℕ)) (past : List Happening) → ShowsAll (ReadStands (sent_of (read_all unit updates past)) unit) updates
+pub reads_stand : (unit : ℕ) (updates : List (ℕ × ℕ)) (past : List Happening)
+    → ShowsAll (ReadStands (sent_of (reads_of unit updates past)) unit) updates
 reads_stand unit [] past = tt
 reads_stand unit (update ∷ updates) past = (
-  reads_behind unit update.0 update.1 updates unit (read_at unit update.0 update.1 past) (read_stands past unit update.0 update.1),
+  reads_behind unit update.0 update.1 updates unit (read_at unit update.0 update.1 past)
+      (read_stands past unit update.0 update.1),
   reads_stand unit updates (read_at unit update.0 update.1 past),
 )
 
@@ -121,7 +142,7 @@ taken_legal : Legal empty taken
 taken_legal = (((tt, omega arith), tt), (refl, (tt, refl, refl)))
 
 pub begun_legal : Legal empty begun
-begun_legal = (taken_legal, record { sentence = (tt, tt, refl); within = omega arith; due = refl; grounds = tt })
+begun_legal = (taken_legal, record { whole = ((tt, tt, refl), omega arith); due = refl; grounds = tt })
 
 pub measured_legal : Legal empty measured
 measured_legal = read_legal empty begun 5 0x00 0x77 begun_legal (5, refl) refl
@@ -130,8 +151,7 @@ pub opened_legal : Legal empty opened
 opened_legal = (
   measured_legal,
   record {
-    sentence = ((tt, tt, refl), refl, tt);
-    within = omega arith;
+    whole = (((tt, tt, refl), refl, tt), omega arith);
     due = tt;
     grounds = (0x77, read_stands begun 5 0x00 0x77, omega arith, λ needed. absurd (omega (arith, needed)));
   },
@@ -140,34 +160,37 @@ opened_legal = (
 pub unlocked_legal : Legal empty unlocked
 unlocked_legal = write_legal empty opened 5 0x02 0x55 opened_legal (refl, refl) refl refl (inr (refl, inl refl))
 
-written_legal : Legal empty written
+written_legal : Legal empty all_written
 written_legal =
-    writes_legal empty first_order first_order.updates unlocked (refl, (refl, (refl, (refl, (refl, (refl, tt)))))) refl unlocked_legal (λ unit is. (is, ap Some (sym is)))
+    writes_legal empty first_order first_order.updates unlocked (refl, (refl, (refl, (refl, (refl, (refl, tt)))))) refl
+    unlocked_legal (λ unit is. (is, ap Some (sym is)))
 
 locked_legal : Legal empty locked
-locked_legal = write_legal empty written 5 0x02 0xFF written_legal (refl, refl) refl refl (inr (refl, inr refl))
+locked_legal = write_legal empty all_written 5 0x02 0xFF written_legal (refl, refl) refl refl (inr (refl, inr refl))
 
 lock_read_legal : Legal empty lock_read
 lock_read_legal = read_legal empty locked 5 0x02 0xFF locked_legal (5, refl) refl
 
-read_back_legal : Legal empty read_back
+read_back_legal : Legal empty all_read_back
 read_back_legal = reads_legal empty first_order first_order.updates lock_read refl lock_read_legal (5, refl)
 
 pub ended_legal : Legal empty ended
 ended_legal = (
   read_back_legal,
   record {
-    sentence = (((tt, tt, refl), refl, tt), tt, tt);
-    within = omega arith;
+    whole = ((((tt, tt, refl), refl, tt), tt, tt), omega arith);
     due = tt;
-    grounds = (reads_behind 5 0x02 0xFF first_order.updates 5 lock_read (read_stands locked 5 0x02 0xFF), reads_stand 5 first_order.updates lock_read);
+    grounds = (
+      reads_behind 5 0x02 0xFF first_order.updates 5 lock_read (read_stands locked 5 0x02 0xFF),
+      reads_stand 5 first_order.updates lock_read,
+    );
   },
 )
 
 said_legal : Legal empty said
 said_legal = (ended_legal, (refl, (refl, refl)))
 
-pub whole_legal : Legal empty whole
+pub whole_legal : Legal empty first_carried_out
 whole_legal = ((said_legal, tt), (refl, refl))
 
 -- the other replies, each where it is due

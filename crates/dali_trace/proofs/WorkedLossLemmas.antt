@@ -1,5 +1,6 @@
 -- Small buses and banks near the edges of what is promised where little is lost.
-use Rattle.std.proofs.Common.{◌≡◌, ◌==◌, inl, refl, ℕ, true, false, if◌then◌else◌, List, [], ◌∷◌, Option, Some, None, arith}
+use Rattle.std.proofs.Common.{◌≡◌, ◌==◌, inl, refl, ℕ, true, false, if◌then◌else◌, List, [], ◌∷◌, Option, Some, None}
+use Rattle.std.proofs.Common.{arith}
 use Rattle.std.specs.List.{filter_map}
 use Rattle.dali_frame.specs.declared.forward.Frame.{Frame}
 use Rattle.dali_frame.specs.declared.forward.Frame.TheVariants.{Dtr0, Dtr1, AskDtr0, AskDtr1, Read}
@@ -21,14 +22,18 @@ use Rattle.dali_trace.specs.Legal.{Legal}
 use Rattle.dali_trace.specs.ByPlan.{told_in, ByPlan}
 use Rattle.dali_trace.specs.Moves.{MovesBy}
 use Rattle.dali_trace.specs.Runs.{fresh}
-use Rattle.dali_trace.specs.Spared.{state_at_start, losses_since, UnrefusedSince, due_code, NoneFixed, IsSpared, AtEachState, LeadsSpared}
-use Rattle.dali_trace.specs.WorkedLosses.{losing, refusing, clear, one_since, start_taken, of_format, fixed_beside, fixed_there, short_bank, short_bus, short_sent, short_said, bus_after, buses_along, MeetsAll, SparesSeven}
+use Rattle.dali_trace.specs.Spared.{state_at_start, losses_since, UnrefusedSince, due_code, NoneFixed, IsSpared}
+use Rattle.dali_trace.specs.Spared.{AtEachState, LeadsSpared}
+use Rattle.dali_trace.specs.WorkedLosses.{losing, refusing, clear, one_since, start_taken, of_format, fixed_beside}
+use Rattle.dali_trace.specs.WorkedLosses.{fixed_there, short_bank, short_bus, short_sent, short_said, bus_after}
+use Rattle.dali_trace.specs.WorkedLosses.{buses_along, MeetsAll, SparesSeven}
 use Rattle.dali_trace.specs.Worked.{read_at, read_try, third_order, third_begun}
 use Rattle.dali_trace.proofs.WorkedLemmas.{read_legal, read_stands}
 use Rattle.dali_trace.proofs.EndingLemmas.{third_begun_legal}
 use Rattle.dali_trace.proofs.WorkedPlanLemmas.{Onset, Keeps, wants_so, frames_planned}
 
--- A frame that is lost to the order's unit, to the left one, or to both of them, is one loss; one that is lost to another is none. What was lost before the start isn't counted.
+-- A frame that is lost to the order's unit, to the left one, or to both of them, is one loss; one that is lost to
+-- another is none. What was lost before the start isn't counted.
 pub lost_to_both : losses_since 5 (Some 7) (one_since start_taken) (losing 0xA0 ∷ clear ∷ losing 0xA0 ∷ []) ≡ 1
 lost_to_both = refl
 
@@ -89,24 +94,34 @@ seven_spared start id reply frame answer older last state states order bank spar
     (so.0, omega arith)
 
 -- what is promised at each state of a chain, is so at those before
-pub spared_before : (start : Start) (next : Happening) (past : List Happening) (last state : SimState) (states : List SimState) → AtEachState (IsSpared start) (next ∷ past) last (state ∷ states)
+pub spared_before : (start : Start) (next : Happening) (past : List Happening) (last state : SimState)
+    (states : List SimState)
+    → AtEachState (IsSpared start) (next ∷ past) last (state ∷ states)
     → IsSpared start (next ∷ past) last (state ∷ states) × AtEachState (IsSpared start) past state states
 spared_before start next past last state states each = each
 
-pub leads_spared : (limit : ℕ) (first : SimState) (past : List Happening) (last : SimState) (leads : LeadsSpared limit first past last) → NoneEnabled (world_of first.units)
-    → IsChain (MovesBy SimStep) first past last leads.states × AtEachState (IsSpared (fresh limit)) past last leads.states
+pub leads_spared : (limit : ℕ) (first : SimState) (past : List Happening) (last : SimState)
+    (leads : LeadsSpared limit first past last)
+    → NoneEnabled (world_of first.units)
+    → IsChain (MovesBy SimStep) first past last leads.states
+    × AtEachState (IsSpared (fresh limit)) past last leads.states
 leads_spared limit first past last leads none = (leads.chain, leads.spared none)
 
 -- An order that ends Short after one answer was lost meets all that is asked for.
 is_bank : IsBank short_bank.bytes
 is_bank = record { least = omega arith; most = omega arith; last = refl }
 
-carries : (past : List Happening) (frame : Frame) (answer : Option ℕ) → AreApart (bus_after short_bus past).units → AreBanks (bus_after short_bus past).units
-    → answer ≡ bus_answer (next_fate (bus_after short_bus past).fates) (filter_map (unit_answer (next_fate (bus_after short_bus past).fates) frame) (bus_after short_bus past).units)
+carries : (past : List Happening) (frame : Frame) (answer : Option ℕ) → AreApart (bus_after short_bus past).units
+    → AreBanks (bus_after short_bus past).units
+    → answer
+    ≡ bus_answer (next_fate (bus_after short_bus past).fates)
+    (filter_map (unit_answer (next_fate (bus_after short_bus past).fates) frame) (bus_after short_bus past).units)
     → SimCarry (bus_after short_bus past) frame answer (bus_after short_bus (Sent frame answer ∷ past))
-carries past frame answer apart banks answers = record { apart = apart; banks = banks; units = refl; fates = refl; answers = answers }
+carries past frame answer apart banks answers =
+    record { apart = apart; banks = banks; units = refl; fates = refl; answers = answers }
 
-short_chain : IsChain (MovesBy SimStep) short_bus short_said (bus_after short_bus short_said) (buses_along short_bus short_said)
+short_chain : IsChain (MovesBy SimStep) short_bus short_said (bus_after short_bus short_said)
+    (buses_along short_bus short_said)
 short_chain =
     let p0 : List Happening = third_begun in
     let p1 : List Happening = Sent (Dtr1 1) None ∷ p0 in
@@ -128,7 +143,10 @@ short_chain =
                 carries p3 (AskDtr1 5) (Some 1) (refl, tt) (is_bank, tt) refl,
                 (
                   carries p2 (Dtr1 1) None (refl, tt) (is_bank, tt) refl,
-                  (carries p1 (AskDtr1 5) None (refl, tt) (is_bank, tt) refl, (carries p0 (Dtr1 1) None (refl, tt) (is_bank, tt) refl, (refl, (refl, (refl, refl))))),
+                  (
+                    carries p1 (AskDtr1 5) None (refl, tt) (is_bank, tt) refl,
+                    (carries p0 (Dtr1 1) None (refl, tt) (is_bank, tt) refl, (refl, (refl, (refl, refl)))),
+                  ),
                 ),
               ),
             ),
@@ -138,22 +156,36 @@ short_chain =
     )
 
 none_enabled : NoneEnabled (world_of short_bus.units)
-none_enabled address = elim (address == 5) as (λ b. is_open (if b then Some (gear_of (new_unit 5 short_bank.bytes [])) else None) ≡ false) [ true ↦ refl | false ↦ refl ]
+none_enabled address = elim (address == 5)
+    as (λ b. is_open (if b then Some (gear_of (new_unit 5 short_bank.bytes [])) else None) ≡ false) [
+      | true ↦ refl
+      | false ↦ refl
+    ]
 
 short_sent_legal : Legal (fresh 10) short_sent
 short_sent_legal = (
   read_legal (fresh 10) (read_try third_begun) 5 0x00 0x10 ((third_begun_legal, (5, refl)), refl) (5, refl) refl,
-  record { sentence = ((tt, tt, refl), tt, tt); within = omega arith; due = tt; grounds = (0x10, read_stands (read_try third_begun) 5 0x00 0x10, omega arith) },
+  record {
+    whole = (((tt, tt, refl), tt, tt), omega arith);
+    due = tt;
+    grounds = (0x10, read_stands (read_try third_begun) 5 0x00 0x10, omega arith);
+  },
 )
 
 short_by_plan : ByPlan (fresh 10) short_said
 short_by_plan =
-    let onset : Onset (fresh 10) third_begun 5 (read_length third_order.updates) = record { planned = (((tt, tt), tt), tt); untold = refl; asks = λ told ask wants. wants } in
+    let onset : Onset (fresh 10) third_begun 5 (read_length third_order.updates) =
+    record { planned = (((tt, tt), tt), tt); untold = refl; asks = λ told ask wants. wants } in
     let told = told_in (read_at 5 0x00 0x10 (read_try third_begun)) in
-    let keeps : Keeps 5 (read_length third_order.updates) told = (((((((tt, refl), refl), refl), refl), refl), refl), refl) in (
+    let keeps : Keeps 5 (read_length third_order.updates) told =
+    (((((((tt, refl), refl), refl), refl), refl), refl), refl) in (
       (
         frames_planned (fresh 10) third_begun 5 (read_length third_order.updates) onset told keeps,
-        (verdicts.Short, wants_so 5 (read_length third_order.updates) told (asks.Ended verdicts.Short) keeps refl, refl),
+        (
+          verdicts.Short,
+          wants_so 5 (read_length third_order.updates) told (asks.Ended verdicts.Short) keeps refl,
+          (tt, refl),
+        ),
       ),
       tt,
     )
@@ -162,4 +194,16 @@ unrefused : UnrefusedSince short_sent (buses_along short_bus short_sent)
 unrefused = (refl, (refl, (refl, (refl, (refl, (refl, (refl, tt)))))))
 
 pub meets_all : MeetsAll
-meets_all = ((short_sent_legal, (refl, (refl, refl))), short_by_plan, short_chain, none_enabled, refl, refl, inl (refl, refl), unrefused, refl, refl, refl)
+meets_all = (
+  (short_sent_legal, (refl, (refl, refl))),
+  short_by_plan,
+  short_chain,
+  none_enabled,
+  refl,
+  refl,
+  inl (refl, refl),
+  unrefused,
+  refl,
+  refl,
+  refl,
+)

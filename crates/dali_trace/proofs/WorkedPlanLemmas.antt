@@ -13,14 +13,21 @@ use Rattle.dali_write.specs.Plans.{Plan, read_length, unlock, close}
 use Rattle.dali_write.specs.Tries.{plan_lines, Wants}
 use Rattle.dali_write.proofs.StandingLemmas.{stands_at_first}
 use Rattle.dali_write.proofs.NextLemmas.{next_wanted}
+use Rattle.dali_write.proofs.AskLemmas.{ask_shown}
 use Rattle.dali_write.proofs.DeterminedLemmas.{place_after, ask_from, ask_is}
 use Rattle.dali_trace.specs.declared.happening.Happening.{Happening}
 use Rattle.dali_trace.specs.declared.happening.Happening.TheVariants.{Sent}
 use Rattle.dali_trace.specs.Trace.{Start, records_of, standing_at}
 use Rattle.dali_trace.specs.Legal.{Legal}
-use Rattle.dali_trace.specs.ByPlan.{told_in, Asks, EndsIn, ByPlan}
-use Rattle.dali_trace.specs.Worked.{read_at, read_try, eight_times, empty, left_open, first_order, begun, opened, measured, short_ended, silent_ended, second_taken, unreached, blocked}
-use Rattle.dali_trace.specs.WorkedPlans.{first_frame, another_first_frame, next_try, frame_past_a_miss, half_tried, next_frame, try_without_a_miss, begun_anew, try_through_a_stop, enabled_first, read_once_opened, seven_times, silent_after_eight, silent_after_seven, silent_where_short, left_at_once, blocked_at_once, try_past_the_end, closed_anew}
+use Rattle.dali_trace.specs.Grounds.{EndsIn}
+use Rattle.dali_trace.specs.ByPlan.{told_in, Asks, ByPlan}
+use Rattle.dali_trace.specs.Worked.{read_at, read_try, eight_times, empty, left_open, first_order, begun, opened}
+use Rattle.dali_trace.specs.Worked.{measured, short_ended, silent_ended, second_taken, unreached, blocked}
+use Rattle.dali_trace.specs.WorkedPlans.{first_frame, another_first_frame, next_try, frame_past_a_miss, half_tried}
+use Rattle.dali_trace.specs.WorkedPlans.{next_frame, try_without_a_miss, begun_anew, try_through_a_stop, enabled_first}
+use Rattle.dali_trace.specs.WorkedPlans.{read_once_opened, seven_times, silent_after_eight, silent_after_seven}
+use Rattle.dali_trace.specs.WorkedPlans.{silent_where_short, left_at_once, blocked_at_once, try_past_the_end}
+use Rattle.dali_trace.specs.WorkedPlans.{closed_anew}
 use Rattle.dali_trace.proofs.WorkedLemmas.{read_legal, begun_legal, opened_legal}
 use Rattle.dali_trace.proofs.LeftLemmas.{second_taken_legal, blocked_legal}
 
@@ -29,14 +36,23 @@ abbrev pub Keeps : ℕ → Plan → List Exchange → Type 0
 Keeps unit plan [] = Unit {0}
 Keeps unit plan (x ∷ told) = Keeps unit plan told × (ask_from (place_after unit plan told) ≡ asks.Send x.frame)
 
-keeps_wants : (unit : ℕ) (plan : Plan) (told : List Exchange) → Keeps unit plan told → Wants unit plan told (ask_from (place_after unit plan told))
-keeps_wants unit plan [] keeps = record { now = plan; misses = 0; left = plan_lines unit plan; byte = None; stands = stands_at_first unit plan; ask_is = refl }
+keeps_wants : (unit : ℕ) (plan : Plan) (told : List Exchange) → Keeps unit plan told
+    → Wants unit plan told (ask_from (place_after unit plan told))
+keeps_wants unit plan [] keeps = record {
+  now = plan;
+  misses = 0;
+  left = plan_lines unit plan;
+  byte = None;
+  stands = stands_at_first unit plan;
+  ask_is = sym (ask_shown plan (plan_lines unit plan) (stands_at_first unit plan).going);
+}
 keeps_wants unit plan (x ∷ told) keeps =
     let before = subst (λ (a : Ask). Wants unit plan told a) keeps.1 (keeps_wants unit plan told keeps.0) in
     let next = next_wanted unit plan told x.frame x.answer before in
     subst (λ (a : Ask). Wants unit plan (x ∷ told) a) (sym (ask_is unit plan (x ∷ told) next.0 next.1)) next.1
 
-pub wants_so : (unit : ℕ) (plan : Plan) (told : List Exchange) (ask : Ask) → Keeps unit plan told → ask_from (place_after unit plan told) ≡ ask → Wants unit plan told ask
+pub wants_so : (unit : ℕ) (plan : Plan) (told : List Exchange) (ask : Ask) → Keeps unit plan told
+    → ask_from (place_after unit plan told) ≡ ask → Wants unit plan told ask
 wants_so unit plan told ask keeps is = subst (λ (a : Ask). Wants unit plan told a) is (keeps_wants unit plan told keeps)
 
 -- frames more, the newest first
@@ -44,7 +60,8 @@ abbrev pub sent : List Exchange → List Happening → List Happening
 sent [] past = past
 sent (x ∷ told) past = Sent x.frame x.answer ∷ sent told past
 
-records_sent : (start : Start) (told : List Exchange) (past : List Happening) → records_of start (sent told past) ≡ records_of start past
+records_sent : (start : Start) (told : List Exchange) (past : List Happening)
+    → records_of start (sent told past) ≡ records_of start past
 records_sent start [] past = refl
 records_sent start (x ∷ told) past = records_sent start told past
 
@@ -58,11 +75,13 @@ pub record Onset (start : Start) (past : List Happening) (unit : ℕ) (plan : Pl
   pub untold : told_in past ≡ []
   pub asks : (told : List Exchange) (ask : Ask) → Wants unit plan told ask → Asks (standing_at start past) told ask
 
-pub frames_planned : (start : Start) (past : List Happening) (unit : ℕ) (plan : Plan) → Onset start past unit plan → (told : List Exchange) → Keeps unit plan told → ByPlan start (sent told past)
+pub frames_planned : (start : Start) (past : List Happening) (unit : ℕ) (plan : Plan) → Onset start past unit plan
+    → (told : List Exchange) → Keeps unit plan told → ByPlan start (sent told past)
 frames_planned start past unit plan onset [] keeps = onset.planned
 frames_planned start past unit plan onset (x ∷ told) keeps = (
   frames_planned start past unit plan onset told keeps.0,
-  rw (records_sent start told past, told_sent told past onset.untold) (onset.asks told (asks.Send x.frame) (wants_so unit plan told (asks.Send x.frame) keeps.0 keeps.1)),
+  rw (records_sent start told past, told_sent told past onset.untold)
+      (onset.asks told (asks.Send x.frame) (wants_so unit plan told (asks.Send x.frame) keeps.0 keeps.1)),
 )
 
 -- the first order, once it is begun
@@ -76,7 +95,8 @@ pub first_planned : ByPlan empty first_frame
 first_planned = looks_on (told_in first_frame) (tt, refl)
 
 pub not_another_first : ByPlan empty another_first_frame → ⊥
-not_another_first planned = let e = ask_is 5 (read_length first_order.updates) (told_in begun) (asks.Send (Dtr0 0)) planned.1 in cc
+not_another_first planned =
+    let e = ask_is 5 (read_length first_order.updates) (told_in begun) (asks.Send (Dtr0 0)) planned.1 in cc
 
 pub another_first_legal : Legal empty another_first_frame
 another_first_legal = (begun_legal, (5, refl))
@@ -85,7 +105,8 @@ pub next_try_planned : ByPlan empty next_try
 next_try_planned = looks_on (told_in next_try) (((tt, refl), refl), refl)
 
 pub not_past_a_miss : ByPlan empty frame_past_a_miss → ⊥
-not_past_a_miss planned = let e = ask_is 5 (read_length first_order.updates) (told_in (read_try begun)) (asks.Send (Dtr0 0)) planned.1 in cc
+not_past_a_miss planned =
+    let e = ask_is 5 (read_length first_order.updates) (told_in (read_try begun)) (asks.Send (Dtr0 0)) planned.1 in cc
 
 read_try_legal : Legal empty (read_try begun)
 read_try_legal = ((begun_legal, (5, refl)), refl)
@@ -97,7 +118,8 @@ pub next_frame_planned : ByPlan empty next_frame
 next_frame_planned = looks_on (told_in next_frame) (((tt, refl), refl), refl)
 
 pub not_without_a_miss : ByPlan empty try_without_a_miss → ⊥
-not_without_a_miss planned = let e = ask_is 5 (read_length first_order.updates) (told_in half_tried) (asks.Send (Dtr1 1)) planned.1 in cc
+not_without_a_miss planned =
+    let e = ask_is 5 (read_length first_order.updates) (told_in half_tried) (asks.Send (Dtr1 1)) planned.1 in cc
 
 pub without_a_miss_legal : Legal empty try_without_a_miss
 without_a_miss_legal = (((begun_legal, (5, refl)), refl), (5, refl))
@@ -107,7 +129,8 @@ pub begun_anew_planned : ByPlan empty begun_anew
 begun_anew_planned = ((first_planned, tt), wants_so 5 (read_length first_order.updates) [] (asks.Send (Dtr1 1)) tt refl)
 
 pub not_through_a_stop : ByPlan empty try_through_a_stop → ⊥
-not_through_a_stop planned = let e = ask_is 5 (read_length first_order.updates) [] (asks.Send (AskDtr1 5)) planned.1 in cc
+not_through_a_stop planned =
+    let e = ask_is 5 (read_length first_order.updates) [] (asks.Send (AskDtr1 5)) planned.1 in cc
 
 pub through_a_stop_legal : Legal empty try_through_a_stop
 through_a_stop_legal = (((begun_legal, (5, refl)), tt), refl)
@@ -115,8 +138,15 @@ through_a_stop_legal = (((begun_legal, (5, refl)), tt), refl)
 -- once the unit is opened
 opened_planned : ByPlan empty opened
 opened_planned =
-    let keeps : Keeps 5 (read_length first_order.updates) (told_in measured) = (((((tt, refl), refl), refl), refl), refl) in
-    (looks_on (told_in measured) keeps, (verdicts.MayOpen, wants_so 5 (read_length first_order.updates) (told_in measured) (asks.Ended verdicts.MayOpen) keeps refl, refl))
+    let keeps : Keeps 5 (read_length first_order.updates) (told_in measured) =
+    (((((tt, refl), refl), refl), refl), refl) in (
+      looks_on (told_in measured) keeps,
+      (
+        verdicts.MayOpen,
+        wants_so 5 (read_length first_order.updates) (told_in measured) (asks.Ended verdicts.MayOpen) keeps refl,
+        (refl, refl),
+      ),
+    )
 
 pub enabled_first_planned : ByPlan empty enabled_first
 enabled_first_planned = (opened_planned, wants_so 5 (unlock first_order.updates) [] (asks.Send (Enable 5)) tt refl)
@@ -131,38 +161,58 @@ read_once_opened_legal = (opened_legal, (5, refl))
 pub short_planned : ByPlan empty short_ended
 short_planned =
     let told = told_in (read_at 5 0x00 0x07 begun) in
-    let keeps : Keeps 5 (read_length first_order.updates) told = (((((tt, refl), refl), refl), refl), refl) in
-    (looks_on told keeps, (verdicts.Short, wants_so 5 (read_length first_order.updates) told (asks.Ended verdicts.Short) keeps refl, refl))
+    let keeps : Keeps 5 (read_length first_order.updates) told = (((((tt, refl), refl), refl), refl), refl) in (
+      looks_on told keeps,
+      (
+        verdicts.Short,
+        wants_so 5 (read_length first_order.updates) told (asks.Ended verdicts.Short) keeps refl,
+        (tt, refl),
+      ),
+    )
 
 pub not_silent_where_short : ByPlan empty silent_where_short → ⊥
-not_silent_where_short planned = by planned.1.0 planned.1.2 (ask_is 5 (read_length first_order.updates) (told_in (read_at 5 0x00 0x07 begun)) (asks.Ended planned.1.0) planned.1.1)
+not_silent_where_short planned =
+    by planned.1.0 planned.1.2 (ask_is 5 (read_length first_order.updates) (told_in (read_at 5 0x00 0x07 begun))
+    (asks.Ended planned.1.0) planned.1.1)
   where
-    by : (verdict : Verdict) → EndsIn (standings.Began first_order) verdict (Ended codes.Silent) → asks.Ended verdicts.Short ≡ asks.Ended verdict → ⊥
-    by verdict ends is = let same : verdicts.Short ≡ verdict = cc in let short : Ended codes.Silent ≡ Ended codes.Short = subst (λ (v : Verdict). EndsIn (standings.Began first_order) v (Ended codes.Silent)) (sym same) ends in cc
+    by : (verdict : Verdict) → EndsIn (standings.Began first_order) verdict (Ended codes.Silent)
+        → asks.Ended verdicts.Short ≡ asks.Ended verdict → ⊥
+    by verdict ends is = let told = ends.1 in let same : verdicts.Short ≡ verdict = cc in cc
 
 pub silent_where_short_legal : Legal empty silent_where_short
 silent_where_short_legal = (
   read_legal empty begun 5 0x00 0x07 begun_legal (5, refl) refl,
-  record { sentence = ((tt, tt, refl), tt, tt); within = omega arith; due = tt; grounds = tt },
+  record { whole = (((tt, tt, refl), tt, tt), omega arith); due = tt; grounds = tt },
 )
 
 pub silent_after_eight_planned : ByPlan empty silent_after_eight
 silent_after_eight_planned =
     let told = told_in (eight_times read_try begun) in
     let keeps : Keeps 5 (read_length first_order.updates) told
-    = ((((((((((((((((tt, refl), refl), refl), refl), refl), refl), refl), refl), refl), refl), refl), refl), refl), refl), refl), refl) in
-    (looks_on told keeps, (verdicts.Silent, wants_so 5 (read_length first_order.updates) told (asks.Ended verdicts.Silent) keeps refl, refl))
+    = ((((((((((((((((tt, refl), refl), refl), refl), refl), refl), refl), refl), refl), refl), refl), refl), refl), refl), refl), refl) in (
+      looks_on told keeps,
+      (
+        verdicts.Silent,
+        wants_so 5 (read_length first_order.updates) told (asks.Ended verdicts.Silent) keeps refl,
+        (tt, refl),
+      ),
+    )
 
 pub not_silent_after_seven : ByPlan empty silent_after_seven → ⊥
-not_silent_after_seven planned = let e = ask_is 5 (read_length first_order.updates) (told_in (seven_times read_try begun)) (asks.Ended planned.1.0) planned.1.1 in cc
+not_silent_after_seven planned =
+    let e =
+    ask_is 5 (read_length first_order.updates) (told_in (seven_times read_try begun)) (asks.Ended planned.1.0)
+    planned.1.1 in
+    cc
 
 pub not_silent_at_once : ByPlan empty silent_ended → ⊥
-not_silent_at_once planned = let e = ask_is 5 (read_length first_order.updates) (told_in begun) (asks.Ended planned.1.0) planned.1.1 in cc
+not_silent_at_once planned =
+    let e = ask_is 5 (read_length first_order.updates) (told_in begun) (asks.Ended planned.1.0) planned.1.1 in cc
 
 pub silent_after_seven_legal : Legal empty silent_after_seven
 silent_after_seven_legal = (
   (((((((((((((((begun_legal, (5, refl)), refl), (5, refl)), refl), (5, refl)), refl), (5, refl)), refl), (5, refl)), refl), (5, refl)), refl), (5, refl)), refl)),
-  record { sentence = ((tt, tt, refl), tt, tt); within = omega arith; due = tt; grounds = tt },
+  record { whole = (((tt, tt, refl), tt, tt), omega arith); due = tt; grounds = tt },
 )
 
 -- how one ends that was opened
@@ -170,7 +220,8 @@ pub not_left_at_once : ByPlan empty left_at_once → ⊥
 not_left_at_once planned = let e = ask_is 5 (unlock first_order.updates) [] (asks.Ended planned.1.0) planned.1.1 in cc
 
 pub left_at_once_legal : Legal empty left_at_once
-left_at_once_legal = (opened_legal, record { sentence = (((tt, tt, refl), refl, tt), tt, tt); within = omega arith; due = tt; grounds = tt })
+left_at_once_legal =
+    (opened_legal, record { whole = ((((tt, tt, refl), refl, tt), tt, tt), omega arith); due = tt; grounds = tt })
 
 -- an order that a left unit blocks
 closes : Onset left_open second_taken 5 (close verdicts.Closed verdicts.NotClosed)
@@ -180,20 +231,28 @@ pub blocked_planned : ByPlan left_open blocked
 blocked_planned =
     let told = told_in unreached in
     let keeps : Keeps 5 (close verdicts.Closed verdicts.NotClosed) told
-    = ((((((((((((((((((((((((((((((((((((((((((((((((tt, refl), refl), refl), refl), refl), refl), refl), refl), refl), refl), refl), refl), refl), refl), refl), refl), refl), refl), refl), refl), refl), refl), refl), refl), refl), refl), refl), refl), refl), refl), refl), refl), refl), refl), refl), refl), refl), refl), refl), refl), refl), refl), refl), refl), refl), refl), refl), refl) in
-    (frames_planned left_open second_taken 5 (close verdicts.Closed verdicts.NotClosed) closes told keeps, wants_so 5 (close verdicts.Closed verdicts.NotClosed) told (asks.Ended verdicts.NotClosed) keeps refl)
+    = ((((((((((((((((((((((((((((((((((((((((((((((((tt, refl), refl), refl), refl), refl), refl), refl), refl), refl), refl), refl), refl), refl), refl), refl), refl), refl), refl), refl), refl), refl), refl), refl), refl), refl), refl), refl), refl), refl), refl), refl), refl), refl), refl), refl), refl), refl), refl), refl), refl), refl), refl), refl), refl), refl), refl), refl), refl) in (
+      frames_planned left_open second_taken 5 (close verdicts.Closed verdicts.NotClosed) closes told keeps,
+      wants_so 5 (close verdicts.Closed verdicts.NotClosed) told (asks.Ended verdicts.NotClosed) keeps refl,
+    )
 
 pub not_blocked_at_once : ByPlan left_open blocked_at_once → ⊥
-not_blocked_at_once planned = let e = ask_is 5 (close verdicts.Closed verdicts.NotClosed) [] (asks.Ended verdicts.NotClosed) planned.1 in cc
+not_blocked_at_once planned =
+    let e = ask_is 5 (close verdicts.Closed verdicts.NotClosed) [] (asks.Ended verdicts.NotClosed) planned.1 in cc
 
 pub blocked_at_once_legal : Legal left_open blocked_at_once
 blocked_at_once_legal = (second_taken_legal, (refl, refl, λ read. read))
 
 pub closed_anew_planned : ByPlan left_open closed_anew
-closed_anew_planned = (((blocked_planned, tt), tt), wants_so 5 (close verdicts.Closed verdicts.NotClosed) [] (asks.Send (Enable 5)) tt refl)
+closed_anew_planned = (
+  ((blocked_planned, tt), tt),
+  wants_so 5 (close verdicts.Closed verdicts.NotClosed) [] (asks.Send (Enable 5)) tt refl,
+)
 
 pub not_past_the_end : ByPlan left_open try_past_the_end → ⊥
-not_past_the_end planned = let e = ask_is 5 (close verdicts.Closed verdicts.NotClosed) (told_in unreached) (asks.Send (Enable 5)) planned.1 in cc
+not_past_the_end planned =
+    let e = ask_is 5 (close verdicts.Closed verdicts.NotClosed) (told_in unreached) (asks.Send (Enable 5)) planned.1 in
+    cc
 
 pub past_the_end_legal : Legal left_open try_past_the_end
 past_the_end_legal = (blocked_legal.0, ((refl, refl), refl))

@@ -1,5 +1,6 @@
 -- Near the limits of the work: what a trace within them can't be.
-use Rattle.std.proofs.Common.{◌≡◌, inl, inr, refl, sym, ap, subst, ◌∙◌, ℕ, zero, suc, ◌≤◌, true, List, [], ◌∷◌, ◌++◌, append_assoc, length, Some, None, arith}
+use Rattle.std.proofs.Common.{◌≡◌, inl, inr, refl, sym, ap, subst, ◌∙◌, ℕ, zero, suc, ◌≤◌, true, List, [], ◌∷◌, ◌++◌}
+use Rattle.std.proofs.Common.{append_assoc, length, Some, None, arith}
 use Rattle.dali_frame.specs.declared.forward.Frame.TheVariants.{Enable}
 use Rattle.dali_bank.specs.Order.{Contents}
 use Rattle.dali_journal.specs.declared.record.Code.TheVariants as codes
@@ -24,8 +25,10 @@ use Rattle.dali_trace.specs.declared.happening.Happening.{Happening}
 use Rattle.dali_trace.specs.declared.happening.Happening.TheVariants.{Answered, Kept, Stopped}
 use Rattle.dali_trace.specs.Trace.{Start, sent_since_taken}
 use Rattle.dali_trace.specs.Work.{stood_at, kept_since, frames_from, order_at_hand, IsWithinLimit, IsSaidSo, IsWorked}
-use Rattle.dali_trace.specs.Worked.{empty, left_open, first_order, second_order, taken, begun, opened, unlocked, short_ended, ended, said, left_said, second_taken, unreached, taken_again}
-use Rattle.dali_trace.specs.WorkedPlans.{first_frame, begun_anew, said_again, second_taken_behind, frames_more, tries_more, reads_more, records_more, begun_said, opened_said, blocked_said}
+use Rattle.dali_trace.specs.Worked.{empty, left_open, first_order, second_order, taken, begun, opened, unlocked}
+use Rattle.dali_trace.specs.Worked.{short_ended, ended, said, left_said, second_taken, unreached, taken_again}
+use Rattle.dali_trace.specs.WorkedPlans.{first_frame, begun_anew, said_again, second_taken_behind, frames_more}
+use Rattle.dali_trace.specs.WorkedPlans.{tries_more, reads_more, records_more, begun_said, opened_said, blocked_said}
 use Rattle.dali_trace.proofs.RefusedLemmas.{none_read, has_none}
 
 -- so many frames were sent, and one record kept
@@ -89,7 +92,8 @@ frames_stood : (n : ℕ) → stood_at empty (frames_more n begun) ≡ standings.
 frames_stood zero = refl
 frames_stood (suc n) = frames_stood n
 
-frames_done : (n : ℕ) → order_at_hand empty (Kept (Ended codes.Done) ∷ Kept (Opened 5) ∷ frames_more n begun) ≡ Some first_order
+frames_done : (n : ℕ)
+    → order_at_hand empty (Kept (Ended codes.Done) ∷ Kept (Opened 5) ∷ frames_more n begun) ≡ Some first_order
 frames_done zero = refl
 frames_done (suc n) = frames_done n
 
@@ -97,9 +101,17 @@ pub done_after : (n : ℕ) → IsSaidSo empty (opened_said codes.Done (frames_mo
 done_after n (order, number, hand, earned) =
     let both : Some first_order ≡ Some order = sym (frames_done n) ∙ hand in
     let same : order ≡ first_order = cc in
-    let long : IsLong (frames_from (stood_at empty (frames_more n begun)) order.updates) (sent_since_taken (frames_more n begun)) = earned in
-    let first = subst (λ (o : Contents). IsLong (frames_from (stood_at empty (frames_more n begun)) o.updates) (sent_since_taken (frames_more n begun))) same long in
-    let idle = subst (λ (stands : Standing). IsLong (frames_from stands first_order.updates) (sent_since_taken (frames_more n begun))) (frames_stood n) first in
+    let long : IsLong (frames_from (stood_at empty (frames_more n begun)) order.updates)
+    (sent_since_taken (frames_more n begun)) =
+    earned in
+    let first =
+    subst (λ (o : Contents).
+    IsLong (frames_from (stood_at empty (frames_more n begun)) o.updates) (sent_since_taken (frames_more n begun)))
+    same long in
+    let idle =
+    subst
+    (λ (stands : Standing). IsLong (frames_from stands first_order.updates) (sent_since_taken (frames_more n begun)))
+    (frames_stood n) first in
     let least = idle.0 in
     let most = idle.1 in
     let count = frames_length n in
@@ -108,8 +120,15 @@ done_after n (order, number, hand, earned) =
 
 done_after_96 : IsSaidSo empty (opened_said codes.Done (frames_more 96 begun))
 done_after_96 =
-    let long : IsLong 96 (sent_since_taken (frames_more 96 begun)) = let count = frames_length 96 in (omega arith, omega arith) in
-    (first_order, refl, frames_done 96, subst (λ (stands : Standing). IsLong (frames_from stands first_order.updates) (sent_since_taken (frames_more 96 begun))) (sym (frames_stood 96)) long)
+    let long : IsLong 96 (sent_since_taken (frames_more 96 begun)) =
+    let count = frames_length 96 in (omega arith, omega arith) in (
+      first_order,
+      refl,
+      frames_done 96,
+      subst (λ (stands : Standing).
+          IsLong (frames_from stands first_order.updates) (sent_since_taken (frames_more 96 begun)))
+          (sym (frames_stood 96)) long,
+    )
 
 pub done_so : (n : ℕ) → n ≡ 96 → IsSaidSo empty (opened_said codes.Done (frames_more n begun))
 done_so n is = subst (λ (m : ℕ). IsSaidSo empty (opened_said codes.Done (frames_more m begun))) (sym is) done_after_96
@@ -137,11 +156,13 @@ unlooked_misses unit told (inr (inr failed)) = failure_misses unit _ told failed
 
 pub silent_after : (n : ℕ) → IsSaidSo empty (begun_said codes.Silent (tries_more n begun)) → 8 ≤ n
 silent_after n (order, number, hand, earned) =
-    let many = unlooked_misses order.unit (sent_since_taken (tries_more n begun)) earned in let count = tries_missed n in omega arith
+    let many = unlooked_misses order.unit (sent_since_taken (tries_more n begun)) earned in
+    let count = tries_missed n in omega arith
 
 pub left_after : (n : ℕ) → IsSaidSo empty (opened_said codes.DoubtOpen (tries_more n begun)) → 8 ≤ n
 left_after n (order, number, hand, earned) =
-    let many = failure_misses order.unit _ (sent_since_taken (tries_more n begun)) earned in let count = tries_missed n in omega arith
+    let many = failure_misses order.unit _ (sent_since_taken (tries_more n begun)) earned in
+    let count = tries_missed n in omega arith
 
 waiting_missed : (n : ℕ) → misses_in (sent_since_taken (tries_more n second_taken)) ≡ n
 waiting_missed zero = refl
@@ -150,7 +171,8 @@ waiting_missed (suc n) = let rest = waiting_missed n in omega arith
 pub blocked_after : (n : ℕ) → IsSaidSo left_open (blocked_said (tries_more n second_taken)) → 8 ≤ n
 blocked_after zero unread = let many = failure_misses 5 _ [] unread in omega arith
 blocked_after (suc n) unread =
-    let many = failure_misses 5 _ (sent_since_taken (tries_more (suc n) second_taken)) unread in let count = waiting_missed (suc n) in omega arith
+    let many = failure_misses 5 _ (sent_since_taken (tries_more (suc n) second_taken)) unread in
+    let count = waiting_missed (suc n) in omega arith
 
 -- a byte was found only where a checked read was answered
 ends_has : (unit location byte : ℕ) (told : List Exchange) → EndsInRead unit location byte told → HasRead unit told
@@ -165,17 +187,25 @@ has_later unit (x ∷ newer) told has = inr (has_later unit newer told has)
 has_earlier : (unit : ℕ) (newer older : List Exchange) → HasRead unit newer → HasRead unit (newer ++ older)
 has_earlier unit [] older has = absurd has
 has_earlier unit (x ∷ newer) older (inl (location, byte, (tried, rest, same, read))) =
-    inl (location, byte, (tried, rest ++ older, ap (λ (t : List Exchange). t ++ older) same ∙ append_assoc tried rest older, read))
+    inl (
+      location,
+      byte,
+      (tried, rest ++ older, ap (λ (t : List Exchange). t ++ older) same ∙ append_assoc tried rest older, read),
+    )
 has_earlier unit (x ∷ newer) older (inr has) = inr (has_earlier unit newer older has)
 
-found_read : (unit : ℕ) (plan : Plan) (expected : List (ℕ × ℕ)) (told : List Exchange) → FoundAnother unit plan expected told → HasRead unit told
+found_read : (unit : ℕ) (plan : Plan) (expected : List (ℕ × ℕ)) (told : List Exchange)
+    → FoundAnother unit plan expected told → HasRead unit told
 found_read unit plan expected told found = by found.answered
   where
     by : Succeeds (read_lines unit found.location) (Some found.found) found.read → HasRead unit told
     by (tried, missed, misses, same, try, outcome, few, are) =
-        let parts : found.read ++ found.older ≡ tried ++ (missed ++ found.older) = ap (λ (t : List Exchange). t ++ found.older) same ∙ append_assoc tried missed found.older in
-        let here = ends_has unit found.location found.found (found.read ++ found.older) (tried, missed ++ found.older, parts, (try, sym outcome)) in
-        subst (λ (t : List Exchange). HasRead unit t) (sym found.parts) (has_later unit found.newer (found.read ++ found.older) here)
+        let parts : found.read ++ found.older ≡ tried ++ (missed ++ found.older) =
+        ap (λ (t : List Exchange). t ++ found.older) same ∙ append_assoc tried missed found.older in
+        let here = ends_has unit found.location found.found (found.read ++ found.older)
+        (tried, missed ++ found.older, parts, (try, sym outcome)) in
+        subst (λ (t : List Exchange). HasRead unit t) (sym found.parts)
+        (has_later unit found.newer (found.read ++ found.older) here)
 
 tries_unread : (n : ℕ) → none_read (sent_since_taken (tries_more n begun)) ≡ true
 tries_unread zero = refl
@@ -183,13 +213,16 @@ tries_unread (suc n) = tries_unread n
 
 pub doubt_after : (n : ℕ) → IsSaidSo empty (opened_said codes.Doubt (tries_more n begun)) → 8 ≤ n
 doubt_after n (order, number, hand, inl failed) =
-    let many = failed_misses order.unit (sent_since_taken (tries_more n begun)) failed in let count = tries_missed n in omega arith
-doubt_after n (order, number, hand, inr (told, older, parts, found)) = absurd (by (found_read order.unit (unlock order.updates) (read_backs order.updates) told found))
+    let many = failed_misses order.unit (sent_since_taken (tries_more n begun)) failed in
+    let count = tries_missed n in omega arith
+doubt_after n (order, number, hand, inr (told, older, parts, found)) =
+    absurd (by (found_read order.unit (unlock order.updates) (read_backs order.updates) told found))
   where
     by : HasRead order.unit told → ⊥
     by has =
         let sent = sent_since_taken (tries_more n begun) in
-        let none : none_read (told ++ older) ≡ true = subst (λ (t : List Exchange). none_read t ≡ true) parts (tries_unread n) in
+        let none : none_read (told ++ older) ≡ true =
+        subst (λ (t : List Exchange). none_read t ≡ true) parts (tries_unread n) in
         has_none order.unit (told ++ older) none (has_earlier order.unit told older has)
 
 -- nor where each read was answered
@@ -199,11 +232,13 @@ reads_met (suc n) = let rest = reads_met n in omega arith
 
 pub not_silent_after_reads : (n : ℕ) → IsSaidSo empty (begun_said codes.Silent (reads_more n begun)) → ⊥
 not_silent_after_reads n (order, number, hand, earned) =
-    let many = unlooked_misses order.unit (sent_since_taken (reads_more n begun)) earned in let count = reads_met n in omega arith
+    let many = unlooked_misses order.unit (sent_since_taken (reads_more n begun)) earned in
+    let count = reads_met n in omega arith
 
 pub not_left_after_reads : (n : ℕ) → IsSaidSo empty (opened_said codes.DoubtOpen (reads_more n begun)) → ⊥
 not_left_after_reads n (order, number, hand, earned) =
-    let many = failure_misses order.unit _ (sent_since_taken (reads_more n begun)) earned in let count = reads_met n in omega arith
+    let many = failure_misses order.unit _ (sent_since_taken (reads_more n begun)) earned in
+    let count = reads_met n in omega arith
 
 -- none of the frames enables a unit or writes
 abbrev AllPassive : List Exchange → Type 0
@@ -219,22 +254,33 @@ front_passive [] older passive = tt
 front_passive (x ∷ told) older passive = (passive.0, front_passive told older passive.1)
 
 -- an opened session begins with a frame that enables its unit
-enables_first : (unit : ℕ) (updates : List (ℕ × ℕ)) (told : List Exchange) (ask : Ask) → Wants unit (unlock updates) told ask → AllPassive told → told ≡ []
+enables_first : (unit : ℕ) (updates : List (ℕ × ℕ)) (told : List Exchange) (ask : Ask)
+    → Wants unit (unlock updates) told ask → AllPassive told → told ≡ []
 enables_first unit updates [] ask wants passive = refl
 enables_first unit updates (x ∷ []) ask wants passive =
-    let first = ask_is unit (unlock updates) [] (asks.Send x.frame) (frame_wanted [] x unit (unlock updates) ask wants) in
+    let first =
+    ask_is unit (unlock updates) [] (asks.Send x.frame) (frame_wanted [] x unit (unlock updates) ask wants) in
     let enables : Enable unit ≡ x.frame = cc in
     absurd (subst IsPassive (sym enables) passive.0)
 enables_first unit updates (x ∷ y ∷ told) ask wants passive =
-    let none = enables_first unit updates (y ∷ told) (asks.Send x.frame) (frame_wanted (y ∷ told) x unit (unlock updates) ask wants) passive.1 in cc
+    let none =
+    enables_first unit updates (y ∷ told) (asks.Send x.frame)
+    (frame_wanted (y ∷ told) x unit (unlock updates) ask wants) passive.1 in
+    cc
 
 pub not_doubt_after_reads : (n : ℕ) → IsSaidSo empty (opened_said codes.Doubt (reads_more n begun)) → ⊥
 not_doubt_after_reads n (order, number, hand, inl failed) =
-    let many = failed_misses order.unit (sent_since_taken (reads_more n begun)) failed in let count = reads_met n in omega arith
+    let many = failed_misses order.unit (sent_since_taken (reads_more n begun)) failed in
+    let count = reads_met n in omega arith
 not_doubt_after_reads n (order, number, hand, inr (told, older, parts, found)) =
     let wants = found_doubts order.unit (unlock order.updates) (read_backs order.updates) told found in
-    let none = enables_first order.unit order.updates told (asks.Ended verdicts.Doubt) wants (front_passive told older (subst AllPassive parts (reads_passive n))) in
-    let doubt = ask_is order.unit (unlock order.updates) [] (asks.Ended verdicts.Doubt) (subst (λ (t : List Exchange). Wants order.unit (unlock order.updates) t (asks.Ended verdicts.Doubt)) none wants) in cc
+    let none =
+    enables_first order.unit order.updates told (asks.Ended verdicts.Doubt) wants
+    (front_passive told older (subst AllPassive parts (reads_passive n))) in
+    let doubt =
+    ask_is order.unit (unlock order.updates) [] (asks.Ended verdicts.Doubt)
+    (subst (λ (t : List Exchange). Wants order.unit (unlock order.updates) t (asks.Ended verdicts.Doubt)) none wants) in
+    cc
 
 -- what counts: the frames and records since an order was taken or the program stopped, and where the records stood then
 pub frames_counted : length (sent_since_taken begun_anew) ≡ 1

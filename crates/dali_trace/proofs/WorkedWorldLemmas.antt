@@ -1,18 +1,22 @@
 -- What records say of worlds and what they don't, near the edges: what a weaker definition would let through.
-use Rattle.std.proofs.Common.{◌≡◌, ◌≤◌, ◌<◌, inl, inr, refl, arith, ap, true, false, ℕ, Bool, List, [], ◌∷◌, Option, Some, None, ◌==◌, if◌then◌else◌}
+use Rattle.std.proofs.Common.{◌≡◌, ◌≤◌, ◌<◌, inl, inr, refl, arith, ap, true, false, ℕ, Bool, List, [], ◌∷◌, Option}
+use Rattle.std.proofs.Common.{Some, None, ◌==◌, if◌then◌else◌}
 use Rattle.dali_gear.specs.World.{Gear, World, is_enabled}
 use Rattle.dali_journal.specs.declared.kept.Stage.{Stage}
 use Rattle.dali_journal.specs.declared.kept.Stage.TheVariants as stages
 use Rattle.dali_journal.specs.declared.record.Code.TheVariants.{Done, Short, Format, Silent, Doubt, DoubtOpen}
 use Rattle.dali_journal.specs.declared.record.Record.{Record}
 use Rattle.dali_journal.specs.declared.record.Record.TheVariants.{Began, Opened, Ended, Closed}
+use Rattle.dali_journal.specs.declared.standing.Standing.{Standing}
+use Rattle.dali_journal.specs.declared.standing.Standing.TheVariants as standings
+use Rattle.dali_journal.specs.Sentence.{named_unit}
 use Rattle.dali_write.specs.Findings.{IsWritten}
 use Rattle.dali_trace.specs.declared.happening.Happening.TheVariants.{Kept}
 use Rattle.dali_trace.specs.Possible.{IsPossible, IsSettled, applied}
 use Rattle.dali_trace.specs.Fits.{HasBeenOpened, IsLockByte, Fits, OnlyNamed, IsApplied}
 use Rattle.dali_trace.specs.Moves.{Moves}
-use Rattle.dali_trace.specs.WhenKept.{Holds, WhenKept}
-use Rattle.dali_trace.specs.Worked.{first_order, third_order, empty, begun, third_begun, opened, alone}
+use Rattle.dali_trace.specs.WhenKept.{Holds, IsLetGo, WhenKept}
+use Rattle.dali_trace.specs.Worked.{first_order, third_order, empty, left_open, begun, third_begun, opened, alone}
 
 -- Which bytes a place may hold. The first order has 03h for location 03h of unit 5, where FFh stood.
 
@@ -77,17 +81,21 @@ settled_when_begun = tt
 pub not_settled_in_doubt : IsSettled 5 1 3 ((first_order, stages.Ended Doubt) ∷ []) → ⊥
 not_settled_in_doubt is = is
 
-pub not_settled_by_a_silent_order : IsSettled 5 1 3 ((first_order, stages.Ended Silent) ∷ (first_order, stages.Ended Doubt) ∷ []) → ⊥
+pub not_settled_by_a_silent_order : IsSettled 5 1 3
+    ((first_order, stages.Ended Silent) ∷ (first_order, stages.Ended Doubt) ∷ [])
+    → ⊥
 not_settled_by_a_silent_order is = is
 
-pub settled_by_a_done_order : IsSettled 5 1 3 ((first_order, stages.Ended Done) ∷ (first_order, stages.Ended Doubt) ∷ [])
+pub settled_by_a_done_order : IsSettled 5 1 3
+    ((first_order, stages.Ended Done) ∷ (first_order, stages.Ended Doubt) ∷ [])
 settled_by_a_done_order = tt
 
-pub not_settled_elsewhere : IsSettled 5 1 3 ((third_order, stages.Ended Done) ∷ (first_order, stages.Ended Doubt) ∷ []) → ⊥
+pub not_settled_elsewhere : IsSettled 5 1 3 ((third_order, stages.Ended Done) ∷ (first_order, stages.Ended Doubt) ∷ [])
+    → ⊥
 not_settled_elsewhere is = is
 
--- Worlds of one unit at address 5. Its bank 1 has 00h, the lock byte at 02h and 03h to 08h, where the order's bytes stand
--- but for the last, and the high byte of its content format.
+-- Worlds of one unit at address 5. Its bank 1 has 00h, the lock byte at 02h and 03h to 08h, where the order's bytes
+-- stand but for the last, and the high byte of its content format.
 
 abbrev place_of : ℕ → ℕ → ℕ → ℕ → ℕ → Option ℕ
 place_of last lock high end location =
@@ -104,7 +112,13 @@ place_of last lock high end location =
 
 abbrev unit_with : Bool → ℕ → ℕ → ℕ → ℕ → Gear
 unit_with enabled last lock high end =
-    record { dtr0 = 0; dtr1 = 0; dtr2 = 0; enabled = enabled; memory = λ bank location. if bank == 1 then place_of last lock high end location else None }
+    record {
+      dtr0 = 0;
+      dtr1 = 0;
+      dtr2 = 0;
+      enabled = enabled;
+      memory = λ bank location. if bank == 1 then place_of last lock high end location else None;
+    }
 
 abbrev world_with : Bool → ℕ → ℕ → ℕ → ℕ → World
 world_with enabled last lock high end = alone (unit_with enabled last lock high end)
@@ -165,73 +179,117 @@ not_enabled_when_begun only = omega (arith, ap (λ (named : Option ℕ). or_none
 pub not_enabled_when_done : OnlyNamed records_done enabled_world → ⊥
 not_enabled_when_done only = omega (arith, ap (λ (named : Option ℕ). or_none named) (only 5 refl))
 
-pub not_enabled_for_another_unit : OnlyNamed (Opened 6 ∷ Began (record { id = 2; unit = 6; updates = [] }) ∷ []) enabled_world → ⊥
+pub not_enabled_for_another_unit : OnlyNamed
+    (Opened 6 ∷ Began (record { id = 2; unit = 6; updates = [] }) ∷ []) enabled_world
+    → ⊥
 not_enabled_for_another_unit only = omega (arith, ap (λ (named : Option ℕ). or_none named) (only 5 refl))
 
 -- A done order whose byte isn't there, and one in doubt, of whose bytes nothing is said
 
 pub not_applied_when_done : IsApplied before records_done before → ⊥
-not_applied_when_done is = omega (arith, ap (λ (byte : Option ℕ). or_none byte) (is 5 1 8 0xFF (λ lock. omega (arith, lock.1)) refl tt))
+not_applied_when_done is =
+    omega (arith, ap (λ (byte : Option ℕ). or_none byte) (is 5 1 8 0xFF (λ lock. omega (arith, lock.1)) refl tt))
 
 -- What is true when a record is kept
 
-pub opened_where_it_reaches : WhenKept empty (Kept (Opened 5) ∷ begun) (world_with false 0x08 0xFF 0x00 0xFF)
-opened_where_it_reaches = (first_order, refl, (0x08, refl, omega arith, λ high. absurd (omega (arith, high))))
+-- the unit at 5, which is let go, is off
+off_at_5 : (now : World) (stands : Standing) (entry : Record) → named_unit stands ≡ Some 5 → is_enabled now 5 ≡ false
+    → IsLetGo now stands entry
+off_at_5 now stands entry at off = λ unit named gone. let is : 5 ≡ unit = cc in rw (← is) off
 
-pub not_opened_where_it_ends_before : WhenKept empty (Kept (Opened 5) ∷ begun) (world_with false 0x07 0xFF 0x00 0xFF) → ⊥
-not_opened_where_it_ends_before (order, stands, (last, shows, reaches, format)) =
-    let same : order ≡ first_order = cc in
-    let is : last ≡ 0x07 = cc in
-    let eight : 8 ≤ last = rw same at reaches in omega (arith, is, eight)
+pub opened_where_it_reaches : WhenKept empty (Kept (Opened 5) ∷ begun) (world_with false 0x08 0xFF 0x00 0xFF)
+opened_where_it_reaches = record {
+  allowed = refl;
+  grounds = (0x08, refl, omega arith, λ high. absurd (omega (arith, high)));
+  let_go = λ unit named gone. cc;
+}
+
+pub not_opened_where_it_ends_before : WhenKept empty (Kept (Opened 5) ∷ begun) (world_with false 0x07 0xFF 0x00 0xFF)
+    → ⊥
+not_opened_where_it_ends_before kept = by kept.grounds.0 kept.grounds.1 kept.grounds.2 where
+  by : (last : ℕ) → Some 0x07 ≡ Some last → 8 ≤ last → ⊥
+  by last shows reaches = let is : last ≡ 0x07 = cc in omega (arith, is, reaches)
+
+pub not_opened_at_another_unit : WhenKept empty (Kept (Opened 6) ∷ begun) (world_with false 0x08 0xFF 0x00 0xFF) → ⊥
+not_opened_at_another_unit kept = omega (arith, kept.allowed)
 
 pub short_where_it_ends_before : WhenKept empty (Kept (Ended Short) ∷ begun) (world_with false 0x07 0xFF 0x00 0xFF)
-short_where_it_ends_before = (first_order, refl, (0x07, refl, omega arith))
+short_where_it_ends_before =
+    record { allowed = tt; grounds = (0x07, refl, omega arith); let_go = λ unit named gone. cc }
 
 pub not_short_where_it_reaches : WhenKept empty (Kept (Ended Short) ∷ begun) (world_with false 0x08 0xFF 0x00 0xFF) → ⊥
-not_short_where_it_reaches (order, stands, (last, shows, ends)) =
-    let same : order ≡ first_order = cc in
-    let is : last ≡ 0x08 = cc in
-    let eight : last < 8 = rw same at ends in omega (arith, is, eight)
+not_short_where_it_reaches kept = by kept.grounds.0 kept.grounds.1 kept.grounds.2 where
+  by : (last : ℕ) → Some 0x08 ≡ Some last → last < 8 → ⊥
+  by last shows ends = let is : last ≡ 0x08 = cc in omega (arith, is, ends)
 
-pub format_where_it_is_another : WhenKept empty (Kept (Ended Format) ∷ third_begun) (world_with false 0x77 0xFF 0x01 0xFF)
-format_where_it_is_another = (third_order, refl, (0x01, 0x03, refl, refl, omega arith, λ is. omega (arith, is.0)))
+pub format_where_it_is_another : WhenKept empty (Kept (Ended Format) ∷ third_begun)
+    (world_with false 0x77 0xFF 0x01 0xFF)
+format_where_it_is_another = record {
+  allowed = tt;
+  grounds = (0x01, 0x03, refl, refl, omega arith, λ is. omega (arith, is.0));
+  let_go = λ unit named gone. cc;
+}
 
-pub not_format_where_it_is_0003 : WhenKept empty (Kept (Ended Format) ∷ third_begun) (world_with false 0x77 0xFF 0x00 0xFF) → ⊥
-not_format_where_it_is_0003 (order, stands, (high, low, shows_high, shows_low, is_above, differs)) = differs (cc, cc)
+pub not_format_where_it_is_0003 : WhenKept empty (Kept (Ended Format) ∷ third_begun)
+    (world_with false 0x77 0xFF 0x00 0xFF)
+    → ⊥
+not_format_where_it_is_0003 kept =
+    let high = kept.grounds.2 in
+    let low = kept.grounds.3 in
+    kept.grounds.5 (cc, cc)
 
 pub done_where_all_is_there : WhenKept empty (Kept (Ended Done) ∷ opened) after
-done_where_all_is_there = (first_order, refl, ((refl, (refl, (refl, (refl, (refl, (refl, (refl, tt))))))), refl))
+done_where_all_is_there = record {
+  allowed = tt;
+  grounds = (refl, (refl, (refl, (refl, (refl, (refl, (refl, tt)))))));
+  let_go = off_at_5 after (standings.Opened first_order) (Ended Done) refl refl;
+}
 
 pub not_done_with_a_byte_missing : WhenKept empty (Kept (Ended Done) ∷ opened) before → ⊥
-not_done_with_a_byte_missing (order, stands, (shows, off)) =
-    let same : order ≡ first_order = cc in
-    let written : IsWritten (Holds before 5) first_order.updates = rw same at shows in
+not_done_with_a_byte_missing kept =
+    let written : IsWritten (Holds before 5) first_order.updates = kept.grounds in
     omega (arith, ap (λ (byte : Option ℕ). or_none byte) written.1.1.1.1.1.1.0)
 
 pub not_done_where_unlocked : WhenKept empty (Kept (Ended Done) ∷ opened) (world_with false 0x77 0x55 0x00 0xAB) → ⊥
-not_done_where_unlocked (order, stands, (shows, off)) =
-    let same : order ≡ first_order = cc in
-    let written : IsWritten (Holds (world_with false 0x77 0x55 0x00 0xAB) 5) first_order.updates = rw same at shows in
+not_done_where_unlocked kept =
+    let written : IsWritten (Holds (world_with false 0x77 0x55 0x00 0xAB) 5) first_order.updates = kept.grounds in
     omega (arith, ap (λ (byte : Option ℕ). or_none byte) written.0)
 
 pub not_done_where_enabled : WhenKept empty (Kept (Ended Done) ∷ opened) (world_with true 0x77 0xFF 0x00 0xAB) → ⊥
-not_done_where_enabled (order, stands, (shows, off)) =
-    let same : order ≡ first_order = cc in
-    let is : true ≡ false = rw same at off in cc
+not_done_where_enabled kept = let is : true ≡ false = kept.let_go 5 refl refl in cc
 
 pub doubt_where_not_enabled : WhenKept empty (Kept (Ended Doubt) ∷ opened) before
-doubt_where_not_enabled = (first_order, refl, refl)
+doubt_where_not_enabled = record {
+  allowed = tt;
+  grounds = (0x02, 0xFF, refl);
+  let_go = off_at_5 before (standings.Opened first_order) (Ended Doubt) refl refl;
+}
 
 pub not_doubt_where_enabled : WhenKept empty (Kept (Ended Doubt) ∷ opened) enabled_world → ⊥
-not_doubt_where_enabled (order, stands, off) =
-    let same : order ≡ first_order = cc in
-    let is : true ≡ false = rw same at off in cc
+not_doubt_where_enabled kept = let is : true ≡ false = kept.let_go 5 refl refl in cc
 
-pub closed_where_not_enabled : WhenKept empty (Kept (Closed 5) ∷ []) before
-closed_where_not_enabled = refl
+pub not_doubt_without_the_unit : WhenKept empty (Kept (Ended Doubt) ∷ opened) (λ address. None) → ⊥
+not_doubt_without_the_unit kept = let none : None ≡ Some kept.grounds.1 = kept.grounds.2 in cc
 
-pub not_closed_where_enabled : WhenKept empty (Kept (Closed 5) ∷ []) enabled_world → ⊥
-not_closed_where_enabled is = let enabled : true ≡ false = is in cc
+-- a unit that is left may be enabled
+pub left_where_enabled : WhenKept empty (Kept (Ended DoubtOpen) ∷ opened) enabled_world
+left_where_enabled = record { allowed = tt; grounds = tt; let_go = λ unit named gone. cc }
+
+pub closed_where_not_enabled : WhenKept left_open (Kept (Closed 5) ∷ []) before
+closed_where_not_enabled = record {
+  allowed = refl;
+  grounds = (0x02, 0xFF, refl);
+  let_go = off_at_5 before (standings.Left 5) (Closed 5) refl refl;
+}
+
+pub not_closed_where_enabled : WhenKept left_open (Kept (Closed 5) ∷ []) enabled_world → ⊥
+not_closed_where_enabled kept = let is : true ≡ false = kept.let_go 5 refl refl in cc
+
+pub not_closed_without_the_unit : WhenKept left_open (Kept (Closed 5) ∷ []) (λ address. None) → ⊥
+not_closed_without_the_unit kept = let none : None ≡ Some kept.grounds.1 = kept.grounds.2 in cc
+
+pub not_closed_where_none_is_left : WhenKept empty (Kept (Closed 5) ∷ []) before → ⊥
+not_closed_where_none_is_left kept = kept.allowed
 
 -- What a happening does to a world: keeping a record does nothing
 

@@ -1,10 +1,11 @@
--- Which traces keep to the plans of their sessions: each frame is the one that the session at hand asks for after the frames that it was told of, and each record and saying is what its end asks for.
+-- Which traces keep to the plans of their sessions: each frame is the one that the session at hand asks for after the
+-- frames that it was told of, and each record and saying is what its end asks for.
 --
--- So each frame belongs to a try of a checked step, a try ends at its first miss or with its last frame, and a step has a further try exactly where its last one ended in a miss and it has had fewer than eight. A stop cuts off the try at hand, and the session begins anew.
-use Rattle.std.specs.Prelude.{◌≡◌, List, [], ◌∷◌}
-use Rattle.dali_journal.specs.declared.record.Code.TheVariants as codes
-use Rattle.dali_journal.specs.declared.record.Record.{Record}
-use Rattle.dali_journal.specs.declared.record.Record.TheVariants.{Began, Opened, Ended, Closed}
+-- So each frame belongs to a try of a checked step, a try ends at its first miss or with its last frame, and a step
+-- has a further try exactly where its last one ended in a miss and it has had fewer than eight. A stop cuts off the
+-- try at hand, and the session begins anew.
+use Rattle.std.specs.Prelude.{List, [], ◌∷◌}
+use Rattle.dali_journal.specs.declared.record.Record.TheVariants.{Began}
 use Rattle.dali_journal.specs.declared.standing.Standing.{Standing}
 use Rattle.dali_journal.specs.declared.standing.Standing.TheVariants as standings
 use Rattle.dali_write.specs.Exchanges.{Exchange}
@@ -18,6 +19,7 @@ use Rattle.dali_trace.specs.declared.happening.Reply.TheVariants as replies
 use Rattle.dali_trace.specs.declared.happening.Happening.{Happening}
 use Rattle.dali_trace.specs.declared.happening.Happening.TheVariants.{Answered, Sent, Kept, Stopped}
 use Rattle.dali_trace.specs.Trace.{Start, standing_at}
+use Rattle.dali_trace.specs.Grounds.{EndsIn}
 
 -- the frames of the session at hand: those since an order was taken, a record was kept or a stop, whichever is latest
 abbrev pub told_in : List Happening → List Exchange
@@ -28,32 +30,23 @@ told_in (Kept entry ∷ past) = []
 told_in (Stopped ∷ past) = []
 told_in (other ∷ past) = told_in past
 
--- where the records stand so, the session at hand asks this after these frames: a fresh one of the order that was begun, an opened one of the order that was opened, one that closes the left unit
+-- where the records stand so, the session at hand asks this after these frames: a fresh one of the order that was
+-- begun, an opened one of the order that was opened, one that closes the left unit
 abbrev pub Asks : Standing → List Exchange → Ask → Type 0
 Asks standings.Idle told ask = ⊥
 Asks (standings.Began order) told ask = Wants order.unit (read_length order.updates) told ask
 Asks (standings.Opened order) told ask = Wants order.unit (unlock order.updates) told ask
 Asks (standings.Left unit) told ask = Wants unit (close verdicts.Closed verdicts.NotClosed) told ask
 
--- The record that follows the end of the session: the order's unit is opened where it may be, the left one is closed, and an order ends with the code of the verdict's name.
-abbrev pub EndsIn : Standing → Verdict → Record → Type 0
-EndsIn (standings.Began order) verdicts.MayOpen entry = entry ≡ Opened order.unit
-EndsIn (standings.Began order) verdicts.Short entry = entry ≡ Ended codes.Short
-EndsIn (standings.Began order) verdicts.Format entry = entry ≡ Ended codes.Format
-EndsIn (standings.Began order) verdicts.Silent entry = entry ≡ Ended codes.Silent
-EndsIn (standings.Opened order) verdicts.Done entry = entry ≡ Ended codes.Done
-EndsIn (standings.Opened order) verdicts.Doubt entry = entry ≡ Ended codes.Doubt
-EndsIn (standings.Opened order) verdicts.DoubtOpen entry = entry ≡ Ended codes.DoubtOpen
-EndsIn (standings.Left unit) verdicts.Closed entry = entry ≡ Closed unit
-EndsIn stands verdict entry = ⊥
-
 -- the happening is what the plan asks for. An order is begun, and an end is said, without any frame
 abbrev pub IsPlanned : Start → List Happening → Happening → Type 0
 IsPlanned start past (Sent frame answer) = Asks (standing_at start past) (told_in past) (asks.Send frame)
 IsPlanned start past (Kept (Began order)) = Unit {0}
 IsPlanned start past (Kept entry) =
-    (verdict : Verdict) × Asks (standing_at start past) (told_in past) (asks.Ended verdict) × EndsIn (standing_at start past) verdict entry
-IsPlanned start past (Answered id (replies.Blocked unit)) = Asks (standing_at start past) (told_in past) (asks.Ended verdicts.NotClosed)
+    (verdict : Verdict) × Asks (standing_at start past) (told_in past) (asks.Ended verdict)
+    × EndsIn (standing_at start past) verdict entry
+IsPlanned start past (Answered id (replies.Blocked unit)) =
+    Asks (standing_at start past) (told_in past) (asks.Ended verdicts.NotClosed)
 IsPlanned start past other = Unit {0}
 
 -- and so is each of the trace

@@ -20,9 +20,11 @@ IsLockByte bank location = (bank ≡ 1) × (location ≡ 2)
 -- a world fits a start world and the records
 pub record Fits (zero : World) (records : List Record) (now : World) : Type 0 where
   -- it has the same places
-  pub places : (address bank location : ℕ) → is_some (byte_at now address bank location) ≡ is_some (byte_at zero address bank location)
+  pub places : (address bank location : ℕ)
+      → is_some (byte_at now address bank location) ≡ is_some (byte_at zero address bank location)
   -- every place but the lock bytes of bank 1 holds a possible byte
-  pub bytes : (address bank location first byte : ℕ) → (IsLockByte bank location → ⊥) → byte_at zero address bank location ≡ Some first
+  pub bytes : (address bank location first byte : ℕ) → (IsLockByte bank location → ⊥)
+      → byte_at zero address bank location ≡ Some first
       → byte_at now address bank location ≡ Some byte → IsPossible first address bank location (orders_of records) byte
   -- the lock byte of a unit that was never opened is as it was
   pub locks : (address : ℕ) → (HasBeenOpened address records → ⊥) → byte_at now address 1 2 ≡ byte_at zero address 1 2
@@ -31,8 +33,10 @@ pub record Fits (zero : World) (records : List Record) (now : World) : Type 0 wh
 abbrev pub OnlyNamed : List Record → World → Type 0
 OnlyNamed records now = (address : ℕ) → is_enabled now address ≡ true → named_unit (standing_of records) ≡ Some address
 
--- every place but the lock bytes of bank 1 that no order leaves in doubt holds its byte of the start world, with the done orders applied once each in journal order
+-- every place but the lock bytes of bank 1 that no order leaves in doubt holds its byte of the start world, with the
+-- done orders applied once each in journal order
 abbrev pub IsApplied : World → List Record → World → Type 0
-IsApplied zero records now = (address bank location first : ℕ) → (IsLockByte bank location → ⊥) → byte_at zero address bank location ≡ Some first
+IsApplied zero records now =
+    (address bank location first : ℕ) → (IsLockByte bank location → ⊥) → byte_at zero address bank location ≡ Some first
     → IsSettled address bank location (orders_of records)
     → byte_at now address bank location ≡ Some (applied first address bank location (orders_of records))

@@ -1,5 +1,5 @@
 -- Which traces are legal: each happening is judged by those before it.
-use Rattle.std.specs.Prelude.{◌≡◌, ◌≤◌, ◌⊎◌, ℕ, true, List, [], ◌∷◌, Option, Some, None, IsSome, length}
+use Rattle.std.specs.Prelude.{◌≡◌, ◌⊎◌, ℕ, true, List, [], ◌∷◌, Option, Some, None, IsSome}
 use Rattle.dali_frame.specs.declared.forward.Frame.{Frame}
 use Rattle.dali_frame.specs.declared.forward.Frame.TheVariants.{Dtr0, Dtr1, Write, Enable, AskDtr0, AskDtr1, Read}
 use Rattle.dali_bank.specs.Order.{Contents, update_at}
@@ -10,7 +10,7 @@ use Rattle.dali_journal.specs.declared.kept.Stage.{Stage}
 use Rattle.dali_journal.specs.declared.kept.Stage.TheVariants as stages
 use Rattle.dali_journal.specs.declared.standing.Standing.{Standing}
 use Rattle.dali_journal.specs.declared.standing.Standing.TheVariants as standings
-use Rattle.dali_journal.specs.Sentence.{named_unit, IsSentence}
+use Rattle.dali_journal.specs.Sentence.{named_unit, IsSentenceWithin}
 use Rattle.dali_journal.specs.Orders.{orders_of}
 use Rattle.dali_write.specs.Worlds.{Selects}
 use Rattle.dali_write.specs.Reads.{ReadStands, HasRead}
@@ -31,14 +31,16 @@ Serves past (standings.Began order) unit = unit ≡ order.unit
 Serves past (standings.Opened order) unit = unit ≡ order.unit
 Serves past (standings.Left left) unit = (unit ≡ left) × IsSome (waiting past)
 
--- the byte may be written to the location: an update of the opened order, or 55h or FFh to the lock byte, in a left unit FFh alone
+-- the byte may be written to the location: an update of the opened order, or 55h or FFh to the lock byte, in a left
+-- unit FFh alone
 abbrev pub MayPut : Standing → ℕ → ℕ → Type 0
 MayPut (standings.Opened order) location byte =
     (update_at order.updates location ≡ Some byte) ⊎ ((location ≡ 0x02) × ((byte ≡ 0x55) ⊎ (byte ≡ 0xFF)))
 MayPut (standings.Left unit) location byte = (location ≡ 0x02) × (byte ≡ 0xFF)
 MayPut other location byte = ⊥
 
--- a write is guarded: the four frames before it set bank 1 and the location, and asked both back from the named unit, which told them
+-- a write is guarded: the four frames before it set bank 1 and the location, and asked both back from the named unit,
+-- which told them
 pub record IsGuardedWrite (past : List Happening) (stands : Standing) (byte : ℕ) : Type 0 where
   pub unit : ℕ
   pub location : ℕ
@@ -60,16 +62,17 @@ MaySend past stands other = ⊥
 
 -- Records
 
--- an order is begun that waits, and a left unit is closed for one that waits, after a checked read of it since that was taken
+-- an order is begun that waits, and a left unit is closed for one that waits, after a checked read of it since that
+-- was taken
 abbrev pub IsDue : List Happening → Record → Type 0
 IsDue past (Began order) = waiting past ≡ Some order
 IsDue past (Closed unit) = IsSome (waiting past) × HasRead unit (sent_since_taken past)
 IsDue past other = Unit {0}
 
--- the record may be kept: the records are a sentence with it, of no more orders than there may be, and it rests on checked reads
+-- the record may be kept: the records are a sentence with it, of no more orders than there may be, and it rests on
+-- checked reads
 pub record MayKeep (start : Start) (past : List Happening) (entry : Record) : Type 0 where
-  pub sentence : IsSentence (entry ∷ records_of start past)
-  pub within : length (orders_of (entry ∷ records_of start past)) ≤ start.limit
+  pub whole : IsSentenceWithin start.limit (entry ∷ records_of start past)
   pub due : IsDue past entry
   pub grounds : Grounds (ReadStands (sent_of past)) (standing_at start past) entry
 
@@ -85,11 +88,13 @@ abbrev pub HasNumber : ℕ → Option Contents → Type 0
 HasNumber id None = ⊥
 HasNumber id (Some order) = order.id ≡ id
 
--- this may be said of the order of this number: how it ended, just now, or that it is blocked by a left unit which no checked read reached
+-- this may be said of the order of this number: how it ended, just now, or that it is blocked by a left unit which no
+-- checked read reached
 abbrev pub MaySay : Start → List Happening → ℕ → Reply → Type 0
 MaySay start past id (replies.Kept code) = (has_ended past ≡ true) × EndsAs id code (orders_of (records_of start past))
 MaySay start past id (replies.Blocked unit) =
-    (standing_at start past ≡ standings.Left unit) × HasNumber id (waiting past) × (HasRead unit (sent_since_taken past) → ⊥)
+    (standing_at start past ≡ standings.Left unit) × HasNumber id (waiting past)
+    × (HasRead unit (sent_since_taken past) → ⊥)
 MaySay start past id other = ⊥
 
 -- Traces
@@ -114,7 +119,7 @@ MayFollow start past next = MayHappen start past next
 
 -- the start is a journal within its limit, and each happening was one that might follow those before it
 abbrev pub Legal : Start → List Happening → Type 0
-Legal start [] = IsSentence start.records × (length (orders_of start.records) ≤ start.limit)
+Legal start [] = IsSentenceWithin start.limit start.records
 Legal start (next ∷ past) = Legal start past × MayFollow start past next
 
 -- no reply is due

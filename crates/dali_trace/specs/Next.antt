@@ -10,7 +10,8 @@ use Rattle.dali_trace.specs.Legal.{MayFollow}
 use Rattle.dali_trace.specs.ByPlan.{IsPlanned}
 use Rattle.dali_trace.specs.Parts.{IsWork}
 
--- a record, a frame with any answer, a saying, or the reply that is due: the rules allow it, and the plan of the session at hand asks for it
+-- a record, a frame with any answer, a saying, or the reply that is due: the rules allow it, and the plan of the
+-- session at hand asks for it
 pub record IsNext (start : Start) (past : List Happening) (next : Happening) : Type 0 where
   pub work : IsWork next
   pub may : MayFollow start past next

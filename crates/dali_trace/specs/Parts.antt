@@ -15,7 +15,8 @@ use Rattle.dali_trace.specs.declared.happening.Reply.{Reply}
 use Rattle.dali_trace.specs.declared.happening.Happening.{Happening}
 use Rattle.dali_trace.specs.declared.happening.Happening.TheVariants.{Asked, Answered, Sent, Kept, Stopped}
 use Rattle.dali_trace.specs.Trace.{Start, standing_at, waiting, is_busy}
-use Rattle.dali_trace.specs.ByPlan.{told_in, Asks, EndsIn}
+use Rattle.dali_trace.specs.Grounds.{EndsIn}
+use Rattle.dali_trace.specs.ByPlan.{told_in, Asks}
 
 -- what a step may add: a saying, a frame or a record
 abbrev pub IsWork : Happening → Type 0
@@ -24,21 +25,27 @@ IsWork (Sent frame answer) = Unit {0}
 IsWork (Kept entry) = Unit {0}
 IsWork other = ⊥
 
--- where the records stand so, this order waits and the session at hand was told these, this record is to be kept next: the order is begun, or the session has ended, and it is the one that follows its end
+-- where the records stand so, this order waits and the session at hand was told these, this record is to be kept
+-- next: the order is begun, or the session has ended, and it is the one that follows its end
 abbrev pub NextRecord : Standing → Option Contents → List Exchange → Record → Type 0
 NextRecord standings.Idle (Some order) told entry = entry ≡ Began order
 NextRecord (standings.Left unit) (Some order) told entry =
-    (verdict : Verdict) × Asks (standings.Left unit) told (asks.Ended verdict) × EndsIn (standings.Left unit) verdict entry
+    (verdict : Verdict) × Asks (standings.Left unit) told (asks.Ended verdict)
+    × EndsIn (standings.Left unit) verdict entry
 NextRecord (standings.Began order) waits told entry =
-    (verdict : Verdict) × Asks (standings.Began order) told (asks.Ended verdict) × EndsIn (standings.Began order) verdict entry
+    (verdict : Verdict) × Asks (standings.Began order) told (asks.Ended verdict)
+    × EndsIn (standings.Began order) verdict entry
 NextRecord (standings.Opened order) waits told entry =
-    (verdict : Verdict) × Asks (standings.Opened order) told (asks.Ended verdict) × EndsIn (standings.Opened order) verdict entry
+    (verdict : Verdict) × Asks (standings.Opened order) told (asks.Ended verdict)
+    × EndsIn (standings.Opened order) verdict entry
 NextRecord stands waits told entry = ⊥
 
 abbrev pub IsKeptNext : Start → List Happening → Record → Type 0
 IsKeptNext start past entry = NextRecord (standing_at start past) (waiting past) (told_in past) entry
 
--- The part of one event, from the trace before it to the trace after it. A Submit adds the order and its reply. A Step adds one piece of work where the trace is busy, else nothing. A Stop adds Stopped, and before it the record that is to be kept next exactly where there is one, and all its bytes reached the journal.
+-- The part of one event, from the trace before it to the trace after it. A Submit adds the order and its reply. A
+-- Step adds one piece of work where the trace is busy, else nothing. A Stop adds Stopped, and before it the record
+-- that is to be kept next exactly where there is one, and all its bytes reached the journal.
 abbrev pub Part : Start → Event → List Happening → List Happening → Type 0
 Part start (Submit order) before after = (reply : Reply) × (after ≡ Answered order.id reply ∷ Asked order ∷ before)
 Part start Step before after =
@@ -46,9 +53,11 @@ Part start Step before after =
     ⊎ ((is_busy start before ≡ false) × (after ≡ before))
 Part start (Stop bytes) before after =
     ((after ≡ Stopped ∷ before) × ((entry : Record) → IsKeptNext start before entry → bytes < length (spelling entry)))
-    ⊎ ((entry : Record) × IsKeptNext start before entry × (length (spelling entry) ≤ bytes) × (after ≡ Stopped ∷ Kept entry ∷ before))
+    ⊎ ((entry : Record) × IsKeptNext start before entry × (length (spelling entry) ≤ bytes)
+    × (after ≡ Stopped ∷ Kept entry ∷ before))
 
 -- the trace is the parts of these events
 abbrev pub AreParts : Start → List Event → List Happening → Type 0
 AreParts start [] trace = trace ≡ []
-AreParts start (event ∷ events) trace = (before : List Happening) × Part start event before trace × AreParts start events before
+AreParts start (event ∷ events) trace =
+    (before : List Happening) × Part start event before trace × AreParts start events before

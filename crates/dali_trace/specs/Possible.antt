@@ -24,7 +24,8 @@ mark_of (stages.Ended DoubtOpen) = InDoubt
 
 -- the byte that an order has for a place, if it has one: in bank 1 of its unit
 abbrev pub byte_for : Contents → ℕ → ℕ → ℕ → Option ℕ
-byte_for order address bank location = if (order.unit == address) && (bank == 1) then update_at order.updates location else None
+byte_for order address bank location =
+    if (order.unit == address) && (bank == 1) then update_at order.updates location else None
 
 -- which bytes a place may hold after an order that has this byte for it, given those that it may hold before
 abbrev pub MayHold : Mark → Option ℕ → (ℕ → Type 0) → ℕ → Type 0
@@ -37,7 +38,8 @@ MayHold mark None before byte = before byte
 abbrev pub IsPossible : ℕ → ℕ → ℕ → ℕ → List (Contents × Stage) → ℕ → Type 0
 IsPossible first address bank location [] byte = byte ≡ first
 IsPossible first address bank location (newest ∷ older) byte =
-    MayHold (mark_of newest.1) (byte_for newest.0 address bank location) (IsPossible first address bank location older) byte
+    MayHold (mark_of newest.1) (byte_for newest.0 address bank location)
+    (IsPossible first address bank location older) byte
 
 -- the byte after an order of this mark, which has this byte for the place: its own one where it is done
 abbrev pub applied_to : Mark → Option ℕ → ℕ → ℕ
@@ -50,7 +52,8 @@ applied first address bank location [] = first
 applied first address bank location (newest ∷ older) =
     applied_to (mark_of newest.1) (byte_for newest.0 address bank location) (applied first address bank location older)
 
--- whether one byte alone is possible after an order of this mark, which has this byte for the place, given whether one was before
+-- whether one byte alone is possible after an order of this mark, which has this byte for the place, given whether
+-- one was before
 abbrev pub Settles : Mark → Option ℕ → Type 0 → Type 0
 Settles Applied (Some update) before = Unit {0}
 Settles InDoubt (Some update) before = ⊥

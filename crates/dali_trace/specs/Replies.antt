@@ -1,4 +1,5 @@
--- Which reply is due to an order: the first of Kept, IdReused, Busy, Full and Taken that applies. And how a reply is told.
+-- Which reply is due to an order: the first of Kept, IdReused, Busy, Full and Taken that applies. And how a reply is
+-- told.
 use Rattle.std.specs.Prelude.{◌≡◌, ◌≢◌, ◌++◌, ℕ, Bool, true, false, List, codes, decimal}
 use Rattle.dali_bank.specs.Order.{Contents}
 use Rattle.dali_journal.specs.declared.kept.Kept.{Kept}
@@ -22,7 +23,8 @@ IsNotEnded order kepts.Absent = Unit {0}
 IsNotEnded order (kepts.Unfinished old) = old ≡ order
 IsNotEnded order (kepts.Ended old code) = ⊥
 
--- the reply that is due to an order, by what the journal has under its number. Kept: it has ended so. IdReused: the number is another order's. Else Busy, Full or Taken
+-- the reply that is due to an order, by what the journal has under its number. Kept: it has ended so. IdReused: the
+-- number is another order's. Else Busy, Full or Taken
 abbrev pub IsReplyBy : Contents → Kept → Bool → Bool → Reply → Type 0
 IsReplyBy order kept busy full (replies.Kept code) = kept ≡ kepts.Ended order code
 IsReplyBy order kept busy full replies.IdReused = IsReused order kept
@@ -33,7 +35,8 @@ IsReplyBy order kept busy full (replies.Blocked unit) = ⊥
 
 -- the reply that is due to an order at this moment
 abbrev pub IsReply : Start → List Happening → Contents → Reply → Type 0
-IsReply start past order reply = IsReplyBy order (kept_of order.id (records_of start past)) (is_busy start past) (is_full start past) reply
+IsReply start past order reply =
+    IsReplyBy order (kept_of order.id (records_of start past)) (is_busy start past) (is_full start past) reply
 
 -- the reply that the journal has for an order, whatever else is at work
 abbrev pub IsKnownReply : Contents → Kept → Reply → Type 0

@@ -5,7 +5,6 @@ use Rattle.dali_gear.specs.World.{World}
 use Rattle.dali_gear.specs.Carry.{BusEvent}
 use Rattle.dali_gear.specs.Chain.{IsChain, AtEachMoment}
 use Rattle.dali_gear.specs.Unenabled.{NoneEnabled}
-use Rattle.dali_journal.specs.JournalState.{IsLimit}
 use Rattle.dali_journal.specs.Spelling.{journal_spelling}
 use Rattle.dali_trace.specs.declared.happening.Event.{Event}
 use Rattle.dali_trace.specs.declared.happening.Happening.{Happening}
@@ -26,8 +25,10 @@ use Rattle.dali_trace.specs.Moments.{IsRight}
 abbrev pub fresh : ℕ → Start
 fresh limit = record { records = []; limit = limit }
 
--- a chain of the bus's states leads along the trace from the first to the last, and each record is true when it is kept; and where no unit was enabled at first, every moment of it is right, from the world that the bus showed then
-pub record LeadsRight {S : Type 0} (world : S → World) (step : S → BusEvent → S → Type 0) (limit : ℕ) (first : S) (past : List Happening) (last : S) : Type 0 where
+-- a chain of the bus's states leads along the trace from the first to the last, and each record is true when it is
+-- kept; and where no unit was enabled at first, every moment of it is right, from the world that the bus showed then
+pub record LeadsRight {S : Type 0} (world : S → World) (step : S → BusEvent → S → Type 0) (limit : ℕ) (first : S)
+    (past : List Happening) (last : S) : Type 0 where
   pub states : List S
   pub chain : IsChain (MovesBy step) first past last states
   pub kept : AtEachMoment (λ moment now. WhenKept (fresh limit) moment (world now)) past last states
@@ -54,27 +55,33 @@ abbrev pub AsksAllProper : List Happening → Type 0
 AsksAllProper [] = Unit {0}
 AsksAllProper (newest ∷ past) = AsksProper newest × AsksAllProper past
 
--- What a run of these events is, from the first state of a bus to the last: its trace, the oldest happening first, and the journal's bytes.
-pub record IsRun {S : Type 0} (world : S → World) (step : S → BusEvent → S → Type 0) (limit : ℕ) (all : List Event) (first : S) (trace : List Happening) (journal : List ℕ) (last : S) : Type 0 where
-  pub limited : IsLimit limit
+-- What a run of these events is, from the first state of a bus to the last: its trace, the oldest happening first,
+-- and the journal's bytes.
+pub record IsRun {S : Type 0} (world : S → World) (step : S → BusEvent → S → Type 0) (limit : ℕ) (all : List Event)
+    (first : S) (trace : List Happening) (journal : List ℕ) (last : S) : Type 0 where
   -- each happening was one that might follow those before it, and the last one too is no order without its reply
   pub legal : Legal (fresh limit) (reverse trace)
   pub finished : IsFinished (reverse trace)
   pub proper : SendsAllProper (reverse trace)
   pub asked : AsksAllProper (reverse trace)
-  -- each frame, record and saying is what the plan of the session at hand asks for, and so an order takes no more work than its limit, and is said in time
+  -- each frame, record and saying is what the plan of the session at hand asks for, and so an order takes no more
+  -- work than its limit, and is said in time
   pub planned : ByPlan (fresh limit) (reverse trace)
   pub worked : IsWorked (fresh limit) (reverse trace)
-  pub said : (newer older : List Event) → reverse all ≡ newer ++ older → SaysInTime (fresh limit) newer older (reverse trace)
+  pub said : (newer older : List Event) → reverse all ≡ newer ++ older
+      → SaysInTime (fresh limit) newer older (reverse trace)
   -- the trace is the joined parts of the events
   pub parts : AreParts (fresh limit) (reverse all) (reverse trace)
-  -- the journal's bytes are those of the records that were kept, and its orders are the taken ones
+  -- the journal's bytes are those of the records that were kept, and its orders are the taken ones (which follows from
+  -- the trace being legal, by the law the_taken_orders_are_kept; it stands here for who reads of a run alone)
   pub journal_is : journal ≡ journal_spelling (records_of (fresh limit) (reverse trace))
   pub taken : begun_orders (records_of (fresh limit) (reverse trace)) ≡ taken_orders (reverse trace)
   pub leads : LeadsRight world step limit first (reverse trace) last
 
--- What a run of these events was that ended for want of memory, from the first state of the bus to the last: so many events were served, as in any run.
-pub record IsCutShort {S : Type 0} (world : S → World) (step : S → BusEvent → S → Type 0) (limit : ℕ) (all : List Event) (first last : S) : Type 0 where
+-- What a run of these events was that ended for want of memory, from the first state of the bus to the last: so many
+-- events were served, as in any run.
+pub record IsCutShort {S : Type 0} (world : S → World) (step : S → BusEvent → S → Type 0) (limit : ℕ) (all : List Event)
+    (first last : S) : Type 0 where
   pub past : List Happening
   pub served : ℕ
   pub parts : AreParts (fresh limit) (reverse (take served all)) past

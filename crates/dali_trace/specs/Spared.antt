@@ -1,5 +1,6 @@
 -- Over the simulated bus: what is lost of an order's frames since its start, and how an order ends that loses little.
-use Rattle.std.specs.Prelude.{◌≡◌, ◌<◌, ◌≤◌, ℕ, ◌+◌, Bool, false, ◌||◌, ◌==◌, nat_lt, List, [], ◌∷◌, Option, Some, None, slice_index, reverse, if◌then◌else◌}
+use Rattle.std.specs.Prelude.{◌≡◌, ◌<◌, ◌≤◌, ℕ, ◌+◌, Bool, false, ◌||◌, ◌==◌, nat_lt, List, [], ◌∷◌, Option, Some, None}
+use Rattle.std.specs.Prelude.{slice_index, reverse, if◌then◌else◌}
 use Rattle.std.specs.List.{list_any}
 use Rattle.dali_frame.specs.declared.forward.Frame.{Frame}
 use Rattle.dali_bank.specs.Order.{Contents}
@@ -45,7 +46,8 @@ abbrev pub losses_since : ℕ → Option ℕ → List Happening → List SimStat
 losses_since unit left [] states = 0
 losses_since unit left (Answered id replies.Taken ∷ past) states = 0
 losses_since unit left (Stopped ∷ past) states = 0
-losses_since unit left (Sent frame answer ∷ past) (state ∷ states) = (if is_lost_to unit left state frame then 1 else 0) + losses_since unit left past states
+losses_since unit left (Sent frame answer ∷ past) (state ∷ states) =
+    (if is_lost_to unit left state frame then 1 else 0) + losses_since unit left past states
 losses_since unit left (other ∷ past) (state ∷ states) = losses_since unit left past states
 losses_since unit left (other ∷ past) [] = 0
 
@@ -54,45 +56,59 @@ abbrev pub UnrefusedSince : List Happening → List SimState → Type 0
 UnrefusedSince [] states = Unit {0}
 UnrefusedSince (Answered id replies.Taken ∷ past) states = Unit {0}
 UnrefusedSince (Stopped ∷ past) states = Unit {0}
-UnrefusedSince (Sent frame answer ∷ past) (state ∷ states) = ((next_fate state.fates).refuse ≡ false) × UnrefusedSince past states
+UnrefusedSince (Sent frame answer ∷ past) (state ∷ states) =
+    ((next_fate state.fates).refuse ≡ false) × UnrefusedSince past states
 UnrefusedSince (other ∷ past) (state ∷ states) = UnrefusedSince past states
 UnrefusedSince (other ∷ past) [] = Unit {0}
 
--- how an order of these updates is to end where bank 1 has these bytes: Short where it ends before the greatest location, Format where an update is at 13h or above and the content format isn't 0003h, else Done
+-- how an order of these updates is to end where bank 1 has these bytes: Short where it ends before the greatest
+-- location, Format where an update is at 13h or above and the content format isn't 0003h, else Done
 abbrev pub due_code : List ℕ → List (ℕ × ℕ) → Code
 due_code bytes updates =
     if nat_lt (slice_index bytes 0) (greatest updates) then codes.Short
-    else (if nat_lt (greatest updates) 0x13 then codes.Done else (if has_format bytes then codes.Done else codes.Format))
+    else (if nat_lt (greatest updates) 0x13
+    then codes.Done
+    else (if has_format bytes then codes.Done else codes.Format))
 
 -- none of the updates is at a fixed location
 abbrev pub NoneFixed : BankState → List (ℕ × ℕ) → Type 0
 NoneFixed bank [] = Unit {0}
 NoneFixed bank (update ∷ updates) = (list_any (λ fixed. fixed == update.0) bank.fixed ≡ false) × NoneFixed bank updates
 
--- What is said of an order that was taken, with no stop since. Where its unit is on the bus, no fate refuses and little is lost: how it is to end, if none of its locations is fixed where they are to be written; and the misses are no more than the losses.
+-- What is said of an order that was taken, with no stop since. Where its unit is on the bus, no fate refuses and
+-- little is lost: how it is to end, if none of its locations is fixed where they are to be written; and the misses
+-- are no more than the losses.
 abbrev pub IsSpared : Start → List Happening → SimState → List SimState → Type 0
 IsSpared start (Answered id reply ∷ Asked order ∷ past) last states = Unit {0}
 IsSpared start (Answered id reply ∷ past) last (state ∷ states) =
-    (order : Contents) (bank : BankState) → order_at_hand start past ≡ Some order → is_at_work (stood_at start past) ≡ false
+    (order : Contents) (bank : BankState) → order_at_hand start past ≡ Some order
+    → is_at_work (stood_at start past) ≡ false
     → HasBank order.unit bank (state_at_start past state states).units → UnrefusedSince past states
-    → losses_since order.unit (named_unit (stood_at start past)) past states < most_tries → (due_code bank.bytes order.updates ≡ codes.Done → NoneFixed bank order.updates)
-    → (reply ≡ replies.Kept (due_code bank.bytes order.updates)) × (misses_in (sent_since_taken past) ≤ losses_since order.unit (named_unit (stood_at start past)) past states)
+    → losses_since order.unit (named_unit (stood_at start past)) past states < most_tries
+    → (due_code bank.bytes order.updates ≡ codes.Done → NoneFixed bank order.updates)
+    → (reply ≡ replies.Kept (due_code bank.bytes order.updates))
+    × (misses_in (sent_since_taken past) ≤ losses_since order.unit (named_unit (stood_at start past)) past states)
 IsSpared start other last states = Unit {0}
 
 -- it holds at each moment of a chain: of what happened up to there, the state there, and those before it
-abbrev pub AtEachState : (List Happening → SimState → List SimState → Type 0) → List Happening → SimState → List SimState → Type 0
+abbrev pub AtEachState : (List Happening → SimState → List SimState → Type 0) → List Happening → SimState
+    → List SimState → Type 0
 AtEachState holds [] last [] = holds [] last []
-AtEachState holds (next ∷ past) last (state ∷ states) = holds (next ∷ past) last (state ∷ states) × AtEachState holds past state states
+AtEachState holds (next ∷ past) last (state ∷ states) =
+    holds (next ∷ past) last (state ∷ states) × AtEachState holds past state states
 AtEachState holds [] last (state ∷ states) = ⊥
 AtEachState holds (next ∷ past) last [] = ⊥
 
--- a chain of the simulated bus leads along the trace, and where no unit was enabled at first, what is said along it is so
+-- a chain of the simulated bus leads along the trace, and where no unit was enabled at first, what is said along it
+-- is so
 pub record LeadsSpared (limit : ℕ) (first : SimState) (past : List Happening) (last : SimState) : Type 0 where
   pub states : List SimState
   pub chain : IsChain (MovesBy SimStep) first past last states
   pub spared : NoneEnabled (world_of first.units) → AtEachState (IsSpared (fresh limit)) past last states
 
--- What a run of these events over the simulated bus is: all that a run over any bus is, and what is said along it where little is lost.
-pub record IsSimRun (limit : ℕ) (all : List Event) (first : SimState) (trace : List Happening) (journal : List ℕ) (last : SimState) : Type 0 where
+-- What a run of these events over the simulated bus is: all that a run over any bus is, and what is said along it
+-- where little is lost.
+pub record IsSimRun (limit : ℕ) (all : List Event) (first : SimState) (trace : List Happening) (journal : List ℕ)
+    (last : SimState) : Type 0 where
   pub run : IsRun (λ state. world_of state.units) SimStep limit all first trace journal last
   pub spared : LeadsSpared limit first (reverse trace) last

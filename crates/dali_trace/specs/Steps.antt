@@ -23,7 +23,8 @@ NoneStops [] = Unit {0}
 NoneStops (Stop bytes ∷ events) = ⊥
 NoneStops (other ∷ events) = NoneStops events
 
--- The order is said in what came to the trace since it was like this before: it was at hand still, since the same start, and no reply was due.
+-- The order is said in what came to the trace since it was like this before: it was at hand still, since the same
+-- start, and no reply was due.
 pub record IsSaid (start : Start) (order : Contents) (before trace : List Happening) : Type 0 where
   pub later : List Happening
   pub reply : Reply
@@ -36,17 +37,22 @@ pub record IsSaid (start : Start) (order : Contents) (before trace : List Happen
 -- the parts of these events lead from the one trace to the other
 abbrev pub PartsSince : Start → List Event → List Happening → List Happening → Type 0
 PartsSince start [] before trace = trace ≡ before
-PartsSince start (event ∷ events) before trace = (mid : List Happening) × Part start event mid trace × PartsSince start events before mid
+PartsSince start (event ∷ events) before trace =
+    (mid : List Happening) × Part start event mid trace × PartsSince start events before mid
 
--- Wherever an order is at hand, and five steps more than its limit follow with no stop among them, it is said in what they add to the trace.
+-- Wherever an order is at hand, and five steps more than its limit follow with no stop among them, it is said in what
+-- they add to the trace.
 abbrev pub IsSaidInTime : Start → List Happening → List Happening → Type 0
 IsSaidInTime start before trace =
-    (events : List Event) (order : Contents) → PartsSince start events before trace → order_at_hand start before ≡ Some order → NoneStops events
+    (events : List Event) (order : Contents) → PartsSince start events before trace
+    → order_at_hand start before ≡ Some order → NoneStops events
     → work_limit (length order.updates) + 5 ≤ steps_in events → IsSaid start order before trace
 
--- After the older of these events the trace was one to which the newer ones added the rest, and of an order that was at hand there it is so.
+-- After the older of these events the trace was one to which the newer ones added the rest, and of an order that was
+-- at hand there it is so.
 abbrev pub SaysInTime : Start → List Event → List Event → List Happening → Type 0
 SaysInTime start newer older trace =
     (before : List Happening) × AreParts start older before × PartsSince start newer before trace
-    × ((order : Contents) → order_at_hand start before ≡ Some order → NoneStops newer → work_limit (length order.updates) + 5 ≤ steps_in newer
+    × ((order : Contents) → order_at_hand start before ≡ Some order → NoneStops newer
+    → work_limit (length order.updates) + 5 ≤ steps_in newer
     → IsSaid start order before trace)

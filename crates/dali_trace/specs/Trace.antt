@@ -8,6 +8,7 @@ use Rattle.dali_journal.specs.declared.standing.Standing.TheVariants as standing
 use Rattle.dali_journal.specs.Sentence.{standing_of}
 use Rattle.dali_journal.specs.Orders.{orders_of}
 use Rattle.dali_write.specs.Exchanges.{Exchange}
+use Rattle.dali_trace.specs.declared.happening.Reply.{Reply}
 use Rattle.dali_trace.specs.declared.happening.Reply.TheVariants as replies
 use Rattle.dali_trace.specs.declared.happening.Happening.{Happening}
 use Rattle.dali_trace.specs.declared.happening.Happening.TheVariants.{Asked, Answered, Sent, Kept, Stopped}
@@ -42,37 +43,60 @@ sent_since_taken (Answered id replies.Taken ∷ past) = []
 sent_since_taken (Stopped ∷ past) = []
 sent_since_taken (other ∷ past) = sent_since_taken past
 
--- An answer straight after an order is its reply. Any other answer is a saying: it tells of an order that was taken before.
+-- What is still to be said since the last stop.
+pub data Course : Type 0 where
+  -- nothing
+  Quiet : Course
+  -- how the order ends that was taken and hasn't begun
+  Waiting : (order : Contents) → Course
+  -- how the order ends that was taken and has begun
+  Working : Course
+  -- how the order ended whose end was just kept
+  JustEnded : Course
+
+-- an order that gets the reply Taken waits; another reply changes nothing
+abbrev pub replied : Contents → Reply → Course → Course
+replied order replies.Taken before = Waiting order
+replied order reply before = before
+
+-- the course after another happening; an answer that isn't a reply is a saying: it tells of an order that was taken
+-- before
+abbrev pub next_course : Course → Happening → Course
+next_course before (Answered id reply) = Quiet
+next_course before (Kept (Began order)) = Working
+next_course before (Kept (Ended code)) = JustEnded
+next_course before Stopped = Quiet
+next_course before other = before
+
+-- the course of a trace; an answer straight after an order is its reply
+abbrev pub course_of : List Happening → Course
+course_of [] = Quiet
+course_of (Answered id reply ∷ Asked order ∷ past) = replied order reply (course_of past)
+course_of (newest ∷ past) = next_course (course_of past) newest
 
 -- the waiting order: it was taken and hasn't begun, with no saying and no stop since
+abbrev pub waits_in : Course → Option Contents
+waits_in (Waiting order) = Some order
+waits_in other = None
+
 abbrev pub waiting : List Happening → Option Contents
-waiting [] = None
-waiting (Answered id replies.Taken ∷ Asked order ∷ past) = Some order
-waiting (Answered id reply ∷ Asked order ∷ past) = waiting past
-waiting (Answered id reply ∷ past) = None
-waiting (Kept (Began order) ∷ past) = None
-waiting (Stopped ∷ past) = None
-waiting (other ∷ past) = waiting past
+waiting past = waits_in (course_of past)
 
 -- since the last stop an order was taken or has ended, with no saying since
-abbrev pub is_unsaid : List Happening → Bool
-is_unsaid [] = false
-is_unsaid (Answered id replies.Taken ∷ Asked order ∷ past) = true
-is_unsaid (Answered id reply ∷ Asked order ∷ past) = is_unsaid past
-is_unsaid (Answered id reply ∷ past) = false
-is_unsaid (Kept (Ended code) ∷ past) = true
-is_unsaid (Stopped ∷ past) = false
-is_unsaid (other ∷ past) = is_unsaid past
+abbrev pub unsaid_in : Course → Bool
+unsaid_in Quiet = false
+unsaid_in other = true
 
--- since the last stop a record was kept that ends an order, with no other record and no saying since
+abbrev pub is_unsaid : List Happening → Bool
+is_unsaid past = unsaid_in (course_of past)
+
+-- since the last stop an order has ended, with none taken and no saying since
+abbrev pub ended_in : Course → Bool
+ended_in JustEnded = true
+ended_in other = false
+
 abbrev pub has_ended : List Happening → Bool
-has_ended [] = false
-has_ended (Answered id reply ∷ Asked order ∷ past) = has_ended past
-has_ended (Answered id reply ∷ past) = false
-has_ended (Kept (Ended code) ∷ past) = true
-has_ended (Kept entry ∷ past) = false
-has_ended (Stopped ∷ past) = false
-has_ended (other ∷ past) = has_ended past
+has_ended past = ended_in (course_of past)
 
 -- an order was begun and hasn't ended
 abbrev pub is_at_work : Standing → Bool

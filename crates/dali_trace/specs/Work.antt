@@ -1,5 +1,6 @@
 -- How much work an order takes. An order starts when it is taken, and when a stop leaves it begun or opened.
-use Rattle.std.specs.Prelude.{◌≡◌, ◌⊎◌, ◌≤◌, ℕ, suc, ◌+◌, ◌*◌, nat_lt, Bool, true, List, [], ◌∷◌, ◌++◌, length, Option, Some, None, IfSome, if◌then◌else◌}
+use Rattle.std.specs.Prelude.{◌≡◌, ◌⊎◌, ◌≤◌, ℕ, suc, ◌+◌, ◌*◌, nat_lt, Bool, true, List, [], ◌∷◌, ◌++◌, length, Option}
+use Rattle.std.specs.Prelude.{Some, None, IfSome, if◌then◌else◌}
 use Rattle.dali_bank.specs.Order.{Contents}
 use Rattle.dali_journal.specs.declared.record.Code.{Code}
 use Rattle.dali_journal.specs.declared.record.Code.TheVariants as codes
@@ -46,15 +47,19 @@ look_frames updates = if nat_lt (greatest updates) 0x13 then read_frames else 3 
 abbrev pub frames_from : Standing → List (ℕ × ℕ) → ℕ
 frames_from standings.Idle updates = done_frames (length updates) + look_frames updates
 frames_from (standings.Began order) updates = done_frames (length updates) + look_frames updates
-frames_from (standings.Left unit) updates = done_frames (length updates) + look_frames updates + (write_frames + read_frames)
+frames_from (standings.Left unit) updates =
+    done_frames (length updates) + look_frames updates + (write_frames + read_frames)
 frames_from (standings.Opened order) updates = done_frames (length updates)
 
 -- a checked read of the lock byte or of an update's location found another byte than must be there
 abbrev pub FindsAnother : Contents → List Exchange → Type 0
 FindsAnother order sent =
-    (told : List Exchange) × (older : List Exchange) × (sent ≡ told ++ older) × FoundAnother order.unit (unlock order.updates) (read_backs order.updates) told
+    (told : List Exchange) × (older : List Exchange) × (sent ≡ told ++ older)
+    × FoundAnother order.unit (unlock order.updates) (read_backs order.updates) told
 
--- What earns an order its code, among the frames from its start on. Done: exactly so many, and for each miss at most those of a try more. Silent: the last step, which read the length or the content format, failed. DoubtOpen: the last step, which read the lock byte, failed. Doubt: a step failed, or another byte was found.
+-- What earns an order its code, among the frames from its start on. Done: exactly so many, and for each miss at most
+-- those of a try more. Silent: the last step, which read the length or the content format, failed. DoubtOpen: the
+-- last step, which read the lock byte, failed. Doubt: a step failed, or another byte was found.
 -- (What Done, Short, Format and Doubt besides rest on, checked reads, is a rule of legal traces.)
 abbrev pub IsEarned : Standing → Contents → Code → List Exchange → Type 0
 IsEarned first order codes.Done sent = IsLong (frames_from first order.updates) sent
@@ -73,17 +78,22 @@ order_at other None true (newest ∷ older) = Some newest.0
 order_at other None ended orders = None
 
 abbrev pub order_at_hand : Start → List Happening → Option Contents
-order_at_hand start past = order_at (standing_at start past) (waiting past) (has_ended past) (orders_of (records_of start past))
+order_at_hand start past =
+    order_at (standing_at start past) (waiting past) (has_ended past) (orders_of (records_of start past))
 
 -- since the start of the order at hand no more frames than the limit were sent, and at most four records kept
 abbrev pub IsWithinLimit : Start → List Happening → Type 0
-IsWithinLimit start past = IfSome (order_at_hand start past) (λ order. (length (sent_since_taken past) ≤ work_limit (length order.updates)) × (kept_since past ≤ 4))
+IsWithinLimit start past =
+    IfSome (order_at_hand start past)
+    (λ order. (length (sent_since_taken past) ≤ work_limit (length order.updates)) × (kept_since past ≤ 4))
 
--- What was said last of an order that was taken was earned by the frames from its start on: how it ended, or that the left unit's lock byte wasn't told.
+-- What was said last of an order that was taken was earned by the frames from its start on: how it ended, or that the
+-- left unit's lock byte wasn't told.
 abbrev pub IsSaidSo : Start → List Happening → Type 0
 IsSaidSo start (Answered id reply ∷ Asked order ∷ past) = Unit {0}
 IsSaidSo start (Answered id (replies.Kept code) ∷ past) =
-    (order : Contents) × (order.id ≡ id) × (order_at_hand start past ≡ Some order) × IsEarned (stood_at start past) order code (sent_since_taken past)
+    (order : Contents) × (order.id ≡ id) × (order_at_hand start past ≡ Some order)
+    × IsEarned (stood_at start past) order code (sent_since_taken past)
 IsSaidSo start (Answered id (replies.Blocked unit) ∷ past) = EndsUnread unit 0x02 (sent_since_taken past)
 IsSaidSo start other = Unit {0}
 
@@ -92,6 +102,7 @@ abbrev pub AtEach : (List Happening → Type 0) → List Happening → Type 0
 AtEach holds [] = holds []
 AtEach holds (newest ∷ past) = holds (newest ∷ past) × AtEach holds past
 
--- at each moment the frames and records since the start of the order at hand are within the limit, and what is said was earned
+-- at each moment the frames and records since the start of the order at hand are within the limit, and what is said
+-- was earned
 abbrev pub IsWorked : Start → List Happening → Type 0
 IsWorked start past = AtEach (λ moment. IsWithinLimit start moment × IsSaidSo start moment) past

@@ -1,6 +1,8 @@
--- Worked traces: a GTIN order on a blank unit, an order that finds another unit left open, and what may not happen on the way.
+-- Worked traces: a GTIN order on a blank unit, an order that finds another unit left open, and what may not happen on
+-- the way.
 use Rattle.std.specs.Prelude.{◌≡◌, ◌==◌, ℕ, nat_le, false, List, [], ◌∷◌, Some, None, if◌then◌else◌}
-use Rattle.dali_frame.specs.declared.forward.Frame.TheVariants.{Dtr0, Dtr1, Write, WriteSilent, Enable, AskDtr0, AskDtr1, Read}
+use Rattle.dali_frame.specs.declared.forward.Frame.TheVariants.{Dtr0, Dtr1, Write, WriteSilent, Enable, AskDtr0}
+use Rattle.dali_frame.specs.declared.forward.Frame.TheVariants.{AskDtr1, Read}
 use Rattle.dali_bank.specs.Order.{Contents}
 use Rattle.dali_gear.specs.World.{Gear, World, Memory}
 use Rattle.dali_journal.specs.declared.record.Code.TheVariants.{Done, Short, Format, Silent, Doubt, DoubtOpen}
@@ -14,7 +16,8 @@ use Rattle.dali_trace.specs.Moments.{Along}
 -- four frames more, by which the unit is made sure to have selected the location of bank 1
 abbrev pub select_at : ℕ → ℕ → List Happening → List Happening
 select_at unit location past =
-    Sent (AskDtr0 unit) (Some location) ∷ Sent (Dtr0 location) None ∷ Sent (AskDtr1 unit) (Some 1) ∷ Sent (Dtr1 1) None ∷ past
+    Sent (AskDtr0 unit) (Some location) ∷ Sent (Dtr0 location) None ∷ Sent (AskDtr1 unit) (Some 1) ∷ Sent (Dtr1 1) None
+    ∷ past
 
 -- a checked read more, answered by the byte
 abbrev pub read_at : ℕ → ℕ → ℕ → List Happening → List Happening
@@ -33,9 +36,9 @@ abbrev pub read_try : List Happening → List Happening
 read_try past = Sent (AskDtr1 5) None ∷ Sent (Dtr1 1) None ∷ past
 
 -- one after the other, the first update first
-abbrev pub read_all : ℕ → List (ℕ × ℕ) → List Happening → List Happening
-read_all unit [] past = past
-read_all unit (update ∷ updates) past = read_all unit updates (read_at unit update.0 update.1 past)
+abbrev pub reads_of : ℕ → List (ℕ × ℕ) → List Happening → List Happening
+reads_of unit [] past = past
+reads_of unit (update ∷ updates) past = reads_of unit updates (read_at unit update.0 update.1 past)
 
 abbrev pub write_all : ℕ → List (ℕ × ℕ) → List Happening → List Happening
 write_all unit [] past = past
@@ -43,7 +46,8 @@ write_all unit (update ∷ updates) past = write_all unit updates (write_at unit
 
 -- order 1 for unit 5 with the GTIN 4006381333931
 abbrev pub first_order : Contents
-first_order = record { id = 1; unit = 5; updates = (3, 0x03) ∷ (4, 0xA4) ∷ (5, 0xCE) ∷ (6, 0xEF) ∷ (7, 0xAD) ∷ (8, 0xAB) ∷ [] }
+first_order =
+    record { id = 1; unit = 5; updates = (3, 0x03) ∷ (4, 0xA4) ∷ (5, 0xCE) ∷ (6, 0xEF) ∷ (7, 0xAD) ∷ (8, 0xAB) ∷ [] }
 
 -- an empty journal of at most ten orders
 abbrev pub empty : Start
@@ -68,27 +72,27 @@ opened = Kept (Opened 5) ∷ measured
 abbrev pub unlocked : List Happening
 unlocked = write_at 5 0x02 0x55 opened
 
-abbrev pub written : List Happening
-written = write_all 5 first_order.updates unlocked
+abbrev pub all_written : List Happening
+all_written = write_all 5 first_order.updates unlocked
 
 abbrev pub locked : List Happening
-locked = write_at 5 0x02 0xFF written
+locked = write_at 5 0x02 0xFF all_written
 
 abbrev pub lock_read : List Happening
 lock_read = read_at 5 0x02 0xFF locked
 
-abbrev pub read_back : List Happening
-read_back = read_all 5 first_order.updates lock_read
+abbrev pub all_read_back : List Happening
+all_read_back = reads_of 5 first_order.updates lock_read
 
 abbrev pub ended : List Happening
-ended = Kept (Ended Done) ∷ read_back
+ended = Kept (Ended Done) ∷ all_read_back
 
 abbrev pub said : List Happening
 said = Answered 1 (replies.Kept Done) ∷ ended
 
 -- with the order sent again
-abbrev pub whole : List Happening
-whole = Answered 1 (replies.Kept Done) ∷ Asked first_order ∷ said
+abbrev pub first_carried_out : List Happening
+first_carried_out = Answered 1 (replies.Kept Done) ∷ Asked first_order ∷ said
 
 -- A blank unit at address 5, alone, and what becomes of it
 
@@ -96,7 +100,11 @@ whole = Answered 1 (replies.Kept Done) ∷ Asked first_order ∷ said
 abbrev pub blank : Memory
 blank bank location =
     if bank == 1
-    then (if location == 0x00 then Some 0x77 else (if location == 0x11 then Some 0x00 else (if location == 0x12 then Some 0x03 else (if nat_le location 0x77 then Some 0xFF else None))))
+    then (if location == 0x00
+    then Some 0x77
+    else (if location == 0x11
+    then Some 0x00
+    else (if location == 0x12 then Some 0x03 else (if nat_le location 0x77 then Some 0xFF else None))))
     else None
 
 abbrev pub blank_unit : Gear
@@ -106,13 +114,17 @@ blank_unit = record { dtr0 = 0; dtr1 = 0; dtr2 = 0; enabled = false; memory = bl
 abbrev pub alone : Gear → World
 alone gear address = if address == 5 then Some gear else None
 
--- It goes along the whole trace with some worlds in between. Then DTR0 is 09h, DTR1 01h, the unit isn't enabled, the lock byte is FFh, the order's bytes are there, and the byte behind them is as it was.
+-- It goes along the first_carried_out trace with some worlds in between. Then DTR0 is 09h, DTR1 01h, the unit isn't
+-- enabled, the lock byte is FFh, the order's bytes are there, and the byte behind them is as it was.
 abbrev pub GoesAlong : Type 0
 GoesAlong =
-    (last : Gear) × (states : List World) × Along (alone blank_unit) empty (alone blank_unit) whole (alone last) states
+    (last : Gear) × (states : List World)
+    × Along (alone blank_unit) empty (alone blank_unit) first_carried_out (alone last) states
     × ((last.dtr0 ≡ 0x09) × (last.dtr1 ≡ 0x01) × (last.enabled ≡ false))
-    × ((last.memory 1 0x02 ≡ Some 0xFF) × (last.memory 1 0x03 ≡ Some 0x03) × (last.memory 1 0x04 ≡ Some 0xA4) × (last.memory 1 0x05 ≡ Some 0xCE)
-    × (last.memory 1 0x06 ≡ Some 0xEF) × (last.memory 1 0x07 ≡ Some 0xAD) × (last.memory 1 0x08 ≡ Some 0xAB) × (last.memory 1 0x09 ≡ Some 0xFF))
+    × ((last.memory 1 0x02 ≡ Some 0xFF) × (last.memory 1 0x03 ≡ Some 0x03) × (last.memory 1 0x04 ≡ Some 0xA4)
+    × (last.memory 1 0x05 ≡ Some 0xCE)
+    × (last.memory 1 0x06 ≡ Some 0xEF) × (last.memory 1 0x07 ≡ Some 0xAD) × (last.memory 1 0x08 ≡ Some 0xAB)
+    × (last.memory 1 0x09 ≡ Some 0xFF))
 
 -- What may not happen
 
@@ -123,7 +135,8 @@ unguarded = Sent (Write 0x55) (Some 0x55) ∷ enable_twice 5 opened
 -- the same where DTR0 was set and asked back, but not DTR1
 abbrev pub bank_not_asked : List Happening
 bank_not_asked =
-    Sent (Write 0x55) (Some 0x55) ∷ Sent (AskDtr0 5) (Some 2) ∷ Sent (Dtr0 2) None ∷ Sent (Dtr1 1) None ∷ enable_twice 5 opened
+    Sent (Write 0x55) (Some 0x55) ∷ Sent (AskDtr0 5) (Some 2) ∷ Sent (Dtr0 2) None ∷ Sent (Dtr1 1) None
+    ∷ enable_twice 5 opened
 
 -- a write once more after its answer was lost, with DTR0 not asked back
 abbrev pub written_twice : List Happening
@@ -163,11 +176,11 @@ done_unread = Kept (Ended Done) ∷ locked
 
 -- Done with the updates read back, but not the lock byte
 abbrev pub done_with_the_lock_unread : List Happening
-done_with_the_lock_unread = Kept (Ended Done) ∷ read_all 5 first_order.updates locked
+done_with_the_lock_unread = Kept (Ended Done) ∷ reads_of 5 first_order.updates locked
 
 -- the order begun once more
 abbrev pub begun_twice : List Happening
-begun_twice = Kept (Began first_order) ∷ whole
+begun_twice = Kept (Began first_order) ∷ first_carried_out
 
 -- a reply that isn't due, and one for another number
 abbrev pub busy_at_once : List Happening
@@ -178,7 +191,7 @@ reply_to_another = Answered 2 replies.Taken ∷ asked
 
 -- how it ended, said before the record is kept
 abbrev pub said_before_ended : List Happening
-said_before_ended = Answered 1 (replies.Kept Done) ∷ read_back
+said_before_ended = Answered 1 (replies.Kept Done) ∷ all_read_back
 
 -- another number or another code than the record has
 abbrev pub another_number_said : List Happening
@@ -258,12 +271,14 @@ tried_again = write_at 5 0x02 0x55 (read_try (enable_twice 5 opened))
 abbrev pub opened_anew : List Happening
 opened_anew = Kept (Opened 5) ∷ read_at 5 0x00 0x77 (Stopped ∷ measured)
 
--- after the unlock: all is written again
+-- after the unlock: all is all_written again
 abbrev pub written_anew : List Happening
 written_anew = write_at 5 0x02 0xFF (write_all 5 first_order.updates (write_at 5 0x02 0x55 (Stopped ∷ unlocked)))
 
 abbrev pub done_anew : List Happening
-done_anew = Answered 1 (replies.Kept Done) ∷ Kept (Ended Done) ∷ read_all 5 first_order.updates (read_at 5 0x02 0xFF written_anew)
+done_anew =
+    Answered 1 (replies.Kept Done) ∷ Kept (Ended Done)
+    ∷ reads_of 5 first_order.updates (read_at 5 0x02 0xFF written_anew)
 
 -- before Done is said: nothing is said any more, the order's repeat is answered, and another order is taken
 abbrev pub repeated_after_a_stop : List Happening
@@ -272,7 +287,8 @@ repeated_after_a_stop = Answered 1 (replies.Kept Done) ∷ Asked first_order ∷
 abbrev pub taken_after_a_stop : List Happening
 taken_after_a_stop = Answered 2 replies.Taken ∷ Asked second_order ∷ Stopped ∷ ended
 
--- what may not happen after them: Opened by the read from before the stop, a write by the frames from before it, a saying
+-- what may not happen after them: Opened by the read from before the stop, a write by the frames from before it, a
+-- saying
 abbrev pub opened_after_a_stop : List Happening
 opened_after_a_stop = Kept (Opened 5) ∷ Stopped ∷ measured
 

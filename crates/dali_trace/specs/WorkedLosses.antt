@@ -60,7 +60,10 @@ abbrev pub short_bank : BankState
 short_bank = record { bytes = 0x10 ∷ replicate 0x10 0xFF; fixed = [] }
 
 abbrev pub short_bus : SimState
-short_bus = record { units = new_unit 5 (0x10 ∷ replicate 0x10 0xFF) [] ∷ []; fates = whole ∷ record whole { answer_lost = true } ∷ [] }
+short_bus = record {
+  units = new_unit 5 (0x10 ∷ replicate 0x10 0xFF) [] ∷ [];
+  fates = whole ∷ record whole { answer_lost = true } ∷ [];
+}
 
 abbrev pub short_sent : List Happening
 short_sent = Kept (Ended codes.Short) ∷ read_at 5 0x00 0x10 (read_try third_begun)
@@ -85,17 +88,27 @@ abbrev pub MeetsAll : Type 0
 MeetsAll =
     Legal (fresh 10) short_said × ByPlan (fresh 10) short_said
     × IsChain (MovesBy SimStep) short_bus short_said (bus_after short_bus short_said) (buses_along short_bus short_said)
-    × NoneEnabled (world_of short_bus.units) × (order_at_hand (fresh 10) short_sent ≡ Some third_order) × (is_at_work (stood_at (fresh 10) short_sent) ≡ false)
-    × HasBank 5 short_bank (state_at_start short_sent (bus_after short_bus short_sent) (buses_along short_bus short_sent)).units
-    × UnrefusedSince short_sent (buses_along short_bus short_sent) × (losses_since 5 None short_sent (buses_along short_bus short_sent) ≡ 1)
+    × NoneEnabled (world_of short_bus.units) × (order_at_hand (fresh 10) short_sent ≡ Some third_order)
+    × (is_at_work (stood_at (fresh 10) short_sent) ≡ false)
+    × HasBank 5 short_bank
+    (state_at_start short_sent (bus_after short_bus short_sent) (buses_along short_bus short_sent)).units
+    × UnrefusedSince short_sent (buses_along short_bus short_sent)
+    × (losses_since 5 None short_sent (buses_along short_bus short_sent) ≡ 1)
     × (misses_in (sent_since_taken short_sent) ≡ 1) × (due_code short_bank.bytes third_order.updates ≡ codes.Short)
 
 -- With seven losses an order whose unit is on the bus ends as it is to end, and misses no more often.
 abbrev pub SparesSeven : Type 0
 SparesSeven =
-    (start : Start) (id : ℕ) (reply : Reply) (frame : Frame) (answer : Option ℕ) (older : List Happening) (last state : SimState) (states : List SimState) (order : Contents) (bank : BankState)
-    → IsSpared start (Answered id reply ∷ Sent frame answer ∷ older) last (state ∷ states) → order_at_hand start (Sent frame answer ∷ older) ≡ Some order
-    → is_at_work (stood_at start (Sent frame answer ∷ older)) ≡ false → HasBank order.unit bank (state_at_start (Sent frame answer ∷ older) state states).units
-    → UnrefusedSince (Sent frame answer ∷ older) states → losses_since order.unit (named_unit (stood_at start (Sent frame answer ∷ older))) (Sent frame answer ∷ older) states ≡ 7
+    (start : Start) (id : ℕ) (reply : Reply) (frame : Frame) (answer : Option ℕ) (older : List Happening)
+    (last state : SimState) (states : List SimState) (order : Contents) (bank : BankState)
+    → IsSpared start (Answered id reply ∷ Sent frame answer ∷ older) last (state ∷ states)
+    → order_at_hand start (Sent frame answer ∷ older) ≡ Some order
+    → is_at_work (stood_at start (Sent frame answer ∷ older)) ≡ false
+    → HasBank order.unit bank (state_at_start (Sent frame answer ∷ older) state states).units
+    → UnrefusedSince (Sent frame answer ∷ older) states
+    → losses_since order.unit (named_unit (stood_at start (Sent frame answer ∷ older)))
+    (Sent frame answer ∷ older) states
+    ≡ 7
     → (due_code bank.bytes order.updates ≡ codes.Done → NoneFixed bank order.updates)
-    → (reply ≡ replies.Kept (due_code bank.bytes order.updates)) × (misses_in (sent_since_taken (Sent frame answer ∷ older)) ≤ 7)
+    → (reply ≡ replies.Kept (due_code bank.bytes order.updates))
+    × (misses_in (sent_since_taken (Sent frame answer ∷ older)) ≤ 7)

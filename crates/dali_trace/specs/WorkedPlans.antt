@@ -1,4 +1,5 @@
--- Worked traces near the edges of what is promised besides legality: by plan and not, at the limits of the work, and with as much lost as may be.
+-- Worked traces near the edges of what is promised besides legality: by plan and not, at the limits of the work, and
+-- with as much lost as may be.
 use Rattle.std.specs.Prelude.{ℕ, zero, suc, List, [], ◌∷◌, Some, None}
 use Rattle.dali_frame.specs.declared.forward.Frame.TheVariants.{Dtr0, Dtr1, Enable, AskDtr1}
 use Rattle.dali_journal.specs.declared.record.Code.{Code}
@@ -8,7 +9,8 @@ use Rattle.dali_trace.specs.declared.happening.Reply.TheVariants as replies
 use Rattle.dali_trace.specs.declared.happening.Happening.{Happening}
 use Rattle.dali_trace.specs.declared.happening.Happening.TheVariants.{Asked, Answered, Sent, Kept, Stopped}
 use Rattle.dali_trace.specs.Trace.{Start}
-use Rattle.dali_trace.specs.Worked.{read_at, read_try, eight_times, first_order, second_order, begun, opened, said, second_taken, unreached, taken_again}
+use Rattle.dali_trace.specs.Worked.{read_at, read_try, eight_times, first_order, second_order, begun, opened, said}
+use Rattle.dali_trace.specs.Worked.{second_taken, unreached, taken_again}
 
 -- the first frame of a checked read, and another one
 abbrev pub first_frame : List Happening
@@ -114,7 +116,8 @@ second_taken_behind past = Answered 2 replies.Taken ∷ Asked second_order ∷ p
 abbrev pub at_work : Start
 at_work = record { records = Began first_order ∷ []; limit = 10 }
 
--- What doesn't say the order that is begun: a reply to a repeat of it, a saying of another number, one behind a stop, and one where no order is at hand.
+-- What doesn't say the order that is begun: a reply to a repeat of it, a saying of another number, one behind a stop,
+-- and one where no order is at hand.
 abbrev pub repeated : List Happening
 repeated = Answered 1 replies.Busy ∷ Asked first_order ∷ begun
 

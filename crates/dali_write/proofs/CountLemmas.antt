@@ -1,5 +1,6 @@
 -- How many frames a session sends at most.
-use Rattle.std.proofs.Common.{◌≡◌, ◌⊎◌, inl, inr, refl, ap, subst, ℕ, zero, suc, ◌+◌, ◌-◌, ◌*◌, ◌<◌, ◌≤◌, min, ◌==◌, nat_lt, if◌then◌else◌, List, [], ◌∷◌, ◌++◌, length, length-append, Option, arith}
+use Rattle.std.proofs.Common.{◌≡◌, ◌⊎◌, inl, inr, refl, ap, subst, ℕ, zero, suc, ◌+◌, ◌-◌, ◌*◌, ◌<◌, ◌≤◌, min, ◌==◌}
+use Rattle.std.proofs.Common.{nat_lt, if◌then◌else◌, List, [], ◌∷◌, ◌++◌, length, length-append, Option, arith}
 use Rattle.std.proofs.lemmas.Nat.{mul-le}
 use Rattle.dali_write.specs.Exchanges.{Exchange}
 use Rattle.dali_write.specs.declared.line.Line.{Line}
@@ -11,8 +12,10 @@ use Rattle.dali_write.specs.declared.stage.Job.TheVariants.{Fresh, Opened, Closi
 use Rattle.dali_write.specs.declared.session.Session.{Session}
 use Rattle.dali_write.specs.Lines.{line, step_lines}
 use Rattle.dali_write.specs.Frames.{read_frames, write_frames}
-use Rattle.dali_write.specs.Plans.{Plan, Finish, Check, goes_on, plan_after, greatest, read_format, judge_length, read_length, close, give_up, expect, read_back, read_lock, write_on, unlock, read_on}
-use Rattle.dali_write.specs.Tries.{most_tries, Trying, Missed, Misses, Succeeds, Fails, StepEnds, StepsEnd, plan_lines, Stands}
+use Rattle.dali_write.specs.Plans.{Plan, Finish, Check, goes_on, plan_after, greatest, read_format, judge_length}
+use Rattle.dali_write.specs.Plans.{read_length, close, give_up, expect, read_back, read_lock, write_on, unlock, read_on}
+use Rattle.dali_write.specs.Tries.{most_tries, Trying, Missed, Misses, Succeeds, Fails, StepEnds, StepsEnd, plan_lines}
+use Rattle.dali_write.specs.Tries.{Stands}
 use Rattle.dali_write.specs.Counts.{step_limit, TakesAtMost, frame_limit}
 use Rattle.dali_write.specs.Stages.{plan_of}
 use Rattle.dali_write.specs.Told.{Told}
@@ -21,12 +24,14 @@ use Rattle.dali_write.proofs.PlanLemmas.{either_all, if_all}
 
 pub missed_length : (lines : List Line) (tried : List Exchange) → Missed lines tried → length tried ≤ length lines
 missed_length lines [] missed = absurd missed
-missed_length lines (x ∷ tried) missed = let all = trying_length lines tried (line x.frame missed.0 ∷ missed.1) missed.3 in omega arith
+missed_length lines (x ∷ tried) missed =
+    let all = trying_length lines tried (line x.frame missed.0 ∷ missed.1) missed.3 in omega arith
 
 suc_times : (n k : ℕ) → (suc n) * k ≡ k + n * k
 suc_times n k = omega arith
 
-pub misses_length : (lines : List Line) (misses : ℕ) (told : List Exchange) → Misses lines misses told → length told ≤ misses * length lines
+pub misses_length : (lines : List Line) (misses : ℕ) (told : List Exchange) → Misses lines misses told
+    → length told ≤ misses * length lines
 misses_length lines zero told is = let none = ap (λ (t : List Exchange). length t) is in omega arith
 misses_length lines (suc misses) told is =
     let newer = missed_length lines is.0 is.3 in
@@ -37,9 +42,11 @@ misses_length lines (suc misses) told is =
     omega arith
 
 -- a step takes no more than its most tries of its lines
-times_most : (misses lines few more : ℕ) → misses < most_tries → more ≤ misses * lines → few ≤ lines → few + more ≤ most_tries * lines
+times_most : (misses lines few more : ℕ) → misses < most_tries → more ≤ misses * lines → few ≤ lines
+    → few + more ≤ most_tries * lines
 times_most misses lines few more below older newer =
-    let most : misses * lines ≤ (most_tries - 1) * lines = mul-le misses lines (most_tries - 1) lines (omega arith) (omega arith) in
+    let most : misses * lines ≤ (most_tries - 1) * lines =
+    mul-le misses lines (most_tries - 1) lines (omega arith) (omega arith) in
     omega arith
 
 limit_lines : (unit : ℕ) (step : Step) → step_limit step ≡ most_tries * length (step_lines unit step)
@@ -47,10 +54,12 @@ limit_lines unit (ReadFrom location) = refl
 limit_lines unit (WriteTo location byte) = refl
 
 step_length : (unit : ℕ) (step : Step) (outcome : Option ℕ) (told : List Exchange)
-    → Succeeds (step_lines unit step) outcome told ⊎ Fails (step_lines unit step) outcome told → length told ≤ step_limit step
+    → Succeeds (step_lines unit step) outcome told ⊎ Fails (step_lines unit step) outcome told
+    → length told ≤ step_limit step
 step_length unit step outcome told (inl done) =
     let lines = length (step_lines unit step) in
-    let newer : length done.0 ≤ lines = let all = trying_length (step_lines unit step) done.0 [] done.4 in omega arith in
+    let newer : length done.0 ≤ lines =
+    let all = trying_length (step_lines unit step) done.0 [] done.4 in omega arith in
     let older = misses_length (step_lines unit step) done.2 done.1 done.7 in
     let both = ap (λ (t : List Exchange). length t) done.3 in
     let joined = length-append done.0 done.1 in
@@ -62,7 +71,8 @@ step_length unit step outcome told (inr failed) =
     let limit = limit_lines unit step in
     omega arith
 
-one_takes : (unit : ℕ) (plan : Plan) (outcome : Option ℕ) (newer : List Exchange) (limit : ℕ) → StepEnds unit plan outcome newer → TakesAtMost limit plan
+one_takes : (unit : ℕ) (plan : Plan) (outcome : Option ℕ) (newer : List Exchange) (limit : ℕ)
+    → StepEnds unit plan outcome newer → TakesAtMost limit plan
     → (rest : ℕ) × TakesAtMost rest (goes_on plan outcome) × (length newer + rest ≤ limit)
 one_takes unit (Finish verdict) outcome newer limit ends takes = absurd ends
 one_takes unit (Check step after) outcome newer limit ends takes =
@@ -70,9 +80,11 @@ one_takes unit (Check step after) outcome newer limit ends takes =
     let le = takes.0 in
     (limit - step_limit step, takes.1 outcome, omega arith)
 
-steps_take : (unit : ℕ) (plan : Plan) (outcomes : List (Option ℕ)) (told : List Exchange) (limit : ℕ) → StepsEnd unit plan outcomes told → TakesAtMost limit plan
+steps_take : (unit : ℕ) (plan : Plan) (outcomes : List (Option ℕ)) (told : List Exchange) (limit : ℕ)
+    → StepsEnd unit plan outcomes told → TakesAtMost limit plan
     → (rest : ℕ) × TakesAtMost rest (plan_after plan outcomes) × (length told + rest ≤ limit)
-steps_take unit plan [] told limit ends takes = let none = ap (λ (t : List Exchange). length t) ends in (limit, takes, omega arith)
+steps_take unit plan [] told limit ends takes =
+    let none = ap (λ (t : List Exchange). length t) ends in (limit, takes, omega arith)
 steps_take unit plan (outcome ∷ outcomes) told limit ends takes =
     let before = steps_take unit plan outcomes ends.1 limit ends.4 takes in
     let now = one_takes unit (plan_after plan outcomes) outcome ends.0 before.0 ends.3 before.1 in
@@ -82,8 +94,10 @@ steps_take unit plan (outcome ∷ outcomes) told limit ends takes =
     let le2 = now.2 in
     (now.0, now.1, omega arith)
 
-at_hand_takes : (unit : ℕ) (now : Plan) (misses : ℕ) (missed tried : List Exchange) (left : List Line) (rest : ℕ) → misses < most_tries
-    → Misses (plan_lines unit now) misses missed → Trying (plan_lines unit now) tried left → TakesAtMost rest now → length tried + length missed ≤ rest
+at_hand_takes : (unit : ℕ) (now : Plan) (misses : ℕ) (missed tried : List Exchange) (left : List Line) (rest : ℕ)
+    → misses < most_tries
+    → Misses (plan_lines unit now) misses missed → Trying (plan_lines unit now) tried left → TakesAtMost rest now
+    → length tried + length missed ≤ rest
 at_hand_takes unit (Finish verdict) misses missed tried left rest few are try takes =
     let newer = trying_length [] tried left try in
     let older = misses_length [] misses missed are in
@@ -97,12 +111,15 @@ at_hand_takes unit (Check step after) misses missed tried left rest few are try 
     let le = takes.0 in
     omega arith
 
-pub stands_takes : (unit : ℕ) (plan : Plan) (told : List Exchange) (now : Plan) (misses : ℕ) (left : List Line) (byte : Option ℕ) (limit : ℕ)
+pub stands_takes : (unit : ℕ) (plan : Plan) (told : List Exchange) (now : Plan) (misses : ℕ) (left : List Line)
+    (byte : Option ℕ) (limit : ℕ)
     → Stands unit plan told now misses left byte → TakesAtMost limit plan → length told ≤ limit
 stands_takes unit plan told now misses left byte limit s takes =
     let before = steps_take unit plan s.outcomes s.ended limit s.steps takes in
     let rest = before.0 in
-    let here = at_hand_takes unit now misses s.missed s.tried left rest s.few s.misses_are s.try (subst (λ (p : Plan). TakesAtMost rest p) s.now_is before.1) in
+    let here =
+    at_hand_takes unit now misses s.missed s.tried left rest s.few s.misses_are s.try
+    (subst (λ (p : Plan). TakesAtMost rest p) s.now_is before.1) in
     let all = ap (λ (t : List Exchange). length t) s.parts in
     let one = length-append s.tried (s.missed ++ s.ended) in
     let two = length-append s.missed s.ended in
@@ -119,11 +136,19 @@ most_write = most_tries * write_frames
 abbrev most_close : ℕ
 most_close = most_write + most_read
 
-pub close_takes : (limit : ℕ) (answered unanswered : Verdict) → most_close ≤ limit → TakesAtMost limit (close answered unanswered)
-close_takes limit answered unanswered le =
-    (omega arith, λ outcome. (omega arith, either_all (TakesAtMost (limit - most_write - most_read)) (Finish unanswered) (λ byte. Finish answered) tt (λ byte. tt)))
+pub close_takes : (limit : ℕ) (answered unanswered : Verdict) → most_close ≤ limit
+    → TakesAtMost limit (close answered unanswered)
+close_takes limit answered unanswered le = (
+  omega arith,
+  λ outcome. (
+    omega arith,
+    either_all (TakesAtMost (limit - most_write - most_read)) (Finish unanswered) (λ byte. Finish answered) tt
+        (λ byte. tt),
+  ),
+)
 
-expect_takes : (limit location byte : ℕ) (after : Plan) → most_read + most_close ≤ limit → TakesAtMost (limit - most_read) after
+expect_takes : (limit location byte : ℕ) (after : Plan) → most_read + most_close ≤ limit
+    → TakesAtMost (limit - most_read) after
     → TakesAtMost limit (expect location byte after)
 expect_takes limit location byte after le takes =
     let closes = close_takes (limit - most_read) _ _ (omega arith) in (
@@ -132,37 +157,50 @@ expect_takes limit location byte after le takes =
           (λ found. if_all (TakesAtMost (limit - most_read)) (found == byte) after give_up takes closes),
     )
 
-read_back_takes : (limit : ℕ) (updates : List (ℕ × ℕ)) → length updates * most_read + most_close ≤ limit → TakesAtMost limit (read_back updates)
+read_back_takes : (limit : ℕ) (updates : List (ℕ × ℕ)) → length updates * most_read + most_close ≤ limit
+    → TakesAtMost limit (read_back updates)
 read_back_takes limit [] le = tt
 read_back_takes limit (update ∷ updates) le =
-    expect_takes limit update.0 update.1 (read_back updates) (omega arith) (read_back_takes (limit - most_read) updates (omega arith))
+    expect_takes limit update.0 update.1 (read_back updates) (omega arith)
+    (read_back_takes (limit - most_read) updates (omega arith))
 
-read_lock_takes : (limit : ℕ) (updates : List (ℕ × ℕ)) → (length updates + 1) * most_read + most_close ≤ limit → TakesAtMost limit (read_lock updates)
-read_lock_takes limit updates le = expect_takes limit 2 0xFF (read_back updates) (omega arith) (read_back_takes (limit - most_read) updates (omega arith))
+read_lock_takes : (limit : ℕ) (updates : List (ℕ × ℕ)) → (length updates + 1) * most_read + most_close ≤ limit
+    → TakesAtMost limit (read_lock updates)
+read_lock_takes limit updates le =
+    expect_takes limit 2 0xFF (read_back updates) (omega arith)
+    (read_back_takes (limit - most_read) updates (omega arith))
 
 write_on_takes : (limit : ℕ) (updates left : List (ℕ × ℕ))
-    → (length left + 1) * most_write + (length updates + 1) * most_read + most_close ≤ limit → TakesAtMost limit (write_on updates left)
+    → (length left + 1) * most_write + (length updates + 1) * most_read + most_close ≤ limit
+    → TakesAtMost limit (write_on updates left)
 write_on_takes limit updates [] le = (
   omega arith,
-  either_all (TakesAtMost (limit - most_write)) give_up (λ byte. read_lock updates) (close_takes (limit - most_write) _ _ (omega arith))
+  either_all (TakesAtMost (limit - most_write)) give_up (λ byte. read_lock updates)
+      (close_takes (limit - most_write) _ _ (omega arith))
       (λ byte. read_lock_takes (limit - most_write) updates (omega arith)),
 )
 write_on_takes limit updates (update ∷ left) le = (
   omega arith,
-  either_all (TakesAtMost (limit - most_write)) give_up (λ byte. write_on updates left) (close_takes (limit - most_write) _ _ (omega arith))
+  either_all (TakesAtMost (limit - most_write)) give_up (λ byte. write_on updates left)
+      (close_takes (limit - most_write) _ _ (omega arith))
       (λ byte. write_on_takes (limit - most_write) updates left (omega arith)),
 )
 
 pub unlock_takes : (limit : ℕ) (updates : List (ℕ × ℕ))
-    → (length updates + 2) * most_write + (length updates + 1) * most_read + most_close ≤ limit → TakesAtMost limit (unlock updates)
+    → (length updates + 2) * most_write + (length updates + 1) * most_read + most_close ≤ limit
+    → TakesAtMost limit (unlock updates)
 unlock_takes limit updates le = (
   omega arith,
-  either_all (TakesAtMost (limit - most_write)) give_up (λ byte. write_on updates updates) (close_takes (limit - most_write) _ _ (omega arith))
+  either_all (TakesAtMost (limit - most_write)) give_up (λ byte. write_on updates updates)
+      (close_takes (limit - most_write) _ _ (omega arith))
       (λ byte. write_on_takes (limit - most_write) updates updates (omega arith)),
 )
 
 read_format_takes : TakesAtMost (2 * most_read) read_format
-read_format_takes = (omega arith, either_all (TakesAtMost most_read) _ _ tt (λ high. (omega arith, either_all (TakesAtMost 0) _ _ tt (λ low. tt))))
+read_format_takes = (
+  omega arith,
+  either_all (TakesAtMost most_read) _ _ tt (λ high. (omega arith, either_all (TakesAtMost 0) _ _ tt (λ low. tt))),
+)
 
 pub read_length_takes : (updates : List (ℕ × ℕ)) → TakesAtMost (3 * most_read) (read_length updates)
 read_length_takes updates = (
@@ -174,8 +212,11 @@ read_length_takes updates = (
 
 read_on_takes : (limit location left : ℕ) → left * most_read ≤ limit → TakesAtMost limit (read_on location left)
 read_on_takes limit location zero le = tt
-read_on_takes limit location (suc left) le =
-    (omega arith, either_all (TakesAtMost (limit - most_read)) _ (λ byte. read_on (suc location) left) tt (λ byte. read_on_takes (limit - most_read) (suc location) left (omega arith)))
+read_on_takes limit location (suc left) le = (
+  omega arith,
+  either_all (TakesAtMost (limit - most_read)) _ (λ byte. read_on (suc location) left) tt
+      (λ byte. read_on_takes (limit - most_read) (suc location) left (omega arith)),
+)
 
 plan_takes : (job : Job) → TakesAtMost (frame_limit job) (plan_of job)
 plan_takes (Fresh order) = read_length_takes order.updates
@@ -183,7 +224,8 @@ plan_takes (Opened order) = unlock_takes (frame_limit (Opened order)) order.upda
 plan_takes Closing = close_takes most_close _ _ (omega arith)
 plan_takes Reading = (
   omega arith,
-  either_all (TakesAtMost (254 * most_read)) _ (λ last. read_on 1 (min last 0xFE)) tt (λ last. read_on_takes (254 * most_read) 1 (min last 0xFE) (omega arith)),
+  either_all (TakesAtMost (254 * most_read)) _ (λ last. read_on 1 (min last 0xFE)) tt
+      (λ last. read_on_takes (254 * most_read) 1 (min last 0xFE) (omega arith)),
 )
 
 pub told_length : (told : List Exchange) (s : Session) → Told told s → length told ≤ frame_limit s.job

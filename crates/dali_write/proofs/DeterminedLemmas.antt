@@ -1,5 +1,7 @@
 -- What a session was told determines where it stands, and so what it wants.
-use Rattle.std.proofs.Common.{◌≡◌, ◌⊎◌, inl, inr, refl, sym, ap, subst, ◌∙◌, ℕ, zero, suc, ◌<◌, Bool, true, false, ◌==◌, nat_lt, lt-ltb, eq-eqb, ne_eqb, if◌then◌else◌, List, [], ◌∷◌, ◌++◌, append_assoc, Option, Some, None, is_some, arith}
+use Rattle.std.proofs.Common.{◌≡◌, ◌⊎◌, inl, inr, refl, sym, ap, subst, ◌∙◌, ℕ, zero, suc, ◌<◌, Bool, true, false, ◌==◌}
+use Rattle.std.proofs.Common.{nat_lt, lt-ltb, eq-eqb, ne_eqb, if◌then◌else◌, List, [], ◌∷◌, ◌++◌, append_assoc, Option}
+use Rattle.std.proofs.Common.{Some, None, is_some, arith}
 use Rattle.dali_write.specs.Exchanges.{Exchange}
 use Rattle.dali_write.specs.declared.line.Line.{Line}
 use Rattle.dali_write.specs.declared.line.Wish.{Wish}
@@ -10,10 +12,13 @@ use Rattle.dali_write.specs.declared.ask.Ask.{Ask}
 use Rattle.dali_write.specs.declared.ask.Ask.TheVariants.{Send}
 use Rattle.dali_write.specs.Lines.{Meets, line, step_lines, byte_after}
 use Rattle.dali_write.specs.Plans.{Plan, Finish, Check, goes_on, plan_after}
-use Rattle.dali_write.specs.Tries.{Trying, Missed, Misses, byte_of, StepEnds, StepsEnd, plan_lines, GoesOn, Stands, ask_at, Wants}
+use Rattle.dali_write.specs.Tries.{Trying, Missed, Misses, byte_of, StepEnds, StepsEnd, plan_lines, GoesOn, Stands}
+use Rattle.dali_write.specs.Tries.{Wants}
+use Rattle.dali_write.proofs.AskLemmas.{shown_ask, ask_shown}
 use Rattle.dali_write.proofs.ShapeLemmas.{none_left}
 
--- where a session stands: its plan from the step at hand on, the missed tries of that step, what is left of the try at hand, and its byte
+-- where a session stands: its plan from the step at hand on, the missed tries of that step, what is left of the try
+-- at hand, and its byte
 pub record Place : Type 0 where
   pub now : Plan
   pub misses : ℕ
@@ -38,13 +43,16 @@ met_then unit now misses (next ∷ left) byte = record { now = now; misses = mis
 
 -- the answer was not as wished: another try of the step, or after the eighth the next step of the plan
 abbrev pub missed_then : ℕ → Plan → ℕ → Place
-missed_then unit now misses = if nat_lt (suc misses) 8 then begins unit now (suc misses) else begins unit (goes_on now None) 0
+missed_then unit now misses =
+    if nat_lt (suc misses) 8 then begins unit now (suc misses) else begins unit (goes_on now None) 0
 
 -- where one more exchange leads (from an ended plan, which has no frame left, it stays)
 abbrev pub moved : ℕ → Exchange → Plan → ℕ → List Line → Option ℕ → Place
 moved unit x now misses [] byte = record { now = now; misses = misses; left = []; byte = byte }
 moved unit x now misses (next ∷ left) byte =
-    if is_met next.wish x.answer then met_then unit now misses left (byte_after x.frame x.answer byte) else missed_then unit now misses
+    if is_met next.wish x.answer
+    then met_then unit now misses left (byte_after x.frame x.answer byte)
+    else missed_then unit now misses
 
 -- where the exchanges lead
 abbrev pub place_after : ℕ → Plan → List Exchange → Place
@@ -80,7 +88,7 @@ record Peeled (unit : ℕ) (plan : Plan) (told : List Exchange) (place : Place) 
   pub left : List Line
   pub byte : Option ℕ
   pub before : Stands unit plan older now misses (line newest.frame wish ∷ left) byte
-  pub sends : ask_at now (line newest.frame wish ∷ left) ≡ Send newest.frame
+  pub sends : shown_ask now (line newest.frame wish ∷ left) ≡ Send newest.frame
   pub leads : moved unit newest now misses (line newest.frame wish ∷ left) byte ≡ place
 
 -- nothing was told yet, or there is a newest exchange
@@ -89,14 +97,19 @@ Peels unit plan told place = ((told ≡ []) × (begins unit plan 0 ≡ place)) �
 
 -- whole steps after which the plan goes on so
 abbrev Reaches : ℕ → Plan → Plan → List Exchange → Type 0
-Reaches unit plan now ended = (outcomes : List (Option ℕ)) × StepsEnd unit plan outcomes ended × (plan_after plan outcomes ≡ now)
+Reaches unit plan now ended =
+    (outcomes : List (Option ℕ)) × StepsEnd unit plan outcomes ended × (plan_after plan outcomes ≡ now)
 
 -- what was told, split before its newest exchange
-peeled : (unit : ℕ) (plan : Plan) (told ended missed tried : List Exchange) (now : Plan) (misses : ℕ) (x : Exchange) (wish : Wish) (left : List Line) (place : Place)
-    → told ≡ (x ∷ tried) ++ (missed ++ ended) → Reaches unit plan now ended → misses < 8 → Misses (plan_lines unit now) misses missed
-    → Trying (plan_lines unit now) tried (line x.frame wish ∷ left) → moved unit x now misses (line x.frame wish ∷ left) (byte_of tried) ≡ place
+peeled : (unit : ℕ) (plan : Plan) (told ended missed tried : List Exchange) (now : Plan) (misses : ℕ) (x : Exchange)
+    (wish : Wish) (left : List Line) (place : Place)
+    → told ≡ (x ∷ tried) ++ (missed ++ ended) → Reaches unit plan now ended → misses < 8
+    → Misses (plan_lines unit now) misses missed
+    → Trying (plan_lines unit now) tried (line x.frame wish ∷ left)
+    → moved unit x now misses (line x.frame wish ∷ left) (byte_of tried) ≡ place
     → Peeled unit plan told place
-peeled unit plan told ended missed tried (Finish verdict) misses x wish left place parts reaches few are try leads = absurd (none_left tried (line x.frame wish) left try)
+peeled unit plan told ended missed tried (Finish verdict) misses x wish left place parts reaches few are try leads =
+    absurd (none_left tried (line x.frame wish) left try)
 peeled unit plan told ended missed tried (Check step after) misses x wish left place parts reaches few are try leads =
     record {
       newest = x;
@@ -119,74 +132,94 @@ peeled unit plan told ended missed tried (Check step after) misses x wish left p
         misses_are = are;
         try = try;
         byte_is = refl;
-        going = tt;
+        going = refl;
       };
       sends = refl;
       leads = leads;
     }
 
 -- the first part of the newer exchanges, and then the rest of them before the older ones
-regroup : (told newer older ended first : List Exchange) → told ≡ newer ++ ended → newer ≡ first ++ older → told ≡ first ++ (older ++ ended)
-regroup told newer older ended first parts is = parts ∙ ap (λ (t : List Exchange). t ++ ended) is ∙ append_assoc first older ended
+regroup : (told newer older ended first : List Exchange) → told ≡ newer ++ ended → newer ≡ first ++ older
+    → told ≡ first ++ (older ++ ended)
+regroup told newer older ended first parts is =
+    parts ∙ ap (λ (t : List Exchange). t ++ ended) is ∙ append_assoc first older ended
 
 -- the newest exchange is the miss of a try
 peel_miss : (unit : ℕ) (plan : Plan) (told newer older ended : List Exchange) (now : Plan) (misses : ℕ)
-    → told ≡ newer ++ (older ++ ended) → Reaches unit plan now ended → misses < 8 → Misses (plan_lines unit now) misses older → Missed (plan_lines unit now) newer
+    → told ≡ newer ++ (older ++ ended) → Reaches unit plan now ended → misses < 8
+    → Misses (plan_lines unit now) misses older → Missed (plan_lines unit now) newer
     → Peeled unit plan told (missed_then unit now misses)
 peel_miss unit plan told [] older ended now misses parts reaches few are missed = absurd missed
 peel_miss unit plan told (x ∷ tried) older ended now misses parts reaches few are missed =
-    peeled unit plan told ended older tried now misses x missed.0 missed.1 (missed_then unit now misses) parts reaches few are missed.3
+    peeled unit plan told ended older tried now misses x missed.0 missed.1 (missed_then unit now misses) parts reaches
+    few are missed.3
     (rw (misses_is missed.0 x.answer missed.2) refl)
 
 -- the newest exchange is the last of a try that came to its end
-peel_end : (unit : ℕ) (plan : Plan) (told newer older ended : List Exchange) (step : Step) (after : Option ℕ → Plan) (misses : ℕ)
-    → told ≡ newer ++ (older ++ ended) → Reaches unit plan (Check step after) ended → misses < 8 → Misses (step_lines unit step) misses older
+peel_end : (unit : ℕ) (plan : Plan) (told newer older ended : List Exchange) (step : Step) (after : Option ℕ → Plan)
+    (misses : ℕ)
+    → told ≡ newer ++ (older ++ ended) → Reaches unit plan (Check step after) ended → misses < 8
+    → Misses (step_lines unit step) misses older
     → Trying (step_lines unit step) newer [] → Peeled unit plan told (begins unit (after (byte_of newer)) 0)
 peel_end unit plan told [] older ended step after misses parts reaches few are try = absurd (some_lines unit step try)
 peel_end unit plan told (x ∷ tried) older ended step after misses parts reaches few are try =
-    peeled unit plan told ended older tried (Check step after) misses x try.0 [] (begins unit (after (byte_of (x ∷ tried))) 0) parts reaches few are try.2
+    peeled unit plan told ended older tried (Check step after) misses x try.0 []
+    (begins unit (after (byte_of (x ∷ tried))) 0) parts reaches few are try.2
     (rw (meets_is try.0 x.answer try.1) refl)
 
 -- the newest exchange is the last of a whole step
 peel_step : (unit : ℕ) (plan : Plan) (told newer ended : List Exchange) (now : Plan) (outcome : Option ℕ)
-    → told ≡ newer ++ ended → Reaches unit plan now ended → StepEnds unit now outcome newer → Peeled unit plan told (begins unit (goes_on now outcome) 0)
+    → told ≡ newer ++ ended → Reaches unit plan now ended → StepEnds unit now outcome newer
+    → Peeled unit plan told (begins unit (goes_on now outcome) 0)
 peel_step unit plan told newer ended (Finish verdict) outcome parts reaches ends = absurd ends
 peel_step unit plan told newer ended (Check step after) outcome parts reaches (inl done) =
     subst (λ (o : Option ℕ). Peeled unit plan told (begins unit (after o) 0)) (sym done.5)
-    (peel_end unit plan told done.0 done.1 ended step after done.2 (regroup told newer done.1 ended done.0 parts done.3) reaches done.6 done.7 done.4)
+    (peel_end unit plan told done.0 done.1 ended step after done.2 (regroup told newer done.1 ended done.0 parts done.3)
+    reaches done.6 done.7 done.4)
 peel_step unit plan told newer ended (Check step after) outcome parts reaches (inr failed) =
     let are = failed.1 in
     subst (λ (o : Option ℕ). Peeled unit plan told (begins unit (after o) 0)) (sym failed.0)
-    (peel_miss unit plan told are.0 are.1 ended (Check step after) 7 (regroup told newer are.1 ended are.0 parts are.2) reaches (omega arith) are.4 are.3)
+    (peel_miss unit plan told are.0 are.1 ended (Check step after) 7 (regroup told newer are.1 ended are.0 parts are.2)
+    reaches (omega arith) are.4 are.3)
 
 -- no try of a step is at hand
 peel_ended : (unit : ℕ) (plan : Plan) (told ended : List Exchange) (now : Plan) (outcomes : List (Option ℕ))
-    → told ≡ ended → StepsEnd unit plan outcomes ended → plan_after plan outcomes ≡ now → Peels unit plan told (begins unit now 0)
+    → told ≡ ended → StepsEnd unit plan outcomes ended → plan_after plan outcomes ≡ now
+    → Peels unit plan told (begins unit now 0)
 peel_ended unit plan told ended now [] parts steps is = inl (parts ∙ steps, ap (λ (p : Plan). begins unit p 0) is)
 peel_ended unit plan told ended now (outcome ∷ outcomes) parts steps is =
     inr (subst (λ (p : Plan). Peeled unit plan told (begins unit p 0)) is
-    (peel_step unit plan told steps.0 steps.1 (plan_after plan outcomes) outcome (parts ∙ steps.2) (outcomes, steps.4, refl) steps.3))
+    (peel_step unit plan told steps.0 steps.1 (plan_after plan outcomes) outcome (parts ∙ steps.2)
+    (outcomes, steps.4, refl) steps.3))
 
 -- the try at hand is at its first frame
 peel_misses : (unit : ℕ) (plan : Plan) (told missed ended : List Exchange) (now : Plan) (misses : ℕ)
-    → told ≡ missed ++ ended → Reaches unit plan now ended → misses < 8 → Misses (plan_lines unit now) misses missed → Peels unit plan told (begins unit now misses)
+    → told ≡ missed ++ ended → Reaches unit plan now ended → misses < 8 → Misses (plan_lines unit now) misses missed
+    → Peels unit plan told (begins unit now misses)
 peel_misses unit plan told missed ended now zero parts reaches few are =
-    peel_ended unit plan told ended now reaches.0 (parts ∙ ap (λ (t : List Exchange). t ++ ended) are) reaches.1 reaches.2
+    peel_ended unit plan told ended now reaches.0 (parts ∙ ap (λ (t : List Exchange). t ++ ended) are)
+    reaches.1 reaches.2
 peel_misses unit plan told missed ended now (suc misses) parts reaches few are =
     let another : missed_then unit now misses ≡ begins unit now (suc misses) = rw (lt-ltb (suc misses) 8 few) refl in
     inr (subst (λ (p : Place). Peeled unit plan told p) another
-    (peel_miss unit plan told are.0 are.1 ended now misses (regroup told missed are.1 ended are.0 parts are.2) reaches (omega arith) are.4 are.3))
+    (peel_miss unit plan told are.0 are.1 ended now misses (regroup told missed are.1 ended are.0 parts are.2) reaches
+    (omega arith) are.4 are.3))
 
 -- the frame at hand was not the last of its try
-goes_right : (unit : ℕ) (now : Plan) (misses : ℕ) (left : List Line) (byte : Option ℕ) (tried : List Exchange) (next : Line) → GoesOn now left
-    → Trying (plan_lines unit now) tried (next ∷ left) → met_then unit now misses left byte ≡ record { now = now; misses = misses; left = left; byte = byte }
+goes_right : (unit : ℕ) (now : Plan) (misses : ℕ) (left : List Line) (byte : Option ℕ) (tried : List Exchange)
+    (next : Line)
+    → GoesOn now left
+    → Trying (plan_lines unit now) tried (next ∷ left)
+    → met_then unit now misses left byte ≡ record { now = now; misses = misses; left = left; byte = byte }
 goes_right unit (Finish verdict) misses left byte tried next going try = absurd (none_left tried next left try)
-goes_right unit (Check step after) misses [] byte tried next going try = absurd going
+goes_right unit (Check step after) misses [] byte tried next going try = cc
 goes_right unit (Check step after) misses (second ∷ left) byte tried next going try = refl
 
 -- the newest exchange is of the try at hand, or that is at its first frame
-peel_try : (unit : ℕ) (plan : Plan) (told ended missed tried : List Exchange) (now : Plan) (misses : ℕ) (left : List Line) (byte : Option ℕ)
-    → told ≡ tried ++ (missed ++ ended) → Reaches unit plan now ended → misses < 8 → Misses (plan_lines unit now) misses missed
+peel_try : (unit : ℕ) (plan : Plan) (told ended missed tried : List Exchange) (now : Plan) (misses : ℕ)
+    (left : List Line) (byte : Option ℕ)
+    → told ≡ tried ++ (missed ++ ended) → Reaches unit plan now ended → misses < 8
+    → Misses (plan_lines unit now) misses missed
     → Trying (plan_lines unit now) tried left → byte_of tried ≡ byte → GoesOn now left
     → Peels unit plan told (record { now = now; misses = misses; left = left; byte = byte })
 peel_try unit plan told ended missed [] now misses left byte parts reaches few are try is going =
@@ -194,17 +227,21 @@ peel_try unit plan told ended missed [] now misses left byte parts reaches few a
 peel_try unit plan told ended missed (x ∷ tried) now misses left byte parts reaches few are try is going =
     let met : is_met try.0 x.answer ≡ true = meets_is try.0 x.answer try.1 in
     let right = goes_right unit now misses left byte tried (line x.frame try.0) going try.2 in
-    inr (peeled unit plan told ended missed tried now misses x try.0 left (record { now = now; misses = misses; left = left; byte = byte }) parts reaches few are try.2
+    inr (peeled unit plan told ended missed tried now misses x try.0 left
+    (record { now = now; misses = misses; left = left; byte = byte }) parts reaches few are try.2
     (rw (met, is) right))
 
 -- The newest exchange, peeled off.
 peel : (unit : ℕ) (plan : Plan) (told : List Exchange) (now : Plan) (misses : ℕ) (left : List Line) (byte : Option ℕ)
-    → Stands unit plan told now misses left byte → Peels unit plan told (record { now = now; misses = misses; left = left; byte = byte })
+    → Stands unit plan told now misses left byte
+    → Peels unit plan told (record { now = now; misses = misses; left = left; byte = byte })
 peel unit plan told now misses left byte s =
-    peel_try unit plan told s.ended s.missed s.tried now misses left byte s.parts (s.outcomes, s.steps, s.now_is) s.few s.misses_are s.try s.byte_is s.going
+    peel_try unit plan told s.ended s.missed s.tried now misses left byte s.parts (s.outcomes, s.steps, s.now_is) s.few
+    s.misses_are s.try s.byte_is s.going
 
 -- so there is one place alone
-place_is : (unit : ℕ) (plan : Plan) (told : List Exchange) (place : Place) → Peels unit plan told place → place_after unit plan told ≡ place
+place_is : (unit : ℕ) (plan : Plan) (told : List Exchange) (place : Place) → Peels unit plan told place
+    → place_after unit plan told ≡ place
 place_is unit plan [] place (inl first) = first.1
 place_is unit plan [] place (inr p) = let no = p.told_is in cc
 place_is unit plan (x ∷ told) place (inl first) = let no = first.0 in cc
@@ -212,25 +249,34 @@ place_is unit plan (x ∷ told) place (inr p) =
     let is = p.told_is in
     let newest : x ≡ p.newest = cc in
     let older : p.older ≡ told = cc in
-    let before = subst (λ (t : List Exchange). Stands unit plan t p.now p.misses (line p.newest.frame p.wish ∷ p.left) p.byte) older p.before in
-    let same = place_is unit plan told _ (peel unit plan told p.now p.misses (line p.newest.frame p.wish ∷ p.left) p.byte before) in
+    let before =
+    subst (λ (t : List Exchange). Stands unit plan t p.now p.misses (line p.newest.frame p.wish ∷ p.left) p.byte)
+    older p.before in
+    let same =
+    place_is unit plan told _
+    (peel unit plan told p.now p.misses (line p.newest.frame p.wish ∷ p.left) p.byte before) in
     ap (λ (at : Place). moved unit x at.now at.misses at.left at.byte) same
     ∙ ap (λ (y : Exchange). moved unit y p.now p.misses (line p.newest.frame p.wish ∷ p.left) p.byte) newest ∙ p.leads
 
 -- what is wanted at a place
 abbrev pub ask_from : Place → Ask
-ask_from at = ask_at at.now at.left
+ask_from at = shown_ask at.now at.left
 
-pub ask_is : (unit : ℕ) (plan : Plan) (told : List Exchange) (ask : Ask) → Wants unit plan told ask → ask_from (place_after unit plan told) ≡ ask
+pub ask_is : (unit : ℕ) (plan : Plan) (told : List Exchange) (ask : Ask) → Wants unit plan told ask
+    → ask_from (place_after unit plan told) ≡ ask
 ask_is unit plan told ask w =
-    ap ask_from (place_is unit plan told _ (peel unit plan told w.now w.misses w.left w.byte w.stands)) ∙ w.ask_is
+    ap ask_from (place_is unit plan told _ (peel unit plan told w.now w.misses w.left w.byte w.stands))
+    ∙ ask_shown w.now w.left w.stands.going ∙ w.ask_is
 
 -- so one thing alone is wanted
-pub wants_one : (told : List Exchange) (unit : ℕ) (plan : Plan) (one other : Ask) → Wants unit plan told one → Wants unit plan told other → one ≡ other
-wants_one told unit plan one other first second = sym (ask_is unit plan told one first) ∙ ask_is unit plan told other second
+pub wants_one : (told : List Exchange) (unit : ℕ) (plan : Plan) (one other : Ask) → Wants unit plan told one
+    → Wants unit plan told other → one ≡ other
+wants_one told unit plan one other first second =
+    sym (ask_is unit plan told one first) ∙ ask_is unit plan told other second
 
 -- the newest exchange is of the frame that was wanted before it
-wanted : (unit : ℕ) (plan : Plan) (told : List Exchange) (x : Exchange) (place : Place) → Peels unit plan (x ∷ told) place → Wants unit plan told (Send x.frame)
+wanted : (unit : ℕ) (plan : Plan) (told : List Exchange) (x : Exchange) (place : Place)
+    → Peels unit plan (x ∷ told) place → Wants unit plan told (Send x.frame)
 wanted unit plan told x place (inl first) = let no = first.0 in cc
 wanted unit plan told x place (inr p) =
     let is = p.told_is in
@@ -238,7 +284,16 @@ wanted unit plan told x place (inr p) =
     let older : p.older ≡ told = cc in
     subst (λ (y : Exchange). Wants unit plan told (Send y.frame)) newest
     (subst (λ (t : List Exchange). Wants unit plan t (Send p.newest.frame)) older
-    (record { now = p.now; misses = p.misses; left = line p.newest.frame p.wish ∷ p.left; byte = p.byte; stands = p.before; ask_is = p.sends }))
+    (record {
+      now = p.now;
+      misses = p.misses;
+      left = line p.newest.frame p.wish ∷ p.left;
+      byte = p.byte;
+      stands = p.before;
+      ask_is = sym (ask_shown p.now (line p.newest.frame p.wish ∷ p.left) p.before.going) ∙ p.sends;
+    }))
 
-pub frame_wanted : (told : List Exchange) (x : Exchange) (unit : ℕ) (plan : Plan) (ask : Ask) → Wants unit plan (x ∷ told) ask → Wants unit plan told (Send x.frame)
-frame_wanted told x unit plan ask w = wanted unit plan told x _ (peel unit plan (x ∷ told) w.now w.misses w.left w.byte w.stands)
+pub frame_wanted : (told : List Exchange) (x : Exchange) (unit : ℕ) (plan : Plan) (ask : Ask)
+    → Wants unit plan (x ∷ told) ask → Wants unit plan told (Send x.frame)
+frame_wanted told x unit plan ask w =
+    wanted unit plan told x _ (peel unit plan (x ∷ told) w.now w.misses w.left w.byte w.stands)

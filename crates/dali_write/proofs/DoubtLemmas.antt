@@ -1,5 +1,6 @@
 -- A session ends in doubt only because a step failed, or because a read found another byte.
-use Rattle.std.proofs.Common.{◌≡◌, ◌≢◌, ◌⊎◌, inl, inr, refl, sym, ap, ◌∙◌, ℕ, suc, Bool, true, false, ◌==◌, if◌then◌else◌, List, [], ◌∷◌, ◌++◌, append_assoc, append-nil, Option, Some, None, arith}
+use Rattle.std.proofs.Common.{◌≡◌, ◌≢◌, ◌⊎◌, inl, inr, refl, sym, ap, ◌∙◌, ℕ, suc, Bool, true, false, ◌==◌}
+use Rattle.std.proofs.Common.{if◌then◌else◌, List, [], ◌∷◌, ◌++◌, append_assoc, append-nil, Option, Some, None, arith}
 use Rattle.std.specs.List.{Contains}
 use Rattle.std.proofs.lemmas.Bool.{eq-eqb}
 use Rattle.dali_write.specs.Exchanges.{Exchange}
@@ -8,7 +9,8 @@ use Rattle.dali_write.specs.declared.step.Step.TheVariants.{ReadFrom, WriteTo}
 use Rattle.dali_write.specs.declared.ask.Verdict.TheVariants.{Doubt}
 use Rattle.dali_write.specs.declared.ask.Ask.TheVariants.{Ended}
 use Rattle.dali_write.specs.Lines.{read_lines}
-use Rattle.dali_write.specs.Plans.{Plan, Finish, Check, either_way, give_up, expect, read_back, read_lock, write_on, unlock}
+use Rattle.dali_write.specs.Plans.{Plan, Finish, Check, either_way, give_up, expect, read_back, read_lock, write_on}
+use Rattle.dali_write.specs.Plans.{unlock}
 use Rattle.dali_write.specs.Tries.{Succeeds, StepEnds, Wants}
 use Rattle.dali_write.specs.Walks.{Walk}
 use Rattle.dali_write.specs.Doubts.{HasFailed, read_backs, FoundAnother}
@@ -21,10 +23,13 @@ Cause unit plan expected told = HasFailed unit told ⊎ FoundAnother unit plan e
 
 -- each walk of the plan that ended in doubt has a cause
 abbrev HasCause : ℕ → Plan → List (ℕ × ℕ) → Type 0
-HasCause unit plan expected = (outcomes : List (Option ℕ)) (told : List Exchange) → Walk unit plan outcomes told (Finish Doubt) → Cause unit plan expected told
+HasCause unit plan expected =
+    (outcomes : List (Option ℕ)) (told : List Exchange) → Walk unit plan outcomes told (Finish Doubt)
+    → Cause unit plan expected told
 
 -- the first step failed
-failed_first : (unit : ℕ) (step : Step) (after : Option ℕ → Plan) (expected : List (ℕ × ℕ)) (outcomes : List (Option ℕ)) (told : List Exchange)
+failed_first : (unit : ℕ) (step : Step) (after : Option ℕ → Plan) (expected : List (ℕ × ℕ)) (outcomes : List (Option ℕ))
+    (told : List Exchange)
     → Walk unit (Check step after) (None ∷ outcomes) told (Finish Doubt) → Cause unit (Check step after) expected told
 failed_first unit step after expected outcomes told walk =
     inl record {
@@ -32,17 +37,24 @@ failed_first unit step after expected outcomes told walk =
       before = walk.1;
       parts = walk.2;
       step = step;
-      failure = record { tries = walk.1; older = []; parts = sym (append-nil walk.1); missed = all_missed unit step after walk.1 walk.3 };
+      failure = record {
+        tries = walk.1;
+        older = [];
+        parts = sym (append-nil walk.1);
+        missed = all_missed unit step after walk.1 walk.3;
+      };
     }
 
 append_twice : (a b c d : List Exchange) → (a ++ (b ++ c)) ++ d ≡ a ++ (b ++ (c ++ d))
 append_twice a b c d = append_assoc a (b ++ c) d ∙ ap (λ (t : List Exchange). a ++ t) (append_assoc b c d)
 
 -- the cause came after the first step
-cause_later : (unit : ℕ) (step : Step) (after : Option ℕ → Plan) (expected : List (ℕ × ℕ)) (outcome : Option ℕ) (outcomes : List (Option ℕ)) (told : List Exchange)
+cause_later : (unit : ℕ) (step : Step) (after : Option ℕ → Plan) (expected : List (ℕ × ℕ)) (outcome : Option ℕ)
+    (outcomes : List (Option ℕ)) (told : List Exchange)
     (walk : Walk unit (Check step after) (outcome ∷ outcomes) told (Finish Doubt))
     → Cause unit (after outcome) expected walk.0 → Cause unit (Check step after) expected told
-cause_later unit step after expected outcome outcomes told walk (inl f) = inl (failed_joined unit told walk.0 walk.1 walk.2 f)
+cause_later unit step after expected outcome outcomes told walk (inl f) =
+    inl (failed_joined unit told walk.0 walk.1 walk.2 f)
 cause_later unit step after expected outcome outcomes told walk (inr f) =
     inr record {
       newer = f.newer;
@@ -63,16 +75,19 @@ cause_later unit step after expected outcome outcomes told walk (inr f) =
     }
 
 -- a step with an outcome succeeded
-was_answered : (unit location found : ℕ) (after : Option ℕ → Plan) (told : List Exchange) → StepEnds unit (Check (ReadFrom location) after) (Some found) told
+was_answered : (unit location found : ℕ) (after : Option ℕ → Plan) (told : List Exchange)
+    → StepEnds unit (Check (ReadFrom location) after) (Some found) told
     → Succeeds (read_lines unit location) (Some found) told
 was_answered unit location found after told (inl done) = done
 was_answered unit location found after told (inr failed) = let never = failed.0 in cc
 
 -- a read of a location that must hold the byte
-expect_cause : (unit location byte : ℕ) (after : Plan) (expected : List (ℕ × ℕ)) → Contains expected (location, byte) → HasCause unit after expected
+expect_cause : (unit location byte : ℕ) (after : Plan) (expected : List (ℕ × ℕ)) → Contains expected (location, byte)
+    → HasCause unit after expected
     → HasCause unit (expect location byte after) expected
 expect_cause unit location byte after expected is rest [] told walk = let differs = walk.1 in cc
-expect_cause unit location byte after expected is rest (None ∷ outcomes) told walk = failed_first unit (ReadFrom location) _ expected outcomes told walk
+expect_cause unit location byte after expected is rest (None ∷ outcomes) told walk =
+    failed_first unit (ReadFrom location) _ expected outcomes told walk
 expect_cause unit location byte after expected is rest (Some found ∷ outcomes) told walk =
     finish (by (found == byte) refl walk.4)
   where
@@ -80,12 +95,15 @@ expect_cause unit location byte after expected is rest (Some found ∷ outcomes)
     reads = either_way give_up (λ f. if f == byte then after else give_up)
 
     -- it went on, or gave up because the byte was another
-    by : (t : Bool) → (found == byte) ≡ t → (on : Walk unit (if t then after else give_up) outcomes walk.0 (Finish Doubt))
-        → Cause unit (if t then after else give_up) expected walk.0 ⊎ ((found ≢ byte) × Walk unit give_up outcomes walk.0 (Finish Doubt))
+    by : (t : Bool) → (found == byte) ≡ t
+        → (on : Walk unit (if t then after else give_up) outcomes walk.0 (Finish Doubt))
+        → Cause unit (if t then after else give_up) expected walk.0
+        ⊎ ((found ≢ byte) × Walk unit give_up outcomes walk.0 (Finish Doubt))
     by true same on = inl (rest outcomes walk.0 on)
     by false same on = inr (λ e. let equal = eq-eqb found byte e in cc, on)
 
-    finish : Cause unit (if found == byte then after else give_up) expected walk.0 ⊎ ((found ≢ byte) × Walk unit give_up outcomes walk.0 (Finish Doubt))
+    finish : Cause unit (if found == byte then after else give_up) expected walk.0
+        ⊎ ((found ≢ byte) × Walk unit give_up outcomes walk.0 (Finish Doubt))
         → Cause unit (expect location byte after) expected told
     finish (inl cause) = cause_later unit (ReadFrom location) reads expected (Some found) outcomes told walk cause
     finish (inr differs) =
@@ -113,7 +131,8 @@ head_in x xs = (0, omega arith, refl)
 tail_in : (y x : ℕ × ℕ) (xs : List (ℕ × ℕ)) → Contains xs x → Contains (y ∷ xs) x
 tail_in y x xs is = (suc is.0, (let low = is.1 in omega arith), is.2)
 
-read_back_cause : (unit : ℕ) (expected updates : List (ℕ × ℕ)) → ((update : ℕ × ℕ) → Contains updates update → Contains expected update)
+read_back_cause : (unit : ℕ) (expected updates : List (ℕ × ℕ))
+    → ((update : ℕ × ℕ) → Contains updates update → Contains expected update)
     → HasCause unit (read_back updates) expected
 read_back_cause unit expected [] all [] told walk = let differs = walk.1 in cc
 read_back_cause unit expected [] all (o ∷ outcomes) told walk = absurd walk.3
@@ -130,18 +149,23 @@ read_lock_cause unit updates =
 write_cause : (unit location byte : ℕ) (after : Plan) (expected : List (ℕ × ℕ)) → HasCause unit after expected
     → HasCause unit (Check (WriteTo location byte) (either_way give_up (λ b. after))) expected
 write_cause unit location byte after expected rest [] told walk = let differs = walk.1 in cc
-write_cause unit location byte after expected rest (None ∷ outcomes) told walk = failed_first unit (WriteTo location byte) _ expected outcomes told walk
+write_cause unit location byte after expected rest (None ∷ outcomes) told walk =
+    failed_first unit (WriteTo location byte) _ expected outcomes told walk
 write_cause unit location byte after expected rest (Some b ∷ outcomes) told walk =
     cause_later unit (WriteTo location byte) _ expected (Some b) outcomes told walk (rest outcomes walk.0 walk.4)
 
 write_on_cause : (unit : ℕ) (updates left : List (ℕ × ℕ)) → HasCause unit (write_on updates left) (read_backs updates)
-write_on_cause unit updates [] = write_cause unit 2 0xFF (read_lock updates) (read_backs updates) (read_lock_cause unit updates)
+write_on_cause unit updates [] =
+    write_cause unit 2 0xFF (read_lock updates) (read_backs updates) (read_lock_cause unit updates)
 write_on_cause unit updates (update ∷ left) =
     write_cause unit update.0 update.1 (write_on updates left) (read_backs updates) (write_on_cause unit updates left)
 
 unlock_cause : (unit : ℕ) (updates : List (ℕ × ℕ)) → HasCause unit (unlock updates) (read_backs updates)
-unlock_cause unit updates = write_cause unit 2 0x55 (write_on updates updates) (read_backs updates) (write_on_cause unit updates updates)
+unlock_cause unit updates =
+    write_cause unit 2 0x55 (write_on updates updates) (read_backs updates) (write_on_cause unit updates updates)
 
-pub doubt_cause : (told : List Exchange) (unit : ℕ) (updates : List (ℕ × ℕ)) → Wants unit (unlock updates) told (Ended Doubt)
+pub doubt_cause : (told : List Exchange) (unit : ℕ) (updates : List (ℕ × ℕ))
+    → Wants unit (unlock updates) told (Ended Doubt)
     → HasFailed unit told ⊎ FoundAnother unit (unlock updates) (read_backs updates) told
-doubt_cause told unit updates wants = let walk = ended_walk unit (unlock updates) told Doubt wants in unlock_cause unit updates walk.0 told walk.1
+doubt_cause told unit updates wants =
+    let walk = ended_walk unit (unlock updates) told Doubt wants in unlock_cause unit updates walk.0 told walk.1

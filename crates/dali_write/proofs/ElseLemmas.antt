@@ -1,9 +1,11 @@
 -- What becomes of the other units while a session is at work with one.
-use Rattle.std.proofs.Common.{◌≡◌, ◌≢◌, inl, inr, refl, sym, ap, subst, ◌∙◌, ℕ, Bool, true, false, List, [], ◌∷◌, map, Some}
+use Rattle.std.proofs.Common.{◌≡◌, ◌≢◌, inl, inr, refl, sym, ap, subst, ◌∙◌, ℕ, Bool, true, false, List, [], ◌∷◌, map}
+use Rattle.std.proofs.Common.{Some}
 use Rattle.std.specs.Prelude.{◌==◌, if◌then◌else◌}
 use Rattle.std.proofs.lemmas.Bool.{eqb-false, ne_eqb}
 use Rattle.dali_frame.specs.declared.forward.Frame.{Frame}
-use Rattle.dali_frame.specs.declared.forward.Frame.TheVariants.{Dtr0, Dtr1, Dtr2, Write, WriteSilent, Enable, AskDtr0, AskDtr1, AskDtr2, Read, Other}
+use Rattle.dali_frame.specs.declared.forward.Frame.TheVariants.{Dtr0, Dtr1, Dtr2, Write, WriteSilent, Enable, AskDtr0}
+use Rattle.dali_frame.specs.declared.forward.Frame.TheVariants.{AskDtr1, AskDtr2, Read, Other}
 use Rattle.dali_gear.specs.declared.fate.Fate.{Fate}
 use Rattle.dali_gear.specs.Fate.{is_lost, next_fate}
 use Rattle.dali_gear.specs.World.{Gear}
@@ -27,7 +29,8 @@ use Rattle.dali_write.proofs.DeterminedLemmas.{frame_wanted}
 use Rattle.dali_write.proofs.AloneLemmas.{alone_of}
 
 -- a frame that is meant for another unit changes no bank of a unit that isn't enabled
-else_bank : (refuses : Bool) (at : ℕ) (unit : UnitState) (frame : Frame) → IsFor at frame → unit.address ≢ at → unit.enabled ≡ false → (after_frame refuses unit frame).bank1 ≡ unit.bank1
+else_bank : (refuses : Bool) (at : ℕ) (unit : UnitState) (frame : Frame) → IsFor at frame → unit.address ≢ at
+    → unit.enabled ≡ false → (after_frame refuses unit frame).bank1 ≡ unit.bank1
 else_bank refuses at unit (Dtr0 b) is other off = refl
 else_bank refuses at unit (Dtr1 b) is other off = refl
 else_bank refuses at unit (Dtr2 b) is other off = refl
@@ -40,34 +43,44 @@ else_bank refuses at unit (AskDtr2 to) is other off = refl
 else_bank refuses at unit (Read to) is other off = rw (ne_eqb to unit.address (λ e. other (sym e ∙ is))) refl
 else_bank refuses at unit (Other w) is other off = refl
 
-fate_bank : (fate : Fate) (at : ℕ) (unit : UnitState) (frame : Frame) → IsFor at frame → IsElse at unit → (unit_after fate frame unit).bank1 ≡ unit.bank1
+fate_bank : (fate : Fate) (at : ℕ) (unit : UnitState) (frame : Frame) → IsFor at frame → IsElse at unit
+    → (unit_after fate frame unit).bank1 ≡ unit.bank1
 fate_bank fate at unit frame is other = by (is_lost fate unit.address)
   where
     by : (b : Bool) → (if b then unit else after_frame fate.refuse unit frame).bank1 ≡ unit.bank1
     by true = refl
     by false = else_bank fate.refuse at unit frame is other.0 other.1
 
-all_banks : (fate : Fate) (at address : ℕ) (bank : BankState) (units : List UnitState) (frame : Frame) → IsFor at frame → AllElse at units → HasBank address bank units
+all_banks : (fate : Fate) (at address : ℕ) (bank : BankState) (units : List UnitState) (frame : Frame) → IsFor at frame
+    → AllElse at units → HasBank address bank units
     → HasBank address bank (map (unit_after fate frame) units)
 all_banks fate at address bank [] frame is all has = absurd has
-all_banks fate at address bank (unit ∷ units) frame is all (inl here) = inl (fate_keeps fate frame unit ∙ here.0, fate_bank fate at unit frame is all.0 ∙ here.1)
-all_banks fate at address bank (unit ∷ units) frame is all (inr later) = inr (all_banks fate at address bank units frame is all.1 later)
+all_banks fate at address bank (unit ∷ units) frame is all (inl here) =
+    inl (fate_keeps fate frame unit ∙ here.0, fate_bank fate at unit frame is all.0 ∙ here.1)
+all_banks fate at address bank (unit ∷ units) frame is all (inr later) =
+    inr (all_banks fate at address bank units frame is all.1 later)
 
-bank_after : (fate : Fate) (at address : ℕ) (bank : BankState) (unit : UnitState) (units : List UnitState) (frame : Frame) → IsFor at frame → address ≢ at → IsAlone at unit units
+bank_after : (fate : Fate) (at address : ℕ) (bank : BankState) (unit : UnitState) (units : List UnitState)
+    (frame : Frame)
+    → IsFor at frame → address ≢ at → IsAlone at unit units
     → HasBank address bank units → HasBank address bank (map (unit_after fate frame) units)
 bank_after fate at address bank unit [] frame is other alone has = absurd alone
-bank_after fate at address bank unit (first ∷ units) frame is other (inl mine) (inl here) = absurd (other (sym here.0 ∙ ap (λ (u : UnitState). u.address) mine.0 ∙ mine.1))
-bank_after fate at address bank unit (first ∷ units) frame is other (inl mine) (inr later) = inr (all_banks fate at address bank units frame is mine.2 later)
+bank_after fate at address bank unit (first ∷ units) frame is other (inl mine) (inl here) =
+    absurd (other (sym here.0 ∙ ap (λ (u : UnitState). u.address) mine.0 ∙ mine.1))
+bank_after fate at address bank unit (first ∷ units) frame is other (inl mine) (inr later) =
+    inr (all_banks fate at address bank units frame is mine.2 later)
 bank_after fate at address bank unit (first ∷ units) frame is other (inr further) (inl here) =
     inl (fate_keeps fate frame first ∙ here.0, fate_bank fate at first frame is further.0 ∙ here.1)
-bank_after fate at address bank unit (first ∷ units) frame is other (inr further) (inr later) = inr (bank_after fate at address bank unit units frame is other further.1 later)
+bank_after fate at address bank unit (first ∷ units) frame is other (inr further) (inr later) =
+    inr (bank_after fate at address bank unit units frame is other further.1 later)
 
 -- all of the frames are meant for the unit
 abbrev AllAre : ℕ → List Exchange → Type 0
 AllAre at [] = Unit {0}
 AllAre at (x ∷ told) = IsFor at x.frame × AllAre at told
 
-for_of : (at : ℕ) (writes : List (ℕ × ℕ)) (told : List Exchange) (frame : Frame) → IsGuarded writes at told frame → IsFor at frame
+for_of : (at : ℕ) (writes : List (ℕ × ℕ)) (told : List Exchange) (frame : Frame) → IsGuarded writes at told frame
+    → IsFor at frame
 for_of at writes told (Dtr0 b) guarded = tt
 for_of at writes told (Dtr1 b) guarded = tt
 for_of at writes told (AskDtr0 to) guarded = guarded
@@ -83,8 +96,10 @@ for_of at writes told (Other w) guarded = absurd guarded
 closing_all : (at : ℕ) (told : List Exchange) (ask : Ask) → Wants at (close Closed NotClosed) told ask → AllAre at told
 closing_all at [] ask wants = tt
 closing_all at (x ∷ told) ask wants =
-    let before = frame_wanted told x at (close Closed NotClosed) ask wants in
-    (for_of at ((2, 0xFF) ∷ []) told x.frame (closing_guarded told at x.frame before), closing_all at told (Send x.frame) before)
+    let before = frame_wanted told x at (close Closed NotClosed) ask wants in (
+      for_of at ((2, 0xFF) ∷ []) told x.frame (closing_guarded told at x.frame before),
+      closing_all at told (Send x.frame) before,
+    )
 
 -- along such frames
 record Along (at address : ℕ) (bank : BankState) (last : SimState) : Type 0 where
@@ -92,28 +107,40 @@ record Along (at address : ℕ) (bank : BankState) (last : SimState) : Type 0 wh
   alone : IsAlone at now last.units
   has : HasBank address bank last.units
 
-along : (at address : ℕ) (bank : BankState) (unit : UnitState) (told : List Exchange) (first last : SimState) → SimRun told first last → AllAre at told → address ≢ at
+along : (at address : ℕ) (bank : BankState) (unit : UnitState) (told : List Exchange) (first last : SimState)
+    → SimRun told first last → AllAre at told → address ≢ at
     → IsAlone at unit first.units → HasBank address bank first.units → Along at address bank last
 along at address bank unit [] first last run all other alone has =
-    record { now = unit; alone = subst (λ (s : SimState). IsAlone at unit s.units) (sym run) alone; has = subst (λ (s : SimState). HasBank address bank s.units) (sym run) has }
+    record {
+      now = unit;
+      alone = subst (λ (s : SimState). IsAlone at unit s.units) (sym run) alone;
+      has = subst (λ (s : SimState). HasBank address bank s.units) (sym run) has;
+    }
 along at address bank unit (x ∷ told) first last run all other alone has =
     let before = along at address bank unit told first run.0 run.1 all.1 other alone has in
     record {
       now = _;
       alone = alone_then at run.0 before.now x.frame x.answer last run.2 all.0 before.alone;
-      has = subst (HasBank address bank) (sym run.2.units) (bank_after (next_fate run.0.fates) at address bank before.now run.0.units x.frame all.0 other before.alone before.has);
+      has =
+          subst (HasBank address bank) (sym run.2.units) (bank_after (next_fate run.0.fates) at address bank before.now
+          run.0.units x.frame all.0 other before.alone before.has);
     }
 
-pub closing_keeps_bank : (at address : ℕ) (bank : BankState) (unit : UnitState) (told : List Exchange) (ask : Ask) (first last : SimState) → SimRun told first last
-    → Wants at (close Closed NotClosed) told ask → address ≢ at → IsAlone at unit first.units → HasBank address bank first.units → HasBank address bank last.units
+pub closing_keeps_bank : (at address : ℕ) (bank : BankState) (unit : UnitState) (told : List Exchange) (ask : Ask)
+    (first last : SimState)
+    → SimRun told first last
+    → Wants at (close Closed NotClosed) told ask → address ≢ at → IsAlone at unit first.units
+    → HasBank address bank first.units → HasBank address bank last.units
 closing_keeps_bank at address bank unit told ask first last run wants other alone has =
     (along at address bank unit told first last run (closing_all at told ask wants) other alone has).has
 
 -- units that are apart stay so
-pub run_apart : (told : List Exchange) (first last : SimState) → SimRun told first last → AreApart first.units → AreApart last.units
+pub run_apart : (told : List Exchange) (first last : SimState) → SimRun told first last → AreApart first.units
+    → AreApart last.units
 run_apart [] first last run apart = subst (λ (s : SimState). AreApart s.units) (sym run) apart
 run_apart (x ∷ told) first last run apart =
-    subst AreApart (sym run.2.units) (AreApart-map (next_fate run.0.fates) x.frame run.0.units (run_apart told first run.0 run.1 apart))
+    subst AreApart (sym run.2.units)
+    (AreApart-map (next_fate run.0.fates) x.frame run.0.units (run_apart told first run.0 run.1 apart))
 
 -- where the one isn't enabled either, none is
 all_off : (at address : ℕ) (units : List UnitState) → AllElse at units → IsOff (world_of units address)
@@ -124,43 +151,53 @@ all_off at address (unit ∷ units) all = by (address == unit.address) (all_off 
     by true rest = all.0.1
     by false rest = rest
 
-pub none_on : (at address : ℕ) (unit : UnitState) (units : List UnitState) → IsAlone at unit units → unit.enabled ≡ false → IsOff (world_of units address)
+pub none_on : (at address : ℕ) (unit : UnitState) (units : List UnitState) → IsAlone at unit units
+    → unit.enabled ≡ false → IsOff (world_of units address)
 none_on at address unit [] alone off = absurd alone
 none_on at address unit (first ∷ units) (inl here) off = by (address == first.address)
   where
     by : (b : Bool) → IsOff (if b then Some (gear_of first) else world_of units address)
     by true = ap (λ (u : UnitState). u.enabled) here.0 ∙ off
     by false = all_off at address units here.2
-none_on at address unit (first ∷ units) (inr further) off = by (address == first.address) (none_on at address unit units further.1 off)
+none_on at address unit (first ∷ units) (inr further) off =
+    by (address == first.address) (none_on at address unit units further.1 off)
   where
-    by : (b : Bool) → IsOff (world_of units address) → IsOff (if b then Some (gear_of first) else world_of units address)
+    by : (b : Bool) → IsOff (world_of units address)
+        → IsOff (if b then Some (gear_of first) else world_of units address)
     by true rest = further.0.1
     by false rest = rest
 
 -- the unit at an address, where no other is enabled
-there : (address : ℕ) (bank : BankState) (units : List UnitState) → HasBank address bank units → (gear : Gear) × (world_of units address ≡ Some gear)
+there : (address : ℕ) (bank : BankState) (units : List UnitState) → HasBank address bank units
+    → (gear : Gear) × (world_of units address ≡ Some gear)
 there address bank [] has = absurd has
 there address bank (unit ∷ units) has = by (λ later. there address bank units later) (address == unit.address) refl has
   where
-    by : (HasBank address bank units → (gear : Gear) × (world_of units address ≡ Some gear)) → (b : Bool) → (address == unit.address) ≡ b → HasBank address bank (unit ∷ units)
+    by : (HasBank address bank units → (gear : Gear) × (world_of units address ≡ Some gear)) → (b : Bool)
+        → (address == unit.address) ≡ b → HasBank address bank (unit ∷ units)
         → (gear : Gear) × (world_of (unit ∷ units) address ≡ Some gear)
     by more true e has = (gear_of unit, rw e refl)
     by more false e (inl here) = absurd (eqb-false address unit.address e (sym here.0))
     by more false e (inr later) = let rest = more later in (rest.0, rw e rest.1)
 
-not_else : {A : Type 0} (address : ℕ) (bank : BankState) (units : List UnitState) → AllElse address units → HasBank address bank units → A
+not_else : {A : Type 0} (address : ℕ) (bank : BankState) (units : List UnitState) → AllElse address units
+    → HasBank address bank units → A
 not_else address bank [] all has = absurd has
 not_else address bank (unit ∷ units) all (inl here) = absurd (all.0.0 here.0)
 not_else address bank (unit ∷ units) all (inr later) = not_else address bank units all.1 later
 
-pub same_bank : (address : ℕ) (bank : BankState) (unit : UnitState) (units : List UnitState) → IsAlone address unit units → HasBank address bank units → unit.bank1 ≡ bank
+pub same_bank : (address : ℕ) (bank : BankState) (unit : UnitState) (units : List UnitState)
+    → IsAlone address unit units → HasBank address bank units → unit.bank1 ≡ bank
 same_bank address bank unit [] alone has = absurd alone
-same_bank address bank unit (first ∷ units) (inl mine) (inl here) = ap (λ (u : UnitState). u.bank1) (sym mine.0) ∙ here.1
+same_bank address bank unit (first ∷ units) (inl mine) (inl here) =
+    ap (λ (u : UnitState). u.bank1) (sym mine.0) ∙ here.1
 same_bank address bank unit (first ∷ units) (inl mine) (inr later) = not_else address bank units mine.2 later
 same_bank address bank unit (first ∷ units) (inr further) (inl here) = absurd (further.0.0 here.0)
-same_bank address bank unit (first ∷ units) (inr further) (inr later) = same_bank address bank unit units further.1 later
+same_bank address bank unit (first ∷ units) (inr further) (inr later) =
+    same_bank address bank unit units further.1 later
 
-pub alone_with : (address : ℕ) (bank : BankState) (units : List UnitState) → AreApart units → OnlyEnabled address (world_of units) → HasBank address bank units
+pub alone_with : (address : ℕ) (bank : BankState) (units : List UnitState) → AreApart units
+    → OnlyEnabled address (world_of units) → HasBank address bank units
     → (unit : UnitState) × IsAlone address unit units × (unit.bank1 ≡ bank)
 alone_with address bank units apart only has =
     let gear = there address bank units has in

@@ -14,12 +14,15 @@ exchange frame answer = record { frame = frame; answer = answer }
 
 -- four exchanges that select
 pub selects_by : (unit location : ℕ) (one three : Option ℕ) (older : List Exchange)
-    → Selects unit location (exchange (AskDtr0 unit) (Some location) ∷ exchange (Dtr0 location) three ∷ exchange (AskDtr1 unit) (Some 1) ∷ exchange (Dtr1 1) one ∷ older)
-selects_by unit location one three older = (_ ∷ _ ∷ _ ∷ _ ∷ [], older, refl, (Exactly location, refl, (Nothing, tt, (Exactly 1, refl, (Nothing, tt, refl)))))
+    → Selects unit location (exchange (AskDtr0 unit) (Some location) ∷ exchange (Dtr0 location) three
+    ∷ exchange (AskDtr1 unit) (Some 1) ∷ exchange (Dtr1 1) one ∷ older)
+selects_by unit location one three older =
+    (_ ∷ _ ∷ _ ∷ _ ∷ [], older, refl, (Exactly location, refl, (Nothing, tt, (Exactly 1, refl, (Nothing, tt, refl)))))
 
 -- five that are a checked read
 pub reads_by : (unit location byte : ℕ) (one three : Option ℕ) (older : List Exchange) → EndsInRead unit location byte
-    (exchange (Read unit) (Some byte) ∷ exchange (AskDtr0 unit) (Some location) ∷ exchange (Dtr0 location) three ∷ exchange (AskDtr1 unit) (Some 1) ∷ exchange (Dtr1 1) one ∷ older)
+    (exchange (Read unit) (Some byte) ∷ exchange (AskDtr0 unit) (Some location) ∷ exchange (Dtr0 location) three
+    ∷ exchange (AskDtr1 unit) (Some 1) ∷ exchange (Dtr1 1) one ∷ older)
 reads_by unit location byte one three older = (
   _ ∷ _ ∷ _ ∷ _ ∷ _ ∷ [],
   older,
@@ -40,7 +43,8 @@ pub record EndsSelecting (unit location : ℕ) (told : List Exchange) : Type 0 w
   pub got3 : Got x3 (Dtr0 location) Nothing
   pub got4 : Got x4 (AskDtr0 unit) (Exactly location)
 
-pub ends_selecting : (unit location : ℕ) (told : List Exchange) → Selects unit location told → EndsSelecting unit location told
+pub ends_selecting : (unit location : ℕ) (told : List Exchange) → Selects unit location told
+    → EndsSelecting unit location told
 ends_selecting unit location told selects =
     let s = selected unit location selects.0 selects.3 in
     record {
@@ -65,7 +69,8 @@ pub record EndsReading (unit location : ℕ) (told : List Exchange) : Type 0 whe
   pub got4 : Got x4 (AskDtr0 unit) (Exactly location)
   pub got5 : Got x5 (Read unit) Anything
 
-pub ends_reading : (unit location byte : ℕ) (told : List Exchange) → EndsInRead unit location byte told → EndsReading unit location told
+pub ends_reading : (unit location byte : ℕ) (told : List Exchange) → EndsInRead unit location byte told
+    → EndsReading unit location told
 ends_reading unit location byte told ends =
     let s = was_read unit location ends.0 ends.3.0 in
     record {

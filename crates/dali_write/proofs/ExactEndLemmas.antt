@@ -1,5 +1,7 @@
 -- How many frames a session takes that looks at a bank, closes it or reads it.
-use Rattle.std.proofs.Common.{◌≡◌, ◌≢◌, inl, inr, refl, ap, ℕ, zero, suc, ◌+◌, ◌-◌, ◌*◌, ◌<◌, ◌≤◌, min, Bool, true, false, ◌==◌, ◌&&◌, nat_lt, if◌then◌else◌, List, [], ◌∷◌, length, length-append, Option, Some, None, arith}
+use Rattle.std.proofs.Common.{◌≡◌, ◌≢◌, inl, inr, refl, ap, ℕ, zero, suc, ◌+◌, ◌-◌, ◌*◌, ◌<◌, ◌≤◌, min, Bool, true}
+use Rattle.std.proofs.Common.{false, ◌==◌, ◌&&◌, nat_lt, if◌then◌else◌, List, [], ◌∷◌, length, length-append, Option}
+use Rattle.std.proofs.Common.{Some, None, arith}
 use Rattle.std.proofs.lemmas.Bool.{lt-ltb, le-ltb}
 use Rattle.dali_write.specs.Exchanges.{Exchange}
 use Rattle.dali_write.specs.declared.line.Line.{Line}
@@ -11,7 +13,8 @@ use Rattle.dali_write.specs.declared.ask.Ask.TheVariants.{Ended}
 use Rattle.dali_write.specs.Lines.{step_lines}
 use Rattle.dali_write.specs.Frames.{read_frames, write_frames, try_frames}
 use Rattle.dali_write.specs.Counts.{read_all_frames}
-use Rattle.dali_write.specs.Plans.{Plan, Finish, Check, either_way, greatest, read_format_low, read_format, judge_length, read_length, read_closed, close, read_on, read_all}
+use Rattle.dali_write.specs.Plans.{Plan, Finish, Check, either_way, greatest, read_format_low, read_format}
+use Rattle.dali_write.specs.Plans.{judge_length, read_length, read_closed, close, read_on, read_all}
 use Rattle.dali_write.specs.Tries.{most_tries, Missed, Misses, StepEnds, Wants}
 use Rattle.dali_write.specs.Walks.{Walk, step_misses, Took, TookAll}
 use Rattle.dali_write.proofs.WalkLemmas.{ended_walk}
@@ -23,18 +26,22 @@ use Rattle.dali_write.proofs.VerdictLemmas.{finish_walk}
 -- each walk of the plan to the verdict takes so many frames, and more only for misses
 abbrev Takes : ℕ → Plan → Verdict → ℕ → Type 0
 Takes unit plan verdict frames =
-    (outcomes : List (Option ℕ)) (told : List Exchange) (walk : Walk unit plan outcomes told (Finish verdict)) → Frames unit plan outcomes told (Finish verdict) walk frames
+    (outcomes : List (Option ℕ)) (told : List Exchange) (walk : Walk unit plan outcomes told (Finish verdict))
+    → Frames unit plan outcomes told (Finish verdict) walk frames
 
 -- no walk of the plan leads to the verdict
 abbrev Never : ℕ → Plan → Verdict → Type 0
-Never unit plan verdict = (outcomes : List (Option ℕ)) (told : List Exchange) → Walk unit plan outcomes told (Finish verdict) → ⊥
+Never unit plan verdict =
+    (outcomes : List (Option ℕ)) (told : List Exchange) → Walk unit plan outcomes told (Finish verdict) → ⊥
 
 takes_none : (unit : ℕ) (end verdict : Verdict) → Takes unit (Finish end) verdict 0
-takes_none unit end verdict [] told walk = let none = ap (λ (t : List Exchange). length t) walk.0 in record { more = 0; took = omega arith; few = omega arith }
+takes_none unit end verdict [] told walk =
+    let none = ap (λ (t : List Exchange). length t) walk.0 in record { more = 0; took = omega arith; few = omega arith }
 takes_none unit end verdict (o ∷ outcomes) told walk = absurd walk.3
 
 -- where there is no walk, any number will do
-takes_any : (unit : ℕ) (plan : Plan) (verdict : Verdict) (frames : ℕ) → Never unit plan verdict → Takes unit plan verdict frames
+takes_any : (unit : ℕ) (plan : Plan) (verdict : Verdict) (frames : ℕ) → Never unit plan verdict
+    → Takes unit plan verdict frames
 takes_any unit plan verdict frames never outcomes told walk = absurd (never outcomes told walk)
 
 ends_not : (unit : ℕ) (end verdict : Verdict) → end ≢ verdict → Never unit (Finish end) verdict
@@ -44,18 +51,24 @@ ends_not unit end verdict differs outcomes told walk =
     differs (let is : end ≡ verdict = cc in is)
 
 -- a read, after which the session goes on with the byte or is silent
-read_takes : (unit location : ℕ) (found : ℕ → Plan) (failed verdict : Verdict) (frames : ℕ) → failed ≢ verdict → ((byte : ℕ) → Takes unit (found byte) verdict frames)
+read_takes : (unit location : ℕ) (found : ℕ → Plan) (failed verdict : Verdict) (frames : ℕ) → failed ≢ verdict
+    → ((byte : ℕ) → Takes unit (found byte) verdict frames)
     → Takes unit (Check (ReadFrom location) (either_way (Finish failed) found)) verdict (read_frames + frames)
 read_takes unit location found failed verdict frames differs rest [] told walk = let no = walk.1 in cc
-read_takes unit location found failed verdict frames differs rest (None ∷ outcomes) told walk = absurd (ends_not unit failed verdict differs outcomes walk.0 walk.4)
+read_takes unit location found failed verdict frames differs rest (None ∷ outcomes) told walk =
+    absurd (ends_not unit failed verdict differs outcomes walk.0 walk.4)
 read_takes unit location found failed verdict frames differs rest (Some byte ∷ outcomes) told walk =
-    step_first unit (ReadFrom location) _ byte outcomes told (Finish verdict) walk frames (read_frames + frames) refl (rest byte outcomes walk.0 walk.4)
+    step_first unit (ReadFrom location) _ byte outcomes told (Finish verdict) walk frames (read_frames + frames) refl
+    (rest byte outcomes walk.0 walk.4)
 
-read_never : (unit location : ℕ) (found : ℕ → Plan) (failed verdict : Verdict) → failed ≢ verdict → ((byte : ℕ) → Never unit (found byte) verdict)
+read_never : (unit location : ℕ) (found : ℕ → Plan) (failed verdict : Verdict) → failed ≢ verdict
+    → ((byte : ℕ) → Never unit (found byte) verdict)
     → Never unit (Check (ReadFrom location) (either_way (Finish failed) found)) verdict
 read_never unit location found failed verdict differs rest [] told walk = let no = walk.1 in cc
-read_never unit location found failed verdict differs rest (None ∷ outcomes) told walk = ends_not unit failed verdict differs outcomes walk.0 walk.4
-read_never unit location found failed verdict differs rest (Some byte ∷ outcomes) told walk = rest byte outcomes walk.0 walk.4
+read_never unit location found failed verdict differs rest (None ∷ outcomes) told walk =
+    ends_not unit failed verdict differs outcomes walk.0 walk.4
+read_never unit location found failed verdict differs rest (Some byte ∷ outcomes) told walk =
+    rest byte outcomes walk.0 walk.4
 
 -- a fresh session
 
@@ -71,9 +84,11 @@ not_short false = λ e. cc
 format_never_short : (unit : ℕ) → Never unit read_format Short
 format_never_short unit =
     read_never unit 0x11 read_format_low Silent Short (λ e. cc)
-    (λ high. read_never unit 0x12 _ Silent Short (λ e. cc) (λ low. ends_not unit _ Short (not_short ((high == 0) && (low == 3)))))
+    (λ high. read_never unit 0x12 _ Silent Short (λ e. cc)
+    (λ low. ends_not unit _ Short (not_short ((high == 0) && (low == 3)))))
 
--- what follows the length, where the first test says whether the bank is too short, and the second whether all locations are below 13h, where the format doesn't matter
+-- what follows the length, where the first test says whether the bank is too short, and the second whether all
+-- locations are below 13h, where the format doesn't matter
 abbrev judged : Bool → Bool → Plan
 judged short below = if short then Finish Short else (if below then Finish MayOpen else read_format)
 
@@ -89,7 +104,8 @@ judged_low unit false false is = cc
 
 judged_high : (unit : ℕ) (verdict : Verdict) (short below : Bool) → below ≡ false → Short ≢ verdict → Silent ≢ verdict
     → Takes unit (judged short below) verdict (2 * read_frames)
-judged_high unit verdict true below is one two = takes_any unit (Finish Short) verdict _ (ends_not unit Short verdict one)
+judged_high unit verdict true below is one two =
+    takes_any unit (Finish Short) verdict _ (ends_not unit Short verdict one)
 judged_high unit verdict false true is one two = cc
 judged_high unit verdict false false is one two = format_takes unit verdict two
 
@@ -99,39 +115,51 @@ judged_format unit false true = takes_any unit (Finish MayOpen) Format _ (ends_n
 judged_format unit false false = format_takes unit Format (λ e. cc)
 
 length_takes : (unit : ℕ) (updates : List (ℕ × ℕ)) (verdict : Verdict) (frames : ℕ) → Silent ≢ verdict
-    → ((short : Bool) → Takes unit (judged short (nat_lt (greatest updates) 0x13)) verdict frames) → Takes unit (read_length updates) verdict (read_frames + frames)
+    → ((short : Bool) → Takes unit (judged short (nat_lt (greatest updates) 0x13)) verdict frames)
+    → Takes unit (read_length updates) verdict (read_frames + frames)
 length_takes unit updates verdict frames differs rest =
-    read_takes unit 0 (judge_length updates) Silent verdict frames differs (λ last. rest (nat_lt last (greatest updates)))
+    read_takes unit 0 (judge_length updates) Silent verdict frames differs
+    (λ last. rest (nat_lt last (greatest updates)))
 
-took : (unit : ℕ) (plan : Plan) (told : List Exchange) (verdict : Verdict) (frames : ℕ) → Takes unit plan verdict frames → Wants unit plan told (Ended verdict)
+took : (unit : ℕ) (plan : Plan) (told : List Exchange) (verdict : Verdict) (frames : ℕ) → Takes unit plan verdict frames
+    → Wants unit plan told (Ended verdict)
     → Took unit plan told verdict frames
 took unit plan told verdict frames takes wants =
     let walk = ended_walk unit plan told verdict wants in
     let all = takes walk.0 told walk.1 in
     record { outcomes = walk.0; walk = walk.1; more = all.more; took = all.took; few = all.few }
 
-pub short_took : (told : List Exchange) (unit : ℕ) (updates : List (ℕ × ℕ)) → Wants unit (read_length updates) told (Ended Short)
+pub short_took : (told : List Exchange) (unit : ℕ) (updates : List (ℕ × ℕ))
+    → Wants unit (read_length updates) told (Ended Short)
     → Took unit (read_length updates) told Short read_frames
 short_took told unit updates wants =
-    took unit (read_length updates) told Short read_frames (length_takes unit updates Short 0 (λ e. cc) (λ short. judged_short unit short _)) wants
+    took unit (read_length updates) told Short read_frames
+    (length_takes unit updates Short 0 (λ e. cc) (λ short. judged_short unit short _)) wants
 
-pub low_took : (told : List Exchange) (unit : ℕ) (updates : List (ℕ × ℕ)) → greatest updates < 0x13 → Wants unit (read_length updates) told (Ended MayOpen)
+pub low_took : (told : List Exchange) (unit : ℕ) (updates : List (ℕ × ℕ)) → greatest updates < 0x13
+    → Wants unit (read_length updates) told (Ended MayOpen)
     → Took unit (read_length updates) told MayOpen read_frames
 low_took told unit updates below wants =
     let is = lt-ltb (greatest updates) 0x13 below in
-    took unit (read_length updates) told MayOpen read_frames (length_takes unit updates MayOpen 0 (λ e. cc) (λ short. judged_low unit short _ is)) wants
+    took unit (read_length updates) told MayOpen read_frames
+    (length_takes unit updates MayOpen 0 (λ e. cc) (λ short. judged_low unit short _ is)) wants
 
-pub high_took : (told : List Exchange) (unit : ℕ) (updates : List (ℕ × ℕ)) → 0x13 ≤ greatest updates → Wants unit (read_length updates) told (Ended MayOpen)
+pub high_took : (told : List Exchange) (unit : ℕ) (updates : List (ℕ × ℕ)) → 0x13 ≤ greatest updates
+    → Wants unit (read_length updates) told (Ended MayOpen)
     → Took unit (read_length updates) told MayOpen (3 * read_frames)
 high_took told unit updates high wants =
     let is = le-ltb (greatest updates) 0x13 high in
     took unit (read_length updates) told MayOpen (3 * read_frames)
-    (length_takes unit updates MayOpen (2 * read_frames) (λ e. cc) (λ short. judged_high unit MayOpen short _ is (λ e. cc) (λ e. cc))) wants
+    (length_takes unit updates MayOpen (2 * read_frames) (λ e. cc)
+    (λ short. judged_high unit MayOpen short _ is (λ e. cc) (λ e. cc)))
+    wants
 
-pub format_took : (told : List Exchange) (unit : ℕ) (updates : List (ℕ × ℕ)) → Wants unit (read_length updates) told (Ended Format)
+pub format_took : (told : List Exchange) (unit : ℕ) (updates : List (ℕ × ℕ))
+    → Wants unit (read_length updates) told (Ended Format)
     → Took unit (read_length updates) told Format (3 * read_frames)
 format_took told unit updates wants =
-    took unit (read_length updates) told Format (3 * read_frames) (length_takes unit updates Format (2 * read_frames) (λ e. cc) (λ short. judged_format unit short _)) wants
+    took unit (read_length updates) told Format (3 * read_frames)
+    (length_takes unit updates Format (2 * read_frames) (λ e. cc) (λ short. judged_format unit short _)) wants
 
 -- a closing session
 
@@ -150,8 +178,10 @@ misses_take lines (suc misses) told is =
     one (x ∷ tried) missed = omega arith
 
 -- a step that failed took no fewer frames than a write that succeeds, and no more than its misses allow
-failed_frames : (unit : ℕ) (step : Step) (after : Option ℕ → Plan) (told : List Exchange) (ends : StepEnds unit (Check step after) None told)
-    → (more : ℕ) × (length told ≡ write_frames + more) × (more ≤ try_frames * step_misses unit (Check step after) None told ends)
+failed_frames : (unit : ℕ) (step : Step) (after : Option ℕ → Plan) (told : List Exchange)
+    (ends : StepEnds unit (Check step after) None told)
+    → (more : ℕ) × (length told ≡ write_frames + more)
+    × (more ≤ try_frames * step_misses unit (Check step after) None told ends)
 failed_frames unit step after told (inl done) = absurd (has_byte unit step told done)
 failed_frames unit step after told (inr failed) =
     let least = misses_take (step_lines unit step) most_tries told failed.1 in
@@ -162,16 +192,21 @@ failed_frames unit step after told (inr failed) =
 close_takes : (unit : ℕ) → Takes unit (close Closed NotClosed) Closed (write_frames + read_frames)
 close_takes unit [] told walk = let no = walk.1 in cc
 close_takes unit (None ∷ outcomes) told walk =
-    and_rest unit (WriteTo 2 0xFF) _ None outcomes told (Finish Closed) walk write_frames read_frames (write_frames + read_frames)
+    and_rest unit (WriteTo 2 0xFF) _ None outcomes told (Finish Closed) walk write_frames read_frames
+    (write_frames + read_frames)
     (failed_frames unit (WriteTo 2 0xFF) (λ outcome. read_closed Closed NotClosed) walk.1 walk.3) refl
-    (read_takes unit 2 (λ byte. Finish Closed) NotClosed Closed 0 (λ e. cc) (λ byte. takes_none unit Closed Closed) outcomes walk.0 walk.4)
+    (read_takes unit 2 (λ byte. Finish Closed) NotClosed Closed 0 (λ e. cc) (λ byte. takes_none unit Closed Closed)
+    outcomes walk.0 walk.4)
 close_takes unit (Some byte ∷ outcomes) told walk =
-    step_first unit (WriteTo 2 0xFF) _ byte outcomes told (Finish Closed) walk read_frames (write_frames + read_frames) refl
-    (read_takes unit 2 (λ byte. Finish Closed) NotClosed Closed 0 (λ e. cc) (λ byte. takes_none unit Closed Closed) outcomes walk.0 walk.4)
+    step_first unit (WriteTo 2 0xFF) _ byte outcomes told (Finish Closed) walk read_frames
+    (write_frames + read_frames) refl
+    (read_takes unit 2 (λ byte. Finish Closed) NotClosed Closed 0 (λ e. cc) (λ byte. takes_none unit Closed Closed)
+    outcomes walk.0 walk.4)
 
 pub closed_took : (told : List Exchange) (unit : ℕ) → Wants unit (close Closed NotClosed) told (Ended Closed)
     → Took unit (close Closed NotClosed) told Closed (write_frames + read_frames)
-closed_took told unit wants = took unit (close Closed NotClosed) told Closed (write_frames + read_frames) (close_takes unit) wants
+closed_took told unit wants =
+    took unit (close Closed NotClosed) told Closed (write_frames + read_frames) (close_takes unit) wants
 
 -- a reading session
 
@@ -192,10 +227,13 @@ read_took told unit wants = let walk = ended_walk unit read_all told Read wants 
     by (Some last ∷ outcomes) walk =
         let on = read_on_takes unit 1 (min last 0xFE) outcomes walk.0 walk.4 in
         let reads = either_way (Finish Silent) (λ byte. read_on 1 (min byte 0xFE)) in
-        let all = step_first unit (ReadFrom 0) reads last outcomes told (Finish Read) walk (min last 0xFE * read_frames) (read_all_frames last) (omega arith) on in
+        let all =
+        step_first unit (ReadFrom 0) reads last outcomes told (Finish Read) walk (min last 0xFE * read_frames)
+        (read_all_frames last) (omega arith) on in
         record {
           last = last;
           rest = outcomes;
-          took = record { outcomes = Some last ∷ outcomes; walk = walk; more = all.more; took = all.took; few = all.few };
+          took =
+              record { outcomes = Some last ∷ outcomes; walk = walk; more = all.more; took = all.took; few = all.few };
           first = refl;
         }

@@ -1,5 +1,6 @@
 -- How many frames a session takes that ends Done.
-use Rattle.std.proofs.Common.{◌≡◌, inl, inr, refl, ap, ℕ, ◌+◌, ◌*◌, ◌≤◌, Bool, true, false, ◌==◌, if◌then◌else◌, List, [], ◌∷◌, length, length-append, Option, Some, None, arith}
+use Rattle.std.proofs.Common.{◌≡◌, inl, inr, refl, ap, ℕ, ◌+◌, ◌*◌, ◌≤◌, Bool, true, false, ◌==◌, if◌then◌else◌, List}
+use Rattle.std.proofs.Common.{[], ◌∷◌, length, length-append, Option, Some, None, arith}
 use Rattle.std.proofs.lemmas.Nat.{mul-le}
 use Rattle.dali_write.specs.Exchanges.{Exchange}
 use Rattle.dali_write.specs.declared.step.Step.{Step}
@@ -9,7 +10,8 @@ use Rattle.dali_write.specs.declared.ask.Ask.TheVariants.{Ended}
 use Rattle.dali_write.specs.Lines.{step_lines}
 use Rattle.dali_write.specs.Frames.{read_frames, write_frames, try_frames}
 use Rattle.dali_write.specs.Counts.{done_frames}
-use Rattle.dali_write.specs.Plans.{Plan, Finish, Check, either_way, give_up, expect, read_back, read_lock, write_on, unlock}
+use Rattle.dali_write.specs.Plans.{Plan, Finish, Check, either_way, give_up, expect, read_back, read_lock, write_on}
+use Rattle.dali_write.specs.Plans.{unlock}
 use Rattle.dali_write.specs.Tries.{StepEnds, Wants}
 use Rattle.dali_write.specs.Walks.{Walk, step_misses, misses_of, Took}
 use Rattle.dali_write.proofs.ShapeLemmas.{trying_length}
@@ -17,7 +19,8 @@ use Rattle.dali_write.proofs.CountLemmas.{misses_length}
 use Rattle.dali_write.proofs.WalkLemmas.{ended_walk}
 
 -- the frames of a walk: these, and so many more
-pub record Frames (unit : ℕ) (plan : Plan) (outcomes : List (Option ℕ)) (told : List Exchange) (end : Plan) (walk : Walk unit plan outcomes told end) (frames : ℕ) : Type 0 where
+pub record Frames (unit : ℕ) (plan : Plan) (outcomes : List (Option ℕ)) (told : List Exchange) (end : Plan)
+    (walk : Walk unit plan outcomes told end) (frames : ℕ) : Type 0 where
   pub more : ℕ
   pub took : length told ≡ frames + more
   pub few : more ≤ try_frames * misses_of unit plan outcomes told end walk
@@ -28,22 +31,29 @@ at_most unit (ReadFrom location) = omega arith
 at_most unit (WriteTo location byte) = omega arith
 
 -- a step that succeeded
-step_frames : (unit : ℕ) (step : Step) (after : Option ℕ → Plan) (byte : ℕ) (told : List Exchange) (ends : StepEnds unit (Check step after) (Some byte) told)
-    → (more : ℕ) × (length told ≡ length (step_lines unit step) + more) × (more ≤ try_frames * step_misses unit (Check step after) (Some byte) told ends)
+step_frames : (unit : ℕ) (step : Step) (after : Option ℕ → Plan) (byte : ℕ) (told : List Exchange)
+    (ends : StepEnds unit (Check step after) (Some byte) told)
+    → (more : ℕ) × (length told ≡ length (step_lines unit step) + more)
+    × (more ≤ try_frames * step_misses unit (Check step after) (Some byte) told ends)
 step_frames unit step after byte told (inl done) =
     let whole = trying_length (step_lines unit step) done.0 [] done.4 in
     let older = misses_length (step_lines unit step) done.2 done.1 done.7 in
-    let most : done.2 * length (step_lines unit step) ≤ done.2 * try_frames = mul-le done.2 (length (step_lines unit step)) done.2 try_frames (omega arith) (at_most unit step) in
+    let most : done.2 * length (step_lines unit step) ≤ done.2 * try_frames =
+    mul-le done.2 (length (step_lines unit step)) done.2 try_frames (omega arith) (at_most unit step) in
     let both = ap (λ (t : List Exchange). length t) done.3 in
     let joined = length-append done.0 done.1 in
     (length done.1, omega arith, omega arith)
 step_frames unit step after byte told (inr failed) = let never = failed.0 in cc
 
 -- a step, and the steps after it
-pub and_rest : (unit : ℕ) (step : Step) (after : Option ℕ → Plan) (outcome : Option ℕ) (outcomes : List (Option ℕ)) (told : List Exchange) (end : Plan)
+pub and_rest : (unit : ℕ) (step : Step) (after : Option ℕ → Plan) (outcome : Option ℕ) (outcomes : List (Option ℕ))
+    (told : List Exchange) (end : Plan)
     (walk : Walk unit (Check step after) (outcome ∷ outcomes) told end) (here frames all : ℕ)
-    → (more : ℕ) × (length walk.1 ≡ here + more) × (more ≤ try_frames * step_misses unit (Check step after) outcome walk.1 walk.3) → here + frames ≡ all
-    → Frames unit (after outcome) outcomes walk.0 end walk.4 frames → Frames unit (Check step after) (outcome ∷ outcomes) told end walk all
+    → (more : ℕ) × (length walk.1 ≡ here + more)
+    × (more ≤ try_frames * step_misses unit (Check step after) outcome walk.1 walk.3)
+    → here + frames ≡ all
+    → Frames unit (after outcome) outcomes walk.0 end walk.4 frames
+    → Frames unit (Check step after) (outcome ∷ outcomes) told end walk all
 and_rest unit step after outcome outcomes told end walk length_here frames all here sum rest =
     let both = ap (λ (t : List Exchange). length t) walk.2 in
     let joined = length-append walk.0 walk.1 in
@@ -54,14 +64,19 @@ and_rest unit step after outcome outcomes told end walk length_here frames all h
     record { more = here.0 + rest.more; took = omega arith; few = omega arith }
 
 -- a step that succeeded, and the steps after it
-pub step_first : (unit : ℕ) (step : Step) (after : Option ℕ → Plan) (byte : ℕ) (outcomes : List (Option ℕ)) (told : List Exchange) (end : Plan)
-    (walk : Walk unit (Check step after) (Some byte ∷ outcomes) told end) (frames all : ℕ) → length (step_lines unit step) + frames ≡ all
-    → Frames unit (after (Some byte)) outcomes walk.0 end walk.4 frames → Frames unit (Check step after) (Some byte ∷ outcomes) told end walk all
+pub step_first : (unit : ℕ) (step : Step) (after : Option ℕ → Plan) (byte : ℕ) (outcomes : List (Option ℕ))
+    (told : List Exchange) (end : Plan)
+    (walk : Walk unit (Check step after) (Some byte ∷ outcomes) told end) (frames all : ℕ)
+    → length (step_lines unit step) + frames ≡ all
+    → Frames unit (after (Some byte)) outcomes walk.0 end walk.4 frames
+    → Frames unit (Check step after) (Some byte ∷ outcomes) told end walk all
 step_first unit step after byte outcomes told end walk frames all sum rest =
-    and_rest unit step after (Some byte) outcomes told end walk (length (step_lines unit step)) frames all (step_frames unit step after byte walk.1 walk.3) sum rest
+    and_rest unit step after (Some byte) outcomes told end walk (length (step_lines unit step)) frames all
+    (step_frames unit step after byte walk.1 walk.3) sum rest
 
 -- no plan that gives up ends Done
-never_done : (unit : ℕ) (outcomes : List (Option ℕ)) (told : List Exchange) → Walk unit give_up outcomes told (Finish Done) → ⊥
+never_done : (unit : ℕ) (outcomes : List (Option ℕ)) (told : List Exchange)
+    → Walk unit give_up outcomes told (Finish Done) → ⊥
 never_done unit [] told walk = let differs = walk.1 in cc
 never_done unit (o ∷ []) told walk = let differs = walk.4.1 in cc
 never_done unit (o ∷ None ∷ []) told walk = let differs = walk.4.4.1 in cc
@@ -70,13 +85,17 @@ never_done unit (o ∷ None ∷ p ∷ outcomes) told walk = walk.4.4.3
 never_done unit (o ∷ Some byte ∷ p ∷ outcomes) told walk = walk.4.4.3
 
 expect_took : (unit location byte : ℕ) (after : Plan) (frames : ℕ)
-    → ((outcomes : List (Option ℕ)) (told : List Exchange) (walk : Walk unit after outcomes told (Finish Done)) → Frames unit after outcomes told (Finish Done) walk frames)
-    → (outcomes : List (Option ℕ)) (told : List Exchange) (walk : Walk unit (expect location byte after) outcomes told (Finish Done))
+    → ((outcomes : List (Option ℕ)) (told : List Exchange) (walk : Walk unit after outcomes told (Finish Done))
+    → Frames unit after outcomes told (Finish Done) walk frames)
+    → (outcomes : List (Option ℕ)) (told : List Exchange)
+    (walk : Walk unit (expect location byte after) outcomes told (Finish Done))
     → Frames unit (expect location byte after) outcomes told (Finish Done) walk (read_frames + frames)
 expect_took unit location byte after frames rest [] told walk = let differs = walk.1 in cc
-expect_took unit location byte after frames rest (None ∷ outcomes) told walk = absurd (never_done unit outcomes walk.0 walk.4)
+expect_took unit location byte after frames rest (None ∷ outcomes) told walk =
+    absurd (never_done unit outcomes walk.0 walk.4)
 expect_took unit location byte after frames rest (Some found ∷ outcomes) told walk =
-    step_first unit (ReadFrom location) (either_way give_up (λ f. if f == byte then after else give_up)) found outcomes told (Finish Done) walk frames (read_frames + frames) refl
+    step_first unit (ReadFrom location) (either_way give_up (λ f. if f == byte then after else give_up)) found outcomes
+    told (Finish Done) walk frames (read_frames + frames) refl
     (by (found == byte) walk.0 walk.4)
   where
     by : (t : Bool) (newer : List Exchange) (on : Walk unit (if t then after else give_up) outcomes newer (Finish Done))
@@ -84,38 +103,52 @@ expect_took unit location byte after frames rest (Some found ∷ outcomes) told 
     by true newer on = rest outcomes newer on
     by false newer on = absurd (never_done unit outcomes newer on)
 
-read_back_took : (unit : ℕ) (updates : List (ℕ × ℕ)) (outcomes : List (Option ℕ)) (told : List Exchange) (walk : Walk unit (read_back updates) outcomes told (Finish Done))
+read_back_took : (unit : ℕ) (updates : List (ℕ × ℕ)) (outcomes : List (Option ℕ)) (told : List Exchange)
+    (walk : Walk unit (read_back updates) outcomes told (Finish Done))
     → Frames unit (read_back updates) outcomes told (Finish Done) walk (length updates * read_frames)
 read_back_took unit [] [] told walk =
     let none = ap (λ (t : List Exchange). length t) walk.0 in record { more = 0; took = omega arith; few = omega arith }
 read_back_took unit [] (o ∷ outcomes) told walk = absurd walk.3
 read_back_took unit (update ∷ updates) outcomes told walk =
-    let here = expect_took unit update.0 update.1 (read_back updates) (length updates * read_frames) (read_back_took unit updates) outcomes told walk in
+    let here =
+    expect_took unit update.0 update.1 (read_back updates) (length updates * read_frames) (read_back_took unit updates)
+    outcomes told walk in
     let took = here.took in
     record { more = here.more; took = omega arith; few = here.few }
 
-write_on_took : (unit : ℕ) (updates left : List (ℕ × ℕ)) (outcomes : List (Option ℕ)) (told : List Exchange) (walk : Walk unit (write_on updates left) outcomes told (Finish Done))
-    → Frames unit (write_on updates left) outcomes told (Finish Done) walk (length left * write_frames + write_frames + read_frames + length updates * read_frames)
+write_on_took : (unit : ℕ) (updates left : List (ℕ × ℕ)) (outcomes : List (Option ℕ)) (told : List Exchange)
+    (walk : Walk unit (write_on updates left) outcomes told (Finish Done))
+    → Frames unit (write_on updates left) outcomes told (Finish Done) walk
+    (length left * write_frames + write_frames + read_frames + length updates * read_frames)
 write_on_took unit updates [] [] told walk = let differs = walk.1 in cc
 write_on_took unit updates [] (None ∷ outcomes) told walk = absurd (never_done unit outcomes walk.0 walk.4)
 write_on_took unit updates [] (Some byte ∷ outcomes) told walk =
-    step_first unit (WriteTo 2 0xFF) (either_way give_up (λ b. read_lock updates)) byte outcomes told (Finish Done) walk (read_frames + length updates * read_frames) _ (omega arith)
-    (expect_took unit 2 0xFF (read_back updates) (length updates * read_frames) (read_back_took unit updates) outcomes walk.0 walk.4)
+    step_first unit (WriteTo 2 0xFF) (either_way give_up (λ b. read_lock updates)) byte outcomes told (Finish Done) walk
+    (read_frames + length updates * read_frames) _ (omega arith)
+    (expect_took unit 2 0xFF (read_back updates) (length updates * read_frames) (read_back_took unit updates) outcomes
+    walk.0 walk.4)
 write_on_took unit updates (update ∷ left) [] told walk = let differs = walk.1 in cc
 write_on_took unit updates (update ∷ left) (None ∷ outcomes) told walk = absurd (never_done unit outcomes walk.0 walk.4)
 write_on_took unit updates (update ∷ left) (Some byte ∷ outcomes) told walk =
-    step_first unit (WriteTo update.0 update.1) (either_way give_up (λ b. write_on updates left)) byte outcomes told (Finish Done) walk
-    (length left * write_frames + write_frames + read_frames + length updates * read_frames) _ (omega arith) (write_on_took unit updates left outcomes walk.0 walk.4)
+    step_first unit (WriteTo update.0 update.1) (either_way give_up (λ b. write_on updates left)) byte outcomes told
+    (Finish Done) walk
+    (length left * write_frames + write_frames + read_frames + length updates * read_frames) _ (omega arith)
+    (write_on_took unit updates left outcomes walk.0 walk.4)
 
-unlock_took : (unit : ℕ) (updates : List (ℕ × ℕ)) (outcomes : List (Option ℕ)) (told : List Exchange) (walk : Walk unit (unlock updates) outcomes told (Finish Done))
+unlock_took : (unit : ℕ) (updates : List (ℕ × ℕ)) (outcomes : List (Option ℕ)) (told : List Exchange)
+    (walk : Walk unit (unlock updates) outcomes told (Finish Done))
     → Frames unit (unlock updates) outcomes told (Finish Done) walk (done_frames (length updates))
 unlock_took unit updates [] told walk = let differs = walk.1 in cc
 unlock_took unit updates (None ∷ outcomes) told walk = absurd (never_done unit outcomes walk.0 walk.4)
 unlock_took unit updates (Some byte ∷ outcomes) told walk =
-    step_first unit (WriteTo 2 0x55) (either_way give_up (λ b. write_on updates updates)) byte outcomes told (Finish Done) walk
-    (length updates * write_frames + write_frames + read_frames + length updates * read_frames) _ (omega arith) (write_on_took unit updates updates outcomes walk.0 walk.4)
+    step_first unit (WriteTo 2 0x55) (either_way give_up (λ b. write_on updates updates)) byte outcomes told
+    (Finish Done) walk
+    (length updates * write_frames + write_frames + read_frames + length updates * read_frames) _ (omega arith)
+    (write_on_took unit updates updates outcomes walk.0 walk.4)
 
-pub done_took : (told : List Exchange) (unit : ℕ) (updates : List (ℕ × ℕ)) → Wants unit (unlock updates) told (Ended Done) → Took unit (unlock updates) told Done (done_frames (length updates))
+pub done_took : (told : List Exchange) (unit : ℕ) (updates : List (ℕ × ℕ))
+    → Wants unit (unlock updates) told (Ended Done)
+    → Took unit (unlock updates) told Done (done_frames (length updates))
 done_took told unit updates wants =
     let walk = ended_walk unit (unlock updates) told Done wants in
     let frames = unlock_took unit updates walk.0 told walk.1 in

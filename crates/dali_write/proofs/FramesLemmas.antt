@@ -1,17 +1,20 @@
 -- The frames that are still to come fall with each frame.
-use Rattle.std.proofs.Common.{◌≡◌, refl, ℕ, zero, suc, ◌+◌, ◌-◌, ◌*◌, ◌<◌, ◌≤◌, List, [], ◌∷◌, length, drop, Option, Some, None, IsSome, arith}
+use Rattle.std.proofs.Common.{◌≡◌, refl, ℕ, zero, suc, ◌+◌, ◌-◌, ◌*◌, ◌<◌, ◌≤◌, List, [], ◌∷◌, length, drop, Option}
+use Rattle.std.proofs.Common.{Some, None, IsSome, arith}
 use Rattle.std.proofs.lemmas.Nat.{mul-le}
 use Rattle.std.proofs.lemmas.Option.{slice_get_within}
 use Rattle.dali_write.specs.declared.line.Line.{Line}
 use Rattle.dali_write.specs.declared.stage.Job.{Job}
 use Rattle.dali_write.specs.declared.session.Session.{Session}
 use Rattle.dali_write.specs.declared.stage.Stage.{Stage}
-use Rattle.dali_write.specs.declared.stage.Stage.TheVariants.{ReadLength, ReadFormat, ReadFormatLow, Unlock, WriteOn, ReadLock, ReadBack, Close, ReadClosed, ReadAll, ReadOn, Over}
+use Rattle.dali_write.specs.declared.stage.Stage.TheVariants.{ReadLength, ReadFormat, ReadFormatLow, Unlock, WriteOn}
+use Rattle.dali_write.specs.declared.stage.Stage.TheVariants.{ReadLock, ReadBack, Close, ReadClosed, ReadAll, ReadOn}
+use Rattle.dali_write.specs.declared.stage.Stage.TheVariants.{Over}
 use Rattle.dali_write.specs.Plans.{write_on, read_back, read_on}
 use Rattle.dali_write.specs.Tries.{plan_lines}
-use Rattle.dali_write.specs.Stages.{updates_of, plan_at}
+use Rattle.dali_write.specs.Stages.{updates_for, plan_at}
 use Rattle.dali_write.specs.FramesLeft.{limit_at, read_limit}
-use Rattle.dali_write.specs.Told.{line_of}
+use Rattle.dali_write.specs.Told.{line_at_hand}
 
 write_on_lines : (unit : ℕ) (updates left : List (ℕ × ℕ)) → length (plan_lines unit (write_on updates left)) ≤ 7
 write_on_lines unit updates [] = omega arith
@@ -26,14 +29,15 @@ read_on_lines unit location zero = omega arith
 read_on_lines unit location (suc left) = omega arith
 
 -- the limit of a stage has room for eight tries of the step at hand
-pub tries_fit : (unit : ℕ) (job : Job) (stage : Stage) → 8 * length (plan_lines unit (plan_at job stage)) ≤ limit_at job stage
+pub tries_fit : (unit : ℕ) (job : Job) (stage : Stage)
+    → 8 * length (plan_lines unit (plan_at job stage)) ≤ limit_at job stage
 tries_fit unit job ReadLength = omega arith
 tries_fit unit job ReadFormat = omega arith
 tries_fit unit job (ReadFormatLow high) = omega arith
 tries_fit unit job Unlock = omega arith
-tries_fit unit job (WriteOn index) = omega (arith, write_on_lines unit (updates_of job) (drop index (updates_of job)))
+tries_fit unit job (WriteOn index) = omega (arith, write_on_lines unit (updates_for job) (drop index (updates_for job)))
 tries_fit unit job ReadLock = omega arith
-tries_fit unit job (ReadBack index) = omega (arith, read_back_lines unit (drop index (updates_of job)))
+tries_fit unit job (ReadBack index) = omega (arith, read_back_lines unit (drop index (updates_for job)))
 tries_fit unit job (Close answered unanswered) = omega arith
 tries_fit unit job (ReadClosed answered unanswered) = omega arith
 tries_fit unit job ReadAll = omega arith
@@ -57,9 +61,11 @@ falls_again limit lines misses number fit few below =
     omega (arith, within_tries misses lines number (omega arith) below)
 
 -- while a frame is at hand, its number is below that of the lines
-pub number_below : (s : Session) → IsSome (line_of s) → s.number < length (plan_lines s.unit (plan_at s.job s.stage))
-number_below s some = by (line_of s) refl some
+pub number_below : (s : Session) → IsSome (line_at_hand s)
+    → s.number < length (plan_lines s.unit (plan_at s.job s.stage))
+number_below s some = by (line_at_hand s) refl some
   where
-    by : (next : Option Line) → line_of s ≡ next → IsSome next → s.number < length (plan_lines s.unit (plan_at s.job s.stage))
+    by : (next : Option Line) → line_at_hand s ≡ next → IsSome next
+        → s.number < length (plan_lines s.unit (plan_at s.job s.stage))
     by None at some = cc
     by (Some next) at some = slice_get_within (plan_lines s.unit (plan_at s.job s.stage)) s.number next at

@@ -5,11 +5,13 @@ use Rattle.dali_write.specs.Exchanges.{Exchange}
 use Rattle.dali_write.specs.declared.step.Step.TheVariants.{ReadFrom, WriteTo}
 use Rattle.dali_write.specs.declared.ask.Ask.{Ask}
 use Rattle.dali_write.specs.declared.ask.Verdict.TheVariants.{MayOpen, Short, Silent}
-use Rattle.dali_write.specs.Plans.{Plan, Finish, Check, goes_on, plan_after, greatest, judge_length, read_format, read_format_low, read_length, read_on, read_all}
+use Rattle.dali_write.specs.Plans.{Plan, Finish, Check, goes_on, plan_after, greatest, judge_length, read_format}
+use Rattle.dali_write.specs.Plans.{read_format_low, read_length, read_on, read_all}
 use Rattle.dali_write.specs.Tries.{StepEnds, StepsEnd, Wants, plan_lines}
 use Rattle.dali_write.specs.Worlds.{Run, KeepsAt}
 use Rattle.dali_write.proofs.TruthLemmas.{AllQuiet, run_keeps}
-use Rattle.dali_write.proofs.VerdictLemmas.{read_step_quiet, both_quiet, misses_quiet, trying_quiet, read_quiet_lines, LinesQuiet}
+use Rattle.dali_write.proofs.VerdictLemmas.{read_step_quiet, both_quiet, misses_quiet, trying_quiet, read_quiet_lines}
+use Rattle.dali_write.proofs.VerdictLemmas.{LinesQuiet}
 use Rattle.dali_write.proofs.PlanLemmas.{either_all, if_all}
 
 -- all steps of the plan are reads
@@ -18,20 +20,26 @@ OnlyReads (Finish verdict) = Unit {0}
 OnlyReads (Check (ReadFrom location) after) = (outcome : Option ℕ) → OnlyReads (after outcome)
 OnlyReads (Check (WriteTo location byte) after) = ⊥
 
-step_quiet : (address unit : ℕ) (plan : Plan) (outcome : Option ℕ) (told : List Exchange) → OnlyReads plan → StepEnds unit plan outcome told
+step_quiet : (address unit : ℕ) (plan : Plan) (outcome : Option ℕ) (told : List Exchange) → OnlyReads plan
+    → StepEnds unit plan outcome told
     → AllQuiet address told × OnlyReads (goes_on plan outcome)
 unfolding OnlyReads
 step_quiet address unit (Finish verdict) outcome told reads ends = absurd ends
-step_quiet address unit (Check (ReadFrom location) after) outcome told reads ends = (read_step_quiet address unit location after outcome told ends, reads outcome)
+step_quiet address unit (Check (ReadFrom location) after) outcome told reads ends =
+    (read_step_quiet address unit location after outcome told ends, reads outcome)
 step_quiet address unit (Check (WriteTo location byte) after) outcome told reads ends = absurd reads
 
-steps_quiet : (address unit : ℕ) (plan : Plan) (outcomes : List (Option ℕ)) (told : List Exchange) → OnlyReads plan → StepsEnd unit plan outcomes told
+steps_quiet : (address unit : ℕ) (plan : Plan) (outcomes : List (Option ℕ)) (told : List Exchange) → OnlyReads plan
+    → StepsEnd unit plan outcomes told
     → AllQuiet address told × OnlyReads (plan_after plan outcomes)
-steps_quiet address unit plan [] told reads ends = (subst (λ (t : List Exchange). AllQuiet address t) (sym ends) tt, reads)
+steps_quiet address unit plan [] told reads ends =
+    (subst (λ (t : List Exchange). AllQuiet address t) (sym ends) tt, reads)
 steps_quiet address unit plan (outcome ∷ outcomes) told reads ends =
     let before = steps_quiet address unit plan outcomes ends.1 reads ends.4 in
-    let now = step_quiet address unit (plan_after plan outcomes) outcome ends.0 before.1 ends.3 in
-    (subst (λ (t : List Exchange). AllQuiet address t) (sym ends.2) (both_quiet address ends.0 ends.1 now.0 before.0), now.1)
+    let now = step_quiet address unit (plan_after plan outcomes) outcome ends.0 before.1 ends.3 in (
+      subst (λ (t : List Exchange). AllQuiet address t) (sym ends.2) (both_quiet address ends.0 ends.1 now.0 before.0),
+      now.1,
+    )
 
 lines_quiet : (address unit : ℕ) (plan : Plan) → OnlyReads plan → LinesQuiet address (plan_lines unit plan)
 unfolding OnlyReads
@@ -39,7 +47,8 @@ lines_quiet address unit (Finish verdict) reads = tt
 lines_quiet address unit (Check (ReadFrom location) after) reads = read_quiet_lines address unit location
 lines_quiet address unit (Check (WriteTo location byte) after) reads = absurd reads
 
-quiet_wants : (unit : ℕ) (plan : Plan) (told : List Exchange) (ask : Ask) (first last : World) → OnlyReads plan → Run told first last → Wants unit plan told ask
+quiet_wants : (unit : ℕ) (plan : Plan) (told : List Exchange) (ask : Ask) (first last : World) → OnlyReads plan
+    → Run told first last → Wants unit plan told ask
     → (address : ℕ) → KeepsAt first last address
 quiet_wants unit plan told ask first last reads run wants address =
     let s = wants.stands in
@@ -48,27 +57,36 @@ quiet_wants unit plan told ask first last reads run wants address =
     let missed = misses_quiet address (plan_lines unit wants.now) wants.misses s.missed lines s.misses_are in
     let tried = (trying_quiet address (plan_lines unit wants.now) s.tried wants.left lines s.try).0 in
     run_keeps told first last address
-    (subst (λ (t : List Exchange). AllQuiet address t) (sym s.parts) (both_quiet address s.tried (s.missed ++ s.ended) tried (both_quiet address s.missed s.ended missed before.0))) run
+    (subst (λ (t : List Exchange). AllQuiet address t) (sym s.parts)
+    (both_quiet address s.tried (s.missed ++ s.ended) tried (both_quiet address s.missed s.ended missed before.0)))
+    run
 
 length_reads : (updates : List (ℕ × ℕ)) → OnlyReads (read_length updates)
 unfolding OnlyReads
 length_reads updates =
-    either_all OnlyReads (Finish Silent) (judge_length updates) tt (λ last. if_all OnlyReads (nat_lt last (greatest updates)) (Finish Short) _ tt
-    (if_all OnlyReads (nat_lt (greatest updates) 0x13) (Finish MayOpen) read_format tt (either_all OnlyReads (Finish Silent) read_format_low tt (λ high. either_all OnlyReads (Finish Silent) _ tt (λ low. tt)))))
+    either_all OnlyReads (Finish Silent) (judge_length updates) tt
+    (λ last. if_all OnlyReads (nat_lt last (greatest updates)) (Finish Short) _ tt
+    (if_all OnlyReads (nat_lt (greatest updates) 0x13) (Finish MayOpen) read_format tt (either_all OnlyReads
+    (Finish Silent) read_format_low tt (λ high. either_all OnlyReads (Finish Silent) _ tt (λ low. tt)))))
 
 on_reads : (location left : ℕ) → OnlyReads (read_on location left)
 unfolding OnlyReads
 on_reads location zero = tt
-on_reads location (suc left) = either_all OnlyReads (Finish Silent) (λ byte. read_on (suc location) left) tt (λ byte. on_reads (suc location) left)
+on_reads location (suc left) =
+    either_all OnlyReads (Finish Silent) (λ byte. read_on (suc location) left) tt (λ byte. on_reads (suc location) left)
 
 all_reads : OnlyReads read_all
 unfolding OnlyReads
-all_reads = either_all OnlyReads (Finish Silent) (λ last. read_on 1 (min last 0xFE)) tt (λ last. on_reads 1 (min last 0xFE))
+all_reads =
+    either_all OnlyReads (Finish Silent) (λ last. read_on 1 (min last 0xFE)) tt (λ last. on_reads 1 (min last 0xFE))
 
-pub fresh_quiet : (told : List Exchange) (first last : World) (unit : ℕ) (updates : List (ℕ × ℕ)) (ask : Ask) → Run told first last → Wants unit (read_length updates) told ask
+pub fresh_quiet : (told : List Exchange) (first last : World) (unit : ℕ) (updates : List (ℕ × ℕ)) (ask : Ask)
+    → Run told first last → Wants unit (read_length updates) told ask
     → (address : ℕ) → KeepsAt first last address
-fresh_quiet told first last unit updates ask run wants = quiet_wants unit (read_length updates) told ask first last (length_reads updates) run wants
+fresh_quiet told first last unit updates ask run wants =
+    quiet_wants unit (read_length updates) told ask first last (length_reads updates) run wants
 
-pub reading_quiet : (told : List Exchange) (first last : World) (unit : ℕ) (ask : Ask) → Run told first last → Wants unit read_all told ask
+pub reading_quiet : (told : List Exchange) (first last : World) (unit : ℕ) (ask : Ask) → Run told first last
+    → Wants unit read_all told ask
     → (address : ℕ) → KeepsAt first last address
 reading_quiet told first last unit ask run wants = quiet_wants unit read_all told ask first last all_reads run wants

@@ -1,5 +1,6 @@
 -- What the verdict of a fresh session rests on.
-use Rattle.std.proofs.Common.{◌≡◌, refl, sym, subst, ℕ, ◌≤◌, Bool, true, false, ◌==◌, ◌&&◌, nat_lt, if◌then◌else◌, List, [], ◌∷◌, Option, Some, None, arith}
+use Rattle.std.proofs.Common.{◌≡◌, refl, sym, subst, ℕ, ◌≤◌, Bool, true, false, ◌==◌, ◌&&◌, nat_lt, if◌then◌else◌, List}
+use Rattle.std.proofs.Common.{[], ◌∷◌, Option, Some, None, arith}
 use Rattle.std.proofs.lemmas.Bool.{eqb-true, ltb-true, ltb-false}
 use Rattle.std.proofs.lemmas.List.{append-nil}
 use Rattle.std.specs.Cmp.{first_so, second_so}
@@ -8,7 +9,8 @@ use Rattle.dali_write.specs.declared.ask.Ask.TheVariants.{Ended}
 use Rattle.dali_write.specs.declared.ask.Verdict.{Verdict}
 use Rattle.dali_write.specs.declared.ask.Verdict.TheVariants.{MayOpen, Short, Format, Silent}
 use Rattle.dali_write.specs.Findings.{Rests}
-use Rattle.dali_write.specs.Plans.{Finish, either_way, greatest, judge_length, read_format, read_format_low, read_length}
+use Rattle.dali_write.specs.Plans.{Finish, either_way, greatest, judge_length, read_format, read_format_low}
+use Rattle.dali_write.specs.Plans.{read_length}
 use Rattle.dali_write.specs.Tries.{Wants}
 use Rattle.dali_write.specs.Reads.{ReadStands}
 use Rattle.dali_write.specs.Walks.{Walk}
@@ -21,7 +23,8 @@ no_match high low differs both =
     let e = subst (λ (h : ℕ). ((h == 0) && (low == 3)) ≡ false) both.0 differs in
     let f = subst (λ (l : ℕ). ((0 == 0) && (l == 3)) ≡ false) both.1 e in cc
 
-ends_silent : (unit : ℕ) (updates : List (ℕ × ℕ)) (verdict : Verdict) (last : List Exchange) (outcomes : List (Option ℕ)) (told : List Exchange)
+ends_silent : (unit : ℕ) (updates : List (ℕ × ℕ)) (verdict : Verdict) (last : List Exchange)
+    (outcomes : List (Option ℕ)) (told : List Exchange)
     → Walk unit (Finish Silent) outcomes told (Finish verdict) → Rests (ReadStands last unit) updates verdict
 ends_silent unit updates verdict last outcomes told walk =
     let end = finish_walk unit Silent outcomes told (Finish verdict) walk in
@@ -30,64 +33,96 @@ ends_silent unit updates verdict last outcomes told walk =
     subst (λ (v : Verdict). Rests (ReadStands last unit) updates v) is tt
 
 -- it ended at once, in the same world
-ends_here : (unit : ℕ) (end verdict : Verdict) (first last : List Exchange) (outcomes : List (Option ℕ)) (told : List Exchange)
+ends_here : (unit : ℕ) (end verdict : Verdict) (first last : List Exchange) (outcomes : List (Option ℕ))
+    (told : List Exchange)
     → Walk unit (Finish end) outcomes told (Finish verdict) → After told first last → (end ≡ verdict) × (last ≡ first)
 ends_here unit end verdict first last outcomes told walk run =
     let over = finish_walk unit end outcomes told (Finish verdict) walk in
     let same = over.1 in
     (cc, subst (λ (t : List Exchange). After t first last) over.0 run)
 
-format_low_rests : (unit : ℕ) (updates : List (ℕ × ℕ)) (length high : ℕ) (verdict : Verdict) (outcomes : List (Option ℕ)) (told : List Exchange) (first last : List Exchange)
-    → ReadStands first unit 0 length → greatest updates ≤ length → 0x13 ≤ greatest updates → ReadStands first unit 0x11 high
-    → Walk unit (read_format_low high) outcomes told (Finish verdict) → After told first last → Rests (ReadStands last unit) updates verdict
-format_low_rests unit updates length high verdict [] told first last size fits long shows walk run = let no = walk.1 in cc
-format_low_rests unit updates length high verdict (None ∷ outcomes) told first last size fits long shows walk run = ends_silent unit updates verdict last outcomes walk.0 walk.4
+format_low_rests : (unit : ℕ) (updates : List (ℕ × ℕ)) (length high : ℕ) (verdict : Verdict)
+    (outcomes : List (Option ℕ)) (told : List Exchange) (first last : List Exchange)
+    → ReadStands first unit 0 length → greatest updates ≤ length → 0x13 ≤ greatest updates
+    → ReadStands first unit 0x11 high
+    → Walk unit (read_format_low high) outcomes told (Finish verdict) → After told first last
+    → Rests (ReadStands last unit) updates verdict
+format_low_rests unit updates length high verdict [] told first last size fits long shows walk run =
+    let no = walk.1 in cc
+format_low_rests unit updates length high verdict (None ∷ outcomes) told first last size fits long shows walk run =
+    ends_silent unit updates verdict last outcomes walk.0 walk.4
 format_low_rests unit updates length high verdict (Some low ∷ outcomes) told first last size fits long shows walk run =
     let parts = split walk.0 walk.1 first last (subst (λ (t : List Exchange). After t first last) walk.2 run) in
     let after = either_way (Finish Silent) (λ l. Finish (if (high == 0) && (l == 3) then MayOpen else Format)) in
     let low_is = read_step_shows unit 0x12 low after walk.1 first parts.0 walk.3 parts.1 in
     let keeps = read_step_keeps unit 0x12 after (Some low) walk.1 first parts.0 walk.3 parts.1 in
-    by parts.0 parts.2 (shows_kept first parts.0 unit 0 length size keeps) (shows_kept first parts.0 unit 0x11 high shows keeps) low_is ((high == 0) && (low == 3)) refl walk.4 where
-      by : (mid : List Exchange) → After walk.0 mid last → ReadStands mid unit 0 length → ReadStands mid unit 0x11 high → ReadStands mid unit 0x12 low
-          → (t : Bool) → ((high == 0) && (low == 3)) ≡ t → Walk unit (Finish (if t then MayOpen else Format)) outcomes walk.0 (Finish verdict) → Rests (ReadStands last unit) updates verdict
+    by parts.0 parts.2 (shows_kept first parts.0 unit 0 length size keeps)
+    (shows_kept first parts.0 unit 0x11 high shows keeps) low_is ((high == 0) && (low == 3)) refl walk.4 where
+      by : (mid : List Exchange) → After walk.0 mid last → ReadStands mid unit 0 length → ReadStands mid unit 0x11 high
+          → ReadStands mid unit 0x12 low
+          → (t : Bool) → ((high == 0) && (low == 3)) ≡ t
+          → Walk unit (Finish (if t then MayOpen else Format)) outcomes walk.0 (Finish verdict)
+          → Rests (ReadStands last unit) updates verdict
       by mid run size_is high_is low_is true suits on =
           let over = ends_here unit MayOpen verdict mid last outcomes walk.0 on run in
           let zero = eqb-true high 0 (first_so (high == 0) (low == 3) suits) in
           let three = eqb-true low 3 (second_so (high == 0) (low == 3) suits) in
           subst (λ (v : Verdict). Rests (ReadStands last unit) updates v) over.0
-          (subst (λ (w : List Exchange). Rests (ReadStands w unit) updates MayOpen) (sym over.1)
-          (length, size_is, fits, λ long. (subst (λ (h : ℕ). ReadStands mid unit 0x11 h) zero high_is, subst (λ (l : ℕ). ReadStands mid unit 0x12 l) three low_is)))
+          (subst (λ (w : List Exchange). Rests (ReadStands w unit) updates MayOpen) (sym over.1) (
+            length,
+            size_is,
+            fits,
+            λ long. (
+              subst (λ (h : ℕ). ReadStands mid unit 0x11 h) zero high_is,
+              subst (λ (l : ℕ). ReadStands mid unit 0x12 l) three low_is,
+            ),
+          ))
       by mid run size_is high_is low_is false differs on =
           let over = ends_here unit Format verdict mid last outcomes walk.0 on run in
           subst (λ (v : Verdict). Rests (ReadStands last unit) updates v) over.0
-          (subst (λ (w : List Exchange). Rests (ReadStands w unit) updates Format) (sym over.1) (high, low, high_is, low_is, long, no_match high low differs))
+          (subst (λ (w : List Exchange). Rests (ReadStands w unit) updates Format) (sym over.1)
+          (high, low, high_is, low_is, long, no_match high low differs))
 
-format_rests : (unit : ℕ) (updates : List (ℕ × ℕ)) (length : ℕ) (verdict : Verdict) (outcomes : List (Option ℕ)) (told : List Exchange) (first last : List Exchange)
+format_rests : (unit : ℕ) (updates : List (ℕ × ℕ)) (length : ℕ) (verdict : Verdict) (outcomes : List (Option ℕ))
+    (told : List Exchange) (first last : List Exchange)
     → ReadStands first unit 0 length → greatest updates ≤ length → 0x13 ≤ greatest updates
-    → Walk unit read_format outcomes told (Finish verdict) → After told first last → Rests (ReadStands last unit) updates verdict
+    → Walk unit read_format outcomes told (Finish verdict) → After told first last
+    → Rests (ReadStands last unit) updates verdict
 format_rests unit updates length verdict [] told first last size fits long walk run = let no = walk.1 in cc
-format_rests unit updates length verdict (None ∷ outcomes) told first last size fits long walk run = ends_silent unit updates verdict last outcomes walk.0 walk.4
+format_rests unit updates length verdict (None ∷ outcomes) told first last size fits long walk run =
+    ends_silent unit updates verdict last outcomes walk.0 walk.4
 format_rests unit updates length verdict (Some high ∷ outcomes) told first last size fits long walk run =
     let parts = split walk.0 walk.1 first last (subst (λ (t : List Exchange). After t first last) walk.2 run) in
     let after = either_way (Finish Silent) read_format_low in
     let high_is = read_step_shows unit 0x11 high after walk.1 first parts.0 walk.3 parts.1 in
     let keeps = read_step_keeps unit 0x11 after (Some high) walk.1 first parts.0 walk.3 parts.1 in
-    format_low_rests unit updates length high verdict outcomes walk.0 parts.0 last (shows_kept first parts.0 unit 0 length size keeps) fits long high_is walk.4 parts.2
+    format_low_rests unit updates length high verdict outcomes walk.0 parts.0 last
+    (shows_kept first parts.0 unit 0 length size keeps) fits long high_is walk.4 parts.2
 
-length_rests : (unit : ℕ) (updates : List (ℕ × ℕ)) (verdict : Verdict) (outcomes : List (Option ℕ)) (told : List Exchange) (first last : List Exchange)
-    → Walk unit (read_length updates) outcomes told (Finish verdict) → After told first last → Rests (ReadStands last unit) updates verdict
+length_rests : (unit : ℕ) (updates : List (ℕ × ℕ)) (verdict : Verdict) (outcomes : List (Option ℕ))
+    (told : List Exchange) (first last : List Exchange)
+    → Walk unit (read_length updates) outcomes told (Finish verdict) → After told first last
+    → Rests (ReadStands last unit) updates verdict
 length_rests unit updates verdict [] told first last walk run = let no = walk.1 in cc
-length_rests unit updates verdict (None ∷ outcomes) told first last walk run = ends_silent unit updates verdict last outcomes walk.0 walk.4
+length_rests unit updates verdict (None ∷ outcomes) told first last walk run =
+    ends_silent unit updates verdict last outcomes walk.0 walk.4
 length_rests unit updates verdict (Some length ∷ outcomes) told first last walk run =
     let parts = split walk.0 walk.1 first last (subst (λ (t : List Exchange). After t first last) walk.2 run) in
-    let size_is = read_step_shows unit 0 length (either_way (Finish Silent) (judge_length updates)) walk.1 first parts.0 walk.3 parts.1 in
-    by parts.0 parts.2 size_is (nat_lt length (greatest updates)) refl (nat_lt (greatest updates) 0x13) refl walk.4 where
-      by : (mid : List Exchange) → After walk.0 mid last → ReadStands mid unit 0 length → (s : Bool) → nat_lt length (greatest updates) ≡ s → (t : Bool) → nat_lt (greatest updates) 0x13 ≡ t
-          → Walk unit (if s then Finish Short else (if t then Finish MayOpen else read_format)) outcomes walk.0 (Finish verdict) → Rests (ReadStands last unit) updates verdict
+    let size_is =
+    read_step_shows unit 0 length (either_way (Finish Silent) (judge_length updates)) walk.1 first parts.0
+    walk.3 parts.1 in
+    by parts.0 parts.2 size_is (nat_lt length (greatest updates)) refl (nat_lt (greatest updates) 0x13)
+    refl walk.4 where
+      by : (mid : List Exchange) → After walk.0 mid last → ReadStands mid unit 0 length → (s : Bool)
+          → nat_lt length (greatest updates) ≡ s → (t : Bool) → nat_lt (greatest updates) 0x13 ≡ t
+          → Walk unit (if s then Finish Short else (if t then Finish MayOpen else read_format)) outcomes walk.0
+          (Finish verdict)
+          → Rests (ReadStands last unit) updates verdict
       by mid run size_is true short t early on =
           let over = ends_here unit Short verdict mid last outcomes walk.0 on run in
           subst (λ (v : Verdict). Rests (ReadStands last unit) updates v) over.0
-          (subst (λ (w : List Exchange). Rests (ReadStands w unit) updates Short) (sym over.1) (length, size_is, ltb-true length (greatest updates) short))
+          (subst (λ (w : List Exchange). Rests (ReadStands w unit) updates Short) (sym over.1)
+          (length, size_is, ltb-true length (greatest updates) short))
       by mid run size_is false fits true early on =
           let over = ends_here unit MayOpen verdict mid last outcomes walk.0 on run in
           let below = ltb-true (greatest updates) 0x13 early in
@@ -95,7 +130,8 @@ length_rests unit updates verdict (Some length ∷ outcomes) told first last wal
           (subst (λ (w : List Exchange). Rests (ReadStands w unit) updates MayOpen) (sym over.1)
           (length, size_is, ltb-false length (greatest updates) fits, λ long. let no : ⊥ = omega arith in absurd no))
       by mid run size_is false fits false late on =
-          format_rests unit updates length verdict outcomes walk.0 mid last size_is (ltb-false length (greatest updates) fits) (ltb-false (greatest updates) 0x13 late) on run
+          format_rests unit updates length verdict outcomes walk.0 mid last size_is
+          (ltb-false length (greatest updates) fits) (ltb-false (greatest updates) 0x13 late) on run
 
 pub fresh_rests : (told : List Exchange) (unit : ℕ) (updates : List (ℕ × ℕ)) (verdict : Verdict)
     → Wants unit (read_length updates) told (Ended verdict) → Rests (ReadStands told unit) updates verdict

@@ -1,11 +1,15 @@
 -- A session gives up only where its last step failed.
-use Rattle.std.proofs.Common.{◌≡◌, ◌⊎◌, inl, inr, refl, sym, ap, subst, ◌∙◌, ℕ, zero, suc, min, Bool, true, false, ◌==◌, ◌&&◌, nat_lt, if◌then◌else◌, List, [], ◌∷◌, ◌++◌, append_assoc, append-nil, Option, Some, None, IsSome}
+use Rattle.std.proofs.Common.{◌≡◌, ◌⊎◌, inl, inr, refl, sym, ap, subst, ◌∙◌, ℕ, zero, suc, min, Bool, true, false, ◌==◌}
+use Rattle.std.proofs.Common.{◌&&◌, nat_lt, if◌then◌else◌, List, [], ◌∷◌, ◌++◌, append_assoc, append-nil, Option, Some}
+use Rattle.std.proofs.Common.{None, IsSome}
 use Rattle.dali_write.specs.Exchanges.{Exchange}
 use Rattle.dali_write.specs.declared.step.Step.{Step}
 use Rattle.dali_write.specs.declared.ask.Verdict.{Verdict}
-use Rattle.dali_write.specs.declared.ask.Verdict.TheVariants.{MayOpen, Short, Format, Silent, DoubtOpen, Closed, NotClosed}
+use Rattle.dali_write.specs.declared.ask.Verdict.TheVariants.{MayOpen, Short, Format, Silent, DoubtOpen, Closed}
+use Rattle.dali_write.specs.declared.ask.Verdict.TheVariants.{NotClosed}
 use Rattle.dali_write.specs.declared.ask.Ask.TheVariants.{Ended}
-use Rattle.dali_write.specs.Plans.{Plan, Finish, Check, greatest, read_format, read_length, close, give_up, expect, read_back, write_on, unlock, read_on, read_all}
+use Rattle.dali_write.specs.Plans.{Plan, Finish, Check, greatest, read_format, read_length, close, give_up, expect}
+use Rattle.dali_write.specs.Plans.{read_back, write_on, unlock, read_on, read_all}
 use Rattle.dali_write.specs.declared.step.Step.TheVariants.{ReadFrom, WriteTo}
 use Rattle.dali_write.specs.declared.line.Line.{Line}
 use Rattle.dali_write.specs.Lines.{Meets, line, step_lines, byte_after}
@@ -26,7 +30,8 @@ last_append [] x = refl
 last_append (y ∷ []) x = refl
 last_append (y ∷ z ∷ xs) x = last_append (z ∷ xs) x
 
-sent : (lines : List Line) (tried : List Exchange) (left : List Line) → Trying lines tried left → (before : List Line) × (lines ≡ before ++ left)
+sent : (lines : List Line) (tried : List Exchange) (left : List Line) → Trying lines tried left
+    → (before : List Line) × (lines ≡ before ++ left)
 sent lines [] left try = ([], sym try)
 sent lines (x ∷ tried) left try =
     let rest = sent lines tried (line x.frame try.0 ∷ left) try.2 in
@@ -35,19 +40,22 @@ sent lines (x ∷ tried) left try =
 -- a line whose answer is a byte
 abbrev TakesByte : Option Line → Type 0
 TakesByte None = ⊥
-TakesByte (Some l) = (answer : Option ℕ) (byte : Option ℕ) → Meets l.wish answer → IsSome (byte_after l.frame answer byte)
+TakesByte (Some l) =
+    (answer : Option ℕ) (byte : Option ℕ) → Meets l.wish answer → IsSome (byte_after l.frame answer byte)
 
 ends_with_byte : (unit : ℕ) (step : Step) → TakesByte (last_line (step_lines unit step))
 ends_with_byte unit (ReadFrom location) = λ answer byte meets. meets
 ends_with_byte unit (WriteTo location b) = λ answer byte meets. rw meets refl
 
-tried_byte : (lines : List Line) (tried : List Exchange) → TakesByte (last_line lines) → Trying lines tried [] → IsSome (byte_of tried)
+tried_byte : (lines : List Line) (tried : List Exchange) → TakesByte (last_line lines) → Trying lines tried []
+    → IsSome (byte_of tried)
 tried_byte lines [] takes try =
     let none : lines ≡ [] = sym try in
     let never : TakesByte None = subst (λ (l : List Line). TakesByte (last_line l)) none takes in absurd never
 tried_byte lines (x ∷ tried) takes try =
     let all = sent lines tried (line x.frame try.0 ∷ []) try.2 in
-    let last : last_line lines ≡ Some (line x.frame try.0) = ap last_line all.1 ∙ last_append all.0 (line x.frame try.0) in
+    let last : last_line lines ≡ Some (line x.frame try.0) =
+    ap last_line all.1 ∙ last_append all.0 (line x.frame try.0) in
     let here : TakesByte (Some (line x.frame try.0)) = subst TakesByte last takes in
     here x.answer (byte_of tried) try.1
 
@@ -62,7 +70,8 @@ has_byte unit step told done =
     not_both (byte_of done.0) done.5 some
 
 -- a step without a byte failed: it missed in each of its tries
-pub all_missed : (unit : ℕ) (step : Step) (after : Option ℕ → Plan) (told : List Exchange) → StepEnds unit (Check step after) None told → Misses (step_lines unit step) most_tries told
+pub all_missed : (unit : ℕ) (step : Step) (after : Option ℕ → Plan) (told : List Exchange)
+    → StepEnds unit (Check step after) None told → Misses (step_lines unit step) most_tries told
 all_missed unit step after told (inl done) = absurd (has_byte unit step told done)
 all_missed unit step after told (inr failed) = failed.1
 
@@ -71,10 +80,12 @@ abbrev WasOne : (Step → Type 0) → Option Step → Type 0
 WasOne P None = ⊥
 WasOne P (Some step) = P step
 
--- the plan ends so only where the step before its end failed and is one of these; the step before the plan failed, if one did
+-- the plan ends so only where the step before its end failed and is one of these; the step before the plan failed, if
+-- one did
 abbrev Late : (Step → Type 0) → Verdict → Option Step → Plan → Type 0
 Late P verdict failed (Finish v) = v ≡ verdict → WasOne P failed
-Late P verdict failed (Check step after) = Late P verdict (Some step) (after None) × ((byte : ℕ) → Late P verdict None (after (Some byte)))
+Late P verdict failed (Check step after) =
+    Late P verdict (Some step) (after None) × ((byte : ℕ) → Late P verdict None (after (Some byte)))
 
 -- the newest frames are those of the step that failed just before, if one did
 abbrev JustFailed : ℕ → Option Step → List Exchange → Type 0
@@ -85,12 +96,15 @@ JustFailed unit (Some step) older = EndsInFailure unit step older
 abbrev FailedOf : (Step → Type 0) → ℕ → List Exchange → Type 0
 FailedOf P unit told = (step : Step) × P step × EndsInFailure unit step told
 
-failed_last : (P : Step → Type 0) (unit : ℕ) (failed : Option Step) (told : List Exchange) → WasOne P failed → JustFailed unit failed told → FailedOf P unit told
+failed_last : (P : Step → Type 0) (unit : ℕ) (failed : Option Step) (told : List Exchange) → WasOne P failed
+    → JustFailed unit failed told → FailedOf P unit told
 failed_last P unit None told was just = absurd was
 failed_last P unit (Some step) told was just = (step, was, just)
 
-late_walk : (P : Step → Type 0) (verdict : Verdict) (unit : ℕ) (failed : Option Step) (plan : Plan) (outcomes : List (Option ℕ)) (told older : List Exchange)
-    → Late P verdict failed plan → JustFailed unit failed older → Walk unit plan outcomes told (Finish verdict) → FailedOf P unit (told ++ older)
+late_walk : (P : Step → Type 0) (verdict : Verdict) (unit : ℕ) (failed : Option Step) (plan : Plan)
+    (outcomes : List (Option ℕ)) (told older : List Exchange)
+    → Late P verdict failed plan → JustFailed unit failed older → Walk unit plan outcomes told (Finish verdict)
+    → FailedOf P unit (told ++ older)
 late_walk P verdict unit failed (Finish v) [] told older late just walk =
     let same = walk.1 in
     rw walk.0 (failed_last P unit failed older (late (let is : v ≡ verdict = cc in is)) just)
@@ -99,17 +113,21 @@ late_walk P verdict unit failed (Check step after) [] told older late just walk 
 late_walk P verdict unit failed (Check step after) (None ∷ outcomes) told older late just walk =
     let failure : EndsInFailure unit step (walk.1 ++ older) =
     record { tries = walk.1; older = older; parts = refl; missed = all_missed unit step after walk.1 walk.3 } in
-    rw (walk.2, append_assoc walk.0 walk.1 older) (late_walk P verdict unit (Some step) (after None) outcomes walk.0 (walk.1 ++ older) late.0 failure walk.4)
+    rw (walk.2, append_assoc walk.0 walk.1 older)
+    (late_walk P verdict unit (Some step) (after None) outcomes walk.0 (walk.1 ++ older) late.0 failure walk.4)
 late_walk P verdict unit failed (Check step after) (Some byte ∷ outcomes) told older late just walk =
-    rw (walk.2, append_assoc walk.0 walk.1 older) (late_walk P verdict unit None (after (Some byte)) outcomes walk.0 (walk.1 ++ older) (late.1 byte) tt walk.4)
+    rw (walk.2, append_assoc walk.0 walk.1 older)
+    (late_walk P verdict unit None (after (Some byte)) outcomes walk.0 (walk.1 ++ older) (late.1 byte) tt walk.4)
 
-late : (P : Step → Type 0) (unit : ℕ) (plan : Plan) (told : List Exchange) (verdict : Verdict) → Late P verdict None plan → Wants unit plan told (Ended verdict) → FailedOf P unit told
+late : (P : Step → Type 0) (unit : ℕ) (plan : Plan) (told : List Exchange) (verdict : Verdict)
+    → Late P verdict None plan → Wants unit plan told (Ended verdict) → FailedOf P unit told
 late P unit plan told verdict is wants =
     let walk = ended_walk unit plan told verdict wants in
     rw (sym (append-nil told)) (late_walk P verdict unit None plan walk.0 told [] is tt walk.1)
 
 -- the one step that it may be
-only : (step : Step) (unit : ℕ) (told : List Exchange) → FailedOf (λ s. s ≡ step) unit told → EndsInFailure unit step told
+only : (step : Step) (unit : ℕ) (told : List Exchange) → FailedOf (λ s. s ≡ step) unit told
+    → EndsInFailure unit step told
 only step unit told of = subst (λ (s : Step). EndsInFailure unit s told) of.1 of.2
 
 -- a read of the length or of the content format
@@ -133,11 +151,14 @@ length_late updates = (
   λ e. inl refl,
   λ last.
       if_all (Late IsLook Silent None) (nat_lt last (greatest updates)) (Finish Short) _ (λ e. cc)
-      (if_all (Late IsLook Silent None) (nat_lt (greatest updates) 0x13) (Finish MayOpen) read_format (λ e. cc) format_late),
+      (if_all (Late IsLook Silent None) (nat_lt (greatest updates) 0x13) (Finish MayOpen) read_format
+      (λ e. cc) format_late),
 )
 
-pub fresh_late : (told : List Exchange) (unit : ℕ) (updates : List (ℕ × ℕ)) → Wants unit (read_length updates) told (Ended Silent) → EndsUnlooked unit told
-fresh_late told unit updates wants = one_look unit told (late IsLook unit (read_length updates) told Silent (length_late updates) wants)
+pub fresh_late : (told : List Exchange) (unit : ℕ) (updates : List (ℕ × ℕ))
+    → Wants unit (read_length updates) told (Ended Silent) → EndsUnlooked unit told
+fresh_late told unit updates wants =
+    one_look unit told (late IsLook unit (read_length updates) told Silent (length_late updates) wants)
 
 -- a read of the lock byte
 abbrev LockRead : Step → Type 0
@@ -149,27 +170,36 @@ LateDoubt = Late LockRead DoubtOpen
 give_up_late : (failed : Option Step) → LateDoubt failed give_up
 give_up_late failed = ((λ e. refl, λ read e. cc), λ written. (λ e. refl, λ read e. cc))
 
-expect_late : (failed : Option Step) (location byte : ℕ) (after : Plan) → LateDoubt None after → LateDoubt failed (expect location byte after)
-expect_late failed location byte after is =
-    (give_up_late (Some (ReadFrom location)), λ found. if_all (LateDoubt None) (found == byte) after give_up is (give_up_late None))
+expect_late : (failed : Option Step) (location byte : ℕ) (after : Plan) → LateDoubt None after
+    → LateDoubt failed (expect location byte after)
+expect_late failed location byte after is = (
+  give_up_late (Some (ReadFrom location)),
+  λ found. if_all (LateDoubt None) (found == byte) after give_up is (give_up_late None),
+)
 
 read_back_late : (updates : List (ℕ × ℕ)) → LateDoubt None (read_back updates)
 read_back_late [] = λ e. cc
 read_back_late (update ∷ updates) = expect_late None update.0 update.1 (read_back updates) (read_back_late updates)
 
 write_on_late : (updates left : List (ℕ × ℕ)) → LateDoubt None (write_on updates left)
-write_on_late updates [] = (give_up_late (Some (WriteTo 2 0xFF)), λ byte. expect_late None 2 0xFF (read_back updates) (read_back_late updates))
-write_on_late updates (update ∷ left) = (give_up_late (Some (WriteTo update.0 update.1)), λ byte. write_on_late updates left)
+write_on_late updates [] =
+    (give_up_late (Some (WriteTo 2 0xFF)), λ byte. expect_late None 2 0xFF (read_back updates) (read_back_late updates))
+write_on_late updates (update ∷ left) =
+    (give_up_late (Some (WriteTo update.0 update.1)), λ byte. write_on_late updates left)
 
-pub opened_late : (told : List Exchange) (unit : ℕ) (updates : List (ℕ × ℕ)) → Wants unit (unlock updates) told (Ended DoubtOpen) → EndsUnread unit 0x02 told
+pub opened_late : (told : List Exchange) (unit : ℕ) (updates : List (ℕ × ℕ))
+    → Wants unit (unlock updates) told (Ended DoubtOpen) → EndsUnread unit 0x02 told
 opened_late told unit updates wants =
     only (ReadFrom 0x02) unit told
-    (late LockRead unit (unlock updates) told DoubtOpen (give_up_late (Some (WriteTo 2 0x55)), λ byte. write_on_late updates updates) wants)
+    (late LockRead unit (unlock updates) told DoubtOpen
+    (give_up_late (Some (WriteTo 2 0x55)), λ byte. write_on_late updates updates) wants)
 
-pub closing_late : (told : List Exchange) (unit : ℕ) → Wants unit (close Closed NotClosed) told (Ended NotClosed) → EndsUnread unit 0x02 told
+pub closing_late : (told : List Exchange) (unit : ℕ) → Wants unit (close Closed NotClosed) told (Ended NotClosed)
+    → EndsUnread unit 0x02 told
 closing_late told unit wants =
     only (ReadFrom 0x02) unit told
-    (late LockRead unit (close Closed NotClosed) told NotClosed ((λ e. refl, λ read e. cc), λ written. (λ e. refl, λ read e. cc)) wants)
+    (late LockRead unit (close Closed NotClosed) told NotClosed
+    ((λ e. refl, λ read e. cc), λ written. (λ e. refl, λ read e. cc)) wants)
 
 -- a read of some location
 abbrev IsRead : Step → Type 0
@@ -179,14 +209,16 @@ read_on_late : (location left : ℕ) → Late IsRead Silent None (read_on locati
 read_on_late location zero = λ e. cc
 read_on_late location (suc left) = (λ e. (location, refl), λ byte. read_on_late (suc location) left)
 
-pub reading_late : (told : List Exchange) (unit : ℕ) → Wants unit read_all told (Ended Silent) → (location : ℕ) × EndsUnread unit location told
+pub reading_late : (told : List Exchange) (unit : ℕ) → Wants unit read_all told (Ended Silent)
+    → (location : ℕ) × EndsUnread unit location told
 reading_late told unit wants =
     let of = late IsRead unit read_all told Silent (λ e. (0, refl), λ last. read_on_late 1 (min last 0xFE)) wants in
     (of.1.0, subst (λ (s : Step). EndsInFailure unit s told) of.1.1 of.2)
 
 -- with older frames before
 
-failure_joined : (unit : ℕ) (step : Step) (sent told older : List Exchange) → sent ≡ told ++ older → EndsInFailure unit step told → EndsInFailure unit step sent
+failure_joined : (unit : ℕ) (step : Step) (sent told older : List Exchange) → sent ≡ told ++ older
+    → EndsInFailure unit step told → EndsInFailure unit step sent
 failure_joined unit step sent told older parts f =
     record {
       tries = f.tries;
@@ -195,15 +227,18 @@ failure_joined unit step sent told older parts f =
       missed = f.missed;
     }
 
-pub unread_joined : (unit location : ℕ) (sent told older : List Exchange) → sent ≡ told ++ older → EndsUnread unit location told → EndsUnread unit location sent
+pub unread_joined : (unit location : ℕ) (sent told older : List Exchange) → sent ≡ told ++ older
+    → EndsUnread unit location told → EndsUnread unit location sent
 unread_joined unit location sent told older parts f = failure_joined unit (ReadFrom location) sent told older parts f
 
-pub unlooked_joined : (unit : ℕ) (sent told older : List Exchange) → sent ≡ told ++ older → EndsUnlooked unit told → EndsUnlooked unit sent
+pub unlooked_joined : (unit : ℕ) (sent told older : List Exchange) → sent ≡ told ++ older → EndsUnlooked unit told
+    → EndsUnlooked unit sent
 unlooked_joined unit sent told older parts (inl f) = inl (unread_joined unit 0x00 sent told older parts f)
 unlooked_joined unit sent told older parts (inr (inl f)) = inr (inl (unread_joined unit 0x11 sent told older parts f))
 unlooked_joined unit sent told older parts (inr (inr f)) = inr (inr (unread_joined unit 0x12 sent told older parts f))
 
-pub failed_joined : (unit : ℕ) (sent told older : List Exchange) → sent ≡ told ++ older → HasFailed unit told → HasFailed unit sent
+pub failed_joined : (unit : ℕ) (sent told older : List Exchange) → sent ≡ told ++ older → HasFailed unit told
+    → HasFailed unit sent
 failed_joined unit sent told older parts f =
     record {
       newer = f.newer;

@@ -1,5 +1,7 @@
--- What a unit keeps along the frames of tries, whatever of them is lost or refused, and what it has where a try came to its end.
-use Rattle.std.proofs.Common.{◌≡◌, refl, sym, subst, ℕ, zero, suc, ◌+◌, ◌<◌, Bool, true, false, ◌&&◌, not, List, [], ◌∷◌, ◌++◌, length, Option, Some, None, arith}
+-- What a unit keeps along the frames of tries, whatever of them is lost or refused, and what it has where a try came
+-- to its end.
+use Rattle.std.proofs.Common.{◌≡◌, refl, sym, subst, ℕ, zero, suc, ◌+◌, ◌<◌, Bool, true, false, ◌&&◌, not, List, []}
+use Rattle.std.proofs.Common.{◌∷◌, ◌++◌, length, Option, Some, None, arith}
 use Rattle.std.specs.Prelude.{◌==◌, slice_get, slice_set, if◌then◌else◌}
 use Rattle.std.proofs.lemmas.Bool.{ltb-true}
 use Rattle.std.specs.Cmp.{first_so, second_so}
@@ -9,7 +11,8 @@ use Rattle.dali_frame.specs.declared.forward.Frame.{Frame}
 use Rattle.dali_frame.specs.declared.forward.Frame.TheVariants.{Dtr0, Dtr1, Write, Enable, AskDtr0, AskDtr1}
 use Rattle.dali_gear.specs.Fate.{is_lost, next_fate}
 use Rattle.dali_write.specs.Exchanges.{Exchange}
-use Rattle.dali_gear.specs.UnitState.{BankState, UnitState, after_frame, after_write, answer_to, is_writable, with_byte, stores, carries_out, bank_of}
+use Rattle.dali_gear.specs.UnitState.{BankState, UnitState, after_frame, after_write, answer_to, is_writable, with_byte}
+use Rattle.dali_gear.specs.UnitState.{stores, carries_out, bank_of}
 use Rattle.dali_gear.specs.Hears.{up}
 use Rattle.dali_gear.specs.SimState.{SimState, SimCarry, unit_after}
 use Rattle.dali_gear.proofs.BankLemmas.{IsQuiet, bank_stays}
@@ -31,14 +34,18 @@ hears lost refuses unit frame = if lost then unit else after_frame refuses unit 
 abbrev says : Bool → Bool → UnitState → Frame → Option ℕ
 says lost refuses unit frame = if lost then None else answer_to refuses unit frame
 
--- Whatever is lost or refused of the lines, it holds of the bank, and it goes on so while answers that come back are as wished; after the last line, the unit is so.
+-- Whatever is lost or refused of the lines, it holds of the bank, and it goes on so while answers that come back are
+-- as wished; after the last line, the unit is so.
 abbrev Safe : (BankState → Type 0) → (UnitState → Type 0) → List Line → UnitState → Type 0
 Safe keep end [] unit = end unit
 Safe keep end (next ∷ left) unit =
-    (lost refuses : Bool) (answer : Option ℕ) → ((byte : ℕ) → answer ≡ Some byte → says lost refuses unit next.frame ≡ Some byte)
-    → keep (hears lost refuses unit next.frame).bank1 × (Meets next.wish answer → Safe keep end left (hears lost refuses unit next.frame))
+    (lost refuses : Bool) (answer : Option ℕ)
+    → ((byte : ℕ) → answer ≡ Some byte → says lost refuses unit next.frame ≡ Some byte)
+    → keep (hears lost refuses unit next.frame).bank1
+    × (Meets next.wish answer → Safe keep end left (hears lost refuses unit next.frame))
 
-keep_quiet : (keep : BankState → Type 0) (lost refuses : Bool) (unit : UnitState) (frame : Frame) → IsQuiet frame → keep unit.bank1 → keep (hears lost refuses unit frame).bank1
+keep_quiet : (keep : BankState → Type 0) (lost refuses : Bool) (unit : UnitState) (frame : Frame) → IsQuiet frame
+    → keep unit.bank1 → keep (hears lost refuses unit frame).bank1
 keep_quiet keep true refuses unit frame quiet kept = kept
 keep_quiet keep false refuses unit frame quiet kept = subst keep (sym (bank_stays refuses unit frame quiet)) kept
 
@@ -48,7 +55,8 @@ AllQuiet [] = Unit {0}
 AllQuiet (next ∷ left) = IsQuiet next.frame × AllQuiet left
 
 -- quiet lines, and then others
-quiet_first : (keep : BankState → Type 0) (end : UnitState → Type 0) (lines left : List Line) (unit : UnitState) → AllQuiet lines → keep unit.bank1
+quiet_first : (keep : BankState → Type 0) (end : UnitState → Type 0) (lines left : List Line) (unit : UnitState)
+    → AllQuiet lines → keep unit.bank1
     → ((new : UnitState) → keep new.bank1 → Safe keep end left new) → Safe keep end (lines ++ left) unit
 quiet_first keep end [] left unit quiet kept rest = rest unit kept
 quiet_first keep end (next ∷ lines) left unit quiet kept rest = λ lost refuses answer back.
@@ -70,9 +78,16 @@ get_set : (xs : List ℕ) (i x : ℕ) → i < length xs → slice_get (slice_set
 get_set xs i x below = grind (arith, common_steps, gets)
 
 -- a write where the location is selected keeps it
-keep_write : (keep : BankState → Type 0) (location byte : ℕ) (unit : UnitState) (on done first : Bool) → Keeps keep (WriteTo location byte)
+keep_write : (keep : BankState → Type 0) (location byte : ℕ) (unit : UnitState) (on done first : Bool)
+    → Keeps keep (WriteTo location byte)
     → unit.dtr0 ≡ location → keep unit.bank1
-    → keep (if on then record (if done then (if first then record unit { bank1 = with_byte unit.bank1 unit.dtr0 byte } else record unit { bank2 = with_byte unit.bank2 unit.dtr0 byte }) else unit) { dtr0 = up unit.dtr0 } else unit).bank1
+    → keep (if on
+    then record (if done
+    then (if first
+    then record unit { bank1 = with_byte unit.bank1 unit.dtr0 byte }
+    else record unit { bank2 = with_byte unit.bank2 unit.dtr0 byte })
+    else unit) { dtr0 = up unit.dtr0 }
+    else unit).bank1
 keep_write keep location byte unit true true true stored here kept = rw here (stored unit.bank1 kept)
 keep_write keep location byte unit true true false stored here kept = kept
 keep_write keep location byte unit true false first stored here kept = kept
@@ -83,57 +98,83 @@ told_if true told byte e = (refl, cc)
 told_if false told byte e = cc
 
 -- a write that was stored has its byte there
-has_written : (location byte : ℕ) (refuses : Bool) (unit : UnitState) → unit.dtr1 ≡ 1 → unit.dtr0 ≡ location → stores refuses unit ≡ true
+has_written : (location byte : ℕ) (refuses : Bool) (unit : UnitState) → unit.dtr1 ≡ 1 → unit.dtr0 ≡ location
+    → stores refuses unit ≡ true
     → Ends (WriteTo location byte) (after_write refuses unit byte)
 has_written location byte refuses unit bank here done =
     let can : Bool = is_writable (bank_of unit unit.dtr1) unit.dtr0 in
-    let on : carries_out unit ≡ true = first_so (carries_out unit) (not refuses) (first_so (carries_out unit && not refuses) can done) in
-    let writable : is_writable unit.bank1 location ≡ true = rw (bank, here) at (second_so (carries_out unit && not refuses) can done) in
-    rw (done, on, bank, here) (get_set unit.bank1.bytes location byte (ltb-true location (length unit.bank1.bytes) (first_so _ _ writable)))
+    let on : carries_out unit ≡ true =
+    first_so (carries_out unit) (not refuses) (first_so (carries_out unit && not refuses) can done) in
+    let writable : is_writable unit.bank1 location ≡ true =
+    rw (bank, here) at (second_so (carries_out unit && not refuses) can done) in
+    rw (done, on, bank, here)
+    (get_set unit.bank1.bytes location byte (ltb-true location (length unit.bank1.bytes) (first_so _ _ writable)))
 
 -- the lines of a checked write, from the last one back
 safe_write : (keep : BankState → Type 0) (location byte : ℕ) → Keeps keep (WriteTo location byte)
-    → (unit : UnitState) → unit.dtr1 ≡ 1 → unit.dtr0 ≡ location → keep unit.bank1 → Safe keep (Ends (WriteTo location byte)) (line (Write byte) (Exactly byte) ∷ []) unit
+    → (unit : UnitState) → unit.dtr1 ≡ 1 → unit.dtr0 ≡ location → keep unit.bank1
+    → Safe keep (Ends (WriteTo location byte)) (line (Write byte) (Exactly byte) ∷ []) unit
 safe_write keep location byte stored unit bank here kept true refuses answer back =
     (kept, λ meets. let lost : None ≡ Some byte = back byte meets in cc)
 safe_write keep location byte stored unit bank here kept false refuses answer back =
     let now : UnitState = record unit { half_pair = false } in (
       keep_write keep location byte now (carries_out now) (stores refuses now) (unit.dtr1 == 1) stored here kept,
-      λ meets. has_written location byte refuses now bank here (told_if (stores refuses now) byte byte (back byte meets)).0,
+      λ meets.
+          has_written location byte refuses now bank here (told_if (stores refuses now) byte byte (back byte meets)).0,
     )
 
 safe_ask0 : (keep : BankState → Type 0) (at location byte : ℕ) → Keeps keep (WriteTo location byte)
-    → (unit : UnitState) → unit.dtr1 ≡ 1 → keep unit.bank1 → Safe keep (Ends (WriteTo location byte)) (line (AskDtr0 at) (Exactly location) ∷ line (Write byte) (Exactly byte) ∷ []) unit
-safe_ask0 keep at location byte stored unit bank kept true refuses answer back = (kept, λ meets. let lost : None ≡ Some location = back location meets in cc)
-safe_ask0 keep at location byte stored unit bank kept false refuses answer back =
-    (kept, λ meets. safe_write keep location byte stored (record unit { half_pair = false }) bank (told_if (at == unit.address) unit.dtr0 location (back location meets)).1 kept)
+    → (unit : UnitState) → unit.dtr1 ≡ 1 → keep unit.bank1
+    → Safe keep (Ends (WriteTo location byte))
+    (line (AskDtr0 at) (Exactly location) ∷ line (Write byte) (Exactly byte) ∷ []) unit
+safe_ask0 keep at location byte stored unit bank kept true refuses answer back =
+    (kept, λ meets. let lost : None ≡ Some location = back location meets in cc)
+safe_ask0 keep at location byte stored unit bank kept false refuses answer back = (
+  kept,
+  λ meets. safe_write keep location byte stored (record unit { half_pair = false }) bank
+      (told_if (at == unit.address) unit.dtr0 location (back location meets)).1 kept,
+)
 
 safe_dtr0 : (keep : BankState → Type 0) (at location byte : ℕ) → Keeps keep (WriteTo location byte)
     → (unit : UnitState) → unit.dtr1 ≡ 1 → keep unit.bank1
-    → Safe keep (Ends (WriteTo location byte)) (line (Dtr0 location) Nothing ∷ line (AskDtr0 at) (Exactly location) ∷ line (Write byte) (Exactly byte) ∷ []) unit
-safe_dtr0 keep at location byte stored unit bank kept true refuses answer back = (kept, λ meets. safe_ask0 keep at location byte stored unit bank kept)
-safe_dtr0 keep at location byte stored unit bank kept false refuses answer back =
-    (kept, λ meets. safe_ask0 keep at location byte stored (record unit { half_pair = false; dtr0 = location }) bank kept)
+    → Safe keep (Ends (WriteTo location byte))
+    (line (Dtr0 location) Nothing ∷ line (AskDtr0 at) (Exactly location) ∷ line (Write byte) (Exactly byte) ∷ []) unit
+safe_dtr0 keep at location byte stored unit bank kept true refuses answer back =
+    (kept, λ meets. safe_ask0 keep at location byte stored unit bank kept)
+safe_dtr0 keep at location byte stored unit bank kept false refuses answer back = (
+  kept,
+  λ meets. safe_ask0 keep at location byte stored (record unit { half_pair = false; dtr0 = location }) bank kept,
+)
 
 safe_ask1 : (keep : BankState → Type 0) (at location byte : ℕ) → Keeps keep (WriteTo location byte)
     → (unit : UnitState) → keep unit.bank1
     → Safe keep (Ends (WriteTo location byte))
-    (line (AskDtr1 at) (Exactly 1) ∷ line (Dtr0 location) Nothing ∷ line (AskDtr0 at) (Exactly location) ∷ line (Write byte) (Exactly byte) ∷ []) unit
-safe_ask1 keep at location byte stored unit kept true refuses answer back = (kept, λ meets. let lost : None ≡ Some 1 = back 1 meets in cc)
-safe_ask1 keep at location byte stored unit kept false refuses answer back =
-    (kept, λ meets. safe_dtr0 keep at location byte stored (record unit { half_pair = false }) (told_if (at == unit.address) unit.dtr1 1 (back 1 meets)).1 kept)
+    (line (AskDtr1 at) (Exactly 1) ∷ line (Dtr0 location) Nothing ∷ line (AskDtr0 at) (Exactly location)
+    ∷ line (Write byte) (Exactly byte) ∷ [])
+    unit
+safe_ask1 keep at location byte stored unit kept true refuses answer back =
+    (kept, λ meets. let lost : None ≡ Some 1 = back 1 meets in cc)
+safe_ask1 keep at location byte stored unit kept false refuses answer back = (
+  kept,
+  λ meets. safe_dtr0 keep at location byte stored (record unit { half_pair = false })
+      (told_if (at == unit.address) unit.dtr1 1 (back 1 meets)).1 kept,
+)
 
-safe_step : (keep : BankState → Type 0) (at : ℕ) (step : Step) (unit : UnitState) → Keeps keep step → keep unit.bank1 → Safe keep (Ends step) (step_lines at step) unit
+safe_step : (keep : BankState → Type 0) (at : ℕ) (step : Step) (unit : UnitState) → Keeps keep step → keep unit.bank1
+    → Safe keep (Ends step) (step_lines at step) unit
 safe_step keep at (ReadFrom location) unit keeps kept =
-    quiet_first keep (Ends (ReadFrom location)) (read_lines at location) [] unit (tt, (tt, (tt, (tt, (tt, tt))))) kept (λ new still. tt)
+    quiet_first keep (Ends (ReadFrom location)) (read_lines at location) [] unit (tt, (tt, (tt, (tt, (tt, tt))))) kept
+    (λ new still. tt)
 safe_step keep at (WriteTo location byte) unit keeps kept =
     quiet_first keep (Ends (WriteTo location byte))
     (line (Enable at) Nothing ∷ line (Enable at) Nothing ∷ line (Dtr1 1) Nothing ∷ [])
-    (line (AskDtr1 at) (Exactly 1) ∷ line (Dtr0 location) Nothing ∷ line (AskDtr0 at) (Exactly location) ∷ line (Write byte) (Exactly byte) ∷ [])
+    (line (AskDtr1 at) (Exactly 1) ∷ line (Dtr0 location) Nothing ∷ line (AskDtr0 at) (Exactly location)
+    ∷ line (Write byte) (Exactly byte) ∷ [])
     unit (tt, (tt, (tt, tt))) kept (safe_ask1 keep at location byte keeps)
 
 -- the unit after a part of a try
-record After (keep : BankState → Type 0) (end : UnitState → Type 0) (at : ℕ) (left : List Line) (last : SimState) : Type 0 where
+record After (keep : BankState → Type 0) (end : UnitState → Type 0) (at : ℕ) (left : List Line) (last : SimState)
+    : Type 0 where
   now : UnitState
   alone : IsAlone at now last.units
   kept : keep now.bank1
@@ -141,43 +182,62 @@ record After (keep : BankState → Type 0) (end : UnitState → Type 0) (at : �
   for : AllFor at left
 
 -- one more frame, with its answer
-one_more : (keep : BankState → Type 0) (end : UnitState → Type 0) (at : ℕ) (next : Line) (left : List Line) (old : SimState) (answer : Option ℕ) (new : SimState)
+one_more : (keep : BankState → Type 0) (end : UnitState → Type 0) (at : ℕ) (next : Line) (left : List Line)
+    (old : SimState) (answer : Option ℕ) (new : SimState)
     → SimCarry old next.frame answer new → After keep end at (next ∷ left) old
     → (now : UnitState) × IsAlone at now new.units × keep now.bank1 × (Meets next.wish answer → Safe keep end left now)
 one_more keep end at next left old answer new carry before =
     let fate = next_fate old.fates in
-    let here = before.safe (is_lost fate before.now.address) fate.refuse answer (own_answer at old before.now next.frame answer new carry before.for.0 before.alone) in
-    (unit_after fate next.frame before.now, alone_then at old before.now next.frame answer new carry before.for.0 before.alone, here.0, here.1)
+    let here =
+    before.safe (is_lost fate before.now.address) fate.refuse answer
+    (own_answer at old before.now next.frame answer new carry before.for.0 before.alone) in (
+      unit_after fate next.frame before.now,
+      alone_then at old before.now next.frame answer new carry before.for.0 before.alone,
+      here.0,
+      here.1,
+    )
 
-after_trying : (keep : BankState → Type 0) (end : UnitState → Type 0) (at : ℕ) (lines left : List Line) (unit : UnitState) (told : List Exchange) (first last : SimState) → SimRun told first last
-    → IsAlone at unit first.units → keep unit.bank1 → Safe keep end lines unit → AllFor at lines → Trying lines told left → After keep end at left last
+after_trying : (keep : BankState → Type 0) (end : UnitState → Type 0) (at : ℕ) (lines left : List Line)
+    (unit : UnitState) (told : List Exchange) (first last : SimState)
+    → SimRun told first last
+    → IsAlone at unit first.units → keep unit.bank1 → Safe keep end lines unit → AllFor at lines
+    → Trying lines told left → After keep end at left last
 after_trying keep end at lines left unit [] first last run alone kept safe for try =
     rw (run, try) (record { now = unit; alone = alone; kept = kept; safe = safe; for = for })
 after_trying keep end at lines left unit (x ∷ told) first last run alone kept safe for try =
-    let before = after_trying keep end at lines (line x.frame try.0 ∷ left) unit told first run.0 run.1 alone kept safe for try.2 in
+    let before =
+    after_trying keep end at lines (line x.frame try.0 ∷ left) unit told first run.0 run.1 alone kept safe for try.2 in
     let more = one_more keep end at (line x.frame try.0) left run.0 x.answer last run.2 before in
     record { now = more.0; alone = more.1; kept = more.2; safe = more.3 try.1; for = before.for.1 }
 
 -- a try that missed
-after_missed : (keep : BankState → Type 0) (at : ℕ) (step : Step) (unit : UnitState) (told : List Exchange) (first last : SimState) → SimRun told first last
-    → IsAlone at unit first.units → keep unit.bank1 → Keeps keep step → Missed (step_lines at step) told → (now : UnitState) × IsAlone at now last.units × keep now.bank1
+after_missed : (keep : BankState → Type 0) (at : ℕ) (step : Step) (unit : UnitState) (told : List Exchange)
+    (first last : SimState)
+    → SimRun told first last
+    → IsAlone at unit first.units → keep unit.bank1 → Keeps keep step → Missed (step_lines at step) told
+    → (now : UnitState) × IsAlone at now last.units × keep now.bank1
 after_missed keep at step unit [] first last run alone kept keeps missed = absurd missed
 after_missed keep at step unit (x ∷ told) first last run alone kept keeps missed =
-    let before = after_trying keep (Ends step) at (step_lines at step) (line x.frame missed.0 ∷ missed.1) unit told first run.0 run.1 alone kept
+    let before =
+    after_trying keep (Ends step) at (step_lines at step) (line x.frame missed.0 ∷ missed.1) unit told first run.0 run.1
+    alone kept
     (safe_step keep at step unit keeps kept) (all_for at step) missed.3 in
     let more = one_more keep (Ends step) at (line x.frame missed.0) missed.1 run.0 x.answer last run.2 before in
     (more.0, more.1, more.2)
 
 -- a run in two parts
-pub record Parts (at : ℕ) (told newer older : List Exchange) (first last : SimState) (run : SimRun told first last) : Type 0 where
+pub record Parts (at : ℕ) (told newer older : List Exchange) (first last : SimState) (run : SimRun told first last)
+    : Type 0 where
   pub mid : SimState
   pub before : SimRun older first mid
   pub after : SimRun newer mid last
   pub sum : losses at told first last run ≡ losses at newer mid last after + losses at older first mid before
   pub kinds : Unrefused told first last run → Unrefused older first mid before × Unrefused newer mid last after
 
-joined_parts : (at : ℕ) (newer older : List Exchange) (first last : SimState) (run : SimRun (newer ++ older) first last) → Parts at (newer ++ older) newer older first last run
-joined_parts at [] older first last run = record { mid = last; before = run; after = refl; sum = omega arith; kinds = λ kind. (kind, tt) }
+joined_parts : (at : ℕ) (newer older : List Exchange) (first last : SimState) (run : SimRun (newer ++ older) first last)
+    → Parts at (newer ++ older) newer older first last run
+joined_parts at [] older first last run =
+    record { mid = last; before = run; after = refl; sum = omega arith; kinds = λ kind. (kind, tt) }
 joined_parts at (x ∷ newer) older first last run =
     let rest = joined_parts at newer older first run.0 run.1 in
     let sum = rest.sum in
@@ -189,13 +249,18 @@ joined_parts at (x ∷ newer) older first last run =
       kinds = λ kind. let older_newer = rest.kinds kind.1 in (older_newer.0, (kind.0, older_newer.1));
     }
 
-pub parts : (at : ℕ) (told newer older : List Exchange) (first last : SimState) (run : SimRun told first last) → told ≡ newer ++ older → Parts at told newer older first last run
+pub parts : (at : ℕ) (told newer older : List Exchange) (first last : SimState) (run : SimRun told first last)
+    → told ≡ newer ++ older → Parts at told newer older first last run
 parts at told newer older first last run same =
-    subst (λ (t : List Exchange). (r : SimRun t first last) → Parts at t newer older first last r) (sym same) (joined_parts at newer older first last) run
+    subst (λ (t : List Exchange). (r : SimRun t first last) → Parts at t newer older first last r) (sym same)
+    (joined_parts at newer older first last) run
 
 -- after misses the unit is alone still, and has kept it
-pub after_misses : (keep : BankState → Type 0) (at : ℕ) (step : Step) (unit : UnitState) (misses : ℕ) (told : List Exchange) (first last : SimState) → SimRun told first last
-    → IsAlone at unit first.units → keep unit.bank1 → Keeps keep step → Misses (step_lines at step) misses told → (now : UnitState) × IsAlone at now last.units × keep now.bank1
+pub after_misses : (keep : BankState → Type 0) (at : ℕ) (step : Step) (unit : UnitState) (misses : ℕ)
+    (told : List Exchange) (first last : SimState)
+    → SimRun told first last
+    → IsAlone at unit first.units → keep unit.bank1 → Keeps keep step → Misses (step_lines at step) misses told
+    → (now : UnitState) × IsAlone at now last.units × keep now.bank1
 after_misses keep at step unit zero [] first last run alone kept keeps are = rw run (unit, alone, kept)
 after_misses keep at step unit zero (x ∷ told) first last run alone kept keeps are = cc
 after_misses keep at step unit (suc misses) told first last run alone kept keeps are =
@@ -204,11 +269,15 @@ after_misses keep at step unit (suc misses) told first last run alone kept keeps
     after_missed keep at step older.0 are.0 two.mid last two.after older.1 older.2 keeps are.3
 
 -- a step that succeeded
-pub after_success : (keep : BankState → Type 0) (at : ℕ) (step : Step) (unit : UnitState) (outcome : Option ℕ) (told : List Exchange) (first last : SimState) → SimRun told first last
+pub after_success : (keep : BankState → Type 0) (at : ℕ) (step : Step) (unit : UnitState) (outcome : Option ℕ)
+    (told : List Exchange) (first last : SimState)
+    → SimRun told first last
     → IsAlone at unit first.units → keep unit.bank1 → Keeps keep step → Succeeds (step_lines at step) outcome told
     → (now : UnitState) × IsAlone at now last.units × keep now.bank1 × Ends step now
 after_success keep at step unit outcome told first last run alone kept keeps done =
     let two = parts at told done.0 done.1 first last run done.3 in
     let older = after_misses keep at step unit done.2 done.1 first two.mid two.before alone kept keeps done.7 in
-    let all = after_trying keep (Ends step) at (step_lines at step) [] older.0 done.0 two.mid last two.after older.1 older.2 (safe_step keep at step older.0 keeps older.2) (all_for at step) done.4 in
+    let all =
+    after_trying keep (Ends step) at (step_lines at step) [] older.0 done.0 two.mid last two.after older.1 older.2
+    (safe_step keep at step older.0 keeps older.2) (all_for at step) done.4 in
     (all.now, all.alone, all.kept, all.safe)

@@ -1,12 +1,17 @@
 -- With which verdicts a session may end.
-use Rattle.std.proofs.Common.{◌≡◌, subst, ℕ, zero, suc, min, Bool, ◌==◌, ◌&&◌, nat_lt, true, false, if◌then◌else◌, List, [], ◌∷◌, Option}
+use Rattle.std.proofs.Common.{◌∙◌, ◌≡◌, subst, ℕ, zero, suc, min, Bool, ◌==◌, ◌&&◌, nat_lt, true, false, if◌then◌else◌}
+use Rattle.std.proofs.Common.{List, [], ◌∷◌, Option}
 use Rattle.dali_write.specs.Exchanges.{Exchange}
 use Rattle.dali_write.specs.declared.line.Line.{Line}
 use Rattle.dali_write.specs.declared.ask.Ask.TheVariants.{Ended}
 use Rattle.dali_write.specs.declared.ask.Verdict.{Verdict}
-use Rattle.dali_write.specs.declared.ask.Verdict.TheVariants.{MayOpen, Short, Format, Silent, Doubt, DoubtOpen, Closed, NotClosed}
-use Rattle.dali_write.specs.Plans.{Plan, Finish, Check, goes_on, plan_after, greatest, judge_length, read_format, read_format_low, read_length, close, give_up, expect, read_back, read_lock, write_on, unlock, read_on, read_all}
-use Rattle.dali_write.specs.Tries.{GoesOn, Wants, ask_at}
+use Rattle.dali_write.specs.declared.ask.Verdict.TheVariants.{MayOpen, Short, Format, Silent, Doubt, DoubtOpen, Closed}
+use Rattle.dali_write.specs.declared.ask.Verdict.TheVariants.{NotClosed}
+use Rattle.dali_write.specs.Plans.{Plan, Finish, Check, goes_on, plan_after, greatest, judge_length, read_format}
+use Rattle.dali_write.specs.Plans.{read_format_low, read_length, close, give_up, expect, read_back, read_lock, write_on}
+use Rattle.dali_write.specs.Plans.{unlock, read_on, read_all}
+use Rattle.dali_write.specs.Tries.{GoesOn, Wants}
+use Rattle.dali_write.proofs.AskLemmas.{shown_ask, ask_shown}
 use Rattle.dali_write.specs.Verdicts.{EndsFresh, EndsOpened, EndsClosing, EndsReading}
 use Rattle.dali_write.proofs.PlanLemmas.{either_all, if_all}
 
@@ -19,25 +24,32 @@ on : (P : Verdict → Type 0) (plan : Plan) (outcome : Option ℕ) → EndsSo P 
 on P (Finish verdict) outcome ends = ends
 on P (Check step after) outcome ends = ends outcome
 
-after_all : (P : Verdict → Type 0) (plan : Plan) (outcomes : List (Option ℕ)) → EndsSo P plan → EndsSo P (plan_after plan outcomes)
+after_all : (P : Verdict → Type 0) (plan : Plan) (outcomes : List (Option ℕ)) → EndsSo P plan
+    → EndsSo P (plan_after plan outcomes)
 after_all P plan [] ends = ends
 after_all P plan (outcome ∷ outcomes) ends = on P (plan_after plan outcomes) outcome (after_all P plan outcomes ends)
 
 -- the plan that is left has ended
-over : (P : Verdict → Type 0) (now : Plan) (left : List Line) (verdict : Verdict) → EndsSo P now → GoesOn now left → ask_at now left ≡ Ended verdict → P verdict
+over : (P : Verdict → Type 0) (now : Plan) (left : List Line) (verdict : Verdict) → EndsSo P now → GoesOn now left
+    → shown_ask now left ≡ Ended verdict → P verdict
 over P (Finish end) left verdict ends going is = let same : end ≡ verdict = cc in subst P same ends
-over P (Check step after) [] verdict ends going is = absurd going
+over P (Check step after) [] verdict ends going is = cc
 over P (Check step after) (next ∷ left) verdict ends going is = cc
 
-ended : (P : Verdict → Type 0) (unit : ℕ) (plan : Plan) (told : List Exchange) (verdict : Verdict) → EndsSo P plan → Wants unit plan told (Ended verdict) → P verdict
+ended : (P : Verdict → Type 0) (unit : ℕ) (plan : Plan) (told : List Exchange) (verdict : Verdict) → EndsSo P plan
+    → Wants unit plan told (Ended verdict) → P verdict
 ended P unit plan told verdict ends wants =
     let s = wants.stands in
-    over P wants.now wants.left verdict (subst (EndsSo P) s.now_is (after_all P plan s.outcomes ends)) s.going wants.ask_is
+    over P wants.now wants.left verdict (subst (EndsSo P) s.now_is (after_all P plan s.outcomes ends)) s.going
+    (ask_shown wants.now wants.left s.going ∙ wants.ask_is)
 
-close_ends : (P : Verdict → Type 0) (answered unanswered : Verdict) → P answered → P unanswered → EndsSo P (close answered unanswered)
-close_ends P answered unanswered a u = λ outcome. either_all (EndsSo P) (Finish unanswered) (λ byte. Finish answered) u (λ byte. a)
+close_ends : (P : Verdict → Type 0) (answered unanswered : Verdict) → P answered → P unanswered
+    → EndsSo P (close answered unanswered)
+close_ends P answered unanswered a u =
+    λ outcome. either_all (EndsSo P) (Finish unanswered) (λ byte. Finish answered) u (λ byte. a)
 
-expect_ends : (location byte : ℕ) (after : Plan) → EndsSo EndsOpened after → EndsSo EndsOpened (expect location byte after)
+expect_ends : (location byte : ℕ) (after : Plan) → EndsSo EndsOpened after
+    → EndsSo EndsOpened (expect location byte after)
 expect_ends location byte after ends =
     let gives = close_ends EndsOpened Doubt DoubtOpen tt tt in
     either_all (EndsSo EndsOpened) give_up (λ found. if found == byte then after else give_up) gives
@@ -52,11 +64,13 @@ write_on_ends updates [] =
     either_all (EndsSo EndsOpened) give_up (λ byte. read_lock updates) (close_ends EndsOpened Doubt DoubtOpen tt tt)
     (λ byte. expect_ends 2 0xFF (read_back updates) (read_back_ends updates))
 write_on_ends updates (update ∷ left) =
-    either_all (EndsSo EndsOpened) give_up (λ byte. write_on updates left) (close_ends EndsOpened Doubt DoubtOpen tt tt) (λ byte. write_on_ends updates left)
+    either_all (EndsSo EndsOpened) give_up (λ byte. write_on updates left) (close_ends EndsOpened Doubt DoubtOpen tt tt)
+    (λ byte. write_on_ends updates left)
 
 unlock_ends : (updates : List (ℕ × ℕ)) → EndsSo EndsOpened (unlock updates)
 unlock_ends updates =
-    either_all (EndsSo EndsOpened) give_up (λ byte. write_on updates updates) (close_ends EndsOpened Doubt DoubtOpen tt tt) (λ byte. write_on_ends updates updates)
+    either_all (EndsSo EndsOpened) give_up (λ byte. write_on updates updates)
+    (close_ends EndsOpened Doubt DoubtOpen tt tt) (λ byte. write_on_ends updates updates)
 
 length_ends : (updates : List (ℕ × ℕ)) → EndsSo EndsFresh (read_length updates)
 length_ends updates =
@@ -70,21 +84,31 @@ length_ends updates =
       judged true = tt
       judged false = tt
 
-pub fresh_ends : (told : List Exchange) (unit : ℕ) (updates : List (ℕ × ℕ)) (verdict : Verdict) → Wants unit (read_length updates) told (Ended verdict) → EndsFresh verdict
-fresh_ends told unit updates verdict wants = ended EndsFresh unit (read_length updates) told verdict (length_ends updates) wants
+pub fresh_ends : (told : List Exchange) (unit : ℕ) (updates : List (ℕ × ℕ)) (verdict : Verdict)
+    → Wants unit (read_length updates) told (Ended verdict) → EndsFresh verdict
+fresh_ends told unit updates verdict wants =
+    ended EndsFresh unit (read_length updates) told verdict (length_ends updates) wants
 
-pub opened_ends : (told : List Exchange) (unit : ℕ) (updates : List (ℕ × ℕ)) (verdict : Verdict) → Wants unit (unlock updates) told (Ended verdict) → EndsOpened verdict
-opened_ends told unit updates verdict wants = ended EndsOpened unit (unlock updates) told verdict (unlock_ends updates) wants
+pub opened_ends : (told : List Exchange) (unit : ℕ) (updates : List (ℕ × ℕ)) (verdict : Verdict)
+    → Wants unit (unlock updates) told (Ended verdict) → EndsOpened verdict
+opened_ends told unit updates verdict wants =
+    ended EndsOpened unit (unlock updates) told verdict (unlock_ends updates) wants
 
-pub closing_ends : (told : List Exchange) (unit : ℕ) (verdict : Verdict) → Wants unit (close Closed NotClosed) told (Ended verdict) → EndsClosing verdict
-closing_ends told unit verdict wants = ended EndsClosing unit (close Closed NotClosed) told verdict (close_ends EndsClosing Closed NotClosed tt tt) wants
+pub closing_ends : (told : List Exchange) (unit : ℕ) (verdict : Verdict)
+    → Wants unit (close Closed NotClosed) told (Ended verdict) → EndsClosing verdict
+closing_ends told unit verdict wants =
+    ended EndsClosing unit (close Closed NotClosed) told verdict (close_ends EndsClosing Closed NotClosed tt tt) wants
 
 on_ends : (location left : ℕ) → EndsSo EndsReading (read_on location left)
 on_ends location zero = tt
 on_ends location (suc left) =
-    either_all (EndsSo EndsReading) (Finish Silent) (λ byte. read_on (suc location) left) tt (λ byte. on_ends (suc location) left)
+    either_all (EndsSo EndsReading) (Finish Silent) (λ byte. read_on (suc location) left) tt
+    (λ byte. on_ends (suc location) left)
 
-pub reading_ends : (told : List Exchange) (unit : ℕ) (verdict : Verdict) → Wants unit read_all told (Ended verdict) → EndsReading verdict
+pub reading_ends : (told : List Exchange) (unit : ℕ) (verdict : Verdict) → Wants unit read_all told (Ended verdict)
+    → EndsReading verdict
 reading_ends told unit verdict wants =
     ended EndsReading unit read_all told verdict
-    (either_all (EndsSo EndsReading) (Finish Silent) (λ last. read_on 1 (min last 0xFE)) tt (λ last. on_ends 1 (min last 0xFE))) wants
+    (either_all (EndsSo EndsReading) (Finish Silent) (λ last. read_on 1 (min last 0xFE)) tt
+    (λ last. on_ends 1 (min last 0xFE)))
+    wants

@@ -1,5 +1,7 @@
 -- The misses among exchanges are those of the tries.
-use Rattle.std.proofs.Common.{◌≡◌, inl, inr, refl, sym, ap, subst, ℕ, zero, suc, ◌+◌, ◌≤◌, Bool, true, false, if◌then◌else◌, List, [], ◌∷◌, ◌++◌, append_assoc, append-nil, length, Option, Some, None, arith}
+use Rattle.std.proofs.Common.{◌≡◌, inl, inr, refl, sym, ap, subst, ℕ, zero, suc, ◌+◌, ◌≤◌, Bool, true, false}
+use Rattle.std.proofs.Common.{if◌then◌else◌, List, [], ◌∷◌, ◌++◌, append_assoc, append-nil, length, Option, Some, None}
+use Rattle.std.proofs.Common.{arith}
 use Rattle.std.proofs.lemmas.Bool.{eq-eqb, ne_eqb}
 use Rattle.dali_write.specs.Exchanges.{Exchange}
 use Rattle.dali_write.specs.declared.line.Line.{Line}
@@ -39,12 +41,14 @@ unmet Anything None missed = refl
 unmet Anything (Some got) missed = absurd (missed refl)
 
 -- one more exchange
-more : (x : Exchange) (told : List Exchange) (wish : Wish) (b : Bool) → wish ≡ wish_of x.frame (location_in told) → is_missed wish x.answer ≡ b
+more : (x : Exchange) (told : List Exchange) (wish : Wish) (b : Bool) → wish ≡ wish_of x.frame (location_in told)
+    → is_missed wish x.answer ≡ b
     → misses_in (x ∷ told) ≡ (if b then 1 else 0) + misses_in told
 more x told wish b same is = rw (← same, is) refl
 
 -- a part of a try has no miss
-trying : (lines : List Line) (tried : List Exchange) (left : List Line) (older : List Exchange) → Apt (location_in older) lines → Trying lines tried left
+trying : (lines : List Line) (tried : List Exchange) (left : List Line) (older : List Exchange)
+    → Apt (location_in older) lines → Trying lines tried left
     → (misses_in (tried ++ older) ≡ misses_in older) × Apt (location_in (tried ++ older)) left
 trying lines [] left older apt try = (refl, subst (Apt (location_in older)) (sym try) apt)
 trying lines (x ∷ tried) left older apt try =
@@ -53,7 +57,8 @@ trying lines (x ∷ tried) left older apt try =
     let rest = before.0 in
     (omega arith, before.1.1)
 
-missed : (lines : List Line) (tried older : List Exchange) → Apt (location_in older) lines → Missed lines tried → misses_in (tried ++ older) ≡ 1 + misses_in older
+missed : (lines : List Line) (tried older : List Exchange) → Apt (location_in older) lines → Missed lines tried
+    → misses_in (tried ++ older) ≡ 1 + misses_in older
 missed lines [] older apt ends = absurd ends
 missed lines (x ∷ tried) older apt ends =
     let before = trying lines tried (line x.frame ends.0 ∷ ends.1) older apt ends.3 in
@@ -61,28 +66,34 @@ missed lines (x ∷ tried) older apt ends =
     let rest = before.0 in
     omega arith
 
-misses : (unit : ℕ) (step : Step) (count : ℕ) (told older : List Exchange) → Misses (step_lines unit step) count told → misses_in (told ++ older) ≡ count + misses_in older
+misses : (unit : ℕ) (step : Step) (count : ℕ) (told older : List Exchange) → Misses (step_lines unit step) count told
+    → misses_in (told ++ older) ≡ count + misses_in older
 misses unit step zero told older are = rw are (omega arith)
 misses unit step (suc count) told older are =
     let before = misses unit step count are.1 older are.4 in
-    let last = missed (step_lines unit step) are.0 (are.1 ++ older) (apt_step unit step (location_in (are.1 ++ older))) are.3 in
+    let last =
+    missed (step_lines unit step) are.0 (are.1 ++ older) (apt_step unit step (location_in (are.1 ++ older))) are.3 in
     let joined = append_assoc are.0 are.1 older in
     let same : misses_in (told ++ older) ≡ misses_in (are.0 ++ (are.1 ++ older)) = rw are.2 (ap misses_in joined) in
     omega arith
 
-step_ends : (unit : ℕ) (plan : Plan) (outcome : Option ℕ) (told older : List Exchange) (ends : StepEnds unit plan outcome told)
+step_ends : (unit : ℕ) (plan : Plan) (outcome : Option ℕ) (told older : List Exchange)
+    (ends : StepEnds unit plan outcome told)
     → misses_in (told ++ older) ≡ step_misses unit plan outcome told ends + misses_in older
 step_ends unit (Finish verdict) outcome told older ends = absurd ends
 step_ends unit (Check step after) outcome told older (inl done) =
     let before = misses unit step done.2 done.1 older done.7 in
-    let last = (trying (step_lines unit step) done.0 [] (done.1 ++ older) (apt_step unit step (location_in (done.1 ++ older))) done.4).0 in
+    let last =
+    (trying (step_lines unit step) done.0 [] (done.1 ++ older)
+    (apt_step unit step (location_in (done.1 ++ older))) done.4).0 in
     let joined = append_assoc done.0 done.1 older in
     let same : misses_in (told ++ older) ≡ misses_in (done.0 ++ (done.1 ++ older)) = rw done.3 (ap misses_in joined) in
     omega arith
 step_ends unit (Check step after) outcome told older (inr failed) = misses unit step most_tries told older failed.1
 
 -- the misses of a walk
-pub walk_misses : (unit : ℕ) (plan : Plan) (outcomes : List (Option ℕ)) (told : List Exchange) (end : Plan) (older : List Exchange) (walk : Walk unit plan outcomes told end)
+pub walk_misses : (unit : ℕ) (plan : Plan) (outcomes : List (Option ℕ)) (told : List Exchange) (end : Plan)
+    (older : List Exchange) (walk : Walk unit plan outcomes told end)
     → misses_in (told ++ older) ≡ misses_of unit plan outcomes told end walk + misses_in older
 walk_misses unit plan [] told end older walk = rw walk.0 (omega arith)
 walk_misses unit plan (outcome ∷ outcomes) told end older walk =
@@ -92,7 +103,8 @@ walk_misses unit plan (outcome ∷ outcomes) told end older walk =
     let same : misses_in (told ++ older) ≡ misses_in (walk.0 ++ (walk.1 ++ older)) = rw walk.2 (ap misses_in joined) in
     omega arith
 
-pub walk_misses_in : (unit : ℕ) (plan : Plan) (outcomes : List (Option ℕ)) (told : List Exchange) (end : Plan) (walk : Walk unit plan outcomes told end)
+pub walk_misses_in : (unit : ℕ) (plan : Plan) (outcomes : List (Option ℕ)) (told : List Exchange) (end : Plan)
+    (walk : Walk unit plan outcomes told end)
     → misses_in told ≡ misses_of unit plan outcomes told end walk
 walk_misses_in unit plan outcomes told end walk =
     let all = walk_misses unit plan outcomes told end [] walk in
@@ -100,7 +112,8 @@ walk_misses_in unit plan outcomes told end walk =
     omega arith
 
 -- a walk that is so long, and older frames that are so long
-pub took_long : (unit : ℕ) (plan : Plan) (told older : List Exchange) (verdict : Verdict) (frames before : ℕ) → Took unit plan told verdict frames → IsLong before older
+pub took_long : (unit : ℕ) (plan : Plan) (told older : List Exchange) (verdict : Verdict) (frames before : ℕ)
+    → Took unit plan told verdict frames → IsLong before older
     → IsLong (frames + before) (told ++ older)
 took_long unit plan told older verdict frames before took long =
     let all = walk_misses unit plan took.outcomes told (Finish verdict) older took.walk in
@@ -121,7 +134,8 @@ more_misses [] older = omega arith
 more_misses (x ∷ newer) older = let rest = more_misses newer older in omega arith
 
 -- a step that failed missed as often as it has tries
-pub failure_misses : (unit : ℕ) (step : Step) (told : List Exchange) → EndsInFailure unit step told → most_tries ≤ misses_in told
+pub failure_misses : (unit : ℕ) (step : Step) (told : List Exchange) → EndsInFailure unit step told
+    → most_tries ≤ misses_in told
 failure_misses unit step told f =
     let all = misses unit step most_tries f.tries f.older f.missed in
     let same : misses_in told ≡ misses_in (f.tries ++ f.older) = ap misses_in f.parts in

@@ -1,5 +1,6 @@
 -- After each answer a session wants something, and it sends no more frames than its plan takes.
-use Rattle.std.proofs.Common.{◌≡◌, ◌⊎◌, inl, inr, refl, subst, ℕ, ◌≤◌, ◌<◌, Bool, true, false, List, [], ◌∷◌, length, ◌==◌, ap, Option, Some, None, arith}
+use Rattle.std.proofs.Common.{◌∙◌, ◌≡◌, ◌⊎◌, inl, inr, refl, subst, ℕ, ◌≤◌, ◌<◌, Bool, true, false, List, [], ◌∷◌}
+use Rattle.std.proofs.Common.{length, ◌==◌, ap, Option, Some, None, arith}
 use Rattle.std.proofs.lemmas.Bool.{eqb-true, eqb-false}
 use Rattle.std.proofs.lemmas.Bool.Decides.{leb_tells}
 use Rattle.std.proofs.Math.Dec.{leb}
@@ -17,7 +18,8 @@ use Rattle.dali_write.specs.declared.step.Step.TheVariants.{ReadFrom, WriteTo}
 use Rattle.dali_write.specs.Lines.{Meets, step_lines}
 use Rattle.dali_write.proofs.DeterminedLemmas.{wants_one}
 use Rattle.dali_write.specs.Plans.{Plan, Finish, Check, read_length, close, unlock}
-use Rattle.dali_write.specs.Tries.{plan_lines, ask_at, Stands, Wants}
+use Rattle.dali_write.specs.Tries.{plan_lines, Stands, Wants}
+use Rattle.dali_write.proofs.AskLemmas.{shown_ask, ask_shown}
 use Rattle.dali_write.specs.Counts.{fresh_limit, opened_limit, closing_limit}
 use Rattle.dali_write.proofs.ShapeLemmas.{none_left}
 use Rattle.dali_write.proofs.StandingLemmas.{stands_at_first, stands_on, stands_again, stands_done, stands_failed}
@@ -37,58 +39,115 @@ decides Anything (Some got) = inl refl
 
 -- at the beginning
 pub first_wanted : (unit : ℕ) (plan : Plan) → (ask : Ask) × Wants unit plan [] ask
-first_wanted unit plan =
-    (ask_at plan (plan_lines unit plan), record { now = plan; misses = 0; left = plan_lines unit plan; byte = None; stands = stands_at_first unit plan; ask_is = refl })
+first_wanted unit plan = (
+  _,
+  record {
+    now = plan;
+    misses = 0;
+    left = plan_lines unit plan;
+    byte = None;
+    stands = stands_at_first unit plan;
+    ask_is = refl;
+  },
+)
 
 -- what stands so wants something
-wants_of : (unit : ℕ) (plan : Plan) (told : List Exchange) (now : Plan) (misses : ℕ) (left : List Line) (byte : Option ℕ) → Stands unit plan told now misses left byte
+wants_of : (unit : ℕ) (plan : Plan) (told : List Exchange) (now : Plan) (misses : ℕ) (left : List Line)
+    (byte : Option ℕ)
+    → Stands unit plan told now misses left byte
     → (ask : Ask) × Wants unit plan told ask
-wants_of unit plan told now misses left byte s = (ask_at now left, record { now = now; misses = misses; left = left; byte = byte; stands = s; ask_is = refl })
+wants_of unit plan told now misses left byte s =
+    (_, record { now = now; misses = misses; left = left; byte = byte; stands = s; ask_is = refl })
 
 -- after one more answer
-next_at : (unit : ℕ) (plan : Plan) (told : List Exchange) (now : Plan) (misses : ℕ) (next : Line) (left : List Line) (byte : Option ℕ) (answer : Option ℕ)
-    → Stands unit plan told now misses (next ∷ left) byte → (ask : Ask) × Wants unit plan (record { frame = next.frame; answer = answer } ∷ told) ask
+next_at : (unit : ℕ) (plan : Plan) (told : List Exchange) (now : Plan) (misses : ℕ) (next : Line) (left : List Line)
+    (byte : Option ℕ) (answer : Option ℕ)
+    → Stands unit plan told now misses (next ∷ left) byte
+    → (ask : Ask) × Wants unit plan (record { frame = next.frame; answer = answer } ∷ told) ask
 next_at unit plan told (Finish verdict) misses next left byte answer s = absurd (none_left s.tried next left s.try)
-next_at unit plan told (Check step after) misses next left byte answer s = by left s (decides next.wish answer) (leb_tells 7 misses)
+next_at unit plan told (Check step after) misses next left byte answer s =
+    by left s (decides next.wish answer) (leb_tells 7 misses)
   where
-    by : (rest : List Line) → Stands unit plan told (Check step after) misses (next ∷ rest) byte → Meets next.wish answer ⊎ (¬ Meets next.wish answer)
-        → ((leb 7 misses ≡ true) × (7 ≤ misses)) ⊎ ((leb 7 misses ≡ false) × (misses < 7)) → (ask : Ask) × Wants unit plan (record { frame = next.frame; answer = answer } ∷ told) ask
-    by [] s (inl meets) few = wants_of unit plan _ _ _ _ _ (stands_done unit plan told (Check step after) misses byte next.frame answer next.wish s meets)
-    by (more ∷ rest) s (inl meets) few = wants_of unit plan _ _ _ _ _ (stands_on unit plan told (Check step after) misses (more ∷ rest) byte next.frame answer next.wish s meets tt)
-    by rest s (inr missed) (inl many) = wants_of unit plan _ _ _ _ _ (stands_failed unit plan told (Check step after) misses rest byte next.frame answer next.wish s missed many.1)
+    by : (rest : List Line) → Stands unit plan told (Check step after) misses (next ∷ rest) byte
+        → Meets next.wish answer ⊎ (¬ Meets next.wish answer)
+        → ((leb 7 misses ≡ true) × (7 ≤ misses)) ⊎ ((leb 7 misses ≡ false) × (misses < 7))
+        → (ask : Ask) × Wants unit plan (record { frame = next.frame; answer = answer } ∷ told) ask
+    by [] s (inl meets) few =
+        wants_of unit plan _ _ _ _ _
+        (stands_done unit plan told (Check step after) misses byte next.frame answer next.wish s meets)
+    by (more ∷ rest) s (inl meets) few =
+        wants_of unit plan _ _ _ _ _
+        (stands_on unit plan told (Check step after) misses (more ∷ rest) byte next.frame answer next.wish s meets refl)
+    by rest s (inr missed) (inl many) =
+        wants_of unit plan _ _ _ _ _
+        (stands_failed unit plan told (Check step after) misses rest byte next.frame answer next.wish s missed many.1)
     by rest s (inr missed) (inr few) =
-        let less = few.1 in wants_of unit plan _ _ _ _ _ (stands_again unit plan told (Check step after) misses rest byte next.frame answer next.wish s missed (omega arith))
+        let less = few.1 in
+        wants_of unit plan _ _ _ _ _ (stands_again unit plan told (Check step after) misses rest byte next.frame answer
+        next.wish s missed (omega arith))
 
-pub next_wanted : (unit : ℕ) (plan : Plan) (told : List Exchange) (frame : Frame) (answer : Option ℕ) → Wants unit plan told (Send frame)
+pub next_wanted : (unit : ℕ) (plan : Plan) (told : List Exchange) (frame : Frame) (answer : Option ℕ)
+    → Wants unit plan told (Send frame)
     → (ask : Ask) × Wants unit plan (record { frame = frame; answer = answer } ∷ told) ask
-next_wanted unit plan told frame answer w = by w.now w.left w.stands w.ask_is
+next_wanted unit plan told frame answer w = by w.now w.left w.stands (ask_shown w.now w.left w.stands.going ∙ w.ask_is)
   where
-    by : (now : Plan) (left : List Line) → Stands unit plan told now w.misses left w.byte → ask_at now left ≡ Send frame → (ask : Ask) × Wants unit plan (record { frame = frame; answer = answer } ∷ told) ask
+    by : (now : Plan) (left : List Line) → Stands unit plan told now w.misses left w.byte
+        → shown_ask now left ≡ Send frame
+        → (ask : Ask) × Wants unit plan (record { frame = frame; answer = answer } ∷ told) ask
     by (Finish verdict) left s is = cc
     by (Check step after) [] s is = cc
     by (Check step after) (next ∷ left) s is =
         let same : next.frame ≡ frame = cc in
-        subst (λ (f : Frame). (ask : Ask) × Wants unit plan (record { frame = f; answer = answer } ∷ told) ask) same (next_at unit plan told (Check step after) w.misses next left w.byte answer s)
+        subst (λ (f : Frame). (ask : Ask) × Wants unit plan (record { frame = f; answer = answer } ∷ told) ask) same
+        (next_at unit plan told (Check step after) w.misses next left w.byte answer s)
 
 -- limits
-pub fresh_few : (unit : ℕ) (updates : List (ℕ × ℕ)) (told : List Exchange) (ask : Ask) → Wants unit (read_length updates) told ask → length told ≤ fresh_limit
-fresh_few unit updates told ask w = stands_takes unit (read_length updates) told w.now w.misses w.left w.byte fresh_limit w.stands (read_length_takes updates)
+pub fresh_few : (unit : ℕ) (updates : List (ℕ × ℕ)) (told : List Exchange) (ask : Ask)
+    → Wants unit (read_length updates) told ask → length told ≤ fresh_limit
+fresh_few unit updates told ask w =
+    stands_takes unit (read_length updates) told w.now w.misses w.left w.byte fresh_limit w.stands
+    (read_length_takes updates)
 
-pub opened_few : (unit : ℕ) (updates : List (ℕ × ℕ)) (told : List Exchange) (ask : Ask) → Wants unit (unlock updates) told ask → length told ≤ opened_limit (length updates)
+pub opened_few : (unit : ℕ) (updates : List (ℕ × ℕ)) (told : List Exchange) (ask : Ask)
+    → Wants unit (unlock updates) told ask → length told ≤ opened_limit (length updates)
 opened_few unit updates told ask w =
-    stands_takes unit (unlock updates) told w.now w.misses w.left w.byte (opened_limit (length updates)) w.stands (unlock_takes (opened_limit (length updates)) updates (omega arith))
+    stands_takes unit (unlock updates) told w.now w.misses w.left w.byte (opened_limit (length updates)) w.stands
+    (unlock_takes (opened_limit (length updates)) updates (omega arith))
 
-pub closing_few : (unit : ℕ) (told : List Exchange) (ask : Ask) → Wants unit (close Closed NotClosed) told ask → length told ≤ closing_limit
-closing_few unit told ask w = stands_takes unit (close Closed NotClosed) told w.now w.misses w.left w.byte closing_limit w.stands (close_takes closing_limit Closed NotClosed (omega arith))
+pub closing_few : (unit : ℕ) (told : List Exchange) (ask : Ask) → Wants unit (close Closed NotClosed) told ask
+    → length told ≤ closing_limit
+closing_few unit told ask w =
+    stands_takes unit (close Closed NotClosed) told w.now w.misses w.left w.byte closing_limit w.stands
+    (close_takes closing_limit Closed NotClosed (omega arith))
 
 -- no session with a step ends before its first frame
-sends_first : (unit : ℕ) (step : Step) (after : Option ℕ → Plan) → (frame : Frame) × Wants unit (Check step after) [] (Send frame)
-sends_first unit (ReadFrom location) after =
-    (_, record { now = Check (ReadFrom location) after; misses = 0; left = step_lines unit (ReadFrom location); byte = None; stands = stands_at_first unit (Check (ReadFrom location) after); ask_is = refl })
-sends_first unit (WriteTo location byte) after =
-    (_, record { now = Check (WriteTo location byte) after; misses = 0; left = step_lines unit (WriteTo location byte); byte = None; stands = stands_at_first unit (Check (WriteTo location byte) after); ask_is = refl })
+sends_first : (unit : ℕ) (step : Step) (after : Option ℕ → Plan)
+    → (frame : Frame) × Wants unit (Check step after) [] (Send frame)
+sends_first unit (ReadFrom location) after = (
+  _,
+  record {
+    now = Check (ReadFrom location) after;
+    misses = 0;
+    left = step_lines unit (ReadFrom location);
+    byte = None;
+    stands = stands_at_first unit (Check (ReadFrom location) after);
+    ask_is = refl;
+  },
+)
+sends_first unit (WriteTo location byte) after = (
+  _,
+  record {
+    now = Check (WriteTo location byte) after;
+    misses = 0;
+    left = step_lines unit (WriteTo location byte);
+    byte = None;
+    stands = stands_at_first unit (Check (WriteTo location byte) after);
+    ask_is = refl;
+  },
+)
 
-pub none_ended : (unit : ℕ) (step : Step) (after : Option ℕ → Plan) (verdict : Verdict) → Wants unit (Check step after) [] (Ended verdict) → ⊥
+pub none_ended : (unit : ℕ) (step : Step) (after : Option ℕ → Plan) (verdict : Verdict)
+    → Wants unit (Check step after) [] (Ended verdict) → ⊥
 none_ended unit step after verdict wants =
     let first = sends_first unit step after in
     let never = wants_one [] unit (Check step after) (Ended verdict) (Send first.0) wants first.1 in cc

@@ -1,5 +1,6 @@
 -- A step misses no more often than its unit has losses.
-use Rattle.std.proofs.Common.{◌≡◌, ◌⊎◌, inl, inr, refl, sym, ℕ, zero, suc, ◌≤◌, ◌<◌, Bool, true, false, ◌&&◌, ◌||◌, not, List, length, Option, IsSome, IsTrue, arith}
+use Rattle.std.proofs.Common.{◌≡◌, ◌⊎◌, inl, inr, refl, sym, ℕ, zero, suc, ◌≤◌, ◌<◌, Bool, true, false, ◌&&◌, ◌||◌, not}
+use Rattle.std.proofs.Common.{List, length, Option, IsSome, IsTrue, arith}
 use Rattle.std.specs.Prelude.{◌==◌, nat_lt, nat_le, slice_get, slice_set, slice_index}
 use Rattle.std.specs.List.{list_any}
 use Rattle.std.proofs.lemmas.Bool.{eqb-false}
@@ -16,29 +17,40 @@ use Rattle.dali_write.proofs.LossLemmas.{missed_by_loss}
 use Rattle.dali_write.proofs.KeptLemmas.{parts, after_misses}
 
 -- a location that was written is as writable as before
-still_writable : (bank : BankState) (location byte : ℕ) → is_writable (with_byte bank location byte) location ≡ is_writable bank location
+still_writable : (bank : BankState) (location byte : ℕ)
+    → is_writable (with_byte bank location byte) location ≡ is_writable bank location
 still_writable bank location byte = rw (length-set bank.bytes location byte) (by (location == 2) refl)
   where
     by : (b : Bool) → (location == 2) ≡ b
         → (nat_lt location (length bank.bytes)
-        && (b || (nat_le 3 location && not (list_any (λ fixed. fixed == location) bank.fixed) && (slice_index (slice_set bank.bytes location byte) 2 == 0x55))))
+        && (b
+        || (nat_le 3 location && not (list_any (λ fixed. fixed == location) bank.fixed)
+        && (slice_index (slice_set bank.bytes location byte) 2 == 0x55))))
         ≡ (nat_lt location (length bank.bytes)
-        && (b || (nat_le 3 location && not (list_any (λ fixed. fixed == location) bank.fixed) && (slice_index bank.bytes 2 == 0x55))))
+        && (b
+        || (nat_le 3 location && not (list_any (λ fixed. fixed == location) bank.fixed)
+        && (slice_index bank.bytes 2 == 0x55))))
     by true e = refl
     by false e = rw (get_or-set_other bank.bytes location 2 byte 0 (λ same. eqb-false location 2 e (sym same))) refl
 
 -- after misses the unit can do the step still
-can_after : (at : ℕ) (step : Step) (unit : UnitState) (misses : ℕ) (told : List Exchange) (first last : SimState) → SimRun told first last
-    → IsAlone at unit first.units → CanDo step unit → Misses (step_lines at step) misses told → (now : UnitState) × IsAlone at now last.units × CanDo step now
+can_after : (at : ℕ) (step : Step) (unit : UnitState) (misses : ℕ) (told : List Exchange) (first last : SimState)
+    → SimRun told first last
+    → IsAlone at unit first.units → CanDo step unit → Misses (step_lines at step) misses told
+    → (now : UnitState) × IsAlone at now last.units × CanDo step now
 can_after at (ReadFrom location) unit misses told first last run alone can are =
-    after_misses (λ bank. IsSome (slice_get bank.bytes location)) at (ReadFrom location) unit misses told first last run alone can tt are
+    after_misses (λ bank. IsSome (slice_get bank.bytes location)) at (ReadFrom location) unit misses told first last run
+    alone can tt are
 can_after at (WriteTo location byte) unit misses told first last run alone can are =
-    after_misses (λ bank. IsTrue (is_writable bank location)) at (WriteTo location byte) unit misses told first last run alone can
+    after_misses (λ bank. IsTrue (is_writable bank location)) at (WriteTo location byte) unit misses told first last run
+    alone can
     (λ bank can_still. rw (still_writable bank location byte) can_still) are
 
 -- each missed try took a loss
-pub misses_by_losses : (at : ℕ) (step : Step) (unit : UnitState) (misses : ℕ) (told : List Exchange) (first last : SimState) (run : SimRun told first last)
-    → IsAlone at unit first.units → CanDo step unit → Unrefused told first last run → Misses (step_lines at step) misses told → misses ≤ losses at told first last run
+pub misses_by_losses : (at : ℕ) (step : Step) (unit : UnitState) (misses : ℕ) (told : List Exchange)
+    (first last : SimState) (run : SimRun told first last)
+    → IsAlone at unit first.units → CanDo step unit → Unrefused told first last run
+    → Misses (step_lines at step) misses told → misses ≤ losses at told first last run
 misses_by_losses at step unit zero told first last run alone can kind are = omega arith
 misses_by_losses at step unit (suc misses) told first last run alone can kind are =
     let two = parts at told are.0 are.1 first last run are.2 in
@@ -49,9 +61,13 @@ misses_by_losses at step unit (suc misses) told first last run alone can kind ar
     let sum = two.sum in
     omega arith
 
-pub step_succeeds : (at : ℕ) (step : Step) (unit : UnitState) (outcome : Option ℕ) (told : List Exchange) (first last : SimState) (run : SimRun told first last)
-    → IsAlone at unit first.units → CanDo step unit → Unrefused told first last run → losses at told first last run < most_tries
-    → Succeeds (step_lines at step) outcome told ⊎ Fails (step_lines at step) outcome told → Succeeds (step_lines at step) outcome told
+pub step_succeeds : (at : ℕ) (step : Step) (unit : UnitState) (outcome : Option ℕ) (told : List Exchange)
+    (first last : SimState) (run : SimRun told first last)
+    → IsAlone at unit first.units → CanDo step unit → Unrefused told first last run
+    → losses at told first last run < most_tries
+    → Succeeds (step_lines at step) outcome told ⊎ Fails (step_lines at step) outcome told
+    → Succeeds (step_lines at step) outcome told
 step_succeeds at step unit outcome told first last run alone can kind few (inl done) = done
 step_succeeds at step unit outcome told first last run alone can kind few (inr failed) =
-    let many = misses_by_losses at step unit most_tries told first last run alone can kind failed.1 in absurd (omega arith)
+    let many = misses_by_losses at step unit most_tries told first last run alone can kind failed.1 in
+    absurd (omega arith)

@@ -1,17 +1,21 @@
 -- What the verdict of a session rests on: checked reads that stand among what it was told.
-use Rattle.std.proofs.Common.{◌≡◌, ◌⊎◌, inl, inr, refl, sym, subst, ◌∙◌, ℕ, Bool, true, false, ◌==◌, if◌then◌else◌, List, [], ◌∷◌, ◌++◌, Option, Some, None}
+use Rattle.std.proofs.Common.{◌≡◌, ◌⊎◌, inl, inr, refl, sym, subst, ◌∙◌, ℕ, Bool, true, false, ◌==◌, if◌then◌else◌}
+use Rattle.std.proofs.Common.{List, [], ◌∷◌, ◌++◌, Option, Some, None}
 use Rattle.std.proofs.lemmas.Bool.{eqb-true}
 use Rattle.std.proofs.lemmas.List.{append_assoc, append-nil}
 use Rattle.dali_frame.specs.declared.forward.Frame.{Frame}
-use Rattle.dali_frame.specs.declared.forward.Frame.TheVariants.{Dtr0, Dtr1, Dtr2, Write, WriteSilent, Enable, AskDtr0, AskDtr1, AskDtr2, Read, Other}
+use Rattle.dali_frame.specs.declared.forward.Frame.TheVariants.{Dtr0, Dtr1, Dtr2, Write, WriteSilent, Enable, AskDtr0}
+use Rattle.dali_frame.specs.declared.forward.Frame.TheVariants.{AskDtr1, AskDtr2, Read, Other}
 use Rattle.dali_write.specs.Exchanges.{Exchange}
 use Rattle.dali_write.specs.declared.step.Step.TheVariants.{ReadFrom}
 use Rattle.dali_write.specs.declared.ask.Ask.TheVariants.{Ended}
 use Rattle.dali_write.specs.declared.ask.Verdict.{Verdict}
-use Rattle.dali_write.specs.declared.ask.Verdict.TheVariants.{MayOpen, Done, Short, Format, Silent, Doubt, DoubtOpen, Closed, NotClosed, Read as ReadAll}
-use Rattle.dali_write.specs.Plans.{Plan, Finish, Check, either_way, read_closed, close, give_up, expect, read_back, read_lock, write_on, unlock}
+use Rattle.dali_write.specs.declared.ask.Verdict.TheVariants.{MayOpen, Done, Short, Format, Silent, Doubt, DoubtOpen}
+use Rattle.dali_write.specs.declared.ask.Verdict.TheVariants.{Closed, NotClosed, Read as ReadAll}
+use Rattle.dali_write.specs.Plans.{Plan, Finish, Check, either_way, read_closed, close, give_up, expect, read_back}
+use Rattle.dali_write.specs.Plans.{read_lock, write_on, unlock}
 use Rattle.dali_write.specs.Tries.{StepEnds, Wants}
-use Rattle.dali_write.specs.Findings.{Suits, IsTooShort, HasOtherFormat, ShowsAll, IsWritten, Rests}
+use Rattle.dali_write.specs.Findings.{Suits, IsTooShort, HasOtherFormat, ShowsAll, IsWritten, IsSeen, Rests}
 use Rattle.dali_write.specs.Reads.{IsPassive, EndsInRead, ReadStands}
 use Rattle.dali_write.specs.Walks.{Walk}
 use Rattle.dali_write.proofs.GearLemmas.{IsQuiet}
@@ -25,20 +29,24 @@ abbrev pub After : List Exchange → List Exchange → List Exchange → Type 0
 After told first last = last ≡ told ++ first
 
 -- in two parts
-pub split : (newer older first last : List Exchange) → After (newer ++ older) first last → (mid : List Exchange) × After older first mid × After newer mid last
+pub split : (newer older first last : List Exchange) → After (newer ++ older) first last
+    → (mid : List Exchange) × After older first mid × After newer mid last
 split newer older first last after = (older ++ first, refl, after ∙ append_assoc newer older first)
 
 -- what stood goes on to stand
 abbrev pub KeepsReads : List Exchange → List Exchange → Type 0
-KeepsReads first last = (unit location byte : ℕ) → ReadStands first unit location byte → ReadStands last unit location byte
+KeepsReads first last =
+    (unit location byte : ℕ) → ReadStands first unit location byte → ReadStands last unit location byte
 
 keeps_then : (first mid last : List Exchange) → KeepsReads first mid → KeepsReads mid last → KeepsReads first last
 keeps_then first mid last one two = λ unit location byte stands. two unit location byte (one unit location byte stands)
 
 keeps_none : (first last : List Exchange) → last ≡ first → KeepsReads first last
-keeps_none first last same = λ unit location byte stands. subst (λ (t : List Exchange). ReadStands t unit location byte) (sym same) stands
+keeps_none first last same =
+    λ unit location byte stands. subst (λ (t : List Exchange). ReadStands t unit location byte) (sym same) stands
 
-pub shows_kept : (first last : List Exchange) (unit location byte : ℕ) → ReadStands first unit location byte → KeepsReads first last → ReadStands last unit location byte
+pub shows_kept : (first last : List Exchange) (unit location byte : ℕ) → ReadStands first unit location byte
+    → KeepsReads first last → ReadStands last unit location byte
 shows_kept first last unit location byte stands keeps = keeps unit location byte stands
 
 -- a frame that is quiet at each address enables no unit and writes nothing
@@ -58,44 +66,57 @@ quiet_passive (Other word) quiet = quiet 0
 quiet_keeps : (told first : List Exchange) → ((address : ℕ) → AllQuiet address told) → KeepsReads first (told ++ first)
 quiet_keeps [] first quiet = λ unit location byte stands. stands
 quiet_keeps (x ∷ told) first quiet = λ unit location byte stands.
-    inr (quiet_passive x.frame (λ address. (quiet address).0), quiet_keeps told first (λ address. (quiet address).1) unit location byte stands)
+    inr (
+      quiet_passive x.frame (λ address. (quiet address).0),
+      quiet_keeps told first (λ address. (quiet address).1) unit location byte stands,
+    )
 
 -- a read step keeps what stood
-pub read_step_keeps : (unit location : ℕ) (after : Option ℕ → Plan) (outcome : Option ℕ) (told first last : List Exchange)
+pub read_step_keeps : (unit location : ℕ) (after : Option ℕ → Plan) (outcome : Option ℕ)
+    (told first last : List Exchange)
     → StepEnds unit (Check (ReadFrom location) after) outcome told → After told first last → KeepsReads first last
 read_step_keeps unit location after outcome told first last ends is = λ u l b stands.
     subst (λ (t : List Exchange). ReadStands t u l b) (sym is)
     (quiet_keeps told first (λ address. read_step_quiet address unit location after outcome told ends) u l b stands)
 
 -- a checked read that was just made stands
-stands_now : (unit location byte : ℕ) (told : List Exchange) → EndsInRead unit location byte told → ReadStands told unit location byte
+stands_now : (unit location byte : ℕ) (told : List Exchange) → EndsInRead unit location byte told
+    → ReadStands told unit location byte
 stands_now unit location byte told ends =
     let is = (ends_reading unit location byte told ends).is in
-    subst (λ (t : List Exchange). ReadStands t unit location byte) (sym is) (inl (subst (λ (t : List Exchange). EndsInRead unit location byte t) is ends))
+    subst (λ (t : List Exchange). ReadStands t unit location byte) (sym is)
+    (inl (subst (λ (t : List Exchange). EndsInRead unit location byte t) is ends))
 
 -- it stands whatever came before
-pub older_reads : (told older : List Exchange) (unit location byte : ℕ) → ReadStands told unit location byte → ReadStands (told ++ older) unit location byte
+pub older_reads : (told older : List Exchange) (unit location byte : ℕ) → ReadStands told unit location byte
+    → ReadStands (told ++ older) unit location byte
 older_reads [] older unit location byte stands = absurd stands
 older_reads (x ∷ told) older unit location byte (inl ends) =
     let parts : (x ∷ told) ++ older ≡ ends.0 ++ (ends.1 ++ older) =
     subst (λ (t : List Exchange). (x ∷ told) ++ older ≡ t ++ older) ends.2 refl ∙ append_assoc ends.0 ends.1 older in
     inl (ends.0, ends.1 ++ older, parts, ends.3)
-older_reads (x ∷ told) older unit location byte (inr (passive, stands)) = inr (passive, older_reads told older unit location byte stands)
+older_reads (x ∷ told) older unit location byte (inr (passive, stands)) =
+    inr (passive, older_reads told older unit location byte stands)
 
 -- and a read step that didn't fail ends in one
 pub read_step_shows : (unit location byte : ℕ) (after : Option ℕ → Plan) (told first last : List Exchange)
-    → StepEnds unit (Check (ReadFrom location) after) (Some byte) told → After told first last → ReadStands last unit location byte
+    → StepEnds unit (Check (ReadFrom location) after) (Some byte) told → After told first last
+    → ReadStands last unit location byte
 read_step_shows unit location byte after told first last (inl done) is =
-    let parts : last ≡ done.0 ++ (done.1 ++ first) = is ∙ (subst (λ (t : List Exchange). told ++ first ≡ t ++ first) done.3 refl ∙ append_assoc done.0 done.1 first) in
+    let parts : last ≡ done.0 ++ (done.1 ++ first) =
+    is ∙ (subst (λ (t : List Exchange). told ++ first ≡ t ++ first) done.3 refl ∙ append_assoc done.0 done.1 first) in
     stands_now unit location byte last (done.0, done.1 ++ first, parts, (done.4, sym done.5))
 read_step_shows unit location byte after told first last (inr failed) is = let never = failed.0 in cc
 
 -- it gave the order up
 Gave : ℕ → Verdict → Verdict → Verdict → List Exchange → Type 0
-Gave unit answered unanswered verdict world = (verdict ≡ unanswered) ⊎ ((verdict ≡ answered) × ((byte : ℕ) × ReadStands world unit 2 byte))
+Gave unit answered unanswered verdict world =
+    (verdict ≡ unanswered) ⊎ ((verdict ≡ answered) × IsSeen (ReadStands world unit))
 
-read_closed_rests : (unit : ℕ) (answered unanswered verdict : Verdict) (outcomes : List (Option ℕ)) (told : List Exchange) (first last : List Exchange)
-    → Walk unit (read_closed answered unanswered) outcomes told (Finish verdict) → After told first last → Gave unit answered unanswered verdict last
+read_closed_rests : (unit : ℕ) (answered unanswered verdict : Verdict) (outcomes : List (Option ℕ))
+    (told : List Exchange) (first last : List Exchange)
+    → Walk unit (read_closed answered unanswered) outcomes told (Finish verdict) → After told first last
+    → Gave unit answered unanswered verdict last
 unfolding Gave
 read_closed_rests unit answered unanswered verdict [] told first last walk run = let no = walk.1 in cc
 read_closed_rests unit answered unanswered verdict (None ∷ outcomes) told first last walk run =
@@ -107,20 +128,32 @@ read_closed_rests unit answered unanswered verdict (Some byte ∷ outcomes) told
     let same = end.1 in
     let older = only_older told walk.0 walk.1 walk.2 end.0 in
     let is : verdict ≡ answered = cc in
-    inr (is, (byte, read_step_shows unit 2 byte (either_way (Finish unanswered) (λ b. Finish answered)) walk.1 first last walk.3 (subst (λ (t : List Exchange). After t first last) older run)))
+    inr (
+      is,
+      (
+        2,
+        byte,
+        read_step_shows unit 2 byte (either_way (Finish unanswered) (λ b. Finish answered)) walk.1 first last walk.3
+            (subst (λ (t : List Exchange). After t first last) older run),
+      ),
+    )
 
-close_rests : (unit : ℕ) (answered unanswered verdict : Verdict) (outcomes : List (Option ℕ)) (told : List Exchange) (first last : List Exchange)
-    → Walk unit (close answered unanswered) outcomes told (Finish verdict) → After told first last → Gave unit answered unanswered verdict last
+close_rests : (unit : ℕ) (answered unanswered verdict : Verdict) (outcomes : List (Option ℕ)) (told : List Exchange)
+    (first last : List Exchange)
+    → Walk unit (close answered unanswered) outcomes told (Finish verdict) → After told first last
+    → Gave unit answered unanswered verdict last
 unfolding Gave
 close_rests unit answered unanswered verdict [] told first last walk run = let no = walk.1 in cc
 close_rests unit answered unanswered verdict (o ∷ outcomes) told first last walk run =
     let parts = split walk.0 walk.1 first last (subst (λ (t : List Exchange). After t first last) walk.2 run) in
     read_closed_rests unit answered unanswered verdict outcomes walk.0 parts.0 last walk.4 parts.2
 
-gave_up : (unit : ℕ) (updates : List (ℕ × ℕ)) (verdict : Verdict) (last : List Exchange) → Gave unit Doubt DoubtOpen verdict last → Rests (ReadStands last unit) updates verdict
+gave_up : (unit : ℕ) (updates : List (ℕ × ℕ)) (verdict : Verdict) (last : List Exchange)
+    → Gave unit Doubt DoubtOpen verdict last → Rests (ReadStands last unit) updates verdict
 unfolding Gave
 gave_up unit updates verdict last (inl is) = subst (λ (v : Verdict). Rests (ReadStands last unit) updates v) (sym is) tt
-gave_up unit updates verdict last (inr gave) = subst (λ (v : Verdict). Rests (ReadStands last unit) updates v) (sym gave.0) gave.1
+gave_up unit updates verdict last (inr gave) =
+    subst (λ (v : Verdict). Rests (ReadStands last unit) updates v) (sym gave.0) gave.1
 
 -- the location held the byte, and the plan went on; or it gave the order up
 record Went (unit location byte : ℕ) (after : Plan) (verdict : Verdict) (first last : List Exchange) : Type 0 where
@@ -132,7 +165,8 @@ record Went (unit location byte : ℕ) (after : Plan) (verdict : Verdict) (first
   shows : ReadStands mid unit location byte
   keeps : KeepsReads first mid
 
-expect_rests : (unit location byte : ℕ) (after : Plan) (verdict : Verdict) (outcomes : List (Option ℕ)) (told : List Exchange) (first last : List Exchange)
+expect_rests : (unit location byte : ℕ) (after : Plan) (verdict : Verdict) (outcomes : List (Option ℕ))
+    (told : List Exchange) (first last : List Exchange)
     → Walk unit (expect location byte after) outcomes told (Finish verdict) → After told first last
     → Went unit location byte after verdict first last ⊎ Gave unit Doubt DoubtOpen verdict last
 expect_rests unit location byte after verdict [] told first last walk run = let no = walk.1 in cc
@@ -150,8 +184,17 @@ expect_rests unit location byte after verdict (Some found ∷ outcomes) told fir
           → Went unit location byte after verdict first last ⊎ Gave unit Doubt DoubtOpen verdict last
       by mid run shows keeps true same on =
           let is : found ≡ byte = eqb-true found byte same in
-          inl (record { mid = mid; outcomes = outcomes; newer = walk.0; walk = on; run = run; shows = subst (λ (b : ℕ). ReadStands mid unit location b) is shows; keeps = keeps })
-      by mid run shows keeps false differs on = inr (close_rests unit Doubt DoubtOpen verdict outcomes walk.0 mid last on run)
+          inl (record {
+            mid = mid;
+            outcomes = outcomes;
+            newer = walk.0;
+            walk = on;
+            run = run;
+            shows = subst (λ (b : ℕ). ReadStands mid unit location b) is shows;
+            keeps = keeps;
+          })
+      by mid run shows keeps false differs on =
+          inr (close_rests unit Doubt DoubtOpen verdict outcomes walk.0 mid last on run)
 
 -- all bytes were read back
 record Held (unit : ℕ) (updates : List (ℕ × ℕ)) (verdict : Verdict) (first last : List Exchange) : Type 0 where
@@ -159,7 +202,8 @@ record Held (unit : ℕ) (updates : List (ℕ × ℕ)) (verdict : Verdict) (firs
   shows : ShowsAll (ReadStands last unit) updates
   keeps : KeepsReads first last
 
-read_back_rests : (unit : ℕ) (updates : List (ℕ × ℕ)) (verdict : Verdict) (outcomes : List (Option ℕ)) (told : List Exchange) (first last : List Exchange)
+read_back_rests : (unit : ℕ) (updates : List (ℕ × ℕ)) (verdict : Verdict) (outcomes : List (Option ℕ))
+    (told : List Exchange) (first last : List Exchange)
     → Walk unit (read_back updates) outcomes told (Finish verdict) → After told first last
     → Held unit updates verdict first last ⊎ Gave unit Doubt DoubtOpen verdict last
 read_back_rests unit [] verdict outcomes told first last walk run =
@@ -171,50 +215,62 @@ read_back_rests unit [] verdict outcomes told first last walk run =
 read_back_rests unit (update ∷ updates) verdict outcomes told first last walk run =
     elim (expect_rests unit update.0 update.1 (read_back updates) verdict outcomes told first last walk run) [
       | inr gave ↦ inr gave
-      | inl went ↦ elim (read_back_rests unit updates verdict went.outcomes went.newer went.mid last went.walk went.run) [
-        | inr gave ↦ inr gave
-        | inl held ↦ inl (record {
-          done = held.done;
-          shows = (shows_kept went.mid last unit update.0 update.1 went.shows held.keeps, held.shows);
-          keeps = keeps_then first went.mid last went.keeps held.keeps;
-        })
-      ]
+      | inl went ↦
+          elim (read_back_rests unit updates verdict went.outcomes went.newer went.mid last went.walk went.run) [
+            | inr gave ↦ inr gave
+            | inl held ↦ inl (record {
+              done = held.done;
+              shows = (shows_kept went.mid last unit update.0 update.1 went.shows held.keeps, held.shows);
+              keeps = keeps_then first went.mid last went.keeps held.keeps;
+            })
+          ]
     ]
 
-read_lock_rests : (unit : ℕ) (updates : List (ℕ × ℕ)) (verdict : Verdict) (outcomes : List (Option ℕ)) (told : List Exchange) (first last : List Exchange)
-    → Walk unit (read_lock updates) outcomes told (Finish verdict) → After told first last → Rests (ReadStands last unit) updates verdict
+read_lock_rests : (unit : ℕ) (updates : List (ℕ × ℕ)) (verdict : Verdict) (outcomes : List (Option ℕ))
+    (told : List Exchange) (first last : List Exchange)
+    → Walk unit (read_lock updates) outcomes told (Finish verdict) → After told first last
+    → Rests (ReadStands last unit) updates verdict
 read_lock_rests unit updates verdict outcomes told first last walk run =
     elim (expect_rests unit 2 0xFF (read_back updates) verdict outcomes told first last walk run) [
       | inr gave ↦ gave_up unit updates verdict last gave
-      | inl went ↦ elim (read_back_rests unit updates verdict went.outcomes went.newer went.mid last went.walk went.run) [
-        | inr gave ↦ gave_up unit updates verdict last gave
-        | inl held ↦ subst (λ (v : Verdict). Rests (ReadStands last unit) updates v) (sym held.done) (shows_kept went.mid last unit 2 0xFF went.shows held.keeps, held.shows)
-      ]
+      | inl went ↦
+          elim (read_back_rests unit updates verdict went.outcomes went.newer went.mid last went.walk went.run) [
+            | inr gave ↦ gave_up unit updates verdict last gave
+            | inl held ↦ subst (λ (v : Verdict). Rests (ReadStands last unit) updates v) (sym held.done)
+                (shows_kept went.mid last unit 2 0xFF went.shows held.keeps, held.shows)
+          ]
     ]
 
-write_on_rests : (unit : ℕ) (updates left : List (ℕ × ℕ)) (verdict : Verdict) (outcomes : List (Option ℕ)) (told : List Exchange) (first last : List Exchange)
-    → Walk unit (write_on updates left) outcomes told (Finish verdict) → After told first last → Rests (ReadStands last unit) updates verdict
+write_on_rests : (unit : ℕ) (updates left : List (ℕ × ℕ)) (verdict : Verdict) (outcomes : List (Option ℕ))
+    (told : List Exchange) (first last : List Exchange)
+    → Walk unit (write_on updates left) outcomes told (Finish verdict) → After told first last
+    → Rests (ReadStands last unit) updates verdict
 write_on_rests unit updates [] verdict [] told first last walk run = let no = walk.1 in cc
 write_on_rests unit updates [] verdict (None ∷ outcomes) told first last walk run =
     let parts = split walk.0 walk.1 first last (subst (λ (t : List Exchange). After t first last) walk.2 run) in
-    gave_up unit updates verdict last (close_rests unit Doubt DoubtOpen verdict outcomes walk.0 parts.0 last walk.4 parts.2)
+    gave_up unit updates verdict last
+    (close_rests unit Doubt DoubtOpen verdict outcomes walk.0 parts.0 last walk.4 parts.2)
 write_on_rests unit updates [] verdict (Some byte ∷ outcomes) told first last walk run =
     let parts = split walk.0 walk.1 first last (subst (λ (t : List Exchange). After t first last) walk.2 run) in
     read_lock_rests unit updates verdict outcomes walk.0 parts.0 last walk.4 parts.2
 write_on_rests unit updates (update ∷ left) verdict [] told first last walk run = let no = walk.1 in cc
 write_on_rests unit updates (update ∷ left) verdict (None ∷ outcomes) told first last walk run =
     let parts = split walk.0 walk.1 first last (subst (λ (t : List Exchange). After t first last) walk.2 run) in
-    gave_up unit updates verdict last (close_rests unit Doubt DoubtOpen verdict outcomes walk.0 parts.0 last walk.4 parts.2)
+    gave_up unit updates verdict last
+    (close_rests unit Doubt DoubtOpen verdict outcomes walk.0 parts.0 last walk.4 parts.2)
 write_on_rests unit updates (update ∷ left) verdict (Some byte ∷ outcomes) told first last walk run =
     let parts = split walk.0 walk.1 first last (subst (λ (t : List Exchange). After t first last) walk.2 run) in
     write_on_rests unit updates left verdict outcomes walk.0 parts.0 last walk.4 parts.2
 
-unlock_rests : (unit : ℕ) (updates : List (ℕ × ℕ)) (verdict : Verdict) (outcomes : List (Option ℕ)) (told : List Exchange) (first last : List Exchange)
-    → Walk unit (unlock updates) outcomes told (Finish verdict) → After told first last → Rests (ReadStands last unit) updates verdict
+unlock_rests : (unit : ℕ) (updates : List (ℕ × ℕ)) (verdict : Verdict) (outcomes : List (Option ℕ))
+    (told : List Exchange) (first last : List Exchange)
+    → Walk unit (unlock updates) outcomes told (Finish verdict) → After told first last
+    → Rests (ReadStands last unit) updates verdict
 unlock_rests unit updates verdict [] told first last walk run = let no = walk.1 in cc
 unlock_rests unit updates verdict (None ∷ outcomes) told first last walk run =
     let parts = split walk.0 walk.1 first last (subst (λ (t : List Exchange). After t first last) walk.2 run) in
-    gave_up unit updates verdict last (close_rests unit Doubt DoubtOpen verdict outcomes walk.0 parts.0 last walk.4 parts.2)
+    gave_up unit updates verdict last
+    (close_rests unit Doubt DoubtOpen verdict outcomes walk.0 parts.0 last walk.4 parts.2)
 unlock_rests unit updates verdict (Some byte ∷ outcomes) told first last walk run =
     let parts = split walk.0 walk.1 first last (subst (λ (t : List Exchange). After t first last) walk.2 run) in
     write_on_rests unit updates updates verdict outcomes walk.0 parts.0 last walk.4 parts.2
@@ -225,7 +281,8 @@ opened_rests told unit updates verdict wants =
     let ended = ended_walk unit (unlock updates) told verdict wants in
     unlock_rests unit updates verdict ended.0 told [] told ended.1 (sym (append-nil told))
 
-closed : (unit : ℕ) (verdict : Verdict) (last : List Exchange) → Gave unit Closed NotClosed verdict last → Rests (ReadStands last unit) [] verdict
+closed : (unit : ℕ) (verdict : Verdict) (last : List Exchange) → Gave unit Closed NotClosed verdict last
+    → Rests (ReadStands last unit) [] verdict
 unfolding Gave
 closed unit verdict last (inl is) = subst (λ (v : Verdict). Rests (ReadStands last unit) [] v) (sym is) tt
 closed unit verdict last (inr gave) = subst (λ (v : Verdict). Rests (ReadStands last unit) [] v) (sym gave.0) gave.1
@@ -234,7 +291,8 @@ pub closing_rests : (told : List Exchange) (unit : ℕ) (verdict : Verdict)
     → Wants unit (close Closed NotClosed) told (Ended verdict) → Rests (ReadStands told unit) [] verdict
 closing_rests told unit verdict wants =
     let ended = ended_walk unit (close Closed NotClosed) told verdict wants in
-    closed unit verdict told (close_rests unit Closed NotClosed verdict ended.0 told [] told ended.1 (sym (append-nil told)))
+    closed unit verdict told
+    (close_rests unit Closed NotClosed verdict ended.0 told [] told ended.1 (sym (append-nil told)))
 
 -- what rests on one way of showing rests on another that shows no less
 abbrev pub Shown : (ℕ → ℕ → Type 0) → (ℕ → ℕ → Type 0) → Type 0
@@ -244,27 +302,31 @@ pub suits_too : (P Q : ℕ → ℕ → Type 0) (updates : List (ℕ × ℕ)) →
 suits_too P Q updates f suits =
     (suits.0, f 0 suits.0 suits.1, suits.2, λ needed. (f 0x11 0 (suits.3 needed).0, f 0x12 3 (suits.3 needed).1))
 
-pub short_too : (P Q : ℕ → ℕ → Type 0) (updates : List (ℕ × ℕ)) → Shown P Q → IsTooShort P updates → IsTooShort Q updates
+pub short_too : (P Q : ℕ → ℕ → Type 0) (updates : List (ℕ × ℕ)) → Shown P Q → IsTooShort P updates
+    → IsTooShort Q updates
 short_too P Q updates f short = (short.0, f 0 short.0 short.1, short.2)
 
-pub format_too : (P Q : ℕ → ℕ → Type 0) (updates : List (ℕ × ℕ)) → Shown P Q → HasOtherFormat P updates → HasOtherFormat Q updates
+pub format_too : (P Q : ℕ → ℕ → Type 0) (updates : List (ℕ × ℕ)) → Shown P Q → HasOtherFormat P updates
+    → HasOtherFormat Q updates
 format_too P Q updates f other = (other.0, other.1, f 0x11 other.0 other.2, f 0x12 other.1 other.3, other.4, other.5)
 
 all_too : (P Q : ℕ → ℕ → Type 0) (updates : List (ℕ × ℕ)) → Shown P Q → ShowsAll P updates → ShowsAll Q updates
 all_too P Q [] f all = tt
 all_too P Q (update ∷ updates) f all = (f update.0 update.1 all.0, all_too P Q updates f all.1)
 
-pub written_too : (P Q : ℕ → ℕ → Type 0) (updates : List (ℕ × ℕ)) → Shown P Q → IsWritten P updates → IsWritten Q updates
+pub written_too : (P Q : ℕ → ℕ → Type 0) (updates : List (ℕ × ℕ)) → Shown P Q → IsWritten P updates
+    → IsWritten Q updates
 written_too P Q updates f done = (f 2 0xFF done.0, all_too P Q updates f done.1)
 
-pub rests_too : (P Q : ℕ → ℕ → Type 0) (updates : List (ℕ × ℕ)) (verdict : Verdict) → Shown P Q → Rests P updates verdict → Rests Q updates verdict
+pub rests_too : (P Q : ℕ → ℕ → Type 0) (updates : List (ℕ × ℕ)) (verdict : Verdict) → Shown P Q
+    → Rests P updates verdict → Rests Q updates verdict
 rests_too P Q updates MayOpen f rests = suits_too P Q updates f rests
 rests_too P Q updates Done f rests = written_too P Q updates f rests
 rests_too P Q updates Short f rests = short_too P Q updates f rests
 rests_too P Q updates Format f rests = format_too P Q updates f rests
 rests_too P Q updates Silent f rests = tt
-rests_too P Q updates Doubt f rests = (rests.0, f 2 rests.0 rests.1)
+rests_too P Q updates Doubt f rests = (rests.0, rests.1, f rests.0 rests.1 rests.2)
 rests_too P Q updates DoubtOpen f rests = tt
-rests_too P Q updates Closed f rests = (rests.0, f 2 rests.0 rests.1)
+rests_too P Q updates Closed f rests = (rests.0, rests.1, f rests.0 rests.1 rests.2)
 rests_too P Q updates NotClosed f rests = tt
 rests_too P Q updates ReadAll f rests = tt

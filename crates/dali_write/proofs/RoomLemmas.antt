@@ -1,5 +1,6 @@
 -- There is room for each byte that a reading session reads.
-use Rattle.std.proofs.Common.{◌≡◌, sym, ap, subst, ◌∙◌, ℕ, zero, suc, ◌-◌, ◌<◌, ◌≤◌, min, List, [], ◌∷◌, length, length-append, Option, Some, None, arith}
+use Rattle.std.proofs.Common.{◌≡◌, sym, ap, subst, ◌∙◌, ℕ, zero, suc, ◌-◌, ◌<◌, ◌≤◌, min, List, [], ◌∷◌, length}
+use Rattle.std.proofs.Common.{length-append, Option, Some, None, arith}
 use Rattle.std.specs.Option.{option_to_list}
 use Rattle.dali_write.specs.Exchanges.{Exchange}
 use Rattle.dali_write.specs.declared.line.Line.{Line}
@@ -22,46 +23,61 @@ read_on_has : (most location left : ℕ) → left ≤ most → HasAtMost most (r
 read_on_has most location zero few = tt
 read_on_has zero location (suc left) few = absurd (omega arith)
 read_on_has (suc most) location (suc left) few =
-    either_all (HasAtMost most) (Finish Silent) (λ byte. read_on (suc location) left) tt (λ byte. read_on_has most (suc location) left (omega arith))
+    either_all (HasAtMost most) (Finish Silent) (λ byte. read_on (suc location) left) tt
+    (λ byte. read_on_has most (suc location) left (omega arith))
 
 read_all_has : HasAtMost 255 read_all
-read_all_has = either_all (HasAtMost 254) (Finish Silent) (λ last. read_on 1 (min last 0xFE)) tt (λ last. read_on_has 254 1 (min last 0xFE) (omega arith))
+read_all_has =
+    either_all (HasAtMost 254) (Finish Silent) (λ last. read_on 1 (min last 0xFE)) tt
+    (λ last. read_on_has 254 1 (min last 0xFE) (omega arith))
 
 -- one step less
-one_less : (most : ℕ) (plan : Plan) (outcome : Option ℕ) → HasAtMost most plan → HasAtMost (most - 1) (goes_on plan outcome)
+one_less : (most : ℕ) (plan : Plan) (outcome : Option ℕ) → HasAtMost most plan
+    → HasAtMost (most - 1) (goes_on plan outcome)
 one_less most (Finish verdict) outcome has = tt
 one_less zero (Check step after) outcome has = absurd has
 one_less (suc most) (Check step after) outcome has =
     let less : suc most - 1 ≡ most = omega arith in
     subst (λ (n : ℕ). HasAtMost n (after outcome)) (sym less) (has outcome)
 
-steps_left : (most : ℕ) (plan : Plan) (outcomes : List (Option ℕ)) → HasAtMost most plan → HasAtMost (most - length outcomes) (plan_after plan outcomes)
-steps_left most plan [] has = let all : most - 0 ≡ most = omega arith in subst (λ (n : ℕ). HasAtMost n plan) (sym all) has
+steps_left : (most : ℕ) (plan : Plan) (outcomes : List (Option ℕ)) → HasAtMost most plan
+    → HasAtMost (most - length outcomes) (plan_after plan outcomes)
+steps_left most plan [] has =
+    let all : most - 0 ≡ most = omega arith in subst (λ (n : ℕ). HasAtMost n plan) (sym all) has
 steps_left most plan (outcome ∷ outcomes) has =
     let less : most - length outcomes - 1 ≡ most - suc (length outcomes) = omega arith in
     subst (λ (n : ℕ). HasAtMost n (goes_on (plan_after plan outcomes) outcome)) less
     (one_less (most - length outcomes) (plan_after plan outcomes) outcome (steps_left most plan outcomes has))
 
-some_left : (most : ℕ) (plan : Plan) (step : Step) (after : Option ℕ → Plan) → plan ≡ Check step after → HasAtMost most plan → 1 ≤ most
+some_left : (most : ℕ) (plan : Plan) (step : Step) (after : Option ℕ → Plan) → plan ≡ Check step after
+    → HasAtMost most plan → 1 ≤ most
 some_left zero plan step after is has = absurd (subst (λ (p : Plan). HasAtMost zero p) is has)
 some_left (suc most) plan step after is has = omega arith
 
 found_few : (outcomes : List (Option ℕ)) → length (found outcomes) ≤ length outcomes
 found_few [] = omega arith
-found_few (outcome ∷ outcomes) = omega (arith, found_few outcomes, length-append (found outcomes) (option_to_list outcome), at_most_one outcome)
+found_few (outcome ∷ outcomes) =
+    omega (arith, found_few outcomes, length-append (found outcomes) (option_to_list outcome), at_most_one outcome)
   where
     at_most_one : (outcome : Option ℕ) → length (option_to_list outcome) ≤ 1
     at_most_one None = omega arith
     at_most_one (Some byte) = omega arith
 
 -- while a step is at hand, a session has kept fewer bytes than there can be
-pub room_for_one : (job : Job) (unit : ℕ) (told : List Exchange) (now : Plan) (step : Step) (after : Option ℕ → Plan) (misses : ℕ) (left : List Line)
-    (byte : Option ℕ) (bytes : List ℕ) → now ≡ Check step after → StandsWith job unit (plan_of job) told now misses left byte bytes → length bytes < 255
+pub room_for_one : (job : Job) (unit : ℕ) (told : List Exchange) (now : Plan) (step : Step) (after : Option ℕ → Plan)
+    (misses : ℕ) (left : List Line)
+    (byte : Option ℕ) (bytes : List ℕ) → now ≡ Check step after
+    → StandsWith job unit (plan_of job) told now misses left byte bytes → length bytes < 255
 room_for_one Reading unit told now step after misses left byte bytes is s =
     let outcomes = s.stands.outcomes in
-    let some = some_left (255 - length outcomes) (plan_after read_all outcomes) step after (s.stands.now_is ∙ is) (steps_left 255 read_all outcomes read_all_has) in
+    let some =
+    some_left (255 - length outcomes) (plan_after read_all outcomes) step after (s.stands.now_is ∙ is)
+    (steps_left 255 read_all outcomes read_all_has) in
     let count = ap (λ (kept : List ℕ). length kept) s.bytes_are in
     omega (arith, found_few outcomes)
-room_for_one (Fresh order) unit told now step after misses left byte bytes is s = let none = ap (λ (kept : List ℕ). length kept) s.bytes_are in omega arith
-room_for_one (Opened order) unit told now step after misses left byte bytes is s = let none = ap (λ (kept : List ℕ). length kept) s.bytes_are in omega arith
-room_for_one Closing unit told now step after misses left byte bytes is s = let none = ap (λ (kept : List ℕ). length kept) s.bytes_are in omega arith
+room_for_one (Fresh order) unit told now step after misses left byte bytes is s =
+    let none = ap (λ (kept : List ℕ). length kept) s.bytes_are in omega arith
+room_for_one (Opened order) unit told now step after misses left byte bytes is s =
+    let none = ap (λ (kept : List ℕ). length kept) s.bytes_are in omega arith
+room_for_one Closing unit told now step after misses left byte bytes is s =
+    let none = ap (λ (kept : List ℕ). length kept) s.bytes_are in omega arith

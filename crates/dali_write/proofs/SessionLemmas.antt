@@ -24,42 +24,59 @@ use Rattle.dali_write.proofs.FreshRestLemmas.{fresh_rests}
 use Rattle.dali_write.proofs.KindLemmas.{fresh_ends, opened_ends, closing_ends}
 use Rattle.dali_write.proofs.UnreachedLemmas.{closing_unread}
 
-pub fresh_wants : (order : Contents) (told : List Exchange) (s : Session) (ask : Ask) → IsFresh order s → Told told s → aim_of s ≡ ask → Wants order.unit (read_length order.updates) told ask
-fresh_wants order told s ask is is_told aim = rw (← is.0, ← aim) (subst (λ job. Wants s.unit (plan_of job) told (aim_of s)) is.1 (told_wants told s is_told))
+pub fresh_wants : (order : Contents) (told : List Exchange) (s : Session) (ask : Ask) → IsFresh order s → Told told s
+    → aim_of s ≡ ask → Wants order.unit (read_length order.updates) told ask
+fresh_wants order told s ask is is_told aim =
+    rw (← is.0, ← aim) (subst (λ job. Wants s.unit (plan_of job) told (aim_of s)) is.1 (told_wants told s is_told))
 
-pub opened_wants : (order : Contents) (told : List Exchange) (s : Session) (ask : Ask) → IsOpened order s → Told told s → aim_of s ≡ ask → Wants order.unit (unlock order.updates) told ask
-opened_wants order told s ask is is_told aim = rw (← is.0, ← aim) (subst (λ job. Wants s.unit (plan_of job) told (aim_of s)) is.1 (told_wants told s is_told))
+pub opened_wants : (order : Contents) (told : List Exchange) (s : Session) (ask : Ask) → IsOpened order s → Told told s
+    → aim_of s ≡ ask → Wants order.unit (unlock order.updates) told ask
+opened_wants order told s ask is is_told aim =
+    rw (← is.0, ← aim) (subst (λ job. Wants s.unit (plan_of job) told (aim_of s)) is.1 (told_wants told s is_told))
 
-pub closing_wants : (unit : ℕ) (told : List Exchange) (s : Session) (ask : Ask) → IsClosing unit s → Told told s → aim_of s ≡ ask → Wants unit (close Closed NotClosed) told ask
-closing_wants unit told s ask is is_told aim = rw (← is.0, ← aim) (subst (λ job. Wants s.unit (plan_of job) told (aim_of s)) is.1 (told_wants told s is_told))
+pub closing_wants : (unit : ℕ) (told : List Exchange) (s : Session) (ask : Ask) → IsClosing unit s → Told told s
+    → aim_of s ≡ ask → Wants unit (close Closed NotClosed) told ask
+closing_wants unit told s ask is is_told aim =
+    rw (← is.0, ← aim) (subst (λ job. Wants s.unit (plan_of job) told (aim_of s)) is.1 (told_wants told s is_told))
 
-pub fresh_sends : (order : Contents) (told : List Exchange) (s : Session) (frame : Frame) → IsFresh order s → Told told s → aim_of s ≡ Send frame → IsGuarded [] order.unit told frame
-fresh_sends order told s frame is is_told aim = fresh_guarded told order.unit order.updates frame (fresh_wants order told s (Send frame) is is_told aim)
+pub fresh_sends : (order : Contents) (told : List Exchange) (s : Session) (frame : Frame) → IsFresh order s
+    → Told told s → aim_of s ≡ Send frame → IsGuarded [] order.unit told frame
+fresh_sends order told s frame is is_told aim =
+    fresh_guarded told order.unit order.updates frame (fresh_wants order told s (Send frame) is is_told aim)
 
-pub opened_sends : (order : Contents) (told : List Exchange) (s : Session) (frame : Frame) → IsOpened order s → Told told s → aim_of s ≡ Send frame
+pub opened_sends : (order : Contents) (told : List Exchange) (s : Session) (frame : Frame) → IsOpened order s
+    → Told told s → aim_of s ≡ Send frame
     → IsGuarded (writes_of order.updates) order.unit told frame
-opened_sends order told s frame is is_told aim = opened_guarded told order.unit order.updates frame (opened_wants order told s (Send frame) is is_told aim)
+opened_sends order told s frame is is_told aim =
+    opened_guarded told order.unit order.updates frame (opened_wants order told s (Send frame) is is_told aim)
 
-pub closing_sends : (unit : ℕ) (told : List Exchange) (s : Session) (frame : Frame) → IsClosing unit s → Told told s → aim_of s ≡ Send frame → IsGuarded ((2, 0xFF) ∷ []) unit told frame
-closing_sends unit told s frame is is_told aim = closing_guarded told unit frame (closing_wants unit told s (Send frame) is is_told aim)
+pub closing_sends : (unit : ℕ) (told : List Exchange) (s : Session) (frame : Frame) → IsClosing unit s → Told told s
+    → aim_of s ≡ Send frame → IsGuarded ((2, 0xFF) ∷ []) unit told frame
+closing_sends unit told s frame is is_told aim =
+    closing_guarded told unit frame (closing_wants unit told s (Send frame) is is_told aim)
 
-pub fresh_over : (order : Contents) (told : List Exchange) (s : Session) (verdict : Verdict) → IsFresh order s → Told told s → aim_of s ≡ Ended verdict
+pub fresh_over : (order : Contents) (told : List Exchange) (s : Session) (verdict : Verdict) → IsFresh order s
+    → Told told s → aim_of s ≡ Ended verdict
     → EndsFresh verdict × Rests (ReadStands told order.unit) order.updates verdict
 fresh_over order told s verdict is is_told aim =
     let wants = fresh_wants order told s (Ended verdict) is is_told aim in
     (fresh_ends told order.unit order.updates verdict wants, fresh_rests told order.unit order.updates verdict wants)
 
-pub opened_over : (order : Contents) (told : List Exchange) (s : Session) (verdict : Verdict) → IsOpened order s → Told told s → aim_of s ≡ Ended verdict
+pub opened_over : (order : Contents) (told : List Exchange) (s : Session) (verdict : Verdict) → IsOpened order s
+    → Told told s → aim_of s ≡ Ended verdict
     → EndsOpened verdict × Rests (ReadStands told order.unit) order.updates verdict
 opened_over order told s verdict is is_told aim =
     let wants = opened_wants order told s (Ended verdict) is is_told aim in
     (opened_ends told order.unit order.updates verdict wants, opened_rests told order.unit order.updates verdict wants)
 
-pub closing_over : (unit : ℕ) (told : List Exchange) (s : Session) (verdict : Verdict) → IsClosing unit s → Told told s → aim_of s ≡ Ended verdict
+pub closing_over : (unit : ℕ) (told : List Exchange) (s : Session) (verdict : Verdict) → IsClosing unit s → Told told s
+    → aim_of s ≡ Ended verdict
     → EndsClosing verdict × Rests (ReadStands told unit) [] verdict
 closing_over unit told s verdict is is_told aim =
     let wants = closing_wants unit told s (Ended verdict) is is_told aim in
     (closing_ends told unit verdict wants, closing_rests told unit verdict wants)
 
-pub closing_unreached : (unit : ℕ) (told : List Exchange) (s : Session) → IsClosing unit s → Told told s → aim_of s ≡ Ended NotClosed → HasRead unit told → ⊥
-closing_unreached unit told s is is_told aim = closing_unread told unit (closing_wants unit told s (Ended NotClosed) is is_told aim)
+pub closing_unreached : (unit : ℕ) (told : List Exchange) (s : Session) → IsClosing unit s → Told told s
+    → aim_of s ≡ Ended NotClosed → HasRead unit told → ⊥
+closing_unreached unit told s is is_told aim =
+    closing_unread told unit (closing_wants unit told s (Ended NotClosed) is is_told aim)

@@ -10,9 +10,11 @@ use Rattle.dali_write.specs.Lines.{Meets, line, select_lines, read_lines}
 use Rattle.dali_write.specs.Tries.{Trying}
 
 -- the lines that were sent and those that are left are all of them
-pub trying_length : (lines : List Line) (tried : List Exchange) (left : List Line) → Trying lines tried left → length tried + length left ≡ length lines
+pub trying_length : (lines : List Line) (tried : List Exchange) (left : List Line) → Trying lines tried left
+    → length tried + length left ≡ length lines
 trying_length lines [] left try = let same = ap (λ (l : List Line). length l) try in omega arith
-trying_length lines (x ∷ tried) left try = let rest = trying_length lines tried (line x.frame try.0 ∷ left) try.2 in omega arith
+trying_length lines (x ∷ tried) left try =
+    let rest = trying_length lines tried (line x.frame try.0 ∷ left) try.2 in omega arith
 
 -- of no lines, none is left
 pub none_left : (tried : List Exchange) (next : Line) (left : List Line) → Trying [] tried (next ∷ left) → ⊥
@@ -23,9 +25,13 @@ pub record Got (x : Exchange) (frame : Frame) (wish : Wish) : Type 0 where
   pub frame_is : x.frame ≡ frame
   pub meets : Meets wish x.answer
 
-got : (x : Exchange) (wish : Wish) (next : Line) → line x.frame wish ≡ next → Meets wish x.answer → Got x next.frame next.wish
+got : (x : Exchange) (wish : Wish) (next : Line) → line x.frame wish ≡ next → Meets wish x.answer
+    → Got x next.frame next.wish
 got x wish next same meets =
-    record { frame_is = ap (λ (l : Line). l.frame) same; meets = subst (λ (w : Wish). Meets w x.answer) (ap (λ (l : Line). l.wish) same) meets }
+    record {
+      frame_is = ap (λ (l : Line). l.frame) same;
+      meets = subst (λ (w : Wish). Meets w x.answer) (ap (λ (l : Line). l.wish) same) meets;
+    }
 
 head_is : (x y : Line) (xs ys : List Line) → x ∷ xs ≡ y ∷ ys → x ≡ y
 head_is x y xs ys same = cc
@@ -44,7 +50,8 @@ pub record Selected (unit location : ℕ) (tried : List Exchange) : Type 0 where
   pub got3 : Got x3 (Dtr0 location) Nothing
   pub got4 : Got x4 (AskDtr0 unit) (Exactly location)
 
-pub selected : (unit location : ℕ) (tried : List Exchange) → Trying (select_lines unit location) tried [] → Selected unit location tried
+pub selected : (unit location : ℕ) (tried : List Exchange) → Trying (select_lines unit location) tried []
+    → Selected unit location tried
 selected unit location [] try = cc
 selected unit location (x1 ∷ []) try = let same = try.2 in cc
 selected unit location (x2 ∷ x1 ∷ []) try = let same = try.2.2 in cc
@@ -82,7 +89,8 @@ pub record WasRead (unit location : ℕ) (tried : List Exchange) : Type 0 where
   pub got4 : Got x4 (AskDtr0 unit) (Exactly location)
   pub got5 : Got x5 (Read unit) Anything
 
-pub was_read : (unit location : ℕ) (tried : List Exchange) → Trying (read_lines unit location) tried [] → WasRead unit location tried
+pub was_read : (unit location : ℕ) (tried : List Exchange) → Trying (read_lines unit location) tried []
+    → WasRead unit location tried
 was_read unit location [] try = cc
 was_read unit location (x1 ∷ []) try = let same = try.2 in cc
 was_read unit location (x2 ∷ x1 ∷ []) try = let same = try.2.2 in cc

@@ -1,5 +1,6 @@
 -- How a session's standing goes on.
-use Rattle.std.proofs.Common.{◌≡◌, refl, sym, ap, subst, ◌∙◌, inl, inr, ℕ, suc, ◌<◌, ◌≤◌, List, [], ◌∷◌, ◌++◌, append_assoc, Option, None, arith}
+use Rattle.std.proofs.Common.{◌≡◌, refl, sym, ap, subst, ◌∙◌, inl, inr, ℕ, suc, ◌<◌, ◌≤◌, List, [], ◌∷◌, ◌++◌}
+use Rattle.std.proofs.Common.{append_assoc, Option, None, arith}
 use Rattle.dali_frame.specs.declared.forward.Frame.{Frame}
 use Rattle.dali_write.specs.Exchanges.{Exchange}
 use Rattle.dali_write.specs.declared.line.Line.{Line}
@@ -11,17 +12,31 @@ use Rattle.dali_write.specs.Tries.{most_tries, Trying, Misses, byte_of, StepEnds
 use Rattle.dali_write.proofs.ShapeLemmas.{none_left}
 
 pub goes_first : (unit : ℕ) (plan : Plan) → GoesOn plan (plan_lines unit plan)
-goes_first unit (Finish verdict) = tt
-goes_first unit (Check (ReadFrom location) after) = tt
-goes_first unit (Check (WriteTo location byte) after) = tt
+goes_first unit (Finish verdict) = refl
+goes_first unit (Check (ReadFrom location) after) = refl
+goes_first unit (Check (WriteTo location byte) after) = refl
 
 -- at the beginning
 unfoldable pub stands_at_first : (unit : ℕ) (plan : Plan) → Stands unit plan [] plan 0 (plan_lines unit plan) None
 stands_at_first unit plan =
-    record { outcomes = []; ended = []; missed = []; tried = []; parts = refl; steps = refl; now_is = refl; few = omega arith; misses_are = refl; try = refl; byte_is = refl; going = goes_first unit plan }
+    record {
+      outcomes = [];
+      ended = [];
+      missed = [];
+      tried = [];
+      parts = refl;
+      steps = refl;
+      now_is = refl;
+      few = omega arith;
+      misses_are = refl;
+      try = refl;
+      byte_is = refl;
+      going = goes_first unit plan;
+    }
 
 -- the frame at hand got what it wants
-unfoldable pub stands_on : (unit : ℕ) (plan : Plan) (told : List Exchange) (now : Plan) (misses : ℕ) (left : List Line) (byte : Option ℕ) (frame : Frame) (answer : Option ℕ) (wish : Wish)
+unfoldable pub stands_on : (unit : ℕ) (plan : Plan) (told : List Exchange) (now : Plan) (misses : ℕ) (left : List Line)
+    (byte : Option ℕ) (frame : Frame) (answer : Option ℕ) (wish : Wish)
     → Stands unit plan told now misses (line frame wish ∷ left) byte → Meets wish answer → GoesOn now left
     → Stands unit plan (record { frame = frame; answer = answer } ∷ told) now misses left (byte_after frame answer byte)
 stands_on unit plan told now misses left byte frame answer wish s meets going =
@@ -42,7 +57,8 @@ stands_on unit plan told now misses left byte frame answer wish s meets going =
     }
 
 -- another try of the same step
-unfoldable pub stands_again : (unit : ℕ) (plan : Plan) (told : List Exchange) (now : Plan) (misses : ℕ) (left : List Line) (byte : Option ℕ) (frame : Frame) (answer : Option ℕ) (wish : Wish)
+unfoldable pub stands_again : (unit : ℕ) (plan : Plan) (told : List Exchange) (now : Plan) (misses : ℕ)
+    (left : List Line) (byte : Option ℕ) (frame : Frame) (answer : Option ℕ) (wish : Wish)
     → Stands unit plan told now misses (line frame wish ∷ left) byte → ¬ Meets wish answer → suc misses < most_tries
     → Stands unit plan (record { frame = frame; answer = answer } ∷ told) now (suc misses) (plan_lines unit now) None
 stands_again unit plan told now misses left byte frame answer wish s misses_it few =
@@ -63,8 +79,10 @@ stands_again unit plan told now misses left byte frame answer wish s misses_it f
     }
 
 -- the step ended
-unfoldable pub ends_step : (unit : ℕ) (plan : Plan) (told : List Exchange) (now : Plan) (outcomes : List (Option ℕ)) (ended newer : List Exchange) (outcome : Option ℕ)
-    → told ≡ newer ++ ended → StepsEnd unit plan outcomes ended → plan_after plan outcomes ≡ now → StepEnds unit now outcome newer
+unfoldable pub ends_step : (unit : ℕ) (plan : Plan) (told : List Exchange) (now : Plan) (outcomes : List (Option ℕ))
+    (ended newer : List Exchange) (outcome : Option ℕ)
+    → told ≡ newer ++ ended → StepsEnd unit plan outcomes ended → plan_after plan outcomes ≡ now
+    → StepEnds unit now outcome newer
     → Stands unit plan told (goes_on now outcome) 0 (plan_lines unit (goes_on now outcome)) None
 ends_step unit plan told now outcomes ended newer outcome parts steps now_is ends =
     record {
@@ -82,24 +100,40 @@ ends_step unit plan told now outcomes ended newer outcome parts steps now_is end
       going = goes_first unit (goes_on now outcome);
     }
 
-pub done_ends : (unit : ℕ) (now : Plan) (misses : ℕ) (tried missed : List Exchange) (byte : Option ℕ) (frame : Frame) (answer : Option ℕ) (wish : Wish)
-    → misses < most_tries → Misses (plan_lines unit now) misses missed → Trying (plan_lines unit now) tried (line frame wish ∷ []) → byte_of tried ≡ byte → Meets wish answer
+pub done_ends : (unit : ℕ) (now : Plan) (misses : ℕ) (tried missed : List Exchange) (byte : Option ℕ) (frame : Frame)
+    (answer : Option ℕ) (wish : Wish)
+    → misses < most_tries → Misses (plan_lines unit now) misses missed
+    → Trying (plan_lines unit now) tried (line frame wish ∷ []) → byte_of tried ≡ byte → Meets wish answer
     → StepEnds unit now (byte_after frame answer byte) ((record { frame = frame; answer = answer } ∷ tried) ++ missed)
-done_ends unit (Finish verdict) misses tried missed byte frame answer wish few are try is meets = absurd (none_left tried (line frame wish) [] try)
+done_ends unit (Finish verdict) misses tried missed byte frame answer wish few are try is meets =
+    absurd (none_left tried (line frame wish) [] try)
 done_ends unit (Check step after) misses tried missed byte frame answer wish few are try is meets =
     let x : Exchange = record { frame = frame; answer = answer } in
-    inl (x ∷ tried, missed, misses, refl, (wish, meets, try), ap (λ (b : Option ℕ). byte_after frame answer b) (sym is), few, are)
+    inl (
+      x ∷ tried,
+      missed,
+      misses,
+      refl,
+      (wish, meets, try),
+      ap (λ (b : Option ℕ). byte_after frame answer b) (sym is),
+      few,
+      are,
+    )
 
-pub failed_ends : (unit : ℕ) (now : Plan) (tried missed : List Exchange) (frame : Frame) (answer : Option ℕ) (wish : Wish) (left : List Line)
-    → Misses (plan_lines unit now) 7 missed → Trying (plan_lines unit now) tried (line frame wish ∷ left) → ¬ Meets wish answer
+pub failed_ends : (unit : ℕ) (now : Plan) (tried missed : List Exchange) (frame : Frame) (answer : Option ℕ)
+    (wish : Wish) (left : List Line)
+    → Misses (plan_lines unit now) 7 missed → Trying (plan_lines unit now) tried (line frame wish ∷ left)
+    → ¬ Meets wish answer
     → StepEnds unit now None ((record { frame = frame; answer = answer } ∷ tried) ++ missed)
-failed_ends unit (Finish verdict) tried missed frame answer wish left are try misses_it = absurd (none_left tried (line frame wish) left try)
+failed_ends unit (Finish verdict) tried missed frame answer wish left are try misses_it =
+    absurd (none_left tried (line frame wish) left try)
 failed_ends unit (Check step after) tried missed frame answer wish left are try misses_it =
     let x : Exchange = record { frame = frame; answer = answer } in
     inr (refl, (x ∷ tried, missed, refl, (wish, left, misses_it, try), are))
 
 -- the last frame of a try got what it wants
-unfoldable pub stands_done : (unit : ℕ) (plan : Plan) (told : List Exchange) (now : Plan) (misses : ℕ) (byte : Option ℕ) (frame : Frame) (answer : Option ℕ) (wish : Wish)
+unfoldable pub stands_done : (unit : ℕ) (plan : Plan) (told : List Exchange) (now : Plan) (misses : ℕ) (byte : Option ℕ)
+    (frame : Frame) (answer : Option ℕ) (wish : Wish)
     → Stands unit plan told now misses (line frame wish ∷ []) byte → Meets wish answer
     → Stands unit plan (record { frame = frame; answer = answer } ∷ told) (goes_on now (byte_after frame answer byte)) 0
     (plan_lines unit (goes_on now (byte_after frame answer byte))) None
@@ -110,12 +144,15 @@ stands_done unit plan told now misses byte frame answer wish s meets =
     (done_ends unit now misses s.tried s.missed byte frame answer wish s.few s.misses_are s.try s.byte_is meets)
 
 -- the last try missed
-unfoldable pub stands_failed : (unit : ℕ) (plan : Plan) (told : List Exchange) (now : Plan) (misses : ℕ) (left : List Line) (byte : Option ℕ) (frame : Frame) (answer : Option ℕ) (wish : Wish)
+unfoldable pub stands_failed : (unit : ℕ) (plan : Plan) (told : List Exchange) (now : Plan) (misses : ℕ)
+    (left : List Line) (byte : Option ℕ) (frame : Frame) (answer : Option ℕ) (wish : Wish)
     → Stands unit plan told now misses (line frame wish ∷ left) byte → ¬ Meets wish answer → 7 ≤ misses
-    → Stands unit plan (record { frame = frame; answer = answer } ∷ told) (goes_on now None) 0 (plan_lines unit (goes_on now None)) None
+    → Stands unit plan (record { frame = frame; answer = answer } ∷ told) (goes_on now None) 0
+    (plan_lines unit (goes_on now None)) None
 stands_failed unit plan told now misses left byte frame answer wish s misses_it many =
     let x : Exchange = record { frame = frame; answer = answer } in
     let seven : misses ≡ 7 = let few = s.few in omega arith in
     ends_step unit plan (x ∷ told) now s.outcomes s.ended ((x ∷ s.tried) ++ s.missed) None
     (ap (λ (t : List Exchange). x ∷ t) (s.parts ∙ sym (append_assoc s.tried s.missed s.ended))) s.steps s.now_is
-    (failed_ends unit now s.tried s.missed frame answer wish left (subst (λ (m : ℕ). Misses (plan_lines unit now) m s.missed) seven s.misses_are) s.try misses_it)
+    (failed_ends unit now s.tried s.missed frame answer wish left
+    (subst (λ (m : ℕ). Misses (plan_lines unit now) m s.missed) seven s.misses_are) s.try misses_it)

@@ -1,7 +1,8 @@
 -- A checked read goes on to tell the truth until a frame enables a unit or writes.
 use Rattle.std.proofs.Common.{inl, inr, subst, ℕ, List, [], ◌∷◌}
 use Rattle.dali_frame.specs.declared.forward.Frame.{Frame}
-use Rattle.dali_frame.specs.declared.forward.Frame.TheVariants.{Dtr0, Dtr1, Dtr2, Write, WriteSilent, Enable, AskDtr0, AskDtr1, AskDtr2, Read, Other}
+use Rattle.dali_frame.specs.declared.forward.Frame.TheVariants.{Dtr0, Dtr1, Dtr2, Write, WriteSilent, Enable, AskDtr0}
+use Rattle.dali_frame.specs.declared.forward.Frame.TheVariants.{AskDtr1, AskDtr2, Read, Other}
 use Rattle.dali_gear.specs.World.{World}
 use Rattle.dali_write.specs.Exchanges.{Exchange}
 use Rattle.dali_write.specs.Reads.{IsPassive, ReadStands}
@@ -24,7 +25,8 @@ passive_quiet (WriteSilent byte) passive address = absurd passive
 passive_quiet (Enable unit) passive address = absurd passive
 passive_quiet (Other word) passive address = absurd passive
 
-pub stands_true : (told : List Exchange) (first last : World) (unit location byte : ℕ) → Run told first last → ReadStands told unit location byte
+pub stands_true : (told : List Exchange) (first last : World) (unit location byte : ℕ) → Run told first last
+    → ReadStands told unit location byte
     → Shows last unit location byte
 stands_true [] first last unit location byte run stands = absurd stands
 stands_true (x ∷ told) first last unit location byte run (inl ends) =
@@ -32,4 +34,5 @@ stands_true (x ∷ told) first last unit location byte run (inl ends) =
     read_true ends.0 parts.0 last unit location byte parts.2 ends.3
 stands_true (x ∷ told) first last unit location byte run (inr (passive, stands)) =
     let before = stands_true told first run.0 unit location byte run.1 stands in
-    shows_kept run.0 last unit location byte before (carry_keeps run.0 x.frame x.answer last unit (passive_quiet x.frame passive unit) run.2)
+    shows_kept run.0 last unit location byte before
+    (carry_keeps run.0 x.frame x.answer last unit (passive_quiet x.frame passive unit) run.2)

@@ -20,7 +20,8 @@ get_other xs i x j other = grind (arith, common_steps, gets)
 same : (location : ℕ) (bank : BankState) → OnlyDiffers bank location bank
 same location bank = record { others = λ other away. refl; lengths = refl; fixed = refl }
 
-stored : (old : BankState) (location byte : ℕ) (bank : BankState) → OnlyDiffers old location bank → OnlyDiffers old location (with_byte bank location byte)
+stored : (old : BankState) (location byte : ℕ) (bank : BankState) → OnlyDiffers old location bank
+    → OnlyDiffers old location (with_byte bank location byte)
 stored old location byte bank so =
     record {
       others = λ other away. get_other bank.bytes location byte other away ∙ so.others other away;
@@ -28,15 +29,22 @@ stored old location byte bank so =
       fixed = so.fixed;
     }
 
-pub write_stored : (at location byte : ℕ) (unit : UnitState) (outcome : Option ℕ) (told : List Exchange) (first last : SimState) → SimRun told first last
+pub write_stored : (at location byte : ℕ) (unit : UnitState) (outcome : Option ℕ) (told : List Exchange)
+    (first last : SimState)
+    → SimRun told first last
     → IsAlone at unit first.units → Succeeds (step_lines at (WriteTo location byte)) outcome told
-    → (now : UnitState) × IsAlone at now last.units × OnlyDiffers unit.bank1 location now.bank1 × (slice_get now.bank1.bytes location ≡ Some byte)
+    → (now : UnitState) × IsAlone at now last.units × OnlyDiffers unit.bank1 location now.bank1
+    × (slice_get now.bank1.bytes location ≡ Some byte)
 write_stored at location byte unit outcome told first last run alone done =
-    after_success (OnlyDiffers unit.bank1 location) at (WriteTo location byte) unit outcome told first last run alone (same location unit.bank1) (stored unit.bank1 location byte) done
+    after_success (OnlyDiffers unit.bank1 location) at (WriteTo location byte) unit outcome told first last run alone
+    (same location unit.bank1) (stored unit.bank1 location byte) done
 
 -- a step that came to its end, either way
-kept_by : (keep : BankState → Type 0) (at : ℕ) (step : Step) (unit : UnitState) (outcome : Option ℕ) (told : List Exchange) (first last : SimState) → SimRun told first last
-    → IsAlone at unit first.units → keep unit.bank1 → Keeps keep step → Succeeds (step_lines at step) outcome told ⊎ Fails (step_lines at step) outcome told
+kept_by : (keep : BankState → Type 0) (at : ℕ) (step : Step) (unit : UnitState) (outcome : Option ℕ)
+    (told : List Exchange) (first last : SimState)
+    → SimRun told first last
+    → IsAlone at unit first.units → keep unit.bank1 → Keeps keep step
+    → Succeeds (step_lines at step) outcome told ⊎ Fails (step_lines at step) outcome told
     → (now : UnitState) × IsAlone at now last.units × keep now.bank1
 kept_by keep at step unit outcome told first last run alone kept keeps (inl done) =
     let all = after_success keep at step unit outcome told first last run alone kept keeps done in
@@ -44,14 +52,22 @@ kept_by keep at step unit outcome told first last run alone kept keeps (inl done
 kept_by keep at step unit outcome told first last run alone kept keeps (inr failed) =
     after_misses keep at step unit most_tries told first last run alone kept keeps failed.1
 
-pub read_keeps : (at location : ℕ) (unit : UnitState) (outcome : Option ℕ) (told : List Exchange) (first last : SimState) → SimRun told first last
-    → IsAlone at unit first.units → Succeeds (step_lines at (ReadFrom location)) outcome told ⊎ Fails (step_lines at (ReadFrom location)) outcome told
+pub read_keeps : (at location : ℕ) (unit : UnitState) (outcome : Option ℕ) (told : List Exchange)
+    (first last : SimState)
+    → SimRun told first last
+    → IsAlone at unit first.units
+    → Succeeds (step_lines at (ReadFrom location)) outcome told ⊎ Fails (step_lines at (ReadFrom location)) outcome told
     → (now : UnitState) × IsAlone at now last.units × (now.bank1 ≡ unit.bank1)
 read_keeps at location unit outcome told first last run alone ends =
     kept_by (λ bank. bank ≡ unit.bank1) at (ReadFrom location) unit outcome told first last run alone refl tt ends
 
-pub write_keeps : (at location byte : ℕ) (unit : UnitState) (outcome : Option ℕ) (told : List Exchange) (first last : SimState) → SimRun told first last
-    → IsAlone at unit first.units → Succeeds (step_lines at (WriteTo location byte)) outcome told ⊎ Fails (step_lines at (WriteTo location byte)) outcome told
+pub write_keeps : (at location byte : ℕ) (unit : UnitState) (outcome : Option ℕ) (told : List Exchange)
+    (first last : SimState)
+    → SimRun told first last
+    → IsAlone at unit first.units
+    → Succeeds (step_lines at (WriteTo location byte)) outcome told
+    ⊎ Fails (step_lines at (WriteTo location byte)) outcome told
     → (now : UnitState) × IsAlone at now last.units × OnlyDiffers unit.bank1 location now.bank1
 write_keeps at location byte unit outcome told first last run alone ends =
-    kept_by (OnlyDiffers unit.bank1 location) at (WriteTo location byte) unit outcome told first last run alone (same location unit.bank1) (stored unit.bank1 location byte) ends
+    kept_by (OnlyDiffers unit.bank1 location) at (WriteTo location byte) unit outcome told first last run alone
+    (same location unit.bank1) (stored unit.bank1 location byte) ends

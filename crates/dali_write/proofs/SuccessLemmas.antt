@@ -1,5 +1,7 @@
 -- Along the simulated bus a session that loses little goes its way.
-use Rattle.std.proofs.Common.{◌≡◌, ◌≢◌, ◌⊎◌, inl, inr, refl, sym, ap, subst, ◌∙◌, ℕ, zero, suc, ◌+◌, ◌≤◌, ◌<◌, Bool, true, false, ◌==◌, nat_lt, if◌then◌else◌, List, [], ◌∷◌, ◌++◌, length, Option, Some, None, IsTrue, arith}
+use Rattle.std.proofs.Common.{◌≡◌, ◌≢◌, ◌⊎◌, inl, inr, refl, sym, ap, subst, ◌∙◌, ℕ, zero, suc, ◌+◌, ◌≤◌, ◌<◌, Bool}
+use Rattle.std.proofs.Common.{true, false, ◌==◌, nat_lt, if◌then◌else◌, List, [], ◌∷◌, ◌++◌, length, Option, Some, None}
+use Rattle.std.proofs.Common.{IsTrue, arith}
 use Rattle.std.specs.Prelude.{slice_get, slice_index, min}
 use Rattle.std.proofs.lemmas.Bool.{eq-eqb, ne_eqb, eqb-true, eqb-false, lt-ltb, le-leb, ltb-false}
 use Rattle.std.proofs.Math.Nat.{min-le_left}
@@ -15,7 +17,8 @@ use Rattle.dali_write.specs.declared.step.Step.TheVariants.{ReadFrom, WriteTo}
 use Rattle.dali_write.specs.declared.ask.Verdict.{Verdict}
 use Rattle.dali_write.specs.declared.ask.Verdict.TheVariants.{MayOpen, Done, Short, Format, Closed, NotClosed, Read}
 use Rattle.dali_write.specs.declared.ask.Ask.TheVariants.{Ended}
-use Rattle.dali_write.specs.Plans.{Plan, Finish, Check, greatest, read_length, read_format, close, read_back, write_on, unlock, read_on, read_all}
+use Rattle.dali_write.specs.Plans.{Plan, Finish, Check, greatest, read_length, read_format, close, read_back, write_on}
+use Rattle.dali_write.specs.Plans.{unlock, read_on, read_all}
 use Rattle.dali_write.specs.Tries.{most_tries, StepEnds, Wants}
 use Rattle.dali_write.specs.Walks.{Walk, step_misses, misses_of}
 use Rattle.dali_write.specs.Losses.{SimRun, losses, Unrefused, IsAlone, CanDo, OnlyDiffers}
@@ -32,17 +35,20 @@ use Rattle.dali_write.proofs.WalkLemmas.{ended_walk}
 use Rattle.dali_write.proofs.NextLemmas.{none_ended}
 use Rattle.dali_write.proofs.MissLemmas.{walk_misses, walk_misses_in}
 
--- From this bank the plan reads what is there and writes where it may, and where no step of it fails it ends so, with a bank that is so.
+-- From this bank the plan reads what is there and writes where it may, and where no step of it fails it ends so, with
+-- a bank that is so.
 abbrev pub Goes : (BankState → Type 0) → Verdict → Plan → BankState → Type 0
 Goes P verdict (Finish v) bank = (v ≡ verdict) × P bank
 Goes P verdict (Check (ReadFrom location) after) bank =
     (byte : ℕ) × (slice_get bank.bytes location ≡ Some byte) × Goes P verdict (after (Some byte)) bank
 Goes P verdict (Check (WriteTo location byte) after) bank =
     IsTrue (is_writable bank location)
-    × ((new : BankState) (echo : ℕ) → OnlyDiffers bank location new → slice_get new.bytes location ≡ Some byte → Goes P verdict (after (Some echo)) new)
+    × ((new : BankState) (echo : ℕ) → OnlyDiffers bank location new → slice_get new.bytes location ≡ Some byte
+    → Goes P verdict (after (Some echo)) new)
 
 -- the unit that is alone at its address is the one that the world has there
-pub world_alone : (at : ℕ) (unit : UnitState) (units : List UnitState) → IsAlone at unit units → world_of units at ≡ Some (gear_of unit)
+pub world_alone : (at : ℕ) (unit : UnitState) (units : List UnitState) → IsAlone at unit units
+    → world_of units at ≡ Some (gear_of unit)
 world_alone at unit [] alone = absurd alone
 world_alone at unit (first ∷ units) (inl here) =
     let mine : first.address ≡ at = ap (λ (u : UnitState). u.address) here.0 ∙ here.1 in
@@ -51,30 +57,41 @@ world_alone at unit (first ∷ units) (inr further) =
     rw (ne_eqb at first.address (λ same. further.0.0 (sym same))) (world_alone at unit units further.1)
 
 -- a checked read tells the byte of the bank
-read_byte : (at location byte : ℕ) (after : Option ℕ → Plan) (unit : UnitState) (told : List Exchange) (first last : SimState) → SimRun told first last → IsAlone at unit first.units
-    → StepEnds at (Check (ReadFrom location) after) (Some byte) told → (now : UnitState) × IsAlone at now last.units × (now.bank1 ≡ unit.bank1) × (slice_get unit.bank1.bytes location ≡ Some byte)
+read_byte : (at location byte : ℕ) (after : Option ℕ → Plan) (unit : UnitState) (told : List Exchange)
+    (first last : SimState)
+    → SimRun told first last → IsAlone at unit first.units
+    → StepEnds at (Check (ReadFrom location) after) (Some byte) told
+    → (now : UnitState) × IsAlone at now last.units × (now.bank1 ≡ unit.bank1)
+    × (slice_get unit.bank1.bytes location ≡ Some byte)
 read_byte at location byte after unit told first last run alone ends =
     let kept = read_keeps at location unit (Some byte) told first last run alone ends in
-    let shows = read_step_shows at location byte after told (world_of first.units) (world_of last.units) ends (sim_run told first last run) in
+    let shows =
+    read_step_shows at location byte after told (world_of first.units) (world_of last.units) ends
+    (sim_run told first last run) in
     let both : Some shows.gear ≡ Some (gear_of kept.0) = sym shows.is ∙ world_alone at kept.0 last.units kept.1 in
     let same : shows.gear ≡ gear_of kept.0 = cc in
-    let there : slice_get kept.0.bank1.bytes location ≡ Some byte = ap (λ (g : Gear). g.memory 1 location) (sym same) ∙ shows.byte_is in
+    let there : slice_get kept.0.bank1.bytes location ≡ Some byte =
+    ap (λ (g : Gear). g.memory 1 location) (sym same) ∙ shows.byte_is in
     (kept.0, kept.1, kept.2, ap (λ (b : BankState). slice_get b.bytes location) (sym kept.2) ∙ there)
 
 -- the misses of one step
-step_few : (at : ℕ) (step : Step) (after : Option ℕ → Plan) (unit : UnitState) (outcome : Option ℕ) (told : List Exchange) (first last : SimState) (run : SimRun told first last)
-    → IsAlone at unit first.units → CanDo step unit → Unrefused told first last run → (ends : StepEnds at (Check step after) outcome told)
+step_few : (at : ℕ) (step : Step) (after : Option ℕ → Plan) (unit : UnitState) (outcome : Option ℕ)
+    (told : List Exchange) (first last : SimState) (run : SimRun told first last)
+    → IsAlone at unit first.units → CanDo step unit → Unrefused told first last run
+    → (ends : StepEnds at (Check step after) outcome told)
     → step_misses at (Check step after) outcome told ends ≤ losses at told first last run
 step_few at step after unit outcome told first last run alone can kind (inl done) =
     let two = parts at told done.0 done.1 first last run done.3 in
-    let few = misses_by_losses at step unit done.2 done.1 first two.mid two.before alone can (two.kinds kind).0 done.7 in
+    let few =
+    misses_by_losses at step unit done.2 done.1 first two.mid two.before alone can (two.kinds kind).0 done.7 in
     let sum = two.sum in
     omega arith
 step_few at step after unit outcome told first last run alone can kind (inr failed) =
     misses_by_losses at step unit most_tries told first last run alone can kind failed.1
 
 -- the end of a walk: its verdict, its misses, and the unit then
-pub record Gone (P : BankState → Type 0) (verdict end : Verdict) (at : ℕ) (misses lost : ℕ) (last : SimState) : Type 0 where
+pub record Gone (P : BankState → Type 0) (verdict end : Verdict) (at : ℕ) (misses lost : ℕ) (last : SimState)
+    : Type 0 where
   pub ends : end ≡ verdict
   pub few : misses ≤ lost
   pub now : UnitState
@@ -82,23 +99,37 @@ pub record Gone (P : BankState → Type 0) (verdict end : Verdict) (at : ℕ) (m
   pub bank : P now.bank1
 
 -- a walk of the plan ends as it goes, and misses no more often than the unit loses
-goes : (P : BankState → Type 0) (verdict end : Verdict) (at : ℕ) (plan : Plan) (outcomes : List (Option ℕ)) (unit : UnitState) (told : List Exchange) (first last : SimState) (run : SimRun told first last)
-    → IsAlone at unit first.units → Goes P verdict plan unit.bank1 → Unrefused told first last run → losses at told first last run < most_tries
-    → (walk : Walk at plan outcomes told (Finish end)) → Gone P verdict end at (misses_of at plan outcomes told (Finish end) walk) (losses at told first last run) last
+goes : (P : BankState → Type 0) (verdict end : Verdict) (at : ℕ) (plan : Plan) (outcomes : List (Option ℕ))
+    (unit : UnitState) (told : List Exchange) (first last : SimState) (run : SimRun told first last)
+    → IsAlone at unit first.units → Goes P verdict plan unit.bank1 → Unrefused told first last run
+    → losses at told first last run < most_tries
+    → (walk : Walk at plan outcomes told (Finish end))
+    → Gone P verdict end at (misses_of at plan outcomes told (Finish end) walk) (losses at told first last run) last
 goes P verdict end at (Finish v) [] unit told first last run alone way kind few walk =
     let same = walk.1 in
     let is : v ≡ end = cc in
     let none : SimRun [] first last = subst (λ (t : List Exchange). SimRun t first last) walk.0 run in
-    record { ends = sym is ∙ way.0; few = omega arith; now = unit; alone = subst (λ (s : SimState). IsAlone at unit s.units) (sym none) alone; bank = way.1 }
+    record {
+      ends = sym is ∙ way.0;
+      few = omega arith;
+      now = unit;
+      alone = subst (λ (s : SimState). IsAlone at unit s.units) (sym none) alone;
+      bank = way.1;
+    }
 goes P verdict end at (Finish v) (o ∷ outcomes) unit told first last run alone way kind few walk = absurd walk.3
-goes P verdict end at (Check step after) [] unit told first last run alone way kind few walk = let differs = walk.1 in cc
-goes P verdict end at (Check (ReadFrom location) after) (None ∷ outcomes) unit told first last run alone way kind few walk =
+goes P verdict end at (Check step after) [] unit told first last run alone way kind few walk =
+    let differs = walk.1 in cc
+goes P verdict end at (Check (ReadFrom location) after) (None ∷ outcomes) unit told first last run alone way kind
+    few walk =
     let two = parts at told walk.0 walk.1 first last run walk.2 in
     let sum = two.sum in
     let can : CanDo (ReadFrom location) unit = rw way.1 refl in
-    let done = step_succeeds at (ReadFrom location) unit None walk.1 first two.mid two.before alone can (two.kinds kind).0 (omega arith) walk.3 in
+    let done =
+    step_succeeds at (ReadFrom location) unit None walk.1 first two.mid two.before alone can (two.kinds kind).0
+    (omega arith) walk.3 in
     absurd (has_byte at (ReadFrom location) walk.1 done)
-goes P verdict end at (Check (ReadFrom location) after) (Some byte ∷ outcomes) unit told first last run alone way kind few walk =
+goes P verdict end at (Check (ReadFrom location) after) (Some byte ∷ outcomes) unit told first last run alone way kind
+    few walk =
     let two = parts at told walk.0 walk.1 first last run walk.2 in
     let sum = two.sum in
     let kinds = two.kinds kind in
@@ -107,31 +138,47 @@ goes P verdict end at (Check (ReadFrom location) after) (Some byte ∷ outcomes)
     let both : Some way.0 ≡ Some byte = sym way.1 ∙ read.3 in
     let same : way.0 ≡ byte = cc in
     let on : Goes P verdict (after (Some byte)) read.0.bank1 =
-    subst (λ (b : BankState). Goes P verdict (after (Some byte)) b) (sym read.2) (subst (λ (b : ℕ). Goes P verdict (after (Some b)) unit.bank1) same way.2) in
-    let rest = goes P verdict end at (after (Some byte)) outcomes read.0 walk.0 two.mid last two.after read.1 on kinds.1 (omega arith) walk.4 in
-    let here = step_few at (ReadFrom location) after unit (Some byte) walk.1 first two.mid two.before alone can kinds.0 walk.3 in
+    subst (λ (b : BankState). Goes P verdict (after (Some byte)) b) (sym read.2)
+    (subst (λ (b : ℕ). Goes P verdict (after (Some b)) unit.bank1) same way.2) in
+    let rest =
+    goes P verdict end at (after (Some byte)) outcomes read.0 walk.0 two.mid last two.after read.1 on kinds.1
+    (omega arith) walk.4 in
+    let here =
+    step_few at (ReadFrom location) after unit (Some byte) walk.1 first two.mid two.before alone can kinds.0 walk.3 in
     let more = rest.few in
     record { ends = rest.ends; few = omega arith; now = rest.now; alone = rest.alone; bank = rest.bank }
-goes P verdict end at (Check (WriteTo location byte) after) (None ∷ outcomes) unit told first last run alone way kind few walk =
+goes P verdict end at (Check (WriteTo location byte) after) (None ∷ outcomes) unit told first last run alone way kind
+    few walk =
     let two = parts at told walk.0 walk.1 first last run walk.2 in
     let sum = two.sum in
-    let done = step_succeeds at (WriteTo location byte) unit None walk.1 first two.mid two.before alone way.0 (two.kinds kind).0 (omega arith) walk.3 in
+    let done =
+    step_succeeds at (WriteTo location byte) unit None walk.1 first two.mid two.before alone way.0 (two.kinds kind).0
+    (omega arith) walk.3 in
     absurd (has_byte at (WriteTo location byte) walk.1 done)
-goes P verdict end at (Check (WriteTo location byte) after) (Some echo ∷ outcomes) unit told first last run alone way kind few walk =
+goes P verdict end at (Check (WriteTo location byte) after) (Some echo ∷ outcomes) unit told first last run alone way
+    kind few walk =
     let two = parts at told walk.0 walk.1 first last run walk.2 in
     let sum = two.sum in
     let kinds = two.kinds kind in
-    let done = step_succeeds at (WriteTo location byte) unit (Some echo) walk.1 first two.mid two.before alone way.0 kinds.0 (omega arith) walk.3 in
+    let done =
+    step_succeeds at (WriteTo location byte) unit (Some echo) walk.1 first two.mid two.before alone way.0 kinds.0
+    (omega arith) walk.3 in
     let stored = write_stored at location byte unit (Some echo) walk.1 first two.mid two.before alone done in
-    let rest = goes P verdict end at (after (Some echo)) outcomes stored.0 walk.0 two.mid last two.after stored.1 (way.1 stored.0.bank1 echo stored.2 stored.3) kinds.1 (omega arith) walk.4 in
-    let here = step_few at (WriteTo location byte) after unit (Some echo) walk.1 first two.mid two.before alone way.0 kinds.0 walk.3 in
+    let rest =
+    goes P verdict end at (after (Some echo)) outcomes stored.0 walk.0 two.mid last two.after stored.1
+    (way.1 stored.0.bank1 echo stored.2 stored.3) kinds.1 (omega arith) walk.4 in
+    let here =
+    step_few at (WriteTo location byte) after unit (Some echo) walk.1 first two.mid two.before alone way.0
+    kinds.0 walk.3 in
     let more = rest.few in
     record { ends = rest.ends; few = omega arith; now = rest.now; alone = rest.alone; bank = rest.bank }
 
 -- the same of a session, with frames before it
-pub gone : (P : BankState → Type 0) (verdict end : Verdict) (at : ℕ) (plan : Plan) (unit : UnitState) (told older : List Exchange) (first last : SimState) (spared : Spared at unit told first last)
+pub gone : (P : BankState → Type 0) (verdict end : Verdict) (at : ℕ) (plan : Plan) (unit : UnitState)
+    (told older : List Exchange) (first last : SimState) (spared : Spared at unit told first last)
     → Goes P verdict plan unit.bank1 → Wants at plan told (Ended end)
-    → (misses : ℕ) × (misses_in (told ++ older) ≡ misses + misses_in older) × Gone P verdict end at misses (losses at told first last spared.run) last
+    → (misses : ℕ) × (misses_in (told ++ older) ≡ misses + misses_in older)
+    × Gone P verdict end at misses (losses at told first last spared.run) last
 gone P verdict end at plan unit told older first last spared way wants =
     let walk = ended_walk at plan told end wants in (
       misses_of at plan walk.0 told (Finish end) walk.1,
@@ -139,62 +186,82 @@ gone P verdict end at plan unit told older first last spared way wants =
       goes P verdict end at plan walk.0 unit told first last spared.run spared.alone way spared.kind spared.few walk.1,
     )
 
-succeeds : (P : BankState → Type 0) (verdict end : Verdict) (at : ℕ) (plan : Plan) (unit : UnitState) (told : List Exchange) (first last : SimState) (spared : Spared at unit told first last)
-    → Goes P verdict plan unit.bank1 → Wants at plan told (Ended end) → (end ≡ verdict) × MissesByLosses at unit told first last spared
+succeeds : (P : BankState → Type 0) (verdict end : Verdict) (at : ℕ) (plan : Plan) (unit : UnitState)
+    (told : List Exchange) (first last : SimState) (spared : Spared at unit told first last)
+    → Goes P verdict plan unit.bank1 → Wants at plan told (Ended end)
+    → (end ≡ verdict) × MissesByLosses at unit told first last spared
 succeeds P verdict end at plan unit told first last spared way wants =
     let walk = ended_walk at plan told end wants in
-    let all = goes P verdict end at plan walk.0 unit told first last spared.run spared.alone way spared.kind spared.few walk.1 in
+    let all =
+    goes P verdict end at plan walk.0 unit told first last spared.run spared.alone way spared.kind spared.few walk.1 in
     let count = walk_misses_in at plan walk.0 told (Finish end) walk.1 in
     let few = all.few in
     (all.ends, omega arith)
 
 -- a session that has ended sent a frame, and so its unit had a bank
 
-alone_bank : (at : ℕ) (unit : UnitState) (units : List UnitState) → IsAlone at unit units → AreBanks units → IsBank unit.bank1.bytes
+alone_bank : (at : ℕ) (unit : UnitState) (units : List UnitState) → IsAlone at unit units → AreBanks units
+    → IsBank unit.bank1.bytes
 alone_bank at unit [] alone are = absurd alone
 alone_bank at unit (first ∷ units) (inl here) are = subst (λ (u : UnitState). IsBank u.bank1.bytes) here.0 are.0
 alone_bank at unit (first ∷ units) (inr further) are = alone_bank at unit units further.1 are.1
 
 -- where a frame was sent the units were apart, each with a bank
-pub starts_whole : (sent : List Exchange) (first last : SimState) → SimRun sent first last → sent ≢ [] → AreApart first.units × AreBanks first.units
+pub starts_whole : (sent : List Exchange) (first last : SimState) → SimRun sent first last → sent ≢ []
+    → AreApart first.units × AreBanks first.units
 starts_whole [] first last run some = absurd (some refl)
-starts_whole (x ∷ []) first last run some = subst (λ (s : SimState). AreApart s.units × AreBanks s.units) run.1 (run.2.apart, run.2.banks)
+starts_whole (x ∷ []) first last run some =
+    subst (λ (s : SimState). AreApart s.units × AreBanks s.units) run.1 (run.2.apart, run.2.banks)
 starts_whole (x ∷ y ∷ sent) first last run some = starts_whole (y ∷ sent) first run.0 run.1 (λ e. cc)
 
-spared_bank : (at : ℕ) (unit : UnitState) (step : Step) (after : Option ℕ → Plan) (verdict : Verdict) (told : List Exchange) (first last : SimState) → Spared at unit told first last
+spared_bank : (at : ℕ) (unit : UnitState) (step : Step) (after : Option ℕ → Plan) (verdict : Verdict)
+    (told : List Exchange) (first last : SimState)
+    → Spared at unit told first last
     → Wants at (Check step after) told (Ended verdict) → IsBank unit.bank1.bytes
 spared_bank at unit step after verdict told first last spared wants =
     alone_bank at unit first.units spared.alone
     (starts_whole told first last spared.run
-    (λ none. none_ended at step after verdict (subst (λ (t : List Exchange). Wants at (Check step after) t (Ended verdict)) none wants))).1
+    (λ none. none_ended at step after verdict
+    (subst (λ (t : List Exchange). Wants at (Check step after) t (Ended verdict)) none wants))).1
 
 -- a closing session
 
 lock_writable : (bank : BankState) → 2 < length bank.bytes → is_writable bank 2 ≡ true
 lock_writable bank long = rw (lt-ltb 2 (length bank.bytes) long) refl
 
-pub closing_goes : (bank : BankState) → 2 < length bank.bytes → Goes (OnlyDiffers bank 2) Closed (close Closed NotClosed) bank
+pub closing_goes : (bank : BankState) → 2 < length bank.bytes
+    → Goes (OnlyDiffers bank 2) Closed (close Closed NotClosed) bank
 closing_goes bank long = (lock_writable bank long, λ new echo only stored. (0xFF, stored, (refl, only)))
 
-pub closing_succeeds : (at : ℕ) (unit : UnitState) (verdict : Verdict) (told : List Exchange) (first last : SimState) (spared : Spared at unit told first last)
-    → Wants at (close Closed NotClosed) told (Ended verdict) → (verdict ≡ Closed) × MissesByLosses at unit told first last spared
+pub closing_succeeds : (at : ℕ) (unit : UnitState) (verdict : Verdict) (told : List Exchange) (first last : SimState)
+    (spared : Spared at unit told first last)
+    → Wants at (close Closed NotClosed) told (Ended verdict)
+    → (verdict ≡ Closed) × MissesByLosses at unit told first last spared
 closing_succeeds at unit verdict told first last spared wants =
     let least = (spared_bank at unit _ _ verdict told first last spared wants).least in
-    succeeds (OnlyDiffers unit.bank1 2) Closed verdict at (close Closed NotClosed) unit told first last spared (closing_goes unit.bank1 (omega arith)) wants
+    succeeds (OnlyDiffers unit.bank1 2) Closed verdict at (close Closed NotClosed) unit told first last spared
+    (closing_goes unit.bank1 (omega arith)) wants
 
 -- a fresh session
 
-byte_there : (bytes : List ℕ) (location : ℕ) → location < length bytes → slice_get bytes location ≡ Some (slice_index bytes location)
+byte_there : (bytes : List ℕ) (location : ℕ) → location < length bytes
+    → slice_get bytes location ≡ Some (slice_index bytes location)
 byte_there bytes location long = slice_get-get_or bytes location 0 long
 
-pub fresh_goes : (updates : List (ℕ × ℕ)) (bank : BankState) → IsBank bank.bytes → Goes (λ now. now ≡ bank) (found_verdict bank.bytes updates) (read_length updates) bank
+pub fresh_goes : (updates : List (ℕ × ℕ)) (bank : BankState) → IsBank bank.bytes
+    → Goes (λ now. now ≡ bank) (found_verdict bank.bytes updates) (read_length updates) bank
 fresh_goes updates bank is =
     let least = is.least in
-    let last = is.last in
-    (slice_index bank.bytes 0, byte_there bank.bytes 0 (omega arith), by (nat_lt (slice_index bank.bytes 0) (greatest updates)) (nat_lt (greatest updates) 0x13) refl refl)
+    let last = is.last in (
+      slice_index bank.bytes 0,
+      byte_there bank.bytes 0 (omega arith),
+      by (nat_lt (slice_index bank.bytes 0) (greatest updates)) (nat_lt (greatest updates) 0x13) refl refl,
+    )
   where
-    by : (short low : Bool) → nat_lt (slice_index bank.bytes 0) (greatest updates) ≡ short → nat_lt (greatest updates) 0x13 ≡ low
-        → Goes (λ now. now ≡ bank) (if short then Short else (if low then MayOpen else (if has_format bank.bytes then MayOpen else Format)))
+    by : (short low : Bool) → nat_lt (slice_index bank.bytes 0) (greatest updates) ≡ short
+        → nat_lt (greatest updates) 0x13 ≡ low
+        → Goes (λ now. now ≡ bank)
+        (if short then Short else (if low then MayOpen else (if has_format bank.bytes then MayOpen else Format)))
         (if short then Finish Short else (if low then Finish MayOpen else read_format)) bank
     by true low e f = (refl, refl)
     by false true e f = (refl, refl)
@@ -208,26 +275,38 @@ fresh_goes updates bank is =
           (slice_index bank.bytes 0x12, byte_there bank.bytes 0x12 (omega arith), (refl, refl)),
         )
 
-pub fresh_succeeds : (at : ℕ) (unit : UnitState) (updates : List (ℕ × ℕ)) (verdict : Verdict) (told : List Exchange) (first last : SimState) (spared : Spared at unit told first last)
-    → Wants at (read_length updates) told (Ended verdict) → (verdict ≡ found_verdict unit.bank1.bytes updates) × MissesByLosses at unit told first last spared
+pub fresh_succeeds : (at : ℕ) (unit : UnitState) (updates : List (ℕ × ℕ)) (verdict : Verdict) (told : List Exchange)
+    (first last : SimState) (spared : Spared at unit told first last)
+    → Wants at (read_length updates) told (Ended verdict)
+    → (verdict ≡ found_verdict unit.bank1.bytes updates) × MissesByLosses at unit told first last spared
 fresh_succeeds at unit updates verdict told first last spared wants =
-    succeeds (λ now. now ≡ unit.bank1) (found_verdict unit.bank1.bytes updates) verdict at (read_length updates) unit told first last spared
+    succeeds (λ now. now ≡ unit.bank1) (found_verdict unit.bank1.bytes updates) verdict at (read_length updates) unit
+    told first last spared
     (fresh_goes updates unit.bank1 (spared_bank at unit _ _ verdict told first last spared wants)) wants
 
 -- a reading session
 
-read_on_goes : (location left : ℕ) (bank : BankState) → location + left ≤ length bank.bytes → Goes (λ now. now ≡ bank) Read (read_on location left) bank
+read_on_goes : (location left : ℕ) (bank : BankState) → location + left ≤ length bank.bytes
+    → Goes (λ now. now ≡ bank) Read (read_on location left) bank
 read_on_goes location zero bank few = (refl, refl)
-read_on_goes location (suc left) bank few =
-    (slice_index bank.bytes location, byte_there bank.bytes location (omega arith), read_on_goes (suc location) left bank (omega arith))
+read_on_goes location (suc left) bank few = (
+  slice_index bank.bytes location,
+  byte_there bank.bytes location (omega arith),
+  read_on_goes (suc location) left bank (omega arith),
+)
 
 read_all_goes : (bank : BankState) → IsBank bank.bytes → Goes (λ now. now ≡ bank) Read read_all bank
 read_all_goes bank is =
     let least = is.least in
-    let last = is.last in
-    (slice_index bank.bytes 0, byte_there bank.bytes 0 (omega arith), read_on_goes 1 (min (slice_index bank.bytes 0) 0xFE) bank (omega (arith, min-le_left (slice_index bank.bytes 0) 0xFE)))
+    let last = is.last in (
+      slice_index bank.bytes 0,
+      byte_there bank.bytes 0 (omega arith),
+      read_on_goes 1 (min (slice_index bank.bytes 0) 0xFE) bank
+          (omega (arith, min-le_left (slice_index bank.bytes 0) 0xFE)),
+    )
 
-pub reading_succeeds : (at : ℕ) (unit : UnitState) (verdict : Verdict) (told : List Exchange) (first last : SimState) (spared : Spared at unit told first last)
+pub reading_succeeds : (at : ℕ) (unit : UnitState) (verdict : Verdict) (told : List Exchange) (first last : SimState)
+    (spared : Spared at unit told first last)
     → Wants at read_all told (Ended verdict) → (verdict ≡ Read) × MissesByLosses at unit told first last spared
 reading_succeeds at unit verdict told first last spared wants =
     succeeds (λ now. now ≡ unit.bank1) Read verdict at read_all unit told first last spared
@@ -236,7 +315,8 @@ reading_succeeds at unit verdict told first last spared wants =
 -- an opened session
 
 -- the updates have one byte for a location
-has_above : (bound : ℕ) (updates : List (ℕ × ℕ)) (location byte : ℕ) → RisesAbove bound updates → Has updates location byte → bound < location
+has_above : (bound : ℕ) (updates : List (ℕ × ℕ)) (location byte : ℕ) → RisesAbove bound updates
+    → Has updates location byte → bound < location
 has_above bound [] location byte rises has = absurd has
 has_above bound (update ∷ updates) location byte rises (inl here) =
     let less : bound < update.0 = rises.0 in let same : update.0 ≡ location = here.0 in omega arith
@@ -244,7 +324,8 @@ has_above bound (update ∷ updates) location byte rises (inr later) =
     let rest = has_above update.0 updates location byte rises.1 later in
     let less : bound < update.0 = rises.0 in omega arith
 
-one_byte : (bound : ℕ) (updates : List (ℕ × ℕ)) (location one other : ℕ) → RisesAbove bound updates → Has updates location one → Has updates location other → one ≡ other
+one_byte : (bound : ℕ) (updates : List (ℕ × ℕ)) (location one other : ℕ) → RisesAbove bound updates
+    → Has updates location one → Has updates location other → one ≡ other
 one_byte bound [] location one other rises has too = absurd has
 one_byte bound (update ∷ updates) location one other rises (inl here) (inl there) = sym here.1 ∙ there.1
 one_byte bound (update ∷ updates) location one other rises (inl here) (inr later) =
@@ -253,9 +334,11 @@ one_byte bound (update ∷ updates) location one other rises (inl here) (inr lat
 one_byte bound (update ∷ updates) location one other rises (inr later) (inl here) =
     let above = has_above update.0 updates location one rises.1 later in
     let same : update.0 ≡ location = here.0 in absurd (omega arith)
-one_byte bound (update ∷ updates) location one other rises (inr later) (inr too) = one_byte update.0 updates location one other rises.1 later too
+one_byte bound (update ∷ updates) location one other rises (inr later) (inr too) =
+    one_byte update.0 updates location one other rises.1 later too
 
-takes_of : (bank : BankState) (updates : List (ℕ × ℕ)) (location byte : ℕ) → TakesAll bank updates → Has updates location byte → MayStoreAt bank location
+takes_of : (bank : BankState) (updates : List (ℕ × ℕ)) (location byte : ℕ) → TakesAll bank updates
+    → Has updates location byte → MayStoreAt bank location
 takes_of bank [] location byte takes has = absurd has
 takes_of bank (update ∷ updates) location byte takes (inl here) = subst (MayStoreAt bank) here.0 takes.0
 takes_of bank (update ∷ updates) location byte takes (inr later) = takes_of bank updates location byte takes.1 later
@@ -266,19 +349,29 @@ record Going (updates left : List (ℕ × ℕ)) (bank : BankState) : Type 0 wher
   long : 2 < length bank.bytes
   takes : (location byte : ℕ) → Has updates location byte → MayStoreAt bank location
   part : (location byte : ℕ) → Has left location byte → Has updates location byte
-  there : (location byte : ℕ) → Has updates location byte → Has left location byte ⊎ (slice_get bank.bytes location ≡ Some byte)
+  there : (location byte : ℕ) → Has updates location byte
+      → Has left location byte ⊎ (slice_get bank.bytes location ≡ Some byte)
 
-pub takes_still : (old : BankState) (written : ℕ) (new : BankState) (location : ℕ) → OnlyDiffers old written new → MayStoreAt old location → MayStoreAt new location
+pub takes_still : (old : BankState) (written : ℕ) (new : BankState) (location : ℕ) → OnlyDiffers old written new
+    → MayStoreAt old location → MayStoreAt new location
 takes_still old written new location only takes = (takes.0, rw only.lengths takes.1, rw only.fixed takes.2)
 
-one_writable : (bank : BankState) (location : ℕ) → slice_get bank.bytes 2 ≡ Some 0x55 → MayStoreAt bank location → is_writable bank location ≡ true
+one_writable : (bank : BankState) (location : ℕ) → slice_get bank.bytes 2 ≡ Some 0x55 → MayStoreAt bank location
+    → is_writable bank location ≡ true
 one_writable bank location lock takes =
     let past : 3 ≤ location = takes.0 in
     let unlocked : slice_index bank.bytes 2 ≡ 0x55 = get_or_from_slice_get bank.bytes 2 0x55 0 lock in
-    rw (lt-ltb location (length bank.bytes) takes.1, ne_eqb location 2 (λ same. absurd (omega arith)), le-leb 3 location past, takes.2, unlocked) refl
+    rw (
+      lt-ltb location (length bank.bytes) takes.1,
+      ne_eqb location 2 (λ same. absurd (omega arith)),
+      le-leb 3 location past,
+      takes.2,
+      unlocked,
+    ) refl
 
 -- one update more is written
-written_on : (updates left : List (ℕ × ℕ)) (update : ℕ × ℕ) (old new : BankState) → RisesAbove 0 updates → Going updates (update ∷ left) old
+written_on : (updates left : List (ℕ × ℕ)) (update : ℕ × ℕ) (old new : BankState) → RisesAbove 0 updates
+    → Going updates (update ∷ left) old
     → OnlyDiffers old update.0 new → slice_get new.bytes update.0 ≡ Some update.1 → Going updates left new
 written_on updates left update old new rises going only stored =
     let mine : Has updates update.0 update.1 = going.part update.0 update.1 (inl (refl, refl)) in
@@ -292,21 +385,28 @@ written_on updates left update old new rises going only stored =
       there = λ location byte has. by location byte has (going.there location byte has);
     }
   where
-    other_kept : (location byte : ℕ) (b : Bool) → (location == update.0) ≡ b → Has updates location byte → slice_get old.bytes location ≡ Some byte → slice_get new.bytes location ≡ Some byte
+    other_kept : (location byte : ℕ) (b : Bool) → (location == update.0) ≡ b → Has updates location byte
+        → slice_get old.bytes location ≡ Some byte → slice_get new.bytes location ≡ Some byte
     other_kept location byte true e has was =
         let here : location ≡ update.0 = eqb-true location update.0 e in
-        let mine : Has updates location update.1 = subst (λ (l : ℕ). Has updates l update.1) (sym here) (going.part update.0 update.1 (inl (refl, refl))) in
+        let mine : Has updates location update.1 =
+        subst (λ (l : ℕ). Has updates l update.1) (sym here) (going.part update.0 update.1 (inl (refl, refl))) in
         let same : update.1 ≡ byte = one_byte 0 updates location update.1 byte rises mine has in
         rw here (stored ∙ ap Some same)
     other_kept location byte false e has was = only.others location (eqb-false location update.0 e) ∙ was
 
-    by : (location byte : ℕ) → Has updates location byte → Has (update ∷ left) location byte ⊎ (slice_get old.bytes location ≡ Some byte)
+    by : (location byte : ℕ) → Has updates location byte
+        → Has (update ∷ left) location byte ⊎ (slice_get old.bytes location ≡ Some byte)
         → Has left location byte ⊎ (slice_get new.bytes location ≡ Some byte)
-    by location byte has (inl (inl here)) = inr (subst (λ (b : ℕ). slice_get new.bytes location ≡ Some b) here.1 (subst (λ (l : ℕ). slice_get new.bytes l ≡ Some update.1) here.0 stored))
+    by location byte has (inl (inl here)) =
+        inr (subst (λ (b : ℕ). slice_get new.bytes location ≡ Some b) here.1
+        (subst (λ (l : ℕ). slice_get new.bytes l ≡ Some update.1) here.0 stored))
     by location byte has (inl (inr later)) = inl later
     by location byte has (inr was) = inr (other_kept location byte (location == update.0) refl has was)
 
-read_back_goes : (updates : List (ℕ × ℕ)) (bank : BankState) → ((location byte : ℕ) → Has updates location byte → slice_get bank.bytes location ≡ Some byte) → Goes (λ now. Unit {0}) Done (read_back updates) bank
+read_back_goes : (updates : List (ℕ × ℕ)) (bank : BankState)
+    → ((location byte : ℕ) → Has updates location byte → slice_get bank.bytes location ≡ Some byte)
+    → Goes (λ now. Unit {0}) Done (read_back updates) bank
 read_back_goes [] bank there = (refl, tt)
 read_back_goes (update ∷ updates) bank there = (
   update.1,
@@ -314,7 +414,8 @@ read_back_goes (update ∷ updates) bank there = (
   rw (eq-eqb update.1 update.1 refl) (read_back_goes updates bank (λ location byte has. there location byte (inr has))),
 )
 
-write_on_goes : (updates left : List (ℕ × ℕ)) (bank : BankState) → RisesAbove 0 updates → Going updates left bank → Goes (λ now. Unit {0}) Done (write_on updates left) bank
+write_on_goes : (updates left : List (ℕ × ℕ)) (bank : BankState) → RisesAbove 0 updates → Going updates left bank
+    → Goes (λ now. Unit {0}) Done (write_on updates left) bank
 write_on_goes updates [] bank rises going = (
   lock_writable bank going.long,
   λ new echo only stored. (
@@ -324,17 +425,21 @@ write_on_goes updates [] bank rises going = (
   ),
 )
   where
-    locked : (new : BankState) → OnlyDiffers bank 2 new → (location byte : ℕ) → Has updates location byte → Has [] location byte ⊎ (slice_get bank.bytes location ≡ Some byte) → slice_get new.bytes location ≡ Some byte
+    locked : (new : BankState) → OnlyDiffers bank 2 new → (location byte : ℕ) → Has updates location byte
+        → Has [] location byte ⊎ (slice_get bank.bytes location ≡ Some byte) → slice_get new.bytes location ≡ Some byte
     locked new only location byte has (inl never) = absurd never
     locked new only location byte has (inr was) =
         let past : 3 ≤ location = (going.takes location byte has).0 in
         only.others location (λ same. absurd (omega arith)) ∙ was
 write_on_goes updates (update ∷ left) bank rises going = (
-  one_writable bank update.0 going.lock (going.takes update.0 update.1 (going.part update.0 update.1 (inl (refl, refl)))),
-  λ new echo only stored. write_on_goes updates left new rises (written_on updates left update bank new rises going only stored),
+  one_writable bank update.0 going.lock
+      (going.takes update.0 update.1 (going.part update.0 update.1 (inl (refl, refl)))),
+  λ new echo only stored.
+      write_on_goes updates left new rises (written_on updates left update bank new rises going only stored),
 )
 
-pub unlock_goes : (updates : List (ℕ × ℕ)) (bank : BankState) → RisesAbove 0 updates → 2 < length bank.bytes → TakesAll bank updates → Goes (λ now. Unit {0}) Done (unlock updates) bank
+pub unlock_goes : (updates : List (ℕ × ℕ)) (bank : BankState) → RisesAbove 0 updates → 2 < length bank.bytes
+    → TakesAll bank updates → Goes (λ now. Unit {0}) Done (unlock updates) bank
 unlock_goes updates bank rises long takes = (
   lock_writable bank long,
   λ new echo only stored. write_on_goes updates updates new rises (record {
@@ -346,9 +451,11 @@ unlock_goes updates bank rises long takes = (
   }),
 )
 
-pub opened_succeeds : (at : ℕ) (unit : UnitState) (updates : List (ℕ × ℕ)) (verdict : Verdict) (told : List Exchange) (first last : SimState) (spared : Spared at unit told first last)
+pub opened_succeeds : (at : ℕ) (unit : UnitState) (updates : List (ℕ × ℕ)) (verdict : Verdict) (told : List Exchange)
+    (first last : SimState) (spared : Spared at unit told first last)
     → RisesAbove 0 updates → TakesAll unit.bank1 updates → Wants at (unlock updates) told (Ended verdict)
     → (verdict ≡ Done) × MissesByLosses at unit told first last spared
 opened_succeeds at unit updates verdict told first last spared rises takes wants =
     let least = (spared_bank at unit _ _ verdict told first last spared wants).least in
-    succeeds (λ now. Unit {0}) Done verdict at (unlock updates) unit told first last spared (unlock_goes updates unit.bank1 rises (omega arith) takes) wants
+    succeeds (λ now. Unit {0}) Done verdict at (unlock updates) unit told first last spared
+    (unlock_goes updates unit.bank1 rises (omega arith) takes) wants

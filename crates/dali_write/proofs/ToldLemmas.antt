@@ -1,5 +1,6 @@
 -- What sessions were told.
-use Rattle.std.proofs.Common.{◌≡◌, refl, sym, ap, subst, ◌∙◌, ℕ, suc, ◌<◌, List, [], ◌∷◌, drop, Option, Some, None, is_some, true, slice_get, length, ◌≤◌, arith}
+use Rattle.std.proofs.Common.{◌≡◌, refl, sym, ap, subst, ◌∙◌, ℕ, suc, ◌<◌, List, [], ◌∷◌, drop, Option, Some, None}
+use Rattle.std.proofs.Common.{is_some, true, slice_get, length, ◌≤◌, arith}
 use Rattle.dali_frame.specs.declared.forward.Frame.{Frame}
 use Rattle.dali_write.specs.Exchanges.{Exchange}
 use Rattle.dali_write.specs.declared.line.Line.{Line}
@@ -10,11 +11,13 @@ use Rattle.dali_write.specs.declared.stage.Job.TheVariants.{Fresh, Opened, Closi
 use Rattle.dali_write.specs.declared.ask.Ask.TheVariants.{Send}
 use Rattle.dali_write.specs.Lines.{Meets, line, byte_after}
 use Rattle.dali_write.specs.Plans.{Plan, Finish, Check, goes_on}
-use Rattle.dali_write.specs.Tries.{plan_lines, GoesOn, Wants, ask_at}
+use Rattle.dali_write.specs.Tries.{plan_lines, GoesOn, Wants}
+use Rattle.dali_write.proofs.AskLemmas.{shown_ask, ask_shown}
 use Rattle.dali_write.specs.Found.{StandsWith, kept_bytes, kept_after}
 use Rattle.dali_write.specs.Stages.{plan_of, plan_at}
-use Rattle.dali_write.specs.Told.{Told, line_of, aim_of, BeginsTry}
-use Rattle.dali_write.proofs.StandingLemmas.{ends_step, stands_at_first, stands_on, stands_again, stands_done, stands_failed}
+use Rattle.dali_write.specs.Told.{Told, line_at_hand, aim_of, BeginsTry}
+use Rattle.dali_write.proofs.StandingLemmas.{ends_step, stands_at_first, stands_on, stands_again, stands_done}
+use Rattle.dali_write.proofs.StandingLemmas.{stands_failed}
 use Rattle.dali_write.proofs.LineLemmas.{drop_at, drop_end}
 use Rattle.dali_write.proofs.RoomLemmas.{room_for_one}
 
@@ -25,92 +28,121 @@ none_kept (Opened order) = refl
 none_kept Closing = refl
 none_kept Reading = refl
 
-one_more_kept : (job : Job) (outcomes : List (Option ℕ)) (outcome : Option ℕ) → kept_after job (kept_bytes job outcomes) outcome ≡ kept_bytes job (outcome ∷ outcomes)
+one_more_kept : (job : Job) (outcomes : List (Option ℕ)) (outcome : Option ℕ)
+    → kept_after job (kept_bytes job outcomes) outcome ≡ kept_bytes job (outcome ∷ outcomes)
 one_more_kept (Fresh order) outcomes outcome = refl
 one_more_kept (Opened order) outcomes outcome = refl
 one_more_kept Closing outcomes outcome = refl
 one_more_kept Reading outcomes outcome = refl
 
-more_kept : (job : Job) (outcomes : List (Option ℕ)) (bytes new : List ℕ) (outcome : Option ℕ) → bytes ≡ kept_bytes job outcomes
+more_kept : (job : Job) (outcomes : List (Option ℕ)) (bytes new : List ℕ) (outcome : Option ℕ)
+    → bytes ≡ kept_bytes job outcomes
     → new ≡ kept_after job bytes outcome → new ≡ kept_bytes job (outcome ∷ outcomes)
 more_kept job outcomes bytes new outcome are is =
     is ∙ ap (λ (kept : List ℕ). kept_after job kept outcome) are ∙ one_more_kept job outcomes outcome
 
-first_at : (job : Job) (unit : ℕ) (plan now : Plan) (misses number : ℕ) (byte : Option ℕ) (bytes : List ℕ) → now ≡ plan → misses ≡ 0 → number ≡ 0 → byte ≡ None
+first_at : (job : Job) (unit : ℕ) (plan now : Plan) (misses number : ℕ) (byte : Option ℕ) (bytes : List ℕ) → now ≡ plan
+    → misses ≡ 0 → number ≡ 0 → byte ≡ None
     → bytes ≡ [] → StandsWith job unit plan [] now misses (drop number (plan_lines unit now)) byte bytes
 unfolding stands_at_first
 first_at job unit plan now misses number byte bytes e m n b none =
     rw (e, m, n, b) (record { stands = stands_at_first unit plan; bytes_are = none ∙ sym (none_kept job) })
 
-pub told_first : (s : Session) → plan_at s.job s.stage ≡ plan_of s.job → s.misses ≡ 0 → s.number ≡ 0 → s.byte ≡ None → s.bytes.items ≡ [] → Told [] s
+pub told_first : (s : Session) → plan_at s.job s.stage ≡ plan_of s.job → s.misses ≡ 0 → s.number ≡ 0 → s.byte ≡ None
+    → s.bytes.items ≡ [] → Told [] s
 unfolding Told
-told_first s e m n b none = first_at s.job (s.unit) (plan_of s.job) (plan_at s.job s.stage) s.misses s.number s.byte s.bytes.items e m n b none
+told_first s e m n b none =
+    first_at s.job (s.unit) (plan_of s.job) (plan_at s.job s.stage) s.misses s.number s.byte s.bytes.items e m n b none
 
 -- the lines that are left begin with the line at hand
-at_hand : (job : Job) (unit : ℕ) (plan now : Plan) (told : List Exchange) (misses number : ℕ) (byte : Option ℕ) (bytes : List ℕ) (next : Line)
+at_hand : (job : Job) (unit : ℕ) (plan now : Plan) (told : List Exchange) (misses number : ℕ) (byte : Option ℕ)
+    (bytes : List ℕ) (next : Line)
     → slice_get (plan_lines unit now) number ≡ Some next
     → StandsWith job unit plan told now misses (drop number (plan_lines unit now)) byte bytes
     → StandsWith job unit plan told now misses (next ∷ drop (suc number) (plan_lines unit now)) byte bytes
 at_hand job unit plan now told misses number byte bytes next at s =
-    subst (λ (left : List Line). StandsWith job unit plan told now misses left byte bytes) (drop_at (plan_lines unit now) number next at) s
+    subst (λ (left : List Line). StandsWith job unit plan told now misses left byte bytes)
+    (drop_at (plan_lines unit now) number next at) s
 
 goes_cons : (now : Plan) (next : Line) (left : List Line) → GoesOn now (next ∷ left)
-goes_cons (Finish verdict) next left = tt
-goes_cons (Check step after) next left = tt
+goes_cons (Finish verdict) next left = refl
+goes_cons (Check step after) next left = refl
 
-goes_more : (now : Plan) (lines : List Line) (number : ℕ) → is_some (slice_get lines number) ≡ true → GoesOn now (drop number lines)
+goes_more : (now : Plan) (lines : List Line) (number : ℕ) → is_some (slice_get lines number) ≡ true
+    → GoesOn now (drop number lines)
 goes_more now lines number more = by (slice_get lines number) refl more where
   by : (o : Option Line) → slice_get lines number ≡ o → is_some o ≡ true → GoesOn now (drop number lines)
   by None same some = cc
-  by (Some next) same some = subst (λ (l : List Line). GoesOn now l) (sym (drop_at lines number next same)) (goes_cons now next (drop (suc number) lines))
+  by (Some next) same some =
+      subst (λ (l : List Line). GoesOn now l) (sym (drop_at lines number next same))
+      (goes_cons now next (drop (suc number) lines))
 
 -- the try goes on
-with_on : (job : Job) (unit : ℕ) (plan now : Plan) (told : List Exchange) (misses : ℕ) (left : List Line) (byte : Option ℕ) (bytes : List ℕ)
-    (frame : Frame) (answer : Option ℕ) (wish : Wish) → StandsWith job unit plan told now misses (line frame wish ∷ left) byte bytes → Meets wish answer → GoesOn now left
-    → StandsWith job unit plan (record { frame = frame; answer = answer } ∷ told) now misses left (byte_after frame answer byte) bytes
+with_on : (job : Job) (unit : ℕ) (plan now : Plan) (told : List Exchange) (misses : ℕ) (left : List Line)
+    (byte : Option ℕ) (bytes : List ℕ)
+    (frame : Frame) (answer : Option ℕ) (wish : Wish)
+    → StandsWith job unit plan told now misses (line frame wish ∷ left) byte bytes → Meets wish answer → GoesOn now left
+    → StandsWith job unit plan (record { frame = frame; answer = answer } ∷ told) now misses left
+    (byte_after frame answer byte) bytes
 unfolding stands_on
 with_on job unit plan now told misses left byte bytes frame answer wish s meets going =
-    record { stands = stands_on unit plan told now misses left byte frame answer wish s.stands meets going; bytes_are = s.bytes_are }
+    record {
+      stands = stands_on unit plan told now misses left byte frame answer wish s.stands meets going;
+      bytes_are = s.bytes_are;
+    }
 
 pub told_on : (told : List Exchange) (s new : Session) (frame : Frame) (answer : Option ℕ) (wish : Wish)
-    → line_of s ≡ Some (line frame wish) → Meets wish answer → Told told s
+    → line_at_hand s ≡ Some (line frame wish) → Meets wish answer → Told told s
     → is_some (slice_get (plan_lines s.unit (plan_at s.job s.stage)) (suc s.number)) ≡ true
-    → new.unit ≡ s.unit → new.job ≡ s.job → new.stage ≡ s.stage → new.misses ≡ s.misses → new.number ≡ suc s.number → new.byte ≡ byte_after frame answer s.byte
+    → new.unit ≡ s.unit → new.job ≡ s.job → new.stage ≡ s.stage → new.misses ≡ s.misses → new.number ≡ suc s.number
+    → new.byte ≡ byte_after frame answer s.byte
     → new.bytes.items ≡ s.bytes.items → Told (record { frame = frame; answer = answer } ∷ told) new
 unfolding Told
 told_on told s new frame answer wish at meets was more same_unit job stage misses number byte bytes =
     let now = plan_at s.job s.stage in
     rw (same_unit, job, stage, misses, number, byte, bytes)
-    (with_on s.job (s.unit) (plan_of s.job) now told s.misses (drop (suc s.number) (plan_lines (s.unit) now)) s.byte s.bytes.items frame answer wish
-    (at_hand s.job (s.unit) (plan_of s.job) now told s.misses s.number s.byte s.bytes.items (line frame wish) at was) meets
+    (with_on s.job (s.unit) (plan_of s.job) now told s.misses (drop (suc s.number) (plan_lines (s.unit) now)) s.byte
+    s.bytes.items frame answer wish
+    (at_hand s.job (s.unit) (plan_of s.job) now told s.misses s.number s.byte s.bytes.items (line frame wish) at was)
+    meets
     (goes_more now (plan_lines s.unit now) (suc s.number) more))
 
 -- a new step begins
-anew : (job : Job) (unit : ℕ) (plan now next : Plan) (told : List Exchange) (misses number : ℕ) (byte : Option ℕ) (bytes : List ℕ)
+anew : (job : Job) (unit : ℕ) (plan now next : Plan) (told : List Exchange) (misses number : ℕ) (byte : Option ℕ)
+    (bytes : List ℕ)
     → now ≡ next → misses ≡ 0 → number ≡ 0 → byte ≡ None
     → StandsWith job unit plan told next 0 (plan_lines unit next) None bytes
     → StandsWith job unit plan told now misses (drop number (plan_lines unit now)) byte bytes
 anew job unit plan now next told misses number byte bytes e m n b s = rw (e, m, n, b) s
 
 -- while a frame is at hand, there is room for its byte
-room : (told : List Exchange) (s : Session) (next : Line) → line_of s ≡ Some next
-    → StandsWith s.job s.unit (plan_of s.job) told (plan_at s.job s.stage) s.misses (drop s.number (plan_lines s.unit (plan_at s.job s.stage))) s.byte s.bytes.items
+room : (told : List Exchange) (s : Session) (next : Line) → line_at_hand s ≡ Some next
+    → StandsWith s.job s.unit (plan_of s.job) told (plan_at s.job s.stage) s.misses
+    (drop s.number (plan_lines s.unit (plan_at s.job s.stage))) s.byte s.bytes.items
     → length s.bytes.items < 255
 room told s next at was = in_plan (plan_at s.job s.stage) refl at
   where
-    in_plan : (now : Plan) → plan_at s.job s.stage ≡ now → slice_get (plan_lines s.unit now) s.number ≡ Some next → length s.bytes.items < 255
+    in_plan : (now : Plan) → plan_at s.job s.stage ≡ now → slice_get (plan_lines s.unit now) s.number ≡ Some next
+        → length s.bytes.items < 255
     in_plan (Finish verdict) is found = cc
-    in_plan (Check step after) is found = room_for_one s.job s.unit told (plan_at s.job s.stage) step after s.misses _ s.byte s.bytes.items is was
+    in_plan (Check step after) is found =
+        room_for_one s.job s.unit told (plan_at s.job s.stage) step after s.misses _ s.byte s.bytes.items is was
 
-with_job : (job new : Job) (unit : ℕ) (plan now : Plan) (told : List Exchange) (misses : ℕ) (left : List Line) (byte : Option ℕ) (bytes : List ℕ) → new ≡ job
-    → StandsWith job unit plan told now misses left byte bytes → StandsWith new unit plan told now misses left byte bytes
+with_job : (job new : Job) (unit : ℕ) (plan now : Plan) (told : List Exchange) (misses : ℕ) (left : List Line)
+    (byte : Option ℕ) (bytes : List ℕ)
+    → new ≡ job
+    → StandsWith job unit plan told now misses left byte bytes
+    → StandsWith new unit plan told now misses left byte bytes
 with_job job new unit plan now told misses left byte bytes same s = rw same s
 
 -- the step ended with its byte
-with_done : (job : Job) (unit : ℕ) (plan now : Plan) (told : List Exchange) (misses : ℕ) (byte : Option ℕ) (bytes new : List ℕ)
-    (frame : Frame) (answer : Option ℕ) (wish : Wish) → StandsWith job unit plan told now misses (line frame wish ∷ []) byte bytes → Meets wish answer
+with_done : (job : Job) (unit : ℕ) (plan now : Plan) (told : List Exchange) (misses : ℕ) (byte : Option ℕ)
+    (bytes new : List ℕ)
+    (frame : Frame) (answer : Option ℕ) (wish : Wish)
+    → StandsWith job unit plan told now misses (line frame wish ∷ []) byte bytes → Meets wish answer
     → new ≡ kept_after job bytes (byte_after frame answer byte)
-    → StandsWith job unit plan (record { frame = frame; answer = answer } ∷ told) (goes_on now (byte_after frame answer byte)) 0
+    → StandsWith job unit plan (record { frame = frame; answer = answer } ∷ told)
+    (goes_on now (byte_after frame answer byte)) 0
     (plan_lines unit (goes_on now (byte_after frame answer byte))) None new
 unfolding stands_done ends_step
 with_done job unit plan now told misses byte bytes new frame answer wish s meets kept =
@@ -120,45 +152,68 @@ with_done job unit plan now told misses byte bytes new frame answer wish s meets
     }
 
 pub told_done : (told : List Exchange) (s new : Session) (frame : Frame) (answer : Option ℕ) (wish : Wish)
-    → line_of s ≡ Some (line frame wish) → Meets wish answer → Told told s
+    → line_at_hand s ≡ Some (line frame wish) → Meets wish answer → Told told s
     → slice_get (plan_lines (s.unit) (plan_at s.job s.stage)) (suc s.number) ≡ None
-    → new.unit ≡ s.unit → new.job ≡ s.job → plan_at new.job new.stage ≡ goes_on (plan_at s.job s.stage) (byte_after frame answer s.byte) → BeginsTry new
-    → (length s.bytes.items < 255 → new.bytes.items ≡ kept_after s.job s.bytes.items (byte_after frame answer s.byte)) → Told (record { frame = frame; answer = answer } ∷ told) new
+    → new.unit ≡ s.unit → new.job ≡ s.job
+    → plan_at new.job new.stage ≡ goes_on (plan_at s.job s.stage) (byte_after frame answer s.byte) → BeginsTry new
+    → (length s.bytes.items < 255 → new.bytes.items ≡ kept_after s.job s.bytes.items (byte_after frame answer s.byte))
+    → Told (record { frame = frame; answer = answer } ∷ told) new
 unfolding Told
 told_done told s new frame answer wish at meets was none same_unit job plan begins kept =
     let now = plan_at s.job s.stage in
     let unit = s.unit in
-    let one = subst (λ (left : List Line). StandsWith s.job unit (plan_of s.job) told now s.misses (line frame wish ∷ left) s.byte s.bytes.items) (drop_end (plan_lines unit now) (suc s.number) none)
+    let one =
+    subst (λ (left : List Line).
+    StandsWith s.job unit (plan_of s.job) told now s.misses (line frame wish ∷ left) s.byte s.bytes.items)
+    (drop_end (plan_lines unit now) (suc s.number) none)
     (at_hand s.job unit (plan_of s.job) now told s.misses s.number s.byte s.bytes.items (line frame wish) at was) in
-    let done = with_done s.job unit (plan_of s.job) now told s.misses s.byte s.bytes.items new.bytes.items frame answer wish one meets (kept (room told s (line frame wish) at was)) in
+    let done =
+    with_done s.job unit (plan_of s.job) now told s.misses s.byte s.bytes.items new.bytes.items frame answer wish one
+    meets (kept (room told s (line frame wish) at was)) in
     let x : Exchange = record { frame = frame; answer = answer } in
-    let ends = anew s.job unit (plan_of s.job) (plan_at new.job new.stage) (goes_on now (byte_after frame answer s.byte)) (x ∷ told) new.misses new.number new.byte new.bytes.items plan begins.0 begins.1 begins.2 done in
-    rw (same_unit, ap plan_of job) (with_job s.job new.job unit (plan_of s.job) (plan_at new.job new.stage) (x ∷ told) new.misses (drop new.number (plan_lines unit (plan_at new.job new.stage))) new.byte new.bytes.items job ends)
+    let ends =
+    anew s.job unit (plan_of s.job) (plan_at new.job new.stage) (goes_on now (byte_after frame answer s.byte))
+    (x ∷ told) new.misses new.number new.byte new.bytes.items plan begins.0 begins.1 begins.2 done in
+    rw (same_unit, ap plan_of job) (with_job s.job new.job unit (plan_of s.job) (plan_at new.job new.stage) (x ∷ told)
+    new.misses (drop new.number (plan_lines unit (plan_at new.job new.stage))) new.byte new.bytes.items job ends)
 
 -- another try of the step
-with_again : (job : Job) (unit : ℕ) (plan now : Plan) (told : List Exchange) (misses : ℕ) (left : List Line) (byte : Option ℕ) (bytes : List ℕ)
-    (frame : Frame) (answer : Option ℕ) (wish : Wish) → StandsWith job unit plan told now misses (line frame wish ∷ left) byte bytes → ¬ Meets wish answer → suc misses < 8
-    → StandsWith job unit plan (record { frame = frame; answer = answer } ∷ told) now (suc misses) (plan_lines unit now) None bytes
+with_again : (job : Job) (unit : ℕ) (plan now : Plan) (told : List Exchange) (misses : ℕ) (left : List Line)
+    (byte : Option ℕ) (bytes : List ℕ)
+    (frame : Frame) (answer : Option ℕ) (wish : Wish)
+    → StandsWith job unit plan told now misses (line frame wish ∷ left) byte bytes → ¬ Meets wish answer
+    → suc misses < 8
+    → StandsWith job unit plan (record { frame = frame; answer = answer } ∷ told) now (suc misses) (plan_lines unit now)
+    None bytes
 unfolding stands_again
 with_again job unit plan now told misses left byte bytes frame answer wish s missed few =
-    record { stands = stands_again unit plan told now misses left byte frame answer wish s.stands missed few; bytes_are = s.bytes_are }
+    record {
+      stands = stands_again unit plan told now misses left byte frame answer wish s.stands missed few;
+      bytes_are = s.bytes_are;
+    }
 
 pub told_again : (told : List Exchange) (s new : Session) (frame : Frame) (answer : Option ℕ) (wish : Wish)
-    → line_of s ≡ Some (line frame wish) → ¬ Meets wish answer → Told told s → s.misses < 7
-    → new.unit ≡ s.unit → new.job ≡ s.job → new.stage ≡ s.stage → new.misses ≡ suc s.misses → new.number ≡ 0 → new.byte ≡ None
+    → line_at_hand s ≡ Some (line frame wish) → ¬ Meets wish answer → Told told s → s.misses < 7
+    → new.unit ≡ s.unit → new.job ≡ s.job → new.stage ≡ s.stage → new.misses ≡ suc s.misses → new.number ≡ 0
+    → new.byte ≡ None
     → new.bytes.items ≡ s.bytes.items → Told (record { frame = frame; answer = answer } ∷ told) new
 unfolding Told
 told_again told s new frame answer wish at missed was few same_unit job stage misses number byte bytes =
     let now = plan_at s.job s.stage in
     rw (same_unit, job, stage, misses, number, byte, bytes)
-    (with_again s.job (s.unit) (plan_of s.job) now told s.misses (drop (suc s.number) (plan_lines (s.unit) now)) s.byte s.bytes.items frame answer wish
-    (at_hand s.job (s.unit) (plan_of s.job) now told s.misses s.number s.byte s.bytes.items (line frame wish) at was) missed (omega arith))
+    (with_again s.job (s.unit) (plan_of s.job) now told s.misses (drop (suc s.number) (plan_lines (s.unit) now)) s.byte
+    s.bytes.items frame answer wish
+    (at_hand s.job (s.unit) (plan_of s.job) now told s.misses s.number s.byte s.bytes.items (line frame wish) at was)
+    missed (omega arith))
 
 -- the step failed
-with_failed : (job : Job) (unit : ℕ) (plan now : Plan) (told : List Exchange) (misses : ℕ) (left : List Line) (byte : Option ℕ) (bytes new : List ℕ)
-    (frame : Frame) (answer : Option ℕ) (wish : Wish) → StandsWith job unit plan told now misses (line frame wish ∷ left) byte bytes → ¬ Meets wish answer → 7 ≤ misses
+with_failed : (job : Job) (unit : ℕ) (plan now : Plan) (told : List Exchange) (misses : ℕ) (left : List Line)
+    (byte : Option ℕ) (bytes new : List ℕ)
+    (frame : Frame) (answer : Option ℕ) (wish : Wish)
+    → StandsWith job unit plan told now misses (line frame wish ∷ left) byte bytes → ¬ Meets wish answer → 7 ≤ misses
     → new ≡ kept_after job bytes None
-    → StandsWith job unit plan (record { frame = frame; answer = answer } ∷ told) (goes_on now None) 0 (plan_lines unit (goes_on now None)) None new
+    → StandsWith job unit plan (record { frame = frame; answer = answer } ∷ told) (goes_on now None) 0
+    (plan_lines unit (goes_on now None)) None new
 unfolding stands_failed ends_step
 with_failed job unit plan now told misses left byte bytes new frame answer wish s missed many kept =
     record {
@@ -167,29 +222,49 @@ with_failed job unit plan now told misses left byte bytes new frame answer wish 
     }
 
 pub told_failed : (told : List Exchange) (s new : Session) (frame : Frame) (answer : Option ℕ) (wish : Wish)
-    → line_of s ≡ Some (line frame wish) → ¬ Meets wish answer → Told told s → 7 ≤ s.misses
-    → new.unit ≡ s.unit → new.job ≡ s.job → plan_at new.job new.stage ≡ goes_on (plan_at s.job s.stage) None → BeginsTry new
-    → (length s.bytes.items < 255 → new.bytes.items ≡ kept_after s.job s.bytes.items None) → Told (record { frame = frame; answer = answer } ∷ told) new
+    → line_at_hand s ≡ Some (line frame wish) → ¬ Meets wish answer → Told told s → 7 ≤ s.misses
+    → new.unit ≡ s.unit → new.job ≡ s.job → plan_at new.job new.stage ≡ goes_on (plan_at s.job s.stage) None
+    → BeginsTry new
+    → (length s.bytes.items < 255 → new.bytes.items ≡ kept_after s.job s.bytes.items None)
+    → Told (record { frame = frame; answer = answer } ∷ told) new
 unfolding Told
 told_failed told s new frame answer wish at missed was many same_unit job plan begins kept =
     let now = plan_at s.job s.stage in
     let unit = s.unit in
-    let failed = with_failed s.job unit (plan_of s.job) now told s.misses (drop (suc s.number) (plan_lines unit now)) s.byte s.bytes.items new.bytes.items frame answer wish
-    (at_hand s.job unit (plan_of s.job) now told s.misses s.number s.byte s.bytes.items (line frame wish) at was) missed many (kept (room told s (line frame wish) at was)) in
+    let failed =
+    with_failed s.job unit (plan_of s.job) now told s.misses (drop (suc s.number) (plan_lines unit now)) s.byte
+    s.bytes.items new.bytes.items frame answer wish
+    (at_hand s.job unit (plan_of s.job) now told s.misses s.number s.byte s.bytes.items (line frame wish) at was) missed
+    many (kept (room told s (line frame wish) at was)) in
     let x : Exchange = record { frame = frame; answer = answer } in
-    let ends = anew s.job unit (plan_of s.job) (plan_at new.job new.stage) (goes_on now None) (x ∷ told) new.misses new.number new.byte new.bytes.items plan begins.0 begins.1 begins.2 failed in
-    rw (same_unit, ap plan_of job) (with_job s.job new.job unit (plan_of s.job) (plan_at new.job new.stage) (x ∷ told) new.misses (drop new.number (plan_lines unit (plan_at new.job new.stage))) new.byte new.bytes.items job ends)
+    let ends =
+    anew s.job unit (plan_of s.job) (plan_at new.job new.stage) (goes_on now None) (x ∷ told) new.misses new.number
+    new.byte new.bytes.items plan begins.0 begins.1 begins.2 failed in
+    rw (same_unit, ap plan_of job) (with_job s.job new.job unit (plan_of s.job) (plan_at new.job new.stage) (x ∷ told)
+    new.misses (drop new.number (plan_lines unit (plan_at new.job new.stage))) new.byte new.bytes.items job ends)
 
 -- the frame at hand is what the session wants
-aim_in : (unit : ℕ) (plan : Plan) (number : ℕ) (next : Line) → slice_get (plan_lines unit plan) number ≡ Some next → ask_at plan (drop number (plan_lines unit plan)) ≡ Send next.frame
+aim_in : (unit : ℕ) (plan : Plan) (number : ℕ) (next : Line) → slice_get (plan_lines unit plan) number ≡ Some next
+    → shown_ask plan (drop number (plan_lines unit plan)) ≡ Send next.frame
 aim_in unit (Finish verdict) number next at = cc
 aim_in unit (Check step after) number next at = rw (drop_at (plan_lines unit (Check step after)) number next at) refl
 
-pub aim_at_line : (s : Session) (next : Line) → line_of s ≡ Some next → aim_of s ≡ Send next.frame
-aim_at_line s next at = aim_in (s.unit) (plan_at s.job s.stage) s.number next at
+pub aim_at_line : (s : Session) (next : Line) → line_at_hand s ≡ Some next → aim_of s ≡ Send next.frame
+aim_at_line s next at =
+    sym (ask_shown (plan_at s.job s.stage) (drop s.number (plan_lines s.unit (plan_at s.job s.stage))) s.going)
+    ∙ aim_in s.unit (plan_at s.job s.stage) s.number next at
 
 -- what a session wants is what its plan asks
 pub told_wants : (told : List Exchange) (s : Session) → Told told s → Wants (s.unit) (plan_of s.job) told (aim_of s)
 unfolding Told
 told_wants told s was =
-    record { now = plan_at s.job s.stage; misses = s.misses; left = drop s.number (plan_lines (s.unit) (plan_at s.job s.stage)); byte = s.byte; stands = was.stands; ask_is = refl }
+    let now = plan_at s.job s.stage in
+    let left = drop s.number (plan_lines s.unit (plan_at s.job s.stage)) in
+    record {
+      now = now;
+      misses = s.misses;
+      left = left;
+      byte = s.byte;
+      stands = was.stands;
+      ask_is = sym (ask_shown now left was.stands.going) ∙ ask_shown now left s.going;
+    }

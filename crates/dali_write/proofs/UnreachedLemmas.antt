@@ -1,7 +1,9 @@
 -- A closing session that ends as NotClosed was told of no read that was answered.
-use Rattle.std.proofs.Common.{◌≡◌, ◌⊎◌, inl, inr, refl, sym, ap, subst, ◌∙◌, ℕ, zero, suc, ◌≤◌, ◌<◌, List, [], ◌∷◌, ◌++◌, length, Option, Some, None, arith}
+use Rattle.std.proofs.Common.{◌≡◌, ◌⊎◌, inl, inr, refl, sym, ap, subst, ◌∙◌, ℕ, zero, suc, ◌≤◌, ◌<◌, List, [], ◌∷◌}
+use Rattle.std.proofs.Common.{◌++◌, length, Option, Some, None, arith}
 use Rattle.dali_frame.specs.declared.forward.Frame.{Frame}
-use Rattle.dali_frame.specs.declared.forward.Frame.TheVariants.{Dtr0, Dtr1, Dtr2, Write, WriteSilent, Enable, AskDtr0, AskDtr1, AskDtr2, Read, Other}
+use Rattle.dali_frame.specs.declared.forward.Frame.TheVariants.{Dtr0, Dtr1, Dtr2, Write, WriteSilent, Enable, AskDtr0}
+use Rattle.dali_frame.specs.declared.forward.Frame.TheVariants.{AskDtr1, AskDtr2, Read, Other}
 use Rattle.dali_write.specs.Exchanges.{Exchange}
 use Rattle.dali_write.specs.declared.line.Line.{Line}
 use Rattle.dali_write.specs.declared.line.Wish.{Wish}
@@ -39,7 +41,8 @@ abbrev LinesReadLate : ℕ → List Line → Type 0
 LinesReadLate late [] = Unit {0}
 LinesReadLate late (next ∷ left) = ReadsLate late next.frame next.wish left × LinesReadLate late left
 
-early_unread : (late : ℕ) (frame : Frame) (wish : Wish) (answer : Option ℕ) (left : List Line) → ReadsLate late frame wish left → late ≤ length left → IsUnread frame answer
+early_unread : (late : ℕ) (frame : Frame) (wish : Wish) (answer : Option ℕ) (left : List Line)
+    → ReadsLate late frame wish left → late ≤ length left → IsUnread frame answer
 early_unread late (Read to) wish answer left reads early = let never : ⊥ = omega arith in absurd never
 early_unread late (Dtr0 b) wish answer left reads early = tt
 early_unread late (Dtr1 b) wish answer left reads early = tt
@@ -56,8 +59,10 @@ unanswered : (answer : Option ℕ) → (Meets Anything answer → ⊥) → answe
 unanswered None missed = refl
 unanswered (Some byte) missed = absurd (missed refl)
 
-miss_unread : (late : ℕ) (frame : Frame) (wish : Wish) (answer : Option ℕ) (left : List Line) → ReadsLate late frame wish left → (Meets wish answer → ⊥) → IsUnread frame answer
-miss_unread late (Read to) wish answer left reads missed = unanswered answer (subst (λ (w : Wish). Meets w answer → ⊥) reads.0 missed)
+miss_unread : (late : ℕ) (frame : Frame) (wish : Wish) (answer : Option ℕ) (left : List Line)
+    → ReadsLate late frame wish left → (Meets wish answer → ⊥) → IsUnread frame answer
+miss_unread late (Read to) wish answer left reads missed =
+    unanswered answer (subst (λ (w : Wish). Meets w answer → ⊥) reads.0 missed)
 miss_unread late (Dtr0 b) wish answer left reads missed = tt
 miss_unread late (Dtr1 b) wish answer left reads missed = tt
 miss_unread late (Dtr2 b) wish answer left reads missed = tt
@@ -70,7 +75,8 @@ miss_unread late (AskDtr2 to) wish answer left reads missed = tt
 miss_unread late (Other w) wish answer left reads missed = tt
 
 -- while all lines that may read are left, no read was answered
-trying_unread : (late : ℕ) (lines : List Line) (tried : List Exchange) (left : List Line) → LinesReadLate late lines → Trying lines tried left → late ≤ length left
+trying_unread : (late : ℕ) (lines : List Line) (tried : List Exchange) (left : List Line) → LinesReadLate late lines
+    → Trying lines tried left → late ≤ length left
     → AllUnread tried × LinesReadLate late left
 trying_unread late lines [] left reads try early = (tt, subst (λ (l : List Line). LinesReadLate late l) (sym try) reads)
 trying_unread late lines (x ∷ tried) left reads try early =
@@ -82,17 +88,20 @@ both_unread [] older one two = two
 both_unread (x ∷ newer) older one two = (one.0, both_unread newer older one.1 two)
 
 -- where only the last line may read, no read of a missed try was answered
-missed_unread : (late : ℕ) (lines : List Line) (tried : List Exchange) → LinesReadLate late lines → late ≤ 1 → Missed lines tried → AllUnread tried
+missed_unread : (late : ℕ) (lines : List Line) (tried : List Exchange) → LinesReadLate late lines → late ≤ 1
+    → Missed lines tried → AllUnread tried
 missed_unread late lines [] reads last missed = absurd missed
 missed_unread late lines (x ∷ tried) reads last missed =
     let before = trying_unread late lines tried (line x.frame missed.0 ∷ missed.1) reads missed.3 (omega arith) in
     (miss_unread late x.frame missed.0 x.answer missed.1 before.1.0 missed.2, before.0)
 
-misses_unread : (late : ℕ) (lines : List Line) (misses : ℕ) (told : List Exchange) → LinesReadLate late lines → late ≤ 1 → Misses lines misses told → AllUnread told
+misses_unread : (late : ℕ) (lines : List Line) (misses : ℕ) (told : List Exchange) → LinesReadLate late lines → late ≤ 1
+    → Misses lines misses told → AllUnread told
 misses_unread late lines zero told reads last are = subst AllUnread (sym are) tt
 misses_unread late lines (suc misses) told reads last are =
     subst AllUnread (sym are.2)
-    (both_unread are.0 are.1 (missed_unread late lines are.0 reads last are.3) (misses_unread late lines misses are.1 reads last are.4))
+    (both_unread are.0 are.1 (missed_unread late lines are.0 reads last are.3)
+    (misses_unread late lines misses are.1 reads last are.4))
 
 -- the lines of a write read no byte
 write_lines_unread : (unit location byte : ℕ) → LinesReadLate 0 (write_lines unit location byte)
@@ -103,22 +112,27 @@ read_lines_late : (unit location : ℕ) → LinesReadLate 1 (read_lines unit loc
 read_lines_late unit location = (tt, (tt, (tt, (tt, ((refl, omega arith), tt)))))
 
 write_unread : (unit location byte : ℕ) (outcome : Option ℕ) (told : List Exchange)
-    → Succeeds (write_lines unit location byte) outcome told ⊎ Fails (write_lines unit location byte) outcome told → AllUnread told
+    → Succeeds (write_lines unit location byte) outcome told ⊎ Fails (write_lines unit location byte) outcome told
+    → AllUnread told
 write_unread unit location byte outcome told (inl done) =
     let lines = write_lines_unread unit location byte in
     subst AllUnread (sym done.3)
     (both_unread done.0 done.1 (trying_unread 0 (write_lines unit location byte) done.0 [] lines done.4 (omega arith)).0
     (misses_unread 0 (write_lines unit location byte) done.2 done.1 lines (omega arith) done.7))
 write_unread unit location byte outcome told (inr failed) =
-    misses_unread 0 (write_lines unit location byte) most_tries told (write_lines_unread unit location byte) (omega arith) failed.1
+    misses_unread 0 (write_lines unit location byte) most_tries told (write_lines_unread unit location byte)
+    (omega arith) failed.1
 
 -- where a read step failed, no read was answered
-read_unread : (unit location : ℕ) (told : List Exchange) → Succeeds (read_lines unit location) None told ⊎ Fails (read_lines unit location) None told → AllUnread told
+read_unread : (unit location : ℕ) (told : List Exchange)
+    → Succeeds (read_lines unit location) None told ⊎ Fails (read_lines unit location) None told → AllUnread told
 read_unread unit location told (inl done) = absurd (has_byte unit (ReadFrom location) told done)
-read_unread unit location told (inr failed) = misses_unread 1 (read_lines unit location) most_tries told (read_lines_late unit location) (omega arith) failed.1
+read_unread unit location told (inr failed) =
+    misses_unread 1 (read_lines unit location) most_tries told (read_lines_late unit location) (omega arith) failed.1
 
 -- so it is in the two steps of a closing session that ended as NotClosed
-read_closed_unread : (unit : ℕ) (outcomes : List (Option ℕ)) (told : List Exchange) → Walk unit (read_closed Closed NotClosed) outcomes told (Finish NotClosed)
+read_closed_unread : (unit : ℕ) (outcomes : List (Option ℕ)) (told : List Exchange)
+    → Walk unit (read_closed Closed NotClosed) outcomes told (Finish NotClosed)
     → AllUnread told
 read_closed_unread unit [] told walk = let differs = walk.1 in cc
 read_closed_unread unit (Some byte ∷ outcomes) told walk =
@@ -127,11 +141,13 @@ read_closed_unread unit (None ∷ outcomes) told walk =
     let end = finish_walk unit NotClosed outcomes walk.0 (Finish NotClosed) walk.4 in
     subst AllUnread (sym (only_older told walk.0 walk.1 walk.2 end.0)) (read_unread unit 2 walk.1 walk.3)
 
-close_unread : (unit : ℕ) (outcomes : List (Option ℕ)) (told : List Exchange) → Walk unit (close Closed NotClosed) outcomes told (Finish NotClosed) → AllUnread told
+close_unread : (unit : ℕ) (outcomes : List (Option ℕ)) (told : List Exchange)
+    → Walk unit (close Closed NotClosed) outcomes told (Finish NotClosed) → AllUnread told
 close_unread unit [] told walk = let differs = walk.1 in cc
 close_unread unit (outcome ∷ outcomes) told walk =
     subst AllUnread (sym walk.2)
-    (both_unread walk.0 walk.1 (read_closed_unread unit outcomes walk.0 walk.4) (write_unread unit 2 0xFF outcome walk.1 walk.3))
+    (both_unread walk.0 walk.1 (read_closed_unread unit outcomes walk.0 walk.4)
+    (write_unread unit 2 0xFF outcome walk.1 walk.3))
 
 -- the newest exchange of a checked read is a read that was answered
 not_ended : (unit location byte : ℕ) (told : List Exchange) → AllUnread told → EndsInRead unit location byte told → ⊥
@@ -147,6 +163,8 @@ unread_none unit [] unread has = has
 unread_none unit (x ∷ told) unread (inl reads) = not_ended unit reads.0 reads.1 (x ∷ told) unread reads.2
 unread_none unit (x ∷ told) unread (inr has) = unread_none unit told unread.1 has
 
-pub closing_unread : (told : List Exchange) (unit : ℕ) → Wants unit (close Closed NotClosed) told (Ended NotClosed) → HasRead unit told → ⊥
+pub closing_unread : (told : List Exchange) (unit : ℕ) → Wants unit (close Closed NotClosed) told (Ended NotClosed)
+    → HasRead unit told → ⊥
 closing_unread told unit wants has =
-    let ended = ended_walk unit (close Closed NotClosed) told NotClosed wants in unread_none unit told (close_unread unit ended.0 told ended.1) has
+    let ended = ended_walk unit (close Closed NotClosed) told NotClosed wants in
+    unread_none unit told (close_unread unit ended.0 told ended.1) has

@@ -1,5 +1,6 @@
 -- Near the edges of what is promised of steps and sessions.
-use Rattle.std.proofs.Common.{◌≡◌, ◌⊎◌, inl, inr, refl, sym, ap, subst, ◌∙◌, ℕ, zero, suc, ◌+◌, ◌≤◌, true, false, ne_eqb, List, [], ◌∷◌, ◌++◌, append_assoc, append-nil, length, Option, Some, None, arith}
+use Rattle.std.proofs.Common.{◌≡◌, ◌⊎◌, inl, inr, refl, sym, ap, subst, ◌∙◌, ℕ, zero, suc, ◌+◌, ◌≤◌, true, false}
+use Rattle.std.proofs.Common.{ne_eqb, List, [], ◌∷◌, ◌++◌, append_assoc, append-nil, length, Option, Some, None, arith}
 use Rattle.dali_frame.specs.declared.forward.Frame.TheVariants.{Dtr0, Dtr1, AskDtr0, AskDtr1, Read}
 use Rattle.dali_gear.specs.UnitState.{UnitState}
 use Rattle.dali_gear.specs.SimState.{SimState}
@@ -45,7 +46,8 @@ one_miss (suc n) = let rest = one_miss n in omega arith
 
 pub long_within : (n : ℕ) → IsLong 12 (after_a_miss n) → (11 ≤ n) × (n ≤ 18)
 long_within n long =
-    let least = long.0 in let most = long.1 in let all = miss_length n in let one = one_miss n in (omega arith, omega arith)
+    let least = long.0 in
+    let most = long.1 in let all = miss_length n in let one = one_miss n in (omega arith, omega arith)
 
 pub long_enough : (n : ℕ) → (11 ≤ n) × (n ≤ 18) → IsLong 12 (after_a_miss n)
 long_enough n (least, most) = let all = miss_length n in let one = one_miss n in (omega arith, omega arith)
@@ -71,11 +73,16 @@ pub second_has : HasBank 5 small_bank two_units
 second_has = inr (inl (refl, refl))
 
 -- seven losses are few, and with none nothing was missed
-pub seven_spared : (at : ℕ) (unit : UnitState) (told : List Exchange) (first last : SimState) (run : SimRun told first last) → IsAlone at unit first.units → Unrefused told first last run
+pub seven_spared : (at : ℕ) (unit : UnitState) (told : List Exchange) (first last : SimState)
+    (run : SimRun told first last)
+    → IsAlone at unit first.units → Unrefused told first last run
     → losses at told first last run ≡ 7 → Spared at unit told first last
-seven_spared at unit told first last run alone kind seven = record { run = run; alone = alone; kind = kind; few = omega arith }
+seven_spared at unit told first last run alone kind seven =
+    record { run = run; alone = alone; kind = kind; few = omega arith }
 
-pub none_lost : (at : ℕ) (unit : UnitState) (told : List Exchange) (first last : SimState) (spared : Spared at unit told first last) → MissesByLosses at unit told first last spared
+pub none_lost : (at : ℕ) (unit : UnitState) (told : List Exchange) (first last : SimState)
+    (spared : Spared at unit told first last)
+    → MissesByLosses at unit told first last spared
     → losses at told first last spared.run ≡ 0 → misses_in told ≡ 0
 none_lost at unit told first last spared few none = omega arith
 
@@ -86,8 +93,10 @@ head_of x y xs ys e = let same : x ≡ y = cc in ap (λ (l : Line). l.frame) sam
 rest_of : (x y : Line) (xs ys : List Line) → x ∷ xs ≡ y ∷ ys → xs ≡ ys
 rest_of x y xs ys e = cc
 
-try_names : (unit location u l : ℕ) (x : Exchange) (tried : List Exchange) (wish : Wish) (left : List Line) (rest told : List Exchange)
-    → missed_read unit location told ≡ (x ∷ tried) ++ rest → Trying (read_lines u l) tried (line x.frame wish ∷ left) → (u ≡ unit) × (l ≡ location)
+try_names : (unit location u l : ℕ) (x : Exchange) (tried : List Exchange) (wish : Wish) (left : List Line)
+    (rest told : List Exchange)
+    → missed_read unit location told ≡ (x ∷ tried) ++ rest → Trying (read_lines u l) tried (line x.frame wish ∷ left)
+    → (u ≡ unit) × (l ≡ location)
 try_names unit location u l x [] wish left rest told parts try =
     let newest : sent (AskDtr0 unit) None ≡ x = cc in
     let asks : AskDtr0 unit ≡ x.frame = ap (λ (e : Exchange). e.frame) newest in
@@ -134,31 +143,49 @@ try_names unit location u l x (a ∷ b ∷ c ∷ d ∷ []) wish left rest told p
     let last = head_of _ _ _ _ e4 in
     absurd (let never : AskDtr0 unit ≡ Read u = asks ∙ last in cc)
 try_names unit location u l x (a ∷ b ∷ c ∷ d ∷ e ∷ more) wish left rest told parts try =
-    let long = trying_length (read_lines u l) (a ∷ b ∷ c ∷ d ∷ e ∷ more) (line x.frame wish ∷ left) try in absurd (omega arith)
+    let long = trying_length (read_lines u l) (a ∷ b ∷ c ∷ d ∷ e ∷ more) (line x.frame wish ∷ left) try in
+    absurd (omega arith)
 
-missed_names : (unit location u l : ℕ) (newer rest told : List Exchange) → missed_read unit location told ≡ newer ++ rest → Missed (read_lines u l) newer → (u ≡ unit) × (l ≡ location)
+missed_names : (unit location u l : ℕ) (newer rest told : List Exchange)
+    → missed_read unit location told ≡ newer ++ rest → Missed (read_lines u l) newer → (u ≡ unit) × (l ≡ location)
 missed_names unit location u l [] rest told parts missed = absurd missed
-missed_names unit location u l (x ∷ tried) rest told parts (wish, left, misses_it, try) = try_names unit location u l x tried wish left rest told parts try
+missed_names unit location u l (x ∷ tried) rest told parts (wish, left, misses_it, try) =
+    try_names unit location u l x tried wish left rest told parts try
 
-pub unread_names : (unit location u l : ℕ) (told : List Exchange) → EndsUnread u l (missed_read unit location told) → (u ≡ unit) × (l ≡ location)
+pub unread_names : (unit location u l : ℕ) (told : List Exchange) → EndsUnread u l (missed_read unit location told)
+    → (u ≡ unit) × (l ≡ location)
 unread_names unit location u l told f =
     let are = f.missed in
-    missed_names unit location u l are.0 (are.1 ++ f.older) told (f.parts ∙ ap (λ (t : List Exchange). t ++ f.older) are.2 ∙ append_assoc are.0 are.1 f.older) are.3
+    missed_names unit location u l are.0 (are.1 ++ f.older) told
+    (f.parts ∙ ap (λ (t : List Exchange). t ++ f.older) are.2 ∙ append_assoc are.0 are.1 f.older) are.3
 
-pub unlooked_names : (unit location u : ℕ) (told : List Exchange) → EndsUnlooked u (missed_read unit location told) → (location ≡ 0x00) ⊎ ((location ≡ 0x11) ⊎ (location ≡ 0x12))
+pub unlooked_names : (unit location u : ℕ) (told : List Exchange) → EndsUnlooked u (missed_read unit location told)
+    → (location ≡ 0x00) ⊎ ((location ≡ 0x11) ⊎ (location ≡ 0x12))
 unlooked_names unit location u told (inl f) = inl (sym (unread_names unit location u 0x00 told f).1)
 unlooked_names unit location u told (inr (inl f)) = inr (inl (sym (unread_names unit location u 0x11 told f).1))
 unlooked_names unit location u told (inr (inr f)) = inr (inr (sym (unread_names unit location u 0x12 told f).1))
 
 -- walks one after the other
-walk_then : (unit : ℕ) (plan mid end : Plan) (outcomes others : List (Option ℕ)) (older newer : List Exchange) → Walk unit plan outcomes older mid → Walk unit mid others newer end
+walk_then : (unit : ℕ) (plan mid end : Plan) (outcomes others : List (Option ℕ)) (older newer : List Exchange)
+    → Walk unit plan outcomes older mid → Walk unit mid others newer end
     → (all : List (Option ℕ)) × Walk unit plan all (newer ++ older) end
 walk_then unit plan mid end [] others older newer (none, same) later =
-    let told : newer ++ older ≡ newer = ap (λ (t : List Exchange). newer ++ t) none ∙ append-nil newer in
-    (others, subst (λ (t : List Exchange). Walk unit plan others t end) (sym told) (subst (λ (p : Plan). Walk unit p others newer end) (sym same) later))
+    let told : newer ++ older ≡ newer = ap (λ (t : List Exchange). newer ++ t) none ∙ append-nil newer in (
+      others,
+      subst (λ (t : List Exchange). Walk unit plan others t end) (sym told)
+          (subst (λ (p : Plan). Walk unit p others newer end) (sym same) later),
+    )
 walk_then unit plan mid end (outcome ∷ outcomes) others older newer (after, before, parts, ends, walk) later =
-    let rest = walk_then unit (goes_on plan outcome) mid end outcomes others after newer walk later in
-    (outcome ∷ rest.0, (newer ++ after, before, ap (λ (t : List Exchange). newer ++ t) parts ∙ sym (append_assoc newer after before), ends, rest.1))
+    let rest = walk_then unit (goes_on plan outcome) mid end outcomes others after newer walk later in (
+      outcome ∷ rest.0,
+      (
+        newer ++ after,
+        before,
+        ap (λ (t : List Exchange). newer ++ t) parts ∙ sym (append_assoc newer after before),
+        ends,
+        rest.1,
+      ),
+    )
 
 -- the steps of a walk, the newest first
 record Steps (unit : ℕ) (plan : Plan) (told : List Exchange) (end : Plan) : Type 0 where
@@ -166,34 +193,61 @@ record Steps (unit : ℕ) (plan : Plan) (told : List Exchange) (end : Plan) : Ty
   steps : StepsEnd unit plan outcomes told
   comes : plan_after plan outcomes ≡ end
 
-walk_steps : (unit : ℕ) (plan now end : Plan) (done outcomes : List (Option ℕ)) (ended told : List Exchange) → StepsEnd unit plan done ended → plan_after plan done ≡ now
+walk_steps : (unit : ℕ) (plan now end : Plan) (done outcomes : List (Option ℕ)) (ended told : List Exchange)
+    → StepsEnd unit plan done ended → plan_after plan done ≡ now
     → Walk unit now outcomes told end → Steps unit plan (told ++ ended) end
 walk_steps unit plan now end done [] ended told steps comes (none, same) =
     record { outcomes = done; steps = rw none steps; comes = comes ∙ same }
 walk_steps unit plan now end done (outcome ∷ outcomes) ended told steps comes (newer, older, parts, ends, walk) =
-    let one : StepsEnd unit plan (outcome ∷ done) (older ++ ended) = (older, ended, refl, subst (λ (p : Plan). StepEnds unit p outcome older) (sym comes) ends, steps) in
-    let all = walk_steps unit plan (goes_on now outcome) end (outcome ∷ done) outcomes (older ++ ended) newer one (ap (λ (p : Plan). goes_on p outcome) comes) walk in
-    let same : newer ++ (older ++ ended) ≡ told ++ ended = sym (append_assoc newer older ended) ∙ ap (λ (t : List Exchange). t ++ ended) (sym parts) in
+    let one : StepsEnd unit plan (outcome ∷ done) (older ++ ended) =
+    (older, ended, refl, subst (λ (p : Plan). StepEnds unit p outcome older) (sym comes) ends, steps) in
+    let all =
+    walk_steps unit plan (goes_on now outcome) end (outcome ∷ done) outcomes (older ++ ended) newer one
+    (ap (λ (p : Plan). goes_on p outcome) comes) walk in
+    let same : newer ++ (older ++ ended) ≡ told ++ ended =
+    sym (append_assoc newer older ended) ∙ ap (λ (t : List Exchange). t ++ ended) (sym parts) in
     subst (λ (t : List Exchange). Steps unit plan t end) same all
 
-walk_wants : (unit : ℕ) (plan : Plan) (verdict : Verdict) (outcomes : List (Option ℕ)) (told : List Exchange) → Walk unit plan outcomes told (Finish verdict) → Wants unit plan told (Ended verdict)
+walk_wants : (unit : ℕ) (plan : Plan) (verdict : Verdict) (outcomes : List (Option ℕ)) (told : List Exchange)
+    → Walk unit plan outcomes told (Finish verdict) → Wants unit plan told (Ended verdict)
 walk_wants unit plan verdict outcomes told walk =
-    let all = subst (λ (t : List Exchange). Steps unit plan t (Finish verdict)) (append-nil told) (walk_steps unit plan plan (Finish verdict) [] outcomes [] told refl refl walk) in
+    let all =
+    subst (λ (t : List Exchange). Steps unit plan t (Finish verdict)) (append-nil told)
+    (walk_steps unit plan plan (Finish verdict) [] outcomes [] told refl refl walk) in
     record {
       now = Finish verdict;
       misses = 0;
       left = [];
       byte = None;
-      stands = record { outcomes = all.outcomes; ended = told; missed = []; tried = []; parts = refl; steps = all.steps; now_is = all.comes; few = omega arith; misses_are = refl; try = refl; byte_is = refl; going = tt };
+      stands = record {
+        outcomes = all.outcomes;
+        ended = told;
+        missed = [];
+        tried = [];
+        parts = refl;
+        steps = all.steps;
+        now_is = all.comes;
+        few = omega arith;
+        misses_are = refl;
+        try = refl;
+        byte_is = refl;
+        going = refl;
+      };
       ask_is = refl;
     }
 
 -- where another byte was found, the session ended in doubt
-pub found_doubts : (unit : ℕ) (plan : Plan) (expected : List (ℕ × ℕ)) (told : List Exchange) → FoundAnother unit plan expected told → Wants unit plan told (Ended Doubt)
+pub found_doubts : (unit : ℕ) (plan : Plan) (expected : List (ℕ × ℕ)) (told : List Exchange)
+    → FoundAnother unit plan expected told → Wants unit plan told (Ended Doubt)
 found_doubts unit plan expected told f =
     let differs = ne_eqb f.found f.byte f.another in
     let goes : goes_on (expect f.location f.byte f.after) (Some f.found) ≡ give_up = rw differs refl in
     let gave = subst (λ (p : Plan). Walk unit p f.later f.newer (Finish Doubt)) (sym goes) f.gave_up in
-    let later : Walk unit (expect f.location f.byte f.after) (Some f.found ∷ f.later) (f.newer ++ f.read) (Finish Doubt) = (f.newer, f.read, refl, inl f.answered, gave) in
-    let all = walk_then unit plan (expect f.location f.byte f.after) (Finish Doubt) f.before (Some f.found ∷ f.later) f.older (f.newer ++ f.read) f.came later in
-    walk_wants unit plan Doubt all.0 told (subst (λ (t : List Exchange). Walk unit plan all.0 t (Finish Doubt)) (append_assoc f.newer f.read f.older ∙ sym f.parts) all.1)
+    let later : Walk unit (expect f.location f.byte f.after) (Some f.found ∷ f.later) (f.newer ++ f.read)
+    (Finish Doubt) =
+    (f.newer, f.read, refl, inl f.answered, gave) in
+    let all =
+    walk_then unit plan (expect f.location f.byte f.after) (Finish Doubt) f.before (Some f.found ∷ f.later) f.older
+    (f.newer ++ f.read) f.came later in
+    walk_wants unit plan Doubt all.0 told (subst (λ (t : List Exchange). Walk unit plan all.0 t (Finish Doubt))
+    (append_assoc f.newer f.read f.older ∙ sym f.parts) all.1)

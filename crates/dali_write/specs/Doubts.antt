@@ -37,7 +37,8 @@ EndsUnlooked unit told = EndsUnread unit 0x00 told ⊎ EndsUnread unit 0x11 told
 abbrev pub read_backs : List (ℕ × ℕ) → List (ℕ × ℕ)
 read_backs updates = (2, 0xFF) ∷ updates
 
--- After older exchanges the plan was to read one of the locations, which must hold its byte; the read was answered by another byte; after it the session gave up.
+-- After older exchanges the plan was to read one of the locations, which must hold its byte; the read was answered by
+-- another byte; after it the session gave up.
 pub record FoundAnother (unit : ℕ) (plan : Plan) (expected : List (ℕ × ℕ)) (told : List Exchange) : Type 0 where
   pub newer : List Exchange
   pub read : List Exchange

@@ -4,12 +4,14 @@
 -- frames that were sent, and the promises of the writer of the world again.
 use Rattle.std.specs.Prelude.{◌≡◌, ℕ, ◌<◌, ◌≤◌, List, [], ◌∷◌}
 use Rattle.dali_write.specs.declared.ask.Verdict.{Verdict}
-use Rattle.dali_write.specs.declared.ask.Verdict.TheVariants.{MayOpen, Done, Short, Format, Silent, Doubt, DoubtOpen, Closed, NotClosed, Read}
+use Rattle.dali_write.specs.declared.ask.Verdict.TheVariants.{MayOpen, Done, Short, Format, Silent, Doubt, DoubtOpen}
+use Rattle.dali_write.specs.declared.ask.Verdict.TheVariants.{Closed, NotClosed, Read}
 use Rattle.dali_write.specs.Plans.{greatest}
 
 -- bank 1 reaches to the greatest location of the updates, and where that is 13h or above the content format is 0003h
 abbrev pub Suits : (ℕ → ℕ → Type 0) → List (ℕ × ℕ) → Type 0
-Suits shows updates = (last : ℕ) × shows 0x00 last × (greatest updates ≤ last) × (0x13 ≤ greatest updates → shows 0x11 0x00 × shows 0x12 0x03)
+Suits shows updates = (last : ℕ) × shows 0x00 last × (greatest updates ≤ last) × (0x13 ≤ greatest updates
+    → shows 0x11 0x00 × shows 0x12 0x03)
 
 -- bank 1 ends before the greatest location of the updates
 abbrev pub IsTooShort : (ℕ → ℕ → Type 0) → List (ℕ × ℕ) → Type 0
@@ -18,7 +20,8 @@ IsTooShort shows updates = (last : ℕ) × shows 0x00 last × (last < greatest u
 -- an update is at 13h or above, and the content format isn't 0003h
 abbrev pub HasOtherFormat : (ℕ → ℕ → Type 0) → List (ℕ × ℕ) → Type 0
 HasOtherFormat shows updates =
-    (high : ℕ) × (low : ℕ) × shows 0x11 high × shows 0x12 low × (0x13 ≤ greatest updates) × ((high ≡ 0x00) × (low ≡ 0x03) → ⊥)
+    (high : ℕ) × (low : ℕ) × shows 0x11 high × shows 0x12 low × (0x13 ≤ greatest updates)
+    × ((high ≡ 0x00) × (low ≡ 0x03) → ⊥)
 
 -- each update's location shows its byte
 abbrev pub ShowsAll : (ℕ → ℕ → Type 0) → List (ℕ × ℕ) → Type 0
@@ -29,15 +32,20 @@ ShowsAll shows (update ∷ updates) = shows update.0 update.1 × ShowsAll shows 
 abbrev pub IsWritten : (ℕ → ℕ → Type 0) → List (ℕ × ℕ) → Type 0
 IsWritten shows updates = shows 0x02 0xFF × ShowsAll shows updates
 
--- MayOpen: bank 1 suits the updates. Short, Format: it doesn't. Done: they are written. Doubt and Closed: the lock byte answers. Other verdicts rest on nothing.
+-- some location shows some byte
+abbrev pub IsSeen : (ℕ → ℕ → Type 0) → Type 0
+IsSeen shows = (location : ℕ) × (byte : ℕ) × shows location byte
+
+-- The one table of grounds. MayOpen: bank 1 suits the updates. Short, Format: it doesn't. Done: they are written.
+-- Doubt and Closed: some location answers. Other verdicts rest on nothing.
 abbrev pub Rests : (ℕ → ℕ → Type 0) → List (ℕ × ℕ) → Verdict → Type 0
 Rests shows updates MayOpen = Suits shows updates
 Rests shows updates Done = IsWritten shows updates
 Rests shows updates Short = IsTooShort shows updates
 Rests shows updates Format = HasOtherFormat shows updates
 Rests shows updates Silent = Unit {0}
-Rests shows updates Doubt = (byte : ℕ) × shows 0x02 byte
+Rests shows updates Doubt = IsSeen shows
 Rests shows updates DoubtOpen = Unit {0}
-Rests shows updates Closed = (byte : ℕ) × shows 0x02 byte
+Rests shows updates Closed = IsSeen shows
 Rests shows updates NotClosed = Unit {0}
 Rests shows updates Read = Unit {0}

@@ -24,6 +24,7 @@ kept_after Reading bytes outcome = bytes ++ option_to_list outcome
 kept_after job bytes outcome = bytes
 
 -- what was told is so, and these bytes were kept of it
-pub record StandsWith (job : Job) (unit : ℕ) (plan : Plan) (told : List Exchange) (now : Plan) (misses : ℕ) (left : List Line) (byte : Option ℕ) (bytes : List ℕ) : Type 0 where
+pub record StandsWith (job : Job) (unit : ℕ) (plan : Plan) (told : List Exchange) (now : Plan) (misses : ℕ)
+    (left : List Line) (byte : Option ℕ) (bytes : List ℕ) : Type 0 where
   pub stands : Stands unit plan told now misses left byte
   pub bytes_are : bytes ≡ kept_bytes job stands.outcomes

@@ -2,10 +2,12 @@
 use Rattle.std.specs.Prelude.{ℕ, suc, ◌+◌, ◌-◌, ◌*◌, length}
 use Rattle.dali_write.specs.declared.stage.Job.{Job}
 use Rattle.dali_write.specs.declared.stage.Stage.{Stage}
-use Rattle.dali_write.specs.declared.stage.Stage.TheVariants.{ReadLength, ReadFormat, ReadFormatLow, Unlock, WriteOn, ReadLock, ReadBack, Close, ReadClosed, ReadAll, ReadOn, Over}
+use Rattle.dali_write.specs.declared.stage.Stage.TheVariants.{ReadLength, ReadFormat, ReadFormatLow, Unlock, WriteOn}
+use Rattle.dali_write.specs.declared.stage.Stage.TheVariants.{ReadLock, ReadBack, Close, ReadClosed, ReadAll, ReadOn}
+use Rattle.dali_write.specs.declared.stage.Stage.TheVariants.{Over}
 use Rattle.dali_write.specs.Frames.{read_frames, write_frames}
 use Rattle.dali_write.specs.Tries.{most_tries}
-use Rattle.dali_write.specs.Stages.{updates_of}
+use Rattle.dali_write.specs.Stages.{updates_for}
 
 -- all tries of a checked read, of a checked write, and of the two that close a unit
 abbrev pub read_limit : ℕ
@@ -30,10 +32,10 @@ abbrev pub limit_at : Job → Stage → ℕ
 limit_at job ReadLength = 3 * read_limit
 limit_at job ReadFormat = 2 * read_limit
 limit_at job (ReadFormatLow high) = read_limit
-limit_at job Unlock = write_limit + write_on_limit (length (updates_of job)) 0
-limit_at job (WriteOn index) = write_on_limit (length (updates_of job)) index
-limit_at job ReadLock = read_limit + read_back_limit (length (updates_of job)) 0
-limit_at job (ReadBack index) = read_back_limit (length (updates_of job)) index
+limit_at job Unlock = write_limit + write_on_limit (length (updates_for job)) 0
+limit_at job (WriteOn index) = write_on_limit (length (updates_for job)) index
+limit_at job ReadLock = read_limit + read_back_limit (length (updates_for job)) 0
+limit_at job (ReadBack index) = read_back_limit (length (updates_for job)) index
 limit_at job (Close answered unanswered) = close_limit
 limit_at job (ReadClosed answered unanswered) = read_limit
 limit_at job ReadAll = 255 * read_limit

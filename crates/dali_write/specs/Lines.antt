@@ -1,7 +1,8 @@
 -- The frames of a checked read and of a checked write, each with the answer that it wants.
 use Rattle.std.specs.Prelude.{◌≡◌, ℕ, List, [], ◌∷◌, ◌++◌, Option, Some, IsSome}
 use Rattle.dali_frame.specs.declared.forward.Frame.{Frame}
-use Rattle.dali_frame.specs.declared.forward.Frame.TheVariants.{Dtr0, Dtr1, Dtr2, Write, WriteSilent, Enable, AskDtr0, AskDtr1, AskDtr2, Read, Other}
+use Rattle.dali_frame.specs.declared.forward.Frame.TheVariants.{Dtr0, Dtr1, Dtr2, Write, WriteSilent, Enable, AskDtr0}
+use Rattle.dali_frame.specs.declared.forward.Frame.TheVariants.{AskDtr1, AskDtr2, Read, Other}
 use Rattle.dali_write.specs.declared.line.Wish.{Wish}
 use Rattle.dali_write.specs.declared.line.Wish.TheVariants.{Nothing, Exactly, Anything}
 use Rattle.dali_write.specs.declared.line.Line.{Line}
@@ -33,7 +34,8 @@ read_lines unit location = select_lines unit location ++ line (Read unit) Anythi
 -- a checked write of the byte to the location
 abbrev pub write_lines : ℕ → ℕ → ℕ → List Line
 write_lines unit location byte =
-    line (Enable unit) Nothing ∷ line (Enable unit) Nothing ∷ (select_lines unit location ++ line (Write byte) (Exactly byte) ∷ [])
+    line (Enable unit) Nothing ∷ line (Enable unit) Nothing
+    ∷ (select_lines unit location ++ line (Write byte) (Exactly byte) ∷ [])
 
 abbrev pub step_lines : ℕ → Step → List Line
 step_lines unit (ReadFrom location) = read_lines unit location

@@ -1,5 +1,6 @@
 -- What the simulated bus loses of the frames that are meant for one unit.
-use Rattle.std.specs.Prelude.{◌≡◌, ◌≢◌, ℕ, ◌+◌, ◌==◌, Bool, false, ◌&&◌, ◌||◌, is_some, IsSome, IsTrue, ◌⊎◌, List, [], ◌∷◌, length, slice_get, if◌then◌else◌}
+use Rattle.std.specs.Prelude.{◌≡◌, ◌≢◌, ℕ, ◌+◌, ◌==◌, Bool, false, ◌&&◌, ◌||◌, is_some, IsSome, IsTrue, ◌⊎◌, List, []}
+use Rattle.std.specs.Prelude.{◌∷◌, length, slice_get, if◌then◌else◌}
 use Rattle.std.specs.List.{list_any}
 use Rattle.dali_frame.specs.declared.forward.Frame.{Frame}
 use Rattle.dali_gear.specs.declared.fate.Fate.{Fate}
@@ -17,17 +18,20 @@ SimRun (x ∷ told) first last = (mid : SimState) × SimRun told first mid × Si
 
 -- the unit at the address answers the frame
 abbrev pub answers_at : ℕ → Fate → Frame → List UnitState → Bool
-answers_at address fate frame units = list_any (λ unit. (unit.address == address) && is_some (unit_answer fate frame unit)) units
+answers_at address fate frame units =
+    list_any (λ unit. (unit.address == address) && is_some (unit_answer fate frame unit)) units
 
 -- the unit doesn't hear the frame, or its answer is lost
 abbrev pub is_loss : ℕ → SimState → Frame → Bool
 is_loss address state frame =
-    is_lost (next_fate state.fates) address || ((next_fate state.fates).answer_lost && answers_at address (next_fate state.fates) frame state.units)
+    is_lost (next_fate state.fates) address
+    || ((next_fate state.fates).answer_lost && answers_at address (next_fate state.fates) frame state.units)
 
 -- so many of the exchanges are losses to the unit
 abbrev pub losses : ℕ → (told : List Exchange) (first last : SimState) → SimRun told first last → ℕ
 losses address [] first last run = 0
-losses address (x ∷ told) first last run = (if is_loss address run.0 x.frame then 1 else 0) + losses address told first run.0 run.1
+losses address (x ∷ told) first last run =
+    (if is_loss address run.0 x.frame then 1 else 0) + losses address told first run.0 run.1
 
 -- no fate of the exchanges refuses
 abbrev pub Unrefused : (told : List Exchange) (first last : SimState) → SimRun told first last → Type 0
@@ -46,7 +50,8 @@ AllElse address (unit ∷ units) = IsElse address unit × AllElse address units
 abbrev pub IsAlone : ℕ → UnitState → List UnitState → Type 0
 IsAlone address unit [] = ⊥
 IsAlone address unit (first ∷ units) =
-    ((first ≡ unit) × (unit.address ≡ address) × AllElse address units) ⊎ (IsElse address first × IsAlone address unit units)
+    ((first ≡ unit) × (unit.address ≡ address) × AllElse address units)
+    ⊎ (IsElse address first × IsAlone address unit units)
 
 -- the unit has the location to read, or can write it
 abbrev pub CanDo : Step → UnitState → Type 0

@@ -1,5 +1,6 @@
 -- Answers that were asked for and didn't come, among exchanges with the newest first.
-use Rattle.std.specs.Prelude.{ℕ, ◌+◌, ◌*◌, ◌≤◌, ◌==◌, Bool, true, false, not, is_some, List, [], ◌∷◌, length, Option, Some, None, if◌then◌else◌}
+use Rattle.std.specs.Prelude.{ℕ, ◌+◌, ◌*◌, ◌≤◌, ◌==◌, Bool, true, false, not, is_some, List, [], ◌∷◌, length, Option}
+use Rattle.std.specs.Prelude.{Some, None, if◌then◌else◌}
 use Rattle.dali_frame.specs.declared.forward.Frame.{Frame}
 use Rattle.dali_frame.specs.declared.forward.Frame.TheVariants.{Dtr0, Write, AskDtr0, AskDtr1, Read}
 use Rattle.dali_write.specs.Exchanges.{Exchange}
@@ -17,7 +18,8 @@ abbrev pub location_in : List Exchange → ℕ
 location_in [] = 0
 location_in (x ∷ told) = location_after x.frame (location_in told)
 
--- what a frame of a checked step asks for, where DTR0 was set so: that DTR1 is 01h, that DTR0 is what it was set to, any byte of a read, the byte of a write
+-- what a frame of a checked step asks for, where DTR0 was set so: that DTR1 is 01h, that DTR0 is what it was set to,
+-- any byte of a read, the byte of a write
 abbrev pub wish_of : Frame → ℕ → Wish
 wish_of (AskDtr1 unit) location = Exactly 1
 wish_of (AskDtr0 unit) location = Exactly location

@@ -21,7 +21,8 @@ EndsInRead unit location byte told =
 -- a checked read of the location was answered by the byte, and no frame since then enables a unit or writes
 abbrev pub ReadStands : List Exchange → ℕ → ℕ → ℕ → Type 0
 ReadStands [] unit location byte = ⊥
-ReadStands (x ∷ told) unit location byte = EndsInRead unit location byte (x ∷ told) ⊎ (IsPassive x.frame × ReadStands told unit location byte)
+ReadStands (x ∷ told) unit location byte =
+    EndsInRead unit location byte (x ∷ told) ⊎ (IsPassive x.frame × ReadStands told unit location byte)
 
 -- some checked read of the unit was answered
 abbrev pub HasRead : ℕ → List Exchange → Type 0

@@ -7,21 +7,24 @@ use Rattle.dali_write.specs.declared.ask.Verdict.TheVariants.{Closed, NotClosed}
 use Rattle.dali_write.specs.declared.stage.Job.{Job}
 use Rattle.dali_write.specs.declared.stage.Job.TheVariants.{Fresh, Opened, Closing, Reading}
 use Rattle.dali_write.specs.declared.stage.Stage.{Stage}
-use Rattle.dali_write.specs.declared.stage.Stage.TheVariants.{ReadLength, ReadFormat, ReadFormatLow, Unlock, WriteOn, ReadLock, ReadBack, Close, ReadClosed, ReadAll, ReadOn, Over}
-use Rattle.dali_write.specs.Plans.{Plan, Finish, Check, read_length, read_format, read_format_low, unlock, write_on, read_lock, read_back, close, read_closed, read_all, read_on}
+use Rattle.dali_write.specs.declared.stage.Stage.TheVariants.{ReadLength, ReadFormat, ReadFormatLow, Unlock, WriteOn}
+use Rattle.dali_write.specs.declared.stage.Stage.TheVariants.{ReadLock, ReadBack, Close, ReadClosed, ReadAll, ReadOn}
+use Rattle.dali_write.specs.declared.stage.Stage.TheVariants.{Over}
+use Rattle.dali_write.specs.Plans.{Plan, Finish, Check, read_length, read_format, read_format_low, unlock, write_on}
+use Rattle.dali_write.specs.Plans.{read_lock, read_back, close, read_closed, read_all, read_on}
 
-abbrev pub updates_of : Job → List (ℕ × ℕ)
-updates_of (Fresh order) = order.updates
-updates_of (Opened order) = order.updates
-updates_of Closing = []
-updates_of Reading = []
+abbrev pub updates_for : Job → List (ℕ × ℕ)
+updates_for (Fresh order) = order.updates
+updates_for (Opened order) = order.updates
+updates_for Closing = []
+updates_for Reading = []
 
 -- the order that it is for
-abbrev pub order_of : Job → Option Contents
-order_of (Fresh order) = Some order
-order_of (Opened order) = Some order
-order_of Closing = None
-order_of Reading = None
+abbrev pub order_for : Job → Option Contents
+order_for (Fresh order) = Some order
+order_for (Opened order) = Some order
+order_for Closing = None
+order_for Reading = None
 
 -- the whole plan of a session
 abbrev pub plan_of : Job → Plan
@@ -32,13 +35,13 @@ plan_of Reading = read_all
 
 -- the plan that is left at a stage
 abbrev pub plan_at : Job → Stage → Plan
-plan_at job ReadLength = read_length (updates_of job)
+plan_at job ReadLength = read_length (updates_for job)
 plan_at job ReadFormat = read_format
 plan_at job (ReadFormatLow high) = read_format_low high
-plan_at job Unlock = unlock (updates_of job)
-plan_at job (WriteOn index) = write_on (updates_of job) (drop index (updates_of job))
-plan_at job ReadLock = read_lock (updates_of job)
-plan_at job (ReadBack index) = read_back (drop index (updates_of job))
+plan_at job Unlock = unlock (updates_for job)
+plan_at job (WriteOn index) = write_on (updates_for job) (drop index (updates_for job))
+plan_at job ReadLock = read_lock (updates_for job)
+plan_at job (ReadBack index) = read_back (drop index (updates_for job))
 plan_at job (Close answered unanswered) = close answered unanswered
 plan_at job (ReadClosed answered unanswered) = read_closed answered unanswered
 plan_at job ReadAll = read_all

@@ -1,5 +1,6 @@
 -- How sessions end on the simulated bus where little is lost.
-use Rattle.std.specs.Prelude.{◌≡◌, ◌⊎◌, ℕ, ◌<◌, ◌≤◌, ◌==◌, Bool, false, ◌&&◌, nat_lt, List, [], ◌∷◌, length, slice_index, if◌then◌else◌}
+use Rattle.std.specs.Prelude.{◌≡◌, ◌⊎◌, ℕ, ◌<◌, ◌≤◌, ◌==◌, Bool, false, ◌&&◌, nat_lt, List, [], ◌∷◌, length}
+use Rattle.std.specs.Prelude.{slice_index, if◌then◌else◌}
 use Rattle.std.specs.List.{list_any, AllByRecursion}
 use Rattle.dali_gear.specs.UnitState.{BankState, UnitState}
 use Rattle.dali_gear.specs.SimState.{SimState}
@@ -13,7 +14,8 @@ use Rattle.dali_write.specs.Misses.{misses_in}
 
 -- the bank has the location, past the lock byte, and it isn't fixed
 abbrev pub MayStoreAt : BankState → ℕ → Type 0
-MayStoreAt bank location = (3 ≤ location) × (location < length bank.bytes) × (list_any (λ fixed. fixed == location) bank.fixed ≡ false)
+MayStoreAt bank location =
+    (3 ≤ location) × (location < length bank.bytes) × (list_any (λ fixed. fixed == location) bank.fixed ≡ false)
 
 -- and so it is of each update
 abbrev pub TakesAll : BankState → List (ℕ × ℕ) → Type 0
@@ -28,13 +30,15 @@ HasBank address bank (unit ∷ units) = ((unit.address ≡ address) × (unit.ban
 abbrev pub has_format : List ℕ → Bool
 has_format bytes = (slice_index bytes 0x11 == 0x00) && (slice_index bytes 0x12 == 0x03)
 
--- What a fresh session finds of a bank with these bytes. Short: it ends before the greatest location. Format: an update is at 13h or above, and the content format isn't 0003h.
+-- What a fresh session finds of a bank with these bytes. Short: it ends before the greatest location. Format: an
+-- update is at 13h or above, and the content format isn't 0003h.
 abbrev pub found_verdict : List ℕ → List (ℕ × ℕ) → Verdict
 found_verdict bytes updates =
     if nat_lt (slice_index bytes 0) (greatest updates) then Short
     else (if nat_lt (greatest updates) 0x13 then MayOpen else (if has_format bytes then MayOpen else Format))
 
--- Along the simulated bus, from a unit that is alone at its address: no fate refuses, and it loses less than a step has tries.
+-- Along the simulated bus, from a unit that is alone at its address: no fate refuses, and it loses less than a step
+-- has tries.
 pub record Spared (at : ℕ) (unit : UnitState) (told : List Exchange) (first last : SimState) : Type 0 where
   pub run : SimRun told first last
   pub alone : IsAlone at unit first.units
@@ -42,5 +46,6 @@ pub record Spared (at : ℕ) (unit : UnitState) (told : List Exchange) (first la
   pub few : losses at told first last run < most_tries
 
 -- it missed no more often than it lost
-abbrev pub MissesByLosses : (at : ℕ) (unit : UnitState) (told : List Exchange) (first last : SimState) → Spared at unit told first last → Type 0
+abbrev pub MissesByLosses : (at : ℕ) (unit : UnitState) (told : List Exchange) (first last : SimState)
+    → Spared at unit told first last → Type 0
 MissesByLosses at unit told first last spared = misses_in told ≤ losses at told first last spared.run

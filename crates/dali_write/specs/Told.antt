@@ -19,8 +19,8 @@ unit_of s = s.unit
 abbrev pub job_of : Session → Job
 job_of s = s.job
 
-abbrev pub bytes_of : Session → List ℕ
-bytes_of s = s.bytes.items
+abbrev pub bytes_read : Session → List ℕ
+bytes_read s = s.bytes.items
 
 -- The session looks whether the order suits its unit; it carries the order out; it closes the unit.
 abbrev pub IsFresh : Contents → Session → Type 0
@@ -34,11 +34,11 @@ IsClosing unit s = (unit_of s ≡ unit) × (job_of s ≡ Closing)
 
 -- what the session wants
 abbrev pub aim_of : Session → Ask
-aim_of s = ask_at (plan_at s.job s.stage) (drop s.number (plan_lines (s.unit) (plan_at s.job s.stage)))
+aim_of s = ask_at (plan_at s.job s.stage) (drop s.number (plan_lines s.unit (plan_at s.job s.stage))) s.going
 
 -- the frame at hand, with the answer that it wants
-abbrev pub line_of : Session → Option Line
-line_of s = slice_get (plan_lines (s.unit) (plan_at s.job s.stage)) s.number
+abbrev pub line_at_hand : Session → Option Line
+line_at_hand s = slice_get (plan_lines (s.unit) (plan_at s.job s.stage)) s.number
 
 -- a step begins, with its first try
 abbrev pub BeginsTry : Session → Type 0
@@ -50,6 +50,7 @@ Told told s =
     StandsWith s.job (s.unit) (plan_of s.job) told (plan_at s.job s.stage) s.misses
     (drop s.number (plan_lines (s.unit) (plan_at s.job s.stage))) s.byte s.bytes.items
 
--- the most frames that are still to come: those from the stage on, less those of the step at hand that its tries so far used up
+-- the most frames that are still to come: those from the stage on, less those of the step at hand that its tries so
+-- far used up
 abbrev pub frames_left : Session → ℕ
 frames_left s = limit_at s.job s.stage - (s.misses * length (plan_lines s.unit (plan_at s.job s.stage)) + s.number)

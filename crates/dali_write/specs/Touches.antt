@@ -8,11 +8,13 @@ abbrev pub Has : List (ℕ × ℕ) → ℕ → ℕ → Type 0
 Has [] location byte = ⊥
 Has (write ∷ writes) location byte = ((write.0 ≡ location) × (write.1 ≡ byte)) ⊎ Has writes location byte
 
--- each place of the unit holds what it held, or it was there before, in bank 1, and holds the byte of one of the writes there
+-- each place of the unit holds what it held, or it was there before, in bank 1, and holds the byte of one of the
+-- writes there
 abbrev pub OldOrNew : List (ℕ × ℕ) → Option Gear → Option Gear → Type 0
 OldOrNew writes first last =
     (bank location : ℕ) → (byte_in last bank location ≡ byte_in first bank location)
-    ⊎ ((byte : ℕ) × (bank ≡ 1) × Has writes location byte × IsSome (byte_in first bank location) × (byte_in last bank location ≡ Some byte))
+    ⊎ ((byte : ℕ) × (bank ≡ 1) × Has writes location byte × IsSome (byte_in first bank location)
+    × (byte_in last bank location ≡ Some byte))
 
 -- every other unit keeps its memory and isn't newly enabled, and in this one each place is old or new
 pub record Touches (writes : List (ℕ × ℕ)) (unit : ℕ) (first last : World) : Type 0 where

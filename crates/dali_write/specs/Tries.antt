@@ -1,11 +1,10 @@
 -- Tries, steps and sessions, as lists of exchanges with the newest first.
-use Rattle.std.specs.Prelude.{◌≡◌, ℕ, suc, zero, ◌<◌, ◌⊎◌, List, [], ◌∷◌, ◌++◌, Option, None}
+use Rattle.std.specs.Prelude.{◌≡◌, ℕ, suc, zero, ◌<◌, ◌⊎◌, List, [], ◌∷◌, ◌++◌, Option, None, Bool, true, false}
 use Rattle.dali_write.specs.Exchanges.{Exchange}
 use Rattle.dali_write.specs.declared.line.Line.{Line}
 use Rattle.dali_write.specs.declared.line.Wish.{Wish}
 use Rattle.dali_write.specs.declared.ask.Ask.{Ask}
 use Rattle.dali_write.specs.declared.ask.Ask.TheVariants.{Send, Ended}
-use Rattle.dali_write.specs.declared.ask.Verdict.TheVariants.{Silent}
 use Rattle.dali_write.specs.Lines.{Meets, line, step_lines, byte_after}
 use Rattle.dali_write.specs.Plans.{Plan, Finish, Check, plan_after}
 
@@ -21,12 +20,15 @@ Trying lines (x ∷ told) left = (wish : Wish) × Meets wish x.answer × Trying 
 -- a try that ended at its first miss
 abbrev pub Missed : List Line → List Exchange → Type 0
 Missed lines [] = ⊥
-Missed lines (x ∷ told) = (wish : Wish) × (left : List Line) × (¬ Meets wish x.answer) × Trying lines told (line x.frame wish ∷ left)
+Missed lines (x ∷ told) =
+    (wish : Wish) × (left : List Line) × (¬ Meets wish x.answer) × Trying lines told (line x.frame wish ∷ left)
 
 -- so many tries, each of which ended at its first miss
 abbrev pub Misses : List Line → ℕ → List Exchange → Type 0
 Misses lines zero told = told ≡ []
-Misses lines (suc misses) told = (newer : List Exchange) × (older : List Exchange) × (told ≡ newer ++ older) × Missed lines newer × Misses lines misses older
+Misses lines (suc misses) told =
+    (newer : List Exchange) × (older : List Exchange) × (told ≡ newer ++ older) × Missed lines newer
+    × Misses lines misses older
 
 -- the answer to the newest read or write, if the try has come to it
 abbrev pub byte_of : List Exchange → Option ℕ
@@ -46,7 +48,8 @@ Fails lines outcome told = (outcome ≡ None) × Misses lines most_tries told
 -- a whole checked step with its outcome
 abbrev pub StepEnds : ℕ → Plan → Option ℕ → List Exchange → Type 0
 StepEnds unit (Finish verdict) outcome told = ⊥
-StepEnds unit (Check step after) outcome told = Succeeds (step_lines unit step) outcome told ⊎ Fails (step_lines unit step) outcome told
+StepEnds unit (Check step after) outcome told =
+    Succeeds (step_lines unit step) outcome told ⊎ Fails (step_lines unit step) outcome told
 
 -- whole steps of the plan with their outcomes
 abbrev pub StepsEnd : ℕ → Plan → List (Option ℕ) → List Exchange → Type 0
@@ -61,13 +64,17 @@ plan_lines unit (Finish verdict) = []
 plan_lines unit (Check step after) = step_lines unit step
 
 -- while a step is at hand, a frame of it is left
+abbrev pub is_going : Plan → List Line → Bool
+is_going (Finish verdict) left = true
+is_going (Check step after) [] = false
+is_going (Check step after) (next ∷ left) = true
+
 abbrev pub GoesOn : Plan → List Line → Type 0
-GoesOn (Finish verdict) left = Unit {0}
-GoesOn (Check step after) [] = ⊥
-GoesOn (Check step after) (next ∷ left) = Unit {0}
+GoesOn plan left = is_going plan left ≡ true
 
 -- What was told is whole steps, then missed tries of the step at hand, then the try at hand.
-pub record Stands (unit : ℕ) (plan : Plan) (told : List Exchange) (now : Plan) (misses : ℕ) (left : List Line) (byte : Option ℕ) : Type 0 where
+pub record Stands (unit : ℕ) (plan : Plan) (told : List Exchange) (now : Plan) (misses : ℕ) (left : List Line)
+    (byte : Option ℕ) : Type 0 where
   pub outcomes : List (Option ℕ)
   pub ended : List Exchange
   pub missed : List Exchange
@@ -81,11 +88,11 @@ pub record Stands (unit : ℕ) (plan : Plan) (told : List Exchange) (now : Plan)
   pub byte_is : byte_of tried ≡ byte
   pub going : GoesOn now left
 
--- the next frame of the try, or the end (a step at hand has a next frame)
-abbrev pub ask_at : Plan → List Line → Ask
-ask_at (Finish verdict) left = Ended verdict
-ask_at (Check step after) [] = Ended Silent
-ask_at (Check step after) (next ∷ left) = Send next.frame
+-- the next frame of the try, or the end
+abbrev pub ask_at : (plan : Plan) (left : List Line) → GoesOn plan left → Ask
+ask_at (Finish verdict) left going = Ended verdict
+ask_at (Check step after) [] going = cc
+ask_at (Check step after) (next ∷ left) going = Send next.frame
 
 -- What a session with this plan wants, or how it ends, after these exchanges.
 pub record Wants (unit : ℕ) (plan : Plan) (told : List Exchange) (ask : Ask) : Type 0 where
@@ -94,4 +101,4 @@ pub record Wants (unit : ℕ) (plan : Plan) (told : List Exchange) (ask : Ask) :
   pub left : List Line
   pub byte : Option ℕ
   pub stands : Stands unit plan told now misses left byte
-  pub ask_is : ask_at now left ≡ ask
+  pub ask_is : ask_at now left stands.going ≡ ask

@@ -13,20 +13,24 @@ use Rattle.dali_write.specs.Tries.{most_tries, StepEnds}
 abbrev pub Walk : ℕ → Plan → List (Option ℕ) → List Exchange → Plan → Type 0
 Walk unit plan [] told end = (told ≡ []) × (plan ≡ end)
 Walk unit plan (outcome ∷ outcomes) told end =
-    (newer : List Exchange) × (older : List Exchange) × (told ≡ newer ++ older) × StepEnds unit plan outcome older × Walk unit (goes_on plan outcome) outcomes newer end
+    (newer : List Exchange) × (older : List Exchange) × (told ≡ newer ++ older) × StepEnds unit plan outcome older
+    × Walk unit (goes_on plan outcome) outcomes newer end
 
 -- so many tries of a step missed
-abbrev pub step_misses : (unit : ℕ) (plan : Plan) (outcome : Option ℕ) (told : List Exchange) → StepEnds unit plan outcome told → ℕ
+abbrev pub step_misses : (unit : ℕ) (plan : Plan) (outcome : Option ℕ) (told : List Exchange)
+    → StepEnds unit plan outcome told → ℕ
 step_misses unit (Finish verdict) outcome told ends = 0
 step_misses unit (Check step after) outcome told (inl done) = done.2
 step_misses unit (Check step after) outcome told (inr failed) = most_tries
 
-abbrev pub misses_of : (unit : ℕ) (plan : Plan) (outcomes : List (Option ℕ)) (told : List Exchange) (end : Plan) → Walk unit plan outcomes told end → ℕ
+abbrev pub misses_of : (unit : ℕ) (plan : Plan) (outcomes : List (Option ℕ)) (told : List Exchange) (end : Plan)
+    → Walk unit plan outcomes told end → ℕ
 misses_of unit plan [] told end walk = 0
 misses_of unit plan (outcome ∷ outcomes) told end walk =
     step_misses unit plan outcome walk.1 walk.3 + misses_of unit (goes_on plan outcome) outcomes walk.0 end walk.4
 
--- The plan ended so. It took this many frames where no try missed, and for each that did at most the frames of a try more.
+-- The plan ended so. It took this many frames where no try missed, and for each that did at most the frames of a try
+-- more.
 pub record Took (unit : ℕ) (plan : Plan) (told : List Exchange) (verdict : Verdict) (frames : ℕ) : Type 0 where
   pub outcomes : List (Option ℕ)
   pub walk : Walk unit plan outcomes told (Finish verdict)

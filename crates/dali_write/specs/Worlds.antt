@@ -42,7 +42,8 @@ pub record Shows (world : World) (unit location byte : ℕ) : Type 0 where
 -- the newest exchanges made sure that the unit has selected the location of bank 1
 abbrev pub Selects : ℕ → ℕ → List Exchange → Type 0
 Selects unit location told =
-    (newer : List Exchange) × (older : List Exchange) × (told ≡ newer ++ older) × Trying (select_lines unit location) newer []
+    (newer : List Exchange) × (older : List Exchange) × (told ≡ newer ++ older)
+    × Trying (select_lines unit location) newer []
 
 -- no unit but this one is enabled
 abbrev pub OnlyEnabled : ℕ → World → Type 0
@@ -57,5 +58,6 @@ Written location byte None new = ⊥
 -- the byte was stored at the location of bank 1 of the unit, or nothing was; an answer says that it was
 pub record MayWrite (first : World) (unit location byte : ℕ) (answer : Option ℕ) (last : World) : Type 0 where
   pub others : (address : ℕ) → address ≢ unit → memory_at last address ≡ memory_at first address
-  pub here : (memory_at last unit ≡ memory_at first unit) ⊎ Written location byte (memory_at first unit) (memory_at last unit)
+  pub here : (memory_at last unit ≡ memory_at first unit)
+      ⊎ Written location byte (memory_at first unit) (memory_at last unit)
   pub answered : (told : ℕ) → answer ≡ Some told → Written location byte (memory_at first unit) (memory_at last unit)

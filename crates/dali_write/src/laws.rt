@@ -1,5 +1,6 @@
 //! Laws of checked steps and sessions. Each is the contract of a function that does nothing.
-ghost use Rattle.std.specs.Prelude.{◌↔◌, ◌≡◌, ◌∷◌, ◌≤◌, ◌<◌, ◌⊎◌, ◌+◌, ◌*◌, List, [], length, slice_get, Some, ℕ, Option};
+ghost use Rattle.std.specs.Prelude.{◌↔◌, ◌≡◌, ◌∷◌, ◌≤◌, ◌<◌, ◌⊎◌, ◌+◌, ◌*◌, List, [], length, slice_get, Some, ℕ};
+ghost use Rattle.std.specs.Prelude.{Option};
 ghost use Rattle.dali_frame.specs.declared.forward.Frame.{Frame};
 ghost use Rattle.dali_frame.specs.declared.forward.Frame.TheVariants.{Write};
 ghost use Rattle.dali_write.specs.declared.ask.Ask.{Ask};
@@ -14,7 +15,7 @@ ghost use Rattle.dali_write.specs.Tries.{Wants};
 ghost use Rattle.dali_write.specs.Verdicts.{Says, ShowsBank, EndsFresh, EndsOpened, EndsClosing, EndsReading};
 ghost use Rattle.dali_write.specs.declared.stage.Job.{Job};
 ghost use Rattle.dali_write.specs.Stages.{plan_of};
-ghost use Rattle.dali_write.specs.Told.{Told, unit_of, job_of, bytes_of, aim_of};
+ghost use Rattle.dali_write.specs.Told.{Told, unit_of, job_of, bytes_read, aim_of};
 ghost use Rattle.dali_write.specs.Frames.{read_frames, write_frames};
 ghost use Rattle.dali_write.specs.Counts.{done_frames, frame_limit};
 ghost use Rattle.dali_gear.specs.SimState.{SimState, AreApart, world_of};
@@ -42,7 +43,8 @@ pub fn runs_are_chains()
 
 /// A session wants what its plan asks after what it was told, and ends so.
 pub fn sessions_follow_their_plans()
-    ensures { (told : List Exchange) (s : Session) → Told told s → Wants (unit_of s) (plan_of (job_of s)) told (aim_of s) }
+    ensures { (told : List Exchange) (s : Session) → Told told s
+        → Wants (unit_of s) (plan_of (job_of s)) told (aim_of s) }
 {}
 
 /// No session sends more frames than its limit.
@@ -53,15 +55,18 @@ pub fn sessions_send_few_frames()
 /// A checked read tells the byte at its place, and then the unit isn't enabled; no memory changes,
 /// and no unit is newly enabled.
 pub fn checked_reads_are_true()
-    ensures byte { (tried : List Exchange) (first last : World) (unit location byte : ℕ) → Run tried first last → IsCheckedRead unit location byte tried
+    ensures byte { (tried : List Exchange) (first last : World) (unit location byte : ℕ) → Run tried first last
+        → IsCheckedRead unit location byte tried
         → Shows last unit location byte }
-    ensures quiet { (tried : List Exchange) (first last : World) (unit location byte : ℕ) → Run tried first last → IsCheckedRead unit location byte tried
+    ensures quiet { (tried : List Exchange) (first last : World) (unit location byte : ℕ) → Run tried first last
+        → IsCheckedRead unit location byte tried
         → (address : ℕ) → KeepsAt first last address }
 {}
 
 /// What a checked read told is still so until a frame enables a unit or writes.
 pub fn standing_reads_are_true()
-    ensures { (told : List Exchange) (first last : World) (unit location byte : ℕ) → Run told first last → ReadStands told unit location byte
+    ensures { (told : List Exchange) (first last : World) (unit location byte : ℕ) → Run told first last
+        → ReadStands told unit location byte
         → Shows last unit location byte }
 {}
 
@@ -69,7 +74,8 @@ pub fn standing_reads_are_true()
 /// write stores its byte there or nothing.
 pub fn guarded_writes_are_safe()
     ensures { (told : List Exchange) (first before last : World) (unit location byte : ℕ) (answer : Option ℕ)
-        → Run told first before → Selects unit location told → OnlyEnabled unit before → Carry before (Write byte) answer last
+        → Run told first before → Selects unit location told → OnlyEnabled unit before
+        → Carry before (Write byte) answer last
         → MayWrite before unit location byte answer last }
 {}
 
@@ -81,7 +87,8 @@ pub fn sessions_end_by_their_kind()
         → Wants unit (unlock updates) told (Ask.Ended verdict) → EndsOpened verdict }
     ensures closing { (told : List Exchange) (unit : ℕ) (verdict : Verdict)
         → Wants unit (close Verdict.Closed Verdict.NotClosed) told (Ask.Ended verdict) → EndsClosing verdict }
-    ensures reading { (told : List Exchange) (unit : ℕ) (verdict : Verdict) → Wants unit read_all told (Ask.Ended verdict) → EndsReading verdict }
+    ensures reading { (told : List Exchange) (unit : ℕ) (verdict : Verdict)
+        → Wants unit read_all told (Ask.Ended verdict) → EndsReading verdict }
 {}
 
 /// What a session's verdict rests on: checked reads of its own that still stand.
@@ -91,7 +98,8 @@ pub fn verdicts_rest_on_reads()
     ensures fresh { (told : List Exchange) (unit : ℕ) (updates : List (ℕ × ℕ)) (verdict : Verdict)
         → Wants unit (read_length updates) told (Ask.Ended verdict) → Rests (ReadStands told unit) updates verdict }
     ensures closing { (told : List Exchange) (unit : ℕ) (verdict : Verdict)
-        → Wants unit (close Verdict.Closed Verdict.NotClosed) told (Ask.Ended verdict) → Rests (ReadStands told unit) [] verdict }
+        → Wants unit (close Verdict.Closed Verdict.NotClosed) told (Ask.Ended verdict)
+        → Rests (ReadStands told unit) [] verdict }
 {}
 
 /// What a session's verdict says of the world.
@@ -99,11 +107,14 @@ pub fn verdicts_are_true()
     ensures opened { (told : List Exchange) (first last : World) (unit : ℕ) (updates : List (ℕ × ℕ)) (verdict : Verdict)
         → Run told first last → Wants unit (unlock updates) told (Ask.Ended verdict) → Says unit updates last verdict }
     ensures fresh { (told : List Exchange) (first last : World) (unit : ℕ) (updates : List (ℕ × ℕ)) (verdict : Verdict)
-        → Run told first last → Wants unit (read_length updates) told (Ask.Ended verdict) → Says unit updates last verdict }
+        → Run told first last → Wants unit (read_length updates) told (Ask.Ended verdict)
+        → Says unit updates last verdict }
     ensures closing { (told : List Exchange) (first last : World) (unit : ℕ) (verdict : Verdict)
-        → Run told first last → Wants unit (close Verdict.Closed Verdict.NotClosed) told (Ask.Ended verdict) → Says unit [] last verdict }
-    ensures reading { (told : List Exchange) (s : Session) (first last : World) → Told told s → job_of s ≡ Job.Reading → aim_of s ≡ Ask.Ended Verdict.Read
-        → Run told first last → ShowsBank last (unit_of s) (bytes_of s) }
+        → Run told first last → Wants unit (close Verdict.Closed Verdict.NotClosed) told (Ask.Ended verdict)
+        → Says unit [] last verdict }
+    ensures reading { (told : List Exchange) (s : Session) (first last : World) → Told told s → job_of s ≡ Job.Reading
+        → aim_of s ≡ Ask.Ended Verdict.Read
+        → Run told first last → ShowsBank last (unit_of s) (bytes_read s) }
 {}
 
 /// A session that looks whether a bank suits, or reads it, changes no memory and enables no unit.
@@ -119,44 +130,60 @@ pub fn readers_are_quiet()
 /// is newly enabled.
 pub fn sessions_touch_their_places_alone()
     ensures opened { (told : List Exchange) (first last : World) (unit : ℕ) (updates : List (ℕ × ℕ)) (ask : Ask)
-        → OnlyEnabled unit first → Run told first last → Wants unit (unlock updates) told ask → Touches (writes_of updates) unit first last }
+        → OnlyEnabled unit first → Run told first last → Wants unit (unlock updates) told ask
+        → Touches (writes_of updates) unit first last }
     ensures closing { (told : List Exchange) (first last : World) (unit : ℕ) (ask : Ask)
-        → OnlyEnabled unit first → Run told first last → Wants unit (close Verdict.Closed Verdict.NotClosed) told ask → Touches ((2, 0xFF) ∷ []) unit first last }
+        → OnlyEnabled unit first → Run told first last → Wants unit (close Verdict.Closed Verdict.NotClosed) told ask
+        → Touches ((2, 0xFF) ∷ []) unit first last }
     ensures enabled { (told : List Exchange) (first last : World) (unit : ℕ) (updates : List (ℕ × ℕ)) (ask : Ask)
-        → OnlyEnabled unit first → Run told first last → Wants unit (unlock updates) told ask ⊎ Wants unit (close Verdict.Closed Verdict.NotClosed) told ask
+        → OnlyEnabled unit first → Run told first last
+        → Wants unit (unlock updates) told ask ⊎ Wants unit (close Verdict.Closed Verdict.NotClosed) told ask
         → OnlyEnabled unit last }
 {}
 
-/// A session sends only frames that set registers, ask its unit or read it; one that writes enables its unit besides, and
-/// writes a byte of its own where the unit was made sure to have selected its location. A fresh or a reading one writes
-/// nothing.
+/// A session sends only frames that set registers, ask its unit or read it; one that writes enables its unit besides,
+/// and writes a byte of its own where the unit was made sure to have selected its location. A fresh or a reading one
+/// writes nothing.
 pub fn wanted_frames_are_guarded()
-    ensures opened { (told : List Exchange) (unit : ℕ) (updates : List (ℕ × ℕ)) (frame : Frame) → Wants unit (unlock updates) told (Ask.Send frame) → IsGuarded (writes_of updates) unit told frame }
-    ensures fresh { (told : List Exchange) (unit : ℕ) (updates : List (ℕ × ℕ)) (frame : Frame) → Wants unit (read_length updates) told (Ask.Send frame) → IsGuarded [] unit told frame }
-    ensures closing { (told : List Exchange) (unit : ℕ) (frame : Frame) → Wants unit (close Verdict.Closed Verdict.NotClosed) told (Ask.Send frame) → IsGuarded ((2, 0xFF) ∷ []) unit told frame }
-    ensures reading { (told : List Exchange) (unit : ℕ) (frame : Frame) → Wants unit read_all told (Ask.Send frame) → IsGuarded [] unit told frame }
+    ensures opened { (told : List Exchange) (unit : ℕ) (updates : List (ℕ × ℕ)) (frame : Frame)
+        → Wants unit (unlock updates) told (Ask.Send frame) → IsGuarded (writes_of updates) unit told frame }
+    ensures fresh { (told : List Exchange) (unit : ℕ) (updates : List (ℕ × ℕ)) (frame : Frame)
+        → Wants unit (read_length updates) told (Ask.Send frame) → IsGuarded [] unit told frame }
+    ensures closing { (told : List Exchange) (unit : ℕ) (frame : Frame)
+        → Wants unit (close Verdict.Closed Verdict.NotClosed) told (Ask.Send frame)
+        → IsGuarded ((2, 0xFF) ∷ []) unit told frame }
+    ensures reading { (told : List Exchange) (unit : ℕ) (frame : Frame) → Wants unit read_all told (Ask.Send frame)
+        → IsGuarded [] unit told frame }
 {}
 
 /// What the simulated bus does with exchanges is what its units may do.
 pub fn simulated_runs_are_runs()
-    ensures { (told : List Exchange) (first last : SimState) → SimRun told first last → Run told (world_of first.units) (world_of last.units) }
+    ensures { (told : List Exchange) (first last : SimState) → SimRun told first last
+        → Run told (world_of first.units) (world_of last.units) }
 {}
 
 /// On the simulated bus, where no fate refuses, no other unit is write-enabled, and the unit has
 /// the location to read or can write it, a try misses only by a loss to the unit.
 pub fn tries_miss_by_losses()
-    ensures { (at : ℕ) (step : Step) (unit : UnitState) (told : List Exchange) (first last : SimState) (run : SimRun told first last)
-        → IsAlone at unit first.units → CanDo step unit → Unrefused told first last run → Missed (step_lines at step) told → 1 ≤ losses at told first last run }
+    ensures { (at : ℕ) (step : Step) (unit : UnitState) (told : List Exchange) (first last : SimState)
+        (run : SimRun told first last)
+        → IsAlone at unit first.units → CanDo step unit → Unrefused told first last run
+        → Missed (step_lines at step) told → 1 ≤ losses at told first last run }
 {}
 
 /// With the same premises, a step misses no more often than its unit has losses, and with fewer of
 /// them than a step has tries it succeeds.
 pub fn steps_outlive_losses()
-    ensures misses { (at : ℕ) (step : Step) (unit : UnitState) (misses : ℕ) (told : List Exchange) (first last : SimState) (run : SimRun told first last)
-        → IsAlone at unit first.units → CanDo step unit → Unrefused told first last run → Misses (step_lines at step) misses told → misses ≤ losses at told first last run }
-    ensures succeeds { (at : ℕ) (step : Step) (unit : UnitState) (outcome : Option ℕ) (told : List Exchange) (first last : SimState) (run : SimRun told first last)
-        → IsAlone at unit first.units → CanDo step unit → Unrefused told first last run → losses at told first last run < most_tries
-        → Succeeds (step_lines at step) outcome told ⊎ Fails (step_lines at step) outcome told → Succeeds (step_lines at step) outcome told }
+    ensures misses { (at : ℕ) (step : Step) (unit : UnitState) (misses : ℕ) (told : List Exchange)
+        (first last : SimState) (run : SimRun told first last)
+        → IsAlone at unit first.units → CanDo step unit → Unrefused told first last run
+        → Misses (step_lines at step) misses told → misses ≤ losses at told first last run }
+    ensures succeeds { (at : ℕ) (step : Step) (unit : UnitState) (outcome : Option ℕ) (told : List Exchange)
+        (first last : SimState) (run : SimRun told first last)
+        → IsAlone at unit first.units → CanDo step unit → Unrefused told first last run
+        → losses at told first last run < most_tries
+        → Succeeds (step_lines at step) outcome told ⊎ Fails (step_lines at step) outcome told
+        → Succeeds (step_lines at step) outcome told }
 {}
 
 /// The limits and the exact counts of sessions, as numbers.
@@ -173,7 +200,8 @@ pub fn counts_are_these()
 /// How many frames an opened session took that ended Done.
 pub fn done_sessions_take_exactly()
     ensures { (told : List Exchange) (unit : ℕ) (updates : List (ℕ × ℕ))
-        → Wants unit (unlock updates) told (Ask.Ended Verdict.Done) → Took unit (unlock updates) told Verdict.Done (done_frames (length updates)) }
+        → Wants unit (unlock updates) told (Ask.Ended Verdict.Done)
+        → Took unit (unlock updates) told Verdict.Done (done_frames (length updates)) }
 {}
 
 /// How many frames the other sessions took that didn't give up; one that may open reads the format
@@ -181,17 +209,22 @@ pub fn done_sessions_take_exactly()
 /// frames of that write are all of missed tries, and within what those allow.
 pub fn sessions_take_exactly()
     ensures short { (told : List Exchange) (unit : ℕ) (updates : List (ℕ × ℕ))
-        → Wants unit (read_length updates) told (Ask.Ended Verdict.Short) → Took unit (read_length updates) told Verdict.Short read_frames }
+        → Wants unit (read_length updates) told (Ask.Ended Verdict.Short)
+        → Took unit (read_length updates) told Verdict.Short read_frames }
     ensures low { (told : List Exchange) (unit : ℕ) (updates : List (ℕ × ℕ)) → greatest updates < 0x13
-        → Wants unit (read_length updates) told (Ask.Ended Verdict.MayOpen) → Took unit (read_length updates) told Verdict.MayOpen read_frames }
+        → Wants unit (read_length updates) told (Ask.Ended Verdict.MayOpen)
+        → Took unit (read_length updates) told Verdict.MayOpen read_frames }
     ensures high { (told : List Exchange) (unit : ℕ) (updates : List (ℕ × ℕ)) → 0x13 ≤ greatest updates
-        → Wants unit (read_length updates) told (Ask.Ended Verdict.MayOpen) → Took unit (read_length updates) told Verdict.MayOpen (3 * read_frames) }
+        → Wants unit (read_length updates) told (Ask.Ended Verdict.MayOpen)
+        → Took unit (read_length updates) told Verdict.MayOpen (3 * read_frames) }
     ensures format { (told : List Exchange) (unit : ℕ) (updates : List (ℕ × ℕ))
-        → Wants unit (read_length updates) told (Ask.Ended Verdict.Format) → Took unit (read_length updates) told Verdict.Format (3 * read_frames) }
+        → Wants unit (read_length updates) told (Ask.Ended Verdict.Format)
+        → Took unit (read_length updates) told Verdict.Format (3 * read_frames) }
     ensures closed { (told : List Exchange) (unit : ℕ)
         → Wants unit (close Verdict.Closed Verdict.NotClosed) told (Ask.Ended Verdict.Closed)
         → Took unit (close Verdict.Closed Verdict.NotClosed) told Verdict.Closed (write_frames + read_frames) }
-    ensures read { (told : List Exchange) (unit : ℕ) → Wants unit read_all told (Ask.Ended Verdict.Read) → TookAll unit told }
+    ensures read { (told : List Exchange) (unit : ℕ) → Wants unit read_all told (Ask.Ended Verdict.Read)
+        → TookAll unit told }
 {}
 
 /// A session gives up only where the step that it had last failed, in each of its tries: a read of
@@ -202,66 +235,86 @@ pub fn sessions_give_up_late()
     ensures opened { (told : List Exchange) (unit : ℕ) (updates : List (ℕ × ℕ))
         → Wants unit (unlock updates) told (Ask.Ended Verdict.DoubtOpen) → EndsUnread unit 0x02 told }
     ensures closing { (told : List Exchange) (unit : ℕ)
-        → Wants unit (close Verdict.Closed Verdict.NotClosed) told (Ask.Ended Verdict.NotClosed) → EndsUnread unit 0x02 told }
+        → Wants unit (close Verdict.Closed Verdict.NotClosed) told (Ask.Ended Verdict.NotClosed)
+        → EndsUnread unit 0x02 told }
     ensures reading { (told : List Exchange) (unit : ℕ)
         → Wants unit read_all told (Ask.Ended Verdict.Silent) → (location : ℕ) × EndsUnread unit location told }
 {}
 
 /// Where a closing session ends as `NotClosed`, no checked read of its unit was answered since it began.
 pub fn unreached_units_were_not_read()
-    ensures { (told : List Exchange) (unit : ℕ) → Wants unit (close Verdict.Closed Verdict.NotClosed) told (Ask.Ended Verdict.NotClosed) → HasRead unit told → ⊥ }
+    ensures { (told : List Exchange) (unit : ℕ)
+        → Wants unit (close Verdict.Closed Verdict.NotClosed) told (Ask.Ended Verdict.NotClosed) → HasRead unit told
+        → ⊥ }
 {}
 
 /// A session that carries an order out ends in doubt only because a step failed in each of its tries,
 /// or because a checked read of the lock byte or of an update's location found another byte than
 /// must be there.
 pub fn doubts_have_a_cause()
-    ensures { (told : List Exchange) (unit : ℕ) (updates : List (ℕ × ℕ)) → Wants unit (unlock updates) told (Ask.Ended Verdict.Doubt)
+    ensures { (told : List Exchange) (unit : ℕ) (updates : List (ℕ × ℕ))
+        → Wants unit (unlock updates) told (Ask.Ended Verdict.Doubt)
         → HasFailed unit told ⊎ FoundAnother unit (unlock updates) (read_backs updates) told }
 {}
 
 /// On the simulated bus a checked write that succeeded has stored its byte and nothing else,
 /// whatever was lost or refused before.
 pub fn successful_writes_are_stored()
-    ensures { (at location byte : ℕ) (unit : UnitState) (outcome : Option ℕ) (told : List Exchange) (first last : SimState) → SimRun told first last
+    ensures { (at location byte : ℕ) (unit : UnitState) (outcome : Option ℕ) (told : List Exchange)
+        (first last : SimState)
+        → SimRun told first last
         → IsAlone at unit first.units → Succeeds (step_lines at (WriteTo location byte)) outcome told
-        → (now : UnitState) × IsAlone at now last.units × OnlyDiffers unit.bank1 location now.bank1 × (slice_get now.bank1.bytes location ≡ Some byte) }
+        → (now : UnitState) × IsAlone at now last.units × OnlyDiffers unit.bank1 location now.bank1
+        × (slice_get now.bank1.bytes location ≡ Some byte) }
 {}
 
 /// On the simulated bus a step leaves its unit alone at its address, whatever is lost or refused. A
 /// checked read leaves bank 1 as it was, and so does a checked write but for its location.
 pub fn steps_keep_the_bank()
-    ensures read { (at location : ℕ) (unit : UnitState) (outcome : Option ℕ) (told : List Exchange) (first last : SimState) → SimRun told first last
-        → IsAlone at unit first.units → Succeeds (step_lines at (ReadFrom location)) outcome told ⊎ Fails (step_lines at (ReadFrom location)) outcome told
+    ensures read { (at location : ℕ) (unit : UnitState) (outcome : Option ℕ) (told : List Exchange)
+        (first last : SimState)
+        → SimRun told first last
+        → IsAlone at unit first.units
+        → Succeeds (step_lines at (ReadFrom location)) outcome told
+        ⊎ Fails (step_lines at (ReadFrom location)) outcome told
         → (now : UnitState) × IsAlone at now last.units × (now.bank1 ≡ unit.bank1) }
-    ensures write { (at location byte : ℕ) (unit : UnitState) (outcome : Option ℕ) (told : List Exchange) (first last : SimState) → SimRun told first last
-        → IsAlone at unit first.units → Succeeds (step_lines at (WriteTo location byte)) outcome told ⊎ Fails (step_lines at (WriteTo location byte)) outcome told
+    ensures write { (at location byte : ℕ) (unit : UnitState) (outcome : Option ℕ) (told : List Exchange)
+        (first last : SimState)
+        → SimRun told first last
+        → IsAlone at unit first.units
+        → Succeeds (step_lines at (WriteTo location byte)) outcome told
+        ⊎ Fails (step_lines at (WriteTo location byte)) outcome told
         → (now : UnitState) × IsAlone at now last.units × OnlyDiffers unit.bank1 location now.bank1 }
 {}
 
 /// Where the units are at different addresses and no other is enabled, the unit at an address is
 /// alone.
 pub fn apart_units_are_alone()
-    ensures { (at : ℕ) (units : List UnitState) (gear : Gear) → AreApart units → OnlyEnabled at (world_of units) → world_of units at ≡ Some gear
+    ensures { (at : ℕ) (units : List UnitState) (gear : Gear) → AreApart units → OnlyEnabled at (world_of units)
+        → world_of units at ≡ Some gear
         → (unit : UnitState) × IsAlone at unit units × (gear_of unit ≡ gear) }
 {}
 
 /// After what it was told, a session with a plan wants one thing alone.
 pub fn wants_are_determined()
-    ensures { (told : List Exchange) (unit : ℕ) (plan : Plan) (one other : Ask) → Wants unit plan told one → Wants unit plan told other → one ≡ other }
+    ensures { (told : List Exchange) (unit : ℕ) (plan : Plan) (one other : Ask) → Wants unit plan told one
+        → Wants unit plan told other → one ≡ other }
 {}
 
 /// Each frame that a session was told of was the one that it wanted.
 pub fn each_frame_was_wanted()
-    ensures { (told : List Exchange) (x : Exchange) (unit : ℕ) (plan : Plan) (ask : Ask) → Wants unit plan (x ∷ told) ask → Wants unit plan told (Ask.Send x.frame) }
+    ensures { (told : List Exchange) (x : Exchange) (unit : ℕ) (plan : Plan) (ask : Ask)
+        → Wants unit plan (x ∷ told) ask → Wants unit plan told (Ask.Send x.frame) }
 {}
 
 /// The misses among exchanges are those of the tries of the session's steps, and a step that failed
 /// missed as often as it has tries.
 pub fn misses_are_those_of_the_tries()
     ensures failed { (unit : ℕ) (told : List Exchange) → HasFailed unit told → most_tries ≤ misses_in told }
-    ensures unread { (unit location : ℕ) (told : List Exchange) → EndsUnread unit location told → most_tries ≤ misses_in told }
-    ensures walk { (unit : ℕ) (plan : Plan) (outcomes : List (Option ℕ)) (told : List Exchange) (end : Plan) (walk : Walk unit plan outcomes told end)
+    ensures unread { (unit location : ℕ) (told : List Exchange) → EndsUnread unit location told
+        → most_tries ≤ misses_in told }
+    ensures walk { (unit : ℕ) (plan : Plan) (outcomes : List (Option ℕ)) (told : List Exchange) (end : Plan)
+        (walk : Walk unit plan outcomes told end)
         → misses_in told ≡ misses_of unit plan outcomes told end walk }
 {}
 
@@ -270,14 +323,20 @@ pub fn misses_are_those_of_the_tries()
 /// the unit loses: a fresh one ends as the bytes of bank 1 say, an opened one as `Done` if each of
 /// its locations is there and none is fixed, a closing one as `Closed`, and a reading one as `Read`.
 pub fn spared_sessions_succeed()
-    ensures fresh { (at : ℕ) (unit : UnitState) (updates : List (ℕ × ℕ)) (verdict : Verdict) (told : List Exchange) (first last : SimState) (spared : Spared at unit told first last)
+    ensures fresh { (at : ℕ) (unit : UnitState) (updates : List (ℕ × ℕ)) (verdict : Verdict) (told : List Exchange)
+        (first last : SimState) (spared : Spared at unit told first last)
         → Wants at (read_length updates) told (Ask.Ended verdict)
         → (verdict ≡ found_verdict unit.bank1.bytes updates) × MissesByLosses at unit told first last spared }
-    ensures opened { (at : ℕ) (unit : UnitState) (updates : List (ℕ × ℕ)) (verdict : Verdict) (told : List Exchange) (first last : SimState) (spared : Spared at unit told first last)
+    ensures opened { (at : ℕ) (unit : UnitState) (updates : List (ℕ × ℕ)) (verdict : Verdict) (told : List Exchange)
+        (first last : SimState) (spared : Spared at unit told first last)
         → RisesAbove 0 updates → TakesAll unit.bank1 updates → Wants at (unlock updates) told (Ask.Ended verdict)
         → (verdict ≡ Verdict.Done) × MissesByLosses at unit told first last spared }
-    ensures closing { (at : ℕ) (unit : UnitState) (verdict : Verdict) (told : List Exchange) (first last : SimState) (spared : Spared at unit told first last)
-        → Wants at (close Verdict.Closed Verdict.NotClosed) told (Ask.Ended verdict) → (verdict ≡ Verdict.Closed) × MissesByLosses at unit told first last spared }
-    ensures reading { (at : ℕ) (unit : UnitState) (verdict : Verdict) (told : List Exchange) (first last : SimState) (spared : Spared at unit told first last)
-        → Wants at read_all told (Ask.Ended verdict) → (verdict ≡ Verdict.Read) × MissesByLosses at unit told first last spared }
+    ensures closing { (at : ℕ) (unit : UnitState) (verdict : Verdict) (told : List Exchange) (first last : SimState)
+        (spared : Spared at unit told first last)
+        → Wants at (close Verdict.Closed Verdict.NotClosed) told (Ask.Ended verdict)
+        → (verdict ≡ Verdict.Closed) × MissesByLosses at unit told first last spared }
+    ensures reading { (at : ℕ) (unit : UnitState) (verdict : Verdict) (told : List Exchange) (first last : SimState)
+        (spared : Spared at unit told first last)
+        → Wants at read_all told (Ask.Ended verdict)
+        → (verdict ≡ Verdict.Read) × MissesByLosses at unit told first last spared }
 {}

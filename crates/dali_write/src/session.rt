@@ -1,14 +1,15 @@
-ghost use Rattle.std.specs.Prelude.{◌≡◌, ◌∷◌, ◌≤◌, ◌<◌, ◌+◌, ◌*◌, [], List, ℕ, Option, IsSome, IsNone, IfSome, IfOk, length};
+ghost use Rattle.std.specs.Prelude.{◌≡◌, ◌∷◌, ◌≤◌, ◌<◌, ◌+◌, ◌*◌, [], List, ℕ, Option, IsSome, IsNone, IfSome, IfOk};
+ghost use Rattle.std.specs.Prelude.{drop, length, slice_get};
 ghost use Rattle.dali_frame.specs.declared.forward.Frame.{Frame};
 ghost use Rattle.dali_frame.specs.Frame.{IsProper};
 ghost use Rattle.dali_write.specs.Exchanges.{Exchange};
 ghost use Rattle.dali_write.specs.Lines.{Meets, line, step_lines};
 ghost use Rattle.dali_write.specs.Plans.{goes_on};
-ghost use Rattle.dali_write.specs.Tries.{most_tries};
+ghost use Rattle.dali_write.specs.Tries.{most_tries, plan_lines, GoesOn};
 ghost use Rattle.dali_write.specs.declared.line.Wish.{Wish};
 ghost use Rattle.dali_write.specs.declared.ask.Verdict.{Verdict};
 ghost use Rattle.dali_write.specs.declared.stage.Job.{Job};
-ghost use Rattle.dali_write.specs.Stages.{plan_of, order_of, plan_at, step_of};
+ghost use Rattle.dali_write.specs.Stages.{plan_of, order_for, plan_at, step_of};
 ghost use Rattle.dali_write.specs.Found.{kept_after};
 ghost use Rattle.dali_write.specs.FramesLeft.{limit_at};
 ghost use Rattle.dali_write.specs.Counts.{fresh_limit, opened_limit, closing_limit};
@@ -20,8 +21,8 @@ use arrayvec::ArrayVec;
 use dali_bank::Order;
 use dali_frame::Frame;
 
-// How many tries of a step may miss with another one to come.
-const MOST_MISSES: u8 = 7;
+// The most tries of a step.
+const MOST_TRIES: u8 = 8;
 
 /// A session with one unit (profile): it goes through a plan of checked reads and writes, frame by
 /// frame.
@@ -45,11 +46,13 @@ pub struct Session {
     // what a reading session has read so far
     bytes: ArrayVec<u8, 255>,
     ghost short: { unit ≤ 63 },
-    ghost few: { misses < 8 },
+    ghost few: { misses < most_tries },
+    ghost going: { GoesOn (plan_at job stage) (drop number (plan_lines unit (plan_at job stage))) },
 }
 
 impl Session {
-    ghost use Rattle.dali_write.specs.Told.{Told, unit_of, job_of, bytes_of, aim_of, line_of, frames_left, BeginsTry};
+    ghost use Rattle.dali_write.specs.Told.{Told, unit_of, job_of, bytes_read, aim_of, line_at_hand, frames_left};
+    ghost use Rattle.dali_write.specs.Told.{BeginsTry};
 
     /// Looks whether bank 1 of the order's unit suits the order: its last location, and the content
     /// format where the order writes from 13h on. Ends as `MayOpen`, `Short`, `Format` or `Silent`.
@@ -128,8 +131,8 @@ impl Session {
         match self.stage.step(&self.job) {
             Ok(step) => match step.line(self.unit, self.number) {
                 Some(line) => Ask::Send(line.frame),
-                // A step at hand has a next frame.
-                None => Ask::Ended(Verdict::Silent),
+                // a step at hand has a next frame
+                None => unreachable!(),
             },
             Err(verdict) => Ask::Ended(verdict),
         }
@@ -145,8 +148,8 @@ impl Session {
 
     /// The order of a fresh or an opened session.
     pub fn order(&self) -> Option<&Order>
-        ensures some { IfSome result (λ order. order_of (job_of self.now) ≡ Some order.now) }
-        ensures none { IsNone result → order_of (job_of self.now) ≡ None }
+        ensures some { IfSome result (λ order. order_for (job_of self.now) ≡ Some order.now) }
+        ensures none { IsNone result → order_for (job_of self.now) ≡ None }
     {
         match &self.job {
             Job::Fresh(order) | Job::Opened(order) => Some(order),
@@ -157,7 +160,7 @@ impl Session {
     /// What a reading session has read so far: bank 1 from location 00h on, at most 255 bytes. Empty
     /// for the others.
     pub fn bytes(&self) -> &[u8]
-        ensures { result.now ≡ bytes_of self.now }
+        ensures { result.now ≡ bytes_read self.now }
     {
         self.bytes.as_slice()
     }
@@ -170,7 +173,8 @@ impl Session {
         ensures told { (told : List Exchange) (frame : Frame) → aim_of self.old ≡ Ask.Send frame → Told told self.old
             → Told (record { frame = frame; answer = answer } ∷ told) self.new }
         ensures ended { (verdict : Verdict) → aim_of self.old ≡ Ask.Ended verdict → self.new ≡ self.old }
-        ensures falls { (frame : Frame) → aim_of self.old ≡ Ask.Send frame → frames_left self.new < frames_left self.old }
+        ensures falls { (frame : Frame) → aim_of self.old ≡ Ask.Send frame
+            → frames_left self.new < frames_left self.old }
     {
         if let Some(line) = self.line() {
             if line.wish.is_met(answer) {
@@ -183,27 +187,37 @@ impl Session {
 
     // The frame at hand, with the answer that it wants.
     fn line(&self) -> Option<Line>
-        ensures { result ≡ line_of self.now }
+        ensures { result ≡ line_at_hand self.now }
+    {
+        self.line_at(self.number)
+    }
+
+    // The frame of this number of the step at hand, with the answer that it wants.
+    fn line_at(&self, number: usize) -> Option<Line>
+        ensures { result ≡ slice_get (plan_lines self.now.unit (plan_at self.now.job self.now.stage)) number }
     {
         match self.stage.step(&self.job) {
-            Ok(step) => step.line(self.unit, self.number),
+            Ok(step) => step.line(self.unit, number),
             Err(_) => None,
         }
     }
 
     // The frame at hand got the answer that it wants.
     fn go_on(&mut self, frame: &Frame, answer: Option<u8>)
-        requires { IsSome (line_of self.old) }
+        requires { IsSome (line_at_hand self.old) }
         ensures unit { self.new.unit ≡ self.old.unit }
         ensures job { self.new.job ≡ self.old.job }
-        ensures told { (told : List Exchange) (wish : Wish) → line_of self.old ≡ Some (line frame.now wish) → Meets wish answer → Told told self.old
+        ensures told { (told : List Exchange) (wish : Wish) → line_at_hand self.old ≡ Some (line frame.now wish)
+            → Meets wish answer → Told told self.old
             → Told (record { frame = frame.now; answer = answer } ∷ told) self.new }
         ensures falls { frames_left self.new < frames_left self.old }
     {
-        self.byte = byte_after(frame, answer, self.byte);
-        self.number += 1;
-        if self.line().is_none() {
-            self.advance(self.byte);
+        let byte = byte_after(frame, answer, self.byte);
+        if self.line_at(self.number + 1).is_some() {
+            self.byte = byte;
+            self.number += 1;
+        } else {
+            self.advance(byte);
         }
     }
 
@@ -211,11 +225,12 @@ impl Session {
     fn miss(&mut self)
         ensures unit { self.new.unit ≡ self.old.unit }
         ensures job { self.new.job ≡ self.old.job }
-        ensures told { (told : List Exchange) (frame : Frame) (answer : Option ℕ) (wish : Wish) → line_of self.old ≡ Some (line frame wish) → ¬ Meets wish answer
+        ensures told { (told : List Exchange) (frame : Frame) (answer : Option ℕ) (wish : Wish)
+            → line_at_hand self.old ≡ Some (line frame wish) → ¬ Meets wish answer
             → Told told self.old → Told (record { frame = frame; answer = answer } ∷ told) self.new }
-        ensures falls { IsSome (line_of self.old) → frames_left self.new < frames_left self.old }
+        ensures falls { IsSome (line_at_hand self.old) → frames_left self.new < frames_left self.old }
     {
-        if self.misses < MOST_MISSES {
+        if self.misses + 1 < MOST_TRIES {
             self.misses += 1;
             self.number = 0;
             self.byte = None;
@@ -231,8 +246,10 @@ impl Session {
         ensures plan { plan_at self.new.job self.new.stage ≡ goes_on (plan_at self.old.job self.old.stage) outcome }
         ensures begins { BeginsTry self.new }
         ensures limit { IfOk (step_of (plan_at self.old.job self.old.stage)) (λ step.
-            limit_at self.new.job self.new.stage + most_tries * length (step_lines self.old.unit step) ≤ limit_at self.old.job self.old.stage) }
-        ensures bytes { length self.old.bytes.items < 255 → self.new.bytes.items ≡ kept_after self.old.job self.old.bytes.items outcome }
+            limit_at self.new.job self.new.stage + most_tries * length (step_lines self.old.unit step)
+            ≤ limit_at self.old.job self.old.stage) }
+        ensures bytes { length self.old.bytes.items < 255
+            → self.new.bytes.items ≡ kept_after self.old.job self.old.bytes.items outcome }
     {
         let stage = self.stage.next(&self.job, outcome);
         keep_byte(&mut self.bytes, &self.job, outcome);

@@ -4,7 +4,7 @@ ghost use Rattle.dali_write.specs.Plans.{greatest, goes_on, either_way, give_up}
 ghost use Rattle.dali_write.specs.Tries.{most_tries};
 ghost use Rattle.dali_write.specs.declared.stage.Job.{Job};
 ghost use Rattle.dali_write.specs.declared.stage.Stage.TheVariants.{ReadOn};
-ghost use Rattle.dali_write.specs.Stages.{plan_at, step_of, updates_of};
+ghost use Rattle.dali_write.specs.Stages.{plan_at, step_of, updates_for};
 ghost use Rattle.dali_write.specs.FramesLeft.{limit_at, read_limit, close_limit};
 
 use crate::ask::Verdict;
@@ -23,7 +23,7 @@ pub(crate) enum Job {
 impl Job {
     // The updates of its order.
     pub(crate) fn updates(&self) -> &[(u8, u8)]
-        ensures { result.now ≡ updates_of self.now }
+        ensures { result.now ≡ updates_for self.now }
     {
         match self {
             Job::Fresh(order) | Job::Opened(order) => order.updates(),
@@ -129,7 +129,8 @@ impl Stage {
 
 // What follows the read of the last location.
 fn judge_length(updates: &[(u8, u8)], outcome: Option<u8>) -> Stage
-    ensures plan { (job : Job) → updates_of job ≡ updates.now → plan_at job result ≡ goes_on (plan_at job Stage.ReadLength) outcome }
+    ensures plan { (job : Job) → updates_for job ≡ updates.now
+        → plan_at job result ≡ goes_on (plan_at job Stage.ReadLength) outcome }
     ensures limit { (job : Job) → limit_at job result ≤ 2 * read_limit }
 {
     let Some(last) = outcome else {
@@ -183,7 +184,9 @@ fn after_write(outcome: Option<u8>, next: Stage) -> Stage
 
 // What follows a read in an opened unit, where the byte has to be this one.
 fn after_read(outcome: Option<u8>, byte: u8, next: Stage) -> Stage
-    ensures plan { (job : Job) → plan_at job result ≡ either_way give_up (λ found. if found == byte then plan_at job next else give_up) outcome }
+    ensures plan { (job : Job)
+        → plan_at job result
+        ≡ either_way give_up (λ found. if found == byte then plan_at job next else give_up) outcome }
     ensures limit { (job : Job) → close_limit ≤ limit_at job next → limit_at job result ≤ limit_at job next }
 {
     match outcome {
@@ -196,7 +199,8 @@ fn after_read(outcome: Option<u8>, byte: u8, next: Stage) -> Stage
 #[tactic(auto, using(crate::proofs::LineLemmas::read_on_next))]
 fn read_next(location: u8, last: u8, outcome: Option<u8>) -> Stage
     ensures plan { (job : Job) → plan_at job result ≡ goes_on (plan_at job (Stage.ReadOn location last)) outcome }
-    ensures limit { (job : Job) → location ≤ last → limit_at job result + read_limit ≤ limit_at job (Stage.ReadOn location last) }
+    ensures limit { (job : Job) → location ≤ last
+        → limit_at job result + read_limit ≤ limit_at job (Stage.ReadOn location last) }
 {
     if location > last {
         return Stage::Over(Verdict::Read);

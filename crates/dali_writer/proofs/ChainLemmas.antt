@@ -20,24 +20,32 @@ use Rattle.dali_trace.specs.WhenKept.{WhenKept}
 use Rattle.dali_laws.proofs.MomentLemmas.{every_moment, each_kept}
 
 -- a longer trace that is written oldest first describes the same writer
-pub onto : (start : Start) (w : Held) (trace new : List Happening) (next : Happening) → new ≡ trace ++ next ∷ [] → Describes start (next ∷ reverse trace) w → Describes start (reverse new) w
-onto start w trace new next is d = subst (λ (t : List Happening). Describes start t w) (sym (ap reverse is ∙ reverse-append trace (next ∷ []))) d
+pub onto : (start : Start) (w : Held) (trace new : List Happening) (next : Happening) → new ≡ trace ++ next ∷ []
+    → Describes start (next ∷ reverse trace) w → Describes start (reverse new) w
+onto start w trace new next is d =
+    subst (λ (t : List Happening). Describes start t w) (sym (ap reverse is ∙ reverse-append trace (next ∷ []))) d
 
 -- and one that is longer by a record and a stop
-pub onto_stop : (start : Start) (w : Held) (trace mid new : List Happening) (entry : Record) → mid ≡ trace ++ Kept entry ∷ [] → new ≡ mid ++ Stopped ∷ []
+pub onto_stop : (start : Start) (w : Held) (trace mid new : List Happening) (entry : Record)
+    → mid ≡ trace ++ Kept entry ∷ [] → new ≡ mid ++ Stopped ∷ []
     → Describes start (Stopped ∷ Kept entry ∷ reverse trace) w → Describes start (reverse new) w
 onto_stop start w trace mid new entry one two d =
     onto start w mid new Stopped two
-    (subst (λ (t : List Happening). Describes start (Stopped ∷ t) w) (sym (ap reverse one ∙ reverse-append trace (Kept entry ∷ []))) d)
+    (subst (λ (t : List Happening). Describes start (Stopped ∷ t) w)
+    (sym (ap reverse one ∙ reverse-append trace (Kept entry ∷ []))) d)
 
 -- the same of whatever is so of the happenings
-pub all_onto : (P : List Happening → Type 0) (trace new : List Happening) (next : Happening) → new ≡ trace ++ next ∷ [] → P (next ∷ reverse trace) → P (reverse new)
+pub all_onto : (P : List Happening → Type 0) (trace new : List Happening) (next : Happening) → new ≡ trace ++ next ∷ []
+    → P (next ∷ reverse trace) → P (reverse new)
 all_onto P trace new next is so = subst P (sym (ap reverse is ∙ reverse-append trace (next ∷ []))) so
 
-pub all_onto_stop : (P : List Happening → Type 0) (trace mid new : List Happening) (entry : Record) → mid ≡ trace ++ Kept entry ∷ [] → new ≡ mid ++ Stopped ∷ []
+pub all_onto_stop : (P : List Happening → Type 0) (trace mid new : List Happening) (entry : Record)
+    → mid ≡ trace ++ Kept entry ∷ [] → new ≡ mid ++ Stopped ∷ []
     → P (Stopped ∷ Kept entry ∷ reverse trace) → P (reverse new)
 all_onto_stop P trace mid new entry one two so =
-    subst P (sym (ap reverse two ∙ reverse-append mid (Stopped ∷ []) ∙ ap (λ (t : List Happening). Stopped ∷ t) (ap reverse one ∙ reverse-append trace (Kept entry ∷ [])))) so
+    subst P (sym (ap reverse two ∙ reverse-append mid (Stopped ∷ [])
+    ∙ ap (λ (t : List Happening). Stopped ∷ t) (ap reverse one ∙ reverse-append trace (Kept entry ∷ []))))
+    so
 
 module _ {S : Type 0} (world : S → World) (step : S → BusEvent → S → Type 0) where
   -- a chain before anything happens
@@ -45,13 +53,16 @@ module _ {S : Type 0} (world : S → World) (step : S → BusEvent → S → Typ
   starts first = record { states = []; steps = refl }
 
   -- a chain goes on, where the trace is written oldest first
-  pub pushed : (first mid last : S) (trace new : List Happening) (next : Happening) → new ≡ trace ++ next ∷ [] → Chain (MovesBy step) first (reverse trace) mid
+  pub pushed : (first mid last : S) (trace new : List Happening) (next : Happening) → new ≡ trace ++ next ∷ []
+      → Chain (MovesBy step) first (reverse trace) mid
       → MovesBy step mid next last → Chain (MovesBy step) first (reverse new) last
   pushed first mid last trace new next is chain moved =
-      subst (λ (t : List Happening). Chain (MovesBy step) first t last) (sym (ap reverse is ∙ reverse-append trace (next ∷ [])))
+      subst (λ (t : List Happening). Chain (MovesBy step) first t last)
+      (sym (ap reverse is ∙ reverse-append trace (next ∷ [])))
       (record { states = mid ∷ chain.states; steps = (moved, chain.steps) })
 
-  module _ (allowed : (old : S) (event : BusEvent) (new : S) → step old event new → WorldStep (world old) event (world new)) where
+  module _ (allowed : (old : S) (event : BusEvent) (new : S) → step old event new
+      → WorldStep (world old) event (world new)) where
     moves : (old : S) (next : Happening) (new : S) → MovesBy step old next new → Moves (world old) next (world new)
     moves old (Asked order) new same = ap world same
     moves old (Answered id reply) new same = ap world same
@@ -64,9 +75,11 @@ module _ {S : Type 0} (world : S → World) (step : S → BusEvent → S → Typ
     worlds first last [] [] same = ap world same
     worlds first last [] (state ∷ states) wrong = absurd wrong
     worlds first last (next ∷ past) [] wrong = absurd wrong
-    worlds first last (next ∷ past) (state ∷ states) chain = (moves state next last chain.0, worlds first state past states chain.1)
+    worlds first last (next ∷ past) (state ∷ states) chain =
+        (moves state next last chain.0, worlds first state past states chain.1)
 
-    moments : (P : List Happening → World → Type 0) (last : S) (past : List Happening) (states : List S) → AtEachMoment P past (world last) (map world states)
+    moments : (P : List Happening → World → Type 0) (last : S) (past : List Happening) (states : List S)
+        → AtEachMoment P past (world last) (map world states)
         → AtEachMoment (λ moment now. P moment (world now)) past last states
     moments P last [] [] here = here
     moments P last [] (state ∷ states) wrong = absurd wrong
@@ -74,13 +87,15 @@ module _ {S : Type 0} (world : S → World) (step : S → BusEvent → S → Typ
     moments P last (next ∷ past) (state ∷ states) each = (each.0, moments P state past states each.1)
 
     -- each moment of a chain along a legal trace is right
-    pub right : (limit : ℕ) (first last : S) (past : List Happening) → Legal (fresh limit) past → Chain (MovesBy step) first past last
+    pub right : (limit : ℕ) (first last : S) (past : List Happening) → Legal (fresh limit) past
+        → Chain (MovesBy step) first past last
         → LeadsRight world step limit first past last
     right limit first last past legal chain = record {
       states = chain.states;
       chain = chain.steps;
       kept = moments (WhenKept (fresh limit)) last past chain.states
-          (each_kept (fresh limit) (world first) past (world last) (map world chain.states) legal (worlds first last past chain.states chain.steps)).1;
+          (each_kept (fresh limit) (world first) past (world last) (map world chain.states) legal
+          (worlds first last past chain.states chain.steps)).1;
       right = λ none. moments (IsRight (world first) (fresh limit)) last past chain.states (each none);
     } where
       fits : Fits (world first) [] (world first)
@@ -95,7 +110,13 @@ module _ {S : Type 0} (world : S → World) (step : S → BusEvent → S → Typ
       only : NoneEnabled (world first) → OnlyNamed [] (world first)
       only none address on = let off = none address in cc
 
-      each : NoneEnabled (world first) → AtEachMoment (IsRight (world first) (fresh limit)) past (world last) (map world chain.states)
+      each : NoneEnabled (world first)
+          → AtEachMoment (IsRight (world first) (fresh limit)) past (world last) (map world chain.states)
       each none =
           every_moment (world first) (fresh limit) (world first) past (world last) (map world chain.states)
-          (record { legal = legal; fits = fits; only = only none; chain = worlds first last past chain.states chain.steps })
+          (record {
+            legal = legal;
+            fits = fits;
+            only = only none;
+            chain = worlds first last past chain.states chain.steps;
+          })

@@ -1,5 +1,5 @@
 -- Each step of a writer leaves a trace that keeps to the plans.
-use Rattle.std.proofs.Common.{◌≡◌, sym, ap, ◌∙◌, subst, ℕ, List, [], ◌∷◌, Option}
+use Rattle.std.proofs.Common.{refl, ◌≡◌, sym, ap, ◌∙◌, subst, ℕ, List, [], ◌∷◌, Option}
 use Rattle.dali_frame.specs.declared.forward.Frame.{Frame}
 use Rattle.dali_bank.specs.Order.{Contents}
 use Rattle.dali_journal.specs.declared.record.Record.{Record}
@@ -29,7 +29,8 @@ use Rattle.dali_trace.specs.Replies.{IsKnownReply}
 use Rattle.dali_writer.specs.Phases.{want_of, check_record, write_code}
 use Rattle.dali_writer.specs.Held.{Held, IsReady, IsAfterCheck, IsFirst, IsResumed}
 use Rattle.dali_writer.specs.Describes.{Describes}
-use Rattle.dali_trace.specs.ByPlan.{told_in, Asks, EndsIn, IsPlanned}
+use Rattle.dali_trace.specs.Grounds.{EndsIn}
+use Rattle.dali_trace.specs.ByPlan.{told_in, Asks, IsPlanned}
 use Rattle.dali_writer.specs.Follows.{WasTold, Follows}
 use Rattle.dali_writer.proofs.StepLemmas.{stands_so}
 use Rattle.dali_writer.proofs.SayLemmas.{no_check, no_write, blocks, not_closed}
@@ -37,77 +38,103 @@ use Rattle.dali_writer.proofs.KeepLemmas.{same_entry, closing_keeps}
 
 -- a writer that goes on from its journal
 pub resumed_told : (stands : Standing) (phase : Phase) → IsResumed stands phase → WasTold phase []
-resumed_told (standings.Began order) phase (s, is, fresh, is_told, valid) = subst (λ (p : Phase). WasTold p []) (sym is) is_told
-resumed_told (standings.Opened order) phase (s, is, opened, is_told, valid) = subst (λ (p : Phase). WasTold p []) (sym is) is_told
+resumed_told (standings.Began order) phase (s, is, fresh, is_told, valid) =
+    subst (λ (p : Phase). WasTold p []) (sym is) is_told
+resumed_told (standings.Opened order) phase (s, is, opened, is_told, valid) =
+    subst (λ (p : Phase). WasTold p []) (sym is) is_told
 resumed_told standings.Idle phase is = subst (λ (p : Phase). WasTold p []) (sym is) tt
 resumed_told (standings.Left unit) phase is = subst (λ (p : Phase). WasTold p []) (sym is) tt
 
 -- an order that is taken
 pub first_told : (stands : Standing) (order : Contents) (phase : Phase) → IsFirst stands order phase → WasTold phase []
-first_told (standings.Left unit) order phase (s, is, same, closing, is_told) = subst (λ (p : Phase). WasTold p []) (sym is) is_told
+first_told (standings.Left unit) order phase (s, is, same, closing, is_told) =
+    subst (λ (p : Phase). WasTold p []) (sym is) is_told
 first_told standings.Idle order phase is = subst (λ (p : Phase). WasTold p []) (sym is) tt
 first_told (standings.Began other) order phase is = subst (λ (p : Phase). WasTold p []) (sym is) tt
 first_told (standings.Opened other) order phase is = subst (λ (p : Phase). WasTold p []) (sym is) tt
 
-pub taken_follows : (start : Start) (past : List Happening) (old new : Held) (order : Contents) (stands : Standing) → Follows start past old → IsFirst stands order new.phase
+pub taken_follows : (start : Start) (past : List Happening) (old new : Held) (order : Contents) (stands : Standing)
+    → Follows start past old → IsFirst stands order new.phase
     → Follows start (Answered order.id replies.Taken ∷ Asked order ∷ past) new
-taken_follows start past old new order stands f first = record { planned = ((f.planned, tt), tt); told = first_told stands order new.phase first }
+taken_follows start past old new order stands f first =
+    record { planned = ((f.planned, tt), tt); told = first_told stands order new.phase first }
 
 -- other replies
-pub known_follows : (start : Start) (past : List Happening) (w : Held) (order : Contents) (kept : KeptOf) (reply : Reply) → Follows start past w → IsKnownReply order kept reply
+pub known_follows : (start : Start) (past : List Happening) (w : Held) (order : Contents) (kept : KeptOf)
+    (reply : Reply)
+    → Follows start past w → IsKnownReply order kept reply
     → Follows start (Answered order.id reply ∷ Asked order ∷ past) w
-known_follows start past w order kept (replies.Kept code) f known = record { planned = ((f.planned, tt), tt); told = f.told }
-known_follows start past w order kept replies.IdReused f known = record { planned = ((f.planned, tt), tt); told = f.told }
+known_follows start past w order kept (replies.Kept code) f known =
+    record { planned = ((f.planned, tt), tt); told = f.told }
+known_follows start past w order kept replies.IdReused f known =
+    record { planned = ((f.planned, tt), tt); told = f.told }
 known_follows start past w order kept _ f known = absurd known
 
 -- a session is told the answer to the frame that it wanted
-pub checks_follow : (start : Start) (past : List Happening) (journal : JournalState) (order : Contents) (s next : Session) (frame : Frame) (answer : Option ℕ)
-    → Describes start past (record { journal = journal; phase = Checks order s }) → Follows start past (record { journal = journal; phase = Checks order s })
-    → IsReady (Checks order s) journal → aim_of s ≡ asks.Send frame → ((told : List Exchange) → Told told s → Told (record { frame = frame; answer = answer } ∷ told) next)
+follows_on : (start : Start) (past : List Happening) (journal : JournalState) (old next : Phase) (stands : Standing)
+    (frame : Frame) (answer : Option ℕ)
+    → Follows start past (record { journal = journal; phase = old }) → standing_at start past ≡ stands
+    → Asks stands (told_in past) (asks.Send frame)
+    → WasTold next (record { frame = frame; answer = answer } ∷ told_in past)
+    → Follows start (Sent frame answer ∷ past) (record { journal = journal; phase = next })
+follows_on start past journal old next stands frame answer f at asked told =
+    record { planned = (f.planned, rw at asked); told = told }
+
+pub checks_follow : (start : Start) (past : List Happening) (journal : JournalState) (order : Contents)
+    (s next : Session) (frame : Frame) (answer : Option ℕ)
+    → Describes start past (record { journal = journal; phase = Checks order s })
+    → Follows start past (record { journal = journal; phase = Checks order s })
+    → IsReady (Checks order s) journal → aim_of s ≡ asks.Send frame
+    → ((told : List Exchange) → Told told s → Told (record { frame = frame; answer = answer } ∷ told) next)
     → Follows start (Sent frame answer ∷ past) (record { journal = journal; phase = Checks order next })
 checks_follow start past journal order s next frame answer d f ready aim on =
-    let asked : Asks (standings.Began order) (told_in past) (asks.Send frame) = fresh_wants order (told_in past) s (asks.Send frame) ready.1 f.told aim in
-    record { planned = (f.planned, rw (stands_so start past _ _ d ready.0) asked); told = on (told_in past) f.told }
+    follows_on start past journal (Checks order s) (Checks order next) (standings.Began order) frame answer f
+    (stands_so start past _ _ d ready.0)
+    (fresh_wants order (told_in past) s (asks.Send frame) ready.1 f.told aim) (on (told_in past) f.told)
 
-pub writes_follow : (start : Start) (past : List Happening) (journal : JournalState) (order : Contents) (s next : Session) (frame : Frame) (answer : Option ℕ)
-    → Describes start past (record { journal = journal; phase = Writes order s }) → Follows start past (record { journal = journal; phase = Writes order s })
-    → IsReady (Writes order s) journal → aim_of s ≡ asks.Send frame → ((told : List Exchange) → Told told s → Told (record { frame = frame; answer = answer } ∷ told) next)
+pub writes_follow : (start : Start) (past : List Happening) (journal : JournalState) (order : Contents)
+    (s next : Session) (frame : Frame) (answer : Option ℕ)
+    → Describes start past (record { journal = journal; phase = Writes order s })
+    → Follows start past (record { journal = journal; phase = Writes order s })
+    → IsReady (Writes order s) journal → aim_of s ≡ asks.Send frame
+    → ((told : List Exchange) → Told told s → Told (record { frame = frame; answer = answer } ∷ told) next)
     → Follows start (Sent frame answer ∷ past) (record { journal = journal; phase = Writes order next })
 writes_follow start past journal order s next frame answer d f ready aim on =
-    let asked : Asks (standings.Opened order) (told_in past) (asks.Send frame) = opened_wants order (told_in past) s (asks.Send frame) ready.1 f.told aim in
-    record { planned = (f.planned, rw (stands_so start past _ _ d ready.0) asked); told = on (told_in past) f.told }
+    follows_on start past journal (Writes order s) (Writes order next) (standings.Opened order) frame answer f
+    (stands_so start past _ _ d ready.0)
+    (opened_wants order (told_in past) s (asks.Send frame) ready.1 f.told aim) (on (told_in past) f.told)
 
-pub closes_follow : (start : Start) (past : List Happening) (journal : JournalState) (order : Contents) (s next : Session) (frame : Frame) (answer : Option ℕ)
-    → Describes start past (record { journal = journal; phase = Closes order s }) → Follows start past (record { journal = journal; phase = Closes order s })
-    → IsReady (Closes order s) journal → aim_of s ≡ asks.Send frame → ((told : List Exchange) → Told told s → Told (record { frame = frame; answer = answer } ∷ told) next)
+pub closes_follow : (start : Start) (past : List Happening) (journal : JournalState) (order : Contents)
+    (s next : Session) (frame : Frame) (answer : Option ℕ)
+    → Describes start past (record { journal = journal; phase = Closes order s })
+    → Follows start past (record { journal = journal; phase = Closes order s })
+    → IsReady (Closes order s) journal → aim_of s ≡ asks.Send frame
+    → ((told : List Exchange) → Told told s → Told (record { frame = frame; answer = answer } ∷ told) next)
     → Follows start (Sent frame answer ∷ past) (record { journal = journal; phase = Closes order next })
 closes_follow start past journal order s next frame answer d f ready aim on =
-    let asked : Asks (standings.Left (unit_of s)) (told_in past) (asks.Send frame) = closing_wants (unit_of s) (told_in past) s (asks.Send frame) ready.1 f.told aim in
-    record { planned = (f.planned, rw (stands_so start past _ _ d ready.0) asked); told = on (told_in past) f.told }
+    follows_on start past journal (Closes order s) (Closes order next) (standings.Left (unit_of s)) frame answer f
+    (stands_so start past _ _ d ready.0)
+    (closing_wants (unit_of s) (told_in past) s (asks.Send frame) ready.1 f.told aim) (on (told_in past) f.told)
 
 -- records
 
-pub begun_follows : (start : Start) (past : List Happening) (journal new : JournalState) (old : Phase) (order : Contents) (s : Session) (entry : Record)
-    → Begins order ≡ old → Follows start past (record { journal = journal; phase = old }) → want_of old ≡ Keep entry → Told [] s
+pub begun_follows : (start : Start) (past : List Happening) (journal new : JournalState) (old : Phase)
+    (order : Contents) (s : Session) (entry : Record)
+    → Begins order ≡ old → Follows start past (record { journal = journal; phase = old }) → want_of old ≡ Keep entry
+    → Told [] s
     → Follows start (Kept entry ∷ past) (record { journal = new; phase = Checks order s })
 begun_follows start past journal new old order s entry at f want is_told =
     let wanted : want_of (Begins order) ≡ Keep entry = rw (← at) at want in
     rw (← same_entry (Began order) entry wanted) (record { planned = (f.planned, tt); told = is_told })
 
 after_told : (order : Contents) (verdict : Verdict) (next : Phase) → IsAfterCheck order verdict next → WasTold next []
-after_told order verdicts.MayOpen next (s, is, opened, is_told, valid, left) = subst (λ (p : Phase). WasTold p []) (sym is) is_told
-after_told order verdicts.Done next is = subst (λ (p : Phase). WasTold p []) (sym is) tt
-after_told order verdicts.Short next is = subst (λ (p : Phase). WasTold p []) (sym is) tt
-after_told order verdicts.Format next is = subst (λ (p : Phase). WasTold p []) (sym is) tt
-after_told order verdicts.Silent next is = subst (λ (p : Phase). WasTold p []) (sym is) tt
-after_told order verdicts.Doubt next is = subst (λ (p : Phase). WasTold p []) (sym is) tt
-after_told order verdicts.DoubtOpen next is = subst (λ (p : Phase). WasTold p []) (sym is) tt
-after_told order verdicts.Closed next is = subst (λ (p : Phase). WasTold p []) (sym is) tt
-after_told order verdicts.NotClosed next is = subst (λ (p : Phase). WasTold p []) (sym is) tt
-after_told order verdicts.Read next is = subst (λ (p : Phase). WasTold p []) (sym is) tt
+after_told order verdicts.MayOpen next (s, is, opened, is_told, valid, left) =
+    subst (λ (p : Phase). WasTold p []) (sym is) is_told
+after_told order _ next is = subst (λ (p : Phase). WasTold p []) (sym is) tt
 
 -- a record that follows the end of a session
-ended_planned : (start : Start) (past : List Happening) (stands : Standing) (verdict : Verdict) (entry : Record) → standing_at start past ≡ stands
+ended_planned : (start : Start) (past : List Happening) (stands : Standing) (verdict : Verdict) (entry : Record)
+    → standing_at start past ≡ stands
     → Asks stands (told_in past) (asks.Ended verdict) → EndsIn stands verdict entry → IsPlanned start past (Kept entry)
 ended_planned start past stands verdict (Began order) at asked ends = tt
 ended_planned start past stands verdict (Opened unit) at asked ends = rw at (verdict, asked, ends)
@@ -115,59 +142,80 @@ ended_planned start past stands verdict (Ended code) at asked ends = rw at (verd
 ended_planned start past stands verdict (Closed unit) at asked ends = rw at (verdict, asked, ends)
 
 -- the record that the writer keeps is the one that follows
-pub check_ends : (order : Contents) (verdict : Verdict) (entry : Record) → EndsFresh verdict → entry ≡ check_record order.unit verdict → EndsIn (standings.Began order) verdict entry
-check_ends order verdicts.MayOpen entry fresh is = is
-check_ends order verdicts.Short entry fresh is = is
-check_ends order verdicts.Format entry fresh is = is
-check_ends order verdicts.Silent entry fresh is = is
+pub check_ends : (order : Contents) (verdict : Verdict) (entry : Record) → EndsFresh verdict
+    → entry ≡ check_record order.unit verdict → EndsIn (standings.Began order) verdict entry
+check_ends order verdicts.MayOpen entry fresh is =
+    subst (λ (e : Record). EndsIn (standings.Began order) verdicts.MayOpen e) (sym is) (refl, refl)
+check_ends order verdicts.Short entry fresh is =
+    subst (λ (e : Record). EndsIn (standings.Began order) verdicts.Short e) (sym is) (tt, refl)
+check_ends order verdicts.Format entry fresh is =
+    subst (λ (e : Record). EndsIn (standings.Began order) verdicts.Format e) (sym is) (tt, refl)
+check_ends order verdicts.Silent entry fresh is =
+    subst (λ (e : Record). EndsIn (standings.Began order) verdicts.Silent e) (sym is) (tt, refl)
 check_ends order _ entry fresh is = absurd fresh
 
-pub write_ends : (order : Contents) (verdict : Verdict) (entry : Record) → EndsOpened verdict → entry ≡ Ended (write_code verdict) → EndsIn (standings.Opened order) verdict entry
-write_ends order verdicts.Done entry opened is = is
-write_ends order verdicts.Doubt entry opened is = is
-write_ends order verdicts.DoubtOpen entry opened is = is
+pub write_ends : (order : Contents) (verdict : Verdict) (entry : Record) → EndsOpened verdict
+    → entry ≡ Ended (write_code verdict) → EndsIn (standings.Opened order) verdict entry
+write_ends order verdicts.Done entry opened is =
+    subst (λ (e : Record). EndsIn (standings.Opened order) verdicts.Done e) (sym is) (tt, refl)
+write_ends order verdicts.Doubt entry opened is =
+    subst (λ (e : Record). EndsIn (standings.Opened order) verdicts.Doubt e) (sym is) (tt, refl)
+write_ends order verdicts.DoubtOpen entry opened is =
+    subst (λ (e : Record). EndsIn (standings.Opened order) verdicts.DoubtOpen e) (sym is) (tt, refl)
 write_ends order _ entry opened is = absurd opened
 
-pub checked_follows : (start : Start) (past : List Happening) (journal new : JournalState) (old : Phase) (order : Contents) (s : Session) (verdict : Verdict) (next : Phase) (entry : Record)
-    → Checks order s ≡ old → Describes start past (record { journal = journal; phase = old }) → Follows start past (record { journal = journal; phase = old }) → IsReady old journal
-    → want_of old ≡ Keep entry → aim_of s ≡ asks.Ended verdict → IsAfterCheck order verdict next → Follows start (Kept entry ∷ past) (record { journal = new; phase = next })
+pub checked_follows : (start : Start) (past : List Happening) (journal new : JournalState) (old : Phase)
+    (order : Contents) (s : Session) (verdict : Verdict) (next : Phase) (entry : Record)
+    → Checks order s ≡ old → Describes start past (record { journal = journal; phase = old })
+    → Follows start past (record { journal = journal; phase = old }) → IsReady old journal
+    → want_of old ≡ Keep entry → aim_of s ≡ asks.Ended verdict → IsAfterCheck order verdict next
+    → Follows start (Kept entry ∷ past) (record { journal = new; phase = next })
 checked_follows start past journal new old order s verdict next entry at d f ready want aim after =
     let asked : want_of (Checks order s) ≡ Keep entry = rw (← at) at want in
     let wanted : Keep (check_record order.unit verdict) ≡ Keep entry = rw aim at asked in
     let follows : Follows start past (record { journal = journal; phase = Checks order s }) = rw (← at) at f in
     let before : Describes start past (record { journal = journal; phase = Checks order s }) = rw (← at) at d in
     let stood : IsReady (Checks order s) journal = rw (← at) at ready in
-    let wants : Asks (standings.Began order) (told_in past) (asks.Ended verdict) = fresh_wants order (told_in past) s (asks.Ended verdict) stood.1 follows.told aim in
+    let wants : Asks (standings.Began order) (told_in past) (asks.Ended verdict) =
+    fresh_wants order (told_in past) s (asks.Ended verdict) stood.1 follows.told aim in
     record {
       planned = (
         follows.planned,
         ended_planned start past (standings.Began order) verdict entry (stands_so start past _ _ before stood.0) wants
-            (check_ends order verdict entry (fresh_ends (told_in past) order.unit order.updates verdict wants) (sym (same_entry (check_record order.unit verdict) entry wanted))),
+            (check_ends order verdict entry (fresh_ends (told_in past) order.unit order.updates verdict wants)
+            (sym (same_entry (check_record order.unit verdict) entry wanted))),
       );
       told = after_told order verdict next after;
     }
 
-pub written_follows : (start : Start) (past : List Happening) (journal new : JournalState) (old : Phase) (order : Contents) (s : Session) (verdict : Verdict) (entry : Record)
-    → Writes order s ≡ old → Describes start past (record { journal = journal; phase = old }) → Follows start past (record { journal = journal; phase = old }) → IsReady old journal
-    → want_of old ≡ Keep entry → aim_of s ≡ asks.Ended verdict → Follows start (Kept entry ∷ past) (record { journal = new; phase = Says order.id (write_code verdict) })
+pub written_follows : (start : Start) (past : List Happening) (journal new : JournalState) (old : Phase)
+    (order : Contents) (s : Session) (verdict : Verdict) (entry : Record)
+    → Writes order s ≡ old → Describes start past (record { journal = journal; phase = old })
+    → Follows start past (record { journal = journal; phase = old }) → IsReady old journal
+    → want_of old ≡ Keep entry → aim_of s ≡ asks.Ended verdict
+    → Follows start (Kept entry ∷ past) (record { journal = new; phase = Says order.id (write_code verdict) })
 written_follows start past journal new old order s verdict entry at d f ready want aim =
     let asked : want_of (Writes order s) ≡ Keep entry = rw (← at) at want in
     let wanted : Keep (Ended (write_code verdict)) ≡ Keep entry = rw aim at asked in
     let follows : Follows start past (record { journal = journal; phase = Writes order s }) = rw (← at) at f in
     let before : Describes start past (record { journal = journal; phase = Writes order s }) = rw (← at) at d in
     let stood : IsReady (Writes order s) journal = rw (← at) at ready in
-    let wants : Asks (standings.Opened order) (told_in past) (asks.Ended verdict) = opened_wants order (told_in past) s (asks.Ended verdict) stood.1 follows.told aim in
+    let wants : Asks (standings.Opened order) (told_in past) (asks.Ended verdict) =
+    opened_wants order (told_in past) s (asks.Ended verdict) stood.1 follows.told aim in
     record {
       planned = (
         follows.planned,
         ended_planned start past (standings.Opened order) verdict entry (stands_so start past _ _ before stood.0) wants
-            (write_ends order verdict entry (opened_ends (told_in past) order.unit order.updates verdict wants) (sym (same_entry (Ended (write_code verdict)) entry wanted))),
+            (write_ends order verdict entry (opened_ends (told_in past) order.unit order.updates verdict wants)
+            (sym (same_entry (Ended (write_code verdict)) entry wanted))),
       );
       told = tt;
     }
 
-pub closed_follows : (start : Start) (past : List Happening) (journal new : JournalState) (old : Phase) (order : Contents) (s : Session) (entry : Record)
-    → Closes order s ≡ old → Describes start past (record { journal = journal; phase = old }) → Follows start past (record { journal = journal; phase = old }) → IsReady old journal
+pub closed_follows : (start : Start) (past : List Happening) (journal new : JournalState) (old : Phase)
+    (order : Contents) (s : Session) (entry : Record)
+    → Closes order s ≡ old → Describes start past (record { journal = journal; phase = old })
+    → Follows start past (record { journal = journal; phase = old }) → IsReady old journal
     → want_of old ≡ Keep entry → Follows start (Kept entry ∷ past) (record { journal = new; phase = Begins order })
 closed_follows start past journal new old order s entry at d f ready want =
     let asked : want_of (Closes order s) ≡ Keep entry = rw (← at) at want in
@@ -175,19 +223,30 @@ closed_follows start past journal new old order s entry at d f ready want =
     let follows : Follows start past (record { journal = journal; phase = Closes order s }) = rw (← at) at f in
     let before : Describes start past (record { journal = journal; phase = Closes order s }) = rw (← at) at d in
     let stood : IsReady (Closes order s) journal = rw (← at) at ready in
-    let wants : Asks (standings.Left (unit_of s)) (told_in past) (asks.Ended verdicts.Closed) = closing_wants (unit_of s) (told_in past) s (asks.Ended verdicts.Closed) stood.1 follows.told is.0 in
+    let wants : Asks (standings.Left (unit_of s)) (told_in past) (asks.Ended verdicts.Closed) =
+    closing_wants (unit_of s) (told_in past) s (asks.Ended verdicts.Closed) stood.1 follows.told is.0 in
     record {
-      planned = (follows.planned, ended_planned start past (standings.Left (unit_of s)) verdicts.Closed entry (stands_so start past _ _ before stood.0) wants (sym is.1));
+      planned = (
+        follows.planned,
+        ended_planned start past (standings.Left (unit_of s)) verdicts.Closed entry
+            (stands_so start past _ _ before stood.0) wants
+            (subst (λ (e : Record). EndsIn (standings.Left (unit_of s)) verdicts.Closed e) is.1 (refl, refl)),
+      );
       told = tt;
     }
 
 -- sayings
-said_planned : (start : Start) (past : List Happening) (id : ℕ) (code : Reply) → Asks (standing_at start past) (told_in past) (asks.Ended verdicts.NotClosed) → IsPlanned start past (Answered id code)
+said_planned : (start : Start) (past : List Happening) (id : ℕ) (code : Reply)
+    → Asks (standing_at start past) (told_in past) (asks.Ended verdicts.NotClosed)
+    → IsPlanned start past (Answered id code)
 said_planned start past id (replies.Blocked unit) asked = asked
 said_planned start past id _ asked = tt
 
-pub said_follows : (start : Start) (past : List Happening) (journal : JournalState) (phase : Phase) (id : ℕ) (reply : Reply)
-    → Describes start past (record { journal = journal; phase = phase }) → Follows start past (record { journal = journal; phase = phase }) → IsReady phase journal → want_of phase ≡ Say id reply
+pub said_follows : (start : Start) (past : List Happening) (journal : JournalState) (phase : Phase) (id : ℕ)
+    (reply : Reply)
+    → Describes start past (record { journal = journal; phase = phase })
+    → Follows start past (record { journal = journal; phase = phase }) → IsReady phase journal
+    → want_of phase ≡ Say id reply
     → Follows start (Answered id reply ∷ past) (record { journal = journal; phase = Idle })
 said_follows start past journal Idle id reply d f ready e = cc
 said_follows start past journal (Begins order) id reply d f ready e = cc
@@ -195,10 +254,15 @@ said_follows start past journal (Checks order s) id reply d f ready e = no_check
 said_follows start past journal (Writes order s) id reply d f ready e = no_write id (aim_of s) reply e
 said_follows start past journal (Says last code) id reply d f ready e =
     let is : replies.Kept code ≡ reply = cc in
-    subst (λ (r : Reply). Follows start (Answered id r ∷ past) (record { journal = journal; phase = Idle })) is (record { planned = (f.planned, tt); told = tt })
+    subst (λ (r : Reply). Follows start (Answered id r ∷ past) (record { journal = journal; phase = Idle })) is
+    (record { planned = (f.planned, tt); told = tt })
 said_follows start past journal (Closes order s) id reply d f ready e =
     let b = blocks order.id (unit_of s) id (aim_of s) reply e in
     let ends = (closing_over (unit_of s) (told_in past) s b.verdict ready.1 f.told b.ended).0 in
     let aim : aim_of s ≡ asks.Ended verdicts.NotClosed = b.ended ∙ ap asks.Ended (not_closed b.verdict ends b.other) in
-    let wants : Asks (standings.Left (unit_of s)) (told_in past) (asks.Ended verdicts.NotClosed) = closing_wants (unit_of s) (told_in past) s (asks.Ended verdicts.NotClosed) ready.1 f.told aim in
-    record { planned = (f.planned, said_planned start past id reply (rw (stands_so start past _ _ d ready.0) wants)); told = tt }
+    let wants : Asks (standings.Left (unit_of s)) (told_in past) (asks.Ended verdicts.NotClosed) =
+    closing_wants (unit_of s) (told_in past) s (asks.Ended verdicts.NotClosed) ready.1 f.told aim in
+    record {
+      planned = (f.planned, said_planned start past id reply (rw (stands_so start past _ _ d ready.0) wants));
+      told = tt;
+    }

@@ -1,5 +1,6 @@
 -- A record that a writer wants may be kept, and then the trace describes what comes next.
-use Rattle.std.proofs.Common.{◌≡◌, inl, inr, refl, sym, ap, ◌∙◌, subst, ℕ, ◌<◌, false, List, [], ◌∷◌, ◌++◌, IsSome, length, arith}
+use Rattle.std.proofs.Common.{◌≡◌, inl, inr, refl, sym, ap, ◌∙◌, subst, ℕ, ◌<◌, false, List, [], ◌∷◌, ◌++◌, IsSome}
+use Rattle.std.proofs.Common.{length, arith}
 use Rattle.dali_bank.specs.Order.{Contents, AreUpdates}
 use Rattle.dali_journal.specs.declared.record.Code.{Code}
 use Rattle.dali_journal.specs.declared.record.Code.TheVariants as codes
@@ -41,7 +42,8 @@ use Rattle.dali_writer.proofs.StepLemmas.{may_next, stands_so, since_part}
 
 -- a record that may be kept
 kept_on : (start : Start) (past : List Happening) (journal new : JournalState) (old next : Phase) (entry : Record)
-    → Describes start past (record { journal = journal; phase = old }) → MayKeep start past entry → new.records ≡ entry ∷ journal.records → new.limit ≡ journal.limit
+    → Describes start past (record { journal = journal; phase = old }) → MayKeep start past entry
+    → new.records ≡ entry ∷ journal.records → new.limit ≡ journal.limit
     → IsAt next (Kept entry ∷ past) → Describes start (Kept entry ∷ past) (record { journal = new; phase = next })
 kept_on start past journal new old next entry d may records limit place = record {
   legal = (d.legal, may_next start past (Kept entry) d.finished may);
@@ -57,190 +59,155 @@ come_length stage [] = refl
 come_length stage (newest ∷ older) = refl
 
 -- the record of an order that is at work
-goes_on : (start : Start) (past : List Happening) (w : Held) (entry : Record) (stands : Standing) → Describes start past w → standing_of w.journal.records ≡ stands
-    → Allows stands entry → IsNew entry (records_of start past) → length (orders_of (entry ∷ records_of start past)) ≡ length (orders_of (records_of start past))
+goes_on : (start : Start) (past : List Happening) (w : Held) (entry : Record) (stands : Standing)
+    → Describes start past w → standing_of w.journal.records ≡ stands
+    → Allows stands entry → IsNew entry (records_of start past)
+    → length (orders_of (entry ∷ records_of start past)) ≡ length (orders_of (records_of start past))
     → IsDue past entry → Grounds (ReadStands (sent_of past)) stands entry → MayKeep start past entry
 goes_on start past w entry stands d at allowed is_new none due grounds =
     let before = legal_sentence start past d.legal in
     let stood = stands_so start past w stands d at in
     record {
-      sentence = (before.0, rw stood allowed, is_new);
-      within = rw none before.1;
+      whole = ((before.0, rw stood allowed, is_new), rw none before.1);
       due = due;
       grounds = rw stood grounds;
     }
 
 -- an order that was taken may begin
 pub begun_may : (start : Start) (past : List Happening) (journal : JournalState) (order : Contents)
-    → Describes start past (record { journal = journal; phase = Begins order }) → IsReady (Begins order) journal → MayKeep start past (Began order)
+    → Describes start past (record { journal = journal; phase = Begins order }) → IsReady (Begins order) journal
+    → MayKeep start past (Began order)
 begun_may start past journal order d ready =
     let before = legal_sentence start past d.legal in
     let stood = stands_so start past _ standings.Idle d ready.0 in
     let few : length (orders_of (records_of start past)) < start.limit = rw (d.same, d.limit) ready.1.1 in record {
-      sentence = (before.0, rw stood tt, rw d.same ready.1.2);
-      within = omega (arith, few);
+      whole = ((before.0, rw stood tt, rw d.same ready.1.2), omega (arith, few));
       due = d.place;
       grounds = rw stood tt;
     }
 
 -- an order that was taken is begun
 pub begun_on : (start : Start) (past : List Happening) (journal new : JournalState) (order : Contents) (s : Session)
-    → Describes start past (record { journal = journal; phase = Begins order }) → IsReady (Begins order) journal → Told [] s
+    → Describes start past (record { journal = journal; phase = Begins order }) → IsReady (Begins order) journal
+    → Told [] s
     → new.records ≡ Began order ∷ journal.records → new.limit ≡ journal.limit
     → Describes start (Kept (Began order) ∷ past) (record { journal = new; phase = Checks order s })
 begun_on start past journal new order s d ready is_told records limit =
     let may = begun_may start past journal order d ready in
-    kept_on start past journal new (Begins order) (Checks order s) (Began order) d may records limit ([], sent_of past, refl, is_told)
+    kept_on start past journal new (Begins order) (Checks order s) (Began order) d may records limit
+    ([], sent_of past, refl, is_told)
 
 -- what the reads of a session show, the frames since the last stop show
-newest_rests : (sent told older : List Exchange) (unit : ℕ) (updates : List (ℕ × ℕ)) (verdict : Verdict) → sent ≡ told ++ older → Rests (ReadStands told unit) updates verdict
+newest_rests : (sent told older : List Exchange) (unit : ℕ) (updates : List (ℕ × ℕ)) (verdict : Verdict)
+    → sent ≡ told ++ older → Rests (ReadStands told unit) updates verdict
     → Rests (ReadStands sent unit) updates verdict
 newest_rests sent told older unit updates verdict parts rests =
     subst (λ (t : List Exchange). Rests (ReadStands t unit) updates verdict) (sym parts)
-    (rests_too (ReadStands told unit) (ReadStands (told ++ older) unit) updates verdict (λ location byte stands. older_reads told older unit location byte stands) rests)
+    (rests_too (ReadStands told unit) (ReadStands (told ++ older) unit) updates verdict
+    (λ location byte stands. older_reads told older unit location byte stands) rests)
 
-fresh_grounds : (sent : List Exchange) (order : Contents) (verdict : Verdict) → Rests (ReadStands sent order.unit) order.updates verdict
+fresh_grounds : (sent : List Exchange) (order : Contents) (verdict : Verdict)
+    → Rests (ReadStands sent order.unit) order.updates verdict
     → Grounds (ReadStands sent) (standings.Began order) (check_record order.unit verdict)
 fresh_grounds sent order verdicts.MayOpen rests = rests
-fresh_grounds sent order verdicts.Done rests = tt
 fresh_grounds sent order verdicts.Short rests = rests
 fresh_grounds sent order verdicts.Format rests = rests
-fresh_grounds sent order verdicts.Silent rests = tt
-fresh_grounds sent order verdicts.Doubt rests = tt
-fresh_grounds sent order verdicts.DoubtOpen rests = tt
-fresh_grounds sent order verdicts.Closed rests = tt
-fresh_grounds sent order verdicts.NotClosed rests = tt
-fresh_grounds sent order verdicts.Read rests = tt
+fresh_grounds sent order _ rests = tt
 
-pub check_allowed : (order : Contents) (verdict : Verdict) → Allows (standings.Began order) (check_record order.unit verdict)
+pub check_allowed : (order : Contents) (verdict : Verdict)
+    → Allows (standings.Began order) (check_record order.unit verdict)
 check_allowed order verdicts.MayOpen = refl
-check_allowed order verdicts.Done = tt
-check_allowed order verdicts.Short = tt
-check_allowed order verdicts.Format = tt
-check_allowed order verdicts.Silent = tt
-check_allowed order verdicts.Doubt = tt
-check_allowed order verdicts.DoubtOpen = tt
-check_allowed order verdicts.Closed = tt
-check_allowed order verdicts.NotClosed = tt
-check_allowed order verdicts.Read = tt
+check_allowed order _ = tt
 
-pub check_begins : (journal : JournalState) (unit : ℕ) (verdict : Verdict) → MayBegin journal (check_record unit verdict)
+pub check_begins : (journal : JournalState) (unit : ℕ) (verdict : Verdict)
+    → MayBegin journal (check_record unit verdict)
 check_begins journal unit verdicts.MayOpen = tt
-check_begins journal unit verdicts.Done = tt
-check_begins journal unit verdicts.Short = tt
-check_begins journal unit verdicts.Format = tt
-check_begins journal unit verdicts.Silent = tt
-check_begins journal unit verdicts.Doubt = tt
-check_begins journal unit verdicts.DoubtOpen = tt
-check_begins journal unit verdicts.Closed = tt
-check_begins journal unit verdicts.NotClosed = tt
-check_begins journal unit verdicts.Read = tt
+check_begins journal unit _ = tt
 
 check_new : (unit : ℕ) (verdict : Verdict) (records : List Record) → IsNew (check_record unit verdict) records
 check_new unit verdicts.MayOpen records = tt
-check_new unit verdicts.Done records = tt
-check_new unit verdicts.Short records = tt
-check_new unit verdicts.Format records = tt
-check_new unit verdicts.Silent records = tt
-check_new unit verdicts.Doubt records = tt
-check_new unit verdicts.DoubtOpen records = tt
-check_new unit verdicts.Closed records = tt
-check_new unit verdicts.NotClosed records = tt
-check_new unit verdicts.Read records = tt
+check_new unit _ records = tt
 
 check_due : (past : List Happening) (unit : ℕ) (verdict : Verdict) → IsDue past (check_record unit verdict)
 check_due past unit verdicts.MayOpen = tt
-check_due past unit verdicts.Done = tt
-check_due past unit verdicts.Short = tt
-check_due past unit verdicts.Format = tt
-check_due past unit verdicts.Silent = tt
-check_due past unit verdicts.Doubt = tt
-check_due past unit verdicts.DoubtOpen = tt
-check_due past unit verdicts.Closed = tt
-check_due past unit verdicts.NotClosed = tt
-check_due past unit verdicts.Read = tt
+check_due past unit _ = tt
 
-check_none : (unit : ℕ) (verdict : Verdict) (records : List Record) → length (orders_of (check_record unit verdict ∷ records)) ≡ length (orders_of records)
+check_none : (unit : ℕ) (verdict : Verdict) (records : List Record)
+    → length (orders_of (check_record unit verdict ∷ records)) ≡ length (orders_of records)
 check_none unit verdicts.MayOpen records = come_length stages.Open (orders_of records)
-check_none unit verdicts.Done records = come_length (stages.Ended codes.Silent) (orders_of records)
 check_none unit verdicts.Short records = come_length (stages.Ended codes.Short) (orders_of records)
 check_none unit verdicts.Format records = come_length (stages.Ended codes.Format) (orders_of records)
-check_none unit verdicts.Silent records = come_length (stages.Ended codes.Silent) (orders_of records)
-check_none unit verdicts.Doubt records = come_length (stages.Ended codes.Silent) (orders_of records)
-check_none unit verdicts.DoubtOpen records = come_length (stages.Ended codes.Silent) (orders_of records)
-check_none unit verdicts.Closed records = come_length (stages.Ended codes.Silent) (orders_of records)
-check_none unit verdicts.NotClosed records = come_length (stages.Ended codes.Silent) (orders_of records)
-check_none unit verdicts.Read records = come_length (stages.Ended codes.Silent) (orders_of records)
+check_none unit _ records = come_length (stages.Ended codes.Silent) (orders_of records)
 
-check_place : (past : List Happening) (order : Contents) (verdict : Verdict) (next : Phase) → IsAfterCheck order verdict next → IsAt next (Kept (check_record order.unit verdict) ∷ past)
-check_place past order verdicts.MayOpen next (s, is, opened, is_told, valid, left) = subst (λ (p : Phase). IsAt p (Kept (Opened order.unit) ∷ past)) (sym is) ([], sent_of past, refl, is_told)
-check_place past order verdicts.Done next is = subst (λ (p : Phase). IsAt p (Kept (Ended codes.Silent) ∷ past)) (sym is) refl
-check_place past order verdicts.Short next is = subst (λ (p : Phase). IsAt p (Kept (Ended codes.Short) ∷ past)) (sym is) refl
-check_place past order verdicts.Format next is = subst (λ (p : Phase). IsAt p (Kept (Ended codes.Format) ∷ past)) (sym is) refl
-check_place past order verdicts.Silent next is = subst (λ (p : Phase). IsAt p (Kept (Ended codes.Silent) ∷ past)) (sym is) refl
-check_place past order verdicts.Doubt next is = subst (λ (p : Phase). IsAt p (Kept (Ended codes.Silent) ∷ past)) (sym is) refl
-check_place past order verdicts.DoubtOpen next is = subst (λ (p : Phase). IsAt p (Kept (Ended codes.Silent) ∷ past)) (sym is) refl
-check_place past order verdicts.Closed next is = subst (λ (p : Phase). IsAt p (Kept (Ended codes.Silent) ∷ past)) (sym is) refl
-check_place past order verdicts.NotClosed next is = subst (λ (p : Phase). IsAt p (Kept (Ended codes.Silent) ∷ past)) (sym is) refl
-check_place past order verdicts.Read next is = subst (λ (p : Phase). IsAt p (Kept (Ended codes.Silent) ∷ past)) (sym is) refl
+check_place : (past : List Happening) (order : Contents) (verdict : Verdict) (next : Phase)
+    → IsAfterCheck order verdict next → IsAt next (Kept (check_record order.unit verdict) ∷ past)
+check_place past order verdicts.MayOpen next (s, is, opened, is_told, valid, left) =
+    subst (λ (p : Phase). IsAt p (Kept (Opened order.unit) ∷ past)) (sym is) ([], sent_of past, refl, is_told)
+check_place past order verdicts.Short next is =
+    subst (λ (p : Phase). IsAt p (Kept (Ended codes.Short) ∷ past)) (sym is) refl
+check_place past order verdicts.Format next is =
+    subst (λ (p : Phase). IsAt p (Kept (Ended codes.Format) ∷ past)) (sym is) refl
+check_place past order _ next is = subst (λ (p : Phase). IsAt p (Kept (Ended codes.Silent) ∷ past)) (sym is) refl
 
 -- the record by which a fresh session is followed may be kept
-pub checked_may : (start : Start) (past : List Happening) (journal : JournalState) (order : Contents) (s : Session) (verdict : Verdict)
-    → Describes start past (record { journal = journal; phase = Checks order s }) → IsReady (Checks order s) journal → aim_of s ≡ asks.Ended verdict
+pub checked_may : (start : Start) (past : List Happening) (journal : JournalState) (order : Contents) (s : Session)
+    (verdict : Verdict)
+    → Describes start past (record { journal = journal; phase = Checks order s }) → IsReady (Checks order s) journal
+    → aim_of s ≡ asks.Ended verdict
     → MayKeep start past (check_record order.unit verdict)
 checked_may start past journal order s verdict d ready aim =
     let place = d.place in
     let over = fresh_over order place.0 s verdict ready.1 place.3 aim in
     let rests = newest_rests (sent_of past) place.0 place.1 order.unit order.updates verdict place.2 over.1 in
-    goes_on start past _ (check_record order.unit verdict) (standings.Began order) d ready.0 (check_allowed order verdict) (check_new order.unit verdict (records_of start past))
-    (check_none order.unit verdict (records_of start past)) (check_due past order.unit verdict) (fresh_grounds (sent_of past) order verdict rests)
+    goes_on start past _ (check_record order.unit verdict) (standings.Began order) d ready.0
+    (check_allowed order verdict) (check_new order.unit verdict (records_of start past))
+    (check_none order.unit verdict (records_of start past)) (check_due past order.unit verdict)
+    (fresh_grounds (sent_of past) order verdict rests)
 
 -- a fresh session has ended
-pub checked_on : (start : Start) (past : List Happening) (journal new : JournalState) (order : Contents) (s : Session) (verdict : Verdict) (next : Phase)
-    → Describes start past (record { journal = journal; phase = Checks order s }) → IsReady (Checks order s) journal → aim_of s ≡ asks.Ended verdict
-    → IsAfterCheck order verdict next → new.records ≡ check_record order.unit verdict ∷ journal.records → new.limit ≡ journal.limit
+pub checked_on : (start : Start) (past : List Happening) (journal new : JournalState) (order : Contents) (s : Session)
+    (verdict : Verdict) (next : Phase)
+    → Describes start past (record { journal = journal; phase = Checks order s }) → IsReady (Checks order s) journal
+    → aim_of s ≡ asks.Ended verdict
+    → IsAfterCheck order verdict next → new.records ≡ check_record order.unit verdict ∷ journal.records
+    → new.limit ≡ journal.limit
     → Describes start (Kept (check_record order.unit verdict) ∷ past) (record { journal = new; phase = next })
 checked_on start past journal new order s verdict next d ready aim after records limit =
     let may = checked_may start past journal order s verdict d ready aim in
-    kept_on start past journal new (Checks order s) next (check_record order.unit verdict) d may records limit (check_place past order verdict next after)
+    kept_on start past journal new (Checks order s) next (check_record order.unit verdict) d may records limit
+    (check_place past order verdict next after)
 
-opened_grounds : (sent : List Exchange) (order : Contents) (verdict : Verdict) → Rests (ReadStands sent order.unit) order.updates verdict
+opened_grounds : (sent : List Exchange) (order : Contents) (verdict : Verdict)
+    → Rests (ReadStands sent order.unit) order.updates verdict
     → Grounds (ReadStands sent) (standings.Opened order) (Ended (write_code verdict))
-opened_grounds sent order verdicts.MayOpen rests = tt
 opened_grounds sent order verdicts.Done rests = rests
-opened_grounds sent order verdicts.Short rests = tt
-opened_grounds sent order verdicts.Format rests = tt
-opened_grounds sent order verdicts.Silent rests = tt
-opened_grounds sent order verdicts.Doubt rests = (2, rests.0, rests.1)
-opened_grounds sent order verdicts.DoubtOpen rests = tt
-opened_grounds sent order verdicts.Closed rests = tt
-opened_grounds sent order verdicts.NotClosed rests = tt
-opened_grounds sent order verdicts.Read rests = tt
+opened_grounds sent order verdicts.Doubt rests = rests
+opened_grounds sent order _ rests = tt
 
-pub write_allowed : (order : Contents) (verdict : Verdict) → Allows (standings.Opened order) (Ended (write_code verdict))
-write_allowed order verdicts.MayOpen = tt
+pub write_allowed : (order : Contents) (verdict : Verdict)
+    → Allows (standings.Opened order) (Ended (write_code verdict))
 write_allowed order verdicts.Done = tt
-write_allowed order verdicts.Short = tt
-write_allowed order verdicts.Format = tt
-write_allowed order verdicts.Silent = tt
-write_allowed order verdicts.Doubt = tt
-write_allowed order verdicts.DoubtOpen = tt
-write_allowed order verdicts.Closed = tt
-write_allowed order verdicts.NotClosed = tt
-write_allowed order verdicts.Read = tt
+write_allowed order _ = tt
 
 -- an opened session has ended
-pub written_on : (start : Start) (past : List Happening) (journal new : JournalState) (order : Contents) (s : Session) (verdict : Verdict)
-    → Describes start past (record { journal = journal; phase = Writes order s }) → IsReady (Writes order s) journal → aim_of s ≡ asks.Ended verdict
+pub written_on : (start : Start) (past : List Happening) (journal new : JournalState) (order : Contents) (s : Session)
+    (verdict : Verdict)
+    → Describes start past (record { journal = journal; phase = Writes order s }) → IsReady (Writes order s) journal
+    → aim_of s ≡ asks.Ended verdict
     → new.records ≡ Ended (write_code verdict) ∷ journal.records → new.limit ≡ journal.limit
-    → Describes start (Kept (Ended (write_code verdict)) ∷ past) (record { journal = new; phase = Says order.id (write_code verdict) })
+    → Describes start (Kept (Ended (write_code verdict)) ∷ past)
+    (record { journal = new; phase = Says order.id (write_code verdict) })
 written_on start past journal new order s verdict d ready aim records limit =
     let place = d.place in
     let over = opened_over order place.0 s verdict ready.1 place.3 aim in
     let rests = newest_rests (sent_of past) place.0 place.1 order.unit order.updates verdict place.2 over.1 in
-    let may = goes_on start past _ (Ended (write_code verdict)) (standings.Opened order) d ready.0 (write_allowed order verdict) tt
-    (come_length (stages.Ended (write_code verdict)) (orders_of (records_of start past))) tt (opened_grounds (sent_of past) order verdict rests) in
-    kept_on start past journal new (Writes order s) (Says order.id (write_code verdict)) (Ended (write_code verdict)) d may records limit refl
+    let may =
+    goes_on start past _ (Ended (write_code verdict)) (standings.Opened order) d ready.0
+    (write_allowed order verdict) tt
+    (come_length (stages.Ended (write_code verdict)) (orders_of (records_of start past))) tt
+    (opened_grounds (sent_of past) order verdict rests) in
+    kept_on start past journal new (Writes order s) (Says order.id (write_code verdict)) (Ended (write_code verdict)) d
+    may records limit refl
 
 -- a read that stands was answered
 stands_read : (told : List Exchange) (unit location byte : ℕ) → ReadStands told unit location byte → HasRead unit told
@@ -250,7 +217,8 @@ stands_read (x ∷ told) unit location byte (inr (passive, stands)) = inr (stand
 
 -- a closing session has ended as Closed
 pub closed_on : (start : Start) (past : List Happening) (journal new : JournalState) (order : Contents) (s : Session)
-    → Describes start past (record { journal = journal; phase = Closes order s }) → IsReady (Closes order s) journal → aim_of s ≡ asks.Ended verdicts.Closed
+    → Describes start past (record { journal = journal; phase = Closes order s }) → IsReady (Closes order s) journal
+    → aim_of s ≡ asks.Ended verdicts.Closed
     → new.records ≡ Closed (unit_of s) ∷ journal.records → new.limit ≡ journal.limit
     → Describes start (Kept (Closed (unit_of s)) ∷ past) (record { journal = new; phase = Begins order })
 closed_on start past journal new order s d ready aim records limit =
@@ -261,62 +229,52 @@ closed_on start past journal new order s d ready aim records limit =
     let all = newest_rests (sent_of past) (sent_since_taken past) since.0 unit [] verdicts.Closed since.1 over.1 in
     let waits : IsSome (waiting past) = rw place.0 refl in
     let may = goes_on start past _ (Closed unit) (standings.Left unit) d ready.0 refl tt refl
-    (waits, stands_read (sent_since_taken past) unit 2 over.1.0 over.1.1) (2, all.0, all.1) in
+    (waits, stands_read (sent_since_taken past) unit over.1.0 over.1.1 over.1.2) all in
     kept_on start past journal new (Closes order s) (Begins order) (Closed unit) d may records limit place.0
 
 -- the journal is ready for what comes next
-pub ready_begun : (new : JournalState) (records : List Record) (order : Contents) (s : Session) → IsFresh order s → AreUpdates order.updates
+pub ready_begun : (new : JournalState) (records : List Record) (order : Contents) (s : Session) → IsFresh order s
+    → AreUpdates order.updates
     → new.records ≡ Began order ∷ records → IsReady (Checks order s) new
 ready_begun new records order s fresh valid is = (rw is refl, fresh, valid)
 
-said_ready : (journal new : JournalState) (order : Contents) (code : Code) (stage : Stage) → (older : List (Contents × Stage)) × orders_of journal.records ≡ (order, stage) ∷ older
-    → is_at_work (standing_of (Ended code ∷ journal.records)) ≡ false → new.records ≡ Ended code ∷ journal.records → IsReady (Says order.id code) new
+said_ready : (journal new : JournalState) (order : Contents) (code : Code) (stage : Stage)
+    → (older : List (Contents × Stage)) × orders_of journal.records ≡ (order, stage) ∷ older
+    → is_at_work (standing_of (Ended code ∷ journal.records)) ≡ false → new.records ≡ Ended code ∷ journal.records
+    → IsReady (Says order.id code) new
 said_ready journal new order code stage newest idle records =
     rw records (idle, rw newest.1 (refl, refl))
 
-pub ready_checked : (journal new : JournalState) (order : Contents) (s : Session) (verdict : Verdict) (next : Phase) → IsReady (Checks order s) journal → IsAfterCheck order verdict next
+pub ready_checked : (journal new : JournalState) (order : Contents) (s : Session) (verdict : Verdict) (next : Phase)
+    → IsReady (Checks order s) journal → IsAfterCheck order verdict next
     → new.records ≡ check_record order.unit verdict ∷ journal.records → IsReady next new
 ready_checked journal new order s verdicts.MayOpen next ready (opened, is, is_opened, is_told, valid, left) records =
     subst (λ (p : Phase). IsReady p new) (sym is) (rw records (rw ready.0 refl), is_opened, valid)
-ready_checked journal new order s verdicts.Done next ready is records =
-    subst (λ (p : Phase). IsReady p new) (sym is) (said_ready journal new order codes.Silent stages.Begun (begun_order journal.records order ready.0) (rw ready.0 refl) records)
 ready_checked journal new order s verdicts.Short next ready is records =
-    subst (λ (p : Phase). IsReady p new) (sym is) (said_ready journal new order codes.Short stages.Begun (begun_order journal.records order ready.0) (rw ready.0 refl) records)
+    subst (λ (p : Phase). IsReady p new) (sym is) (said_ready journal new order codes.Short stages.Begun
+    (begun_order journal.records order ready.0) (rw ready.0 refl) records)
 ready_checked journal new order s verdicts.Format next ready is records =
-    subst (λ (p : Phase). IsReady p new) (sym is) (said_ready journal new order codes.Format stages.Begun (begun_order journal.records order ready.0) (rw ready.0 refl) records)
-ready_checked journal new order s verdicts.Silent next ready is records =
-    subst (λ (p : Phase). IsReady p new) (sym is) (said_ready journal new order codes.Silent stages.Begun (begun_order journal.records order ready.0) (rw ready.0 refl) records)
-ready_checked journal new order s verdicts.Doubt next ready is records =
-    subst (λ (p : Phase). IsReady p new) (sym is) (said_ready journal new order codes.Silent stages.Begun (begun_order journal.records order ready.0) (rw ready.0 refl) records)
-ready_checked journal new order s verdicts.DoubtOpen next ready is records =
-    subst (λ (p : Phase). IsReady p new) (sym is) (said_ready journal new order codes.Silent stages.Begun (begun_order journal.records order ready.0) (rw ready.0 refl) records)
-ready_checked journal new order s verdicts.Closed next ready is records =
-    subst (λ (p : Phase). IsReady p new) (sym is) (said_ready journal new order codes.Silent stages.Begun (begun_order journal.records order ready.0) (rw ready.0 refl) records)
-ready_checked journal new order s verdicts.NotClosed next ready is records =
-    subst (λ (p : Phase). IsReady p new) (sym is) (said_ready journal new order codes.Silent stages.Begun (begun_order journal.records order ready.0) (rw ready.0 refl) records)
-ready_checked journal new order s verdicts.Read next ready is records =
-    subst (λ (p : Phase). IsReady p new) (sym is) (said_ready journal new order codes.Silent stages.Begun (begun_order journal.records order ready.0) (rw ready.0 refl) records)
+    subst (λ (p : Phase). IsReady p new) (sym is) (said_ready journal new order codes.Format stages.Begun
+    (begun_order journal.records order ready.0) (rw ready.0 refl) records)
+ready_checked journal new order s _ next ready is records =
+    subst (λ (p : Phase). IsReady p new) (sym is) (said_ready journal new order codes.Silent stages.Begun
+    (begun_order journal.records order ready.0) (rw ready.0 refl) records)
 
-idle_written : (order : Contents) (verdict : Verdict) (stands : Standing) → stands ≡ standings.Opened order → is_at_work (next_standing stands (Ended (write_code verdict))) ≡ false
-idle_written order verdicts.MayOpen stands at = rw at refl
+idle_written : (order : Contents) (verdict : Verdict) (stands : Standing) → stands ≡ standings.Opened order
+    → is_at_work (next_standing stands (Ended (write_code verdict))) ≡ false
 idle_written order verdicts.Done stands at = rw at refl
-idle_written order verdicts.Short stands at = rw at refl
-idle_written order verdicts.Format stands at = rw at refl
-idle_written order verdicts.Silent stands at = rw at refl
-idle_written order verdicts.Doubt stands at = rw at refl
-idle_written order verdicts.DoubtOpen stands at = rw at refl
-idle_written order verdicts.Closed stands at = rw at refl
-idle_written order verdicts.NotClosed stands at = rw at refl
-idle_written order verdicts.Read stands at = rw at refl
+idle_written order _ stands at = rw at refl
 
-pub ready_written : (journal new : JournalState) (order : Contents) (s : Session) (verdict : Verdict) → IsReady (Writes order s) journal
+pub ready_written : (journal new : JournalState) (order : Contents) (s : Session) (verdict : Verdict)
+    → IsReady (Writes order s) journal
     → new.records ≡ Ended (write_code verdict) ∷ journal.records → IsReady (Says order.id (write_code verdict)) new
 ready_written journal new order s verdict ready records =
     said_ready journal new order (write_code verdict) stages.Open (open_order journal.records order ready.0)
     (idle_written order verdict (standing_of journal.records) ready.0) records
 
 pub ready_closed : (journal new : JournalState) (order : Contents) (s : Session) → IsReady (Closes order s) journal
-    → new.records ≡ Closed (unit_of s) ∷ journal.records → new.limit ≡ journal.limit → KeepsRoom (Closed (unit_of s)) journal new → IsReady (Begins order) new
+    → new.records ≡ Closed (unit_of s) ∷ journal.records → new.limit ≡ journal.limit
+    → KeepsRoom (Closed (unit_of s)) journal new → IsReady (Begins order) new
 ready_closed journal new order s ready records limit room = (
   rw records refl,
   (room order ready.2.0, rw (records, limit) ready.2.1, rw records ready.2.2),
@@ -326,29 +284,38 @@ ready_closed journal new order s ready records limit room = (
 pub same_entry : (entry wanted : Record) → Keep entry ≡ Keep wanted → entry ≡ wanted
 same_entry entry wanted e = cc
 
-pub keeps_begun : (start : Start) (past : List Happening) (journal new : JournalState) (old : Phase) (order : Contents) (s : Session) (entry : Record)
-    → Begins order ≡ old → Describes start past (record { journal = journal; phase = old }) → IsReady old journal → want_of old ≡ Keep entry → Told [] s
+pub keeps_begun : (start : Start) (past : List Happening) (journal new : JournalState) (old : Phase) (order : Contents)
+    (s : Session) (entry : Record)
+    → Begins order ≡ old → Describes start past (record { journal = journal; phase = old }) → IsReady old journal
+    → want_of old ≡ Keep entry → Told [] s
     → new.records ≡ Began order ∷ journal.records → new.limit ≡ journal.limit
     → Describes start (Kept entry ∷ past) (record { journal = new; phase = Checks order s })
 keeps_begun start past journal new old order s entry at d ready want is_told records limit =
     let wanted : want_of (Begins order) ≡ Keep entry = rw (← at) at want in
     let before : Describes start past (record { journal = journal; phase = Begins order }) = rw (← at) at d in
     let stood : IsReady (Begins order) journal = rw (← at) at ready in
-    rw (← same_entry (Began order) entry wanted) (begun_on start past journal new order s before stood is_told records limit)
+    rw (← same_entry (Began order) entry wanted)
+    (begun_on start past journal new order s before stood is_told records limit)
 
-pub keeps_checked : (start : Start) (past : List Happening) (journal new : JournalState) (old : Phase) (order : Contents) (s : Session) (verdict : Verdict) (next : Phase) (entry : Record)
-    → Checks order s ≡ old → Describes start past (record { journal = journal; phase = old }) → IsReady old journal → want_of old ≡ Keep entry → aim_of s ≡ asks.Ended verdict
-    → IsAfterCheck order verdict next → new.records ≡ check_record order.unit verdict ∷ journal.records → new.limit ≡ journal.limit
+pub keeps_checked : (start : Start) (past : List Happening) (journal new : JournalState) (old : Phase)
+    (order : Contents) (s : Session) (verdict : Verdict) (next : Phase) (entry : Record)
+    → Checks order s ≡ old → Describes start past (record { journal = journal; phase = old }) → IsReady old journal
+    → want_of old ≡ Keep entry → aim_of s ≡ asks.Ended verdict
+    → IsAfterCheck order verdict next → new.records ≡ check_record order.unit verdict ∷ journal.records
+    → new.limit ≡ journal.limit
     → Describes start (Kept entry ∷ past) (record { journal = new; phase = next })
 keeps_checked start past journal new old order s verdict next entry at d ready want aim after records limit =
     let asked : want_of (Checks order s) ≡ Keep entry = rw (← at) at want in
     let wanted : Keep (check_record order.unit verdict) ≡ Keep entry = rw aim at asked in
     let before : Describes start past (record { journal = journal; phase = Checks order s }) = rw (← at) at d in
     let stood : IsReady (Checks order s) journal = rw (← at) at ready in
-    rw (← same_entry (check_record order.unit verdict) entry wanted) (checked_on start past journal new order s verdict next before stood aim after records limit)
+    rw (← same_entry (check_record order.unit verdict) entry wanted)
+    (checked_on start past journal new order s verdict next before stood aim after records limit)
 
-pub keeps_written : (start : Start) (past : List Happening) (journal new : JournalState) (old : Phase) (order : Contents) (s : Session) (verdict : Verdict) (entry : Record)
-    → Writes order s ≡ old → Describes start past (record { journal = journal; phase = old }) → IsReady old journal → want_of old ≡ Keep entry → aim_of s ≡ asks.Ended verdict
+pub keeps_written : (start : Start) (past : List Happening) (journal new : JournalState) (old : Phase)
+    (order : Contents) (s : Session) (verdict : Verdict) (entry : Record)
+    → Writes order s ≡ old → Describes start past (record { journal = journal; phase = old }) → IsReady old journal
+    → want_of old ≡ Keep entry → aim_of s ≡ asks.Ended verdict
     → new.records ≡ Ended (write_code verdict) ∷ journal.records → new.limit ≡ journal.limit
     → Describes start (Kept entry ∷ past) (record { journal = new; phase = Says order.id (write_code verdict) })
 keeps_written start past journal new old order s verdict entry at d ready want aim records limit =
@@ -356,24 +323,20 @@ keeps_written start past journal new old order s verdict entry at d ready want a
     let wanted : Keep (Ended (write_code verdict)) ≡ Keep entry = rw aim at asked in
     let before : Describes start past (record { journal = journal; phase = Writes order s }) = rw (← at) at d in
     let stood : IsReady (Writes order s) journal = rw (← at) at ready in
-    rw (← same_entry (Ended (write_code verdict)) entry wanted) (written_on start past journal new order s verdict before stood aim records limit)
+    rw (← same_entry (Ended (write_code verdict)) entry wanted)
+    (written_on start past journal new order s verdict before stood aim records limit)
 
 -- a closing session is followed by a record only where it ended as Closed
-pub closing_keeps : (id unit : ℕ) (ask : Ask) (entry : Record) → closing_of id unit ask ≡ Keep entry → (ask ≡ asks.Ended verdicts.Closed) × (Closed unit ≡ entry)
+pub closing_keeps : (id unit : ℕ) (ask : Ask) (entry : Record) → closing_of id unit ask ≡ Keep entry
+    → (ask ≡ asks.Ended verdicts.Closed) × (Closed unit ≡ entry)
 closing_keeps id unit (asks.Send frame) entry e = cc
 closing_keeps id unit (asks.Ended verdicts.Closed) entry e = (refl, same_entry (Closed unit) entry e)
-closing_keeps id unit (asks.Ended verdicts.MayOpen) entry e = cc
-closing_keeps id unit (asks.Ended verdicts.Done) entry e = cc
-closing_keeps id unit (asks.Ended verdicts.Short) entry e = cc
-closing_keeps id unit (asks.Ended verdicts.Format) entry e = cc
-closing_keeps id unit (asks.Ended verdicts.Silent) entry e = cc
-closing_keeps id unit (asks.Ended verdicts.Doubt) entry e = cc
-closing_keeps id unit (asks.Ended verdicts.DoubtOpen) entry e = cc
-closing_keeps id unit (asks.Ended verdicts.NotClosed) entry e = cc
-closing_keeps id unit (asks.Ended verdicts.Read) entry e = cc
+closing_keeps id unit (asks.Ended _) entry e = cc
 
-pub keeps_closed : (start : Start) (past : List Happening) (journal new : JournalState) (old : Phase) (order : Contents) (s : Session) (entry : Record)
-    → Closes order s ≡ old → Describes start past (record { journal = journal; phase = old }) → IsReady old journal → want_of old ≡ Keep entry
+pub keeps_closed : (start : Start) (past : List Happening) (journal new : JournalState) (old : Phase) (order : Contents)
+    (s : Session) (entry : Record)
+    → Closes order s ≡ old → Describes start past (record { journal = journal; phase = old }) → IsReady old journal
+    → want_of old ≡ Keep entry
     → new.records ≡ Closed (unit_of s) ∷ journal.records → new.limit ≡ journal.limit
     → Describes start (Kept entry ∷ past) (record { journal = new; phase = Begins order })
 keeps_closed start past journal new old order s entry at d ready want records limit =
@@ -384,25 +347,12 @@ keeps_closed start past journal new old order s entry at d ready want records li
     rw (← is.1) (closed_on start past journal new order s before stood is.0 records limit)
 
 -- after a fresh session there is less to be done
-pub check_falls : (order : Contents) (s : Session) (verdict : Verdict) (old next : Phase) → Checks order s ≡ old → IsAfterCheck order verdict next
+pub check_falls : (order : Contents) (s : Session) (verdict : Verdict) (old next : Phase) → Checks order s ≡ old
+    → IsAfterCheck order verdict next
     → work_left next < work_left old
 check_falls order s verdicts.MayOpen old next at (opened, is, is_opened, is_told, valid, left) =
-    subst (λ (p : Phase). work_left next < work_left p) at (subst (λ (p : Phase). work_left p < work_left (Checks order s)) (sym is) (omega (arith, left)))
-check_falls order s verdicts.Done old next at is =
-    subst (λ (p : Phase). work_left next < work_left p) at (subst (λ (p : Phase). work_left p < work_left (Checks order s)) (sym is) (omega arith))
-check_falls order s verdicts.Short old next at is =
-    subst (λ (p : Phase). work_left next < work_left p) at (subst (λ (p : Phase). work_left p < work_left (Checks order s)) (sym is) (omega arith))
-check_falls order s verdicts.Format old next at is =
-    subst (λ (p : Phase). work_left next < work_left p) at (subst (λ (p : Phase). work_left p < work_left (Checks order s)) (sym is) (omega arith))
-check_falls order s verdicts.Silent old next at is =
-    subst (λ (p : Phase). work_left next < work_left p) at (subst (λ (p : Phase). work_left p < work_left (Checks order s)) (sym is) (omega arith))
-check_falls order s verdicts.Doubt old next at is =
-    subst (λ (p : Phase). work_left next < work_left p) at (subst (λ (p : Phase). work_left p < work_left (Checks order s)) (sym is) (omega arith))
-check_falls order s verdicts.DoubtOpen old next at is =
-    subst (λ (p : Phase). work_left next < work_left p) at (subst (λ (p : Phase). work_left p < work_left (Checks order s)) (sym is) (omega arith))
-check_falls order s verdicts.Closed old next at is =
-    subst (λ (p : Phase). work_left next < work_left p) at (subst (λ (p : Phase). work_left p < work_left (Checks order s)) (sym is) (omega arith))
-check_falls order s verdicts.NotClosed old next at is =
-    subst (λ (p : Phase). work_left next < work_left p) at (subst (λ (p : Phase). work_left p < work_left (Checks order s)) (sym is) (omega arith))
-check_falls order s verdicts.Read old next at is =
-    subst (λ (p : Phase). work_left next < work_left p) at (subst (λ (p : Phase). work_left p < work_left (Checks order s)) (sym is) (omega arith))
+    subst (λ (p : Phase). work_left next < work_left p)
+    at (subst (λ (p : Phase). work_left p < work_left (Checks order s)) (sym is) (omega (arith, left)))
+check_falls order s _ old next at is =
+    subst (λ (p : Phase). work_left next < work_left p)
+    at (subst (λ (p : Phase). work_left p < work_left (Checks order s)) (sym is) (omega arith))

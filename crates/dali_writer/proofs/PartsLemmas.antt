@@ -1,5 +1,6 @@
 -- Parts go on by one event.
-use Rattle.std.proofs.Common.{◌∙◌, ◌+◌, ◌<◌, ◌≤◌, ◌≡◌, ◌++◌, inl, inr, refl, zero, suc, arith, ap, sym, subst, ℕ, List, [], ◌∷◌, length, take, reverse, get_or}
+use Rattle.std.proofs.Common.{◌∙◌, ◌+◌, ◌<◌, ◌≤◌, ◌≡◌, ◌++◌, inl, inr, refl, zero, suc, arith, ap, sym, subst, ℕ, List}
+use Rattle.std.proofs.Common.{[], ◌∷◌, length, take, reverse, get_or}
 use Rattle.std.proofs.lemmas.List.{take_more, reverse-append}
 use Rattle.dali_trace.specs.declared.happening.Event.{Event}
 use Rattle.dali_trace.specs.declared.happening.Happening.{Happening}
@@ -10,14 +11,19 @@ use Rattle.dali_trace.specs.declared.happening.Event.TheVariants.{Stop}
 use Rattle.dali_trace.specs.declared.happening.Happening.TheVariants.{Kept, Stopped}
 use Rattle.dali_trace.specs.Parts.{IsKeptNext, Part, AreParts}
 
-pub more_parts : (start : Start) (events : List Event) (i : ℕ) (d : Event) (before after : List Happening) → i < length events → AreParts start (reverse (take i events)) before
+pub more_parts : (start : Start) (events : List Event) (i : ℕ) (d : Event) (before after : List Happening)
+    → i < length events → AreParts start (reverse (take i events)) before
     → Part start (get_or events i d) before after → AreParts start (reverse (take (i + 1) events)) after
 more_parts start events i d before after within so_far part =
-    subst (λ (es : List Event). AreParts start es after) (sym (ap reverse (take_more events i d within) ∙ reverse-append (take i events) (get_or events i d ∷ []))) (before, part, so_far)
+    subst (λ (es : List Event). AreParts start es after)
+    (sym (ap reverse (take_more events i d within) ∙ reverse-append (take i events) (get_or events i d ∷ [])))
+    (before, part, so_far)
 
 -- at the end all events have been served
-pub all_parts : (start : Start) (events : List Event) (i : ℕ) (trace : List Happening) → length events ≤ i → AreParts start (reverse (take i events)) trace → AreParts start (reverse events) trace
-all_parts start events i trace end parts = subst (λ (es : List Event). AreParts start (reverse es) trace) (take_all events i end) parts
+pub all_parts : (start : Start) (events : List Event) (i : ℕ) (trace : List Happening) → length events ≤ i
+    → AreParts start (reverse (take i events)) trace → AreParts start (reverse events) trace
+all_parts start events i trace end parts =
+    subst (λ (es : List Event). AreParts start (reverse es) trace) (take_all events i end) parts
   where
     take_all : (xs : List Event) (i : ℕ) → length xs ≤ i → take i xs ≡ xs
     take_all [] zero end = refl
@@ -27,13 +33,24 @@ all_parts start events i trace end parts = subst (λ (es : List Event). AreParts
 
 -- the part of a stop, where the traces are written oldest first
 
-pub stop_kept : (start : Start) (event : Event) (bytes : ℕ) (trace mid new : List Happening) (entry : Record) → event ≡ Stop bytes → mid ≡ trace ++ Kept entry ∷ [] → new ≡ mid ++ Stopped ∷ []
-    → IsKeptNext start (reverse trace) entry → length (spelling entry) ≤ bytes → Part start event (reverse trace) (reverse new)
+pub stop_kept : (start : Start) (event : Event) (bytes : ℕ) (trace mid new : List Happening) (entry : Record)
+    → event ≡ Stop bytes → mid ≡ trace ++ Kept entry ∷ [] → new ≡ mid ++ Stopped ∷ []
+    → IsKeptNext start (reverse trace) entry → length (spelling entry) ≤ bytes
+    → Part start event (reverse trace) (reverse new)
 stop_kept start event bytes trace mid new entry is one two next few =
     subst (λ (e : Event). Part start e (reverse trace) (reverse new)) (sym is)
-    (inr (entry, next, few, ap reverse two ∙ reverse-append mid (Stopped ∷ []) ∙ ap (λ (past : List Happening). Stopped ∷ past) (ap reverse one ∙ reverse-append trace (Kept entry ∷ []))))
+    (inr (
+      entry,
+      next,
+      few,
+      ap reverse two ∙ reverse-append mid (Stopped ∷ [])
+          ∙ ap (λ (past : List Happening). Stopped ∷ past) (ap reverse one ∙ reverse-append trace (Kept entry ∷ [])),
+    ))
 
-pub stop_cut : (start : Start) (event : Event) (bytes : ℕ) (trace new : List Happening) → event ≡ Stop bytes → new ≡ trace ++ Stopped ∷ []
-    → ((entry : Record) → IsKeptNext start (reverse trace) entry → bytes < length (spelling entry)) → Part start event (reverse trace) (reverse new)
+pub stop_cut : (start : Start) (event : Event) (bytes : ℕ) (trace new : List Happening) → event ≡ Stop bytes
+    → new ≡ trace ++ Stopped ∷ []
+    → ((entry : Record) → IsKeptNext start (reverse trace) entry → bytes < length (spelling entry))
+    → Part start event (reverse trace) (reverse new)
 stop_cut start event bytes trace new is one none =
-    subst (λ (e : Event). Part start e (reverse trace) (reverse new)) (sym is) (inl (ap reverse one ∙ reverse-append trace (Stopped ∷ []), none))
+    subst (λ (e : Event). Part start e (reverse trace) (reverse new)) (sym is)
+    (inl (ap reverse one ∙ reverse-append trace (Stopped ∷ []), none))

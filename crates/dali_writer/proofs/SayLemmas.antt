@@ -33,7 +33,8 @@ IsSaying (replies.Blocked unit) = Unit {0}
 IsSaying _ = ⊥
 
 -- after a saying nothing is unsaid
-all_said : (past : List Happening) (id : ℕ) (reply : Reply) → IsSaying reply → IsFinished past → is_unsaid (Answered id reply ∷ past) ≡ false
+all_said : (past : List Happening) (id : ℕ) (reply : Reply) → IsSaying reply → IsFinished past
+    → is_unsaid (Answered id reply ∷ past) ≡ false
 all_said [] id (replies.Kept code) saying finished = refl
 all_said (Asked order ∷ past) id (replies.Kept code) saying finished = absurd finished
 all_said (Answered last other ∷ past) id (replies.Kept code) saying finished = refl
@@ -76,30 +77,43 @@ pub record Blocks (order unit id : ℕ) (ask : Ask) (reply : Reply) : Type 0 whe
   pub number : order ≡ id
   pub blocked : replies.Blocked unit ≡ reply
 
-pub blocks : (order unit id : ℕ) (ask : Ask) (reply : Reply) → closing_of order unit ask ≡ Say id reply → Blocks order unit id ask reply
+pub blocks : (order unit id : ℕ) (ask : Ask) (reply : Reply) → closing_of order unit ask ≡ Say id reply
+    → Blocks order unit id ask reply
 blocks order unit id (asks.Send frame) reply e = cc
 blocks order unit id (asks.Ended verdicts.Closed) reply e = cc
-blocks order unit id (asks.Ended verdicts.MayOpen) reply e = record { verdict = verdicts.MayOpen; ended = refl; other = λ same. cc; number = cc; blocked = cc }
-blocks order unit id (asks.Ended verdicts.Done) reply e = record { verdict = verdicts.Done; ended = refl; other = λ same. cc; number = cc; blocked = cc }
-blocks order unit id (asks.Ended verdicts.Short) reply e = record { verdict = verdicts.Short; ended = refl; other = λ same. cc; number = cc; blocked = cc }
-blocks order unit id (asks.Ended verdicts.Format) reply e = record { verdict = verdicts.Format; ended = refl; other = λ same. cc; number = cc; blocked = cc }
-blocks order unit id (asks.Ended verdicts.Silent) reply e = record { verdict = verdicts.Silent; ended = refl; other = λ same. cc; number = cc; blocked = cc }
-blocks order unit id (asks.Ended verdicts.Doubt) reply e = record { verdict = verdicts.Doubt; ended = refl; other = λ same. cc; number = cc; blocked = cc }
-blocks order unit id (asks.Ended verdicts.DoubtOpen) reply e = record { verdict = verdicts.DoubtOpen; ended = refl; other = λ same. cc; number = cc; blocked = cc }
-blocks order unit id (asks.Ended verdicts.NotClosed) reply e = record { verdict = verdicts.NotClosed; ended = refl; other = λ same. cc; number = cc; blocked = cc }
-blocks order unit id (asks.Ended verdicts.Read) reply e = record { verdict = verdicts.Read; ended = refl; other = λ same. cc; number = cc; blocked = cc }
+blocks order unit id (asks.Ended verdicts.MayOpen) reply e =
+    record { verdict = verdicts.MayOpen; ended = refl; other = λ same. cc; number = cc; blocked = cc }
+blocks order unit id (asks.Ended verdicts.Done) reply e =
+    record { verdict = verdicts.Done; ended = refl; other = λ same. cc; number = cc; blocked = cc }
+blocks order unit id (asks.Ended verdicts.Short) reply e =
+    record { verdict = verdicts.Short; ended = refl; other = λ same. cc; number = cc; blocked = cc }
+blocks order unit id (asks.Ended verdicts.Format) reply e =
+    record { verdict = verdicts.Format; ended = refl; other = λ same. cc; number = cc; blocked = cc }
+blocks order unit id (asks.Ended verdicts.Silent) reply e =
+    record { verdict = verdicts.Silent; ended = refl; other = λ same. cc; number = cc; blocked = cc }
+blocks order unit id (asks.Ended verdicts.Doubt) reply e =
+    record { verdict = verdicts.Doubt; ended = refl; other = λ same. cc; number = cc; blocked = cc }
+blocks order unit id (asks.Ended verdicts.DoubtOpen) reply e =
+    record { verdict = verdicts.DoubtOpen; ended = refl; other = λ same. cc; number = cc; blocked = cc }
+blocks order unit id (asks.Ended verdicts.NotClosed) reply e =
+    record { verdict = verdicts.NotClosed; ended = refl; other = λ same. cc; number = cc; blocked = cc }
+blocks order unit id (asks.Ended verdicts.Read) reply e =
+    record { verdict = verdicts.Read; ended = refl; other = λ same. cc; number = cc; blocked = cc }
 
 -- a closing session that isn't closed ends as NotClosed
-pub not_closed : (verdict : Verdict) → EndsClosing verdict → (verdict ≡ verdicts.Closed → ⊥) → verdict ≡ verdicts.NotClosed
+pub not_closed : (verdict : Verdict) → EndsClosing verdict → (verdict ≡ verdicts.Closed → ⊥)
+    → verdict ≡ verdicts.NotClosed
 not_closed verdicts.Closed ends other = absurd (other refl)
 not_closed verdicts.NotClosed ends other = refl
 not_closed _ ends other = absurd ends
 
-numbered : (past : List Happening) (order : Contents) (id : ℕ) → waiting past ≡ Some order → order.id ≡ id → HasNumber id (waiting past)
+numbered : (past : List Happening) (order : Contents) (id : ℕ) → waiting past ≡ Some order → order.id ≡ id
+    → HasNumber id (waiting past)
 numbered past order id waits number = rw waits number
 
 pub said_on : (start : Start) (past : List Happening) (journal : JournalState) (phase : Phase) (id : ℕ) (reply : Reply)
-    → Describes start past (record { journal = journal; phase = phase }) → IsReady phase journal → want_of phase ≡ Say id reply
+    → Describes start past (record { journal = journal; phase = phase }) → IsReady phase journal
+    → want_of phase ≡ Say id reply
     → Describes start (Answered id reply ∷ past) (record { journal = journal; phase = Idle })
 said_on start past journal Idle id reply d ready e = cc
 said_on start past journal (Begins order) id reply d ready e = cc
@@ -111,7 +125,9 @@ said_on start past journal (Says last code) id reply d ready e =
     let ends : EndsAs last code (orders_of (records_of start past)) = rw d.same ready.1 in
     let may : MaySay start past last (replies.Kept code) = (d.place, ends) in
     subst (λ (r : Reply). Describes start (Answered id r ∷ past) (record { journal = journal; phase = Idle })) is
-    (subst (λ (n : ℕ). Describes start (Answered n (replies.Kept code) ∷ past) (record { journal = journal; phase = Idle })) same
+    (subst
+    (λ (n : ℕ). Describes start (Answered n (replies.Kept code) ∷ past) (record { journal = journal; phase = Idle }))
+    same
     (said start past journal (Says last code) last (replies.Kept code) d tt may))
 said_on start past journal (Closes order s) id reply d ready e =
     let b = blocks order.id (unit_of s) id (aim_of s) reply e in
@@ -134,15 +150,8 @@ pub write_sends : (ask : Ask) (frame : Frame) → write_of ask ≡ Send frame �
 write_sends (asks.Send sent) frame e = let same : sent ≡ frame = cc in ap asks.Send same
 write_sends (asks.Ended verdict) frame e = cc
 
-pub closing_sends_it : (id unit : ℕ) (ask : Ask) (frame : Frame) → closing_of id unit ask ≡ Send frame → ask ≡ asks.Send frame
+pub closing_sends_it : (id unit : ℕ) (ask : Ask) (frame : Frame) → closing_of id unit ask ≡ Send frame
+    → ask ≡ asks.Send frame
 closing_sends_it id unit (asks.Send sent) frame e = let same : sent ≡ frame = cc in ap asks.Send same
-closing_sends_it id unit (asks.Ended verdicts.MayOpen) frame e = cc
-closing_sends_it id unit (asks.Ended verdicts.Done) frame e = cc
-closing_sends_it id unit (asks.Ended verdicts.Short) frame e = cc
-closing_sends_it id unit (asks.Ended verdicts.Format) frame e = cc
-closing_sends_it id unit (asks.Ended verdicts.Silent) frame e = cc
-closing_sends_it id unit (asks.Ended verdicts.Doubt) frame e = cc
-closing_sends_it id unit (asks.Ended verdicts.DoubtOpen) frame e = cc
 closing_sends_it id unit (asks.Ended verdicts.Closed) frame e = cc
-closing_sends_it id unit (asks.Ended verdicts.NotClosed) frame e = cc
-closing_sends_it id unit (asks.Ended verdicts.Read) frame e = cc
+closing_sends_it id unit (asks.Ended _) frame e = cc

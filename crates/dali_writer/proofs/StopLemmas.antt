@@ -16,18 +16,26 @@ pub cut_of_none : (last : Record) × IsCutOf [] last
 cut_of_none = (Ended Done, (tt, spelling (Ended Done), (λ e. cc), refl))
 
 -- the first bytes of a record that has more
-pub cut_of_some : (entry : Record) (spelled : List ℕ) (reached : ℕ) → spelled ≡ spelling entry → IsRecord entry → reached < length (spelling entry) → (last : Record) × IsCutOf (take reached spelled) last
+pub cut_of_some : (entry : Record) (spelled : List ℕ) (reached : ℕ) → spelled ≡ spelling entry → IsRecord entry
+    → reached < length (spelling entry) → (last : Record) × IsCutOf (take reached spelled) last
 cut_of_some entry spelled reached same ranged more =
     (entry, (ranged, drop reached spelled, some, sym same ∙ sym (take-append-drop reached spelled)))
   where
     some : drop reached spelled ≢ []
-    some none = let long = ap (λ (bytes : List ℕ). length bytes) none in let all = ap (λ (bytes : List ℕ). length bytes) same in omega (arith, length-drop reached spelled)
+    some none =
+        let long = ap (λ (bytes : List ℕ). length bytes) none in
+        let all = ap (λ (bytes : List ℕ). length bytes) same in omega (arith, length-drop reached spelled)
 
 -- what is loaded from the bytes of a journal with a cut behind them
-pub left_same : (journal again : JournalState) (last : Record) (cut bytes : List ℕ) (limit len : ℕ) → IsJournal journal → IsCutOf cut last → limit ≡ journal.limit
-    → bytes ≡ journal_spelling journal.records ++ cut → IsLoaded limit bytes again len → (again.records ≡ journal.records) × (again.limit ≡ journal.limit)
+pub left_same : (journal again : JournalState) (last : Record) (cut bytes : List ℕ) (limit len : ℕ) → IsJournal journal
+    → IsCutOf cut last → limit ≡ journal.limit
+    → bytes ≡ journal_spelling journal.records ++ cut → IsLoaded limit bytes again len
+    → (again.records ≡ journal.records) × (again.limit ≡ journal.limit)
 left_same journal again last cut bytes limit len is cut_is same spelled loaded =
     let all = loads_again journal last cut is cut_is in
-    let one = torn_no_fault journal.limit (journal_spelling journal.records ++ cut) journal.records (length (journal_spelling journal.records)) all.1 all.2 in
-    let there : IsTorn (journal_spelling journal.records ++ cut) again.records len = subst (λ (b : List ℕ). IsTorn b again.records len) spelled loaded.2 in
+    let one =
+    torn_no_fault journal.limit (journal_spelling journal.records ++ cut) journal.records
+    (length (journal_spelling journal.records)) all.1 all.2 in
+    let there : IsTorn (journal_spelling journal.records ++ cut) again.records len =
+    subst (λ (b : List ℕ). IsTorn b again.records len) spelled loaded.2 in
     ((one.1 again.records len (rw same at loaded.1) there).0, loaded.0 ∙ same)

@@ -1,5 +1,6 @@
 -- An order that is submitted gets the reply that is due, and the trace describes the writer.
-use Rattle.std.proofs.Common.{◌≡◌, ◌⊎◌, inl, inr, refl, sym, ap, ◌∙◌, subst, ℕ, ◌≤◌, ◌<◌, Bool, true, false, ◌==◌, ◌||◌, nat_le, List, [], ◌∷◌, arith}
+use Rattle.std.proofs.Common.{◌≡◌, ◌⊎◌, inl, inr, refl, sym, ap, ◌∙◌, subst, ℕ, ◌≤◌, ◌<◌, Bool, true, false, ◌==◌, ◌||◌}
+use Rattle.std.proofs.Common.{nat_le, List, [], ◌∷◌, arith}
 use Rattle.std.specs.Prelude.{◌↔◌, IsTrue}
 use Rattle.std.proofs.Math.Dec.{leb}
 use Rattle.std.proofs.lemmas.Bool.Decides.{nat_tests, leb_tells}
@@ -41,37 +42,19 @@ IsRefusal replies.Full = Unit {0}
 IsRefusal _ = ⊥
 
 -- after them a writer is where it was
-stays : (phase : Phase) (past : List Happening) (order : Contents) (id : ℕ) (reply : Reply) → IsRefusal reply → IsAt phase past
+stays : (phase : Phase) (past : List Happening) (order : Contents) (id : ℕ) (reply : Reply) → IsRefusal reply
+    → IsAt phase past
     → IsAt phase (Answered id reply ∷ Asked order ∷ past)
-stays Idle past order id (replies.Kept last) refused at = at
-stays (Begins waiter) past order id (replies.Kept last) refused at = at
-stays (Checks waiter s) past order id (replies.Kept last) refused at = at
-stays (Writes waiter s) past order id (replies.Kept last) refused at = at
-stays (Closes waiter s) past order id (replies.Kept last) refused at = at
-stays (Says number code) past order id (replies.Kept last) refused at = at
-stays Idle past order id replies.IdReused refused at = at
-stays (Begins waiter) past order id replies.IdReused refused at = at
-stays (Checks waiter s) past order id replies.IdReused refused at = at
-stays (Writes waiter s) past order id replies.IdReused refused at = at
-stays (Closes waiter s) past order id replies.IdReused refused at = at
-stays (Says number code) past order id replies.IdReused refused at = at
-stays Idle past order id replies.Busy refused at = at
-stays (Begins waiter) past order id replies.Busy refused at = at
-stays (Checks waiter s) past order id replies.Busy refused at = at
-stays (Writes waiter s) past order id replies.Busy refused at = at
-stays (Closes waiter s) past order id replies.Busy refused at = at
-stays (Says number code) past order id replies.Busy refused at = at
-stays Idle past order id replies.Full refused at = at
-stays (Begins waiter) past order id replies.Full refused at = at
-stays (Checks waiter s) past order id replies.Full refused at = at
-stays (Writes waiter s) past order id replies.Full refused at = at
-stays (Closes waiter s) past order id replies.Full refused at = at
-stays (Says number code) past order id replies.Full refused at = at
-stays phase past order id _ refused at = absurd refused
+stays phase past order id replies.Taken refused at = absurd refused
+stays phase past order id (replies.Blocked unit) refused at = absurd refused
+stays Idle past order id _ refused at = at
+stays _ past order id _ refused at = at
 
 -- an order and its reply
-asked : (start : Start) (past : List Happening) (old new : Held) (order : Contents) (reply : Reply) → Describes start past old → IsReply start past order reply
-    → new.journal.records ≡ old.journal.records → new.journal.limit ≡ old.journal.limit → IsAt new.phase (Answered order.id reply ∷ Asked order ∷ past)
+asked : (start : Start) (past : List Happening) (old new : Held) (order : Contents) (reply : Reply)
+    → Describes start past old → IsReply start past order reply
+    → new.journal.records ≡ old.journal.records → new.journal.limit ≡ old.journal.limit
+    → IsAt new.phase (Answered order.id reply ∷ Asked order ∷ past)
     → Describes start (Answered order.id reply ∷ Asked order ∷ past) new
 asked start past old new order reply d due records limit place = record {
   legal = ((d.legal, may_next start past (Asked order) d.finished tt), (refl, due));
@@ -81,12 +64,15 @@ asked start past old new order reply d due records limit place = record {
   place = place;
 }
 
-pub refused : (start : Start) (past : List Happening) (w : Held) (order : Contents) (reply : Reply) → Describes start past w → IsRefusal reply → IsReply start past order reply
+pub refused : (start : Start) (past : List Happening) (w : Held) (order : Contents) (reply : Reply)
+    → Describes start past w → IsRefusal reply → IsReply start past order reply
     → Describes start (Answered order.id reply ∷ Asked order ∷ past) w
-refused start past w order reply d refusal due = asked start past w w order reply d due refl refl (stays w.phase past order order.id reply refusal d.place)
+refused start past w order reply d refusal due =
+    asked start past w w order reply d due refl refl (stays w.phase past order order.id reply refusal d.place)
 
 -- what the journal knows of the order
-known_due : (order : Contents) (kept : Kept) (busy full : Bool) (reply : Reply) → IsKnownReply order kept reply → IsReplyBy order kept busy full reply
+known_due : (order : Contents) (kept : Kept) (busy full : Bool) (reply : Reply) → IsKnownReply order kept reply
+    → IsReplyBy order kept busy full reply
 known_due order kept busy full (replies.Kept code) known = known
 known_due order kept busy full replies.IdReused known = known
 known_due order kept busy full _ known = absurd known
@@ -96,12 +82,15 @@ known_refusal order kept (replies.Kept code) known = tt
 known_refusal order kept replies.IdReused known = tt
 known_refusal order kept _ known = absurd known
 
-pub known_on : (start : Start) (past : List Happening) (w : Held) (order : Contents) (reply : Reply) → Describes start past w
-    → IsKnownReply order (kept_of order.id w.journal.records) reply → Describes start (Answered order.id reply ∷ Asked order ∷ past) w
+pub known_on : (start : Start) (past : List Happening) (w : Held) (order : Contents) (reply : Reply)
+    → Describes start past w
+    → IsKnownReply order (kept_of order.id w.journal.records) reply
+    → Describes start (Answered order.id reply ∷ Asked order ∷ past) w
 known_on start past w order reply d known =
     let kept = kept_of order.id (records_of start past) in
     let so : IsKnownReply order kept reply = rw d.same known in
-    refused start past w order reply d (known_refusal order kept reply so) (known_due order kept (is_busy start past) (is_full start past) reply so)
+    refused start past w order reply d (known_refusal order kept reply so)
+    (known_due order kept (is_busy start past) (is_full start past) reply so)
 
 -- a phase that isn't idle wants something, and an idle one nothing
 idle_wants : (phase : Phase) → is_idle phase ≡ true → is_wanting (want_of phase) ≡ false
@@ -113,17 +102,22 @@ idle_wants (Closes order s) e = cc
 idle_wants (Says id code) e = cc
 
 pub busy_on : (start : Start) (past : List Happening) (journal : JournalState) (phase : Phase) (order : Contents)
-    → Describes start past (record { journal = journal; phase = phase }) → IsReady phase journal → IsNotEnded order (kept_of order.id journal.records)
-    → is_idle phase ≡ false → Describes start (Answered order.id replies.Busy ∷ Asked order ∷ past) (record { journal = journal; phase = phase })
+    → Describes start past (record { journal = journal; phase = phase }) → IsReady phase journal
+    → IsNotEnded order (kept_of order.id journal.records)
+    → is_idle phase ≡ false → Describes start (Answered order.id replies.Busy ∷ Asked order ∷ past)
+    (record { journal = journal; phase = phase })
 busy_on start past journal phase order d ready fresh idle =
     let due : IsReply start past order replies.Busy = (rw d.same fresh, is_so phase d ready idle) in
     refused start past _ order replies.Busy d tt due where
-      is_so : (phase : Phase) → Describes start past (record { journal = journal; phase = phase }) → IsReady phase journal → is_idle phase ≡ false → is_busy start past ≡ true
+      is_so : (phase : Phase) → Describes start past (record { journal = journal; phase = phase })
+          → IsReady phase journal → is_idle phase ≡ false → is_busy start past ≡ true
       is_so Idle d ready e = cc
       is_so (Begins order) d ready e = busy_at start past journal (Begins order) d ready
-      is_so (Checks order s) d ready e = busy_at start past journal (Checks order s) d ready ∙ check_wants order.unit (aim_of s)
+      is_so (Checks order s) d ready e =
+          busy_at start past journal (Checks order s) d ready ∙ check_wants order.unit (aim_of s)
       is_so (Writes order s) d ready e = busy_at start past journal (Writes order s) d ready ∙ write_wants (aim_of s)
-      is_so (Closes order s) d ready e = busy_at start past journal (Closes order s) d ready ∙ closing_wants order.id (unit_of s) (aim_of s)
+      is_so (Closes order s) d ready e =
+          busy_at start past journal (Closes order s) d ready ∙ closing_wants order.id (unit_of s) (aim_of s)
       is_so (Says id code) d ready e = busy_at start past journal (Says id code) d ready
 
 full_is : (limit count : ℕ) → limit ≤ count → nat_le limit count ≡ true
@@ -132,41 +126,53 @@ full_is limit count le = grind (arith, nat_tests)
 full_not : (limit count : ℕ) → count < limit → nat_le limit count ≡ false
 full_not limit count less = grind (arith, nat_tests)
 
-idle_busy : (start : Start) (past : List Happening) (journal : JournalState) (phase : Phase) → Describes start past (record { journal = journal; phase = phase })
+idle_busy : (start : Start) (past : List Happening) (journal : JournalState) (phase : Phase)
+    → Describes start past (record { journal = journal; phase = phase })
     → IsReady phase journal → is_idle phase ≡ true → is_busy start past ≡ false
 idle_busy start past journal phase d ready idle = busy_at start past journal phase d ready ∙ idle_wants phase idle
 
 pub full_on : (start : Start) (past : List Happening) (journal : JournalState) (phase : Phase) (order : Contents)
-    → Describes start past (record { journal = journal; phase = phase }) → IsReady phase journal → IsNotEnded order (kept_of order.id journal.records)
+    → Describes start past (record { journal = journal; phase = phase }) → IsReady phase journal
+    → IsNotEnded order (kept_of order.id journal.records)
     → is_idle phase ≡ true → journal.limit ≤ order_count journal
-    → Describes start (Answered order.id replies.Full ∷ Asked order ∷ past) (record { journal = journal; phase = phase })
+    → Describes start (Answered order.id replies.Full ∷ Asked order ∷ past)
+    (record { journal = journal; phase = phase })
 full_on start past journal phase order d ready fresh idle le =
     let full : is_full start past ≡ true = rw (d.same, d.limit) (full_is journal.limit (order_count journal) le) in
-    refused start past _ order replies.Full d tt (rw d.same fresh, idle_busy start past journal phase d ready idle, full)
+    refused start past _ order replies.Full d tt
+    (rw d.same fresh, idle_busy start past journal phase d ready idle, full)
 
 -- the place of a writer that has taken an order
 first_place : (past : List Happening) (order : Contents) (stands : Standing) (next : Phase) → IsFirst stands order next
     → IsAt next (Answered order.id replies.Taken ∷ Asked order ∷ past)
-first_place past order standings.Idle next is = subst (λ (p : Phase). IsAt p (Answered order.id replies.Taken ∷ Asked order ∷ past)) (sym is) refl
-first_place past order (standings.Began other) next is = subst (λ (p : Phase). IsAt p (Answered order.id replies.Taken ∷ Asked order ∷ past)) (sym is) refl
-first_place past order (standings.Opened other) next is = subst (λ (p : Phase). IsAt p (Answered order.id replies.Taken ∷ Asked order ∷ past)) (sym is) refl
+first_place past order standings.Idle next is =
+    subst (λ (p : Phase). IsAt p (Answered order.id replies.Taken ∷ Asked order ∷ past)) (sym is) refl
+first_place past order (standings.Began other) next is =
+    subst (λ (p : Phase). IsAt p (Answered order.id replies.Taken ∷ Asked order ∷ past)) (sym is) refl
+first_place past order (standings.Opened other) next is =
+    subst (λ (p : Phase). IsAt p (Answered order.id replies.Taken ∷ Asked order ∷ past)) (sym is) refl
 first_place past order (standings.Left unit) next (s, is, at, closing, is_told) =
     subst (λ (p : Phase). IsAt p (Answered order.id replies.Taken ∷ Asked order ∷ past)) (sym is) (refl, is_told)
 
 -- where the first four replies don't apply, Taken is due
 pub taken_due : (start : Start) (past : List Happening) (journal : JournalState) (phase : Phase) (order : Contents)
-    → Describes start past (record { journal = journal; phase = phase }) → IsReady phase journal → IsNotEnded order (kept_of order.id journal.records)
+    → Describes start past (record { journal = journal; phase = phase }) → IsReady phase journal
+    → IsNotEnded order (kept_of order.id journal.records)
     → is_idle phase ≡ true → order_count journal < journal.limit → IsReply start past order replies.Taken
 taken_due start past journal phase order d ready fresh idle less =
     let room : is_full start past ≡ false = rw (d.same, d.limit) (full_not journal.limit (order_count journal) less) in
     (rw d.same fresh, idle_busy start past journal phase d ready idle, room)
 
-pub taken_on : (start : Start) (past : List Happening) (journal new : JournalState) (phase next : Phase) (order : Contents) (stands : Standing)
-    → Describes start past (record { journal = journal; phase = phase }) → IsReady phase journal → IsNotEnded order (kept_of order.id journal.records)
-    → is_idle phase ≡ true → order_count journal < journal.limit → new.records ≡ journal.records → new.limit ≡ journal.limit → IsFirst stands order next
+pub taken_on : (start : Start) (past : List Happening) (journal new : JournalState) (phase next : Phase)
+    (order : Contents) (stands : Standing)
+    → Describes start past (record { journal = journal; phase = phase }) → IsReady phase journal
+    → IsNotEnded order (kept_of order.id journal.records)
+    → is_idle phase ≡ true → order_count journal < journal.limit → new.records ≡ journal.records
+    → new.limit ≡ journal.limit → IsFirst stands order next
     → Describes start (Answered order.id replies.Taken ∷ Asked order ∷ past) (record { journal = new; phase = next })
 taken_on start past journal new phase next order stands d ready fresh idle less records limit first =
-    asked start past _ _ order replies.Taken d (taken_due start past journal phase order d ready fresh idle less) records limit
+    asked start past _ _ order replies.Taken d (taken_due start past journal phase order d ready fresh idle less)
+    records limit
     (first_place past order stands next first)
 
 -- all these orders have ended
@@ -179,47 +185,62 @@ HaveEnded (newest ∷ older) = ⊥
 abbrev Leaves : Standing → List (Contents × Stage) → Type 0
 Leaves standings.Idle orders = HaveEnded orders
 Leaves (standings.Left unit) orders = HaveEnded orders
-Leaves (standings.Began order) orders = (older : List (Contents × Stage)) × (orders ≡ (order, stages.Begun) ∷ older) × HaveEnded older
-Leaves (standings.Opened order) orders = (older : List (Contents × Stage)) × (orders ≡ (order, stages.Open) ∷ older) × HaveEnded older
+Leaves (standings.Began order) orders =
+    (older : List (Contents × Stage)) × (orders ≡ (order, stages.Begun) ∷ older) × HaveEnded older
+Leaves (standings.Opened order) orders =
+    (older : List (Contents × Stage)) × (orders ≡ (order, stages.Open) ∷ older) × HaveEnded older
 
-ended_now : (code : Code) (orders : List (Contents × Stage)) (order : Contents) (stage : Stage) (older : List (Contents × Stage)) → orders ≡ (order, stage) ∷ older
+ended_now : (code : Code) (orders : List (Contents × Stage)) (order : Contents) (stage : Stage)
+    (older : List (Contents × Stage))
+    → orders ≡ (order, stage) ∷ older
     → HaveEnded older → HaveEnded (come_to (stages.Ended code) orders)
 ended_now code orders order stage older is ended = rw is ended
 
 leaves : (records : List Record) → IsSentence records → Leaves (standing_of records) (orders_of records)
 leaves [] sentence = tt
 leaves (entry ∷ older) sentence = by (standing_of older) entry sentence.1 (leaves older sentence.0) where
-  by : (stands : Standing) (entry : Record) → Allows stands entry → Leaves stands (orders_of older) → Leaves (next_standing stands entry) (orders_of (entry ∷ older))
+  by : (stands : Standing) (entry : Record) → Allows stands entry → Leaves stands (orders_of older)
+      → Leaves (next_standing stands entry) (orders_of (entry ∷ older))
   by standings.Idle (Began order) allowed before = (orders_of older, refl, before)
   by (standings.Began order) (Opened unit) allowed before = (before.0, ap (come_to stages.Open) before.1, before.2)
-  by (standings.Began order) (Ended codes.Short) allowed before = ended_now codes.Short (orders_of older) order stages.Begun before.0 before.1 before.2
-  by (standings.Began order) (Ended codes.Format) allowed before = ended_now codes.Format (orders_of older) order stages.Begun before.0 before.1 before.2
-  by (standings.Began order) (Ended codes.Silent) allowed before = ended_now codes.Silent (orders_of older) order stages.Begun before.0 before.1 before.2
-  by (standings.Opened order) (Ended codes.Done) allowed before = ended_now codes.Done (orders_of older) order stages.Open before.0 before.1 before.2
-  by (standings.Opened order) (Ended codes.Doubt) allowed before = ended_now codes.Doubt (orders_of older) order stages.Open before.0 before.1 before.2
-  by (standings.Opened order) (Ended codes.DoubtOpen) allowed before = ended_now codes.DoubtOpen (orders_of older) order stages.Open before.0 before.1 before.2
+  by (standings.Began order) (Ended codes.Short) allowed before =
+      ended_now codes.Short (orders_of older) order stages.Begun before.0 before.1 before.2
+  by (standings.Began order) (Ended codes.Format) allowed before =
+      ended_now codes.Format (orders_of older) order stages.Begun before.0 before.1 before.2
+  by (standings.Began order) (Ended codes.Silent) allowed before =
+      ended_now codes.Silent (orders_of older) order stages.Begun before.0 before.1 before.2
+  by (standings.Opened order) (Ended codes.Done) allowed before =
+      ended_now codes.Done (orders_of older) order stages.Open before.0 before.1 before.2
+  by (standings.Opened order) (Ended codes.Doubt) allowed before =
+      ended_now codes.Doubt (orders_of older) order stages.Open before.0 before.1 before.2
+  by (standings.Opened order) (Ended codes.DoubtOpen) allowed before =
+      ended_now codes.DoubtOpen (orders_of older) order stages.Open before.0 before.1 before.2
   by (standings.Left unit) (Closed closed) allowed before = before
   by _ _ allowed before = absurd allowed
 
 -- among orders that have ended none is found that hasn't
-none_open : {A : Type 0} (id : ℕ) (orders : List (Contents × Stage)) (order : Contents) → HaveEnded orders → kept_among id orders ≡ kepts.Unfinished order → A
+none_open : {A : Type 0} (id : ℕ) (orders : List (Contents × Stage)) (order : Contents) → HaveEnded orders
+    → kept_among id orders ≡ kepts.Unfinished order → A
 none_open id [] order ended e = cc
-none_open id ((first, stages.Ended code) ∷ older) order ended e = by (λ later. none_open id older order ended later) (first.id == id) refl where
-  by : {A : Type 0} → (kept_among id older ≡ kepts.Unfinished order → A) → (x : Bool) → (first.id == id) ≡ x → A
-  by more true p = let found : kepts.Ended first code ≡ kepts.Unfinished order = rw p at e in cc
-  by more false p = more (rw p at e)
+none_open id ((first, stages.Ended code) ∷ older) order ended e =
+    by (λ later. none_open id older order ended later) (first.id == id) refl where
+      by : {A : Type 0} → (kept_among id older ≡ kepts.Unfinished order → A) → (x : Bool) → (first.id == id) ≡ x → A
+      by more true p = let found : kepts.Ended first code ≡ kepts.Unfinished order = rw p at e in cc
+      by more false p = more (rw p at e)
 none_open id ((first, stages.Begun) ∷ older) order ended e = absurd ended
 none_open id ((first, stages.Open) ∷ older) order ended e = absurd ended
 
 -- where no order is at work, all have ended
-idle_ended : (stands : Standing) (orders : List (Contents × Stage)) → is_at_work stands ≡ false → Leaves stands orders → HaveEnded orders
+idle_ended : (stands : Standing) (orders : List (Contents × Stage)) → is_at_work stands ≡ false → Leaves stands orders
+    → HaveEnded orders
 idle_ended standings.Idle orders idle left = left
 idle_ended (standings.Left unit) orders idle left = left
 idle_ended (standings.Began order) orders idle left = cc
 idle_ended (standings.Opened order) orders idle left = cc
 
 -- an order that isn't kept was not begun
-come_absent : (id : ℕ) (stage : Stage) (orders : List (Contents × Stage)) → kept_among id (come_to stage orders) ≡ kepts.Absent → kept_among id orders ≡ kepts.Absent
+come_absent : (id : ℕ) (stage : Stage) (orders : List (Contents × Stage))
+    → kept_among id (come_to stage orders) ≡ kepts.Absent → kept_among id orders ≡ kepts.Absent
 come_absent id stage [] e = refl
 come_absent id stage (newest ∷ older) e = by (newest.0.id == id) refl where
   by : (x : Bool) → (newest.0.id == id) ≡ x → kept_among id (newest ∷ older) ≡ kepts.Absent
@@ -229,38 +250,48 @@ come_absent id stage (newest ∷ older) e = by (newest.0.id == id) refl where
 not_begun : (id : ℕ) (records : List Record) → kept_of id records ≡ kepts.Absent → is_begun id records ≡ false
 not_begun id [] e = refl
 not_begun id (Began order ∷ older) e = by (λ none. not_begun id older none) (order.id == id) refl where
-  by : (kept_of id older ≡ kepts.Absent → is_begun id older ≡ false) → (x : Bool) → (order.id == id) ≡ x → (order.id == id || is_begun id older) ≡ false
+  by : (kept_of id older ≡ kepts.Absent → is_begun id older ≡ false) → (x : Bool) → (order.id == id) ≡ x
+      → (order.id == id || is_begun id older) ≡ false
   by more true p = let some : kepts.Unfinished order ≡ kepts.Absent = rw p at e in cc
   by more false p = let none : kept_of id older ≡ kepts.Absent = rw p at e in rw p (more none)
 not_begun id (Opened unit ∷ older) e = not_begun id older (come_absent id stages.Open (orders_of older) e)
 not_begun id (Ended code ∷ older) e = not_begun id older (come_absent id (stages.Ended code) (orders_of older) e)
 not_begun id (Closed unit ∷ older) e = not_begun id older e
 
-pub new_number : (records : List Record) (order : Contents) → IsSentence records → is_at_work (standing_of records) ≡ false → IsNotEnded order (kept_of order.id records)
+pub new_number : (records : List Record) (order : Contents) → IsSentence records
+    → is_at_work (standing_of records) ≡ false → IsNotEnded order (kept_of order.id records)
     → is_begun order.id records ≡ false
 new_number records order sentence idle fresh = by (kept_of order.id records) refl fresh where
   by : (kept : Kept) → kept_of order.id records ≡ kept → IsNotEnded order kept → is_begun order.id records ≡ false
   by kepts.Absent e is = not_begun order.id records e
-  by (kepts.Unfinished old) e is = none_open order.id (orders_of records) old (idle_ended (standing_of records) (orders_of records) idle (leaves records sentence)) e
+  by (kepts.Unfinished old) e is =
+      none_open order.id (orders_of records) old
+      (idle_ended (standing_of records) (orders_of records) idle (leaves records sentence)) e
   by (kepts.Ended old code) e is = absurd is
 
 -- the journal is ready for an order that is taken
-is_left_idle : (stands : Standing) (order : Contents) (next : Phase) (new : JournalState) → standing_of new.records ≡ stands → is_at_work stands ≡ false → IsFirst stands order next
+is_left_idle : (stands : Standing) (order : Contents) (next : Phase) (new : JournalState)
+    → standing_of new.records ≡ stands → is_at_work stands ≡ false → IsFirst stands order next
     → MayBegin new (Began order) → IsReady next new
 is_left_idle standings.Idle order next new at idle is may = subst (λ (p : Phase). IsReady p new) (sym is) (at, may)
 is_left_idle (standings.Left unit) order next new at idle (s, is, same, closing, is_told) may =
-    subst (λ (p : Phase). IsReady p new) (sym is) (at ∙ ap standings.Left (sym same), subst (λ (u : ℕ). IsClosing u s) (sym same) closing, may)
+    subst (λ (p : Phase). IsReady p new) (sym is)
+    (at ∙ ap standings.Left (sym same), subst (λ (u : ℕ). IsClosing u s) (sym same) closing, may)
 is_left_idle (standings.Began other) order next new at idle is may = cc
 is_left_idle (standings.Opened other) order next new at idle is may = cc
 
-pub ready_taken : (journal new : JournalState) (phase next : Phase) (order : Contents) → IsSentence journal.records → IsReady phase journal
+pub ready_taken : (journal new : JournalState) (phase next : Phase) (order : Contents) → IsSentence journal.records
+    → IsReady phase journal
     → IsNotEnded order (kept_of order.id journal.records) → is_idle phase ≡ true → order_count journal < journal.limit
-    → new.records ≡ journal.records → new.limit ≡ journal.limit → HasRoom new order → IsFirst (standing_of new.records) order next → IsReady next new
+    → new.records ≡ journal.records → new.limit ≡ journal.limit → HasRoom new order
+    → IsFirst (standing_of new.records) order next → IsReady next new
 ready_taken journal new phase next order sentence ready fresh idle less records limit room first =
     let rest : is_at_work (standing_of journal.records) ≡ false = at_rest phase ready idle in
     let number = new_number journal.records order sentence rest fresh in
-    is_left_idle (standing_of new.records) order next new refl (rw records rest) first (room, rw (records, limit) less, rw records number) where
-      at_rest : (phase : Phase) → IsReady phase journal → is_idle phase ≡ true → is_at_work (standing_of journal.records) ≡ false
+    is_left_idle (standing_of new.records) order next new refl (rw records rest) first
+    (room, rw (records, limit) less, rw records number) where
+      at_rest : (phase : Phase) → IsReady phase journal → is_idle phase ≡ true
+          → is_at_work (standing_of journal.records) ≡ false
       at_rest Idle ready e = ready
       at_rest (Begins order) ready e = cc
       at_rest (Checks order s) ready e = cc

@@ -15,7 +15,8 @@ use Rattle.dali_write.specs.Told.{unit_of, aim_of}
 use Rattle.dali_write.specs.Touches.{writes_of}
 use Rattle.dali_write.specs.Guards.{IsGuarded as IsGuardedFrame}
 use Rattle.dali_write.proofs.GuardLemmas.{older_guarded}
-use Rattle.dali_write.proofs.SessionLemmas.{fresh_sends, opened_sends, closing_sends, fresh_wants, opened_wants, closing_wants}
+use Rattle.dali_write.proofs.SessionLemmas.{fresh_sends, opened_sends, closing_sends, fresh_wants, opened_wants}
+use Rattle.dali_write.proofs.SessionLemmas.{closing_wants}
 use Rattle.dali_trace.specs.declared.happening.Happening.{Happening}
 use Rattle.dali_trace.specs.declared.happening.Happening.TheVariants.{Sent, Kept}
 use Rattle.dali_trace.specs.declared.happening.Want.{Want}
@@ -28,7 +29,8 @@ use Rattle.dali_trace.specs.Legal.{Legal, MaySend, MayKeep}
 use Rattle.dali_writer.specs.Phases.{want_of, check_of, write_of, check_record, write_code}
 use Rattle.dali_writer.specs.Held.{IsReady}
 use Rattle.dali_writer.specs.Describes.{Describes}
-use Rattle.dali_trace.specs.ByPlan.{told_in, Asks, EndsIn, IsPlanned}
+use Rattle.dali_trace.specs.Grounds.{EndsIn}
+use Rattle.dali_trace.specs.ByPlan.{told_in, Asks, IsPlanned}
 use Rattle.dali_writer.specs.Follows.{Follows}
 use Rattle.dali_trace.specs.Parts.{NextRecord, IsKeptNext}
 use Rattle.dali_trace.specs.Next.{IsNext, IsDone}
@@ -39,18 +41,22 @@ use Rattle.dali_writer.proofs.FollowLemmas.{said_follows}
 use Rattle.dali_writer.proofs.NextRecordLemmas.{next_record}
 
 may_send : (start : Start) (past : List Happening) (journal : JournalState) (phase : Phase) (frame : Frame)
-    → Describes start past (record { journal = journal; phase = phase }) → IsReady phase journal → want_of phase ≡ Send frame → MaySend past (standing_at start past) frame
+    → Describes start past (record { journal = journal; phase = phase }) → IsReady phase journal
+    → want_of phase ≡ Send frame → MaySend past (standing_at start past) frame
 may_send start past journal Idle frame d ready e = cc
 may_send start past journal (Begins order) frame d ready e = cc
 may_send start past journal (Says id code) frame d ready e = cc
 may_send start past journal (Checks order s) frame d ready e =
     let place = d.place in
     let aim = check_sends order.unit (aim_of s) frame e in
-    rw (stands_so start past _ _ d ready.0) (fresh_may past order place.0 frame (fresh_sends order place.0 s frame ready.1 place.3 aim))
+    rw (stands_so start past _ _ d ready.0)
+    (fresh_may past order place.0 frame (fresh_sends order place.0 s frame ready.1 place.3 aim))
 may_send start past journal (Writes order s) frame d ready e =
     let place = d.place in
     let aim = write_sends (aim_of s) frame e in
-    let guarded = older_guarded (writes_of order.updates) order.unit place.0 place.1 frame (opened_sends order place.0 s frame ready.1 place.3 aim) in
+    let guarded =
+    older_guarded (writes_of order.updates) order.unit place.0 place.1 frame
+    (opened_sends order place.0 s frame ready.1 place.3 aim) in
     let all : IsGuardedFrame (writes_of order.updates) order.unit (sent_of past) frame =
     subst (λ (t : List Exchange). IsGuardedFrame (writes_of order.updates) order.unit t frame) (sym place.2) guarded in
     rw (stands_so start past _ _ d ready.0) (opened_may past order frame ready.2.rising all)
@@ -59,39 +65,57 @@ may_send start past journal (Closes order s) frame d ready e =
     let aim = closing_sends_it order.id (unit_of s) (aim_of s) frame e in
     let since = since_part past in
     let unit = unit_of s in
-    let guarded = older_guarded ((2, 0xFF) ∷ []) unit (sent_since_taken past) since.0 frame (closing_sends unit (sent_since_taken past) s frame ready.1 place.1 aim) in
+    let guarded =
+    older_guarded ((2, 0xFF) ∷ []) unit (sent_since_taken past) since.0 frame
+    (closing_sends unit (sent_since_taken past) s frame ready.1 place.1 aim) in
     let all : IsGuardedFrame ((2, 0xFF) ∷ []) unit (sent_of past) frame =
     subst (λ (t : List Exchange). IsGuardedFrame ((2, 0xFF) ∷ []) unit t frame) (sym since.1) guarded in
     let waits : IsSome (waiting past) = rw place.0 refl in
     rw (stands_so start past _ _ d ready.0) (closing_may past unit frame waits all)
 
 may_keep : (start : Start) (past : List Happening) (journal : JournalState) (phase : Phase) (entry : Record)
-    → Describes start past (record { journal = journal; phase = phase }) → IsReady phase journal → want_of phase ≡ Keep entry → Legal start (Kept entry ∷ past)
+    → Describes start past (record { journal = journal; phase = phase }) → IsReady phase journal
+    → want_of phase ≡ Keep entry → Legal start (Kept entry ∷ past)
 may_keep start past journal Idle entry d ready e = cc
 may_keep start past journal (Says id code) entry d ready e = cc
 may_keep start past journal (Begins order) entry d ready e =
-    let may : MayKeep start past entry = rw (← same_entry (Began order) entry e) (begun_may start past journal order d ready) in
+    let may : MayKeep start past entry =
+    rw (← same_entry (Began order) entry e) (begun_may start past journal order d ready) in
     (d.legal, may_next start past (Kept entry) d.finished may)
 may_keep start past journal (Checks order s) entry d ready e = by (aim_of s) refl e where
   by : (ask : Ask) → aim_of s ≡ ask → check_of order.unit ask ≡ Keep entry → Legal start (Kept entry ∷ past)
   by (asks.Send frame) aim e = cc
   by (asks.Ended verdict) aim e =
-      let may : MayKeep start past entry = rw (← same_entry (check_record order.unit verdict) entry e) (checked_may start past journal order s verdict d ready aim) in
+      let may : MayKeep start past entry =
+      rw (← same_entry (check_record order.unit verdict) entry e)
+      (checked_may start past journal order s verdict d ready aim) in
       (d.legal, may_next start past (Kept entry) d.finished may)
 may_keep start past journal (Writes order s) entry d ready e = by (aim_of s) refl e where
   by : (ask : Ask) → aim_of s ≡ ask → write_of ask ≡ Keep entry → Legal start (Kept entry ∷ past)
   by (asks.Send frame) aim e = cc
   by (asks.Ended verdict) aim e =
-      let new : JournalState = record { records = Ended (write_code verdict) ∷ journal.records; limit = journal.limit; room = journal.room; numbers = journal.numbers } in
-      rw (← same_entry (Ended (write_code verdict)) entry e) (written_on start past journal new order s verdict d ready aim refl refl).legal
+      let new : JournalState = record {
+        records = Ended (write_code verdict) ∷ journal.records;
+        limit = journal.limit;
+        room = journal.room;
+        numbers = journal.numbers;
+      } in
+      rw (← same_entry (Ended (write_code verdict)) entry e)
+      (written_on start past journal new order s verdict d ready aim refl refl).legal
 may_keep start past journal (Closes order s) entry d ready e =
     let is = closing_keeps order.id (unit_of s) (aim_of s) entry e in
-    let new : JournalState = record { records = Closed (unit_of s) ∷ journal.records; limit = journal.limit; room = journal.room; numbers = journal.numbers } in
+    let new : JournalState = record {
+      records = Closed (unit_of s) ∷ journal.records;
+      limit = journal.limit;
+      room = journal.room;
+      numbers = journal.numbers;
+    } in
     rw (← is.1) (closed_on start past journal new order s d ready is.0 refl refl).legal
 
 -- the plan asks for the frame that is wanted
 asks_send : (start : Start) (past : List Happening) (journal : JournalState) (phase : Phase) (frame : Frame)
-    → Describes start past (record { journal = journal; phase = phase }) → Follows start past (record { journal = journal; phase = phase }) → IsReady phase journal
+    → Describes start past (record { journal = journal; phase = phase })
+    → Follows start past (record { journal = journal; phase = phase }) → IsReady phase journal
     → want_of phase ≡ Send frame → Asks (standing_at start past) (told_in past) (asks.Send frame)
 asks_send start past journal Idle frame d f ready e = cc
 asks_send start past journal (Begins order) frame d f ready e = cc
@@ -106,11 +130,13 @@ asks_send start past journal (Writes order s) frame d f ready e =
     rw (stands_so start past _ _ d ready.0) asked
 asks_send start past journal (Closes order s) frame d f ready e =
     let asked : Asks (standings.Left (unit_of s)) (told_in past) (asks.Send frame) =
-    closing_wants (unit_of s) (told_in past) s (asks.Send frame) ready.1 f.told (closing_sends_it order.id (unit_of s) (aim_of s) frame e) in
+    closing_wants (unit_of s) (told_in past) s (asks.Send frame) ready.1 f.told
+    (closing_sends_it order.id (unit_of s) (aim_of s) frame e) in
     rw (stands_so start past _ _ d ready.0) asked
 
 -- a record that is to be kept next and begins no order follows the end of the session at hand
-ends_next : (stands : Standing) (waits : Option Contents) (told : List Exchange) (entry : Record) → ((order : Contents) → entry ≡ Began order → ⊥) → NextRecord stands waits told entry
+ends_next : (stands : Standing) (waits : Option Contents) (told : List Exchange) (entry : Record)
+    → ((order : Contents) → entry ≡ Began order → ⊥) → NextRecord stands waits told entry
     → (verdict : Verdict) × Asks stands told (asks.Ended verdict) × EndsIn stands verdict entry
 ends_next standings.Idle None told entry other next = absurd next
 ends_next standings.Idle (Some order) told entry other next = absurd (other order next)
@@ -120,29 +146,38 @@ ends_next (standings.Began order) waits told entry other next = next
 ends_next (standings.Opened order) waits told entry other next = next
 
 -- so the plan asks for the record that is to be kept next
-next_planned : (start : Start) (past : List Happening) (entry : Record) → IsKeptNext start past entry → IsPlanned start past (Kept entry)
+next_planned : (start : Start) (past : List Happening) (entry : Record) → IsKeptNext start past entry
+    → IsPlanned start past (Kept entry)
 next_planned start past (Began order) next = tt
-next_planned start past (Opened unit) next = ends_next (standing_at start past) (waiting past) (told_in past) (Opened unit) (λ order e. cc) next
-next_planned start past (Ended code) next = ends_next (standing_at start past) (waiting past) (told_in past) (Ended code) (λ order e. cc) next
-next_planned start past (Closed unit) next = ends_next (standing_at start past) (waiting past) (told_in past) (Closed unit) (λ order e. cc) next
+next_planned start past (Opened unit) next =
+    ends_next (standing_at start past) (waiting past) (told_in past) (Opened unit) (λ order e. cc) next
+next_planned start past (Ended code) next =
+    ends_next (standing_at start past) (waiting past) (told_in past) (Ended code) (λ order e. cc) next
+next_planned start past (Closed unit) next =
+    ends_next (standing_at start past) (waiting past) (told_in past) (Closed unit) (λ order e. cc) next
 
 -- what is wanted is next
-pub done_next : (start : Start) (past : List Happening) (journal : JournalState) (phase : Phase) (want : Want) (next : Happening)
-    → Describes start past (record { journal = journal; phase = phase }) → Follows start past (record { journal = journal; phase = phase }) → IsReady phase journal
+pub done_next : (start : Start) (past : List Happening) (journal : JournalState) (phase : Phase) (want : Want)
+    (next : Happening)
+    → Describes start past (record { journal = journal; phase = phase })
+    → Follows start past (record { journal = journal; phase = phase }) → IsReady phase journal
     → want_of phase ≡ want → IsDone want next → IsNext start past next
 done_next start past journal phase wants.Idle next d f ready want done = absurd done
-done_next start past journal phase (Keep entry) next d f ready want done = subst (IsNext start past) (sym done) (record {
-  work = tt;
-  may = (may_keep start past journal phase entry d ready want).1;
-  planned = next_planned start past entry ((next_record start past journal phase entry d f ready).0 want);
-})
-done_next start past journal phase (Send frame) next d f ready want (answer, done) = subst (IsNext start past) (sym done) (record {
-  work = tt;
-  may = may_next start past (Sent frame answer) d.finished (may_send start past journal phase frame d ready want);
-  planned = asks_send start past journal phase frame d f ready want;
-})
-done_next start past journal phase (Say id reply) next d f ready want done = subst (IsNext start past) (sym done) (record {
-  work = tt;
-  may = (said_on start past journal phase id reply d ready want).legal.1;
-  planned = (said_follows start past journal phase id reply d f ready want).planned.1;
-})
+done_next start past journal phase (Keep entry) next d f ready want done =
+    subst (IsNext start past) (sym done) (record {
+      work = tt;
+      may = (may_keep start past journal phase entry d ready want).1;
+      planned = next_planned start past entry ((next_record start past journal phase entry d f ready).0 want);
+    })
+done_next start past journal phase (Send frame) next d f ready want (answer, done) =
+    subst (IsNext start past) (sym done) (record {
+      work = tt;
+      may = may_next start past (Sent frame answer) d.finished (may_send start past journal phase frame d ready want);
+      planned = asks_send start past journal phase frame d f ready want;
+    })
+done_next start past journal phase (Say id reply) next d f ready want done =
+    subst (IsNext start past) (sym done) (record {
+      work = tt;
+      may = (said_on start past journal phase id reply d ready want).legal.1;
+      planned = (said_follows start past journal phase id reply d f ready want).planned.1;
+    })

@@ -23,7 +23,8 @@ IsAt (Writes order s) past = ToldNewest (sent_of past) s
 IsAt (Closes order s) past = (waiting past ≡ Some order) × Told (sent_since_taken past) s
 IsAt (Says id code) past = has_ended past ≡ true
 
--- a legal trace from the start, with no reply due, describes the writer: its records and its limit are the journal's, and it shows what the writer is about to do
+-- a legal trace from the start, with no reply due, describes the writer: its records and its limit are the journal's,
+-- and it shows what the writer is about to do
 pub record Describes (start : Start) (past : List Happening) (writer : Held) : Type 0 where
   pub legal : Legal start past
   pub finished : IsFinished past

@@ -27,31 +27,41 @@ pub record Held : Type 0 where
 abbrev pub start_of : Held → Start
 start_of writer = record { records = writer.journal.records; limit = writer.journal.limit }
 
--- the journal stands as the phase needs it: it may begin the order that waits, the order at work is that of the session, the unit that is closed is the one that was left, and the order that ended is the newest
+-- the journal stands as the phase needs it: it may begin the order that waits, the order at work is that of the
+-- session, the unit that is closed is the one that was left, and the order that ended is the newest
 abbrev pub IsReady : Phase → JournalState → Type 0
 IsReady Idle journal = is_at_work (standing_of journal.records) ≡ false
 IsReady (Begins order) journal = (standing_of journal.records ≡ standings.Idle) × MayBegin journal (Began order)
-IsReady (Checks order s) journal = (standing_of journal.records ≡ standings.Began order) × IsFresh order s × AreUpdates order.updates
-IsReady (Writes order s) journal = (standing_of journal.records ≡ standings.Opened order) × IsOpened order s × AreUpdates order.updates
+IsReady (Checks order s) journal =
+    (standing_of journal.records ≡ standings.Began order) × IsFresh order s × AreUpdates order.updates
+IsReady (Writes order s) journal =
+    (standing_of journal.records ≡ standings.Opened order) × IsOpened order s × AreUpdates order.updates
 IsReady (Closes order s) journal =
-    (standing_of journal.records ≡ standings.Left (unit_of s)) × IsClosing (unit_of s) s × MayBegin journal (Began order)
-IsReady (Says id code) journal = (is_at_work (standing_of journal.records) ≡ false) × EndsAs id code (orders_of journal.records)
+    (standing_of journal.records ≡ standings.Left (unit_of s)) × IsClosing (unit_of s) s
+    × MayBegin journal (Began order)
+IsReady (Says id code) journal =
+    (is_at_work (standing_of journal.records) ≡ false) × EndsAs id code (orders_of journal.records)
 
 -- what comes after a fresh session for the order that ended so
 abbrev pub IsAfterCheck : Contents → Verdict → Phase → Type 0
 IsAfterCheck order verdicts.MayOpen phase =
-    (s : Session) × (phase ≡ Writes order s) × IsOpened order s × Told [] s × AreUpdates order.updates × (frames_left s ≡ opened_limit (length order.updates))
+    (s : Session) × (phase ≡ Writes order s) × IsOpened order s × Told [] s × AreUpdates order.updates
+    × (frames_left s ≡ opened_limit (length order.updates))
 IsAfterCheck order verdict phase = phase ≡ Says order.id (check_code verdict)
 
 -- what comes first for an order that is taken: a unit that was left is closed
 abbrev pub IsFirst : Standing → Contents → Phase → Type 0
-IsFirst (standings.Left unit) order phase = (s : Session) × (phase ≡ Closes order s) × (unit_of s ≡ unit) × IsClosing unit s × Told [] s
+IsFirst (standings.Left unit) order phase =
+    (s : Session) × (phase ≡ Closes order s) × (unit_of s ≡ unit) × IsClosing unit s × Told [] s
 IsFirst other order phase = phase ≡ Begins order
 
--- what comes first where the journal stands so: an order that was begun is looked at anew, one that was opened is carried out anew
+-- what comes first where the journal stands so: an order that was begun is looked at anew, one that was opened is
+-- carried out anew
 abbrev pub IsResumed : Standing → Phase → Type 0
-IsResumed (standings.Began order) phase = (s : Session) × (phase ≡ Checks order s) × IsFresh order s × Told [] s × AreUpdates order.updates
-IsResumed (standings.Opened order) phase = (s : Session) × (phase ≡ Writes order s) × IsOpened order s × Told [] s × AreUpdates order.updates
+IsResumed (standings.Began order) phase =
+    (s : Session) × (phase ≡ Checks order s) × IsFresh order s × Told [] s × AreUpdates order.updates
+IsResumed (standings.Opened order) phase =
+    (s : Session) × (phase ≡ Writes order s) × IsOpened order s × Told [] s × AreUpdates order.updates
 IsResumed other phase = phase ≡ Idle
 
 -- the writer is at rest: nothing is to be done, or it is as it was made from its journal

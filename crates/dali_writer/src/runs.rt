@@ -1,4 +1,5 @@
-ghost use Rattle.std.specs.Prelude.{◌≡◌, ◌↔◌, ◌∷◌, List, reverse, is_some, IfSome, IsNone, IfOk, OnOk, OnErr, IfErr, Err};
+ghost use Rattle.std.specs.Prelude.{◌≡◌, ◌↔◌, ◌∷◌, List, reverse, is_some, IfSome, IsNone, IfOk, OnOk, OnErr, IfErr};
+ghost use Rattle.std.specs.Prelude.{Err};
 ghost use Rattle.dali_journal.specs.JournalState.{IsLimit};
 ghost use Rattle.dali_gear.specs.Chain.{Chain};
 ghost use Rattle.dali_trace.specs.declared.happening.Happening.{Happening};
@@ -22,13 +23,17 @@ use std::alloc::Global;
 
 // Does once what the writer wants, if it wants something.
 fn advance<B: Bus>(bus: &mut B, writer: &mut Writer) -> Option<Happening>
-    ensures described { IfSome result (λ happening. (start : Start) (past : List Happening) → Describes start past writer.old → Describes start (happening ∷ past) writer.new) }
-    ensures follows { IfSome result (λ happening. (start : Start) (past : List Happening) → Describes start past writer.old → Follows start past writer.old → Follows start (happening ∷ past) writer.new) }
+    ensures described { IfSome result (λ happening. (start : Start) (past : List Happening)
+        → Describes start past writer.old → Describes start (happening ∷ past) writer.new) }
+    ensures follows { IfSome result
+        (λ happening. (start : Start) (past : List Happening) → Describes start past writer.old
+        → Follows start past writer.old → Follows start (happening ∷ past) writer.new) }
     ensures moves { IfSome result (λ happening. MovesBy B.step bus.old happening bus.new) }
     ensures work { IfSome result (λ happening. IsWork happening) }
     ensures proper { IfSome result (λ happening. SendsProper happening) }
     ensures orders { IfSome result (λ happening. AsksProper happening) }
-    ensures busy { (start : Start) (past : List Happening) → Describes start past writer.old → is_busy start past ≡ is_some result }
+    ensures busy { (start : Start) (past : List Happening) → Describes start past writer.old
+        → is_busy start past ≡ is_some result }
     ensures writer { IsNone result → writer.new ≡ writer.old }
     ensures bus { IsNone result → bus.new ≡ bus.old }
 {
@@ -58,16 +63,20 @@ fn serve<B: Bus>(
     trace: &mut Vec<Happening>,
     event: &Event,
 ) -> Result<(), RunFault>
-    ensures described { OnOk result ((start : Start) → Describes start (reverse trace.old.items) writer.old → Describes start (reverse trace.new.items) writer.new) }
-    ensures follows { OnOk result ((start : Start) → Describes start (reverse trace.old.items) writer.old → Follows start (reverse trace.old.items) writer.old
+    ensures described { OnOk result ((start : Start) → Describes start (reverse trace.old.items) writer.old
+        → Describes start (reverse trace.new.items) writer.new) }
+    ensures follows { OnOk result ((start : Start) → Describes start (reverse trace.old.items) writer.old
+        → Follows start (reverse trace.old.items) writer.old
         → Follows start (reverse trace.new.items) writer.new) }
-    ensures part { OnOk result ((start : Start) → Describes start (reverse trace.old.items) writer.old → Follows start (reverse trace.old.items) writer.old
+    ensures part { OnOk result ((start : Start) → Describes start (reverse trace.old.items) writer.old
+        → Follows start (reverse trace.old.items) writer.old
         → Part start event.now (reverse trace.old.items) (reverse trace.new.items)) }
     ensures err { OnErr result (trace.new.items ≡ trace.old.items) }
     ensures fault { IfErr result (λ fault. fault ≡ faults.NoMemory) }
     ensures proper { SendsAllProper (reverse trace.old.items) → SendsAllProper (reverse trace.new.items) }
     ensures orders { AsksAllProper (reverse trace.old.items) → AsksAllProper (reverse trace.new.items) }
-    ensures leads { (first : B) → Chain (MovesBy B.step) first (reverse trace.old.items) bus.old → Chain (MovesBy B.step) first (reverse trace.new.items) bus.new }
+    ensures leads { (first : B) → Chain (MovesBy B.step) first (reverse trace.old.items) bus.old
+        → Chain (MovesBy B.step) first (reverse trace.new.items) bus.new }
 {
     trace.reserve(2)?;
     match event {
@@ -122,7 +131,8 @@ pub fn run<B: Bus>(
     limit: u32,
     events: &[Event],
 ) -> Result<Outcome, RunFault>
-    ensures ok { IfOk result (λ outcome. IsRun B.world B.step limit events.now bus.old outcome.trace.items outcome.journal.items bus.new) }
+    ensures ok { IfOk result
+        (λ outcome. IsRun B.world B.step limit events.now bus.old outcome.trace.items outcome.journal.items bus.new) }
     ensures limit { (result ≡ Err faults.Limit) ↔ (¬ IsLimit limit) }
     ensures untouched { result ≡ Err faults.Limit → bus.new ≡ bus.old }
     ensures err { OnErr result (IsCutShort B.world B.step limit events.now bus.old bus.new) }
@@ -150,7 +160,8 @@ pub fn run_sim(
     limit: u32,
     events: &[Event],
 ) -> Result<Outcome, RunFault>
-    ensures ok { IfOk result (λ outcome. IsSimRun limit events.now bus.old outcome.trace.items outcome.journal.items bus.new) }
+    ensures ok { IfOk result
+        (λ outcome. IsSimRun limit events.now bus.old outcome.trace.items outcome.journal.items bus.new) }
     ensures limit { (result ≡ Err faults.Limit) ↔ (¬ IsLimit limit) }
     ensures untouched { result ≡ Err faults.Limit → bus.new ≡ bus.old }
     ensures err { OnErr result (IsCutShort (λ state. world_of state.units) SimStep limit events.now bus.old bus.new) }

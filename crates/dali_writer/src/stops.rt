@@ -20,12 +20,16 @@ use std::alloc::Global;
 // but all do.
 pub(crate) fn keep_within(writer: &mut Writer, bytes: u16) -> Option<Record>
     ensures wanted { IfSome result (λ entry. want_of writer.old.phase ≡ Want.Keep entry) }
-    ensures described { IfSome result (λ entry. (start : Start) (past : List Happening) → Describes start past writer.old → Describes start (happenings.Kept entry ∷ past) writer.new) }
-    ensures follows { IfSome result (λ entry. (start : Start) (past : List Happening) → Describes start past writer.old → Follows start past writer.old → Follows start (happenings.Kept entry ∷ past) writer.new) }
+    ensures described { IfSome result (λ entry. (start : Start) (past : List Happening)
+        → Describes start past writer.old → Describes start (happenings.Kept entry ∷ past) writer.new) }
+    ensures follows { IfSome result (λ entry. (start : Start) (past : List Happening) → Describes start past writer.old
+        → Follows start past writer.old → Follows start (happenings.Kept entry ∷ past) writer.new) }
     ensures few { IfSome result (λ entry. length (spelling entry) ≤ bytes) }
     ensures same { IsNone result → writer.new ≡ writer.old }
-    ensures cut { IsNone result → (entry : Record) → want_of writer.old.phase ≡ Want.Keep entry → bytes < length (spelling entry) }
-    ensures next { (start : Start) (past : List Happening) → Describes start past writer.old → Follows start past writer.old
+    ensures cut { IsNone result → (entry : Record) → want_of writer.old.phase ≡ Want.Keep entry
+        → bytes < length (spelling entry) }
+    ensures next { (start : Start) (past : List Happening) → Describes start past writer.old
+        → Follows start past writer.old
         → (entry : Record) → (want_of writer.old.phase ≡ Want.Keep entry) ↔ IsKeptNext start past entry }
 {
     match writer.want() {
@@ -45,7 +49,8 @@ pub(crate) fn keep_within(writer: &mut Writer, bytes: u16) -> Option<Record>
 // wanted, where one is and it has more.
 pub(crate) fn left_by(alloc: Global, writer: &Writer, bytes: u16) -> Result<Journal, NoMemory>
     requires { (entry : Record) → want_of writer.now.phase ≡ Want.Keep entry → bytes < length (spelling entry) }
-    ensures { IfOk result (λ journal. (journal.records ≡ writer.now.journal.records) × (journal.limit ≡ writer.now.journal.limit)) }
+    ensures { IfOk result
+        (λ journal. (journal.records ≡ writer.now.journal.records) × (journal.limit ≡ writer.now.journal.limit)) }
 {
     match writer.want() {
         Want::Keep(entry) => {

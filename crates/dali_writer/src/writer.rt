@@ -55,13 +55,16 @@ impl Writer {
     /// one that was opened is carried out anew, and a unit that was left stays left. So does a program
     /// that was stopped, from the journal that it loads: `stopped`.
     pub fn new(journal: Journal) -> Writer
-        ensures described { (start : Start) → start.records ≡ journal.records → start.limit ≡ journal.limit → Describes start [] result }
+        ensures described { (start : Start) → start.records ≡ journal.records → start.limit ≡ journal.limit
+            → Describes start [] result }
         ensures follows { (start : Start) → Follows start [] result }
         ensures journal { result.journal ≡ journal }
         ensures rest { IsAtRest result }
-        ensures stopped { (start : Start) (past : List Happening) (before : Held) → Describes start past before → before.journal.records ≡ journal.records → before.journal.limit ≡ journal.limit
+        ensures stopped { (start : Start) (past : List Happening) (before : Held) → Describes start past before
+            → before.journal.records ≡ journal.records → before.journal.limit ≡ journal.limit
             → Describes start (happenings.Stopped ∷ past) result }
-        ensures stopped_follows { (start : Start) (past : List Happening) (before : Held) → Follows start past before → Follows start (happenings.Stopped ∷ past) result }
+        ensures stopped_follows { (start : Start) (past : List Happening) (before : Held) → Follows start past before
+            → Follows start (happenings.Stopped ∷ past) result }
     {
         let phase = resumed_phase(journal.standing());
         Writer { journal, phase }
@@ -86,13 +89,16 @@ impl Writer {
     /// What is to be done next: the one thing that may come next by the rules and by the plan, if the trace is busy.
     pub fn want(&self) -> Want
         ensures phase { result ≡ want_of self.now.phase }
-        ensures busy { (start : Start) (past : List Happening) → Describes start past self.now → is_busy start past ≡ is_wanting result }
+        ensures busy { (start : Start) (past : List Happening) → Describes start past self.now
+            → is_busy start past ≡ is_wanting result }
         ensures proper { (frame : Frame) → result ≡ Want.Send frame → IsProper frame }
         ensures rest { result ≡ Want.Idle → IsAtRest self.now }
         ensures short { (entry : Record) → result ≡ Want.Keep entry → NamesShortUnit entry }
-        ensures next { (start : Start) (past : List Happening) → Describes start past self.now → Follows start past self.now
+        ensures next { (start : Start) (past : List Happening) → Describes start past self.now
+            → Follows start past self.now
             → (entry : Record) → (result ≡ Want.Keep entry) ↔ IsKeptNext start past entry }
-        ensures done { (start : Start) (past : List Happening) → Describes start past self.now → Follows start past self.now
+        ensures done { (start : Start) (past : List Happening) → Describes start past self.now
+            → Follows start past self.now
             → (next : Happening) → IsDone result next → IsNext start past next }
     {
         self.phase.want()
@@ -106,13 +112,17 @@ impl Writer {
     /// an order could be taken, but there is no memory for its records. Only `Taken` changes what the
     /// writer wants.
     pub fn submit(&mut self, order: Order) -> Result<Reply, NoMemory>
-        ensures described { IfOk result (λ reply. (start : Start) (past : List Happening) → Describes start past self.old
+        ensures described { IfOk result
+            (λ reply. (start : Start) (past : List Happening) → Describes start past self.old
             → Describes start (happenings.Answered order.id reply ∷ happenings.Asked order ∷ past) self.new) }
         ensures follows { IfOk result (λ reply. (start : Start) (past : List Happening) → Follows start past self.old
             → Follows start (happenings.Answered order.id reply ∷ happenings.Asked order ∷ past) self.new) }
         ensures only_taken { IfOk result (λ reply. (reply ≡ replies.Taken) ⊎ (self.new ≡ self.old)) }
-        ensures unchanged { OnErr result ((self.new.phase ≡ self.old.phase) × (self.new.journal.records ≡ self.old.journal.records) × (self.new.journal.limit ≡ self.old.journal.limit)) }
-        ensures due { OnErr result ((start : Start) (past : List Happening) → Describes start past self.old → IsReply start past order replies.Taken) }
+        ensures unchanged { OnErr result
+            ((self.new.phase ≡ self.old.phase) × (self.new.journal.records ≡ self.old.journal.records)
+            × (self.new.journal.limit ≡ self.old.journal.limit)) }
+        ensures due { OnErr result ((start : Start) (past : List Happening) → Describes start past self.old
+            → IsReply start past order replies.Taken) }
         ensures succeeds { HasRoom self.old.journal order → IsOk result }
     {
         if let Some(reply) = known_reply(&self.journal, &order) {
@@ -135,10 +145,13 @@ impl Writer {
     pub fn kept(&mut self)
         requires { IsKeep (want_of self.old.phase) }
         ensures falls { work_left self.new.phase < work_left self.old.phase }
-        ensures described { (start : Start) (past : List Happening) (entry : Record) → want_of self.old.phase ≡ Want.Keep entry
+        ensures described { (start : Start) (past : List Happening) (entry : Record)
+            → want_of self.old.phase ≡ Want.Keep entry
             → Describes start past self.old → Describes start (happenings.Kept entry ∷ past) self.new }
-        ensures follows { (start : Start) (past : List Happening) (entry : Record) → want_of self.old.phase ≡ Want.Keep entry
-            → Describes start past self.old → Follows start past self.old → Follows start (happenings.Kept entry ∷ past) self.new }
+        ensures follows { (start : Start) (past : List Happening) (entry : Record)
+            → want_of self.old.phase ≡ Want.Keep entry
+            → Describes start past self.old → Follows start past self.old
+            → Follows start (happenings.Kept entry ∷ past) self.new }
     {
         match mem::replace(&mut self.phase, Phase::Idle) {
             Phase::Begins(order) => {
@@ -174,10 +187,13 @@ impl Writer {
     pub fn heard(&mut self, answer: Option<u8>)
         requires { IsSend (want_of self.old.phase) }
         ensures falls { work_left self.new.phase < work_left self.old.phase }
-        ensures described { (start : Start) (past : List Happening) (frame : Frame) → want_of self.old.phase ≡ Want.Send frame
+        ensures described { (start : Start) (past : List Happening) (frame : Frame)
+            → want_of self.old.phase ≡ Want.Send frame
             → Describes start past self.old → Describes start (happenings.Sent frame answer ∷ past) self.new }
-        ensures follows { (start : Start) (past : List Happening) (frame : Frame) → want_of self.old.phase ≡ Want.Send frame
-            → Describes start past self.old → Follows start past self.old → Follows start (happenings.Sent frame answer ∷ past) self.new }
+        ensures follows { (start : Start) (past : List Happening) (frame : Frame)
+            → want_of self.old.phase ≡ Want.Send frame
+            → Describes start past self.old → Follows start past self.old
+            → Follows start (happenings.Sent frame answer ∷ past) self.new }
     {
         match &mut self.phase {
             Phase::Checks(_, session) => session.heard(answer),
@@ -195,10 +211,13 @@ impl Writer {
     pub fn said(&mut self)
         requires { IsSay (want_of self.old.phase) }
         ensures falls { work_left self.new.phase < work_left self.old.phase }
-        ensures described { (start : Start) (past : List Happening) (id : ℕ) (reply : Reply) → want_of self.old.phase ≡ Want.Say id reply
+        ensures described { (start : Start) (past : List Happening) (id : ℕ) (reply : Reply)
+            → want_of self.old.phase ≡ Want.Say id reply
             → Describes start past self.old → Describes start (happenings.Answered id reply ∷ past) self.new }
-        ensures follows { (start : Start) (past : List Happening) (id : ℕ) (reply : Reply) → want_of self.old.phase ≡ Want.Say id reply
-            → Describes start past self.old → Follows start past self.old → Follows start (happenings.Answered id reply ∷ past) self.new }
+        ensures follows { (start : Start) (past : List Happening) (id : ℕ) (reply : Reply)
+            → want_of self.old.phase ≡ Want.Say id reply
+            → Describes start past self.old → Follows start past self.old
+            → Follows start (happenings.Answered id reply ∷ past) self.new }
     {
         self.phase = Phase::Idle;
     }

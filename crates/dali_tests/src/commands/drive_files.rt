@@ -18,7 +18,8 @@ const SILENT: &[u8; 25] =
 const CUT: &[u8; 27] =
     b"B\0\0\0\0\0\0\0\x01\x09\x06\x03\x03\x04\xA4\x05\xCE\x06\xEF\x07\xAD\x08\xABE\x03B\0";
 
-// Tests how a drive ends where none of so many frames is answered, how many pairs of frames it sends, and what it tells.
+// Tests how a drive ends where none of so many frames is answered, how many pairs of frames it sends, and what it
+// tells.
 fn drives<R: Files<File = File> + AllocGlobal + Abort>(
     rt: &R,
     orders: &str,

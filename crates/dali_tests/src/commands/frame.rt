@@ -1,6 +1,7 @@
 use super::streams::FullWriter;
 use dali_commands::Status;
 use dali_commands::frame::frame;
+use dali_text::Output;
 use std::alloc::Global;
 use std::process::Abort;
 
@@ -26,9 +27,13 @@ const NO_WORDS: &str = "|A3|A303 |A30311|A3G3|+A30|-A30|éé";
 
 // Tests how the command ends over an argument, and what it writes.
 fn answers(rt: &impl Abort, alloc: Global, argument: &str, status: Status, text: &str) {
-    let mut written = Vec::new(alloc);
-    assert_eq!(rt; frame(argument, &mut written), status, "{argument}");
-    assert_eq!(rt; written.as_slice(), text.as_bytes(), "{argument}");
+    let mut output = Output::new(Vec::new(alloc));
+    assert_eq!(rt; frame(argument, &mut output), status, "{argument}");
+    assert_eq!(rt;
+        output.into_writer().as_slice(),
+        text.as_bytes(),
+        "{argument}"
+    );
 }
 
 #[test]
@@ -51,9 +56,12 @@ fn arguments_that_are_no_word(rt: HostRuntime) {
 // Tests a writer that fails at each place of what is written of an argument, and at the flush behind it.
 fn fails_to_write(rt: &impl Abort, alloc: Global, argument: &str, text: &str) {
     for room in 0..=text.len() {
-        let mut writer = FullWriter::new(alloc, room);
-        assert_eq!(rt; frame(argument, &mut writer), Status::Unwritten);
-        assert_eq!(rt; writer.held.as_slice(), &text.as_bytes()[..room]);
+        let mut output = Output::new(FullWriter::new(alloc, room));
+        assert_eq!(rt; frame(argument, &mut output), Status::Unwritten);
+        assert_eq!(rt;
+            output.into_writer().held.as_slice(),
+            &text.as_bytes()[..room]
+        );
     }
 }
 

@@ -6,7 +6,7 @@ use dali_bank::Order;
 use dali_frame::{Frame, frame_of};
 use dali_gear::{SimBus, Unit};
 use dali_journal::{Code, Record};
-use dali_text::write_outcome;
+use dali_text::{Output, write_outcome};
 use dali_writer::{Event, Happening, Outcome, Reply, run};
 use std::alloc::{AllocError, Global};
 use std::process::Abort;
@@ -172,9 +172,9 @@ fn written_of(
     journal: &[u8],
 ) -> Result<Vec<u8>, Fail> {
     let outcome = outcome_of(alloc, told, journal)?;
-    let mut written = Vec::new(alloc);
-    write_outcome(&mut written, single_frames, &outcome, &[])?;
-    Ok(written)
+    let mut output = Output::new(Vec::new(alloc));
+    write_outcome(&mut output, single_frames, &outcome, &[])?;
+    Ok(output.into_writer())
 }
 
 // Tests what is written of them.
@@ -270,10 +270,10 @@ fn before_units(alloc: Global, told: &str) -> Result<Vec<u8>, AllocError> {
 fn units_and_their_lines(rt: HostRuntime) -> Result<(), Fail> {
     let outcome = outcome_of(rt.alloc(), &[], &[])?;
     let units = units(rt.alloc())?;
-    let mut written = Vec::new(rt.alloc());
-    write_outcome(&mut written, false, &outcome, &units)?;
+    let mut output = Output::new(Vec::new(rt.alloc()));
+    write_outcome(&mut output, false, &outcome, &units)?;
     let text = before_units(rt.alloc(), "total 0\njournal 0\n")?;
-    assert_eq!(rt; written.as_slice(), text.as_slice());
+    assert_eq!(rt; output.into_writer().as_slice(), text.as_slice());
     Ok(())
 }
 
@@ -289,10 +289,10 @@ fn fails_to_write(
     requires { SendsAllProper (reverse outcome.now.trace.items) }
 {
     for room in 0..text.len() {
-        let mut writer = FullWriter::new(alloc, room);
-        let written = write_outcome(&mut writer, single_frames, outcome, units);
+        let mut output = Output::new(FullWriter::new(alloc, room));
+        let written = write_outcome(&mut output, single_frames, outcome, units);
         assert!(rt; written.is_err(), "room for {room}");
-        assert_eq!(rt; writer.held.as_slice(), &text[..room]);
+        assert_eq!(rt; output.into_writer().held.as_slice(), &text[..room]);
     }
 }
 
@@ -346,8 +346,8 @@ fn a_whole_run(rt: HostRuntime) -> Result<(), Fail> {
     let mut bus = blank_bus(rt.alloc())?;
     let events = gtin_events(rt.alloc())?;
     let outcome = run(rt.alloc(), &mut bus, 10, &events)?;
-    let mut written = Vec::new(rt.alloc());
-    write_outcome(&mut written, false, &outcome, bus.units())?;
-    assert_eq!(rt; written.as_slice(), GTIN_TOLD.as_bytes());
+    let mut output = Output::new(Vec::new(rt.alloc()));
+    write_outcome(&mut output, false, &outcome, bus.units())?;
+    assert_eq!(rt; output.into_writer().as_slice(), GTIN_TOLD.as_bytes());
     Ok(())
 }

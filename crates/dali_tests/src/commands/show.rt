@@ -1,6 +1,8 @@
 use super::tried::{answers, fails_to_read, fails_to_write, refuses_past};
 use dali_commands::show::show;
 use dali_commands::{FileCommand, Status};
+use dali_input::Input;
+use dali_text::Output;
 
 // The first 21 bytes of a bank: its head, the fields of 6 and 8 bytes, the format, year and week.
 const SHORT: &str = "14FFFF03A4CEEFADAB0011223344556677 0003 1835";
@@ -128,9 +130,11 @@ fn texts_up_to_the_limits(rt: HostRuntime) {
     let spaces = [b' '; 4096];
     let digits = [b'0'; 510];
     for input in [spaces.as_slice(), &digits] {
-        let mut reader = input;
-        let mut written = Vec::new(rt.alloc());
-        assert_eq!(rt; show(rt.alloc(), &mut reader, &mut written), Status::Good);
+        let mut output = Output::new(Vec::new(rt.alloc()));
+        assert_eq!(rt;
+            show(rt.alloc(), &mut Input::new(input), &mut output),
+            Status::Good
+        );
     }
 }
 

@@ -4,6 +4,23 @@ use std::alloc::Global;
 use std::io;
 use std::io::{ErrorKind, Read, Write};
 
+/// A reader that gives all its bytes, and is interrupted before each read.
+#[derive(Drop)]
+pub struct InterruptedReader<'a> {
+    pub rest: &'a [u8],
+    pub was_interrupted: bool,
+}
+
+impl Read for InterruptedReader<'_> {
+    fn read(&mut self, buf: &mut [u8]) -> io::Result<usize> {
+        self.was_interrupted = !self.was_interrupted;
+        if self.was_interrupted {
+            return Err(io::Error::from(ErrorKind::Interrupted));
+        }
+        self.rest.read(buf)
+    }
+}
+
 /// A reader that gives bytes, at most so many at a time, and then fails.
 #[derive(Drop)]
 pub struct FailingReader<'a> {

@@ -1,7 +1,9 @@
 //! What is tried on each command over a file.
 
-use super::streams::{FailingReader, FullWriter, Spaces};
+use super::streams::{FailingReader, FullWriter, InterruptedReader, Spaces};
 use dali_commands::{FileCommand, Status};
+use dali_input::Input;
+use dali_text::Output;
 use std::alloc::Global;
 use std::process::Abort;
 
@@ -14,12 +16,19 @@ pub fn answers(
     status: Status,
     text: &str,
 ) {
-    let mut reader = input;
-    let mut written = Vec::new(alloc);
-    let ended = command.carry_out(alloc, &mut reader, &mut written);
+    let mut reader = Input::new(InterruptedReader {
+        rest: input,
+        was_interrupted: false,
+    });
+    let mut output = Output::new(Vec::new(alloc));
+    let ended = command.carry_out(alloc, &mut reader, &mut output);
     let case = str::from_utf8(input);
     assert_eq!(rt; ended, status, "{case:?}");
-    assert_eq!(rt; written.as_slice(), text.as_bytes(), "{case:?}");
+    assert_eq!(rt;
+        output.into_writer().as_slice(),
+        text.as_bytes(),
+        "{case:?}"
+    );
 }
 
 /// The same of many inputs at once. Each case is the input, a line `----` and the text, and before
@@ -57,25 +66,31 @@ pub fn answers_lines(
 
 /// Tests that spaces without end are refused, once one more than the limit was read.
 pub fn refuses_past(rt: &impl Abort, alloc: Global, command: FileCommand, limit: u64) {
-    let mut reader = Spaces { given: 0 };
-    let mut written = Vec::new(alloc);
-    let ended = command.carry_out(alloc, &mut reader, &mut written);
+    let mut input = Input::new(Spaces { given: 0 });
+    let mut output = Output::new(Vec::new(alloc));
+    let ended = command.carry_out(alloc, &mut input, &mut output);
     assert_eq!(rt; ended, Status::Refused);
-    assert_eq!(rt; written.as_slice(), b"fault 13 TooBig\n".as_slice());
-    assert_eq!(rt; reader.given, limit);
+    assert_eq!(rt;
+        output.into_writer().as_slice(),
+        b"fault 13 TooBig\n".as_slice()
+    );
+    assert_eq!(rt; input.into_reader().given, limit);
 }
 
 /// Tests a reader that fails at each place of an input.
 pub fn fails_to_read(rt: &impl Abort, alloc: Global, command: FileCommand, input: &[u8]) {
     for count in 0..=input.len() {
-        let mut reader = FailingReader {
+        let mut input = Input::new(FailingReader {
             rest: &input[..count],
             at_a_time: 7,
-        };
-        let mut written = Vec::new(alloc);
-        let ended = command.carry_out(alloc, &mut reader, &mut written);
+        });
+        let mut output = Output::new(Vec::new(alloc));
+        let ended = command.carry_out(alloc, &mut input, &mut output);
         assert_eq!(rt; ended, Status::Failed);
-        assert_eq!(rt; written.as_slice(), b"fault 21 File\n".as_slice());
+        assert_eq!(rt;
+            output.into_writer().as_slice(),
+            b"fault 21 File\n".as_slice()
+        );
     }
 }
 
@@ -89,10 +104,12 @@ pub fn fails_to_write(
     text: &str,
 ) {
     for room in 0..=text.len() {
-        let mut reader = input;
-        let mut writer = FullWriter::new(alloc, room);
-        let ended = command.carry_out(alloc, &mut reader, &mut writer);
+        let mut output = Output::new(FullWriter::new(alloc, room));
+        let ended = command.carry_out(alloc, &mut Input::new(input), &mut output);
         assert_eq!(rt; ended, Status::Unwritten);
-        assert_eq!(rt; writer.held.as_slice(), &text.as_bytes()[..room]);
+        assert_eq!(rt;
+            output.into_writer().held.as_slice(),
+            &text.as_bytes()[..room]
+        );
     }
 }

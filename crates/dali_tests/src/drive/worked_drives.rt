@@ -15,7 +15,8 @@ ghost use Rattle.dali_laws.specs.Joined.{FollowOn};
 ghost use Rattle.dali_drive.specs.Sittings.{IsFileOf, after, MayHaveHappened};
 ghost use Rattle.dali_trace.specs.Worked.{empty, second_order, asked, taken, begun};
 ghost use Rattle.dali_trace.specs.WorkedPlans.{half_tried};
-ghost use Rattle.dali_drive.specs.WorkedDrives.{before_two, after_two, frames_turned, one_line_read, record_left_out, first_sitting, torn_file};
+ghost use Rattle.dali_drive.specs.WorkedDrives.{before_two, after_two, frames_turned, one_line_read, record_left_out};
+ghost use Rattle.dali_drive.specs.WorkedDrives.{first_sitting, torn_file};
 
 // An order is begun, and two frames are sent and answered, the second with a carriage return.
 fn two_frames_are_driven()
@@ -46,8 +47,10 @@ fn other_steps()
     ensures stopped { ¬ IsInTurn empty (Stopped ∷ begun) }
     ensures out_of_range { ¬ KeepsRecords (Kept (Opened 64) ∷ begun) }
     ensures two_steps { ¬ MayHaveHappened empty begun half_tried }
-    ensures no_record { (rest : List Contents) (old new : Streams) → ¬ BrokenOff empty begun rest faults.Journal old new }
-    ensures no_memory { (rest : List Contents) (old new : Streams) → ¬ BrokenOff empty begun rest faults.NoMemory old new }
+    ensures no_record { (rest : List Contents) (old new : Streams)
+        → ¬ BrokenOff empty begun rest faults.Journal old new }
+    ensures no_memory { (rest : List Contents) (old new : Streams)
+        → ¬ BrokenOff empty begun rest faults.NoMemory old new }
 {}
 
 // A file is that of no other records, and no sitting forgets what stands in it.

@@ -1,5 +1,6 @@
 ghost use Rattle.std.specs.Prelude.{◌≡◌, ℕ, true, false, Option, Some, None};
-ghost use Rattle.dali_frame.specs.declared.forward.Frame.TheVariants.{Dtr0, Dtr1, Write, Enable, AskDtr0, AskDtr1, Read};
+ghost use Rattle.dali_frame.specs.declared.forward.Frame.TheVariants.{Dtr0, Dtr1, Write, Enable, AskDtr0, AskDtr1};
+ghost use Rattle.dali_frame.specs.declared.forward.Frame.TheVariants.{Read};
 ghost use Rattle.dali_gear.specs.World.{Gear, World};
 ghost use Rattle.dali_gear.specs.Hears.{Hears};
 ghost use Rattle.dali_gear.specs.Carry.{Carry};
@@ -37,5 +38,6 @@ fn what_a_bus_may_do()
 // No answer comes that no unit gave, and no unit comes.
 fn what_a_bus_may_not_do()
     ensures by_none { (new : World) → ¬ Carry (pair (small true) (small true)) (Write 9) (Some 8) new }
-    ensures a_third { (gear : Gear) (new : World) → new 7 ≡ Some gear → ¬ Carry (pair (small true) (small true)) (Write 9) None new }
+    ensures a_third { (gear : Gear) (new : World) → new 7 ≡ Some gear
+        → ¬ Carry (pair (small true) (small true)) (Write 9) None new }
 {}

@@ -10,7 +10,8 @@ ghost use Rattle.dali_write.specs.Misses.{is_missed, misses_in, IsLong};
 ghost use Rattle.dali_write.specs.Losses.{SimRun, losses, Unrefused, IsAlone};
 ghost use Rattle.dali_write.specs.Successes.{MayStoreAt, HasBank, Spared, MissesByLosses};
 ghost use Rattle.dali_write.specs.Doubts.{EndsUnread, EndsUnlooked, FoundAnother};
-ghost use Rattle.dali_write.specs.WorkedSteps.{answer_01, any_answer, no_answer, missed_read, after_a_miss, small_bank, two_units};
+ghost use Rattle.dali_write.specs.WorkedSteps.{answer_01, any_answer, no_answer, missed_read, after_a_miss, small_bank};
+ghost use Rattle.dali_write.specs.WorkedSteps.{two_units};
 
 // A miss is another answer than the wished one, or none.
 fn what_is_a_miss()

@@ -55,7 +55,8 @@ impl Bus for HostileBus {
 
     ghost world = { λ bus. world_of_both bus.first bus.second };
 
-    ghost step = { λ old event new. WorldStep (world_of_both old.first old.second) event (world_of_both new.first new.second) };
+    ghost step = { λ old event new.
+        WorldStep (world_of_both old.first old.second) event (world_of_both new.first new.second) };
 
     ghost allowed = { λ old event new step. step };
 

@@ -5,19 +5,27 @@ ghost use Rattle.dali_trace.specs.Trace.{sent_of};
 ghost use Rattle.dali_trace.specs.Taken.{taken_orders};
 ghost use Rattle.dali_trace.specs.Legal.{Legal, IsFinished};
 ghost use Rattle.dali_trace.specs.Parts.{AreParts};
-ghost use Rattle.dali_trace.specs.Worked.{empty, left_open, first_order, second_order, asked, taken, begun, whole, unreached, blocked, second_begun, GoesAlong};
-ghost use Rattle.dali_trace.specs.Worked.{unguarded, bank_not_asked, written_twice, another_byte, idle_frame, frame_to_another_unit, enabled_before_opened, opened_unread, done_unread, done_with_the_lock_unread};
-ghost use Rattle.dali_trace.specs.Worked.{second_taken, one_of_one, full, busy_while_at_work, number_used_again, another_code_said, blocked_by_no_unit, silent_write};
-ghost use Rattle.dali_trace.specs.Worked.{short_ended, silent_ended, doubt_ended, left_said, format_ended, tried_again, opened_anew, done_anew, repeated_after_a_stop, taken_after_a_stop, taken_anew};
-ghost use Rattle.dali_trace.specs.Worked.{frame_to_another_unit_once_opened, frame_past_the_left_unit, another_lock_byte, written_after_a_stop, opened_after_a_stop, closed_by_an_old_read, another_number_said, blocked_under_another_number, said_after_a_stop};
-ghost use Rattle.dali_trace.specs.Worked.{begun_twice, busy_at_once, reply_to_another, said_before_ended, begun_while_left, closed_unread, blocked_after_a_read, left_unit_unlocked, begun_after_a_stop};
+ghost use Rattle.dali_trace.specs.Worked.{empty, left_open, first_order, second_order, asked, taken, begun};
+ghost use Rattle.dali_trace.specs.Worked.{first_carried_out, unreached, blocked, second_begun, GoesAlong, unguarded};
+ghost use Rattle.dali_trace.specs.Worked.{bank_not_asked, written_twice, another_byte, idle_frame};
+ghost use Rattle.dali_trace.specs.Worked.{frame_to_another_unit, enabled_before_opened, opened_unread, done_unread};
+ghost use Rattle.dali_trace.specs.Worked.{done_with_the_lock_unread, second_taken, one_of_one, full};
+ghost use Rattle.dali_trace.specs.Worked.{busy_while_at_work, number_used_again, another_code_said, blocked_by_no_unit};
+ghost use Rattle.dali_trace.specs.Worked.{silent_write, short_ended, silent_ended, doubt_ended, left_said};
+ghost use Rattle.dali_trace.specs.Worked.{format_ended, tried_again, opened_anew, done_anew, repeated_after_a_stop};
+ghost use Rattle.dali_trace.specs.Worked.{taken_after_a_stop, taken_anew, frame_to_another_unit_once_opened};
+ghost use Rattle.dali_trace.specs.Worked.{frame_past_the_left_unit, another_lock_byte, written_after_a_stop};
+ghost use Rattle.dali_trace.specs.Worked.{opened_after_a_stop, closed_by_an_old_read, another_number_said};
+ghost use Rattle.dali_trace.specs.Worked.{blocked_under_another_number, said_after_a_stop, begun_twice, busy_at_once};
+ghost use Rattle.dali_trace.specs.Worked.{reply_to_another, said_before_ended, begun_while_left, closed_unread};
+ghost use Rattle.dali_trace.specs.Worked.{blocked_after_a_read, left_unit_unlocked, begun_after_a_stop};
 
 // A GTIN order on a blank unit, 96 frames, and the same order sent again.
 fn the_worked_trace_is_legal()
-    ensures legal { Legal empty whole }
-    ensures finished { IsFinished whole }
-    ensures frames { length (sent_of whole) ≡ 96 }
-    ensures taken { taken_orders whole ≡ first_order ∷ [] }
+    ensures legal { Legal empty first_carried_out }
+    ensures finished { IsFinished first_carried_out }
+    ensures frames { length (sent_of first_carried_out) ≡ 96 }
+    ensures taken { taken_orders first_carried_out ≡ first_order ∷ [] }
 {}
 
 // The premises of the laws are met together: a blank unit goes along that trace.

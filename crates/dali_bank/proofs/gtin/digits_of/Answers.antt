@@ -15,7 +15,8 @@ loop-place-preserved c =
     let after : place + 1 ≡ c.loop-place.place = omega arith in
     record {
       sized = simp length-set c.loop-place.invariant.sized;
-      digits = All-set IsAsciiDigit digits place (48 + rest % 10) (omega arith, omega arith) c.loop-place.invariant.digits;
+      digits =
+          All-set IsAsciiDigit digits place (48 + rest % 10) (omega arith, omega arith) c.loop-place.invariant.digits;
       written = rw drop-set (written_more rest (drop (place + 1) digits) ∙ rw after c.loop-place.invariant.written);
       small = tenth_small rest place (rw next c.loop-place.invariant.small);
     }

@@ -12,5 +12,7 @@ returns-then-number-pow c =
 pub returns-else-number-pow : goal.returns-else-number-pow
 returns-else-number-pow c =
     let past = c.if-number-pow.false in
-    let p = c.pow.ensures in
-    (λ yes. absurd (grind (arith, nat_tests)), λ known. absurd (omega (arith, p, past, gtin_number_small c.args.number known)))
+    let p = c.pow.ensures in (
+      λ yes. absurd (grind (arith, nat_tests)),
+      λ known. absurd (omega (arith, p, past, gtin_number_small c.args.number known)),
+    )

@@ -7,24 +7,30 @@ pub loop-item-preserved-then-branch : goal.loop-item-preserved-then-branch
 loop-item-preserved-then-branch g c =
     let at = c.loop-item in
     let (split, size, so_far) = at.invariant in
-    let (outcome, judged, is, written) = c.in_ok-write_item.ensures in
-    let steps : into_iter_items at.item-iterator ≡ c.in-Some.item ∷ into_iter_items c.next.new.self = c.in-Some.ensures.steps.0 in
+    let (outcome, judged, is, written) = c.in_ok-write_item.ensures.lines in
+    let steps : into_iter_items at.item-iterator ≡ c.in-Some.item ∷ into_iter_items c.next.new.self =
+    c.in-Some.ensures.steps.0 in
     let gone = c.in-Some.ensures.steps.1 in
-    let left : into_iter_len c.next.new.self ≡ length (into_iter_items c.next.new.self) = let short = ap length steps in omega arith in (
+    let left : into_iter_len c.next.new.self ≡ length (into_iter_items c.next.new.self) =
+    let short = ap length steps in omega arith in (
       append_assoc at.yielded (c.in-Some.item ∷ []) _ ∙ rw (← steps) split,
       left,
-      accepted_more at.yielded c.in-Some.item at.accepted at.refused _ _ _ outcome so_far judged (is ∙ c.if-branch.true) written,
+      accepted_more at.yielded c.in-Some.item at.accepted at.refused _ _ _ outcome so_far judged
+          (is ∙ c.if-branch.true) written,
     )
 
 pub loop-item-preserved : goal.loop-item-preserved
 loop-item-preserved g c =
     let at = c.loop-item in
     let (split, size, so_far) = at.invariant in
-    let (outcome, judged, is, written) = c.in_ok-write_item.ensures in
-    let steps : into_iter_items at.item-iterator ≡ c.in-Some.item ∷ into_iter_items c.next.new.self = c.in-Some.ensures.steps.0 in
+    let (outcome, judged, is, written) = c.in_ok-write_item.ensures.lines in
+    let steps : into_iter_items at.item-iterator ≡ c.in-Some.item ∷ into_iter_items c.next.new.self =
+    c.in-Some.ensures.steps.0 in
     let gone = c.in-Some.ensures.steps.1 in
-    let left : into_iter_len c.next.new.self ≡ length (into_iter_items c.next.new.self) = let short = ap length steps in omega arith in (
+    let left : into_iter_len c.next.new.self ≡ length (into_iter_items c.next.new.self) =
+    let short = ap length steps in omega arith in (
       append_assoc at.yielded (c.in-Some.item ∷ []) _ ∙ rw (← steps) split,
       left,
-      refused_more at.yielded c.in-Some.item at.accepted at.refused _ _ _ outcome so_far judged (is ∙ c.if-branch.false) written,
+      refused_more at.yielded c.in-Some.item at.accepted at.refused _ _ _ outcome so_far judged
+          (is ∙ c.if-branch.false) written,
     )

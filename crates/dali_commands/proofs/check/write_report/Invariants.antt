@@ -7,4 +7,5 @@ use Rattle.dali_commands.proofs.check.write_report.Given as goal
 abbrev pub invariant-loop-item : goal.invariant-loop-item
 invariant-loop-item g l = (l.yielded ++ into_iter_items l.item-iterator ≡ into_iter_items l.initial.item-iterator)
     × (into_iter_len l.item-iterator ≡ length (into_iter_items l.item-iterator))
-    × SoFar (items_view l.yielded) (length l.yielded) l.accepted l.refused (g.W.Write.contents l.initial.writer) (g.W.Write.contents l.writer)
+    × SoFar (items_view l.yielded) (length l.yielded) l.accepted l.refused (g.W.Write.contents l.initial.output.writer)
+    (g.W.Write.contents l.output.writer)

@@ -6,7 +6,8 @@ use Rattle.dali_commands.specs.Jobs.{top_app, command_app, drive_app, run_app}
 use Rattle.dali_commands.proofs.job.bench_command.Goals as goal
 
 -- one more command
-with_next : (all before next : App) (was is : App) → all ≡ with_subcommand was is.top → was ≡ before → is ≡ next → all ≡ with_subcommand before next.top
+with_next : (all before next : App) (was is : App) → all ≡ with_subcommand was is.top → was ≡ before → is ≡ next
+    → all ≡ with_subcommand before next.top
 with_next all before next was is added was_is is_next =
     added ∙ ap (λ app. with_subcommand app is.top) was_is ∙ ap (λ (app : App). with_subcommand before app.top) is_next
 
@@ -28,11 +29,23 @@ returns c =
     let journal = c.in_ok-journal_command.ensures in
     let drive = c.in_ok-drive_command.ensures in
     let top : app_of c.subcommand_required-top.result ≡ top_app =
-    ap app_of_fields c.subcommand_required-top.ensures ∙ ap (λ (app : App). record app { top = record app.top { subcommand_required = true } })
+    ap app_of_fields c.subcommand_required-top.ensures
+    ∙ ap (λ (app : App). record app { top = record app.top { subcommand_required = true } })
     (ap app_of_fields c.about.ensures ∙ c.new.ensures.app) in
-    let checks = with_next (app_of c.in_ok-checks.checks) top_app check_app _ _ (c.in_ok-checks.ensures.shape check.local) top check.app in
-    let runs = with_next (app_of c.in_ok-runs.runs) checks_app run_app _ _ (c.in_ok-runs.ensures.shape run.local) checks run.app in
-    let frames = with_next (app_of c.in_ok-frames.frames) runs_app frame_app _ _ (c.in_ok-frames.ensures.shape frame.local) runs frame.app in
-    let shows = with_next (app_of c.in_ok-shows.shows) frames_app show_app _ _ (c.in_ok-shows.ensures.shape show.local) frames show.app in
-    let journals = with_next (app_of c.in_ok-journals.journals) shows_app journal_app _ _ (c.in_ok-journals.ensures.shape journal.local) shows journal.app in
-    IfOk-weaker c.subcommand-6.result _ _ (λ all added. with_next (app_of all) journals_app drive_app _ _ (added.shape drive.local) journals drive.app) c.subcommand-6.ensures
+    let checks =
+    with_next (app_of c.in_ok-checks.checks) top_app check_app _ _ (c.in_ok-checks.ensures.shape check.local)
+    top check.app in
+    let runs =
+    with_next (app_of c.in_ok-runs.runs) checks_app run_app _ _ (c.in_ok-runs.ensures.shape run.local) checks run.app in
+    let frames =
+    with_next (app_of c.in_ok-frames.frames) runs_app frame_app _ _ (c.in_ok-frames.ensures.shape frame.local)
+    runs frame.app in
+    let shows =
+    with_next (app_of c.in_ok-shows.shows) frames_app show_app _ _ (c.in_ok-shows.ensures.shape show.local)
+    frames show.app in
+    let journals =
+    with_next (app_of c.in_ok-journals.journals) shows_app journal_app _ _
+    (c.in_ok-journals.ensures.shape journal.local) shows journal.app in
+    IfOk-weaker c.subcommand-6.result _ _
+    (λ all added. with_next (app_of all) journals_app drive_app _ _ (added.shape drive.local) journals drive.app)
+    c.subcommand-6.ensures

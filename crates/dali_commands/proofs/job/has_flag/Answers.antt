@@ -13,5 +13,6 @@ returns-in-Some c =
     name_and_rows _ _ _ c.args.command.now (rows_of found) name c.in-Some.ensures.rows in
     let text = one_text-rows found c.args.id.now in
     rw c.eq.ensures
-    (flag_decided _ _ c.args.command.now c.args.id.now (rows_of found) c.get_one.result entered (λ none. c.get_one.ensures.none (text ∙ none))
+    (flag_decided _ _ c.args.command.now c.args.id.now (rows_of found) c.get_one.result entered
+    (λ none. c.get_one.ensures.none (text ∙ none))
     (λ t some. c.get_one.ensures.value t (text ∙ some)))

@@ -19,6 +19,7 @@ returns-in-Some-value_of-4-clause-named c = c.in-Some-value_of-4.ensures.found
 pub returns-clause-none : goal.returns-clause-none
 returns-clause-none c =
     no_job_in _ c.drive_in.result
-    (no_job _ c.in_default.ensures.none c.in_default-value_of.ensures.none c.in_default-value_of-2.ensures.none c.in_default-value_of-3.ensures.none
+    (no_job _ c.in_default.ensures.none c.in_default-value_of.ensures.none c.in_default-value_of-2.ensures.none
+    c.in_default-value_of-3.ensures.none
     c.in_default-value_of-4.ensures.none)
     c.drive_in.ensures.none

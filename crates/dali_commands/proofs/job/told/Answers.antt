@@ -11,4 +11,5 @@ pub returns-clause-app : goal.returns-clause-app
 returns-clause-app c = ap app_of_fields c.after_help.ensures ∙ ap app_of_fields c.about.ensures
 
 pub returns-clause-local : goal.returns-clause-local
-returns-clause-local c = ap (λ (f : Fields). f.has_globals) c.after_help.ensures ∙ ap (λ (f : Fields). f.has_globals) c.about.ensures
+returns-clause-local c =
+    ap (λ (f : Fields). f.has_globals) c.after_help.ensures ∙ ap (λ (f : Fields). f.has_globals) c.about.ensures

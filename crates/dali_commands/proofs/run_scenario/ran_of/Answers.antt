@@ -11,25 +11,34 @@ use Rattle.dali_commands.proofs.run_scenario.ran_of.Goals as goal
 pub returns-in_err-json-clause-err : goal.returns-in_err-json-clause-err
 returns-in_err-json-clause-err g c =
     let p = err_from_is_err_and c.from_residual-in_err-json.result c.from_residual-in_err-json.ensures.1 in
-    rw (p.1, p.2) (inr (c.in_ok-input.input.items, c.in_ok-input.ensures.ok, inl (rw c.as_slice.ensures.value at c.in_err-json.ensures.err)))
+    rw (p.1, p.2) (inr (
+      c.in_ok-bytes.bytes.items,
+      c.in_ok-bytes.ensures.ok,
+      inl (rw c.as_slice.ensures.value at c.in_err-json.ensures.err),
+    ))
 
 pub returns-in_err-scenario-clause-err : goal.returns-in_err-scenario-clause-err
 returns-in_err-scenario-clause-err g c =
     let p = err_from_is_err_and c.from_residual-in_err-scenario.result c.from_residual-in_err-scenario.ensures.1 in
     rw (p.1, p.2) (inr (
-      c.in_ok-input.input.items,
-      c.in_ok-input.ensures.ok,
-      inr (view c.in_ok-json.json, rw c.as_slice.ensures.value at c.in_ok-json.ensures.ok, c.in_err-scenario.ensures.err),
+      c.in_ok-bytes.bytes.items,
+      c.in_ok-bytes.ensures.ok,
+      inr (
+        view c.in_ok-json.json,
+        rw c.as_slice.ensures.value at c.in_ok-json.ensures.ok,
+        c.in_err-scenario.ensures.err,
+      ),
     ))
 
 pub returns-in_err-outcome-clause-err : goal.returns-in_err-outcome-clause-err
 returns-in_err-outcome-clause-err g c =
     let p = err_from_is_err_and c.from_residual-in_err-outcome.result c.from_residual-in_err-outcome.ensures.1 in
-    rw (p.1, p.2) (not_run _ _ (planned_of c.in_ok-scenario.scenario) c.in_ok-bus.field-0.bus c.in_ok-bus.field-0.events.items _
+    rw (p.1, p.2)
+    (not_run _ _ (planned_of c.in_ok-scenario.scenario) c.in_ok-bus.field-0.bus c.in_ok-bus.field-0.events.items _
     (record {
-      input = c.in_ok-input.input.items;
+      input = c.in_ok-bytes.bytes.items;
       json = view c.in_ok-json.json;
-      read = c.in_ok-input.ensures.ok;
+      read = c.in_ok-bytes.ensures.ok;
       is_json = rw c.as_slice.ensures.value at c.in_ok-json.ensures.ok;
       says = c.in_ok-scenario.ensures.ok;
     })
@@ -41,9 +50,9 @@ returns-clause-ok g c =
     let ready = c.in_ok-bus.ensures.ok in (
       planned_of c.in_ok-scenario.scenario,
       record {
-        input = c.in_ok-input.input.items;
+        input = c.in_ok-bytes.bytes.items;
         json = view c.in_ok-json.json;
-        read = c.in_ok-input.ensures.ok;
+        read = c.in_ok-bytes.ensures.ok;
         is_json = rw c.as_slice.ensures.value at c.in_ok-json.ensures.ok;
         says = c.in_ok-scenario.ensures.ok;
       },

@@ -2,4 +2,6 @@ use Rattle.dali_commands.proofs.RunLemmas.{unrun_told}
 use Rattle.dali_commands.proofs.run_scenario.try_run.Goals as goal
 
 pub returns-in-Err-clause-ran : goal.returns-in-Err-clause-ran
-returns-in-Err-clause-ran g c = unrun_told _ _ _ _ _ c.in-Err.fault _ c.in-Err.ensures.err c.write_failure.ensures.told c.write_failure.ensures.status
+returns-in-Err-clause-ran g c =
+    unrun_told _ _ _ _ _ c.in-Err.fault _ c.in-Err.ensures.err c.write_failure.ensures.told
+    c.write_failure.ensures.status

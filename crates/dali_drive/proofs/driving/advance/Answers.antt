@@ -3,20 +3,29 @@ use Rattle.std.proofs.lemmas.Result.{err_from_is_err_and}
 use Rattle.std.specs.Io.KnownBytes.{Appends}
 use Rattle.dali_trace.specs.declared.happening.Happening.TheVariants.{Kept, Sent, Answered}
 use Rattle.dali_drive.specs.Lines.{reply_line}
-use Rattle.dali_drive.proofs.DriveLemmas.{keeps_on, sends_on, says_on, breaks_record, breaks_frame, breaks_saying, breaks_reading, IsCut}
+use Rattle.dali_drive.proofs.DriveLemmas.{keeps_on, sends_on, says_on, breaks_record, breaks_frame, breaks_saying}
+use Rattle.dali_drive.proofs.DriveLemmas.{breaks_reading, IsCut}
 use Rattle.dali_drive.proofs.driving.advance.Goals as goal
 
 pub returns-then-not-send-clause-worked : goal.returns-then-not-send-clause-worked
 returns-then-not-send-clause-worked g c = λ start past first d.
-    let next = c.in-Keep.ensures.done start past d.described d.follows (Kept c.in-Keep.entry) refl in
-    (past, _, d.driven, λ rest. breaks_record start past rest _ _ _ _ _ c.in-Keep.entry next (c.bytes.ensures.in_range (c.in-Keep.ensures.short c.in-Keep.entry refl)) (subst (IsCut _ _) (c.deref.ensures.0 ∙ c.bytes.ensures.spelled) (c.if-not-send.ensures.cut refl)), refl)
+    let next = c.in-Keep.ensures.done start past d.described d.follows (Kept c.in-Keep.entry) refl in (
+      past,
+      _,
+      d.driven,
+      λ rest. breaks_record start past rest _ _ _ _ _ c.in-Keep.entry next
+          (c.bytes.ensures.in_range (c.in-Keep.ensures.short c.in-Keep.entry refl))
+          (subst (IsCut _ _) (c.deref.ensures.0 ∙ c.bytes.ensures.spelled) (c.if-not-send.ensures.cut refl)),
+      refl,
+    )
 
 pub returns-then-not-send-2-clause-worked : goal.returns-then-not-send-2-clause-worked
 returns-then-not-send-2-clause-worked g c = λ start past first d. (
   past,
   _,
   d.driven,
-  λ rest. breaks_frame start past rest _ _ _ _ _ c.in-Send.frame (λ answer. c.in-Send.ensures.done start past d.described d.follows (Sent c.in-Send.frame answer) (answer, refl))
+  λ rest. breaks_frame start past rest _ _ _ _ _ c.in-Send.frame
+      (λ answer. c.in-Send.ensures.done start past d.described d.follows (Sent c.in-Send.frame answer) (answer, refl))
       (subst (IsCut _ _) c.line_of.ensures.line (c.if-not-send-2.ensures.cut refl)),
   refl,
 )
@@ -28,8 +37,10 @@ returns-in_err-answer-in-Send-clause-worked g c = λ start past first d.
       _,
       d.driven,
       λ rest. breaks_reading c.in_err-answer-in-Send.field-0.0 start past rest _ _ _ _ _ _ c.in-Send.frame
-          (λ answer. c.in-Send.ensures.done start past d.described d.follows (Sent c.in-Send.frame answer) (answer, refl))
-          (subst (Appends _ _) c.line_of.ensures.line (c.if-not-send-2.ensures.whole refl)) c.in_err-answer-in-Send.ensures.line,
+          (λ answer.
+          c.in-Send.ensures.done start past d.described d.follows (Sent c.in-Send.frame answer) (answer, refl))
+          (subst (Appends _ _) c.line_of.ensures.line (c.if-not-send-2.ensures.whole refl))
+          c.in_err-answer-in-Send.ensures.line,
       refl,
     )
 
@@ -38,8 +49,10 @@ returns-then-not-put_all-clause-worked g c = λ start past first d. (
   past,
   _,
   d.driven,
-  λ rest. breaks_saying start past rest _ _ _ _ _ c.in-Say.id c.in-Say.reply (c.in-Say.ensures.done start past d.described d.follows (Answered c.in-Say.id c.in-Say.reply) refl)
-      (subst (IsCut _ _) {y = reply_line c.in-Say.id c.in-Say.reply} (c.deref-in-Say.ensures.0 ∙ c.reply_line.ensures) (c.if-not-put_all.ensures.cut refl)),
+  λ rest. breaks_saying start past rest _ _ _ _ _ c.in-Say.id c.in-Say.reply
+      (c.in-Say.ensures.done start past d.described d.follows (Answered c.in-Say.id c.in-Say.reply) refl)
+      (subst (IsCut _ _) {y = reply_line c.in-Say.id c.in-Say.reply} (c.deref-in-Say.ensures.0 ∙ c.reply_line.ensures)
+      (c.if-not-put_all.ensures.cut refl)),
   refl,
 )
 
@@ -47,7 +60,9 @@ pub returns-else-not-send-clause-worked : goal.returns-else-not-send-clause-work
 returns-else-not-send-clause-worked g c = λ start past first d. (
   Kept c.in-Keep.entry ∷ past,
   record {
-    driven = keeps_on start past first _ _ _ _ _ c.in-Keep.entry d.driven (c.in-Keep.ensures.done start past d.described d.follows (Kept c.in-Keep.entry) refl)
+    driven =
+        keeps_on start past first _ _ _ _ _ c.in-Keep.entry d.driven
+        (c.in-Keep.ensures.done start past d.described d.follows (Kept c.in-Keep.entry) refl)
         (c.bytes.ensures.in_range (c.in-Keep.ensures.short c.in-Keep.entry refl))
         (subst (Appends _ _) (c.deref.ensures.0 ∙ c.bytes.ensures.spelled) (c.if-not-send.ensures.whole refl));
     described = c.kept.ensures.described start past c.in-Keep.entry (sym c.in-Keep.ensures.phase) d.described;
@@ -62,8 +77,10 @@ returns-in_ok-answer-in-Send-clause-worked g c = λ start past first d.
     let answer = c.in_ok-answer-in-Send.answer in (
       Sent frame answer ∷ past,
       record {
-        driven = sends_on start past first _ _ _ _ _ _ frame answer d.driven (c.in-Send.ensures.done start past d.described d.follows (Sent frame answer) (answer, refl))
-            (subst (Appends _ _) c.line_of.ensures.line (c.if-not-send-2.ensures.whole refl)) c.in_ok-answer-in-Send.ensures.line;
+        driven = sends_on start past first _ _ _ _ _ _ frame answer d.driven
+            (c.in-Send.ensures.done start past d.described d.follows (Sent frame answer) (answer, refl))
+            (subst (Appends _ _) c.line_of.ensures.line (c.if-not-send-2.ensures.whole refl))
+            c.in_ok-answer-in-Send.ensures.line;
         described = c.heard.ensures.described start past frame (sym c.in-Send.ensures.phase) d.described;
         follows = c.heard.ensures.follows start past frame (sym c.in-Send.ensures.phase) d.described d.follows;
       },
@@ -76,9 +93,11 @@ returns-else-not-put_all-clause-worked g c = λ start past first d. (
   record {
     driven = says_on start past first _ _ _ _ _ c.in-Say.id c.in-Say.reply d.driven
         (c.in-Say.ensures.done start past d.described d.follows (Answered c.in-Say.id c.in-Say.reply) refl)
-        (subst (Appends _ _) {y = reply_line c.in-Say.id c.in-Say.reply} (c.deref-in-Say.ensures.0 ∙ c.reply_line.ensures) (c.if-not-put_all.ensures.whole refl));
+        (subst (Appends _ _) {y = reply_line c.in-Say.id c.in-Say.reply}
+        (c.deref-in-Say.ensures.0 ∙ c.reply_line.ensures) (c.if-not-put_all.ensures.whole refl));
     described = c.said.ensures.described start past c.in-Say.id c.in-Say.reply (sym c.in-Say.ensures.phase) d.described;
-    follows = c.said.ensures.follows start past c.in-Say.id c.in-Say.reply (sym c.in-Say.ensures.phase) d.described d.follows;
+    follows =
+        c.said.ensures.follows start past c.in-Say.id c.in-Say.reply (sym c.in-Say.ensures.phase) d.described d.follows;
   },
   refl,
 )

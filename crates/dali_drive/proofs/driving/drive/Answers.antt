@@ -6,12 +6,16 @@ use Rattle.dali_drive.specs.Lines.{reply_line}
 use Rattle.dali_writer.specs.Held.{start_of}
 use Rattle.dali_drive.specs.Driven.{orders_asked}
 use Rattle.dali_trace.specs.declared.happening.Happening.TheVariants.{Asked}
-use Rattle.dali_drive.proofs.DriveLemmas.{begun_at, replied_at, reply_next, breaks_saying, breaks_memory, IsCut, asks_on, asked_more, asked_so_far, asked_then, asked_all}
+use Rattle.dali_drive.proofs.DriveLemmas.{begun_at, replied_at, reply_next, breaks_saying, breaks_memory, IsCut}
+use Rattle.dali_drive.proofs.DriveLemmas.{asks_on, asked_more, asked_so_far, asked_then, asked_all}
 use Rattle.dali_drive.proofs.driving.drive.Goals as goal
 
 pub loop-order-init : goal.loop-order-init
 loop-order-init g c =
-    let w = c.in_ok-work.ensures.worked (start_of c.args.writer) [] _ (begun_at (start_of c.args.writer) c.args.writer _ _ _ _ c.rest.ensures.described c.rest.ensures.follows) in record {
+    let w =
+    c.in_ok-work.ensures.worked (start_of c.args.writer) [] _
+    (begun_at (start_of c.args.writer) c.args.writer _ _ _ _ c.rest.ensures.described c.rest.ensures.follows) in
+    record {
       past = w.0;
       driven = w.1;
       orders = w.2;
@@ -29,7 +33,8 @@ returns-clause-driven g c =
     record {
       past = i.past;
       driven = i.driven.driven;
-      asked = asked_all c.args.orders.now (orders_asked i.past) c.loop-order.order-index c.loop-order-test.false i.orders;
+      asked =
+          asked_all c.args.orders.now (orders_asked i.past) c.loop-order.order-index c.loop-order-test.false i.orders;
       quiet = i.quiet;
       described = i.driven.described;
       follows = i.driven.follows;
@@ -37,10 +42,19 @@ returns-clause-driven g c =
 
 pub returns-in_err-work-clause-broken : goal.returns-in_err-work-clause-broken
 returns-in_err-work-clause-broken g c =
-    let w = c.in_err-work.ensures.worked (start_of c.args.writer) [] _ (begun_at (start_of c.args.writer) c.args.writer _ _ _ _ c.rest.ensures.described c.rest.ensures.follows) in
+    let w =
+    c.in_err-work.ensures.worked (start_of c.args.writer) [] _
+    (begun_at (start_of c.args.writer) c.args.writer _ _ _ _ c.rest.ensures.described c.rest.ensures.follows) in
     let p = err_from_is_err_and c.from_residual.result c.from_residual.ensures.1 in
     let all : List Contents = c.args.orders.now in
-    rw (p.1, p.2) (record { past = w.0; rest = all; middle = w.1; driven = w.2; asked = asked_so_far all (orders_asked w.0) 0 w.4; broken = w.3 all })
+    rw (p.1, p.2) (record {
+      past = w.0;
+      rest = all;
+      middle = w.1;
+      driven = w.2;
+      asked = asked_so_far all (orders_asked w.0) 0 w.4;
+      broken = w.3 all;
+    })
 
 pub returns-in_default-clause-broken : goal.returns-in_default-clause-broken
 returns-in_default-clause-broken g c =
@@ -55,7 +69,9 @@ returns-in_default-clause-broken g c =
       rest = order ∷ rest;
       middle = _;
       driven = i.driven.driven;
-      asked = asked_then all (orders_asked i.past) c.loop-order.order-index _ order c.loop-order-test.true c.order-item.is i.orders;
+      asked =
+          asked_then all (orders_asked i.past) c.loop-order.order-index _ order c.loop-order-test.true
+          c.order-item.is i.orders;
       broken = breaks_memory start i.past order rest _ _ _ _ i.driven.described.finished i.quiet due;
     }
 
@@ -74,8 +90,13 @@ returns-then-not-put_all-clause-broken g c =
       rest = rest;
       middle = _;
       driven = asks_on start i.past _ _ order i.driven.driven i.quiet described.legal.0;
-      asked = asked_so_far all (order ∷ orders_asked i.past) (c.loop-order.order-index + 1) (asked_more all (orders_asked i.past) c.loop-order.order-index _ order c.loop-order-test.true c.order-item.is i.orders);
-      broken = breaks_saying start (Asked order ∷ i.past) rest _ _ _ _ _ order.id c.in-Ok.reply (reply_next start i.past order c.in-Ok.reply described.legal follows.planned) (subst (IsCut _ _) line (c.if-not-put_all.ensures.cut refl));
+      asked =
+          asked_so_far all (order ∷ orders_asked i.past) (c.loop-order.order-index + 1) (asked_more all
+          (orders_asked i.past) c.loop-order.order-index _ order c.loop-order-test.true c.order-item.is i.orders);
+      broken =
+          breaks_saying start (Asked order ∷ i.past) rest _ _ _ _ _ order.id c.in-Ok.reply
+          (reply_next start i.past order c.in-Ok.reply described.legal follows.planned)
+          (subst (IsCut _ _) line (c.if-not-put_all.ensures.cut refl));
     }
 
 pub returns-in_err-work-2-clause-broken : goal.returns-in_err-work-2-clause-broken
@@ -85,14 +106,18 @@ returns-in_err-work-2-clause-broken g c =
     let follows = rw c.copy.ensures.value at (c.in-Ok.ensures.follows _ i.past i.driven.follows) in
     let line = c.deref.ensures.0 ∙ c.reply_line.ensures ∙ ap (λ (n : ℕ). reply_line n c.in-Ok.reply) c.id.ensures in
     let w = c.in_err-work-2.ensures.worked _ _ _
-    (replied_at _ _ _ _ _ _ _ _ _ _ _ c.in-Ok.reply i.driven i.quiet described follows (subst (Appends _ _) line (c.if-not-put_all.ensures.whole refl))) in
+    (replied_at _ _ _ _ _ _ _ _ _ _ _ c.in-Ok.reply i.driven i.quiet described follows
+    (subst (Appends _ _) line (c.if-not-put_all.ensures.whole refl))) in
     let rest = drop (c.loop-order.order-index + 1) c.args.orders.now in
-    let p = err_from_is_err_and c.from_residual-in_err-work-2.result c.from_residual-in_err-work-2.ensures.1 in rw (p.1, p.2) (record {
+    let p = err_from_is_err_and c.from_residual-in_err-work-2.result c.from_residual-in_err-work-2.ensures.1 in
+    rw (p.1, p.2) (record {
       past = w.0;
       rest = rest;
       middle = w.1;
       driven = w.2;
-      asked = asked_so_far _ _ (c.loop-order.order-index + 1) (w.4 ∙ asked_more _ _ _ _ _ c.loop-order-test.true c.order-item.is i.orders);
+      asked =
+          asked_so_far _ _ (c.loop-order.order-index + 1)
+          (w.4 ∙ asked_more _ _ _ _ _ c.loop-order-test.true c.order-item.is i.orders);
       broken = w.3 rest;
     })
 
@@ -103,7 +128,9 @@ loop-order-preserved g c =
     let follows = rw c.copy.ensures.value at (c.in-Ok.ensures.follows _ i.past i.driven.follows) in
     let line = c.deref.ensures.0 ∙ c.reply_line.ensures ∙ ap (λ (n : ℕ). reply_line n c.in-Ok.reply) c.id.ensures in
     let w = c.in_ok-work-2.ensures.worked _ _ _
-    (replied_at _ _ _ _ _ _ _ _ _ _ _ c.in-Ok.reply i.driven i.quiet described follows (subst (Appends _ _) line (c.if-not-put_all.ensures.whole refl))) in record {
+    (replied_at _ _ _ _ _ _ _ _ _ _ _ c.in-Ok.reply i.driven i.quiet described follows
+    (subst (Appends _ _) line (c.if-not-put_all.ensures.whole refl))) in
+    record {
       past = w.0;
       driven = w.1;
       orders = w.2 ∙ asked_more _ _ _ _ _ c.loop-order-test.true c.order-item.is i.orders;

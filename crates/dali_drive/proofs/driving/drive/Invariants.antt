@@ -11,8 +11,10 @@ abbrev pub invariant-loop-order : goal.invariant-loop-order
 invariant-loop-order g l = record {
   past : List Happening;
   driven : IsDrivenAt (start_of l.fn.writer) past l.writer
-      (shown (g.J.Sink.held l.fn.journal_out) (g.L.Sink.held l.fn.link_out) (g.I.Source.left l.fn.link_in) (g.O.Sink.held l.fn.out))
-      (shown (g.J.Sink.held l.journal_out) (g.L.Sink.held l.link_out) (g.I.Source.left l.link_in) (g.O.Sink.held l.out));
+      (shown (g.J.Sink.held l.fn.journal_out) (g.L.Sink.held l.fn.link_out) (g.I.Source.left l.fn.link_in)
+      (g.O.Sink.held l.fn.out))
+      (shown (g.J.Sink.held l.journal_out) (g.L.Sink.held l.link_out) (g.I.Source.left l.link_in)
+      (g.O.Sink.held l.out));
   orders : orders_asked past ≡ reverse (take l.order-index l.orders);
   rests : IsAtRest l.writer;
   quiet : is_busy (start_of l.fn.writer) past ≡ false;

@@ -22,4 +22,5 @@ pub returns-in_err-advance-clause-worked : goal.returns-in_err-advance-clause-wo
 returns-in_err-advance-clause-worked g c = λ start past first d.
     let before = c.loop.invariant.worked start past first d in
     let next = c.in_err-advance.ensures.worked start before.0 first before.1 in
-    let p = err_from_is_err_and c.from_residual.result c.from_residual.ensures.1 in rw (p.1, p.2) (next.0, next.1, next.2, next.3, next.4 ∙ before.2)
+    let p = err_from_is_err_and c.from_residual.result c.from_residual.ensures.1 in
+    rw (p.1, p.2) (next.0, next.1, next.2, next.3, next.4 ∙ before.2)

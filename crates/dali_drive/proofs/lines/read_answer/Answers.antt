@@ -30,7 +30,8 @@ pub returns-then-is_full-clause-line : goal.returns-then-is_full-clause-line
 returns-then-is_full-clause-line g c = (
   c.loop-line.line.items ++ c.in-Byte.byte ∷ [],
   let full = c.if-is_full.ensures.value in grind (arith, common_steps, length-append {A = ℕ}),
-  All-append (λ b. b ≢ 10) c.loop-line.line.items (c.in-Byte.byte ∷ []) c.loop-line.invariant.inside (let other = c.in-Byte.byte-test.1 in grind (arith, common_steps)),
+  All-append (λ b. b ≢ 10) c.loop-line.line.items (c.in-Byte.byte ∷ []) c.loop-line.invariant.inside
+      (let other = c.in-Byte.byte-test.1 in grind (arith, common_steps)),
   Consumes-trans _ _ _ _ _ c.loop-line.invariant.bytes c.in-Byte.ensures.bytes,
 )
 

@@ -4,4 +4,5 @@ use Rattle.dali_input.specs.BankText.{is_blank}
 use Rattle.dali_input.proofs.bank_text.without_blanks.Goals as goal
 
 pub returns : goal.returns
-returns c = filter_from_retain _ (λ byte. not (is_blank byte)) (λ p x b q called. search rules) _ _ _ c.retain.ensures.filtered
+returns c =
+    filter_from_retain _ (λ byte. not (is_blank byte)) (λ p x b q called. search rules) _ _ _ c.retain.ensures.filtered

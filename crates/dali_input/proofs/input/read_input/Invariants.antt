@@ -1,9 +1,13 @@
-use Rattle.std.proofs.Common.{◌≤◌, length}
+use Rattle.std.proofs.Common.{◌≡◌, ◌-◌, ◌≤◌, length}
 use Rattle.std.specs.Io.KnownBytes.{Consumes}
 use Rattle.dali_input.proofs.input.read_input.Given as goal
 
-abbrev pub invariant-loop : goal.invariant-loop
-invariant-loop g l = record {
-  consumed : Consumes (g.R.Read.remaining l.initial.reader) (g.R.Read.remaining l.reader) l.input.items;
-  bounded : length l.input.items ≤ l.most;
+abbrev pub invariant-loop-chunk : goal.invariant-loop-chunk
+invariant-loop-chunk g l = record {
+  consumed : Consumes (g.R.Read.remaining l.initial.input.reader) (g.R.Read.remaining l.input.reader) l.bytes.items;
+  bounded : length l.bytes.items ≤ l.most;
+  unfailed : l.input.failed ≡ l.initial.input.failed;
 }
+
+abbrev pub decreases-loop-chunk : goal.decreases-loop-chunk
+decreases-loop-chunk g l = l.most - length l.bytes.items

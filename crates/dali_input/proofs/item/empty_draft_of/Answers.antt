@@ -4,13 +4,22 @@ use Rattle.dali_input.proofs.ItemLemmas.{above_63}
 use Rattle.dali_input.proofs.item.empty_draft_of.Goals as goal
 
 pub returns-then-not-members-clause-err : goal.returns-then-not-members-clause-err
-returns-then-not-members-clause-err c = λ source are.
-    (c.in_ok-id.id, c.in_ok-id.unit, c.in_ok-id.ensures.ok source are, subst (KnowsKeys source) c.if-not-members.true are.known)
+returns-then-not-members-clause-err c = λ source are. (
+  c.in_ok-id.id,
+  c.in_ok-id.unit,
+  c.in_ok-id.ensures.ok source are,
+  subst (KnowsKeys source) c.if-not-members.true are.known,
+)
 
 pub returns-in_default-clause-err : goal.returns-in_default-clause-err
 returns-in_default-clause-err c = λ source are.
-    let keys = subst (KnowsKeys source) c.if-not-members.false are.known in
-    (c.in_ok-id.id, c.in_ok-id.unit, c.in_ok-id.ensures.ok source are, keys, above_63 c.in_ok-id.unit (λ short. c.in_default.ensures (omega (arith, short))))
+    let keys = subst (KnowsKeys source) c.if-not-members.false are.known in (
+      c.in_ok-id.id,
+      c.in_ok-id.unit,
+      c.in_ok-id.ensures.ok source are,
+      keys,
+      above_63 c.in_ok-id.unit (λ short. c.in_default.ensures (omega (arith, short))),
+    )
 
 pub returns-in-Ok-new-clause-ok : goal.returns-in-Ok-new-clause-ok
 returns-in-Ok-new-clause-ok c =
@@ -27,4 +36,11 @@ returns-in-Ok-new-clause-ok c =
 pub returns-in-Err-clause-err : goal.returns-in-Err-clause-err
 returns-in-Err-clause-err c = λ source are.
     let keys = subst (KnowsKeys source) c.if-not-members.false are.known in
-    rw c.in-Err.ensures.err (c.in_ok-id.id, c.in_ok-id.unit, c.in_ok-id.ensures.ok source are, keys, above_63 c.in_ok-id.unit (λ short. let good : true ≡ false = sym (c.in-Err.ensures.short.1 (rw c.in-Ok.ensures.1 short)) in cc))
+    rw c.in-Err.ensures.err (
+      c.in_ok-id.id,
+      c.in_ok-id.unit,
+      c.in_ok-id.ensures.ok source are,
+      keys,
+      above_63 c.in_ok-id.unit
+          (λ short. let good : true ≡ false = sym (c.in-Err.ensures.short.1 (rw c.in-Ok.ensures.1 short)) in cc),
+    )

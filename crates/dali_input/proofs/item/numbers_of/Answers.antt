@@ -10,7 +10,9 @@ returns-in-Some-Some-clause-ok c = λ source are. record {
 }
 
 pub returns-in_default-clause-err : goal.returns-in_default-clause-err
-returns-in_default-clause-err c = λ source are. inr (sym (whole_of source c.args.members.now Unit are) ∙ sym c.whole-2.ensures ∙ c.in_default.is-1)
+returns-in_default-clause-err c =
+    λ source are. inr (sym (whole_of source c.args.members.now Unit are) ∙ sym c.whole-2.ensures ∙ c.in_default.is-1)
 
 pub returns-in_default-2-clause-err : goal.returns-in_default-2-clause-err
-returns-in_default-2-clause-err c = λ source are. inl (sym (whole_of source c.args.members.now Order are) ∙ sym c.whole.ensures ∙ c.in_default.is-0)
+returns-in_default-2-clause-err c =
+    λ source are. inl (sym (whole_of source c.args.members.now Order are) ∙ sym c.whole.ensures ∙ c.in_default.is-0)

@@ -12,17 +12,22 @@ returns-in_err-draft-clause-err c =
 pub returns-in-Err-clause-err : goal.returns-in-Err-clause-err
 returns-in-Err-clause-err c =
     let source = view c.args.item.now in
-    field_fault source _ _ c.in-Err.fault (c.in_ok-draft.ensures.ok.1 source c.in-Some.ensures.found) (c.in-Err.ensures.err source c.in-Some.ensures.found)
+    field_fault source _ _ c.in-Err.fault (c.in_ok-draft.ensures.ok.1 source c.in-Some.ensures.found)
+    (c.in-Err.ensures.err source c.in-Some.ensures.found)
 
 pub returns-in-Ok-clause-ok : goal.returns-in-Ok-clause-ok
 returns-in-Ok-clause-ok c =
     let source = view c.args.item.now in
-    let of_item = drafted source _ _ (c.in_ok-draft.ensures.ok.1 source c.in-Some.ensures.found) (c.in_default-set_fields.ensures.ok source c.in-Some.ensures.found) in
+    let of_item =
+    drafted source _ _ (c.in_ok-draft.ensures.ok.1 source c.in-Some.ensures.found)
+    (c.in_default-set_fields.ensures.ok source c.in-Some.ensures.found) in
     let made = c.in-Ok.ensures.accepted.0 refl in
     (c.set_fields.new.draft, of_item, made.0, made.1, c.in-Ok.ensures.ok)
 
 pub returns-in-Err-finish-clause-err : goal.returns-in-Err-finish-clause-err
 returns-in-Err-finish-clause-err c =
     let source = view c.args.item.now in
-    let of_item = drafted source _ _ (c.in_ok-draft.ensures.ok.1 source c.in-Some.ensures.found) (c.in_default-set_fields.ensures.ok source c.in-Some.ensures.found) in
+    let of_item =
+    drafted source _ _ (c.in_ok-draft.ensures.ok.1 source c.in-Some.ensures.found)
+    (c.in_default-set_fields.ensures.ok source c.in-Some.ensures.found) in
     finish_fault source _ c.in-Err-finish.fault of_item c.in-Err-finish.ensures.err.1

@@ -11,7 +11,8 @@ returns-in_err-set_given-clause-err c =
     let p = err_from_is_err_and c.from_residual.result c.from_residual.ensures.1 in
     rw (p.1, p.2) (λ source are.
     let there = given_at source c.args.members.now _ are (Some c.in-Some.json) c.in-Some.ensures in
-    first_refused source c.loop-field.field-index _ _ _ c.loop-field-test.true (c.loop-field.invariant.0 source are) (view c.in-Some.json.now, there, c.in_err-set_given.ensures.err))
+    first_refused source c.loop-field.field-index _ _ _ c.loop-field-test.true (c.loop-field.invariant.0 source are)
+    (view c.in-Some.json.now, there, c.in_err-set_given.ensures.err))
 
 pub loop-field-preserved : goal.loop-field-preserved
 loop-field-preserved c =
@@ -22,16 +23,20 @@ loop-field-preserved c =
           rw w.draft-is (
             λ source are.
                 let there = given_at source c.args.members.now _ are (Some w.in-Some.json) w.in-Some.ensures in
-                rw rank at (one_more source _ c.args.draft.now c.loop-field.draft w.set_given.new.draft _ (rw rank (c.loop-field.invariant.0 source are)) there by),
+                rw rank at (one_more source _ c.args.draft.now c.loop-field.draft w.set_given.new.draft _
+                (rw rank (c.loop-field.invariant.0 source are)) there by),
             rw rank at (unset_given _ _ c.loop-field.draft w.set_given.new.draft (rw rank c.loop-field.invariant.1) by),
           )
       | in_default w ↦ rw w.draft-is (
         λ source are.
             let there = given_at source c.args.members.now _ are None w.in_default.ensures in
-            rw rank at (not_given source _ c.args.draft.now c.loop-field.draft there (rw rank (c.loop-field.invariant.0 source are))),
+            rw rank at (not_given source _ c.args.draft.now c.loop-field.draft there
+            (rw rank (c.loop-field.invariant.0 source are))),
         unset_after c.loop-field.field-index c.loop-field.draft c.loop-field.invariant.1,
       )
     ]
 
 pub returns-clause-ok : goal.returns-clause-ok
-returns-clause-ok c = λ source are. all_set source c.loop-field.field-index c.args.draft.now c.loop-field.draft (omega (arith, c.loop-field-test.false)) (c.loop-field.invariant.0 source are)
+returns-clause-ok c =
+    λ source are. all_set source c.loop-field.field-index c.args.draft.now c.loop-field.draft
+    (omega (arith, c.loop-field-test.false)) (c.loop-field.invariant.0 source are)

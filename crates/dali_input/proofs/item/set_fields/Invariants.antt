@@ -4,4 +4,6 @@ use Rattle.dali_input.proofs.ItemLemmas.{SetSoFar, AreUnsetFrom}
 use Rattle.dali_input.proofs.item.set_fields.Given as goal
 
 abbrev pub invariant-loop-field : goal.invariant-loop-field
-invariant-loop-field l = ((source : Data) → AreMembersOf source l.members → SetSoFar source l.field-index l.initial.draft l.draft) × AreUnsetFrom l.field-index l.draft
+invariant-loop-field l =
+    ((source : Data) → AreMembersOf source l.members → SetSoFar source l.field-index l.initial.draft l.draft)
+    × AreUnsetFrom l.field-index l.draft

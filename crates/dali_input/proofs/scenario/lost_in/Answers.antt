@@ -7,7 +7,8 @@ use Rattle.dali_input.proofs.scenario.lost_in.Goals as goal
 pub returns-in_err-numbers_of-in-Some-clause-err : goal.returns-in_err-numbers_of-in-Some-clause-err
 returns-in_err-numbers_of-in-Some-clause-err c =
     let p = err_from_is_err_and c.from_residual.result c.from_residual.ensures.1 in
-    rw (p.1, p.2, c.in-Some.is) (needs _ (AreLost (view c.in-Some.json.now)) _ (λ lost are. (are.addresses, are.array)) c.in_err-numbers_of-in-Some.ensures.err)
+    rw (p.1, p.2, c.in-Some.is) (needs _ (AreLost (view c.in-Some.json.now)) _ (λ lost are. (are.addresses, are.array))
+    c.in_err-numbers_of-in-Some.ensures.err)
 
 pub bits_of-requires : goal.bits_of-requires
 bits_of-requires c =

@@ -2,19 +2,23 @@ use Rattle.std.proofs.Common.{ap, sym, refl, [], append-nil, ◌+◌}
 use Rattle.dali_input.specs.Scenario.{event_of}
 use Rattle.dali_input.proofs.SetupLemmas.{more_events}
 use Rattle.dali_input.proofs.setup.events_of.Goals as goal
-use Rattle.dali_input.proofs.setup.events_of.Goals.{in-Submit+in-Ok+in_ok-push-in-Ok, in-Steps+in_ok-push_steps-in-Steps, in-Stop+in_ok-push-in-Stop}
+use Rattle.dali_input.proofs.setup.events_of.Goals.{in-Submit+in-Ok+in_ok-push-in-Ok}
+use Rattle.dali_input.proofs.setup.events_of.Goals.{in-Steps+in_ok-push_steps-in-Steps, in-Stop+in_ok-push-in-Stop}
 
 pub loop-plan-preserved : goal.loop-plan-preserved
 loop-plan-preserved c = record {
   made = elim c.match-plan.branch [
     | in-Submit+in-Ok+in_ok-push-in-Ok w ↦ rw (w.events-is, w.in_ok-push-in-Ok.ensures.items)
-        (more_events c.args.plans.now c.loop-plan.plan-index _ _ _ _ c.loop-plan-test.true c.plan-item.is (ap event_of w.in-Submit.is) c.loop-plan.invariant.made
+        (more_events c.args.plans.now c.loop-plan.plan-index _ _ _ _ c.loop-plan-test.true c.plan-item.is
+        (ap event_of w.in-Submit.is) c.loop-plan.invariant.made
         (_, [], w.in-Ok.ensures.ok, refl, refl))
     | in-Steps+in_ok-push_steps-in-Steps w ↦ rw (w.events-is, w.in_ok-push_steps-in-Steps.ensures)
-        (more_events c.args.plans.now c.loop-plan.plan-index _ _ _ _ c.loop-plan-test.true c.plan-item.is (ap event_of w.in-Steps.is) c.loop-plan.invariant.made
+        (more_events c.args.plans.now c.loop-plan.plan-index _ _ _ _ c.loop-plan-test.true c.plan-item.is
+        (ap event_of w.in-Steps.is) c.loop-plan.invariant.made
         ([], refl, sym (append-nil _)))
     | in-Stop+in_ok-push-in-Stop w ↦ rw (w.events-is, w.in_ok-push-in-Stop.ensures.items)
-        (more_events c.args.plans.now c.loop-plan.plan-index _ _ _ _ c.loop-plan-test.true c.plan-item.is (ap event_of w.in-Stop.is) c.loop-plan.invariant.made
+        (more_events c.args.plans.now c.loop-plan.plan-index _ _ _ _ c.loop-plan-test.true c.plan-item.is
+        (ap event_of w.in-Stop.is) c.loop-plan.invariant.made
         ([], refl, refl))
   ];
   counted = ap (λ n. n + 1) c.loop-plan.invariant.counted;

@@ -5,4 +5,5 @@ use Rattle.dali_input.proofs.ValueLemmas.{KnownSoFar}
 use Rattle.dali_input.proofs.values.has_only_keys.Given as goal
 
 abbrev pub invariant-loop-key : goal.invariant-loop-key
-invariant-loop-key l = KnownSoFar (λ key. list_any (bytes_eq key) (map (λ one. one.now) l.keys)) l.initial.key-iterator l.key-iterator
+invariant-loop-key l =
+    KnownSoFar (λ key. list_any (bytes_eq key) (map (λ one. one.now) l.keys)) l.initial.key-iterator l.key-iterator

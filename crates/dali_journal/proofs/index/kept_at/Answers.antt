@@ -3,7 +3,8 @@ use Rattle.dali_journal.proofs.index.kept_at.Goals as goal
 
 pub returns-in-Some : goal.returns-in-Some
 returns-in-Some c = λ kept agrees.
-    told_unfinished c.args.bytes.now c.args.place c.in-Begun.at kept c.in-Some.order c.in-Begun.is c.in-Some.ensures agrees
+    told_unfinished c.args.bytes.now c.args.place c.in-Begun.at kept c.in-Some.order c.in-Begun.is
+    c.in-Some.ensures agrees
 
 pub returns-in-None : goal.returns-in-None
 returns-in-None c = λ kept agrees.
@@ -11,8 +12,10 @@ returns-in-None c = λ kept agrees.
 
 pub returns-in-Some-order_at : goal.returns-in-Some-order_at
 returns-in-Some-order_at c = λ kept agrees.
-    told_ended c.args.bytes.now c.args.place c.in-Ended.at c.in-Ended.code kept c.in-Some-order_at.order c.in-Ended.is c.in-Some-order_at.ensures agrees
+    told_ended c.args.bytes.now c.args.place c.in-Ended.at c.in-Ended.code kept c.in-Some-order_at.order c.in-Ended.is
+    c.in-Some-order_at.ensures agrees
 
 pub returns-in-None-order_at : goal.returns-in-None-order_at
 returns-in-None-order_at c = λ kept agrees.
-    absurd (found_ended c.args.bytes.now c.args.place c.in-Ended.at c.in-Ended.code kept c.in-Ended.is c.in-None-order_at.ensures agrees)
+    absurd (found_ended c.args.bytes.now c.args.place c.in-Ended.at c.in-Ended.code kept c.in-Ended.is
+    c.in-None-order_at.ensures agrees)

@@ -4,4 +4,5 @@ use Rattle.dali_laws.proofs.laws.done_orders_are_applied_once.Goals as goal
 
 pub returns : goal.returns
 returns c = λ zero start first past last states along.
-    part_of (IsRight zero start) (AppliedAt zero start) (λ moment now right. right.2) past last states (every_moment zero start first past last states along)
+    part_of (IsRight zero start) (AppliedAt zero start) (λ moment now right. right.2) past last states
+    (every_moment zero start first past last states along)

@@ -4,8 +4,10 @@ use Rattle.dali_laws.proofs.laws.every_moment_fits.Goals as goal
 
 pub returns-clause-fits : goal.returns-clause-fits
 returns-clause-fits c = λ zero start first past last states along.
-    part_of (IsRight zero start) (FitsAt zero start) (λ moment now right. right.0) past last states (every_moment zero start first past last states along)
+    part_of (IsRight zero start) (FitsAt zero start) (λ moment now right. right.0) past last states
+    (every_moment zero start first past last states along)
 
 pub returns-clause-enabled : goal.returns-clause-enabled
 returns-clause-enabled c = λ zero start first past last states along.
-    part_of (IsRight zero start) (OnlyNamedAt zero start) (λ moment now right. right.1) past last states (every_moment zero start first past last states along)
+    part_of (IsRight zero start) (OnlyNamedAt zero start) (λ moment now right. right.1) past last states
+    (every_moment zero start first past last states along)

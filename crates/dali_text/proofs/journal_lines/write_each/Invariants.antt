@@ -6,8 +6,11 @@ use Rattle.dali_text.proofs.JournalLinesLemmas.{Told}
 use Rattle.dali_text.proofs.journal_lines.write_each.Given as goal
 
 abbrev pub invariant-loop-entry : goal.invariant-loop-entry
-invariant-loop-entry g l = (records : List Record) → AllByRecursion IsRecord records → l.bytes ≡ flat_map spelling records
-    → Told records l.rest (g.W.Write.contents l.initial.writer) (g.W.Write.contents l.writer)
+invariant-loop-entry g l = record {
+  text : (records : List Record) → AllByRecursion IsRecord records → l.bytes ≡ flat_map spelling records
+      → Told records l.rest (g.W.Write.contents l.initial.output.writer) (g.W.Write.contents l.output.writer);
+  failed : l.output.failed ≡ l.initial.output.failed;
+}
 
 abbrev pub decreases-loop-entry : goal.decreases-loop-entry
 decreases-loop-entry g l = length l.rest

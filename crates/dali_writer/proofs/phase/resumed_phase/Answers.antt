@@ -14,7 +14,10 @@ pub returns-in-Opened : goal.returns-in-Opened
 returns-in-Opened c = rw c.in-Opened.is (
   c.opened-session.result,
   refl,
-  (rw c.copy-in-Opened.ensures.value at c.opened-session.ensures.unit, rw c.copy-in-Opened.ensures.value at c.opened-session.ensures.job),
+  (
+    rw c.copy-in-Opened.ensures.value at c.opened-session.ensures.unit,
+    rw c.copy-in-Opened.ensures.value at c.opened-session.ensures.job,
+  ),
   c.opened-session.ensures.told,
   rw c.copy-in-Opened.ensures.value at c.copy-in-Opened.ensures.valid,
 )

@@ -20,7 +20,9 @@ returns-in_default-clause-err g c = record {
   parts = refl;
   legal = (tt, omega arith);
   planned = tt;
-  leads = right g.B.Bus.world g.B.Bus.step g.met.B.Bus.allowed c.args.limit c.args.bus.now c.args.bus.now [] (tt, omega arith) (starts g.B.Bus.world g.B.Bus.step c.args.bus.now);
+  leads =
+      right g.B.Bus.world g.B.Bus.step g.met.B.Bus.allowed c.args.limit c.args.bus.now c.args.bus.now []
+      (tt, omega arith) (starts g.B.Bus.world g.B.Bus.step c.args.bus.now);
 }
 
 pub loop-event-init : goal.loop-event-init
@@ -36,21 +38,26 @@ loop-event-init g c = rw c.new-trace.ensures.items (record {
 pub returns-in_err-serve-clause-err : goal.returns-in_err-serve-clause-err
 returns-in_err-serve-clause-err g c =
     let at = c.loop-event.invariant in
-    let leads : Chain (MovesBy g.B.Bus.step) c.args.bus.now (reverse c.loop-event.trace.items) c.serve.new.bus = rw c.in_err-serve.ensures.err at (c.serve.ensures.leads _ at.chain) in
+    let leads : Chain (MovesBy g.B.Bus.step) c.args.bus.now (reverse c.loop-event.trace.items) c.serve.new.bus =
+    rw c.in_err-serve.ensures.err at (c.serve.ensures.leads _ at.chain) in
     let p = err_from_is_err_and c.from_residual.result c.from_residual.ensures.1 in rw p.1 (record {
       past = reverse c.loop-event.trace.items;
       served = c.loop-event.event-index;
       parts = at.parts;
       legal = at.described.legal;
       planned = at.follows.planned;
-      leads = right g.B.Bus.world g.B.Bus.step g.met.B.Bus.allowed c.args.limit c.args.bus.now c.serve.new.bus _ at.described.legal leads;
+      leads =
+          right g.B.Bus.world g.B.Bus.step g.met.B.Bus.allowed c.args.limit c.args.bus.now c.serve.new.bus _
+          at.described.legal leads;
     })
 
 pub loop-event-preserved : goal.loop-event-preserved
 loop-event-preserved g c = record {
   described = c.in_ok-serve.ensures.described _ c.loop-event.invariant.described;
   follows = c.in_ok-serve.ensures.follows _ c.loop-event.invariant.described c.loop-event.invariant.follows;
-  parts = more_parts (fresh c.args.limit) _ _ _ _ _ c.loop-event-test.true c.loop-event.invariant.parts (rw c.event-item.is at (c.in_ok-serve.ensures.part _ c.loop-event.invariant.described c.loop-event.invariant.follows));
+  parts =
+      more_parts (fresh c.args.limit) _ _ _ _ _ c.loop-event-test.true c.loop-event.invariant.parts (rw c.event-item.is
+      at (c.in_ok-serve.ensures.part _ c.loop-event.invariant.described c.loop-event.invariant.follows));
   proper = c.serve.ensures.proper c.loop-event.invariant.proper;
   orders = c.serve.ensures.orders c.loop-event.invariant.orders;
   chain = c.serve.ensures.leads _ c.loop-event.invariant.chain;
@@ -58,13 +65,16 @@ loop-event-preserved g c = record {
 
 pub returns-in_err-to_bytes-clause-err : goal.returns-in_err-to_bytes-clause-err
 returns-in_err-to_bytes-clause-err g c =
-    let p = err_from_is_err_and c.from_residual-in_err-to_bytes.result c.from_residual-in_err-to_bytes.ensures.1 in rw p.1 (record {
+    let p = err_from_is_err_and c.from_residual-in_err-to_bytes.result c.from_residual-in_err-to_bytes.ensures.1 in
+    rw p.1 (record {
       past = reverse c.loop-event.trace.items;
       served = c.loop-event.event-index;
       parts = c.loop-event.invariant.parts;
       legal = c.loop-event.invariant.described.legal;
       planned = c.loop-event.invariant.follows.planned;
-      leads = right g.B.Bus.world g.B.Bus.step g.met.B.Bus.allowed c.args.limit c.args.bus.now c.loop-event.bus _ c.loop-event.invariant.described.legal c.loop-event.invariant.chain;
+      leads =
+          right g.B.Bus.world g.B.Bus.step g.met.B.Bus.allowed c.args.limit c.args.bus.now c.loop-event.bus _
+          c.loop-event.invariant.described.legal c.loop-event.invariant.chain;
     })
 
 pub returns-clause-ok : goal.returns-clause-ok
@@ -72,7 +82,6 @@ returns-clause-ok g c =
     let at = c.loop-event.invariant in
     let all = take_all c.loop-event.event-index c.args.events.now (omega (arith, c.loop-event-test.false)) in
     record {
-      limited = c.in-Ok.ensures.accepted;
       legal = at.described.legal;
       finished = at.described.finished;
       proper = at.proper;
@@ -81,11 +90,17 @@ returns-clause-ok g c =
       worked = worked (fresh c.args.limit) (reverse c.loop-event.trace.items) at.described.legal at.follows.planned;
       said =
           let parts : AreParts (fresh c.args.limit) (reverse c.args.events.now) (reverse c.loop-event.trace.items) =
-          all_parts (fresh c.args.limit) c.args.events.now c.loop-event.event-index (reverse c.loop-event.trace.items) c.loop-event-test.false at.parts in
+          all_parts (fresh c.args.limit) c.args.events.now c.loop-event.event-index (reverse c.loop-event.trace.items)
+          c.loop-event-test.false at.parts in
           λ newer older same.
-          says_in_time (fresh c.args.limit) (reverse c.args.events.now) newer older (reverse c.loop-event.trace.items) at.described.legal at.follows.planned parts same;
+          says_in_time (fresh c.args.limit) (reverse c.args.events.now) newer older (reverse c.loop-event.trace.items)
+          at.described.legal at.follows.planned parts same;
       parts = rw all at at.parts;
-      journal_is = c.in_ok-to_bytes.ensures ∙ ap journal_spelling (ap (λ j. j.records) c.journal.ensures ∙ sym at.described.same);
+      journal_is =
+          c.in_ok-to_bytes.ensures
+          ∙ ap journal_spelling (ap (λ j. j.records) c.journal.ensures ∙ sym at.described.same);
       taken = taken_from_none (fresh c.args.limit) (reverse c.loop-event.trace.items) refl at.described.legal;
-      leads = right g.B.Bus.world g.B.Bus.step g.met.B.Bus.allowed c.args.limit c.args.bus.now c.loop-event.bus _ at.described.legal at.chain;
+      leads =
+          right g.B.Bus.world g.B.Bus.step g.met.B.Bus.allowed c.args.limit c.args.bus.now c.loop-event.bus _
+          at.described.legal at.chain;
     }

@@ -12,13 +12,17 @@ if_ok (Err e) P Q f p = tt
 
 pub returns-clause-ok : goal.returns-clause-ok
 returns-clause-ok c =
-    if_ok c.run.result _ (λ outcome. IsSimRun c.args.limit c.args.events.now c.args.bus.now outcome.trace.items outcome.journal.items c.run.new.bus)
+    if_ok c.run.result _ (λ outcome.
+    IsSimRun c.args.limit c.args.events.now c.args.bus.now outcome.trace.items outcome.journal.items c.run.new.bus)
     (λ outcome ran. record {
       run = ran;
       spared = record {
         states = ran.leads.states;
         chain = ran.leads.chain;
-        spared = λ none. all_spared (fresh c.args.limit) (world_of c.args.bus.now.units) c.args.bus.now (reverse outcome.trace.items) c.run.new.bus ran.leads.states refl ran.legal ran.planned ran.leads.chain ran.asked (ran.leads.right none);
+        spared =
+            λ none. all_spared (fresh c.args.limit) (world_of c.args.bus.now.units) c.args.bus.now
+            (reverse outcome.trace.items) c.run.new.bus ran.leads.states refl ran.legal ran.planned ran.leads.chain
+            ran.asked (ran.leads.right none);
       };
     })
     c.run.ensures.ok

@@ -7,7 +7,8 @@ loaded_again-requires c =
     let want = c.in-Keep.is in
     let few = c.requires c.in-Keep.entry (sym c.in-Keep.ensures.phase) in
     cut_of_some c.in-Keep.entry c.deref.result.now c.from.result (c.deref.ensures.0 ∙ c.bytes-spelled.ensures.spelled)
-    (c.bytes-spelled.ensures.in_range (c.want.ensures.short c.in-Keep.entry c.in-Keep.is)) (omega (arith, few, c.from.ensures))
+    (c.bytes-spelled.ensures.in_range (c.want.ensures.short c.in-Keep.entry c.in-Keep.is))
+    (omega (arith, few, c.from.ensures))
 
 pub loaded_again-requires-in_default : goal.loaded_again-requires-in_default
 loaded_again-requires-in_default c = cut_of_none

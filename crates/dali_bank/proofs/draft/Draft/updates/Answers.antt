@@ -22,7 +22,9 @@ loop-field-preserved c =
     let within : i < length fields = c.loop-field-test.true in
     let field : Field = get_or fields i Gtin in
     record {
-      pushed = rw (c.push_bytes.ensures, c.loop-field.invariant.pushed, c.first.ensures, c.bytes.ensures.value) (flat_map-take_more (placed c.args.self.now) fields i Gtin within);
+      pushed =
+          rw (c.push_bytes.ensures, c.loop-field.invariant.pushed, c.first.ensures, c.bytes.ensures.value)
+          (flat_map-take_more (placed c.args.self.now) fields i Gtin within);
       few = rw (c.push_bytes.ensures, sum_by_more length_of fields i Gtin within)
           (simp (length-append, length-placed_at) (omega (arith, c.loop-field.invariant.few, c.bytes.ensures.few)));
     }

@@ -16,8 +16,16 @@ invariant_of-self c =
     let put = c.put_in_room.ensures in
     let after = c.after-self-inside.ensures in
     let more = ap length (c.deref.ensures.0 ∙ c.bytes-bytes.ensures.spelled) in
-    rw (put.items, c.deref.ensures.0, c.bytes-bytes.ensures.spelled, after.value, c.replace-standing.ensures.value, c.orders_begun.ensures)
-    (sound_next inside.bytes.items inside.standing inside.orders inside.limit _ _ c.len.result inside.index.entries c.note.new.index.entries c.args.entry
+    rw (
+      put.items,
+      c.deref.ensures.0,
+      c.bytes-bytes.ensures.spelled,
+      after.value,
+      c.replace-standing.ensures.value,
+      c.orders_begun.ensures,
+    )
+    (sound_next inside.bytes.items inside.standing inside.orders inside.limit _ _ c.len.result inside.index.entries
+    c.note.new.index.entries c.args.entry
     c.self.invariant
     (subst (λ (j : JournalState). Allows (standing_of j.records) c.args.entry) (sym c.self.view_is) c.requires.allowed)
     (begins_in_range c.args.entry c.bytes-bytes.ensures.in_range)
@@ -30,8 +38,10 @@ invariant_of-self c =
 pub returns-clause-records : goal.returns-clause-records
 returns-clause-records c =
     let inside = c.self.inside in
-    ap records_in (c.put_in_room.ensures.items ∙ ap (λ (more : List ℕ). inside.bytes.items ++ more) (c.deref.ensures.0 ∙ c.bytes-bytes.ensures.spelled))
-    ∙ records_more inside.bytes.items inside.standing inside.orders inside.limit _ inside.index.entries c.args.entry c.self.invariant
+    ap records_in (c.put_in_room.ensures.items
+    ∙ ap (λ (more : List ℕ). inside.bytes.items ++ more) (c.deref.ensures.0 ∙ c.bytes-bytes.ensures.spelled))
+    ∙ records_more inside.bytes.items inside.standing inside.orders inside.limit _ inside.index.entries c.args.entry
+    c.self.invariant
     (subst (λ (j : JournalState). Allows (standing_of j.records) c.args.entry) (sym c.self.view_is) c.requires.allowed)
     (begins_in_range c.args.entry c.bytes-bytes.ensures.in_range)
     ∙ ap (λ (j : JournalState). c.args.entry ∷ j.records) c.self.view_is
@@ -42,4 +52,5 @@ returns-clause-kept_room c =
     let more = ap length (c.deref.ensures.0 ∙ c.bytes-bytes.ensures.spelled) in
     let room = ap (λ (j : JournalState). j.room) (sym c.self.view_is) in
     keeps_room c.args.self.now _ c.args.entry c.requires.allowed (returns-clause-records c)
-    (c.note.ensures.numbers ∙ ap (λ (j : JournalState). j.numbers) c.self.view_is) (omega (arith, put.len, put.capacity, more, room))
+    (c.note.ensures.numbers ∙ ap (λ (j : JournalState). j.numbers) c.self.view_is)
+    (omega (arith, put.len, put.capacity, more, room))

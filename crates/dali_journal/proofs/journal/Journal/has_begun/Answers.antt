@@ -11,6 +11,7 @@ pub returns : goal.returns
 returns c =
     let inside = c.self.inside in
     c.is_begun.ensures ∙ ap is_begun_at c.place_of.ensures
-    ∙ begun_told c.args.id inside.bytes.items (place_of (lookup (nat_eq c.args.id) inside.index.entries)) (records_in inside.bytes.items)
+    ∙ begun_told c.args.id inside.bytes.items (place_of (lookup (nat_eq c.args.id) inside.index.entries))
+    (records_in inside.bytes.items)
     (c.self.invariant.known c.args.id)
     ∙ ap (λ (j : JournalState). is_begun c.args.id j.records) c.self.view_is

@@ -16,7 +16,9 @@ returns-then-capacity-len c =
     ∙ ap (λ n. list_any (nat_eq n) (keys_of entries)) c.id.ensures
     ∙ ap (λ (j : JournalState). list_any (nat_eq c.args.order.now.id) j.numbers) c.self.view_is in
     let standing = c.self.invariant.standing_is ∙ ap (λ (j : JournalState). standing_of j.records) c.self.view_is in
-    let due = c.bytes_wanted.ensures ∙ ap (λ (st : Standing). bytes_due st + length (spelling (Began c.args.order.now)) + 6) standing in
+    let due =
+    c.bytes_wanted.ensures
+    ∙ ap (λ (st : Standing). bytes_due st + length (spelling (Began c.args.order.now)) + 6) standing in
     let room = ap (λ (j : JournalState). j.room) c.self.view_is in
     let enough = c.if-capacity-len.true in
     let capacity = c.capacity.ensures in

@@ -23,18 +23,25 @@ returns-in-Bad-clause-err c =
     )
 
 pub returns-in-Bad-clause-torn : goal.returns-in-Bad-clause-torn
-returns-in-Bad-clause-torn c = torn_memory c.args.limit c.args.bytes.now (faults.Record c.loop-journal.at) (returns-in-Bad-clause-err c)
+returns-in-Bad-clause-torn c =
+    torn_memory c.args.limit c.args.bytes.now (faults.Record c.loop-journal.at) (returns-in-Bad-clause-err c)
 
 pub returns-in-Err-clause-torn : goal.returns-in-Err-clause-torn
 returns-in-Err-clause-torn c =
-    torn_memory c.args.limit c.args.bytes.now c.in-Err.fault (new_fault c.in-Err.fault c.args.limit c.args.bytes.now c.in-Err.ensures.err)
+    torn_memory c.args.limit c.args.bytes.now c.in-Err.fault
+    (new_fault c.in-Err.fault c.args.limit c.args.bytes.now c.in-Err.ensures.err)
+
+pub returns-in-Err-take-clause-err : goal.returns-in-Err-take-clause-err
+returns-in-Err-take-clause-err c =
+    let l = c.loop-journal in
+    let i = l.invariant in
+    fault_of c.in-Err-take.fault c.args.limit c.args.bytes.now l.journal.records l.at c.in-Whole.entry
+    c.in-Ok.ensures.accepted i.spelled i.place
+    (journal_kept l.journal c.args.limit i.journal i.limit)
+    (subst (λ (bs : List ℕ). BeginsWith bs c.in-Whole.entry) (slice_rest l.at c.args.bytes.now) c.in-Whole.ensures.0)
+    (subst (λ n. IsRecordRefused c.in-Err-take.fault n l.at l.journal.records c.in-Whole.entry) i.limit
+    c.in-Err-take.ensures.err)
 
 pub returns-in-Err-take-clause-torn : goal.returns-in-Err-take-clause-torn
 returns-in-Err-take-clause-torn c =
-    let l = c.loop-journal in
-    let i = l.invariant in
-    torn_memory c.args.limit c.args.bytes.now c.in-Err-take.fault
-    (fault_of c.in-Err-take.fault c.args.limit c.args.bytes.now l.journal.records l.at c.in-Whole.entry c.in-Ok.ensures.accepted i.spelled i.place
-    (journal_kept l.journal c.args.limit i.journal i.limit)
-    (subst (λ (bs : List ℕ). BeginsWith bs c.in-Whole.entry) (slice_rest l.at c.args.bytes.now) c.in-Whole.ensures.0)
-    (subst (λ n. IsRecordRefused c.in-Err-take.fault n l.at l.journal.records c.in-Whole.entry) i.limit c.in-Err-take.ensures.err))
+    torn_memory c.args.limit c.args.bytes.now c.in-Err-take.fault (returns-in-Err-take-clause-err c)

@@ -11,7 +11,8 @@ returns-in_err-enter-clause-kept_room c =
     let bytes = c.reserve.new.self in
     let r = c.reserve.ensures in
     let room = ap (λ (j : JournalState). j.room) c.self.view_is in
-    room_kept c.args.self.now inside.bytes.items bytes.items (vec_capacity bytes - vec_len bytes) inside.index.entries c.enter.new.index.entries
+    room_kept c.args.self.now inside.bytes.items bytes.items (vec_capacity bytes - vec_len bytes) inside.index.entries
+    c.enter.new.index.entries
     r.items (ap (λ (j : JournalState). j.records) c.self.view_is) (ap (λ (j : JournalState). j.numbers) c.self.view_is)
     (omega (arith, room, r.len, r.capacity)) c.enter.ensures.stays
 
@@ -26,10 +27,12 @@ pub returns-clause-room : goal.returns-clause-room
 returns-clause-room c =
     let inside = c.self.inside in
     let bytes = c.reserve.new.self in (
-      reserved inside.bytes.items bytes.items inside.standing c.args.order.now c.bytes_wanted.result (vec_len bytes) (vec_capacity bytes)
+      reserved inside.bytes.items bytes.items inside.standing c.args.order.now c.bytes_wanted.result (vec_len bytes)
+          (vec_capacity bytes)
           c.reserve.ensures.items c.self.invariant.standing_is c.bytes_wanted.ensures c.in_ok-reserve.ensures.ok,
       sym (found_in c.args.order.now.id c.enter.new.index.entries)
-          ∙ subst (λ n. is_some (lookup (nat_eq n) c.enter.new.index.entries) ≡ true) c.id.ensures c.in_ok-enter.ensures.entered,
+          ∙ subst (λ n. is_some (lookup (nat_eq n) c.enter.new.index.entries) ≡ true) c.id.ensures
+          c.in_ok-enter.ensures.entered,
     )
 
 pub returns-clause-kept_room : goal.returns-clause-kept_room
@@ -38,6 +41,7 @@ returns-clause-kept_room c =
     let bytes = c.reserve.new.self in
     let r = c.reserve.ensures in
     let room = ap (λ (j : JournalState). j.room) c.self.view_is in
-    room_kept c.args.self.now inside.bytes.items bytes.items (vec_capacity bytes - vec_len bytes) inside.index.entries c.enter.new.index.entries
+    room_kept c.args.self.now inside.bytes.items bytes.items (vec_capacity bytes - vec_len bytes) inside.index.entries
+    c.enter.new.index.entries
     r.items (ap (λ (j : JournalState). j.records) c.self.view_is) (ap (λ (j : JournalState). j.numbers) c.self.view_is)
     (omega (arith, room, r.len, r.capacity)) c.enter.ensures.stays

@@ -1,4 +1,5 @@
-use Rattle.dali_write.proofs.WorkedStepLemmas.{first_taken, last_taken, lock_not_taken, next_not_taken, fixed_not_taken, second_has}
+use Rattle.dali_write.proofs.WorkedStepLemmas.{first_taken, last_taken, lock_not_taken, next_not_taken, fixed_not_taken}
+use Rattle.dali_write.proofs.WorkedStepLemmas.{second_has}
 use Rattle.dali_tests.proofs.write.worked_steps.what_a_bank_takes.Goals as goal
 
 pub returns-clause-first : goal.returns-clause-first

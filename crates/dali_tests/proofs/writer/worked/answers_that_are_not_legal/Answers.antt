@@ -1,4 +1,7 @@
-use Rattle.dali_trace.proofs.RefusedLemmas.{not_another_number, not_blocked_under_another_number, not_said_after_a_stop, not_another_code, not_blocked_by_no_unit, not_taken_when_full, not_busy_at_once, not_to_another_number, not_said_before_ended, not_blocked_after_a_read}
+use Rattle.dali_trace.proofs.RefusedLemmas.{not_another_number, not_blocked_under_another_number, not_said_after_a_stop}
+use Rattle.dali_trace.proofs.RefusedLemmas.{not_another_code, not_blocked_by_no_unit, not_taken_when_full}
+use Rattle.dali_trace.proofs.RefusedLemmas.{not_busy_at_once, not_to_another_number, not_said_before_ended}
+use Rattle.dali_trace.proofs.RefusedLemmas.{not_blocked_after_a_read}
 use Rattle.dali_tests.proofs.writer.worked.answers_that_are_not_legal.Goals as goal
 
 pub returns-clause-busy_at_once : goal.returns-clause-busy_at_once

@@ -1,4 +1,8 @@
-use Rattle.dali_trace.proofs.RefusedLemmas.{not_to_another_unit_once_opened, not_past_the_left_unit, not_another_lock_byte, not_written_after_a_stop, not_silent, not_unguarded, not_with_the_bank_not_asked, not_written_twice, not_another_byte, not_idle_frame, not_to_another_unit, not_enabled_before_opened, not_unlocked}
+use Rattle.dali_trace.proofs.RefusedLemmas.{not_to_another_unit_once_opened, not_past_the_left_unit}
+use Rattle.dali_trace.proofs.RefusedLemmas.{not_another_lock_byte, not_written_after_a_stop, not_silent, not_unguarded}
+use Rattle.dali_trace.proofs.RefusedLemmas.{not_with_the_bank_not_asked, not_written_twice, not_another_byte}
+use Rattle.dali_trace.proofs.RefusedLemmas.{not_idle_frame, not_to_another_unit, not_enabled_before_opened}
+use Rattle.dali_trace.proofs.RefusedLemmas.{not_unlocked}
 use Rattle.dali_tests.proofs.writer.worked.frames_that_are_not_legal.Goals as goal
 
 pub returns-clause-unguarded : goal.returns-clause-unguarded

@@ -1,4 +1,6 @@
-use Rattle.dali_trace.proofs.RefusedLemmas.{not_opened_after_a_stop, not_closed_by_an_old_read, not_opened_unread, not_done_unread, not_with_the_lock_unread, not_begun_twice, not_begun_while_left, not_begun_after_a_stop, not_closed_unread}
+use Rattle.dali_trace.proofs.RefusedLemmas.{not_opened_after_a_stop, not_closed_by_an_old_read, not_opened_unread}
+use Rattle.dali_trace.proofs.RefusedLemmas.{not_done_unread, not_with_the_lock_unread, not_begun_twice}
+use Rattle.dali_trace.proofs.RefusedLemmas.{not_begun_while_left, not_begun_after_a_stop, not_closed_unread}
 use Rattle.dali_tests.proofs.writer.worked.records_that_are_not_legal.Goals as goal
 
 pub returns-clause-opened_unread : goal.returns-clause-opened_unread

@@ -10,7 +10,11 @@ pub returns-clause-stepped : goal.returns-clause-stepped
 returns-clause-stepped c = (taken, inl (refl, (Kept (Began first_order), tt, refl)), ([], (replies.Taken, refl), refl))
 
 pub returns-clause-stopped : goal.returns-clause-stopped
-returns-clause-stopped c = (begun, inl (refl, λ entry next. absurd (none_begun entry next)), (taken, inl (refl, (Kept (Began first_order), tt, refl)), ([], (replies.Taken, refl), refl)))
+returns-clause-stopped c = (
+  begun,
+  inl (refl, λ entry next. absurd (none_begun entry next)),
+  (taken, inl (refl, (Kept (Began first_order), tt, refl)), ([], (replies.Taken, refl), refl)),
+)
 
 pub returns-clause-kept : goal.returns-clause-kept
 returns-clause-kept c = (taken, inr (Began first_order, refl, omega arith, refl), ([], (replies.Taken, refl), refl))

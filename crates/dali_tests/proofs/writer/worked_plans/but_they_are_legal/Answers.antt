@@ -1,5 +1,8 @@
 use Rattle.dali_trace.proofs.EndingLemmas.{silent_legal}
-use Rattle.dali_trace.proofs.WorkedPlanLemmas.{another_first_legal, past_a_miss_legal, without_a_miss_legal, through_a_stop_legal, read_once_opened_legal, silent_after_seven_legal, silent_where_short_legal, left_at_once_legal, blocked_at_once_legal, past_the_end_legal}
+use Rattle.dali_trace.proofs.WorkedPlanLemmas.{another_first_legal, past_a_miss_legal, without_a_miss_legal}
+use Rattle.dali_trace.proofs.WorkedPlanLemmas.{through_a_stop_legal, read_once_opened_legal, silent_after_seven_legal}
+use Rattle.dali_trace.proofs.WorkedPlanLemmas.{silent_where_short_legal, left_at_once_legal, blocked_at_once_legal}
+use Rattle.dali_trace.proofs.WorkedPlanLemmas.{past_the_end_legal}
 use Rattle.dali_tests.proofs.writer.worked_plans.but_they_are_legal.Goals as goal
 
 pub returns-clause-another_first : goal.returns-clause-another_first

@@ -1,4 +1,5 @@
-use Rattle.dali_trace.proofs.WorkedLossLemmas.{lost_to_both, lost_to_the_left, lost_to_its_unit, lost_to_another, unrefused_since, unrefused_since_a_stop, refused_since, state_then}
+use Rattle.dali_trace.proofs.WorkedLossLemmas.{lost_to_both, lost_to_the_left, lost_to_its_unit, lost_to_another}
+use Rattle.dali_trace.proofs.WorkedLossLemmas.{unrefused_since, unrefused_since_a_stop, refused_since, state_then}
 use Rattle.dali_tests.proofs.writer.worked_plans.what_counts_as_a_loss.Goals as goal
 
 pub returns-clause-both : goal.returns-clause-both

@@ -16,28 +16,43 @@ use Rattle.dali_writer.proofs.writer.Writer.heard.Goals.{in-Checks, in-Writes, i
 pub returns-clause-described : goal.returns-clause-described
 returns-clause-described c = λ start past frame want d. elim c.match-self.branch [
   | in-Checks w ↦
-      let before : Describes start past (record { journal = c.self.inside.journal; phase = Checks w.in-Checks.field-0 w.in-Checks.session }) =
+      let before : Describes start past
+      (record { journal = c.self.inside.journal; phase = Checks w.in-Checks.field-0 w.in-Checks.session }) =
       rw (← w.in-Checks.is) (rw (← c.self.view_is) at d) in
-      let ready : IsReady (Checks w.in-Checks.field-0 w.in-Checks.session) c.self.inside.journal = rw w.in-Checks.is at c.self.invariant.ready in
-      let wanted : check_of w.in-Checks.field-0.unit (aim_of w.in-Checks.session) ≡ Send frame = rw w.in-Checks.is at (rw (← c.self.view_is) at want) in
-      let aim : aim_of w.in-Checks.session ≡ asks.Send frame = check_sends w.in-Checks.field-0.unit (aim_of w.in-Checks.session) frame wanted in
-      rw w.self-inside-is (checks_on start past c.self.inside.journal w.in-Checks.field-0 w.in-Checks.session _ frame c.args.answer before ready aim
+      let ready : IsReady (Checks w.in-Checks.field-0 w.in-Checks.session) c.self.inside.journal =
+      rw w.in-Checks.is at c.self.invariant.ready in
+      let wanted : check_of w.in-Checks.field-0.unit (aim_of w.in-Checks.session) ≡ Send frame =
+      rw w.in-Checks.is at (rw (← c.self.view_is) at want) in
+      let aim : aim_of w.in-Checks.session ≡ asks.Send frame =
+      check_sends w.in-Checks.field-0.unit (aim_of w.in-Checks.session) frame wanted in
+      rw w.self-inside-is (checks_on start past c.self.inside.journal w.in-Checks.field-0 w.in-Checks.session _ frame
+      c.args.answer before ready aim
       (λ told is_told. w.heard.ensures.told told frame aim is_told))
   | in-Writes w ↦
-      let before : Describes start past (record { journal = c.self.inside.journal; phase = Writes w.in-Writes.field-0 w.in-Writes.session }) =
+      let before : Describes start past
+      (record { journal = c.self.inside.journal; phase = Writes w.in-Writes.field-0 w.in-Writes.session }) =
       rw (← w.in-Writes.is) (rw (← c.self.view_is) at d) in
-      let ready : IsReady (Writes w.in-Writes.field-0 w.in-Writes.session) c.self.inside.journal = rw w.in-Writes.is at c.self.invariant.ready in
-      let wanted : write_of (aim_of w.in-Writes.session) ≡ Send frame = rw w.in-Writes.is at (rw (← c.self.view_is) at want) in
+      let ready : IsReady (Writes w.in-Writes.field-0 w.in-Writes.session) c.self.inside.journal =
+      rw w.in-Writes.is at c.self.invariant.ready in
+      let wanted : write_of (aim_of w.in-Writes.session) ≡ Send frame =
+      rw w.in-Writes.is at (rw (← c.self.view_is) at want) in
       let aim : aim_of w.in-Writes.session ≡ asks.Send frame = write_sends (aim_of w.in-Writes.session) frame wanted in
-      rw w.self-inside-is (writes_on start past c.self.inside.journal w.in-Writes.field-0 w.in-Writes.session _ frame c.args.answer before ready aim
+      rw w.self-inside-is (writes_on start past c.self.inside.journal w.in-Writes.field-0 w.in-Writes.session _ frame
+      c.args.answer before ready aim
       (λ told is_told. w.heard-in-Writes.ensures.told told frame aim is_told))
   | in-Closes w ↦
-      let before : Describes start past (record { journal = c.self.inside.journal; phase = Closes w.in-Closes.field-0 w.in-Closes.session }) =
+      let before : Describes start past
+      (record { journal = c.self.inside.journal; phase = Closes w.in-Closes.field-0 w.in-Closes.session }) =
       rw (← w.in-Closes.is) (rw (← c.self.view_is) at d) in
-      let ready : IsReady (Closes w.in-Closes.field-0 w.in-Closes.session) c.self.inside.journal = rw w.in-Closes.is at c.self.invariant.ready in
-      let wanted : closing_of w.in-Closes.field-0.id (unit_of w.in-Closes.session) (aim_of w.in-Closes.session) ≡ Send frame = rw w.in-Closes.is at (rw (← c.self.view_is) at want) in
-      let aim : aim_of w.in-Closes.session ≡ asks.Send frame = closing_sends_it w.in-Closes.field-0.id (unit_of w.in-Closes.session) (aim_of w.in-Closes.session) frame wanted in
-      rw w.self-inside-is (closes_on start past c.self.inside.journal w.in-Closes.field-0 w.in-Closes.session _ frame c.args.answer before ready aim
+      let ready : IsReady (Closes w.in-Closes.field-0 w.in-Closes.session) c.self.inside.journal =
+      rw w.in-Closes.is at c.self.invariant.ready in
+      let wanted : closing_of w.in-Closes.field-0.id (unit_of w.in-Closes.session) (aim_of w.in-Closes.session)
+      ≡ Send frame =
+      rw w.in-Closes.is at (rw (← c.self.view_is) at want) in
+      let aim : aim_of w.in-Closes.session ≡ asks.Send frame =
+      closing_sends_it w.in-Closes.field-0.id (unit_of w.in-Closes.session) (aim_of w.in-Closes.session) frame wanted in
+      rw w.self-inside-is (closes_on start past c.self.inside.journal w.in-Closes.field-0 w.in-Closes.session _ frame
+      c.args.answer before ready aim
       (λ told is_told. w.heard-in-Closes.ensures.told told frame aim is_told))
   | in-Idle w ↦ let never = rw w.in-Idle.is at (rw (← c.self.view_is) at want) in cc
   | in-Begins w ↦ let never = rw w.in-Begins.is at (rw (← c.self.view_is) at want) in cc
@@ -47,34 +62,52 @@ returns-clause-described c = λ start past frame want d. elim c.match-self.branc
 pub returns-clause-follows : goal.returns-clause-follows
 returns-clause-follows c = λ start past frame want d f. elim c.match-self.branch [
   | in-Checks w ↦
-      let before : Describes start past (record { journal = c.self.inside.journal; phase = Checks w.in-Checks.field-0 w.in-Checks.session }) =
+      let before : Describes start past
+      (record { journal = c.self.inside.journal; phase = Checks w.in-Checks.field-0 w.in-Checks.session }) =
       rw (← w.in-Checks.is) (rw (← c.self.view_is) at d) in
-      let follows : Follows start past (record { journal = c.self.inside.journal; phase = Checks w.in-Checks.field-0 w.in-Checks.session }) =
+      let follows : Follows start past
+      (record { journal = c.self.inside.journal; phase = Checks w.in-Checks.field-0 w.in-Checks.session }) =
       rw (← w.in-Checks.is) (rw (← c.self.view_is) at f) in
-      let ready : IsReady (Checks w.in-Checks.field-0 w.in-Checks.session) c.self.inside.journal = rw w.in-Checks.is at c.self.invariant.ready in
-      let wanted : check_of w.in-Checks.field-0.unit (aim_of w.in-Checks.session) ≡ Send frame = rw w.in-Checks.is at (rw (← c.self.view_is) at want) in
-      let aim : aim_of w.in-Checks.session ≡ asks.Send frame = check_sends w.in-Checks.field-0.unit (aim_of w.in-Checks.session) frame wanted in
-      rw w.self-inside-is (checks_follow start past c.self.inside.journal w.in-Checks.field-0 w.in-Checks.session _ frame c.args.answer before follows ready aim
+      let ready : IsReady (Checks w.in-Checks.field-0 w.in-Checks.session) c.self.inside.journal =
+      rw w.in-Checks.is at c.self.invariant.ready in
+      let wanted : check_of w.in-Checks.field-0.unit (aim_of w.in-Checks.session) ≡ Send frame =
+      rw w.in-Checks.is at (rw (← c.self.view_is) at want) in
+      let aim : aim_of w.in-Checks.session ≡ asks.Send frame =
+      check_sends w.in-Checks.field-0.unit (aim_of w.in-Checks.session) frame wanted in
+      rw w.self-inside-is (checks_follow start past c.self.inside.journal w.in-Checks.field-0 w.in-Checks.session _
+      frame c.args.answer before follows ready aim
       (λ told is_told. w.heard.ensures.told told frame aim is_told))
   | in-Writes w ↦
-      let before : Describes start past (record { journal = c.self.inside.journal; phase = Writes w.in-Writes.field-0 w.in-Writes.session }) =
+      let before : Describes start past
+      (record { journal = c.self.inside.journal; phase = Writes w.in-Writes.field-0 w.in-Writes.session }) =
       rw (← w.in-Writes.is) (rw (← c.self.view_is) at d) in
-      let follows : Follows start past (record { journal = c.self.inside.journal; phase = Writes w.in-Writes.field-0 w.in-Writes.session }) =
+      let follows : Follows start past
+      (record { journal = c.self.inside.journal; phase = Writes w.in-Writes.field-0 w.in-Writes.session }) =
       rw (← w.in-Writes.is) (rw (← c.self.view_is) at f) in
-      let ready : IsReady (Writes w.in-Writes.field-0 w.in-Writes.session) c.self.inside.journal = rw w.in-Writes.is at c.self.invariant.ready in
-      let wanted : write_of (aim_of w.in-Writes.session) ≡ Send frame = rw w.in-Writes.is at (rw (← c.self.view_is) at want) in
+      let ready : IsReady (Writes w.in-Writes.field-0 w.in-Writes.session) c.self.inside.journal =
+      rw w.in-Writes.is at c.self.invariant.ready in
+      let wanted : write_of (aim_of w.in-Writes.session) ≡ Send frame =
+      rw w.in-Writes.is at (rw (← c.self.view_is) at want) in
       let aim : aim_of w.in-Writes.session ≡ asks.Send frame = write_sends (aim_of w.in-Writes.session) frame wanted in
-      rw w.self-inside-is (writes_follow start past c.self.inside.journal w.in-Writes.field-0 w.in-Writes.session _ frame c.args.answer before follows ready aim
+      rw w.self-inside-is (writes_follow start past c.self.inside.journal w.in-Writes.field-0 w.in-Writes.session _
+      frame c.args.answer before follows ready aim
       (λ told is_told. w.heard-in-Writes.ensures.told told frame aim is_told))
   | in-Closes w ↦
-      let before : Describes start past (record { journal = c.self.inside.journal; phase = Closes w.in-Closes.field-0 w.in-Closes.session }) =
+      let before : Describes start past
+      (record { journal = c.self.inside.journal; phase = Closes w.in-Closes.field-0 w.in-Closes.session }) =
       rw (← w.in-Closes.is) (rw (← c.self.view_is) at d) in
-      let follows : Follows start past (record { journal = c.self.inside.journal; phase = Closes w.in-Closes.field-0 w.in-Closes.session }) =
+      let follows : Follows start past
+      (record { journal = c.self.inside.journal; phase = Closes w.in-Closes.field-0 w.in-Closes.session }) =
       rw (← w.in-Closes.is) (rw (← c.self.view_is) at f) in
-      let ready : IsReady (Closes w.in-Closes.field-0 w.in-Closes.session) c.self.inside.journal = rw w.in-Closes.is at c.self.invariant.ready in
-      let wanted : closing_of w.in-Closes.field-0.id (unit_of w.in-Closes.session) (aim_of w.in-Closes.session) ≡ Send frame = rw w.in-Closes.is at (rw (← c.self.view_is) at want) in
-      let aim : aim_of w.in-Closes.session ≡ asks.Send frame = closing_sends_it w.in-Closes.field-0.id (unit_of w.in-Closes.session) (aim_of w.in-Closes.session) frame wanted in
-      rw w.self-inside-is (closes_follow start past c.self.inside.journal w.in-Closes.field-0 w.in-Closes.session _ frame c.args.answer before follows ready aim
+      let ready : IsReady (Closes w.in-Closes.field-0 w.in-Closes.session) c.self.inside.journal =
+      rw w.in-Closes.is at c.self.invariant.ready in
+      let wanted : closing_of w.in-Closes.field-0.id (unit_of w.in-Closes.session) (aim_of w.in-Closes.session)
+      ≡ Send frame =
+      rw w.in-Closes.is at (rw (← c.self.view_is) at want) in
+      let aim : aim_of w.in-Closes.session ≡ asks.Send frame =
+      closing_sends_it w.in-Closes.field-0.id (unit_of w.in-Closes.session) (aim_of w.in-Closes.session) frame wanted in
+      rw w.self-inside-is (closes_follow start past c.self.inside.journal w.in-Closes.field-0 w.in-Closes.session _
+      frame c.args.answer before follows ready aim
       (λ told is_told. w.heard-in-Closes.ensures.told told frame aim is_told))
   | in-Idle w ↦ let never = rw w.in-Idle.is at (rw (← c.self.view_is) at want) in cc
   | in-Begins w ↦ let never = rw w.in-Begins.is at (rw (← c.self.view_is) at want) in cc

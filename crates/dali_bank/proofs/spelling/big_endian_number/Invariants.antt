@@ -1,6 +1,6 @@
 use Rattle.std.proofs.Common.{◌≡◌, ◌<◌, ◌^◌, take}
 use Rattle.dali_bank.specs.Numbers.{big_endian}
-use Rattle.dali_bank.proofs.spelling.number_of.Given as goal
+use Rattle.dali_bank.proofs.spelling.big_endian_number.Given as goal
 
 abbrev pub invariant-loop-byte : goal.invariant-loop-byte
 invariant-loop-byte l = record {

@@ -1,7 +1,7 @@
 use Rattle.std.proofs.Common.{◌<◌, length, get_or, refl, arith}
 use Rattle.std.proofs.lemmas.List.{take_more}
 use Rattle.dali_bank.proofs.NumberLemmas.{big_endian-push, number_small}
-use Rattle.dali_bank.proofs.spelling.number_of.Goals as goal
+use Rattle.dali_bank.proofs.spelling.big_endian_number.Goals as goal
 
 pub loop-byte-preserved : goal.loop-byte-preserved
 loop-byte-preserved c =

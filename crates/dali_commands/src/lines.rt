@@ -1,0 +1,31 @@
+// Where a drive's lines go: its replies, and then its fault.
+ghost use Rattle.dali_text.specs.Output.{has_failed, held};
+
+use dali_drive::Sink;
+use dali_text::Output;
+use std::io::Write;
+
+/// An output as a sink.
+#[derive(Drop)]
+pub struct Lines<W> {
+    /// The output.
+    pub output: Output<W>,
+}
+
+impl<W: Write> Sink for Lines<W> {
+    ghost held = { λ lines. held W.contents lines.output };
+
+    ghost failed = { λ lines. has_failed lines.output };
+
+    fn put(&mut self, bytes: &[u8]) -> Option<usize> {
+        self.output.write(bytes).ok()
+    }
+
+    fn flush(&mut self) -> bool {
+        self.output.flush().is_ok()
+    }
+
+    fn has_failed(&self) -> bool {
+        self.output.has_failed()
+    }
+}

@@ -1,0 +1,28 @@
+-- What a contract says of an output.
+use Rattle.std.specs.Prelude.{◌≡◌, ℕ, Bool, true, List, Option, Result, Ok, Err}
+use Rattle.std.specs.Io.KnownBytes.{Appends}
+use Rattle.dali_text.specs.declared.output.Output.{Output}
+
+abbrev pub writer_of : {W : Type 0} → Output W → W
+writer_of output = output.writer
+
+-- the bytes that its writer holds, where they are known
+abbrev pub held : {W : Type 0} → (W → Option (List ℕ)) → Output W → Option (List ℕ)
+held contents output = contents (writer_of output)
+
+-- it took these bytes: they stand behind those that its writer held
+abbrev pub Takes : {W : Type 0} → (W → Option (List ℕ)) → Output W → Output W → List ℕ → Type 0
+Takes contents old new bytes = Appends (held contents old) (held contents new) bytes
+
+-- a write or a flush of it has failed
+abbrev pub has_failed : {W : Type 0} → Output W → Bool
+has_failed output = output.failed
+
+-- nothing was written to it since the last flush that succeeded
+abbrev pub is_flushed : {W : Type 0} → Output W → Bool
+is_flushed output = output.flushed
+
+-- the result of a call over an output: an error where it has failed then, and else it has failed only if it had before
+abbrev pub TellsFailure : {W T E : Type 0} → Result T E → Output W → Output W → Type 0
+TellsFailure (Ok value) old new = has_failed new ≡ has_failed old
+TellsFailure (Err error) old new = has_failed new ≡ true

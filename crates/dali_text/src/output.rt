@@ -1,0 +1,173 @@
+ghost use Rattle.std.specs.Prelude.{◌≡◌, ◌↔◌, ◌<◌, ◌≤◌, false, true, IfOk, IfSome, IsOk, OnErr, OnOk, length};
+ghost use Rattle.std.specs.Io.KnownBytes.{Keeps, WriteAppends};
+ghost use Rattle.std.specs.Fmt.{with_newline};
+
+use std::error::Error;
+use std::fmt::Display;
+use std::io::{ErrorKind, Write};
+use std::{fmt, io};
+
+/// That an output has failed: a write or a flush of it, in this call or before.
+#[derive(Clone, Copy, Debug, PartialEq, Eq)]
+pub struct Unwritten;
+
+impl fmt::Display for Unwritten {
+    ghost use Rattle.std.specs.Prelude.{Some, codes};
+
+    ghost output = { λ _. Some (codes "the output can't be written") };
+
+    fn fmt<W: fmt::Write>(&self, f: &mut fmt::Formatter<W>) -> fmt::Result {
+        f.write_str("the output can't be written")
+    }
+}
+
+impl Error for Unwritten {}
+
+/// A writer that knows whether it has failed. From then on it takes nothing more, and its writer is left alone.
+#[derive(Drop)]
+pub struct Output<W> {
+    writer: W,
+    // Whether a write or a flush has failed.
+    failed: bool,
+    // Whether nothing was written since the last flush that succeeded.
+    flushed: bool,
+}
+
+impl<W: Write> Output<W> {
+    ghost use Rattle.dali_text.specs.Output.{TellsFailure, Takes, has_failed, held, is_flushed, writer_of};
+
+    /// An output into the writer, which hasn't failed, and of which nothing is known to be flushed.
+    pub fn new(writer: W) -> Output<W>
+        ensures held { held W.contents result ≡ W.contents writer }
+        ensures failed { has_failed result ≡ false }
+        ensures flushed { is_flushed result ≡ false }
+    {
+        Output {
+            writer,
+            failed: false,
+            flushed: false,
+        }
+    }
+
+    /// Writes some of the bytes, at least one, and says how many. A write that a signal interrupts is made again, so
+    /// often that no program lives to see the end of it. Where the output has failed before, it stays as it is.
+    ///
+    /// There has to be a byte.
+    pub fn write(&mut self, bytes: &[u8]) -> Result<usize, Unwritten>
+        requires { 0 < length bytes.now }
+        ensures some { IfOk result (λ count. (0 < count) × (count ≤ length bytes.now)) }
+        ensures bytes { WriteAppends (held W.contents self.old) (held W.contents self.new) result bytes.now }
+        ensures failed { TellsFailure result self.old self.new }
+        ensures unfailed { OnOk result (has_failed self.new ≡ false) }
+        ensures failed_before { has_failed self.old ≡ true → self.new ≡ self.old }
+    {
+        self.unfailed()?;
+        self.flushed = false;
+        for _ in 0..u64::MAX {
+            match self.writer.write(bytes) {
+                Ok(0) => break,
+                Ok(count) => return Ok(count),
+                Err(error) if error.kind() == ErrorKind::Interrupted => {}
+                Err(_) => break,
+            }
+        }
+        self.failed = true;
+        Err(Unwritten)
+    }
+
+    /// Writes all the bytes. Where the output has failed before, it stays as it is.
+    pub fn write_all(&mut self, bytes: &[u8]) -> Result<(), Unwritten>
+        ensures bytes { OnOk result (Takes W.contents self.old self.new bytes.now) }
+        ensures failed { TellsFailure result self.old self.new }
+        ensures unfailed { OnOk result (has_failed self.new ≡ false) }
+        ensures failed_before { has_failed self.old ≡ true → self.new ≡ self.old }
+    {
+        self.unfailed()?;
+        let written = self.writer.write_all(bytes);
+        self.note(written)
+    }
+
+    /// Writes a text, which is what `write!` calls. Where the output has failed before, it stays as it is.
+    pub fn write_fmt<D: Display + Drop>(&mut self, text: D) -> Result<(), Unwritten>
+        ensures bytes { OnOk result (IfSome (D.output text) (Takes W.contents self.old self.new)) }
+        ensures failed { TellsFailure result self.old self.new }
+        ensures unfailed { OnOk result (has_failed self.new ≡ false) }
+        ensures failed_before { has_failed self.old ≡ true → self.new ≡ self.old }
+    {
+        self.unfailed()?;
+        let written = self.writer.write_fmt(text);
+        self.note(written)
+    }
+
+    /// Writes a text and a line feed, which is what `writeln!` calls. Where the output has failed before, it stays as
+    /// it is.
+    pub fn writeln<D: Display + Drop>(&mut self, text: D) -> Result<(), Unwritten>
+        ensures bytes { OnOk result (IfSome (with_newline (D.output text))
+            (Takes W.contents self.old self.new)) }
+        ensures failed { TellsFailure result self.old self.new }
+        ensures unfailed { OnOk result (has_failed self.new ≡ false) }
+        ensures failed_before { has_failed self.old ≡ true → self.new ≡ self.old }
+    {
+        self.unfailed()?;
+        let written = self.writer.writeln(text);
+        self.note(written)
+    }
+
+    /// Flushes what was written. Where the output has failed before, it stays as it is.
+    pub fn flush(&mut self) -> Result<(), Unwritten>
+        ensures bytes { Keeps (held W.contents self.old) (held W.contents self.new) }
+        ensures flushed { OnOk result (is_flushed self.new ≡ true) }
+        ensures failed { TellsFailure result self.old self.new }
+        ensures unfailed { OnOk result (has_failed self.new ≡ false) }
+        ensures failed_before { has_failed self.old ≡ true → self.new ≡ self.old }
+    {
+        self.unfailed()?;
+        let flushed = self.writer.flush();
+        self.note(flushed)?;
+        self.flushed = true;
+        Ok(())
+    }
+
+    /// Whether a write or a flush of it has failed.
+    pub fn has_failed(&self) -> bool
+        ensures { result ≡ has_failed self.now }
+    {
+        self.failed
+    }
+
+    /// The writer, with what it holds.
+    pub fn into_writer(self) -> W
+        ensures { result ≡ writer_of self }
+    {
+        self.writer
+    }
+
+    // An error where the output has failed, before its writer is called.
+    fn unfailed(&self) -> Result<(), Unwritten>
+        ensures ok { OnOk result (has_failed self.now ≡ false) }
+        ensures err { OnErr result (has_failed self.now ≡ true) }
+    {
+        if self.failed {
+            return Err(Unwritten);
+        }
+        Ok(())
+    }
+
+    // Keeps in mind how a call of the writer ended, behind which something may be unflushed.
+    fn note(&mut self, ended: io::Result<()>) -> Result<(), Unwritten>
+        requires { has_failed self.old ≡ false }
+        ensures held { held W.contents self.new ≡ held W.contents self.old }
+        ensures ended { IsOk result ↔ IsOk ended }
+        ensures flushed { is_flushed self.new ≡ false }
+        ensures failed { TellsFailure result self.old self.new }
+    {
+        self.flushed = false;
+        match ended {
+            Ok(()) => Ok(()),
+            Err(_) => {
+                self.failed = true;
+                Err(Unwritten)
+            }
+        }
+    }
+}

@@ -16,6 +16,7 @@ use Rattle.dali_journal.specs.Orders.{orders_of, come_to}
 use Rattle.dali_write.specs.Findings.{ShowsAll, IsWritten}
 use Rattle.dali_write.specs.Worlds.{Shows}
 use Rattle.dali_write.specs.declared.ask.Verdict.{Verdict}
+use Rattle.dali_write.specs.declared.ask.Verdict.TheVariants as verdicts
 use Rattle.dali_write.proofs.RestLemmas.{Shown, rests_too}
 use Rattle.dali_trace.specs.Grounds.{verdict_told, RestsIfTold, Grounds}
 use Rattle.dali_trace.specs.Possible.{Applied, Untouched, InDoubt, byte_for, MayHold, IsPossible}
@@ -189,6 +190,8 @@ told_too : (P Q : ℕ → ℕ → Type 0) (updates : List (ℕ × ℕ)) (told : 
     → RestsIfTold P updates told
     → RestsIfTold Q updates told
 told_too P Q updates None f rests = tt
+told_too P Q updates (Some verdicts.Doubt) f rests = (rests.0, rests.1, f rests.0 rests.1 rests.2)
+told_too P Q updates (Some verdicts.Closed) f rests = (rests.0, rests.1, f rests.0 rests.1 rests.2)
 told_too P Q updates (Some verdict) f rests = rests_too P Q updates verdict f rests
 
 pub grounds_too : (P Q : ℕ → ℕ → ℕ → Type 0) → ((unit : ℕ) → Shown (P unit) (Q unit))

@@ -86,8 +86,7 @@ closed_off : (left : ℕ) (now : UnitState) (older : List Exchange) (begun mid :
 closed_off left now older begun mid run closed alone =
     let read = closing_rests older left verdicts.Closed closed in
     let shows =
-    stands_true older (world_of begun.units) (world_of mid.units) left read.0 read.1
-    (sim_run older begun mid run) read.2 in
+    stands_true older (world_of begun.units) (world_of mid.units) left 2 read.0 (sim_run older begun mid run) read.1 in
     let both : Some shows.gear ≡ Some (gear_of now) = sym shows.is ∙ world_alone left now mid.units alone in
     let same : shows.gear ≡ gear_of now = cc in
     ap (λ (g : Gear). g.enabled) (sym same) ∙ shows.off

@@ -258,10 +258,11 @@ not_done_where_unlocked kept =
 pub not_done_where_enabled : WhenKept empty (Kept (Ended Done) ∷ opened) (world_with true 0x77 0xFF 0x00 0xAB) → ⊥
 not_done_where_enabled kept = let is : true ≡ false = kept.let_go 5 refl refl in cc
 
+-- whichever location is told: a unit that answers to a read isn't enabled
 pub doubt_where_not_enabled : WhenKept empty (Kept (Ended Doubt) ∷ opened) before
 doubt_where_not_enabled = record {
   allowed = tt;
-  grounds = (0x02, 0xFF, refl);
+  grounds = (0x00, 0x77, refl);
   let_go = off_at_5 before (standings.Opened first_order) (Ended Doubt) refl refl;
 }
 
@@ -278,7 +279,7 @@ left_where_enabled = record { allowed = tt; grounds = tt; let_go = λ unit named
 pub closed_where_not_enabled : WhenKept left_open (Kept (Closed 5) ∷ []) before
 closed_where_not_enabled = record {
   allowed = refl;
-  grounds = (0x02, 0xFF, refl);
+  grounds = (0x00, 0x77, refl);
   let_go = off_at_5 before (standings.Left 5) (Closed 5) refl refl;
 }
 

@@ -28,12 +28,19 @@ verdict_told _ _ = None
 abbrev pub EndsIn : Standing → Verdict → Record → Type 0
 EndsIn stands verdict entry = Allows stands entry × (verdict_told stands entry ≡ Some verdict)
 
--- what the verdict rests on, where there is one
+-- some location shows some byte
+abbrev pub IsSeen : (ℕ → ℕ → Type 0) → Type 0
+IsSeen shows = (location : ℕ) × (byte : ℕ) × shows location byte
+
+-- What a record that tells of the verdict rests on, where there is one: on what the verdict rests on, but for Doubt and
+-- Closed on any location that is told, since whatever a unit answers to a read, it isn't write-enabled.
 abbrev pub RestsIfTold : (ℕ → ℕ → Type 0) → List (ℕ × ℕ) → Option Verdict → Type 0
 RestsIfTold shows updates None = Unit {0}
+RestsIfTold shows updates (Some verdicts.Doubt) = IsSeen shows
+RestsIfTold shows updates (Some verdicts.Closed) = IsSeen shows
 RestsIfTold shows updates (Some verdict) = Rests shows updates verdict
 
--- a record rests on what the verdict rests on that it tells of
+-- what a record rests on, by the verdict that it tells of
 abbrev pub Grounds : (ℕ → ℕ → ℕ → Type 0) → Standing → Record → Type 0
 Grounds shows standings.Idle entry = Unit {0}
 Grounds shows (standings.Began order) entry =

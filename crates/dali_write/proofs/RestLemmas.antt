@@ -15,7 +15,7 @@ use Rattle.dali_write.specs.declared.ask.Verdict.TheVariants.{Closed, NotClosed,
 use Rattle.dali_write.specs.Plans.{Plan, Finish, Check, either_way, read_closed, close, give_up, expect, read_back}
 use Rattle.dali_write.specs.Plans.{read_lock, write_on, unlock}
 use Rattle.dali_write.specs.Tries.{StepEnds, Wants}
-use Rattle.dali_write.specs.Findings.{Suits, IsTooShort, HasOtherFormat, ShowsAll, IsWritten, IsSeen, Rests}
+use Rattle.dali_write.specs.Findings.{Suits, IsTooShort, HasOtherFormat, ShowsAll, IsWritten, Rests}
 use Rattle.dali_write.specs.Reads.{IsPassive, EndsInRead, ReadStands}
 use Rattle.dali_write.specs.Walks.{Walk}
 use Rattle.dali_write.proofs.GearLemmas.{IsQuiet}
@@ -111,7 +111,7 @@ read_step_shows unit location byte after told first last (inr failed) is = let n
 -- it gave the order up
 Gave : ℕ → Verdict → Verdict → Verdict → List Exchange → Type 0
 Gave unit answered unanswered verdict world =
-    (verdict ≡ unanswered) ⊎ ((verdict ≡ answered) × IsSeen (ReadStands world unit))
+    (verdict ≡ unanswered) ⊎ ((verdict ≡ answered) × ((byte : ℕ) × ReadStands world unit 2 byte))
 
 read_closed_rests : (unit : ℕ) (answered unanswered verdict : Verdict) (outcomes : List (Option ℕ))
     (told : List Exchange) (first last : List Exchange)
@@ -131,7 +131,6 @@ read_closed_rests unit answered unanswered verdict (Some byte ∷ outcomes) told
     inr (
       is,
       (
-        2,
         byte,
         read_step_shows unit 2 byte (either_way (Finish unanswered) (λ b. Finish answered)) walk.1 first last walk.3
             (subst (λ (t : List Exchange). After t first last) older run),
@@ -325,8 +324,8 @@ rests_too P Q updates Done f rests = written_too P Q updates f rests
 rests_too P Q updates Short f rests = short_too P Q updates f rests
 rests_too P Q updates Format f rests = format_too P Q updates f rests
 rests_too P Q updates Silent f rests = tt
-rests_too P Q updates Doubt f rests = (rests.0, rests.1, f rests.0 rests.1 rests.2)
+rests_too P Q updates Doubt f rests = (rests.0, f 2 rests.0 rests.1)
 rests_too P Q updates DoubtOpen f rests = tt
-rests_too P Q updates Closed f rests = (rests.0, rests.1, f rests.0 rests.1 rests.2)
+rests_too P Q updates Closed f rests = (rests.0, f 2 rests.0 rests.1)
 rests_too P Q updates NotClosed f rests = tt
 rests_too P Q updates ReadAll f rests = tt

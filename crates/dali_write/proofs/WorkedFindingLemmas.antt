@@ -1,6 +1,7 @@
 -- What reads find and what they don't, near the edges: what a weaker definition would let through.
 use Rattle.std.proofs.Common.{◌≡◌, refl, ℕ, List, [], ◌∷◌, Some, arith, slice_get}
-use Rattle.dali_write.specs.Findings.{Suits, IsTooShort, HasOtherFormat, IsWritten}
+use Rattle.dali_write.specs.declared.ask.Verdict.TheVariants.{Doubt, Closed}
+use Rattle.dali_write.specs.Findings.{Suits, IsTooShort, HasOtherFormat, IsWritten, Rests}
 
 -- bank 1 with these bytes from location 00h on
 abbrev Has : List ℕ → ℕ → ℕ → Type 0
@@ -39,3 +40,16 @@ not_written_where_unlocked written = omega (arith, byte_is 0x55 0xFF written.0)
 
 pub not_written_with_another_byte : IsWritten (Has locked) ((3, 0x11) ∷ (4, 0x23) ∷ []) → ⊥
 not_written_with_another_byte written = omega (arith, byte_is 0x22 0x23 written.1.1.0)
+
+-- a read of another location, and not of the lock byte
+abbrev Tells03h : ℕ → ℕ → Type 0
+Tells03h location byte = (location ≡ 3) × (byte ≡ 0x11)
+
+pub no_doubt_by_another_location : Rests Tells03h ((3, 0x11) ∷ []) Doubt → ⊥
+no_doubt_by_another_location (byte, tells) = omega (arith, tells.0)
+
+pub not_closed_by_another_location : Rests Tells03h [] Closed → ⊥
+not_closed_by_another_location (byte, tells) = omega (arith, tells.0)
+
+pub doubt_whatever_the_lock_byte_is : Rests (Has unlocked) ((3, 0x11) ∷ []) Doubt
+doubt_whatever_the_lock_byte_is = (0x55, refl)

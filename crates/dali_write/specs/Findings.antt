@@ -32,20 +32,16 @@ ShowsAll shows (update ∷ updates) = shows update.0 update.1 × ShowsAll shows 
 abbrev pub IsWritten : (ℕ → ℕ → Type 0) → List (ℕ × ℕ) → Type 0
 IsWritten shows updates = shows 0x02 0xFF × ShowsAll shows updates
 
--- some location shows some byte
-abbrev pub IsSeen : (ℕ → ℕ → Type 0) → Type 0
-IsSeen shows = (location : ℕ) × (byte : ℕ) × shows location byte
-
 -- The one table of grounds. MayOpen: bank 1 suits the updates. Short, Format: it doesn't. Done: they are written.
--- Doubt and Closed: some location answers. Other verdicts rest on nothing.
+-- Doubt and Closed: the lock byte is told, whatever it is. Other verdicts rest on nothing.
 abbrev pub Rests : (ℕ → ℕ → Type 0) → List (ℕ × ℕ) → Verdict → Type 0
 Rests shows updates MayOpen = Suits shows updates
 Rests shows updates Done = IsWritten shows updates
 Rests shows updates Short = IsTooShort shows updates
 Rests shows updates Format = HasOtherFormat shows updates
 Rests shows updates Silent = Unit {0}
-Rests shows updates Doubt = IsSeen shows
+Rests shows updates Doubt = (byte : ℕ) × shows 0x02 byte
 Rests shows updates DoubtOpen = Unit {0}
-Rests shows updates Closed = IsSeen shows
+Rests shows updates Closed = (byte : ℕ) × shows 0x02 byte
 Rests shows updates NotClosed = Unit {0}
 Rests shows updates Read = Unit {0}

@@ -1,5 +1,7 @@
 -- Tries, steps and sessions, as lists of exchanges with the newest first.
 use Rattle.std.specs.Prelude.{◌≡◌, ℕ, suc, zero, ◌<◌, ◌⊎◌, List, [], ◌∷◌, ◌++◌, Option, None, Bool, true, false}
+use Rattle.std.proofs.Common.{refl}
+use Rattle.std.proofs.lemmas.Bool.{both_ways}
 use Rattle.dali_write.specs.Exchanges.{Exchange}
 use Rattle.dali_write.specs.declared.line.Line.{Line}
 use Rattle.dali_write.specs.declared.line.Wish.{Wish}
@@ -91,7 +93,7 @@ pub record Stands (unit : ℕ) (plan : Plan) (told : List Exchange) (now : Plan)
 -- the next frame of the try, or the end
 abbrev pub ask_at : (plan : Plan) (left : List Line) → GoesOn plan left → Ask
 ask_at (Finish verdict) left going = Ended verdict
-ask_at (Check step after) [] going = cc
+ask_at (Check step after) [] going = absurd (both_ways false refl going)
 ask_at (Check step after) (next ∷ left) going = Send next.frame
 
 -- What a session with this plan wants, or how it ends, after these exchanges.

@@ -4,7 +4,7 @@ use Rattle.serde_json.specs.Data.{Data}
 use Rattle.dali_gear.specs.declared.fate.Fate.{Fate}
 use Rattle.dali_gear.specs.SimState.{SimState, world_of}
 use Rattle.dali_gear.specs.UnitState.{UnitState}
-use Rattle.dali_gear.specs.Unenabled.{NoneEnabled}
+use Rattle.dali_bus.specs.Unenabled.{NoneEnabled}
 use Rattle.dali_journal.specs.JournalState.{IsLimit}
 use Rattle.dali_writer.specs.declared.fault.RunFault.TheVariants.{Limit, NoMemory}
 use Rattle.dali_trace.specs.declared.happening.Event.{Event}

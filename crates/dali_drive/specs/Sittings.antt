@@ -1,8 +1,8 @@
 -- Drives one after another, each from the journal that is loaded from what the one before it left in the file.
 use Rattle.std.specs.Prelude.{◌≡◌, ◌⊎◌, ◌++◌, ℕ, List, [], ◌∷◌, Some, take}
 use Rattle.dali_bank.specs.Order.{Contents}
-use Rattle.dali_gear.specs.World.{World}
-use Rattle.dali_gear.specs.Chain.{AtEachMoment}
+use Rattle.dali_bus.specs.World.{World}
+use Rattle.dali_bus.specs.Chain.{AtEachMoment}
 use Rattle.dali_journal.specs.JournalState.{AreKept}
 use Rattle.dali_journal.specs.Loading.{IsTorn}
 use Rattle.dali_drive.specs.declared.fault.DriveFault.{DriveFault}

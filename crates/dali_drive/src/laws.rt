@@ -2,8 +2,8 @@
 
 ghost use Rattle.std.specs.Prelude.{◌≡◌, ℕ, List, Some};
 ghost use Rattle.dali_bank.specs.Order.{Contents};
-ghost use Rattle.dali_gear.specs.World.{World};
-ghost use Rattle.dali_gear.specs.Chain.{IsChain};
+ghost use Rattle.dali_bus.specs.World.{World};
+ghost use Rattle.dali_bus.specs.Chain.{IsChain};
 ghost use Rattle.dali_journal.specs.Spelling.{journal_spelling};
 ghost use Rattle.dali_journal.specs.JournalState.{AreKept};
 ghost use Rattle.dali_trace.specs.Trace.{Start};

@@ -11,7 +11,7 @@ use Rattle.dali_frame.specs.declared.forward.Frame.TheVariants.{Dtr0, Dtr1, Dtr2
 use Rattle.dali_frame.specs.declared.forward.Frame.TheVariants.{AskDtr1, AskDtr2, Read, Other}
 use Rattle.dali_gear.specs.declared.fate.Fate.{Fate}
 use Rattle.dali_gear.specs.Fate.{is_lost}
-use Rattle.dali_gear.specs.Hears.{up}
+use Rattle.dali_bus.specs.Hears.{up}
 use Rattle.dali_gear.specs.Faults.{IsBank}
 use Rattle.dali_gear.specs.UnitState.{BankState, UnitState, is_writable, with_byte, bank_of, has_bank, carries_out}
 use Rattle.dali_gear.specs.UnitState.{stores, after_write, after_frame}

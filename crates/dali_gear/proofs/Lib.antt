@@ -1,5 +1,2 @@
 pub mod BankLemmas
 pub mod SimLemmas
-pub mod ChainLemmas
-pub mod UnenabledLemmas
-pub mod WorkedFrameLemmas

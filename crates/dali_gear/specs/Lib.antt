@@ -1,10 +1,4 @@
-pub mod World
-pub mod Hears
-pub mod Carry
-pub mod Chain
-pub mod Unenabled
 pub mod UnitState
-pub mod WorkedFrames
 pub mod Faults
 pub mod Fate
 pub mod SimState

@@ -6,8 +6,8 @@ use Rattle.dali_gear.specs.declared.fate.Fate.{Fate}
 use Rattle.dali_gear.specs.Fate.{is_lost, next_fate, fates_after}
 use Rattle.dali_gear.specs.UnitState.{UnitState, after_frame, answer_to, gear_of}
 use Rattle.dali_gear.specs.Faults.{IsBank}
-use Rattle.dali_gear.specs.World.{World}
-use Rattle.dali_gear.specs.Carry.{BusEvent, Carried}
+use Rattle.dali_bus.specs.World.{World}
+use Rattle.dali_bus.specs.Carry.{BusEvent, Carried}
 
 -- its units, and the fates that are left
 pub record SimState : Type 0 where

@@ -13,11 +13,11 @@ use Rattle.dali_gear.specs.declared.fate.Fate.{Fate}
 use Rattle.dali_gear.specs.Fate.{is_lost, next_fate}
 use Rattle.dali_gear.specs.UnitState.{UnitState, with_byte, has_bank, carries_out, stores, after_frame, answer_to}
 use Rattle.dali_gear.specs.UnitState.{gear_of}
-use Rattle.dali_gear.specs.Hears.{Hears, up}
+use Rattle.dali_bus.specs.Hears.{Hears, up}
 use Rattle.dali_gear.specs.SimState.{SimState, SimCarry, SimStep, world_of, AreApart, unit_after, unit_answer}
 use Rattle.dali_gear.specs.SimState.{bus_answer}
-use Rattle.dali_gear.specs.World.{Gear}
-use Rattle.dali_gear.specs.Carry.{BusEvent, Carried, WorldStep, Carry, MayHear, Answered, MayAnswer}
+use Rattle.dali_bus.specs.World.{Gear}
+use Rattle.dali_bus.specs.Carry.{BusEvent, Carried, WorldStep, Carry, MayHear, Answered, MayAnswer}
 use Rattle.dali_gear.specs.UnitHears.{unit_hears}
 
 -- a write keeps the address

@@ -12,9 +12,9 @@ use Rattle.dali_frame.specs.declared.forward.Frame.TheVariants.{Dtr0, Dtr1, Dtr2
 use Rattle.dali_frame.specs.declared.forward.Frame.TheVariants.{AskDtr1, AskDtr2, Read, Other}
 use Rattle.dali_gear.specs.UnitState.{BankState, UnitState, is_writable, with_byte, has_bank, bank_of, with_stored}
 use Rattle.dali_gear.specs.UnitState.{carries_out, stores, selected_byte, after_read, after_frame, answer_to, gear_of}
-use Rattle.dali_gear.specs.World.{Gear, stored}
-use Rattle.dali_gear.specs.Hears.{Hears, MayEnd, Obeys, Ignores, Tells, PassesBy, Stores, ReadsByte, ReadsNothing}
-use Rattle.dali_gear.specs.Hears.{selected, up}
+use Rattle.dali_bus.specs.World.{Gear, stored}
+use Rattle.dali_bus.specs.Hears.{Hears, MayEnd, Obeys, Ignores, Tells, PassesBy, Stores, ReadsByte, ReadsNothing}
+use Rattle.dali_bus.specs.Hears.{selected, up}
 
 -- a byte after a write
 slice_get-slice_set : (xs : List ℕ) (i : ℕ) (x : ℕ) (j : ℕ) → i < length xs

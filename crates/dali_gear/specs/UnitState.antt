@@ -5,8 +5,8 @@ use Rattle.std.specs.List.{list_any}
 use Rattle.dali_frame.specs.declared.forward.Frame.{Frame}
 use Rattle.dali_frame.specs.declared.forward.Frame.TheVariants.{Dtr0, Dtr1, Dtr2, Write, WriteSilent, Enable, AskDtr0}
 use Rattle.dali_frame.specs.declared.forward.Frame.TheVariants.{AskDtr1, AskDtr2, Read, Other}
-use Rattle.dali_gear.specs.Hears.{up}
-use Rattle.dali_gear.specs.World.{Gear}
+use Rattle.dali_bus.specs.Hears.{up}
+use Rattle.dali_bus.specs.World.{Gear}
 
 -- a memory bank: its bytes from location 00h on, and the locations that can't be written
 pub record BankState : Type 0 where

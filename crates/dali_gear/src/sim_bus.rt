@@ -4,7 +4,7 @@ ghost use Rattle.std.specs.Vec.Iter.{into_iter_items};
 ghost use Rattle.dali_gear.specs.Fate.{next_fate, fates_after};
 ghost use Rattle.dali_gear.specs.SimState.{unit_after, unit_answer, only_answer, AreApart, AreBanks, world_of};
 
-use crate::bus::Bus;
+use dali_bus::Bus;
 use crate::fate::Fate;
 use crate::fault::GearFault;
 use crate::unit::Unit;

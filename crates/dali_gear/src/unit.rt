@@ -4,7 +4,7 @@ ghost use Rattle.std.specs.List.{AllByRecursion};
 ghost use Rattle.dali_bank.specs.Blank.{blank_bank};
 ghost use Rattle.dali_gear.specs.UnitState.{UnitState, after_frame, after_write, after_read, answer_to, selected_byte};
 ghost use Rattle.dali_gear.specs.UnitState.{stores, gear_of, new_unit};
-ghost use Rattle.dali_gear.specs.Hears.{Hears, up};
+ghost use Rattle.dali_bus.specs.Hears.{Hears, up};
 ghost use Rattle.dali_gear.specs.Faults.{IsBank, AreFixed, LocationsRiseAbove, IsUnitFault, IsBlankFault};
 
 use crate::bank::Bank;

@@ -9,9 +9,9 @@ use Rattle.dali_gear.specs.declared.fault.GearFault.{GearFault}
 use Rattle.dali_gear.specs.declared.fault.GearFault.TheVariants.{NoMemory}
 use Rattle.dali_gear.specs.Faults.{IsUnitFault}
 use Rattle.dali_gear.specs.SimState.{world_of}
-use Rattle.dali_gear.specs.Unenabled.{NoneEnabled}
+use Rattle.dali_bus.specs.Unenabled.{NoneEnabled}
 use Rattle.dali_gear.specs.UnitState.{UnitState, gear_of}
-use Rattle.dali_gear.specs.World.{Gear, is_open}
+use Rattle.dali_bus.specs.World.{Gear, is_open}
 use Rattle.dali_trace.specs.declared.happening.Event.{Event}
 use Rattle.dali_trace.specs.declared.happening.Event.TheVariants as events
 use Rattle.serde_json.specs.Data.{Data}

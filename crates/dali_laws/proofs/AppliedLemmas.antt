@@ -1,7 +1,7 @@
 -- A place that no order leaves in doubt holds one byte alone.
 use Rattle.std.proofs.Common.{◌≡◌, refl, ap, ◌∙◌, ℕ, true, List, [], ◌∷◌, Option, Some, None, is_some}
 use Rattle.dali_bank.specs.Order.{Contents}
-use Rattle.dali_gear.specs.World.{World, byte_at}
+use Rattle.dali_bus.specs.World.{World, byte_at}
 use Rattle.dali_journal.specs.declared.record.Record.{Record}
 use Rattle.dali_journal.specs.declared.kept.Stage.{Stage}
 use Rattle.dali_journal.specs.Orders.{orders_of}

@@ -1,8 +1,8 @@
 -- Along every chain of worlds of a legal trace each moment fits, and each record that is kept tells the truth.
 use Rattle.std.proofs.Common.{◌≡◌, refl, sym, subst, ℕ, List, [], ◌∷◌, Option}
 use Rattle.dali_frame.specs.declared.forward.Frame.{Frame}
-use Rattle.dali_gear.specs.World.{World}
-use Rattle.dali_gear.specs.Chain.{IsChain, AtEachMoment}
+use Rattle.dali_bus.specs.World.{World}
+use Rattle.dali_bus.specs.Chain.{IsChain, AtEachMoment}
 use Rattle.dali_journal.specs.declared.record.Record.{Record}
 use Rattle.dali_journal.specs.Sentence.{IsSentence}
 use Rattle.dali_write.specs.Reads.{ReadStands}

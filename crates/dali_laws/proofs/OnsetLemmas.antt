@@ -3,8 +3,8 @@ use Rattle.std.proofs.Common.{◌≡◌, ◌≢◌, inl, inr, refl, sym, ap, ◌
 use Rattle.std.proofs.Common.{List, [], ◌∷◌, ◌++◌, Option, Some, None, is_some}
 use Rattle.std.proofs.lemmas.Bool.{eqb-true}
 use Rattle.dali_bank.specs.Order.{Contents}
-use Rattle.dali_gear.specs.Chain.{IsChain, AtEachMoment}
-use Rattle.dali_gear.specs.World.{World, Gear, byte_in, byte_at, is_open}
+use Rattle.dali_bus.specs.Chain.{IsChain, AtEachMoment}
+use Rattle.dali_bus.specs.World.{World, Gear, byte_in, byte_at, is_open}
 use Rattle.dali_gear.specs.UnitState.{BankState, UnitState, gear_of}
 use Rattle.dali_gear.specs.SimState.{SimState, SimStep, AreApart, AreBanks, world_of}
 use Rattle.dali_gear.specs.Faults.{IsBank}

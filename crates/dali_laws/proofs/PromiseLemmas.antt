@@ -1,5 +1,5 @@
 -- When a record is kept, what it rests on is so in the world, in the words of the promises.
-use Rattle.dali_gear.specs.World.{World}
+use Rattle.dali_bus.specs.World.{World}
 use Rattle.dali_journal.specs.declared.record.Code.TheVariants.{Done, Doubt, DoubtOpen}
 use Rattle.dali_journal.specs.declared.record.Record.{Record}
 use Rattle.dali_journal.specs.declared.record.Record.TheVariants.{Began, Opened, Ended, Closed}

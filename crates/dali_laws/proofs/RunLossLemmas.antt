@@ -2,7 +2,7 @@
 use Rattle.std.proofs.Common.{◌≡◌, refl, sym, ap, subst, ℕ, ◌+◌, ◌≤◌, Bool, true, false, ◌||◌}
 use Rattle.std.proofs.Common.{if◌then◌else◌, List, [], ◌∷◌, ◌++◌, Option, Some, None, arith}
 use Rattle.dali_frame.specs.declared.forward.Frame.{Frame}
-use Rattle.dali_gear.specs.Chain.{IsChain}
+use Rattle.dali_bus.specs.Chain.{IsChain}
 use Rattle.dali_gear.specs.SimState.{SimState, SimStep}
 use Rattle.dali_write.specs.Exchanges.{Exchange}
 use Rattle.dali_write.specs.Losses.{SimRun, is_loss, losses, Unrefused}

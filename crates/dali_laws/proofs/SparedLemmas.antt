@@ -6,7 +6,7 @@ use Rattle.std.proofs.lemmas.Bool.{eqb-true, eqb-false}
 use Rattle.std.proofs.lemmas.Option.{unwrap_or-slice_get}
 use Rattle.std.specs.Option.{unwrap_or}
 use Rattle.dali_bank.specs.Order.{Contents, AreUpdates, RisesAbove}
-use Rattle.dali_gear.specs.World.{Gear}
+use Rattle.dali_bus.specs.World.{Gear}
 use Rattle.dali_gear.specs.UnitState.{BankState, UnitState, gear_of}
 use Rattle.dali_gear.specs.SimState.{SimState, AreApart, world_of}
 use Rattle.dali_gear.specs.Faults.{IsBank}

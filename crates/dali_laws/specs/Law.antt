@@ -2,8 +2,8 @@
 use Rattle.std.specs.Prelude.{◌≡◌, ◌≢◌, ◌↔◌, false, List, [], ◌∷◌, ◌++◌}
 use Rattle.std.specs.List.{Contains}
 use Rattle.dali_bank.specs.Order.{Contents}
-use Rattle.dali_gear.specs.World.{World}
-use Rattle.dali_gear.specs.Chain.{IsChain, AtEachMoment}
+use Rattle.dali_bus.specs.World.{World}
+use Rattle.dali_bus.specs.Chain.{IsChain, AtEachMoment}
 use Rattle.dali_journal.specs.declared.record.Code.{Code}
 use Rattle.dali_journal.specs.declared.kept.Stage.TheVariants as stages
 use Rattle.dali_journal.specs.Sentence.{IsSentenceWithin}

@@ -5,9 +5,9 @@ use Rattle.std.proofs.lemmas.Bool.{eqb-true, eq-eqb, ne_eqb}
 use Rattle.dali_frame.specs.declared.forward.Frame.{Frame}
 use Rattle.dali_frame.specs.declared.forward.Frame.TheVariants.{Dtr0, Dtr1, Dtr2, Write, WriteSilent, Enable, AskDtr0}
 use Rattle.dali_frame.specs.declared.forward.Frame.TheVariants.{AskDtr1, AskDtr2, Read, Other}
-use Rattle.dali_gear.specs.World.{Gear}
-use Rattle.dali_gear.specs.Hears.{Hears, MayEnd, up}
-use Rattle.dali_gear.specs.Carry.{Carry, MayHear, MayAnswer}
+use Rattle.dali_bus.specs.World.{Gear}
+use Rattle.dali_bus.specs.Hears.{Hears, MayEnd, up}
+use Rattle.dali_bus.specs.Carry.{Carry, MayHear, MayAnswer}
 use Rattle.dali_gear.specs.UnitState.{UnitState, with_byte, has_bank, carries_out, stores, after_frame, answer_to}
 use Rattle.dali_gear.specs.UnitState.{gear_of}
 use Rattle.dali_tests.specs.HostileBus.{DoesHear, MayBeDeaf, world_of_both}

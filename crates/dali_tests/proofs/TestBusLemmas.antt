@@ -2,8 +2,8 @@
 use Rattle.std.proofs.Common.{◌≡◌, ℕ, Bool, true, false, inl, inr, Some, None, refl}
 use Rattle.std.specs.Prelude.{◌==◌, if◌then◌else◌}
 use Rattle.dali_frame.specs.declared.forward.Frame.TheVariants.{Dtr0, AskDtr0}
-use Rattle.dali_gear.specs.World.{Gear}
-use Rattle.dali_gear.specs.Carry.{Carry, MayHear}
+use Rattle.dali_bus.specs.World.{Gear}
+use Rattle.dali_bus.specs.Carry.{Carry, MayHear}
 use Rattle.dali_tests.specs.TestBus.{lone_unit}
 
 gear : ℕ → Gear

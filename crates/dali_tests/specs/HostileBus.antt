@@ -1,10 +1,10 @@
 -- A bus of the tests that does what a bus may do at its worst: what its units do with a frame.
 use Rattle.std.specs.Prelude.{◌≡◌, ◌⊎◌, ℕ, [], ◌∷◌, Option, None}
 use Rattle.dali_frame.specs.declared.forward.Frame.{Frame}
-use Rattle.dali_gear.specs.Hears.{Hears}
+use Rattle.dali_bus.specs.Hears.{Hears}
 use Rattle.dali_gear.specs.SimState.{world_of}
 use Rattle.dali_gear.specs.UnitState.{UnitState, gear_of}
-use Rattle.dali_gear.specs.World.{World}
+use Rattle.dali_bus.specs.World.{World}
 
 -- the world of its two units
 abbrev pub world_of_both : UnitState → UnitState → World

@@ -1,6 +1,6 @@
 -- A bus of the tests, which owes nothing to the simulated one.
 use Rattle.std.specs.Prelude.{ℕ, false, Some, None, ◌==◌, if◌then◌else◌}
-use Rattle.dali_gear.specs.World.{World}
+use Rattle.dali_bus.specs.World.{World}
 
 -- one unit at address 9 with this DTR0, and with no memory
 abbrev pub lone_unit : ℕ → World

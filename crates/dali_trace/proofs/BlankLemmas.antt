@@ -4,10 +4,10 @@ use Rattle.std.proofs.Common.{if◌then◌else◌}
 use Rattle.std.proofs.lemmas.Bool.{eqb-true}
 use Rattle.dali_frame.specs.declared.forward.Frame.{Frame}
 use Rattle.dali_frame.specs.declared.forward.Frame.TheVariants.{Dtr0, Dtr1, Write, Enable, AskDtr0, AskDtr1, Read}
-use Rattle.dali_gear.specs.World.{Gear, stored, is_open}
-use Rattle.dali_gear.specs.Hears.{Hears, up}
-use Rattle.dali_gear.specs.Carry.{Carry, MayHear, MayAnswer}
-use Rattle.dali_gear.specs.Chain.{Chain}
+use Rattle.dali_bus.specs.World.{Gear, stored, is_open}
+use Rattle.dali_bus.specs.Hears.{Hears, up}
+use Rattle.dali_bus.specs.Carry.{Carry, MayHear, MayAnswer}
+use Rattle.dali_bus.specs.Chain.{Chain}
 use Rattle.dali_journal.specs.declared.record.Code.TheVariants.{Done}
 use Rattle.dali_journal.specs.declared.record.Record.TheVariants.{Began, Opened, Ended}
 use Rattle.dali_trace.specs.declared.happening.Reply.TheVariants as replies

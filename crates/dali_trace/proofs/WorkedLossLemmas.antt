@@ -7,10 +7,10 @@ use Rattle.dali_frame.specs.declared.forward.Frame.TheVariants.{Dtr0, Dtr1, AskD
 use Rattle.dali_gear.specs.Fate.{next_fate}
 use Rattle.dali_gear.specs.Faults.{IsBank}
 use Rattle.dali_gear.specs.SimState.{SimState, SimStep, SimCarry, AreApart, AreBanks, unit_answer, bus_answer, world_of}
-use Rattle.dali_gear.specs.Chain.{IsChain}
-use Rattle.dali_gear.specs.Unenabled.{NoneEnabled}
+use Rattle.dali_bus.specs.Chain.{IsChain}
+use Rattle.dali_bus.specs.Unenabled.{NoneEnabled}
 use Rattle.dali_gear.specs.UnitState.{new_unit, gear_of}
-use Rattle.dali_gear.specs.World.{is_open}
+use Rattle.dali_bus.specs.World.{is_open}
 use Rattle.dali_journal.specs.declared.record.Code.TheVariants as codes
 use Rattle.dali_write.specs.declared.ask.Ask.TheVariants as asks
 use Rattle.dali_write.specs.declared.ask.Verdict.TheVariants as verdicts

@@ -1,7 +1,7 @@
 -- What records say of worlds and what they don't, near the edges: what a weaker definition would let through.
 use Rattle.std.proofs.Common.{◌≡◌, ◌≤◌, ◌<◌, inl, inr, refl, arith, ap, true, false, ℕ, Bool, List, [], ◌∷◌, Option}
 use Rattle.std.proofs.Common.{Some, None, ◌==◌, if◌then◌else◌}
-use Rattle.dali_gear.specs.World.{Gear, World, is_enabled}
+use Rattle.dali_bus.specs.World.{Gear, World, is_enabled}
 use Rattle.dali_journal.specs.declared.kept.Stage.{Stage}
 use Rattle.dali_journal.specs.declared.kept.Stage.TheVariants as stages
 use Rattle.dali_journal.specs.declared.record.Code.TheVariants.{Done, Short, Format, Silent, Doubt, DoubtOpen}

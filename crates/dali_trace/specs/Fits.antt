@@ -1,6 +1,6 @@
 -- What a journal promises of a world. The start world is called zero.
 use Rattle.std.specs.Prelude.{◌≡◌, ◌⊎◌, ℕ, true, List, [], ◌∷◌, Some, is_some}
-use Rattle.dali_gear.specs.World.{World, byte_at, is_enabled}
+use Rattle.dali_bus.specs.World.{World, byte_at, is_enabled}
 use Rattle.dali_journal.specs.declared.record.Record.{Record}
 use Rattle.dali_journal.specs.declared.record.Record.TheVariants.{Opened}
 use Rattle.dali_journal.specs.Sentence.{standing_of, named_unit}

@@ -1,7 +1,7 @@
 -- What is so at each moment of a trace, along a chain of worlds.
 use Rattle.std.specs.Prelude.{List}
-use Rattle.dali_gear.specs.World.{World}
-use Rattle.dali_gear.specs.Chain.{IsChain, AtEachMoment}
+use Rattle.dali_bus.specs.World.{World}
+use Rattle.dali_bus.specs.Chain.{IsChain, AtEachMoment}
 use Rattle.dali_trace.specs.declared.happening.Happening.{Happening}
 use Rattle.dali_trace.specs.Trace.{Start, records_of}
 use Rattle.dali_trace.specs.Legal.{Legal}

@@ -1,7 +1,7 @@
 -- The states along a trace: one before the first happening, and one after each.
 use Rattle.std.specs.Prelude.{◌≡◌}
-use Rattle.dali_gear.specs.World.{World}
-use Rattle.dali_gear.specs.Carry.{BusEvent, Carried, WorldStep}
+use Rattle.dali_bus.specs.World.{World}
+use Rattle.dali_bus.specs.Carry.{BusEvent, Carried, WorldStep}
 use Rattle.dali_trace.specs.declared.happening.Happening.{Happening}
 use Rattle.dali_trace.specs.declared.happening.Happening.TheVariants.{Sent}
 

@@ -1,10 +1,10 @@
 -- What is promised of a run over a bus.
 use Rattle.std.specs.Prelude.{◌≡◌, ℕ, List, [], ◌∷◌, ◌++◌, reverse, take}
 use Rattle.dali_frame.specs.Frame.{IsProper}
-use Rattle.dali_gear.specs.World.{World}
-use Rattle.dali_gear.specs.Carry.{BusEvent}
-use Rattle.dali_gear.specs.Chain.{IsChain, AtEachMoment}
-use Rattle.dali_gear.specs.Unenabled.{NoneEnabled}
+use Rattle.dali_bus.specs.World.{World}
+use Rattle.dali_bus.specs.Carry.{BusEvent}
+use Rattle.dali_bus.specs.Chain.{IsChain, AtEachMoment}
+use Rattle.dali_bus.specs.Unenabled.{NoneEnabled}
 use Rattle.dali_journal.specs.Spelling.{journal_spelling}
 use Rattle.dali_trace.specs.declared.happening.Event.{Event}
 use Rattle.dali_trace.specs.declared.happening.Happening.{Happening}

@@ -4,11 +4,11 @@ use Rattle.std.specs.Prelude.{slice_index, reverse, if◌then◌else◌}
 use Rattle.std.specs.List.{list_any}
 use Rattle.dali_frame.specs.declared.forward.Frame.{Frame}
 use Rattle.dali_bank.specs.Order.{Contents}
-use Rattle.dali_gear.specs.Chain.{IsChain}
+use Rattle.dali_bus.specs.Chain.{IsChain}
 use Rattle.dali_gear.specs.Fate.{next_fate}
 use Rattle.dali_gear.specs.UnitState.{BankState}
 use Rattle.dali_gear.specs.SimState.{SimState, SimStep, world_of}
-use Rattle.dali_gear.specs.Unenabled.{NoneEnabled}
+use Rattle.dali_bus.specs.Unenabled.{NoneEnabled}
 use Rattle.dali_journal.specs.declared.record.Code.{Code}
 use Rattle.dali_journal.specs.declared.record.Code.TheVariants as codes
 use Rattle.dali_write.specs.Plans.{greatest}

@@ -1,6 +1,6 @@
 -- What is so in the world when a record is kept.
 use Rattle.std.specs.Prelude.{◌≡◌, ℕ, false, List, ◌∷◌, Some, None}
-use Rattle.dali_gear.specs.World.{World, byte_at, is_enabled}
+use Rattle.dali_bus.specs.World.{World, byte_at, is_enabled}
 use Rattle.dali_journal.specs.declared.record.Record.{Record}
 use Rattle.dali_journal.specs.declared.standing.Standing.{Standing}
 use Rattle.dali_journal.specs.Sentence.{Allows, next_standing, named_unit}

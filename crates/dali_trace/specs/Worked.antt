@@ -4,7 +4,7 @@ use Rattle.std.specs.Prelude.{◌≡◌, ◌==◌, ℕ, nat_le, false, List, [],
 use Rattle.dali_frame.specs.declared.forward.Frame.TheVariants.{Dtr0, Dtr1, Write, WriteSilent, Enable, AskDtr0}
 use Rattle.dali_frame.specs.declared.forward.Frame.TheVariants.{AskDtr1, Read}
 use Rattle.dali_bank.specs.Order.{Contents}
-use Rattle.dali_gear.specs.World.{Gear, World, Memory}
+use Rattle.dali_bus.specs.World.{Gear, World, Memory}
 use Rattle.dali_journal.specs.declared.record.Code.TheVariants.{Done, Short, Format, Silent, Doubt, DoubtOpen}
 use Rattle.dali_journal.specs.declared.record.Record.TheVariants.{Began, Opened, Ended, Closed}
 use Rattle.dali_trace.specs.declared.happening.Reply.TheVariants as replies

@@ -5,8 +5,8 @@ use Rattle.dali_frame.specs.declared.forward.Frame.TheVariants.{Dtr1}
 use Rattle.dali_bank.specs.Order.{Contents}
 use Rattle.dali_gear.specs.Fate.{whole, next_fate, fates_after}
 use Rattle.dali_gear.specs.SimState.{SimState, SimStep, unit_after, world_of}
-use Rattle.dali_gear.specs.Chain.{IsChain}
-use Rattle.dali_gear.specs.Unenabled.{NoneEnabled}
+use Rattle.dali_bus.specs.Chain.{IsChain}
+use Rattle.dali_bus.specs.Unenabled.{NoneEnabled}
 use Rattle.dali_gear.specs.UnitState.{BankState, new_unit}
 use Rattle.dali_journal.specs.declared.record.Code.TheVariants as codes
 use Rattle.dali_journal.specs.declared.record.Record.TheVariants.{Ended}

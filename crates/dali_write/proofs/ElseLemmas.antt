@@ -8,7 +8,7 @@ use Rattle.dali_frame.specs.declared.forward.Frame.TheVariants.{Dtr0, Dtr1, Dtr2
 use Rattle.dali_frame.specs.declared.forward.Frame.TheVariants.{AskDtr1, AskDtr2, Read, Other}
 use Rattle.dali_gear.specs.declared.fate.Fate.{Fate}
 use Rattle.dali_gear.specs.Fate.{is_lost, next_fate}
-use Rattle.dali_gear.specs.World.{Gear}
+use Rattle.dali_bus.specs.World.{Gear}
 use Rattle.dali_gear.specs.UnitState.{BankState, UnitState, after_frame, gear_of}
 use Rattle.dali_gear.specs.SimState.{SimState, unit_after, world_of, AreApart}
 use Rattle.dali_gear.specs.SimSteps.{fate_keeps}

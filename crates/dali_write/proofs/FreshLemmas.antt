@@ -1,6 +1,6 @@
 -- What the verdict of a fresh session says of the world, and that reading is quiet.
 use Rattle.std.proofs.Common.{sym, subst, ℕ, zero, suc, min, nat_lt, List, [], ◌∷◌, ◌++◌, Option}
-use Rattle.dali_gear.specs.World.{World}
+use Rattle.dali_bus.specs.World.{World}
 use Rattle.dali_write.specs.Exchanges.{Exchange}
 use Rattle.dali_write.specs.declared.step.Step.TheVariants.{ReadFrom, WriteTo}
 use Rattle.dali_write.specs.declared.ask.Ask.{Ask}

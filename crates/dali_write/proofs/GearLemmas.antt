@@ -4,9 +4,9 @@ use Rattle.std.specs.Prelude.{◌≢◌}
 use Rattle.dali_frame.specs.declared.forward.Frame.{Frame}
 use Rattle.dali_frame.specs.declared.forward.Frame.TheVariants.{Dtr0, Dtr1, Dtr2, Write, WriteSilent, Enable, AskDtr0}
 use Rattle.dali_frame.specs.declared.forward.Frame.TheVariants.{AskDtr1, AskDtr2, Read, Other}
-use Rattle.dali_gear.specs.World.{World, Gear}
-use Rattle.dali_gear.specs.Hears.{Hears, Obeys, MayEnd, Tells, Ignores, PassesBy}
-use Rattle.dali_gear.specs.Carry.{Carry, MayHear, Heard}
+use Rattle.dali_bus.specs.World.{World, Gear}
+use Rattle.dali_bus.specs.Hears.{Hears, Obeys, MayEnd, Tells, Ignores, PassesBy}
+use Rattle.dali_bus.specs.Carry.{Carry, MayHear, Heard}
 use Rattle.dali_write.specs.Worlds.{memory_of, IsOff, KeepsAt}
 
 -- the memory stays, and it isn't newly enabled

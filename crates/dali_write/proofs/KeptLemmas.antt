@@ -13,7 +13,7 @@ use Rattle.dali_gear.specs.Fate.{is_lost, next_fate}
 use Rattle.dali_write.specs.Exchanges.{Exchange}
 use Rattle.dali_gear.specs.UnitState.{BankState, UnitState, after_frame, after_write, answer_to, is_writable, with_byte}
 use Rattle.dali_gear.specs.UnitState.{stores, carries_out, bank_of}
-use Rattle.dali_gear.specs.Hears.{up}
+use Rattle.dali_bus.specs.Hears.{up}
 use Rattle.dali_gear.specs.SimState.{SimState, SimCarry, unit_after}
 use Rattle.dali_gear.proofs.BankLemmas.{IsQuiet, bank_stays}
 use Rattle.dali_write.specs.declared.line.Line.{Line}

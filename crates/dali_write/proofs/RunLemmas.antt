@@ -1,9 +1,9 @@
 -- Exchanges that lead from world to world are a chain of them, and what the simulated bus does with exchanges leads
 -- from world to world.
 use Rattle.std.proofs.Common.{List, [], ◌∷◌, ap}
-use Rattle.dali_gear.specs.World.{World}
-use Rattle.dali_gear.specs.Chain.{IsChain, Chain}
-use Rattle.dali_gear.specs.Carry.{Carried}
+use Rattle.dali_bus.specs.World.{World}
+use Rattle.dali_bus.specs.Chain.{IsChain, Chain}
+use Rattle.dali_bus.specs.Carry.{Carried}
 use Rattle.dali_gear.specs.SimState.{SimState, world_of}
 use Rattle.dali_gear.specs.SimSteps.{sim_step-allowed}
 use Rattle.dali_write.specs.Exchanges.{Exchange, by_exchange}

@@ -3,7 +3,7 @@ use Rattle.std.proofs.Common.{inl, inr, subst, ℕ, List, [], ◌∷◌}
 use Rattle.dali_frame.specs.declared.forward.Frame.{Frame}
 use Rattle.dali_frame.specs.declared.forward.Frame.TheVariants.{Dtr0, Dtr1, Dtr2, Write, WriteSilent, Enable, AskDtr0}
 use Rattle.dali_frame.specs.declared.forward.Frame.TheVariants.{AskDtr1, AskDtr2, Read, Other}
-use Rattle.dali_gear.specs.World.{World}
+use Rattle.dali_bus.specs.World.{World}
 use Rattle.dali_write.specs.Exchanges.{Exchange}
 use Rattle.dali_write.specs.Reads.{IsPassive, ReadStands}
 use Rattle.dali_write.specs.Worlds.{Run, Shows}

@@ -7,7 +7,7 @@ use Rattle.std.proofs.lemmas.Bool.{eq-eqb, ne_eqb, eqb-true, eqb-false, lt-ltb, 
 use Rattle.std.proofs.Math.Nat.{min-le_left}
 use Rattle.std.proofs.lemmas.Option.{slice_get-get_or, get_or_from_slice_get}
 use Rattle.dali_bank.specs.Order.{RisesAbove}
-use Rattle.dali_gear.specs.World.{Gear}
+use Rattle.dali_bus.specs.World.{Gear}
 use Rattle.dali_gear.specs.UnitState.{BankState, UnitState, is_writable, gear_of}
 use Rattle.dali_gear.specs.SimState.{SimState, AreApart, AreBanks, world_of}
 use Rattle.dali_gear.specs.Faults.{IsBank}

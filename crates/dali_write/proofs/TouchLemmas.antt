@@ -5,9 +5,9 @@ use Rattle.std.specs.Prelude.{slice_get, take, drop}
 use Rattle.std.proofs.lemmas.Bool.{eqb-true}
 use Rattle.dali_frame.specs.declared.forward.Frame.{Frame}
 use Rattle.dali_frame.specs.declared.forward.Frame.TheVariants.{Dtr0, Dtr1, AskDtr0, AskDtr1, Enable, Write}
-use Rattle.dali_gear.specs.World.{World, Gear, Memory, stored, byte_in}
-use Rattle.dali_gear.specs.Hears.{Hears, Ignores, PassesBy, Stores}
-use Rattle.dali_gear.specs.Carry.{Carry, MayHear, Heard}
+use Rattle.dali_bus.specs.World.{World, Gear, Memory, stored, byte_in}
+use Rattle.dali_bus.specs.Hears.{Hears, Ignores, PassesBy, Stores}
+use Rattle.dali_bus.specs.Carry.{Carry, MayHear, Heard}
 use Rattle.dali_write.specs.Exchanges.{Exchange}
 use Rattle.dali_write.specs.declared.line.Line.{Line}
 use Rattle.dali_write.specs.declared.line.Wish.{Wish}

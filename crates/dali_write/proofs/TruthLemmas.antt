@@ -6,10 +6,10 @@ use Rattle.std.proofs.Math.Dec.{eqb}
 use Rattle.std.proofs.lemmas.Bool.{eqb-true, eqb-false}
 use Rattle.dali_frame.specs.declared.forward.Frame.{Frame}
 use Rattle.dali_frame.specs.declared.forward.Frame.TheVariants.{Dtr0, Dtr1, AskDtr0, AskDtr1, Read, Write}
-use Rattle.dali_gear.specs.World.{World, Gear, Memory}
-use Rattle.dali_gear.specs.Hears.{Hears, MayEnd, Ignores, PassesBy, Stores, ReadsByte, ReadsNothing}
-use Rattle.dali_gear.specs.Hears.{selected as selected_byte}
-use Rattle.dali_gear.specs.Carry.{Carry, MayHear, Heard}
+use Rattle.dali_bus.specs.World.{World, Gear, Memory}
+use Rattle.dali_bus.specs.Hears.{Hears, MayEnd, Ignores, PassesBy, Stores, ReadsByte, ReadsNothing}
+use Rattle.dali_bus.specs.Hears.{selected as selected_byte}
+use Rattle.dali_bus.specs.Carry.{Carry, MayHear, Heard}
 use Rattle.dali_write.specs.Exchanges.{Exchange}
 use Rattle.dali_write.specs.Lines.{select_lines, byte_after}
 use Rattle.dali_write.specs.Tries.{Trying, byte_of}

@@ -1,7 +1,7 @@
 -- What the verdict of a session says of the world.
 use Rattle.std.proofs.Common.{◌≡◌, inl, inr, refl, sym, ap, subst, ◌∙◌, ℕ, zero, suc, List, [], ◌∷◌, ◌++◌, Option, Some}
 use Rattle.std.proofs.Common.{None}
-use Rattle.dali_gear.specs.World.{World, Gear, Memory}
+use Rattle.dali_bus.specs.World.{World, Gear, Memory}
 use Rattle.dali_write.specs.Exchanges.{Exchange}
 use Rattle.dali_write.specs.declared.line.Line.{Line}
 use Rattle.dali_write.specs.declared.step.Step.TheVariants.{ReadFrom}

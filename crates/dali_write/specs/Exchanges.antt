@@ -1,8 +1,8 @@
 -- Frames that were sent, with what came back.
 use Rattle.std.specs.Prelude.{ℕ, Option}
 use Rattle.dali_frame.specs.declared.forward.Frame.{Frame}
-use Rattle.dali_gear.specs.World.{World}
-use Rattle.dali_gear.specs.Carry.{Carried, WorldStep}
+use Rattle.dali_bus.specs.World.{World}
+use Rattle.dali_bus.specs.Carry.{Carried, WorldStep}
 
 -- a frame, and the answer to it or none
 pub record Exchange : Type 0 where

@@ -1,6 +1,6 @@
 -- What a session may have changed.
 use Rattle.std.specs.Prelude.{◌≡◌, ◌≢◌, ◌⊎◌, ℕ, List, [], ◌∷◌, Option, Some, IsSome}
-use Rattle.dali_gear.specs.World.{World, Gear, byte_in}
+use Rattle.dali_bus.specs.World.{World, Gear, byte_in}
 use Rattle.dali_write.specs.Worlds.{KeepsAt}
 
 -- one of the writes puts this byte at this location

@@ -1,7 +1,7 @@
 -- What exchanges do to a world of units.
 use Rattle.std.specs.Prelude.{◌≡◌, ◌≢◌, ◌⊎◌, ℕ, false, List, [], ◌∷◌, ◌++◌, Option, Some, None, IsSome}
-use Rattle.dali_gear.specs.World.{World, Gear, Memory, stored}
-use Rattle.dali_gear.specs.Carry.{Carry}
+use Rattle.dali_bus.specs.World.{World, Gear, Memory, stored}
+use Rattle.dali_bus.specs.Carry.{Carry}
 use Rattle.dali_write.specs.Exchanges.{Exchange}
 use Rattle.dali_write.specs.Lines.{read_lines, select_lines}
 use Rattle.dali_write.specs.Tries.{Trying, byte_of}

@@ -1,10 +1,10 @@
 -- A chain goes on by one happening, and a chain of a bus is one of its worlds.
 use Rattle.std.proofs.Common.{◌≡◌, refl, sym, ap, subst, ◌∙◌, ℕ, List, [], ◌∷◌, ◌++◌, Option, Some, reverse, map}
 use Rattle.std.proofs.lemmas.List.{reverse-append}
-use Rattle.dali_gear.specs.World.{World}
-use Rattle.dali_gear.specs.Carry.{BusEvent, Carried, WorldStep}
-use Rattle.dali_gear.specs.Chain.{IsChain, AtEachMoment, Chain}
-use Rattle.dali_gear.specs.Unenabled.{NoneEnabled}
+use Rattle.dali_bus.specs.World.{World}
+use Rattle.dali_bus.specs.Carry.{BusEvent, Carried, WorldStep}
+use Rattle.dali_bus.specs.Chain.{IsChain, AtEachMoment, Chain}
+use Rattle.dali_bus.specs.Unenabled.{NoneEnabled}
 use Rattle.dali_journal.specs.declared.record.Record.{Record}
 use Rattle.dali_trace.specs.declared.happening.Happening.{Happening}
 use Rattle.dali_trace.specs.declared.happening.Happening.TheVariants.{Asked, Answered, Sent, Kept, Stopped}

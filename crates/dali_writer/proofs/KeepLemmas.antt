@@ -181,7 +181,7 @@ opened_grounds : (sent : List Exchange) (order : Contents) (verdict : Verdict)
     → Rests (ReadStands sent order.unit) order.updates verdict
     → Grounds (ReadStands sent) (standings.Opened order) (Ended (write_code verdict))
 opened_grounds sent order verdicts.Done rests = rests
-opened_grounds sent order verdicts.Doubt rests = (2, rests)
+opened_grounds sent order verdicts.Doubt rests = (2, rests.0, rests.1)
 opened_grounds sent order _ rests = tt
 
 pub write_allowed : (order : Contents) (verdict : Verdict)
@@ -229,7 +229,7 @@ closed_on start past journal new order s d ready aim records limit =
     let all = newest_rests (sent_of past) (sent_since_taken past) since.0 unit [] verdicts.Closed since.1 over.1 in
     let waits : IsSome (waiting past) = rw place.0 refl in
     let may = goes_on start past _ (Closed unit) (standings.Left unit) d ready.0 refl tt refl
-    (waits, stands_read (sent_since_taken past) unit 2 over.1.0 over.1.1) (2, all) in
+    (waits, stands_read (sent_since_taken past) unit 2 over.1.0 over.1.1) (2, all.0, all.1) in
     kept_on start past journal new (Closes order s) (Begins order) (Closed unit) d may records limit place.0
 
 -- the journal is ready for what comes next

@@ -1,7 +1,7 @@
 ghost use Rattle.std.specs.Prelude.{◌≡◌, ◌↔◌, ◌∷◌, List, reverse, is_some, IfSome, IsNone, IfOk, OnOk, OnErr, IfErr};
 ghost use Rattle.std.specs.Prelude.{Err};
 ghost use Rattle.dali_journal.specs.JournalState.{IsLimit};
-ghost use Rattle.dali_gear.specs.Chain.{Chain};
+ghost use Rattle.dali_bus.specs.Chain.{Chain};
 ghost use Rattle.dali_trace.specs.declared.happening.Happening.{Happening};
 ghost use Rattle.dali_writer.specs.declared.fault.RunFault.TheVariants as faults;
 ghost use Rattle.dali_trace.specs.Trace.{Start, is_busy};

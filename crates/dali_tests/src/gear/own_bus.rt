@@ -10,7 +10,7 @@ struct TestBus {
 }
 
 impl Bus for TestBus {
-    ghost use Rattle.dali_gear.specs.Carry.{WorldStep};
+    ghost use Rattle.dali_bus.specs.Carry.{WorldStep};
     ghost use Rattle.dali_tests.specs.TestBus.{lone_unit};
 
     ghost world = { λ bus. lone_unit bus.dtr0 };

@@ -1,10 +1,10 @@
 ghost use Rattle.std.specs.Prelude.{◌≡◌, ℕ, true, false, Option, Some, None};
 ghost use Rattle.dali_frame.specs.declared.forward.Frame.TheVariants.{Dtr0, Dtr1, Write, Enable, AskDtr0, AskDtr1};
 ghost use Rattle.dali_frame.specs.declared.forward.Frame.TheVariants.{Read};
-ghost use Rattle.dali_gear.specs.World.{Gear, World};
-ghost use Rattle.dali_gear.specs.Hears.{Hears};
-ghost use Rattle.dali_gear.specs.Carry.{Carry};
-ghost use Rattle.dali_gear.specs.WorkedFrames.{small, moved, written, pair};
+ghost use Rattle.dali_bus.specs.World.{Gear, World};
+ghost use Rattle.dali_bus.specs.Hears.{Hears};
+ghost use Rattle.dali_bus.specs.Carry.{Carry};
+ghost use Rattle.dali_bus.specs.WorkedFrames.{small, moved, written, pair};
 
 // What a write-enabled unit at address 5, whose registers name 03h of bank 1 with 07h there, may do with a frame.
 fn what_a_unit_may_do()

@@ -50,7 +50,7 @@ struct HostileBus {
 }
 
 impl Bus for HostileBus {
-    ghost use Rattle.dali_gear.specs.Carry.{WorldStep};
+    ghost use Rattle.dali_bus.specs.Carry.{WorldStep};
     ghost use Rattle.dali_tests.specs.HostileBus.{world_of_both};
 
     ghost world = { λ bus. world_of_both bus.first bus.second };

@@ -1,7 +1,7 @@
 ghost use Rattle.std.specs.Prelude.{◌≡◌, ◌≤◌, ◌↔◌, ℕ, replicate, List, [], ◌∷◌, ◌++◌, length, Some, None};
-ghost use Rattle.dali_gear.specs.Chain.{IsChain};
+ghost use Rattle.dali_bus.specs.Chain.{IsChain};
 ghost use Rattle.dali_gear.specs.SimState.{SimState, SimStep, world_of};
-ghost use Rattle.dali_gear.specs.Unenabled.{NoneEnabled};
+ghost use Rattle.dali_bus.specs.Unenabled.{NoneEnabled};
 ghost use Rattle.dali_journal.specs.declared.record.Code.TheVariants as Code;
 ghost use Rattle.dali_journal.specs.declared.standing.Standing.TheVariants as Standing;
 ghost use Rattle.dali_trace.specs.declared.happening.Reply.TheVariants as Reply;

@@ -2,7 +2,7 @@ use Rattle.std.proofs.Common.{refl, sym, ap, ◌∙◌, reverse, [], arith}
 use Rattle.std.proofs.lemmas.List.{take_all}
 use Rattle.std.proofs.lemmas.Result.{err_from_is_err_and}
 use Rattle.dali_journal.specs.Spelling.{journal_spelling}
-use Rattle.dali_gear.specs.Chain.{Chain}
+use Rattle.dali_bus.specs.Chain.{Chain}
 use Rattle.dali_trace.specs.Moves.{MovesBy}
 use Rattle.dali_trace.specs.Runs.{fresh}
 use Rattle.dali_trace.specs.Parts.{AreParts}

@@ -1,5 +1,5 @@
 use Rattle.std.proofs.Common.{reverse, take}
-use Rattle.dali_gear.specs.Chain.{Chain}
+use Rattle.dali_bus.specs.Chain.{Chain}
 use Rattle.dali_trace.specs.Parts.{AreParts}
 use Rattle.dali_trace.specs.Moves.{MovesBy}
 use Rattle.dali_trace.specs.Runs.{fresh, SendsAllProper, AsksAllProper}

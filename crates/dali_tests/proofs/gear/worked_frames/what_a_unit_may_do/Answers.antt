@@ -1,5 +1,5 @@
-use Rattle.dali_gear.proofs.WorkedFrameLemmas.{stores, refuses, is_enabled_by_one, stays_unenabled, reads}
-use Rattle.dali_gear.proofs.WorkedFrameLemmas.{tells_and_ends}
+use Rattle.dali_bus.proofs.WorkedFrameLemmas.{stores, refuses, is_enabled_by_one, stays_unenabled, reads}
+use Rattle.dali_bus.proofs.WorkedFrameLemmas.{tells_and_ends}
 use Rattle.dali_tests.proofs.gear.worked_frames.what_a_unit_may_do.Goals as goal
 
 pub returns-clause-stores : goal.returns-clause-stores

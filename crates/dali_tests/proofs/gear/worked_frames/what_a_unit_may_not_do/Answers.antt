@@ -1,6 +1,6 @@
-use Rattle.dali_gear.proofs.WorkedFrameLemmas.{not_elsewhere, not_another_answer, not_unenabled, not_by_another}
-use Rattle.dali_gear.proofs.WorkedFrameLemmas.{not_still_enabled, not_from_nowhere, not_for_another}
-use Rattle.dali_gear.proofs.WorkedFrameLemmas.{not_another_register, not_dtr0_by_dtr1}
+use Rattle.dali_bus.proofs.WorkedFrameLemmas.{not_elsewhere, not_another_answer, not_unenabled, not_by_another}
+use Rattle.dali_bus.proofs.WorkedFrameLemmas.{not_still_enabled, not_from_nowhere, not_for_another}
+use Rattle.dali_bus.proofs.WorkedFrameLemmas.{not_another_register, not_dtr0_by_dtr1}
 use Rattle.dali_tests.proofs.gear.worked_frames.what_a_unit_may_not_do.Goals as goal
 
 pub returns-clause-elsewhere : goal.returns-clause-elsewhere

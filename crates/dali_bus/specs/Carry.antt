@@ -1,8 +1,8 @@
 -- What a bus may do to the units that it reaches.
 use Rattle.std.specs.Prelude.{◌≡◌, ℕ, ◌⊎◌, Option, Some, None, ⊤}
 use Rattle.dali_frame.specs.declared.forward.Frame.{Frame}
-use Rattle.dali_gear.specs.World.{Gear, World}
-use Rattle.dali_gear.specs.Hears.{Hears}
+use Rattle.dali_bus.specs.World.{Gear, World}
+use Rattle.dali_bus.specs.Hears.{Hears}
 
 -- the unit at this address heard the frame, and gave some answer or none
 abbrev pub Heard : ℕ → Gear → Frame → Gear → Type 0

@@ -5,11 +5,11 @@ use Rattle.std.specs.List.{AllByRecursion}
 use Rattle.dali_frame.specs.declared.forward.Frame.{Frame}
 use Rattle.dali_frame.specs.declared.forward.Frame.TheVariants.{Dtr0, Dtr1, Dtr2, Write, WriteSilent, Enable, AskDtr0}
 use Rattle.dali_frame.specs.declared.forward.Frame.TheVariants.{AskDtr1, AskDtr2, Read, Other}
-use Rattle.dali_gear.specs.World.{Gear, World, byte_in, is_open, SameAddresses, SameBytes}
-use Rattle.dali_gear.specs.Hears.{Obeys, MayEnd, PassesBy, Stores, Ignores, Tells}
-use Rattle.dali_gear.specs.Carry.{BusEvent, Carried, WorldStep, MayHear}
-use Rattle.dali_gear.specs.Chain.{IsChain, AtEachMoment}
-use Rattle.dali_gear.specs.Unenabled.{NoneEnabled, MayEnable, EnablesNone, UnenabledMemoryStays}
+use Rattle.dali_bus.specs.World.{Gear, World, byte_in, is_open, SameAddresses, SameBytes}
+use Rattle.dali_bus.specs.Hears.{Obeys, MayEnd, PassesBy, Stores, Ignores, Tells}
+use Rattle.dali_bus.specs.Carry.{BusEvent, Carried, WorldStep, MayHear}
+use Rattle.dali_bus.specs.Chain.{IsChain, AtEachMoment}
+use Rattle.dali_bus.specs.Unenabled.{NoneEnabled, MayEnable, EnablesNone, UnenabledMemoryStays}
 
 -- the unit isn't write-enabled, and its memory is as it was
 record Kept (old new : Gear) : Type 0 where

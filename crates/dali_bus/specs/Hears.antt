@@ -7,7 +7,7 @@ use Rattle.std.specs.Prelude.{if◌then◌else◌}
 use Rattle.dali_frame.specs.declared.forward.Frame.{Frame}
 use Rattle.dali_frame.specs.declared.forward.Frame.TheVariants.{Dtr0, Dtr1, Dtr2, Write, WriteSilent, Enable, AskDtr0}
 use Rattle.dali_frame.specs.declared.forward.Frame.TheVariants.{AskDtr1, AskDtr2, Read, Other}
-use Rattle.dali_gear.specs.World.{Gear, stored}
+use Rattle.dali_bus.specs.World.{Gear, stored}
 
 -- DTR0 after it moved on: it stays at FFh
 abbrev pub up : ℕ → ℕ

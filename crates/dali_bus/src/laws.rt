@@ -1,9 +1,9 @@
 //! Laws of the world of units. Each is the contract of a function that does nothing.
 
 ghost use Rattle.std.specs.Prelude.{List, map};
-ghost use Rattle.dali_gear.specs.Carry.{BusEvent, WorldStep};
-ghost use Rattle.dali_gear.specs.Chain.{IsChain};
-ghost use Rattle.dali_gear.specs.Unenabled.{UnenabledMemoryStays};
+ghost use Rattle.dali_bus.specs.Carry.{BusEvent, WorldStep};
+ghost use Rattle.dali_bus.specs.Chain.{IsChain};
+ghost use Rattle.dali_bus.specs.Unenabled.{UnenabledMemoryStays};
 
 use crate::bus::Bus;
 

@@ -6,8 +6,8 @@ use dali_frame::Frame;
 /// goes. What it does is its own, as long as its units could do it (IEC 62386-102: memory access).
 pub trait Bus {
     ghost use Rattle.dali_frame.specs.Frame.{IsProper};
-    ghost use Rattle.dali_gear.specs.World.{World};
-    ghost use Rattle.dali_gear.specs.Carry.{BusEvent, Carried, WorldStep};
+    ghost use Rattle.dali_bus.specs.World.{World};
+    ghost use Rattle.dali_bus.specs.Carry.{BusEvent, Carried, WorldStep};
 
     /// The units that a state of the bus shows.
     ghost world: { Self → World };

@@ -1,7 +1,7 @@
 -- How chains grow, what holds along them, and which chains they show.
 use Rattle.std.proofs.Common.{List, [], ◌∷◌, ◌++◌, map, reverse, refl, ap, sym, subst}
 use Rattle.std.proofs.lemmas.List.{reverse-append}
-use Rattle.dali_gear.specs.Chain.{IsChain, AtEachMoment, Chain}
+use Rattle.dali_bus.specs.Chain.{IsChain, AtEachMoment, Chain}
 
 -- the chain of no happening
 pub chain_at : {S E : Type 0} {step : S → E → S → Type 0} (state : S) → Chain step state [] state

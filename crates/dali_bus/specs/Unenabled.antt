@@ -3,9 +3,9 @@ use Rattle.std.specs.Prelude.{◌≡◌, ℕ, false, List, IsSome, ⊤}
 use Rattle.std.specs.List.{AllByRecursion}
 use Rattle.dali_frame.specs.declared.forward.Frame.{Frame}
 use Rattle.dali_frame.specs.declared.forward.Frame.TheVariants.{Enable, Other}
-use Rattle.dali_gear.specs.World.{World, is_enabled, SameBytes}
-use Rattle.dali_gear.specs.Carry.{BusEvent, Carried, WorldStep}
-use Rattle.dali_gear.specs.Chain.{IsChain, AtEachMoment}
+use Rattle.dali_bus.specs.World.{World, is_enabled, SameBytes}
+use Rattle.dali_bus.specs.Carry.{BusEvent, Carried, WorldStep}
+use Rattle.dali_bus.specs.Chain.{IsChain, AtEachMoment}
 
 -- no unit is write-enabled
 abbrev pub NoneEnabled : World → Type 0

@@ -1,6 +1,6 @@
 -- A small unit and two of them, near the edges of what units and buses may do.
-use Rattle.std.specs.Prelude.{ℕ, Bool, Some, None, ◌==◌, ◌&&◌, if◌then◌else◌}
-use Rattle.dali_gear.specs.World.{Memory, Gear, World, stored}
+use Rattle.std.specs.Prelude.{ℕ, Bool, true, Some, None, ◌==◌, ◌&&◌, if◌then◌else◌}
+use Rattle.dali_bus.specs.World.{Memory, Gear, World, stored}
 
 -- bank 1 with an open lock byte and one place behind it
 abbrev pub two_places : Memory
@@ -18,6 +18,10 @@ moved enabled = record (small enabled) { dtr0 = 4 }
 -- and with 09h stored at this location of bank 1
 abbrev pub written : Bool → ℕ → Gear
 written enabled location = record (small enabled) { dtr0 = 4; memory = stored two_places 1 location 9 }
+
+-- the same at the last location that there may be
+abbrev pub at_the_end : Gear
+at_the_end = record (small true) { dtr0 = 0xFF }
 
 -- units at addresses 5 and 6
 abbrev pub pair : Gear → Gear → World

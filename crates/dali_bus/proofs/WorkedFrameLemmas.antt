@@ -3,10 +3,10 @@ use Rattle.std.proofs.lemmas.Bool.{eqb-true}
 use Rattle.std.proofs.Common.{◌≡◌, ℕ, Bool, true, false, inl, inr, Option, Some, None, refl, sym, subst, arith, ap, ◌∙◌}
 use Rattle.std.proofs.Common.{◌==◌}
 use Rattle.dali_frame.specs.declared.forward.Frame.TheVariants.{Dtr0, Dtr1, Write, Enable, AskDtr0, AskDtr1, Read}
-use Rattle.dali_gear.specs.World.{Gear, Memory, World}
-use Rattle.dali_gear.specs.Hears.{Hears, Obeys, MayEnd}
-use Rattle.dali_gear.specs.Carry.{Carry, MayHear}
-use Rattle.dali_gear.specs.WorkedFrames.{small, moved, written, pair}
+use Rattle.dali_bus.specs.World.{Gear, Memory, World}
+use Rattle.dali_bus.specs.Hears.{Hears, Obeys, MayEnd}
+use Rattle.dali_bus.specs.Carry.{Carry, MayHear}
+use Rattle.dali_bus.specs.WorkedFrames.{at_the_end, small, moved, written, pair}
 
 -- what may be
 
@@ -16,6 +16,9 @@ stores = record { obeyed = written true 3; obeys = inl ((refl, refl, refl), refl
 pub refuses : Hears 5 (small true) (Write 9) None (moved true)
 refuses = record { obeyed = moved true; obeys = inr (4, inl refl, refl, refl); ends = inl refl }
 
+pub refuses_and_stays : Hears 5 (small true) (Write 9) None (small true)
+refuses_and_stays = record { obeyed = small true; obeys = inr (3, inr refl, refl, refl); ends = inl refl }
+
 pub is_enabled_by_one : Hears 5 (small false) (Enable 5) None (small true)
 is_enabled_by_one = record { obeyed = small true; obeys = inl (refl, refl, refl); ends = inl refl }
 
@@ -24,6 +27,12 @@ stays_unenabled = record { obeyed = small false; obeys = inr (refl, refl); ends 
 
 pub reads : Hears 5 (small true) (Read 5) (Some 7) (moved false)
 reads = record { obeyed = moved false; obeys = inl (refl, inl (refl, refl, refl)); ends = inl refl }
+
+pub reads_nothing : Hears 5 (moved true) (Read 5) None (moved true)
+reads_nothing = record { obeyed = moved true; obeys = inl (refl, inr (refl, (4, inr refl, refl, refl))); ends = inl refl }
+
+pub stays_at_ffh : Hears 5 at_the_end (Write 9) None at_the_end
+stays_at_ffh = record { obeyed = at_the_end; obeys = inr (0xFF, inl refl, refl, refl); ends = inl refl }
 
 pub tells_and_ends : Hears 5 (small true) (AskDtr0 5) (Some 3) (small false)
 tells_and_ends = record { obeyed = small true; obeys = inl (refl, (refl, refl)); ends = inr refl }
@@ -101,6 +110,15 @@ not_another_register new h = by h.obeys where
 dtr0_kept : (old new : Gear) → MayEnd old new → new.dtr0 ≡ old.dtr0
 dtr0_kept old new (inl same) = ap (λ (g : Gear). g.dtr0) same
 dtr0_kept old new (inr same) = ap (λ (g : Gear). g.dtr0) same
+
+pub not_from_the_start_again : Hears 5 at_the_end (Write 9) None (record at_the_end { dtr0 = 0 }) → ⊥
+not_from_the_start_again h = by h.obeyed h.obeys h.ends where
+  by : (obeyed : Gear) → Obeys 5 at_the_end (Write 9) None obeyed → MayEnd obeyed (record at_the_end { dtr0 = 0 }) → ⊥
+  by obeyed (inl did) ends = let none : None ≡ Some 9 = did.1 in cc
+  by obeyed (inr (dtr0, inl goes, is, none)) ends =
+      omega (arith, goes, dtr0_kept obeyed (record at_the_end { dtr0 = 0 }) ends ∙ ap (λ (g : Gear). g.dtr0) is)
+  by obeyed (inr (dtr0, inr stays, is, none)) ends =
+      omega (arith, stays, dtr0_kept obeyed (record at_the_end { dtr0 = 0 }) ends ∙ ap (λ (g : Gear). g.dtr0) is)
 
 pub not_dtr0_by_dtr1 : Hears 5 (small true) (Dtr1 4) None (moved true) → ⊥
 not_dtr0_by_dtr1 h = omega (arith, dtr0_kept h.obeyed (moved true) h.ends ∙ ap (λ (g : Gear). g.dtr0) h.obeys.0)

@@ -1,0 +1,6 @@
+pub mod World
+pub mod Hears
+pub mod Carry
+pub mod Chain
+pub mod Unenabled
+pub mod WorkedFrames

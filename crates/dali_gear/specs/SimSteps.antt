@@ -54,7 +54,7 @@ enable_keeps unit true false = refl
 enable_keeps unit false half_pair = refl
 
 -- a frame keeps the address
-frame_keeps : (refuses : Bool) (unit : UnitState) (frame : Frame)
+pub frame_keeps : (refuses : Bool) (unit : UnitState) (frame : Frame)
     → (after_frame refuses unit frame).address ≡ unit.address
 frame_keeps refuses unit (Dtr0 byte) = refl
 frame_keeps refuses unit (Dtr1 byte) = refl

@@ -123,84 +123,7 @@ at_start holds start (Stopped ∷ past) last (state ∷ states) legal each =
       before = state ∷ states;
       each = each;
     }
-at_start holds start (Asked order ∷ past) last (state ∷ states) legal each =
-    let m = at_start holds start past state states legal.0 each.1 in
-    record {
-      moment = m.moment;
-      stands = m.stands;
-      so = m.so;
-      legal = m.legal;
-      begun = m.begun;
-      before = m.before;
-      each = m.each;
-    }
-at_start holds start (Sent frame answer ∷ past) last (state ∷ states) legal each =
-    let m = at_start holds start past state states legal.0 each.1 in
-    record {
-      moment = m.moment;
-      stands = m.stands;
-      so = m.so;
-      legal = m.legal;
-      begun = m.begun;
-      before = m.before;
-      each = m.each;
-    }
-at_start holds start (Kept entry ∷ past) last (state ∷ states) legal each =
-    let m = at_start holds start past state states legal.0 each.1 in
-    record {
-      moment = m.moment;
-      stands = m.stands;
-      so = m.so;
-      legal = m.legal;
-      begun = m.begun;
-      before = m.before;
-      each = m.each;
-    }
-at_start holds start (Answered id (replies.Kept code) ∷ past) last (state ∷ states) legal each =
-    let m = at_start holds start past state states legal.0 each.1 in
-    record {
-      moment = m.moment;
-      stands = m.stands;
-      so = m.so;
-      legal = m.legal;
-      begun = m.begun;
-      before = m.before;
-      each = m.each;
-    }
-at_start holds start (Answered id replies.IdReused ∷ past) last (state ∷ states) legal each =
-    let m = at_start holds start past state states legal.0 each.1 in
-    record {
-      moment = m.moment;
-      stands = m.stands;
-      so = m.so;
-      legal = m.legal;
-      begun = m.begun;
-      before = m.before;
-      each = m.each;
-    }
-at_start holds start (Answered id replies.Busy ∷ past) last (state ∷ states) legal each =
-    let m = at_start holds start past state states legal.0 each.1 in
-    record {
-      moment = m.moment;
-      stands = m.stands;
-      so = m.so;
-      legal = m.legal;
-      begun = m.begun;
-      before = m.before;
-      each = m.each;
-    }
-at_start holds start (Answered id replies.Full ∷ past) last (state ∷ states) legal each =
-    let m = at_start holds start past state states legal.0 each.1 in
-    record {
-      moment = m.moment;
-      stands = m.stands;
-      so = m.so;
-      legal = m.legal;
-      begun = m.begun;
-      before = m.before;
-      each = m.each;
-    }
-at_start holds start (Answered id (replies.Blocked unit) ∷ past) last (state ∷ states) legal each =
+at_start holds start (_ ∷ past) last (state ∷ states) legal each =
     let m = at_start holds start past state states legal.0 each.1 in
     record {
       moment = m.moment;
@@ -274,26 +197,14 @@ opened_was : (limit : Start) (zero : World) (past : List Happening) (last : SimS
 opened_was limit zero [] last states unit legal each none opened =
     let never : HasBeenOpened unit [] = subst (HasBeenOpened unit) none opened in absurd never
 opened_was limit zero (next ∷ past) last [] unit legal each none opened = absurd each
-opened_was limit zero (Asked order ∷ past) last (state ∷ states) unit legal each none opened =
-    opened_was limit zero past state states unit legal.0 each.1 none opened
-opened_was limit zero (Answered id reply ∷ past) last (state ∷ states) unit legal each none opened =
-    opened_was limit zero past state states unit legal.0 each.1 none opened
-opened_was limit zero (Sent frame answer ∷ past) last (state ∷ states) unit legal each none opened =
-    opened_was limit zero past state states unit legal.0 each.1 none opened
-opened_was limit zero (Stopped ∷ past) last (state ∷ states) unit legal each none opened =
-    opened_was limit zero past state states unit legal.0 each.1 none opened
-opened_was limit zero (Kept (Began order) ∷ past) last (state ∷ states) unit legal each none opened =
-    opened_was limit zero past state states unit legal.0 each.1 none opened
-opened_was limit zero (Kept (Ended code) ∷ past) last (state ∷ states) unit legal each none opened =
-    opened_was limit zero past state states unit legal.0 each.1 none opened
-opened_was limit zero (Kept (Closed closed) ∷ past) last (state ∷ states) unit legal each none opened =
-    opened_was limit zero past state states unit legal.0 each.1 none opened
 opened_was limit zero (Kept (Opened other) ∷ past) last (state ∷ states) unit legal each none (inr earlier) =
     opened_was limit zero past state states unit legal.0 each.1 none earlier
 opened_was limit zero (Kept (Opened other) ∷ past) last (state ∷ states) unit legal each none (inl same) =
     let fits = each.0.0 in
     let held = held_length (world_of last.units) (standing_at limit past) other each.0.3 in
     subst (λ (a : ℕ). is_some (byte_at zero a 1 0) ≡ true) same (sym (fits.places other 1 0) ∙ held)
+opened_was limit zero (_ ∷ past) last (state ∷ states) unit legal each none opened =
+    opened_was limit zero past state states unit legal.0 each.1 none opened
 
 -- the right moments of a chain of the simulated bus
 abbrev pub RightAlong : World → Start → List Happening → SimState → List SimState → Type 0

@@ -10,61 +10,12 @@ use Rattle.dali_bus.specs.Hears.{Hears, MayEnd, up}
 use Rattle.dali_bus.specs.Carry.{Carry, MayHear, MayAnswer}
 use Rattle.dali_gear.specs.UnitState.{UnitState, with_byte, has_bank, carries_out, stores, after_frame, answer_to}
 use Rattle.dali_gear.specs.UnitState.{gear_of}
+use Rattle.dali_gear.specs.SimSteps.{frame_keeps}
 use Rattle.dali_tests.specs.HostileBus.{DoesHear, MayBeDeaf, world_of_both}
-
--- a unit stays at its address
-write_stays : (unit : UnitState) (byte : ℕ) (carried done first : Bool)
-    → (if carried
-    then record (if done
-    then (if first
-    then record unit { bank1 = with_byte unit.bank1 unit.dtr0 byte }
-    else record unit { bank2 = with_byte unit.bank2 unit.dtr0 byte })
-    else unit) { dtr0 = up unit.dtr0 }
-    else unit).address
-    ≡ unit.address
-write_stays unit byte true true true = refl
-write_stays unit byte true true false = refl
-write_stays unit byte true false first = refl
-write_stays unit byte false done first = refl
-
-read_stays : (unit : UnitState) (mine has : Bool)
-    → (if mine
-    then (if has then record unit { enabled = false; dtr0 = up unit.dtr0 } else record unit { enabled = false })
-    else unit).address
-    ≡ unit.address
-read_stays unit true true = refl
-read_stays unit true false = refl
-read_stays unit false has = refl
-
-enable_stays : (unit : UnitState) (mine half : Bool)
-    → (if mine
-    then (if half then record unit { enabled = true; half_pair = false } else record unit { half_pair = true })
-    else record unit { half_pair = false }).address
-    ≡ unit.address
-enable_stays unit true true = refl
-enable_stays unit true false = refl
-enable_stays unit false half = refl
-
-stays : (unit : UnitState) (frame : Frame) → (after_frame false unit frame).address ≡ unit.address
-stays unit (Dtr0 byte) = refl
-stays unit (Dtr1 byte) = refl
-stays unit (Dtr2 byte) = refl
-stays unit (Write byte) =
-    let half : UnitState = record unit { half_pair = false } in
-    write_stays half byte (carries_out half) (stores false half) (half.dtr1 == 1)
-stays unit (WriteSilent byte) =
-    let half : UnitState = record unit { half_pair = false } in
-    write_stays half byte (carries_out half) (stores false half) (half.dtr1 == 1)
-stays unit (Enable to) = enable_stays unit (to == unit.address) unit.half_pair
-stays unit (AskDtr0 to) = refl
-stays unit (AskDtr1 to) = refl
-stays unit (AskDtr2 to) = refl
-stays unit (Read to) = read_stays (record unit { half_pair = false }) (to == unit.address) (has_bank unit.dtr1)
-stays unit (Other word) = refl
 
 pub heard : (unit new : UnitState) (frame : Frame) (answer : Option ℕ) → new ≡ after_frame false unit frame
     → Hears unit.address (gear_of unit) frame answer (gear_of new) → DoesHear unit frame answer new
-heard unit new frame answer after hears = (ap (λ (u : UnitState). u.address) after ∙ stays unit frame, hears)
+heard unit new frame answer after hears = (ap (λ (u : UnitState). u.address) after ∙ frame_keeps false unit frame, hears)
 
 -- after two frames of a pair the unit is enabled, as it may be after one
 enabled_once : (unit : UnitState) (to : ℕ) (mine half : Bool) → (to == unit.address) ≡ mine → unit.half_pair ≡ half
@@ -101,8 +52,8 @@ pub one_is_enough : (unit half new : UnitState) (frame : Frame) (to : ℕ) (answ
     → half ≡ after_frame false unit frame
     → new ≡ after_frame false half frame → answer ≡ answer_to false unit frame → DoesHear unit frame answer new
 one_is_enough unit half new frame to answer is first second answered = (
-  ap (λ (u : UnitState). u.address) second ∙ stays half frame ∙ ap (λ (u : UnitState). u.address) first
-      ∙ stays unit frame,
+  ap (λ (u : UnitState). u.address) second ∙ frame_keeps false half frame ∙ ap (λ (u : UnitState). u.address) first
+      ∙ frame_keeps false unit frame,
   rw (answered, second, first, is) (enabled_once unit to (to == unit.address) unit.half_pair refl refl),
 )
 

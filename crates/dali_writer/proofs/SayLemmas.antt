@@ -81,24 +81,8 @@ pub blocks : (order unit id : ℕ) (ask : Ask) (reply : Reply) → closing_of or
     → Blocks order unit id ask reply
 blocks order unit id (asks.Send frame) reply e = cc
 blocks order unit id (asks.Ended verdicts.Closed) reply e = cc
-blocks order unit id (asks.Ended verdicts.MayOpen) reply e =
-    record { verdict = verdicts.MayOpen; ended = refl; other = λ same. cc; number = cc; blocked = cc }
-blocks order unit id (asks.Ended verdicts.Done) reply e =
-    record { verdict = verdicts.Done; ended = refl; other = λ same. cc; number = cc; blocked = cc }
-blocks order unit id (asks.Ended verdicts.Short) reply e =
-    record { verdict = verdicts.Short; ended = refl; other = λ same. cc; number = cc; blocked = cc }
-blocks order unit id (asks.Ended verdicts.Format) reply e =
-    record { verdict = verdicts.Format; ended = refl; other = λ same. cc; number = cc; blocked = cc }
-blocks order unit id (asks.Ended verdicts.Silent) reply e =
-    record { verdict = verdicts.Silent; ended = refl; other = λ same. cc; number = cc; blocked = cc }
-blocks order unit id (asks.Ended verdicts.Doubt) reply e =
-    record { verdict = verdicts.Doubt; ended = refl; other = λ same. cc; number = cc; blocked = cc }
-blocks order unit id (asks.Ended verdicts.DoubtOpen) reply e =
-    record { verdict = verdicts.DoubtOpen; ended = refl; other = λ same. cc; number = cc; blocked = cc }
-blocks order unit id (asks.Ended verdicts.NotClosed) reply e =
-    record { verdict = verdicts.NotClosed; ended = refl; other = λ same. cc; number = cc; blocked = cc }
-blocks order unit id (asks.Ended verdicts.Read) reply e =
-    record { verdict = verdicts.Read; ended = refl; other = λ same. cc; number = cc; blocked = cc }
+blocks order unit id (asks.Ended verdict) reply e =
+    record { verdict = verdict; ended = refl; other = λ same. cc; number = cc; blocked = cc }
 
 -- a closing session that isn't closed ends as NotClosed
 pub not_closed : (verdict : Verdict) → EndsClosing verdict → (verdict ≡ verdicts.Closed → ⊥)

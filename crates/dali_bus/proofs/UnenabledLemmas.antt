@@ -1,15 +1,18 @@
 -- Nothing writes where no unit is write-enabled and none is told to be.
 use Rattle.std.proofs.Common.{◌≡◌, ◌≢◌, ℕ, Bool, true, false, inl, inr, ◌⊎◌, List, [], ◌∷◌, Option, Some, None, is_some}
-use Rattle.std.proofs.Common.{IsSome, refl, sym, subst, ◌∙◌}
+use Rattle.std.proofs.Common.{IsSome, refl, sym, subst, ap, zero, suc, arith, ◌∙◌, ◌≤◌, ◌<◌}
+use Rattle.std.specs.Prelude.{◌==◌}
+use Rattle.std.proofs.lemmas.Bool.{eqb-true, eqb-false}
 use Rattle.std.specs.List.{AllByRecursion}
 use Rattle.dali_frame.specs.declared.forward.Frame.{Frame}
 use Rattle.dali_frame.specs.declared.forward.Frame.TheVariants.{Dtr0, Dtr1, Dtr2, Write, WriteSilent, Enable, AskDtr0}
 use Rattle.dali_frame.specs.declared.forward.Frame.TheVariants.{AskDtr1, AskDtr2, Read, Other}
-use Rattle.dali_bus.specs.World.{Gear, World, byte_in, is_open, SameAddresses, SameBytes}
+use Rattle.dali_bus.specs.World.{Gear, World, byte_in, byte_at, is_open, is_enabled, SameAddresses}
 use Rattle.dali_bus.specs.Hears.{Obeys, MayEnd, PassesBy, Stores, Ignores, Tells}
-use Rattle.dali_bus.specs.Carry.{BusEvent, Carried, WorldStep, MayHear}
+use Rattle.dali_bus.specs.Power.{locked, PowersUp, MayPowerUp, LosesPower}
+use Rattle.dali_bus.specs.Carry.{BusEvent, Carried, Powered, WorldStep, MayHear, HasLostPower}
 use Rattle.dali_bus.specs.Chain.{IsChain, AtEachMoment}
-use Rattle.dali_bus.specs.Unenabled.{NoneEnabled, MayEnable, EnablesNone, UnenabledMemoryStays}
+use Rattle.dali_bus.specs.Unenabled.{NoneEnabled, MayEnable, EnablesNone, HoldsAsBefore, UnenabledMemoryStays}
 
 -- the unit isn't write-enabled, and its memory is as it was
 record Kept (old new : Gear) : Type 0 where
@@ -103,16 +106,84 @@ none_at world at (AskDtr1 to) some quiet = λ f. f
 none_at world at (AskDtr2 to) some quiet = λ f. f
 none_at world at (Read to) some quiet = λ f. f
 
--- the world at a moment: no unit is write-enabled, and units and bytes are those of the first world
-record StillShut (first world : World) : Type 0 where
+-- what a place holds after its unit lost power
+locked_again : (byte : Option ℕ) → locked (locked byte) ≡ locked byte
+locked_again None = refl
+locked_again (Some byte) = refl
+
+-- what a unit's memory is after power-up: a lock byte, and any place
+powered_lock : (old new : Gear) (bank : ℕ) → PowersUp old new
+    → (new.memory bank 2 ≡ old.memory bank 2) ⊎ ((1 ≤ bank) × (new.memory bank 2 ≡ locked (old.memory bank 2)))
+powered_lock old new zero powers = inl (powers.rest 0 2 (inl refl))
+powered_lock old new (suc zero) powers = inr (omega arith, powers.lock)
+powered_lock old new (suc (suc more)) powers = elim (powers.other_locks (suc (suc more)) (omega arith)) [
+  | inl is ↦ inr (omega arith, is)
+  | inr same ↦ inl same
+]
+
+powered_place : (old new : Gear) (bank location : ℕ) → PowersUp old new
+    → (new.memory bank location ≡ old.memory bank location)
+    ⊎ ((1 ≤ bank) × (location ≡ 2) × (new.memory bank location ≡ locked (old.memory bank location)))
+powered_place old new bank location powers = by (location == 2) refl
+  where
+    by : (is : Bool) → (location == 2) ≡ is
+        → (new.memory bank location ≡ old.memory bank location)
+        ⊎ ((1 ≤ bank) × (location ≡ 2) × (new.memory bank location ≡ locked (old.memory bank location)))
+    by false e = inl (powers.rest bank location (inr (eqb-false location 2 e)))
+    by true e =
+        let here : location ≡ 2 = eqb-true location 2 e in
+        elim (powered_lock old new bank powers) [
+          | inl same ↦ inl (rw here same)
+          | inr (above, is) ↦ inr (above, here, rw here is)
+        ]
+
+-- a unit, or none, after the unit at an address lost power
+record PoweredAt (at address : ℕ) (old new : Option Gear) : Type 0 where
+  shut : is_open old ≡ false → is_open new ≡ false
+  some : is_some new ≡ is_some old
+  bytes : (bank location : ℕ) → (byte_in new bank location ≡ byte_in old bank location)
+      ⊎ ((address ≡ at) × (1 ≤ bank) × (location ≡ 2) × (byte_in new bank location ≡ locked (byte_in old bank location)))
+
+unpowered : (at address : ℕ) (old new : Option Gear) → new ≡ old → PoweredAt at address old new
+unpowered at address old new same =
+    rw same record { shut = λ off. off; some = refl; bytes = λ bank location. inl refl }
+
+powered_there : (at : ℕ) (old new : Option Gear) → MayPowerUp old new → PoweredAt at at old new
+powered_there at None None powers = unpowered at at None None refl
+powered_there at (Some old) (Some new) powers =
+    record {
+      shut = λ off. powers.off;
+      some = refl;
+      bytes = λ bank location. elim (powered_place old new bank location powers) [
+        | inl same ↦ inl same
+        | inr (above, lock, is) ↦ inr (refl, above, lock, is)
+      ];
+    }
+powered_there at None (Some new) powers = absurd powers
+powered_there at (Some old) None powers = absurd powers
+
+powered_at : (old : World) (address : ℕ) (new : World) → LosesPower old address new
+    → (at : ℕ) → PoweredAt at address (old at) (new at)
+powered_at old address new loses at = by (at == address) refl
+  where
+    by : (is : Bool) → (at == address) ≡ is → PoweredAt at address (old at) (new at)
+    by false e = unpowered at address (old at) (new at) (loses.others at (eqb-false at address e))
+    by true e =
+        let here : at ≡ address = eqb-true at address e in
+        let there : MayPowerUp (old at) (new at) =
+        subst (λ (a : ℕ). MayPowerUp (old a) (new a)) (sym here) loses.there in
+        subst (λ (a : ℕ). PoweredAt at a (old at) (new at)) here (powered_there at (old at) (new at) there)
+
+-- the world at a moment: no unit is write-enabled, units are where they were first, and bytes as they may be
+record StillShut (first : World) (happened : List BusEvent) (world : World) : Type 0 where
   none : NoneEnabled world
   addresses : SameAddresses first world
-  bytes : SameBytes first world
+  bytes : HoldsAsBefore first happened world
 
-shut_after : (first old : World) (event : BusEvent) (new : World) → StillShut first old → EnablesNone first event
-    → WorldStep old event new
-    → StillShut first new
-shut_after first old (Carried frame answer) new shut quiet carry =
+shut_after : (first : World) (happened : List BusEvent) (old : World) (event : BusEvent) (new : World)
+    → StillShut first happened old → EnablesNone first event → WorldStep old event new
+    → StillShut first (event ∷ happened) new
+shut_after first happened old (Carried frame answer) new shut quiet carry =
     let kept : (at : ℕ) → KeptAt (old at) (new at)
     = λ at. kept_at at (old at) frame (new at) (shut.none at)
     (λ some. none_at first at frame (let P : Bool → Type 0 = λ b. b ≡ true in subst P (shut.addresses at) some) quiet)
@@ -120,22 +191,45 @@ shut_after first old (Carried frame answer) new shut quiet carry =
     record {
       none = λ at. (kept at).shut;
       addresses = λ at. (kept at).some ∙ shut.addresses at;
-      bytes = λ at bank location. (kept at).bytes bank location ∙ shut.bytes at bank location;
+      bytes = λ at bank location. rw ((kept at).bytes bank location) (shut.bytes at bank location);
     }
+shut_after first happened old (Powered address) new shut quiet loses =
+    let after : (at : ℕ) → PoweredAt at address (old at) (new at) = powered_at old address new loses in
+    record {
+      none = λ at. (after at).shut (shut.none at);
+      addresses = λ at. (after at).some ∙ shut.addresses at;
+      bytes = λ at bank location.
+          by at bank location ((after at).bytes bank location) (shut.bytes at bank location);
+    }
+  where
+    by : (at bank location : ℕ)
+        → (byte_at new at bank location ≡ byte_at old at bank location)
+        ⊎ ((address ≡ at) × (1 ≤ bank) × (location ≡ 2)
+        × (byte_at new at bank location ≡ locked (byte_at old at bank location)))
+        → (byte_at old at bank location ≡ byte_at first at bank location)
+        ⊎ (HasLostPower at happened × (1 ≤ bank) × (location ≡ 2)
+        × (byte_at old at bank location ≡ locked (byte_at first at bank location)))
+        → (byte_at new at bank location ≡ byte_at first at bank location)
+        ⊎ (HasLostPower at (Powered address ∷ happened) × (1 ≤ bank) × (location ≡ 2)
+        × (byte_at new at bank location ≡ locked (byte_at first at bank location)))
+    by at bank location (inl same) (inl before) = inl (same ∙ before)
+    by at bank location (inl same) (inr (lost, above, lock, is)) = inr (inr lost, above, lock, same ∙ is)
+    by at bank location (inr (here, above, lock, is)) (inl before) = inr (inl here, above, lock, is ∙ ap locked before)
+    by at bank location (inr (here, above, lock, is)) (inr (lost, more, again, was)) =
+        inr (inl here, above, lock, is ∙ ap locked was ∙ locked_again (byte_at first at bank location))
 
 shut_along : (first : World) (past : List BusEvent) (last : World) (states : List World) → NoneEnabled first
     → AllByRecursion (EnablesNone first) past → IsChain WorldStep first past last states
-    → StillShut first last
-    × AtEachMoment (λ (happened : List BusEvent) (world : World). SameBytes first world) past last states
+    → StillShut first past last × AtEachMoment (HoldsAsBefore first) past last states
 shut_along first [] last [] none quiet same =
-    let here : StillShut first last =
-    rw same record { none = none; addresses = λ at. refl; bytes = λ at bank location. refl } in
+    let here : StillShut first [] last =
+    rw same record { none = none; addresses = λ at. refl; bytes = λ at bank location. inl refl } in
     (here, here.bytes)
 shut_along first [] last (state ∷ states) none quiet wrong = absurd wrong
 shut_along first (newest ∷ past) last [] none quiet wrong = absurd wrong
 shut_along first (newest ∷ past) last (state ∷ states) none quiet steps =
     let before = shut_along first past state states none quiet.1 steps.1 in
-    let here = shut_after first state newest last before.0 quiet.0 steps.0 in
+    let here = shut_after first past state newest last before.0 quiet.0 steps.0 in
     (here, (here.bytes, before.1))
 
 pub unenabled_stays : UnenabledMemoryStays

@@ -1,12 +1,13 @@
 -- What a small unit may do with a frame and what it may not, and the same of a bus with two.
 use Rattle.std.proofs.lemmas.Bool.{eqb-true}
 use Rattle.std.proofs.Common.{◌≡◌, ℕ, Bool, true, false, inl, inr, Option, Some, None, refl, sym, subst, arith, ap, ◌∙◌}
-use Rattle.std.proofs.Common.{◌==◌}
+use Rattle.std.proofs.Common.{◌==◌, ◌&&◌, if◌then◌else◌}
 use Rattle.dali_frame.specs.declared.forward.Frame.TheVariants.{Dtr0, Dtr1, Write, Enable, AskDtr0, AskDtr1, Read}
-use Rattle.dali_bus.specs.World.{Gear, Memory, World}
+use Rattle.dali_bus.specs.World.{Gear, Memory, World, stored}
 use Rattle.dali_bus.specs.Hears.{Hears, Obeys, MayEnd}
 use Rattle.dali_bus.specs.Carry.{Carry, MayHear}
-use Rattle.dali_bus.specs.WorkedFrames.{at_the_end, small, moved, written, pair}
+use Rattle.dali_bus.specs.Power.{PowersUp, LosesPower}
+use Rattle.dali_bus.specs.WorkedFrames.{at_the_end, small, moved, written, pair, started, with_locks, two_places}
 
 -- what may be
 
@@ -171,3 +172,63 @@ pub not_a_third : (gear : Gear) (new : World) → new 7 ≡ Some gear
     → Carry (pair (small true) (small true)) (Write 9) None new → ⊥
 not_a_third gear new there carried =
     subst (λ (unit : Option Gear). MayHear 7 None (Write 9) unit) there (carried.units 7)
+
+-- A loss of power
+
+elsewhere : (memory : Memory) (byte bank location : ℕ) → (bank ≡ 1 → location ≡ 2 → ⊥)
+    → stored memory 1 2 byte bank location ≡ memory bank location
+elsewhere memory byte bank location never = by (bank == 1) (location == 2) refl refl
+  where
+    by : (one two : Bool) → (bank == 1) ≡ one → (location == 2) ≡ two
+        → (if one && two then Some byte else memory bank location) ≡ memory bank location
+    by true true e f = absurd (never (eqb-true bank 1 e) (eqb-true location 2 f))
+    by true false e f = refl
+    by false two e f = refl
+
+pub powers_up : PowersUp (small true) started
+powers_up = record {
+  dtr0 = refl;
+  dtr1 = refl;
+  dtr2 = refl;
+  off = refl;
+  lock = refl;
+  other_locks = λ bank above. inr (elsewhere two_places 0xFF bank 2 (λ one two. omega (arith, above, one)));
+  rest = λ bank location free. elsewhere two_places 0xFF bank location (λ one two. elim free [
+    | inl none ↦ omega (arith, none, one)
+    | inr other ↦ other two
+  ]);
+}
+
+pub not_with_a_register : PowersUp (small true) (record started { dtr1 = 1 }) → ⊥
+not_with_a_register powers = omega (arith, powers.dtr1)
+
+pub not_still_on : PowersUp (small true) (record started { enabled = true }) → ⊥
+not_still_on powers = let on : true ≡ false = powers.off in cc
+
+pub not_unlocked_again : PowersUp (small true) (record started { memory = two_places }) → ⊥
+not_unlocked_again powers = omega (arith, same_byte 0x55 0xFF powers.lock)
+
+pub not_with_another_byte : PowersUp (small true) (record started { memory = stored started.memory 1 3 9 }) → ⊥
+not_with_another_byte powers = omega (arith, same_byte 9 7 (powers.rest 1 3 (inr (λ two. omega (arith, two)))))
+
+pub bank_0_stays : PowersUp (with_locks 0x55 0x55) (with_locks 0xFF 0x55) → ⊥
+bank_0_stays powers = omega (arith, same_byte 0xFF 0x55 (powers.rest 0 2 (inl refl)))
+
+-- the lock byte of bank 2 comes up as FFh or stays, and as nothing else
+pub bank_2_not_as_00h : PowersUp (with_locks 0x55 0x55) (with_locks 0x55 0x00) → ⊥
+bank_2_not_as_00h powers = elim (powers.other_locks 2 (omega arith)) [
+  | inl is ↦ omega (arith, same_byte 0x00 0xFF is)
+  | inr same ↦ omega (arith, same_byte 0x00 0x55 same)
+]
+
+-- the unit at the address alone
+pub not_both_at_once : LosesPower (pair (small true) (small true)) 5 (pair started started) → ⊥
+not_both_at_once loses =
+    let same : Some started ≡ Some (small true) = loses.others 6 (λ six. omega (arith, six)) in
+    let dtr0 : 0 ≡ 3 = ap (λ (o : Option Gear). dtr0_of o) same in omega (arith, dtr0) where
+      dtr0_of : Option Gear → ℕ
+      dtr0_of None = 0
+      dtr0_of (Some gear) = gear.dtr0
+
+pub none_goes : LosesPower (pair (small true) (small true)) 5 (λ address. None) → ⊥
+none_goes loses = loses.there

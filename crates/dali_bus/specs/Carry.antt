@@ -1,8 +1,9 @@
--- What a bus may do to the units that it reaches.
-use Rattle.std.specs.Prelude.{◌≡◌, ℕ, ◌⊎◌, Option, Some, None, ⊤}
+-- What a bus may do to the units that it reaches, and what else may happen to them.
+use Rattle.std.specs.Prelude.{◌≡◌, ℕ, ◌⊎◌, List, [], ◌∷◌, Option, Some, None, ⊤}
 use Rattle.dali_frame.specs.declared.forward.Frame.{Frame}
 use Rattle.dali_bus.specs.World.{Gear, World}
 use Rattle.dali_bus.specs.Hears.{Hears}
+use Rattle.dali_bus.specs.Power.{LosesPower}
 
 -- the unit at this address heard the frame, and gave some answer or none
 abbrev pub Heard : ℕ → Gear → Frame → Gear → Type 0
@@ -34,10 +35,18 @@ pub record Carry (old : World) (frame : Frame) (answer : Option ℕ) (new : Worl
   pub units : (address : ℕ) → MayHear address (old address) frame (new address)
   pub answers : MayAnswer old frame answer new
 
--- what happens on a bus: a frame is carried, and this came back
+-- what happens on a bus: a frame is carried, and this came back; the unit at an address loses its power and gets it back
 pub data BusEvent : Type 0 where
   Carried : (frame : Frame) (answer : Option ℕ) → BusEvent
+  Powered : (address : ℕ) → BusEvent
 
 -- from the old world this may happen and lead to the new one
 abbrev pub WorldStep : World → BusEvent → World → Type 0
 WorldStep old (Carried frame answer) new = Carry old frame answer new
+WorldStep old (Powered address) new = LosesPower old address new
+
+-- the unit at this address has lost its power
+abbrev pub HasLostPower : ℕ → List BusEvent → Type 0
+HasLostPower at [] = ⊥
+HasLostPower at (Carried frame answer ∷ past) = HasLostPower at past
+HasLostPower at (Powered address ∷ past) = (address ≡ at) ⊎ HasLostPower at past

@@ -1,5 +1,6 @@
 pub mod World
 pub mod Hears
+pub mod Power
 pub mod Carry
 pub mod Chain
 pub mod Unenabled

@@ -1,10 +1,11 @@
 -- Memory that nothing can write: where no unit is write-enabled and none is told to be.
-use Rattle.std.specs.Prelude.{◌≡◌, ℕ, false, List, IsSome, ⊤}
+use Rattle.std.specs.Prelude.{◌≡◌, ℕ, ◌≤◌, ◌⊎◌, false, List, IsSome, ⊤}
 use Rattle.std.specs.List.{AllByRecursion}
 use Rattle.dali_frame.specs.declared.forward.Frame.{Frame}
 use Rattle.dali_frame.specs.declared.forward.Frame.TheVariants.{Enable, Other}
-use Rattle.dali_bus.specs.World.{World, is_enabled, SameBytes}
-use Rattle.dali_bus.specs.Carry.{BusEvent, Carried, WorldStep}
+use Rattle.dali_bus.specs.World.{World, is_enabled, byte_at}
+use Rattle.dali_bus.specs.Power.{locked}
+use Rattle.dali_bus.specs.Carry.{BusEvent, Carried, Powered, WorldStep, HasLostPower}
 use Rattle.dali_bus.specs.Chain.{IsChain, AtEachMoment}
 
 -- no unit is write-enabled
@@ -20,11 +21,20 @@ MayEnable world _ = ⊥
 -- what happened enables no unit of the world
 abbrev pub EnablesNone : World → BusEvent → Type 0
 EnablesNone world (Carried frame answer) = ¬ MayEnable world frame
+EnablesNone world (Powered address) = ⊤
+
+-- Each place holds what it held at first, but for lock bytes, where the unit lost power: such a one may be FFh.
+abbrev pub HoldsAsBefore : World → List BusEvent → World → Type 0
+HoldsAsBefore first happened world =
+    (address bank location : ℕ)
+    → (byte_at world address bank location ≡ byte_at first address bank location)
+    ⊎ (HasLostPower address happened × (1 ≤ bank) × (location ≡ 2)
+    × (byte_at world address bank location ≡ locked (byte_at first address bank location)))
 
 -- Along each chain of worlds in which no unit is write-enabled at first and none is told to be, each place holds at
--- each moment what it held at first.
+-- each moment what it held at first, lock bytes apart where the unit lost power.
 abbrev pub UnenabledMemoryStays : Type 0
 UnenabledMemoryStays =
     (first : World) (past : List BusEvent) (last : World) (states : List World)
     → NoneEnabled first → AllByRecursion (EnablesNone first) past → IsChain WorldStep first past last states
-    → AtEachMoment (λ (happened : List BusEvent) (world : World). SameBytes first world) past last states
+    → AtEachMoment (HoldsAsBefore first) past last states

@@ -1,5 +1,5 @@
 -- A small unit and two of them, near the edges of what units and buses may do.
-use Rattle.std.specs.Prelude.{ℕ, Bool, true, Some, None, ◌==◌, ◌&&◌, if◌then◌else◌}
+use Rattle.std.specs.Prelude.{ℕ, Bool, true, false, Some, None, ◌==◌, ◌&&◌, if◌then◌else◌}
 use Rattle.dali_bus.specs.World.{Memory, Gear, World, stored}
 
 -- bank 1 with an open lock byte and one place behind it
@@ -22,6 +22,23 @@ written enabled location = record (small enabled) { dtr0 = 4; memory = stored tw
 -- the same at the last location that there may be
 abbrev pub at_the_end : Gear
 at_the_end = record (small true) { dtr0 = 0xFF }
+
+-- the same after power-up
+abbrev pub started : Gear
+started = record { dtr0 = 0; dtr1 = 0; dtr2 = 0; enabled = false; memory = stored two_places 1 2 0xFF }
+
+-- a unit with the lock bytes of a bank 0 and a bank 2 alone
+abbrev pub with_locks : ℕ → ℕ → Gear
+with_locks zero_lock two_lock =
+    record {
+      dtr0 = 0;
+      dtr1 = 0;
+      dtr2 = 0;
+      enabled = false;
+      memory = λ bank location. if location == 2
+          then (if bank == 0 then Some zero_lock else (if bank == 2 then Some two_lock else None))
+          else None;
+    }
 
 -- units at addresses 5 and 6
 abbrev pub pair : Gear → Gear → World

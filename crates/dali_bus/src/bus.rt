@@ -3,11 +3,12 @@ use dali_frame::Frame;
 /// A bus with control gear.
 ///
 /// It may lose a frame, to any of its units, or an answer. It alters none, and no unit comes or
-/// goes. What it does is its own, as long as its units could do it (IEC 62386-102: memory access).
+/// goes; one may lose its power and get it back. What it does is its own, as long as its units
+/// could do it (IEC 62386-102: memory access).
 pub trait Bus {
     ghost use Rattle.dali_frame.specs.Frame.{IsProper};
     ghost use Rattle.dali_bus.specs.World.{World};
-    ghost use Rattle.dali_bus.specs.Carry.{BusEvent, Carried, WorldStep};
+    ghost use Rattle.dali_bus.specs.Carry.{BusEvent, Carried, Powered, WorldStep};
 
     /// The units that a state of the bus shows.
     ghost world: { Self → World };
@@ -19,6 +20,11 @@ pub trait Bus {
     fn carry(&mut self, frame: &Frame) -> Option<u8>
         requires { IsProper frame.now }
         ensures { step self.old (Carried frame.now result) self.new };
+
+    /// The unit at this address loses its power and gets it back (IEC 62386-102: power-up). Where
+    /// there is none, as over 63, nothing changes.
+    fn power(&mut self, address: u8)
+        ensures { step self.old (Powered address) self.new };
 
     /// What this bus does is what its units may do.
     ghost allowed: { (old : Self) (event : BusEvent) (new : Self) → step old event new

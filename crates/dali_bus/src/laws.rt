@@ -8,7 +8,8 @@ ghost use Rattle.dali_bus.specs.Unenabled.{UnenabledMemoryStays};
 use crate::bus::Bus;
 
 /// Where no unit is write-enabled at first, no ENABLE WRITE MEMORY is carried to a unit and no word
-/// outside the frame table is sent, no byte of any memory ever changes.
+/// outside the frame table is sent, no byte of any memory ever changes, but for the lock bytes of
+/// units that lose power.
 pub fn unenabled_memory_stays()
     ensures { UnenabledMemoryStays }
 {}

@@ -14,8 +14,8 @@ use Rattle.dali_gear.specs.Fate.{is_lost}
 use Rattle.dali_bus.specs.Hears.{up}
 use Rattle.dali_gear.specs.Faults.{IsBank}
 use Rattle.dali_gear.specs.UnitState.{BankState, UnitState, is_writable, with_byte, bank_of, has_bank, carries_out}
-use Rattle.dali_gear.specs.UnitState.{stores, after_write, after_frame}
-use Rattle.dali_gear.specs.SimState.{AreBanks, unit_after}
+use Rattle.dali_gear.specs.UnitState.{stores, after_write, after_frame, powered_up}
+use Rattle.dali_gear.specs.SimState.{AreBanks, unit_after, unit_powered}
 
 -- the frame writes nothing
 abbrev pub IsQuiet : Frame → Type 0
@@ -131,11 +131,25 @@ frame_bank unit refuses (Other w) is = quiet_bank unit refuses (Other w) tt is
 frame_bank unit refuses (Write b) is = write_bank (record unit { half_pair = false }) refuses b is
 frame_bank unit refuses (WriteSilent b) is = write_bank (record unit { half_pair = false }) refuses b is
 
-pub banks_after : (fate : Fate) (frame : Frame) (units : List UnitState) → AreBanks units
-    → AreBanks (map (unit_after fate frame) units)
-banks_after fate frame [] are = tt
-banks_after fate frame (unit ∷ units) are = (by (is_lost fate unit.address), banks_after fate frame units are.1)
+pub fate_bank : (fate : Fate) (frame : Frame) (unit : UnitState) → IsBank unit.bank1.bytes
+    → IsBank (unit_after fate frame unit).bank1.bytes
+fate_bank fate frame unit is = by (is_lost fate unit.address)
   where
     by : (lost : Bool) → IsBank (if lost then unit else after_frame fate.refuse unit frame).bank1.bytes
-    by true = are.0
-    by false = frame_bank unit fate.refuse frame are.0
+    by true = is
+    by false = frame_bank unit fate.refuse frame is
+
+-- and so has one that lost its power
+pub power_bank : (address : ℕ) (unit : UnitState) → IsBank unit.bank1.bytes
+    → IsBank (unit_powered address unit).bank1.bytes
+power_bank address unit is = by (unit.address == address)
+  where
+    by : (here : Bool) → IsBank (if here then powered_up unit else unit).bank1.bytes
+    by true = still_bank unit.bank1 2 0xFF is (λ same. omega (arith, same))
+    by false = is
+
+pub banks_after : (f : UnitState → UnitState)
+    → ((unit : UnitState) → IsBank unit.bank1.bytes → IsBank (f unit).bank1.bytes)
+    → (units : List UnitState) → AreBanks units → AreBanks (map f units)
+banks_after f keeps [] are = tt
+banks_after f keeps (unit ∷ units) are = (keeps unit are.0, banks_after f keeps units are.1)

@@ -6,11 +6,8 @@ use Rattle.std.specs.List.{filter_map, cons_option}
 use Rattle.std.proofs.lemmas.Bool.{eq-eqb, ne_eqb}
 use Rattle.std.proofs.lemmas.List.{take_more}
 use Rattle.std.proofs.lemmas.List.Elements.{filter_map-append}
-use Rattle.dali_frame.specs.declared.forward.Frame.{Frame}
-use Rattle.dali_gear.specs.declared.fate.Fate.{Fate}
 use Rattle.dali_gear.specs.UnitState.{UnitState, gear_of}
-use Rattle.dali_gear.specs.SimState.{world_of, AreApart, unit_after}
-use Rattle.dali_gear.specs.SimSteps.{fate_keeps}
+use Rattle.dali_gear.specs.SimState.{world_of, AreApart}
 
 -- behind units that aren't at an address stands what else is there
 world_behind : (units more : List UnitState) (address : ℕ) → world_of units address ≡ None
@@ -45,31 +42,25 @@ not_free (first ∷ units) (suc i) unit lt is =
     behind true rest = λ e. cc
     behind false rest = rest
 
--- no unit comes to an address
-stays_free : (fate : Fate) (frame : Frame) (units : List UnitState) (address : ℕ) → world_of units address ≡ None
-    → world_of (map (unit_after fate frame) units) address ≡ None
-stays_free fate frame [] address free = refl
-stays_free fate frame (unit ∷ units) address free =
-    rw (fate_keeps fate frame unit) (at_first (address == unit.address) (stays_free fate frame units address) free)
+-- no unit comes to an address where each stays at its own
+stays_free : (f : UnitState → UnitState) → ((unit : UnitState) → (f unit).address ≡ unit.address)
+    → (units : List UnitState) (address : ℕ) → world_of units address ≡ None → world_of (map f units) address ≡ None
+stays_free f keeps [] address free = refl
+stays_free f keeps (unit ∷ units) address free =
+    rw (keeps unit) (at_first (address == unit.address) (stays_free f keeps units address) free)
   where
-    at_first : (mine : Bool)
-        → (world_of units address ≡ None → world_of (map (unit_after fate frame) units) address ≡ None)
+    at_first : (mine : Bool) → (world_of units address ≡ None → world_of (map f units) address ≡ None)
         → (if mine then Some (gear_of unit) else world_of units address) ≡ None
-        → (if mine
-        then Some (gear_of (unit_after fate frame unit))
-        else world_of (map (unit_after fate frame) units) address)
-        ≡ None
+        → (if mine then Some (gear_of (f unit)) else world_of (map f units) address) ≡ None
     at_first true rest free = cc
     at_first false rest free = rest free
 
 -- units that are apart stay so
-pub AreApart-map : (fate : Fate) (frame : Frame) (units : List UnitState) → AreApart units
-    → AreApart (map (unit_after fate frame) units)
-AreApart-map fate frame [] apart = tt
-AreApart-map fate frame (unit ∷ units) apart = (
-  rw (fate_keeps fate frame unit) (stays_free fate frame units unit.address apart.0),
-  AreApart-map fate frame units apart.1,
-)
+pub AreApart-map : (f : UnitState → UnitState) → ((unit : UnitState) → (f unit).address ≡ unit.address)
+    → (units : List UnitState) → AreApart units → AreApart (map f units)
+AreApart-map f keeps [] apart = tt
+AreApart-map f keeps (unit ∷ units) apart =
+    (rw (keeps unit) (stays_free f keeps units unit.address apart.0), AreApart-map f keeps units apart.1)
 
 -- an element that the loop hasn't reached is as it was
 at_turn : {X : Type 0} (f : X → X) (xs : List X) (i : ℕ) (d : X)

@@ -1,13 +1,13 @@
--- What the simulated bus holds, and what it does with each frame.
+-- What the simulated bus holds, and what it does with each frame and at a loss of power.
 use Rattle.std.specs.Prelude.{◌≡◌, ℕ, ◌==◌, List, [], ◌∷◌, map, length, slice_get, Option, Some, None, ⊤, if◌then◌else◌}
 use Rattle.std.specs.List.{filter_map}
 use Rattle.dali_frame.specs.declared.forward.Frame.{Frame}
 use Rattle.dali_gear.specs.declared.fate.Fate.{Fate}
 use Rattle.dali_gear.specs.Fate.{is_lost, next_fate, fates_after}
-use Rattle.dali_gear.specs.UnitState.{UnitState, after_frame, answer_to, gear_of}
+use Rattle.dali_gear.specs.UnitState.{UnitState, after_frame, answer_to, gear_of, powered_up}
 use Rattle.dali_gear.specs.Faults.{IsBank}
 use Rattle.dali_bus.specs.World.{World}
-use Rattle.dali_bus.specs.Carry.{BusEvent, Carried}
+use Rattle.dali_bus.specs.Carry.{BusEvent, Carried, Powered}
 
 -- its units, and the fates that are left
 pub record SimState : Type 0 where
@@ -54,6 +54,18 @@ pub record SimCarry (old : SimState) (frame : Frame) (answer : Option ℕ) (new 
   pub answers : answer
       ≡ bus_answer (next_fate old.fates) (filter_map (unit_answer (next_fate old.fates) frame) old.units)
 
+-- a unit after the one at this address lost its power
+abbrev pub unit_powered : ℕ → UnitState → UnitState
+unit_powered address unit = if unit.address == address then powered_up unit else unit
+
+-- the unit at this address loses its power, if there is one, and no fate is used
+pub record SimPower (old : SimState) (address : ℕ) (new : SimState) : Type 0 where
+  pub apart : AreApart old.units
+  pub banks : AreBanks old.units
+  pub units : new.units ≡ map (unit_powered address) old.units
+  pub fates : new.fates ≡ old.fates
+
 -- what the simulated bus does when this happens
 abbrev pub SimStep : SimState → BusEvent → SimState → Type 0
 SimStep old (Carried frame answer) new = SimCarry old frame answer new
+SimStep old (Powered address) new = SimPower old address new

@@ -2,23 +2,24 @@
 --
 -- They stand in specs/ since the bus's law cites it.
 use Rattle.std.proofs.Common.{◌≡◌, ℕ, Bool, true, false, List, [], ◌∷◌, map, Option, Some, None, inl, inr, refl, sym}
-use Rattle.std.proofs.Common.{subst, ◌∙◌}
+use Rattle.std.proofs.Common.{subst, ◌∙◌, ◌≢◌}
 use Rattle.std.specs.Prelude.{◌==◌, slice_get, if◌then◌else◌}
 use Rattle.std.specs.List.{filter_map, cons_option}
-use Rattle.std.proofs.lemmas.Bool.{eqb-true, eq-eqb, ne_eqb}
+use Rattle.std.proofs.lemmas.Bool.{eqb-true, eqb-false, eq-eqb, ne_eqb}
 use Rattle.dali_frame.specs.declared.forward.Frame.{Frame}
 use Rattle.dali_frame.specs.declared.forward.Frame.TheVariants.{Dtr0, Dtr1, Dtr2, Write, WriteSilent, Enable, AskDtr0}
 use Rattle.dali_frame.specs.declared.forward.Frame.TheVariants.{AskDtr1, AskDtr2, Read, Other}
 use Rattle.dali_gear.specs.declared.fate.Fate.{Fate}
 use Rattle.dali_gear.specs.Fate.{is_lost, next_fate}
 use Rattle.dali_gear.specs.UnitState.{UnitState, with_byte, has_bank, carries_out, stores, after_frame, answer_to}
-use Rattle.dali_gear.specs.UnitState.{gear_of}
+use Rattle.dali_gear.specs.UnitState.{gear_of, powered_up}
 use Rattle.dali_bus.specs.Hears.{Hears, up}
-use Rattle.dali_gear.specs.SimState.{SimState, SimCarry, SimStep, world_of, AreApart, unit_after, unit_answer}
-use Rattle.dali_gear.specs.SimState.{bus_answer}
+use Rattle.dali_gear.specs.SimState.{SimState, SimCarry, SimPower, SimStep, world_of, AreApart, unit_after, unit_answer}
+use Rattle.dali_gear.specs.SimState.{bus_answer, unit_powered}
 use Rattle.dali_bus.specs.World.{Gear}
-use Rattle.dali_bus.specs.Carry.{BusEvent, Carried, WorldStep, Carry, MayHear, Answered, MayAnswer}
-use Rattle.dali_gear.specs.UnitHears.{unit_hears}
+use Rattle.dali_bus.specs.Power.{LosesPower, MayPowerUp}
+use Rattle.dali_bus.specs.Carry.{BusEvent, Carried, Powered, WorldStep, Carry, MayHear, Answered, MayAnswer}
+use Rattle.dali_gear.specs.UnitHears.{unit_hears, unit_powers_up}
 
 -- a write keeps the address
 write_keeps : (unit : UnitState) (byte : ℕ) (carried done first : Bool)
@@ -208,7 +209,58 @@ sim_carry-allowed old frame answer new step =
       answers = may_answer (next_fate old.fates) frame old.units answer step.apart step.answers;
     }
 
+-- a loss of power keeps the address
+pub power_keeps : (address : ℕ) (unit : UnitState) → (unit_powered address unit).address ≡ unit.address
+power_keeps address unit =
+    elim (unit.address == address) as (λ b. (if b then powered_up unit else unit).address ≡ unit.address) [
+      | true ↦ refl
+      | false ↦ refl
+    ]
+
+-- the unit at the address, if it is among these
+powered_there : (address : ℕ) (units : List UnitState)
+    → MayPowerUp (world_of units address) (world_of (map (unit_powered address) units) address)
+powered_there address [] = tt
+powered_there address (unit ∷ units) =
+    rw (power_keeps address unit)
+    (by (unit.address == address) (address == unit.address) refl refl (powered_there address units))
+  where
+    by : (mine same : Bool) → (unit.address == address) ≡ mine → (address == unit.address) ≡ same
+        → MayPowerUp (world_of units address) (world_of (map (unit_powered address) units) address)
+        → MayPowerUp (if same then Some (gear_of unit) else world_of units address)
+        (if same
+        then Some (gear_of (if mine then powered_up unit else unit))
+        else world_of (map (unit_powered address) units) address)
+    by true true e f rest = unit_powers_up unit
+    by false true e f rest = absurd (eqb-false unit.address address e (sym (eqb-true address unit.address f)))
+    by mine false e f rest = rest
+
+-- and any other
+powered_elsewhere : (address : ℕ) (units : List UnitState) (other : ℕ) → other ≢ address
+    → world_of (map (unit_powered address) units) other ≡ world_of units other
+powered_elsewhere address [] other apart = refl
+powered_elsewhere address (unit ∷ units) other apart =
+    rw (power_keeps address unit)
+    (by (unit.address == address) (other == unit.address) refl refl (powered_elsewhere address units other apart))
+  where
+    by : (mine same : Bool) → (unit.address == address) ≡ mine → (other == unit.address) ≡ same
+        → world_of (map (unit_powered address) units) other ≡ world_of units other
+        → (if same
+        then Some (gear_of (if mine then powered_up unit else unit))
+        else world_of (map (unit_powered address) units) other)
+        ≡ (if same then Some (gear_of unit) else world_of units other)
+    by true true e f rest = absurd (apart (eqb-true other unit.address f ∙ eqb-true unit.address address e))
+    by false true e f rest = refl
+    by mine false e f rest = rest
+
+-- where those at an address lose their power, that is what the world may do
+pub lose_power : (address : ℕ) (units : List UnitState)
+    → LosesPower (world_of units) address (world_of (map (unit_powered address) units))
+lose_power address units =
+    record { there = powered_there address units; others = λ other apart. powered_elsewhere address units other apart }
+
 -- each step of the simulated bus is one that its units may make
 pub sim_step-allowed : (old : SimState) (event : BusEvent) (new : SimState) → SimStep old event new
     → WorldStep (world_of old.units) event (world_of new.units)
 sim_step-allowed old (Carried frame answer) new step = sim_carry-allowed old frame answer new step
+sim_step-allowed old (Powered address) new step = rw step.units (lose_power address old.units)

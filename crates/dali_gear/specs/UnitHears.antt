@@ -1,4 +1,5 @@
--- What a simulated unit does with a frame is one of the things that a unit may do: lemmas, of which the last says it.
+-- What a simulated unit does with a frame is one of the things that a unit may do, and what it is after power-up:
+-- lemmas, of which `unit_hears` and `unit_powers_up` say it.
 --
 -- They stand in specs/ since the law of the simulated bus's steps rests on them.
 use Rattle.std.proofs.Common.{◌≡◌, ◌≢◌, ◌<◌, ℕ, zero, suc, Bool, true, false, not, ◌&&◌, ◌||◌, ◌⊎◌, inl, inr, List, []}
@@ -12,6 +13,8 @@ use Rattle.dali_frame.specs.declared.forward.Frame.TheVariants.{Dtr0, Dtr1, Dtr2
 use Rattle.dali_frame.specs.declared.forward.Frame.TheVariants.{AskDtr1, AskDtr2, Read, Other}
 use Rattle.dali_gear.specs.UnitState.{BankState, UnitState, is_writable, with_byte, has_bank, bank_of, with_stored}
 use Rattle.dali_gear.specs.UnitState.{carries_out, stores, selected_byte, after_read, after_frame, answer_to, gear_of}
+use Rattle.dali_gear.specs.UnitState.{powered_up, locked_bank}
+use Rattle.dali_bus.specs.Power.{locked, PowersUp}
 use Rattle.dali_bus.specs.World.{Gear, stored}
 use Rattle.dali_bus.specs.Hears.{Hears, MayEnd, Obeys, Ignores, Tells, PassesBy, Stores, ReadsByte, ReadsNothing}
 use Rattle.dali_bus.specs.Hears.{selected, up}
@@ -210,3 +213,58 @@ unit_hears refuses unit (AskDtr2 to) =
 unit_hears refuses unit (Read to) = read_by to (record unit { half_pair = false }) _ refl
 unit_hears refuses unit (Other word) =
     record { obeyed = gear_of (record unit { enabled = false }); obeys = tt; ends = inl refl }
+
+-- a place of a bank that is locked again: its lock byte, and any other
+locked_place : (bytes : List ℕ) → slice_get (slice_set bytes 2 0xFF) 2 ≡ locked (slice_get bytes 2)
+locked_place [] = refl
+locked_place (a ∷ []) = refl
+locked_place (a ∷ b ∷ []) = refl
+locked_place (a ∷ b ∷ c ∷ bytes) = refl
+
+other_place : (bytes : List ℕ) (location : ℕ) → location ≢ 2
+    → slice_get (slice_set bytes 2 0xFF) location ≡ slice_get bytes location
+other_place [] location other = refl
+other_place (a ∷ []) zero other = refl
+other_place (a ∷ []) (suc location) other = refl
+other_place (a ∷ b ∷ []) zero other = refl
+other_place (a ∷ b ∷ []) (suc zero) other = refl
+other_place (a ∷ b ∷ []) (suc (suc location)) other = refl
+other_place (a ∷ b ∷ c ∷ bytes) zero other = refl
+other_place (a ∷ b ∷ c ∷ bytes) (suc zero) other = refl
+other_place (a ∷ b ∷ c ∷ bytes) (suc (suc zero)) other = absurd (other refl)
+other_place (a ∷ b ∷ c ∷ bytes) (suc (suc (suc location))) other = refl
+
+-- the memory after power-up
+powered_lock : (unit : UnitState) (bank : ℕ) (first second : Bool)
+    → (if first || second
+    then slice_get (if first then locked_bank unit.bank1 else locked_bank unit.bank2).bytes 2
+    else None)
+    ≡ locked (if first || second then slice_get (if first then unit.bank1 else unit.bank2).bytes 2 else None)
+powered_lock unit bank true second = locked_place unit.bank1.bytes
+powered_lock unit bank false true = locked_place unit.bank2.bytes
+powered_lock unit bank false false = refl
+
+powered_rest : (unit : UnitState) (location : ℕ) (first second : Bool) → location ≢ 2
+    → (if first || second
+    then slice_get (if first then locked_bank unit.bank1 else locked_bank unit.bank2).bytes location
+    else None)
+    ≡ (if first || second then slice_get (if first then unit.bank1 else unit.bank2).bytes location else None)
+powered_rest unit location true second other = other_place unit.bank1.bytes location other
+powered_rest unit location false true other = other_place unit.bank2.bytes location other
+powered_rest unit location false false other = refl
+
+-- what a simulated unit is after power-up is what a unit may be
+pub unit_powers_up : (unit : UnitState) → PowersUp (gear_of unit) (gear_of (powered_up unit))
+unit_powers_up unit =
+    record {
+      dtr0 = refl;
+      dtr1 = refl;
+      dtr2 = refl;
+      off = refl;
+      lock = locked_place unit.bank1.bytes;
+      other_locks = λ bank above. inl (powered_lock unit bank (bank == 1) (bank == 2));
+      rest = λ bank location free. elim free [
+        | inl zero_is ↦ rw zero_is refl
+        | inr other ↦ powered_rest unit location (bank == 1) (bank == 2) other
+      ];
+    }

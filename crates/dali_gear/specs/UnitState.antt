@@ -128,6 +128,23 @@ gear_of unit =
       memory = λ bank location. if has_bank bank then slice_get (bank_of unit bank).bytes location else None;
     }
 
+-- the bank after power-up: its lock byte is FFh
+abbrev pub locked_bank : BankState → BankState
+locked_bank bank = with_byte bank 2 0xFF
+
+-- the unit after it lost its power and got it back
+abbrev pub powered_up : UnitState → UnitState
+powered_up unit =
+    record unit {
+      dtr0 = 0;
+      dtr1 = 0;
+      dtr2 = 0;
+      enabled = false;
+      half_pair = false;
+      bank1 = locked_bank unit.bank1;
+      bank2 = locked_bank unit.bank2;
+    }
+
 -- a new unit with these bytes in bank 1. Bank 2 has 16 locations: 0Fh at 00h, and FFh at all others
 abbrev pub new_unit : ℕ → List ℕ → List ℕ → UnitState
 new_unit address bytes fixed =

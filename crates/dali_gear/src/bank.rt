@@ -1,14 +1,16 @@
 ghost use Rattle.std.specs.Prelude.{◌≡◌, not, ◌&&◌, slice_get, if◌then◌else◌, IfOk};
-ghost use Rattle.dali_gear.specs.UnitState.{is_writable, with_byte};
+ghost use Rattle.dali_gear.specs.UnitState.{is_writable, with_byte, locked_bank};
 
 use std::alloc::{AllocError, Global};
 use std::boxed::BoxedSlice;
 use std::marker::Model;
 
-// The location of a bank's lock byte, and what it holds while the bank can be written.
+// The location of a bank's lock byte, what it holds while the bank can be written, and after power-up.
 const LOCK: u8 = 0x02;
 
 const UNLOCKED: u8 = 0x55;
+
+const LOCKED: u8 = 0xFF;
 
 /// A memory bank of a simulated unit. It never grows.
 #[derive(Drop)]
@@ -62,6 +64,15 @@ impl Bank {
             self.bytes[usize::from(location)] = byte;
         }
         is_stored
+    }
+
+    // Sets the lock byte as it is after power-up, where it exists.
+    pub(crate) fn lock(&mut self)
+        ensures { self.new ≡ locked_bank self.old }
+    {
+        if usize::from(LOCK) < self.bytes.len() {
+            self.bytes[usize::from(LOCK)] = LOCKED;
+        }
     }
 
     // Whether a write at a location is stored.

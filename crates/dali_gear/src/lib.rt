@@ -10,8 +10,7 @@ mod fault;
 mod sim_bus;
 mod unit;
 
-pub use dali_bus::Bus;
-pub use dali_bus::laws;
+pub use dali_bus::{Bus, laws};
 pub use fate::Fate;
 pub use fault::GearFault;
 pub use sim_bus::SimBus;

@@ -2,12 +2,13 @@ ghost use Rattle.std.specs.Prelude.{◌≡◌, ◌↔◌, map, length, if◌then
 ghost use Rattle.std.specs.List.{filter_map};
 ghost use Rattle.std.specs.Vec.Iter.{into_iter_items};
 ghost use Rattle.dali_gear.specs.Fate.{next_fate, fates_after};
-ghost use Rattle.dali_gear.specs.SimState.{unit_after, unit_answer, only_answer, AreApart, AreBanks, world_of};
+ghost use Rattle.dali_gear.specs.SimState.{unit_after, unit_answer, only_answer, unit_powered, AreApart, AreBanks};
+ghost use Rattle.dali_gear.specs.SimState.{world_of};
 
-use dali_bus::Bus;
 use crate::fate::Fate;
 use crate::fault::GearFault;
 use crate::unit::Unit;
+use dali_bus::Bus;
 use dali_frame::Frame;
 use std::alloc::Global;
 use std::boxed::BoxedSlice;
@@ -86,6 +87,11 @@ impl Bus for SimBus {
         let answer = carry_to(&mut self.units, &fate, frame);
         if fate.answer_lost { None } else { answer }
     }
+
+    /// Powers up the unit at the address, if there is one. No fate is used.
+    fn power(&mut self, address: u8) {
+        power_at(&mut self.units, address);
+    }
 }
 
 // Whether no two units are at one address.
@@ -150,5 +156,23 @@ fn hear_by(unit: &mut Unit, fate: &Fate, frame: &Frame) -> Option<u8>
         unit.hear_refusing(frame)
     } else {
         unit.hear(frame)
+    }
+}
+
+// Powers up the unit at an address, if there is one.
+fn power_at(units: &mut [Unit], address: u8)
+    ensures { units.new ≡ map (unit_powered address) units.old }
+{
+    for unit in units.iter_mut() {
+        power_where(unit, address);
+    }
+}
+
+// Powers up a unit that is at an address.
+fn power_where(unit: &mut Unit, address: u8)
+    ensures { unit.new ≡ unit_powered address unit.old }
+{
+    if unit.address() == address {
+        unit.power_up();
     }
 }

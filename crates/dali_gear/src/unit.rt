@@ -3,7 +3,8 @@ ghost use Rattle.std.specs.Prelude.{IsTrue};
 ghost use Rattle.std.specs.List.{AllByRecursion};
 ghost use Rattle.dali_bank.specs.Blank.{blank_bank};
 ghost use Rattle.dali_gear.specs.UnitState.{UnitState, after_frame, after_write, after_read, answer_to, selected_byte};
-ghost use Rattle.dali_gear.specs.UnitState.{stores, gear_of, new_unit};
+ghost use Rattle.dali_gear.specs.UnitState.{stores, gear_of, new_unit, powered_up};
+ghost use Rattle.dali_bus.specs.Power.{PowersUp};
 ghost use Rattle.dali_bus.specs.Hears.{Hears, up};
 ghost use Rattle.dali_gear.specs.Faults.{IsBank, AreFixed, LocationsRiseAbove, IsUnitFault, IsBlankFault};
 
@@ -142,6 +143,20 @@ impl Unit {
         ensures { result ≡ self.now.enabled }
     {
         self.is_enabled
+    }
+
+    /// The unit loses its power and gets it back: DTR0, DTR1 and DTR2 are 0, it isn't write-enabled,
+    /// no half of a pair is pending, and the lock bytes of both banks are FFh (IEC 62386-102:
+    /// power-up; profile for the registers). All else stays.
+    #[tactic(auto, using(crate::specs::UnitHears::unit_powers_up))]
+    pub fn power_up(&mut self)
+        ensures after { self.new ≡ powered_up self.old }
+        ensures allowed { PowersUp (gear_of self.old) (gear_of self.new) }
+    {
+        self.set_dtrs(0, 0, 0);
+        (self.is_enabled, self.is_half_pair_pending) = (false, false);
+        self.bank1.lock();
+        self.bank2.lock();
     }
 
     /// Sets DTR0, DTR1 and DTR2. All else stays.

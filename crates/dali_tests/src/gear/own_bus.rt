@@ -29,6 +29,12 @@ impl Bus for TestBus {
             _ => None,
         }
     }
+
+    fn power(&mut self, address: u8) {
+        if address == 9 {
+            self.dtr0 = 0;
+        }
+    }
 }
 
 // The answer to the last of the frames.
@@ -44,6 +50,11 @@ fn last_answer<B: Bus>(bus: &mut B, frames: &[Frame]) -> Option<u8> {
     answer
 }
 
+// The unit at an address loses its power.
+fn lose_power<B: Bus>(bus: &mut B, address: u8) {
+    bus.power(address);
+}
+
 #[test]
 fn a_bus_of_ones_own(rt: HostRuntime) {
     let mut bus = TestBus { dtr0: 0x00 };
@@ -55,5 +66,9 @@ fn a_bus_of_ones_own(rt: HostRuntime) {
     ] {
         assert_eq!(rt; last_answer(&mut bus, &frames), answer);
     }
+    lose_power(&mut bus, 8);
+    assert_eq!(rt; bus.dtr0, 0x08);
+    lose_power(&mut bus, 9);
+    assert_eq!(rt; bus.dtr0, 0x00);
     laws::chains_of_a_bus_are_chains_of_its_worlds::<TestBus>();
 }

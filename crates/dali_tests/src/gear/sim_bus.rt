@@ -104,6 +104,36 @@ fn two_units_at_one_address(rt: HostRuntime) -> Result<(), Fail> {
     Ok(())
 }
 
+// The unit at the address alone loses its power, whatever fates are left; where none is, and over 63, nothing changes.
+#[test]
+fn a_unit_loses_its_power(rt: HostRuntime) -> Result<(), Fail> {
+    let alloc = rt.alloc();
+    let refused = Fate {
+        refuse: true,
+        ..Fate::default()
+    };
+    let mut units = two_units(alloc, 5, 6)?;
+    for unit in units.iter_mut() {
+        unit.set_dtrs(0x03, 0x01, 0x02);
+    }
+    let mut bus = SimBus::new(units, vec![in alloc; refused; 1]?)?;
+    // Where the power is lost, and then the registers of units 5 and 6.
+    for (address, five, six) in [
+        (9, (0x03, 0x01, 0x02), (0x03, 0x01, 0x02)),
+        (255, (0x03, 0x01, 0x02), (0x03, 0x01, 0x02)),
+        (6, (0x03, 0x01, 0x02), (0x00, 0x00, 0x00)),
+        (5, (0x00, 0x00, 0x00), (0x00, 0x00, 0x00)),
+    ] {
+        bus.power(address);
+        assert_eq!(rt; bus.fates_left(), 1, "{address}");
+        for unit in bus.units() {
+            let wanted = if unit.address() == 5 { five } else { six };
+            assert_eq!(rt; unit.dtrs(), wanted, "{address}");
+        }
+    }
+    Ok(())
+}
+
 #[test]
 fn laws_hold(_rt: HostRuntime) {
     laws::unenabled_memory_stays();

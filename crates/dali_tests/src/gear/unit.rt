@@ -51,6 +51,46 @@ fn units_are_made(rt: HostRuntime) -> Result<(), Fail> {
     Ok(())
 }
 
+// Half a pair, an open lock byte in each bank and write enable end with the power; a byte that was stored stays.
+#[test]
+fn power_up(rt: HostRuntime) -> Result<(), Fail> {
+    let mut unit = Unit::blank(rt.alloc(), 5)?;
+    for frame in [
+        Frame::Enable(5),
+        Frame::Enable(5),
+        Frame::Dtr0(0x02),
+        Frame::Dtr1(0x02),
+        Frame::Write(0x55),
+        Frame::Dtr0(0x02),
+        Frame::Dtr1(0x01),
+        Frame::Write(0x55),
+        Frame::Write(0xAB),
+        Frame::Dtr2(0x07),
+        Frame::Enable(5),
+    ] {
+        unit.hear(&frame);
+    }
+    assert_eq!(rt; unit.dtrs(), (0x04, 0x01, 0x07));
+    assert_eq!(rt;
+        (unit.bank1().get(2), unit.bank1().get(3)),
+        (Some(&0x55), Some(&0xAB))
+    );
+    assert_eq!(rt; unit.bank2().get(2), Some(&0x55));
+    unit.power_up();
+    assert_eq!(rt; unit.dtrs(), (0x00, 0x00, 0x00));
+    assert!(rt; !unit.is_enabled());
+    assert_eq!(rt;
+        (unit.bank1().get(2), unit.bank1().get(3)),
+        (Some(&0xFF), Some(&0xAB))
+    );
+    assert_eq!(rt; unit.bank2().get(2), Some(&0xFF));
+    unit.hear(&Frame::Enable(5));
+    assert!(rt; !unit.is_enabled());
+    unit.hear(&Frame::Enable(5));
+    assert!(rt; unit.is_enabled());
+    Ok(())
+}
+
 #[test]
 fn a_unit_stores_once_it_is_enabled_and_unlocked(rt: HostRuntime) -> Result<(), Fail> {
     let mut unit = Unit::blank(rt.alloc(), 5)?;

@@ -1,3 +1,5 @@
+ghost use Rattle.std.specs.Prelude.{◌≡◌};
+ghost use Rattle.dali_gear.specs.SimState.{unit_powered};
 ghost use Rattle.dali_tests.specs.HostileBus.{DoesHear, MayBeDeaf};
 
 use crate::gtin::GTIN;
@@ -40,6 +42,15 @@ fn suffer(unit: &mut Unit, frame: &Frame, chance: u32) -> Option<u8>
     }
 }
 
+// A unit that is at an address loses its power.
+fn lose_power_at(unit: &mut Unit, address: u8)
+    ensures { unit.new ≡ unit_powered address unit.old }
+{
+    if unit.address() == address {
+        unit.power_up();
+    }
+}
+
 // A bus that is as bad as it may be: each of its two units may be deaf to a frame, one ENABLE WRITE MEMORY is enough, a
 // write enable may end with any frame, of two answers one comes, or none does. What happens is drawn from the turn.
 #[derive(Drop)]
@@ -71,6 +82,11 @@ impl Bus for HostileBus {
         } else {
             one
         }
+    }
+
+    fn power(&mut self, address: u8) {
+        lose_power_at(&mut self.first, address);
+        lose_power_at(&mut self.second, address);
     }
 }
 

@@ -1,8 +1,9 @@
 use Rattle.std.proofs.Common.{◌≡◌, ◌++◌, arith, take, drop, length}
 use Rattle.dali_gear.proofs.SimLemmas.{written_back, AreApart-map}
 use Rattle.dali_gear.proofs.sim_bus.SimBusBus.carry.Goals as goal
-use Rattle.dali_gear.proofs.BankLemmas.{banks_after}
+use Rattle.dali_gear.proofs.BankLemmas.{fate_bank, banks_after}
 use Rattle.dali_gear.specs.SimState.{AreApart, AreBanks}
+use Rattle.dali_gear.specs.SimSteps.{fate_keeps}
 
 pub invariant_of-self : goal.invariant_of-self
 invariant_of-self c =
@@ -15,7 +16,7 @@ invariant_of-self c =
     (omega arith) (omega arith) in
     let after : AreApart c.carry_to-answer.new.units × AreBanks c.carry_to-answer.new.units
     = rw c.carry_to-answer.ensures.after (
-      AreApart-map c.take_fate-fate.result c.args.frame.now c.deref_mut.result.now before.0,
-      banks_after c.take_fate-fate.result c.args.frame.now c.deref_mut.result.now before.1,
+      AreApart-map _ (fate_keeps c.take_fate-fate.result c.args.frame.now) c.deref_mut.result.now before.0,
+      banks_after _ (fate_bank c.take_fate-fate.result c.args.frame.now) c.deref_mut.result.now before.1,
     ) in
     rw back after

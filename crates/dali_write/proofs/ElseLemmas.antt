@@ -140,7 +140,7 @@ pub run_apart : (told : List Exchange) (first last : SimState) → SimRun told f
 run_apart [] first last run apart = subst (λ (s : SimState). AreApart s.units) (sym run) apart
 run_apart (x ∷ told) first last run apart =
     subst AreApart (sym run.2.units)
-    (AreApart-map (next_fate run.0.fates) x.frame run.0.units (run_apart told first run.0 run.1 apart))
+    (AreApart-map _ (fate_keeps (next_fate run.0.fates) x.frame) run.0.units (run_apart told first run.0 run.1 apart))
 
 -- where the one isn't enabled either, none is
 all_off : (at address : ℕ) (units : List UnitState) → AllElse at units → IsOff (world_of units address)

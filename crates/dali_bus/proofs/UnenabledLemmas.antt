@@ -1,13 +1,13 @@
 -- Nothing writes where no unit is write-enabled and none is told to be.
 use Rattle.std.proofs.Common.{◌≡◌, ◌≢◌, ℕ, Bool, true, false, inl, inr, ◌⊎◌, List, [], ◌∷◌, Option, Some, None, is_some}
-use Rattle.std.proofs.Common.{IsSome, refl, sym, subst, ap, zero, suc, arith, ◌∙◌, ◌≤◌, ◌<◌}
+use Rattle.std.proofs.Common.{IsSome, refl, sym, subst, ap, zero, suc, arith, ◌∙◌, ◌≤◌}
 use Rattle.std.specs.Prelude.{◌==◌}
 use Rattle.std.proofs.lemmas.Bool.{eqb-true, eqb-false}
 use Rattle.std.specs.List.{AllByRecursion}
 use Rattle.dali_frame.specs.declared.forward.Frame.{Frame}
 use Rattle.dali_frame.specs.declared.forward.Frame.TheVariants.{Dtr0, Dtr1, Dtr2, Write, WriteSilent, Enable, AskDtr0}
 use Rattle.dali_frame.specs.declared.forward.Frame.TheVariants.{AskDtr1, AskDtr2, Read, Other}
-use Rattle.dali_bus.specs.World.{Gear, World, byte_in, byte_at, is_open, is_enabled, SameAddresses}
+use Rattle.dali_bus.specs.World.{Gear, World, byte_in, byte_at, is_open, SameAddresses}
 use Rattle.dali_bus.specs.Hears.{Obeys, MayEnd, PassesBy, Stores, Ignores, Tells}
 use Rattle.dali_bus.specs.Power.{locked, PowersUp, MayPowerUp, LosesPower}
 use Rattle.dali_bus.specs.Carry.{BusEvent, Carried, Powered, WorldStep, MayHear, HasLostPower}
@@ -142,7 +142,8 @@ record PoweredAt (at address : ℕ) (old new : Option Gear) : Type 0 where
   shut : is_open old ≡ false → is_open new ≡ false
   some : is_some new ≡ is_some old
   bytes : (bank location : ℕ) → (byte_in new bank location ≡ byte_in old bank location)
-      ⊎ ((address ≡ at) × (1 ≤ bank) × (location ≡ 2) × (byte_in new bank location ≡ locked (byte_in old bank location)))
+      ⊎ ((address ≡ at) × (1 ≤ bank) × (location ≡ 2)
+      × (byte_in new bank location ≡ locked (byte_in old bank location)))
 
 unpowered : (at address : ℕ) (old new : Option Gear) → new ≡ old → PoweredAt at address old new
 unpowered at address old new same =

@@ -30,7 +30,8 @@ pub reads : Hears 5 (small true) (Read 5) (Some 7) (moved false)
 reads = record { obeyed = moved false; obeys = inl (refl, inl (refl, refl, refl)); ends = inl refl }
 
 pub reads_nothing : Hears 5 (moved true) (Read 5) None (moved true)
-reads_nothing = record { obeyed = moved true; obeys = inl (refl, inr (refl, (4, inr refl, refl, refl))); ends = inl refl }
+reads_nothing =
+    record { obeyed = moved true; obeys = inl (refl, inr (refl, (4, inr refl, refl, refl))); ends = inl refl }
 
 pub stays_at_ffh : Hears 5 at_the_end (Write 9) None at_the_end
 stays_at_ffh = record { obeyed = at_the_end; obeys = inr (0xFF, inl refl, refl, refl); ends = inl refl }

@@ -35,7 +35,8 @@ pub record Carry (old : World) (frame : Frame) (answer : Option ℕ) (new : Worl
   pub units : (address : ℕ) → MayHear address (old address) frame (new address)
   pub answers : MayAnswer old frame answer new
 
--- what happens on a bus: a frame is carried, and this came back; the unit at an address loses its power and gets it back
+-- what happens on a bus: a frame is carried, and this came back; or the unit at an address loses its power and gets
+-- it back
 pub data BusEvent : Type 0 where
   Carried : (frame : Frame) (answer : Option ℕ) → BusEvent
   Powered : (address : ℕ) → BusEvent

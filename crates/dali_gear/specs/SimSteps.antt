@@ -14,7 +14,7 @@ use Rattle.dali_gear.specs.Fate.{is_lost, next_fate}
 use Rattle.dali_gear.specs.UnitState.{UnitState, with_byte, has_bank, carries_out, stores, after_frame, answer_to}
 use Rattle.dali_gear.specs.UnitState.{gear_of, powered_up}
 use Rattle.dali_bus.specs.Hears.{Hears, up}
-use Rattle.dali_gear.specs.SimState.{SimState, SimCarry, SimPower, SimStep, world_of, AreApart, unit_after, unit_answer}
+use Rattle.dali_gear.specs.SimState.{SimState, SimCarry, SimStep, world_of, AreApart, unit_after, unit_answer}
 use Rattle.dali_gear.specs.SimState.{bus_answer, unit_powered}
 use Rattle.dali_bus.specs.World.{Gear}
 use Rattle.dali_bus.specs.Power.{LosesPower, MayPowerUp}

@@ -1,21 +1,20 @@
 -- What the hostile bus of the tests does is what a bus may do.
 use Rattle.std.proofs.Common.{◌≡◌, ℕ, Bool, true, false, inl, inr, Option, Some, None, refl, sym, ap, ◌∙◌}
-use Rattle.std.specs.Prelude.{◌≢◌, ◌==◌, if◌then◌else◌}
+use Rattle.std.specs.Prelude.{◌≢◌, ◌==◌}
 use Rattle.std.proofs.lemmas.Bool.{eqb-true, eq-eqb, ne_eqb}
 use Rattle.dali_frame.specs.declared.forward.Frame.{Frame}
-use Rattle.dali_frame.specs.declared.forward.Frame.TheVariants.{Dtr0, Dtr1, Dtr2, Write, WriteSilent, Enable, AskDtr0}
-use Rattle.dali_frame.specs.declared.forward.Frame.TheVariants.{AskDtr1, AskDtr2, Read, Other}
+use Rattle.dali_frame.specs.declared.forward.Frame.TheVariants.{Enable, Other}
 use Rattle.dali_bus.specs.World.{Gear}
-use Rattle.dali_bus.specs.Hears.{Hears, MayEnd, up}
+use Rattle.dali_bus.specs.Hears.{Hears, MayEnd}
 use Rattle.dali_bus.specs.Carry.{Carry, MayHear, MayAnswer}
-use Rattle.dali_gear.specs.UnitState.{UnitState, with_byte, has_bank, carries_out, stores, after_frame, answer_to}
-use Rattle.dali_gear.specs.UnitState.{gear_of}
+use Rattle.dali_gear.specs.UnitState.{UnitState, after_frame, answer_to, gear_of}
 use Rattle.dali_gear.specs.SimSteps.{frame_keeps}
 use Rattle.dali_tests.specs.HostileBus.{DoesHear, MayBeDeaf, world_of_both}
 
 pub heard : (unit new : UnitState) (frame : Frame) (answer : Option ℕ) → new ≡ after_frame false unit frame
     → Hears unit.address (gear_of unit) frame answer (gear_of new) → DoesHear unit frame answer new
-heard unit new frame answer after hears = (ap (λ (u : UnitState). u.address) after ∙ frame_keeps false unit frame, hears)
+heard unit new frame answer after hears =
+    (ap (λ (u : UnitState). u.address) after ∙ frame_keeps false unit frame, hears)
 
 -- after two frames of a pair the unit is enabled, as it may be after one
 enabled_once : (unit : UnitState) (to : ℕ) (mine half : Bool) → (to == unit.address) ≡ mine → unit.half_pair ≡ half

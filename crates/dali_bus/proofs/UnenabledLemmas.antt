@@ -9,7 +9,7 @@ use Rattle.dali_frame.specs.declared.forward.Frame.TheVariants.{Dtr0, Dtr1, Dtr2
 use Rattle.dali_frame.specs.declared.forward.Frame.TheVariants.{AskDtr1, AskDtr2, Read, Other}
 use Rattle.dali_bus.specs.World.{Gear, World, byte_in, byte_at, is_open, SameAddresses}
 use Rattle.dali_bus.specs.Hears.{Obeys, MayEnd, PassesBy, Stores, Ignores, Tells}
-use Rattle.dali_bus.specs.Power.{locked, PowersUp, MayPowerUp, LosesPower}
+use Rattle.dali_bus.specs.Power.{relocked, PowersUp, MayPowerUp, LosesPower}
 use Rattle.dali_bus.specs.Carry.{BusEvent, Carried, Powered, WorldStep, MayHear, HasLostPower}
 use Rattle.dali_bus.specs.Chain.{IsChain, AtEachMoment}
 use Rattle.dali_bus.specs.Unenabled.{NoneEnabled, MayEnable, EnablesNone, HoldsAsBefore, UnenabledMemoryStays}
@@ -107,13 +107,13 @@ none_at world at (AskDtr2 to) some quiet = λ f. f
 none_at world at (Read to) some quiet = λ f. f
 
 -- what a place holds after its unit lost power
-locked_again : (byte : Option ℕ) → locked (locked byte) ≡ locked byte
-locked_again None = refl
-locked_again (Some byte) = refl
+relocked_twice : (byte : Option ℕ) → relocked (relocked byte) ≡ relocked byte
+relocked_twice None = refl
+relocked_twice (Some byte) = refl
 
 -- what a unit's memory is after power-up: a lock byte, and any place
 powered_lock : (old new : Gear) (bank : ℕ) → PowersUp old new
-    → (new.memory bank 2 ≡ old.memory bank 2) ⊎ ((1 ≤ bank) × (new.memory bank 2 ≡ locked (old.memory bank 2)))
+    → (new.memory bank 2 ≡ old.memory bank 2) ⊎ ((1 ≤ bank) × (new.memory bank 2 ≡ relocked (old.memory bank 2)))
 powered_lock old new zero powers = inl (powers.rest 0 2 (inl refl))
 powered_lock old new (suc zero) powers = inr (omega arith, powers.lock)
 powered_lock old new (suc (suc more)) powers = elim (powers.other_locks (suc (suc more)) (omega arith)) [
@@ -123,12 +123,12 @@ powered_lock old new (suc (suc more)) powers = elim (powers.other_locks (suc (su
 
 powered_place : (old new : Gear) (bank location : ℕ) → PowersUp old new
     → (new.memory bank location ≡ old.memory bank location)
-    ⊎ ((1 ≤ bank) × (location ≡ 2) × (new.memory bank location ≡ locked (old.memory bank location)))
+    ⊎ ((1 ≤ bank) × (location ≡ 2) × (new.memory bank location ≡ relocked (old.memory bank location)))
 powered_place old new bank location powers = by (location == 2) refl
   where
     by : (is : Bool) → (location == 2) ≡ is
         → (new.memory bank location ≡ old.memory bank location)
-        ⊎ ((1 ≤ bank) × (location ≡ 2) × (new.memory bank location ≡ locked (old.memory bank location)))
+        ⊎ ((1 ≤ bank) × (location ≡ 2) × (new.memory bank location ≡ relocked (old.memory bank location)))
     by false e = inl (powers.rest bank location (inr (eqb-false location 2 e)))
     by true e =
         let here : location ≡ 2 = eqb-true location 2 e in
@@ -143,7 +143,7 @@ record PoweredAt (at address : ℕ) (old new : Option Gear) : Type 0 where
   some : is_some new ≡ is_some old
   bytes : (bank location : ℕ) → (byte_in new bank location ≡ byte_in old bank location)
       ⊎ ((address ≡ at) × (1 ≤ bank) × (location ≡ 2)
-      × (byte_in new bank location ≡ locked (byte_in old bank location)))
+      × (byte_in new bank location ≡ relocked (byte_in old bank location)))
 
 unpowered : (at address : ℕ) (old new : Option Gear) → new ≡ old → PoweredAt at address old new
 unpowered at address old new same =
@@ -206,18 +206,19 @@ shut_after first happened old (Powered address) new shut quiet loses =
     by : (at bank location : ℕ)
         → (byte_at new at bank location ≡ byte_at old at bank location)
         ⊎ ((address ≡ at) × (1 ≤ bank) × (location ≡ 2)
-        × (byte_at new at bank location ≡ locked (byte_at old at bank location)))
+        × (byte_at new at bank location ≡ relocked (byte_at old at bank location)))
         → (byte_at old at bank location ≡ byte_at first at bank location)
         ⊎ (HasLostPower at happened × (1 ≤ bank) × (location ≡ 2)
-        × (byte_at old at bank location ≡ locked (byte_at first at bank location)))
+        × (byte_at old at bank location ≡ relocked (byte_at first at bank location)))
         → (byte_at new at bank location ≡ byte_at first at bank location)
         ⊎ (HasLostPower at (Powered address ∷ happened) × (1 ≤ bank) × (location ≡ 2)
-        × (byte_at new at bank location ≡ locked (byte_at first at bank location)))
+        × (byte_at new at bank location ≡ relocked (byte_at first at bank location)))
     by at bank location (inl same) (inl before) = inl (same ∙ before)
     by at bank location (inl same) (inr (lost, above, lock, is)) = inr (inr lost, above, lock, same ∙ is)
-    by at bank location (inr (here, above, lock, is)) (inl before) = inr (inl here, above, lock, is ∙ ap locked before)
+    by at bank location (inr (here, above, lock, is)) (inl before) =
+        inr (inl here, above, lock, is ∙ ap relocked before)
     by at bank location (inr (here, above, lock, is)) (inr (lost, more, again, was)) =
-        inr (inl here, above, lock, is ∙ ap locked was ∙ locked_again (byte_at first at bank location))
+        inr (inl here, above, lock, is ∙ ap relocked was ∙ relocked_twice (byte_at first at bank location))
 
 shut_along : (first : World) (past : List BusEvent) (last : World) (states : List World) → NoneEnabled first
     → AllByRecursion (EnablesNone first) past → IsChain WorldStep first past last states

@@ -215,7 +215,18 @@ not_with_another_byte powers = omega (arith, same_byte 9 7 (powers.rest 1 3 (inr
 pub bank_0_stays : PowersUp (with_locks 0x55 0x55) (with_locks 0xFF 0x55) → ⊥
 bank_0_stays powers = omega (arith, same_byte 0xFF 0x55 (powers.rest 0 2 (inl refl)))
 
--- the lock byte of bank 2 comes up as FFh or stays, and as nothing else
+-- the lock byte of bank 2 comes up as FFh, as the simulated one does, or stays, and as nothing else
+pub bank_2_may_stay : PowersUp (with_locks 0x55 0x55) (with_locks 0x55 0x55)
+bank_2_may_stay = record {
+  dtr0 = refl;
+  dtr1 = refl;
+  dtr2 = refl;
+  off = refl;
+  lock = refl;
+  other_locks = λ bank above. inr refl;
+  rest = λ bank location free. refl;
+}
+
 pub bank_2_not_as_00h : PowersUp (with_locks 0x55 0x55) (with_locks 0x55 0x00) → ⊥
 bank_2_not_as_00h powers = elim (powers.other_locks 2 (omega arith)) [
   | inl is ↦ omega (arith, same_byte 0x00 0xFF is)

@@ -3,9 +3,9 @@ use Rattle.std.specs.Prelude.{◌≡◌, ◌≢◌, ℕ, ◌≤◌, false, ◌�
 use Rattle.dali_bus.specs.World.{Gear, World}
 
 -- a lock byte after power-up: FFh, where the place exists
-abbrev pub locked : Option ℕ → Option ℕ
-locked None = None
-locked (Some byte) = Some 0xFF
+abbrev pub relocked : Option ℕ → Option ℕ
+relocked None = None
+relocked (Some byte) = Some 0xFF
 
 -- A unit after power-up: its registers are 0, it isn't write-enabled, and the lock byte of bank 1 is FFh. That of a
 -- bank from 2 up is FFh or as before. All else in its memory is as before, a bank 0 too.
@@ -14,9 +14,9 @@ pub record PowersUp (old new : Gear) : Type 0 where
   pub dtr1 : new.dtr1 ≡ 0
   pub dtr2 : new.dtr2 ≡ 0
   pub off : new.enabled ≡ false
-  pub lock : new.memory 1 2 ≡ locked (old.memory 1 2)
+  pub lock : new.memory 1 2 ≡ relocked (old.memory 1 2)
   pub other_locks : (bank : ℕ) → 2 ≤ bank
-      → (new.memory bank 2 ≡ locked (old.memory bank 2)) ⊎ (new.memory bank 2 ≡ old.memory bank 2)
+      → (new.memory bank 2 ≡ relocked (old.memory bank 2)) ⊎ (new.memory bank 2 ≡ old.memory bank 2)
   pub rest : (bank location : ℕ) → (bank ≡ 0) ⊎ (location ≢ 2) → new.memory bank location ≡ old.memory bank location
 
 -- the unit there, if one is: none comes or goes

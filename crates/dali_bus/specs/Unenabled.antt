@@ -4,7 +4,7 @@ use Rattle.std.specs.List.{AllByRecursion}
 use Rattle.dali_frame.specs.declared.forward.Frame.{Frame}
 use Rattle.dali_frame.specs.declared.forward.Frame.TheVariants.{Enable, Other}
 use Rattle.dali_bus.specs.World.{World, is_enabled, byte_at}
-use Rattle.dali_bus.specs.Power.{locked}
+use Rattle.dali_bus.specs.Power.{relocked}
 use Rattle.dali_bus.specs.Carry.{BusEvent, Carried, Powered, WorldStep, HasLostPower}
 use Rattle.dali_bus.specs.Chain.{IsChain, AtEachMoment}
 
@@ -29,7 +29,7 @@ HoldsAsBefore first happened world =
     (address bank location : ℕ)
     → (byte_at world address bank location ≡ byte_at first address bank location)
     ⊎ (HasLostPower address happened × (1 ≤ bank) × (location ≡ 2)
-    × (byte_at world address bank location ≡ locked (byte_at first address bank location)))
+    × (byte_at world address bank location ≡ relocked (byte_at first address bank location)))
 
 -- Along each chain of worlds in which no unit is write-enabled at first and none is told to be, each place holds at
 -- each moment what it held at first, lock bytes apart where the unit lost power.

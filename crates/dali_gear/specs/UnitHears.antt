@@ -14,7 +14,7 @@ use Rattle.dali_frame.specs.declared.forward.Frame.TheVariants.{AskDtr1, AskDtr2
 use Rattle.dali_gear.specs.UnitState.{BankState, UnitState, is_writable, with_byte, has_bank, bank_of, with_stored}
 use Rattle.dali_gear.specs.UnitState.{carries_out, stores, selected_byte, after_read, after_frame, answer_to, gear_of}
 use Rattle.dali_gear.specs.UnitState.{powered_up, locked_bank}
-use Rattle.dali_bus.specs.Power.{locked, PowersUp}
+use Rattle.dali_bus.specs.Power.{relocked, PowersUp}
 use Rattle.dali_bus.specs.World.{Gear, stored}
 use Rattle.dali_bus.specs.Hears.{Hears, MayEnd, Obeys, Ignores, Tells, PassesBy, Stores, ReadsByte, ReadsNothing}
 use Rattle.dali_bus.specs.Hears.{selected, up}
@@ -214,8 +214,8 @@ unit_hears refuses unit (Read to) = read_by to (record unit { half_pair = false 
 unit_hears refuses unit (Other word) =
     record { obeyed = gear_of (record unit { enabled = false }); obeys = tt; ends = inl refl }
 
--- a place of a bank that is locked again: its lock byte, and any other
-locked_place : (bytes : List ℕ) → slice_get (slice_set bytes 2 0xFF) 2 ≡ locked (slice_get bytes 2)
+-- a place of a bank that came up again: its lock byte, and any other
+locked_place : (bytes : List ℕ) → slice_get (slice_set bytes 2 0xFF) 2 ≡ relocked (slice_get bytes 2)
 locked_place [] = refl
 locked_place (a ∷ []) = refl
 locked_place (a ∷ b ∷ []) = refl
@@ -239,7 +239,7 @@ powered_lock : (unit : UnitState) (bank : ℕ) (first second : Bool)
     → (if first || second
     then slice_get (if first then locked_bank unit.bank1 else locked_bank unit.bank2).bytes 2
     else None)
-    ≡ locked (if first || second then slice_get (if first then unit.bank1 else unit.bank2).bytes 2 else None)
+    ≡ relocked (if first || second then slice_get (if first then unit.bank1 else unit.bank2).bytes 2 else None)
 powered_lock unit bank true second = locked_place unit.bank1.bytes
 powered_lock unit bank false true = locked_place unit.bank2.bytes
 powered_lock unit bank false false = refl

@@ -3,8 +3,8 @@ use Rattle.std.proofs.Common.{◌≡◌, ℕ, Bool, true, false, cond, List, [],
 use Rattle.dali_bank.specs.Order.{Contents}
 use Rattle.dali_journal.specs.declared.record.Record.{Record}
 use Rattle.dali_journal.specs.declared.record.Record.TheVariants.{Began, Opened, Ended, Closed}
-use Rattle.dali_journal.specs.declared.kept.Stage.{Stage}
-use Rattle.dali_journal.specs.declared.kept.Stage.TheVariants as stages
+use Rattle.dali_journal.specs.declared.kept.Progress.{Progress}
+use Rattle.dali_journal.specs.declared.kept.Progress.TheVariants as reached
 use Rattle.dali_journal.specs.declared.kept.Kept.{Kept}
 use Rattle.dali_journal.specs.declared.kept.Kept.TheVariants as kepts
 use Rattle.dali_journal.specs.declared.index.Place.{Place}
@@ -18,34 +18,34 @@ is_kept kepts.Absent = false
 is_kept (kepts.Unfinished order) = true
 is_kept (kepts.Ended order code) = true
 
-abbrev is_among : ℕ → List (Contents × Stage) → Bool
+abbrev is_among : ℕ → List (Contents × Progress) → Bool
 is_among id [] = false
 is_among id (newest ∷ older) = newest.0.id == id || is_among id older
 
-among_come : (id : ℕ) (stage : Stage) (orders : List (Contents × Stage))
-    → is_among id (come_to stage orders) ≡ is_among id orders
-among_come id stage [] = refl
-among_come id stage (newest ∷ older) = refl
+among_come : (id : ℕ) (progress : Progress) (orders : List (Contents × Progress))
+    → is_among id (come_to progress orders) ≡ is_among id orders
+among_come id progress [] = refl
+among_come id progress (newest ∷ older) = refl
 
 begun_among : (id : ℕ) (records : List Record) → is_begun id records ≡ is_among id (orders_of records)
 begun_among id [] = refl
 begun_among id (Began order ∷ older) = ap (λ b. order.id == id || b) (begun_among id older)
-begun_among id (Opened unit ∷ older) = begun_among id older ∙ sym (among_come id stages.Open (orders_of older))
-begun_among id (Ended code ∷ older) = begun_among id older ∙ sym (among_come id (stages.Ended code) (orders_of older))
+begun_among id (Opened unit ∷ older) = begun_among id older ∙ sym (among_come id reached.Open (orders_of older))
+begun_among id (Ended code ∷ older) = begun_among id older ∙ sym (among_come id (reached.Ended code) (orders_of older))
 begun_among id (Closed unit ∷ older) = begun_among id older
 
-kept_stage : (order : Contents) (stage : Stage) → is_kept (kept_at order stage) ≡ true
-kept_stage order stages.Begun = refl
-kept_stage order stages.Open = refl
-kept_stage order (stages.Ended code) = refl
+kept_progress : (order : Contents) (progress : Progress) → is_kept (kept_at order progress) ≡ true
+kept_progress order reached.Begun = refl
+kept_progress order reached.Open = refl
+kept_progress order (reached.Ended code) = refl
 
-among_kept : (id : ℕ) (orders : List (Contents × Stage)) → is_among id orders ≡ is_kept (kept_among id orders)
+among_kept : (id : ℕ) (orders : List (Contents × Progress)) → is_among id orders ≡ is_kept (kept_among id orders)
 among_kept id [] = refl
 among_kept id (newest ∷ older) = by (newest.0.id == id) (among_kept id older)
   where
     by : (test : Bool) → is_among id older ≡ is_kept (kept_among id older)
         → (test || is_among id older) ≡ is_kept (cond test (kept_at newest.0 newest.1) (kept_among id older))
-    by true rest = sym (kept_stage newest.0 newest.1)
+    by true rest = sym (kept_progress newest.0 newest.1)
     by false rest = rest
 
 pub kept_where_begun : (id : ℕ) (records : List Record) → is_begun id records ≡ is_kept (kept_of id records)

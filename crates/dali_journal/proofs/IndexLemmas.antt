@@ -12,8 +12,8 @@ use Rattle.dali_journal.specs.declared.record.Record.{Record}
 use Rattle.dali_journal.specs.declared.record.Record.TheVariants.{Began, Opened, Ended, Closed}
 use Rattle.dali_journal.specs.declared.standing.Standing.{Standing}
 use Rattle.dali_journal.specs.declared.standing.Standing.TheVariants as standings
-use Rattle.dali_journal.specs.declared.kept.Stage.{Stage}
-use Rattle.dali_journal.specs.declared.kept.Stage.TheVariants as stages
+use Rattle.dali_journal.specs.declared.kept.Progress.{Progress}
+use Rattle.dali_journal.specs.declared.kept.Progress.TheVariants as reached
 use Rattle.dali_journal.specs.declared.kept.Kept.{Kept}
 use Rattle.dali_journal.specs.declared.kept.Kept.TheVariants as kepts
 use Rattle.dali_journal.specs.declared.index.Place.{Place}
@@ -28,16 +28,18 @@ use Rattle.dali_journal.specs.Index.{StandsAt, Agrees, ended_place, place_after}
 use Rattle.dali_journal.proofs.DecodeLemmas.{read_is}
 
 -- the order that is at work is the newest, and hasn't ended
-abbrev pub IsNewest : Standing → List (Contents × Stage) → Type 0
-IsNewest (standings.Began order) orders = (older : List (Contents × Stage)) × (orders ≡ (order, stages.Begun) ∷ older)
-IsNewest (standings.Opened order) orders = (older : List (Contents × Stage)) × (orders ≡ (order, stages.Open) ∷ older)
+abbrev pub IsNewest : Standing → List (Contents × Progress) → Type 0
+IsNewest (standings.Began order) orders =
+    (older : List (Contents × Progress)) × (orders ≡ (order, reached.Begun) ∷ older)
+IsNewest (standings.Opened order) orders =
+    (older : List (Contents × Progress)) × (orders ≡ (order, reached.Open) ∷ older)
 IsNewest other orders = ⊤
 
 newest_next : (standing : Standing) (entry : Record) (older : List Record) → Allows standing entry
     → IsNewest standing (orders_of older)
     → IsNewest (next_standing standing entry) (orders_of (entry ∷ older))
 newest_next standings.Idle (Began order) older a n = (orders_of older, refl)
-newest_next (standings.Began order) (Opened unit) older a n = (n.0, ap (come_to stages.Open) n.1)
+newest_next (standings.Began order) (Opened unit) older a n = (n.0, ap (come_to reached.Open) n.1)
 newest_next (standings.Began order) (Ended Short) older a n = tt
 newest_next (standings.Began order) (Ended Format) older a n = tt
 newest_next (standings.Began order) (Ended Silent) older a n = tt
@@ -85,24 +87,24 @@ ended_agrees bytes (places.Begun at) code order a =
 ended_agrees bytes (places.Ended at other) code order a = let e = a.1 in cc
 
 -- an end changes what is kept of the order at work, which is the newest, and of no other
-end_agrees : (bytes : List ℕ) (place : Place) (code : Code) (order : Contents) (stage : Stage)
-    (orders older : List (Contents × Stage)) (id : ℕ) (test : Bool)
-    → (order.id == id) ≡ test → kept_at order stage ≡ kepts.Unfinished order → orders ≡ (order, stage) ∷ older
+end_agrees : (bytes : List ℕ) (place : Place) (code : Code) (order : Contents) (progress : Progress)
+    (orders older : List (Contents × Progress)) (id : ℕ) (test : Bool)
+    → (order.id == id) ≡ test → kept_at order progress ≡ kepts.Unfinished order → orders ≡ (order, progress) ∷ older
     → Agrees bytes place (kept_among id orders)
-    → Agrees bytes (cond test (ended_place code place) place) (kept_among id (come_to (stages.Ended code) orders))
-end_agrees bytes place code order stage orders older id true t begun is a =
+    → Agrees bytes (cond test (ended_place code place) place) (kept_among id (come_to (reached.Ended code) orders))
+end_agrees bytes place code order progress orders older id true t begun is a =
     let before : kept_among id orders ≡ kepts.Unfinished order =
-    ap (kept_among id) is ∙ ap (λ b. cond b (kept_at order stage) (kept_among id older)) t ∙ begun in
-    let after : kept_among id (come_to (stages.Ended code) orders) ≡ kepts.Ended order code =
-    ap (λ os. kept_among id (come_to (stages.Ended code) os)) is
+    ap (kept_among id) is ∙ ap (λ b. cond b (kept_at order progress) (kept_among id older)) t ∙ begun in
+    let after : kept_among id (come_to (reached.Ended code) orders) ≡ kepts.Ended order code =
+    ap (λ os. kept_among id (come_to (reached.Ended code) os)) is
     ∙ ap (λ b. cond b (kepts.Ended order code) (kept_among id older)) t in
     subst (Agrees bytes (ended_place code place)) (sym after)
     (ended_agrees bytes place code order (subst (Agrees bytes place) before a))
-end_agrees bytes place code order stage orders older id false t begun is a =
+end_agrees bytes place code order progress orders older id false t begun is a =
     let before : kept_among id orders ≡ kept_among id older =
-    ap (kept_among id) is ∙ ap (λ b. cond b (kept_at order stage) (kept_among id older)) t in
-    let after : kept_among id (come_to (stages.Ended code) orders) ≡ kept_among id older =
-    ap (λ os. kept_among id (come_to (stages.Ended code) os)) is
+    ap (kept_among id) is ∙ ap (λ b. cond b (kept_at order progress) (kept_among id older)) t in
+    let after : kept_among id (come_to (reached.Ended code) orders) ≡ kept_among id older =
+    ap (λ os. kept_among id (come_to (reached.Ended code) os)) is
     ∙ ap (λ b. cond b (kepts.Ended order code) (kept_among id older)) t in
     subst (Agrees bytes place) (before ∙ sym after) a
 
@@ -110,9 +112,9 @@ ended_by : (bytes : List ℕ) (standing : Standing) (code : Code) (older : List 
     → Allows standing (Ended code) → IsNewest standing (orders_of older) → Agrees bytes place (kept_of id older)
     → Agrees bytes (place_after standing (Ended code) (length bytes) id place) (kept_of id (Ended code ∷ older))
 ended_by bytes (standings.Began order) code older id place a n k =
-    end_agrees bytes place code order stages.Begun (orders_of older) n.0 id (order.id == id) refl refl n.1 k
+    end_agrees bytes place code order reached.Begun (orders_of older) n.0 id (order.id == id) refl refl n.1 k
 ended_by bytes (standings.Opened order) code older id place a n k =
-    end_agrees bytes place code order stages.Open (orders_of older) n.0 id (order.id == id) refl refl n.1 k
+    end_agrees bytes place code order reached.Open (orders_of older) n.0 id (order.id == id) refl refl n.1 k
 ended_by bytes _ code older id place a n k = absurd a
 
 -- an order that is opened stays unfinished
@@ -120,7 +122,7 @@ pub opened_same : (standing : Standing) (unit : ℕ) (older : List Record) (id :
     → IsNewest standing (orders_of older)
     → kept_of id older ≡ kept_of id (Opened unit ∷ older)
 opened_same (standings.Began order) unit older id a n =
-    ap (kept_among id) n.1 ∙ sym (ap (λ os. kept_among id (come_to stages.Open os)) n.1)
+    ap (kept_among id) n.1 ∙ sym (ap (λ os. kept_among id (come_to reached.Open os)) n.1)
 opened_same _ unit older id a n = absurd a
 
 -- the new record stands where the bytes ended

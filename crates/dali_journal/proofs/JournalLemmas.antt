@@ -11,8 +11,8 @@ use Rattle.dali_journal.specs.declared.record.Record.{Record}
 use Rattle.dali_journal.specs.declared.record.Record.TheVariants.{Began, Opened, Ended, Closed}
 use Rattle.dali_journal.specs.declared.standing.Standing.{Standing}
 use Rattle.dali_journal.specs.declared.standing.Standing.TheVariants as standings
-use Rattle.dali_journal.specs.declared.kept.Stage.{Stage}
-use Rattle.dali_journal.specs.declared.kept.Stage.TheVariants as stages
+use Rattle.dali_journal.specs.declared.kept.Progress.{Progress}
+use Rattle.dali_journal.specs.declared.kept.Progress.TheVariants as reached
 use Rattle.dali_journal.specs.declared.index.Place.{Place}
 use Rattle.dali_journal.specs.Sentence.{Allows, next_standing, standing_of, IsSentence, IsNew, HasShortUnit}
 use Rattle.dali_journal.specs.Orders.{come_to, orders_of, kept_of}
@@ -80,15 +80,16 @@ due_next (standings.Opened order) (Ended DoubtOpen) records limit room new_room 
 due_next (standings.Left unit) (Closed closed) records limit room new_room numbers s a may d r = omega arith
 due_next _ _ records limit room new_room numbers s a may d r = absurd a
 
-length_come : (stage : Stage) (orders : List (Contents × Stage)) → length (come_to stage orders) ≡ length orders
-length_come stage [] = refl
-length_come stage (newest ∷ older) = refl
+length_come : (progress : Progress) (orders : List (Contents × Progress)) → length (come_to progress orders)
+    ≡ length orders
+length_come progress [] = refl
+length_come progress (newest ∷ older) = refl
 
 pub orders_more : (records : List Record) (entry : Record)
     → length (orders_of (entry ∷ records)) ≡ length (orders_of records) + orders_begun entry
 orders_more records (Began order) = omega arith
-orders_more records (Opened unit) = omega (arith, length_come stages.Open (orders_of records))
-orders_more records (Ended code) = omega (arith, length_come (stages.Ended code) (orders_of records))
+orders_more records (Opened unit) = omega (arith, length_come reached.Open (orders_of records))
+orders_more records (Ended code) = omega (arith, length_come (reached.Ended code) (orders_of records))
 orders_more records (Closed unit) = omega arith
 
 within_next : (journal : JournalState) (entry : Record) → MayBegin journal entry

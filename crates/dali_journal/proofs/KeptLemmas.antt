@@ -10,8 +10,8 @@ use Rattle.dali_journal.specs.declared.record.Record.{Record}
 use Rattle.dali_journal.specs.declared.record.Record.TheVariants.{Began, Opened, Ended, Closed}
 use Rattle.dali_journal.specs.declared.standing.Standing.{Standing}
 use Rattle.dali_journal.specs.declared.standing.Standing.TheVariants as standings
-use Rattle.dali_journal.specs.declared.kept.Stage.{Stage}
-use Rattle.dali_journal.specs.declared.kept.Stage.TheVariants as stages
+use Rattle.dali_journal.specs.declared.kept.Progress.{Progress}
+use Rattle.dali_journal.specs.declared.kept.Progress.TheVariants as reached
 use Rattle.dali_journal.specs.declared.kept.Kept.{Kept}
 use Rattle.dali_journal.specs.declared.kept.Kept.TheVariants as kepts
 use Rattle.dali_journal.specs.Sentence.{Allows, next_standing, standing_of, is_begun, IsSentence}
@@ -46,11 +46,11 @@ shape (entry ∷ older) s = shape_next (standing_of older) entry older s.1 (shap
 -- an end ends the newest order, which wasn't ended
 record EndsOne (older : List Record) : Type 0 where
   pub order : Contents
-  pub stage : Stage
+  pub progress : Progress
   pub before : List Record
-  pub rest : List (Contents × Stage)
-  pub unfinished : kept_at order stage ≡ kepts.Unfinished order
-  pub orders : orders_of older ≡ (order, stage) ∷ rest
+  pub rest : List (Contents × Progress)
+  pub unfinished : kept_at order progress ≡ kepts.Unfinished order
+  pub orders : orders_of older ≡ (order, progress) ∷ rest
   pub stands : ((standing_of older ≡ standings.Began order) × (older ≡ Began order ∷ before))
       ⊎ ((standing_of older ≡ standings.Opened order) × (older ≡ Opened order.unit ∷ Began order ∷ before))
 
@@ -60,7 +60,7 @@ ends_one : (standing : Standing) (code : Code) (older : List Record) → standin
 ends_one (standings.Began order) code older e a n s =
     record {
       order = order;
-      stage = stages.Begun;
+      progress = reached.Begun;
       before = s.0;
       rest = n.0;
       unfinished = refl;
@@ -70,7 +70,7 @@ ends_one (standings.Began order) code older e a n s =
 ends_one (standings.Opened order) code older e a n s =
     record {
       order = order;
-      stage = stages.Open;
+      progress = reached.Open;
       before = s.0;
       rest = n.0;
       unfinished = refl;
@@ -86,14 +86,14 @@ ended_one code older s = ends_one (standing_of older) code older refl s.1 (newes
 kept_before : (older : List Record) (one : EndsOne older) (id : ℕ) (test : Bool) → (one.order.id == id) ≡ test
     → kept_of id older ≡ cond test (kepts.Unfinished one.order) (kept_among id one.rest)
 kept_before older one id test t =
-    ap (kept_among id) one.orders ∙ ap (λ b. cond b (kept_at one.order one.stage) (kept_among id one.rest)) t
+    ap (kept_among id) one.orders ∙ ap (λ b. cond b (kept_at one.order one.progress) (kept_among id one.rest)) t
     ∙ ap (λ k. cond test k (kept_among id one.rest)) one.unfinished
 
 kept_after : (code : Code) (older : List Record) (one : EndsOne older) (id : ℕ) (test : Bool)
     → (one.order.id == id) ≡ test
     → kept_of id (Ended code ∷ older) ≡ cond test (kepts.Ended one.order code) (kept_among id one.rest)
 kept_after code older one id test t =
-    ap (λ os. kept_among id (come_to (stages.Ended code) os)) one.orders
+    ap (λ os. kept_among id (come_to (reached.Ended code) os)) one.orders
     ∙ ap (λ b. cond b (kepts.Ended one.order code) (kept_among id one.rest)) t
 
 -- no two of these are one

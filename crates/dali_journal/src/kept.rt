@@ -14,7 +14,7 @@ pub enum Kept {
 
 /// How far an order has come, as the definitions of journals and writers tell it (profile).
 #[derive(Clone, Copy, Debug, PartialEq, Eq)]
-pub enum Stage {
+pub enum Progress {
     /// The order was begun.
     Begun,
     /// Its unit was opened.

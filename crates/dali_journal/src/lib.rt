@@ -15,7 +15,7 @@ mod standing;
 
 pub use fault::{JournalFault, NoMemory};
 pub use journal::Journal;
-pub use kept::{Kept, Stage};
+pub use kept::{Kept, Progress};
 pub use read::Piece;
 pub use record::{Code, Record};
 pub use standing::Standing;

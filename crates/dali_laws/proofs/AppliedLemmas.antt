@@ -3,7 +3,7 @@ use Rattle.std.proofs.Common.{◌≡◌, refl, ap, ◌∙◌, ℕ, true, List, [
 use Rattle.dali_bank.specs.Order.{Contents}
 use Rattle.dali_bus.specs.World.{World, byte_at}
 use Rattle.dali_journal.specs.declared.record.Record.{Record}
-use Rattle.dali_journal.specs.declared.kept.Stage.{Stage}
+use Rattle.dali_journal.specs.declared.kept.Progress.{Progress}
 use Rattle.dali_journal.specs.Orders.{orders_of}
 use Rattle.dali_trace.specs.Possible.{Mark, Applied, Untouched, InDoubt, mark_of, byte_for, MayHold, IsPossible}
 use Rattle.dali_trace.specs.Possible.{Settles, IsSettled, applied_to, applied}
@@ -20,7 +20,7 @@ settled Untouched None before sole byte one is only may = only is may
 settled InDoubt (Some update) before sole byte one is only may = absurd is
 settled InDoubt None before sole byte one is only may = only is may
 
-is_applied : (first address bank location byte : ℕ) (orders : List (Contents × Stage))
+is_applied : (first address bank location byte : ℕ) (orders : List (Contents × Progress))
     → IsSettled address bank location orders
     → IsPossible first address bank location orders byte → byte ≡ applied first address bank location orders
 is_applied first address bank location byte [] is possible = possible

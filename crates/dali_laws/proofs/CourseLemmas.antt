@@ -11,8 +11,8 @@ use Rattle.dali_journal.specs.declared.record.Record.{Record}
 use Rattle.dali_journal.specs.declared.record.Record.TheVariants.{Began, Opened, Ended, Closed}
 use Rattle.dali_journal.specs.declared.standing.Standing.{Standing}
 use Rattle.dali_journal.specs.declared.standing.Standing.TheVariants as standings
-use Rattle.dali_journal.specs.declared.kept.Stage.{Stage}
-use Rattle.dali_journal.specs.declared.kept.Stage.TheVariants as stages
+use Rattle.dali_journal.specs.declared.kept.Progress.{Progress}
+use Rattle.dali_journal.specs.declared.kept.Progress.TheVariants as reached
 use Rattle.dali_journal.specs.Sentence.{Allows, next_standing, standing_of}
 use Rattle.dali_journal.specs.Orders.{orders_of, come_to}
 use Rattle.dali_write.specs.Exchanges.{Exchange}
@@ -36,21 +36,22 @@ use Rattle.dali_laws.proofs.MomentLemmas.{may_keep, may_send}
 use Rattle.dali_laws.proofs.StandingLemmas.{begun_order, open_order}
 
 -- a start: an order is taken where none is at work, a trace begins or was stopped
-begins_taken : (stands : Standing) (order : Contents) (ended : Bool) (orders : List (Contents × Stage))
+begins_taken : (stands : Standing) (order : Contents) (ended : Bool) (orders : List (Contents × Progress))
     → is_at_work stands ≡ false → HasCome stands stands (Some order) ended orders [] [] 0
 begins_taken standings.Idle order ended orders idle = (refl, refl, omega arith)
 begins_taken (standings.Left unit) order ended orders idle = (refl, refl, omega arith)
 begins_taken (standings.Began other) order ended orders idle = cc
 begins_taken (standings.Opened other) order ended orders idle = cc
 
-begins_anew : (stands : Standing) (orders : List (Contents × Stage)) → HasCome stands stands None false orders [] [] 0
+begins_anew : (stands : Standing) (orders : List (Contents × Progress))
+    → HasCome stands stands None false orders [] [] 0
 begins_anew standings.Idle orders = tt
 begins_anew (standings.Left unit) orders = tt
 begins_anew (standings.Began order) orders = ([], refl, refl, omega arith)
 begins_anew (standings.Opened order) orders = ([], refl, (refl, refl), omega arith)
 
 -- a saying
-after_saying : (first now : Standing) (waits : Option Contents) (ended : Bool) (orders : List (Contents × Stage))
+after_saying : (first now : Standing) (waits : Option Contents) (ended : Bool) (orders : List (Contents × Progress))
     (sent told : List Exchange) (kept : ℕ)
     → HasCome first now waits ended orders sent told kept → HasCome first now None false orders sent told kept
 after_saying first standings.Idle waits ended orders sent told kept come = tt
@@ -75,7 +76,7 @@ waits_on past unit (Other word) may = absurd may
 
 -- a frame
 after_frame : (past : List Happening) (first now : Standing) (waiter : Option Contents) (ended : Bool)
-    (orders : List (Contents × Stage)) (sent told : List Exchange) (kept : ℕ) (x : Exchange)
+    (orders : List (Contents × Progress)) (sent told : List Exchange) (kept : ℕ) (x : Exchange)
     → waiting past ≡ waiter → MaySend past now x.frame → Asks now told (asks.Send x.frame)
     → HasCome first now waiter ended orders sent told kept
     → HasCome first now waiter ended orders (x ∷ sent) (x ∷ told) kept
@@ -102,14 +103,15 @@ pub closed_verdict : (unit : ℕ) (verdict : Verdict) (entry : Record) → EndsI
 closed_verdict unit verdict (Closed closed) ends = let told = ends.1 in let is = ends.0 in (cc, cc)
 closed_verdict unit verdict _ ends = absurd ends.0
 
-newest_ended : (first : Standing) (order : Contents) (code : Code) (stage : Stage) (orders : List (Contents × Stage))
+newest_ended : (first : Standing) (order : Contents) (code : Code) (progress : Progress)
+    (orders : List (Contents × Progress))
     (sent : List Exchange)
-    → (older : List (Contents × Stage)) × (orders ≡ (order, stage) ∷ older) → EndedBy first order code sent
-    → NewestEndedBy first (come_to (stages.Ended code) orders) sent
-newest_ended first order code stage orders sent newest ended = rw newest.1 ended
+    → (older : List (Contents × Progress)) × (orders ≡ (order, progress) ∷ older) → EndedBy first order code sent
+    → NewestEndedBy first (come_to (reached.Ended code) orders) sent
+newest_ended first order code progress orders sent newest ended = rw newest.1 ended
 
 -- where no order waits, and the newest one has ended
-now_ended : (first now : Standing) (orders : List (Contents × Stage)) (sent told : List Exchange) (kept : ℕ)
+now_ended : (first now : Standing) (orders : List (Contents × Progress)) (sent told : List Exchange) (kept : ℕ)
     → is_at_work now ≡ false
     → NewestEndedBy first orders sent → kept ≤ 4 → HasCome first now None true orders sent told kept
 now_ended first standings.Idle orders sent told kept idle newest few = (newest, few)
@@ -131,18 +133,18 @@ ended_newest : (first stands : Standing) (records : List Record) (code : Code) (
     (sent told : List Exchange) (kept : ℕ) (verdict : Verdict)
     → standing_of records ≡ stands → Asks stands told (asks.Ended verdict) → EndsIn stands verdict (Ended code)
     → HasCome first stands waiter ended (orders_of records) sent told kept
-    → NewestEndedBy first (come_to (stages.Ended code) (orders_of records)) sent × (kept ≤ 3)
+    → NewestEndedBy first (come_to (reached.Ended code) (orders_of records)) sent × (kept ≤ 3)
 ended_newest first standings.Idle records code waiter ended sent told kept verdict at asked ends come = absurd asked
 ended_newest first (standings.Left unit) records code waiter ended sent told kept verdict at asked ends come =
     let no = (closed_verdict unit verdict (Ended code) ends).1 in cc
 ended_newest first (standings.Began order) records code waiter ended sent told kept verdict at asked ends come =
     let few = come.3 in (
-      newest_ended first order code stages.Begun (orders_of records) sent (begun_order records order at)
+      newest_ended first order code reached.Begun (orders_of records) sent (begun_order records order at)
           (verdict, told, come.0, come.1, inl (ends, asked, come.2)),
       omega arith,
     )
 ended_newest first (standings.Opened order) records code waiter ended sent told kept verdict at asked ends come = (
-  newest_ended first order code stages.Open (orders_of records) sent (open_order records order at)
+  newest_ended first order code reached.Open (orders_of records) sent (open_order records order at)
       (verdict, told, come.0, come.1, inr (ends, asked, come.2)),
   come.3,
 )
@@ -156,12 +158,12 @@ after_ended start past code allowed planned come =
     refl planned.1 planned.2 come in
     let few = newest.1 in
     now_ended (stood_at start past) (next_standing (standing_at start past) (Ended code))
-    (come_to (stages.Ended code) (orders_of (records_of start past)))
+    (come_to (reached.Ended code) (orders_of (records_of start past)))
     (sent_since_taken past) [] (suc (kept_since past)) (idle_next (standing_at start past) code allowed) newest.0
     (omega arith)
 
 after_opened : (first stands : Standing) (unit : ℕ) (waiter : Option Contents) (ended : Bool)
-    (orders others : List (Contents × Stage)) (sent told : List Exchange) (kept : ℕ) (verdict : Verdict)
+    (orders others : List (Contents × Progress)) (sent told : List Exchange) (kept : ℕ) (verdict : Verdict)
     → Allows stands (Opened unit) → Asks stands told (asks.Ended verdict) → EndsIn stands verdict (Opened unit)
     → HasCome first stands waiter ended orders sent told kept
     → HasCome first (next_standing stands (Opened unit)) waiter ended others sent [] (suc kept)
@@ -188,7 +190,7 @@ after_opened first (standings.Began order) unit waiter ended orders others sent 
     checked (standings.Opened opened) closed by = absurd closed
 
 after_closed : (first stands : Standing) (unit : ℕ) (waiter : Option Contents) (ended : Bool)
-    (orders : List (Contents × Stage)) (sent told : List Exchange) (kept : ℕ) (verdict : Verdict)
+    (orders : List (Contents × Progress)) (sent told : List Exchange) (kept : ℕ) (verdict : Verdict)
     → Allows stands (Closed unit) → IsSome waiter → Asks stands told (asks.Ended verdict)
     → EndsIn stands verdict (Closed unit)
     → HasCome first stands waiter ended orders sent told kept
@@ -214,7 +216,7 @@ after_closed first (standings.Left left) unit (Some order) ended orders sent tol
     (refl, subst (λ (s : Standing). ClosedBy s sent) (sym come.0) closed, omega arith)
 
 after_began : (first stands : Standing) (order : Contents) (waiter next : Option Contents) (ended : Bool)
-    (orders others : List (Contents × Stage)) (sent told : List Exchange) (kept : ℕ)
+    (orders others : List (Contents × Progress)) (sent told : List Exchange) (kept : ℕ)
     → Allows stands (Began order) → waiter ≡ Some order → HasCome first stands waiter ended orders sent told kept
     → HasCome first (standings.Began order) next false others sent [] (suc kept)
 after_began first (standings.Began other) order waiter next ended orders others sent told kept allowed waits come =

@@ -5,8 +5,8 @@ use Rattle.dali_journal.specs.declared.record.Code.{Code}
 use Rattle.dali_journal.specs.declared.record.Record.TheVariants.{Ended}
 use Rattle.dali_journal.specs.declared.standing.Standing.{Standing}
 use Rattle.dali_journal.specs.declared.standing.Standing.TheVariants as standings
-use Rattle.dali_journal.specs.declared.kept.Stage.{Stage}
-use Rattle.dali_journal.specs.declared.kept.Stage.TheVariants as stages
+use Rattle.dali_journal.specs.declared.kept.Progress.{Progress}
+use Rattle.dali_journal.specs.declared.kept.Progress.TheVariants as reached
 use Rattle.dali_journal.specs.Orders.{orders_of}
 use Rattle.dali_write.specs.Exchanges.{Exchange}
 use Rattle.dali_write.specs.declared.ask.Ask.TheVariants as asks
@@ -53,13 +53,13 @@ EndedBy first order code sent =
     × Wants order.unit (unlock order.updates) told (asks.Ended verdict) × OpenedBy first order older))
 
 -- the newest order has ended, and these are its frames
-abbrev pub NewestEndedBy : Standing → List (Contents × Stage) → List Exchange → Type 0
-NewestEndedBy stands ((order, stages.Ended code) ∷ older) sent = EndedBy stands order code sent
+abbrev pub NewestEndedBy : Standing → List (Contents × Progress) → List Exchange → Type 0
+NewestEndedBy stands ((order, reached.Ended code) ∷ older) sent = EndedBy stands order code sent
 NewestEndedBy stands other sent = ⊥
 
 -- How an order has come along since its start, where the records stood so at the start and stand so now: what was
 -- sent since then, of it what the session at hand was told, and how many records were kept.
-abbrev pub HasCome : Standing → Standing → Option Contents → Bool → List (Contents × Stage) → List Exchange
+abbrev pub HasCome : Standing → Standing → Option Contents → Bool → List (Contents × Progress) → List Exchange
     → List Exchange → ℕ → Type 0
 HasCome first (standings.Began order) waits ended orders sent told kept =
     (older : List Exchange) × (sent ≡ told ++ older) × ClosedBy first older × (kept ≤ 2)

@@ -6,8 +6,8 @@ use Rattle.dali_journal.specs.declared.record.Code.{Code}
 use Rattle.dali_journal.specs.declared.record.Code.TheVariants as codes
 use Rattle.dali_journal.specs.declared.record.Record.{Record}
 use Rattle.dali_journal.specs.declared.record.Record.TheVariants.{Began, Opened, Ended, Closed}
-use Rattle.dali_journal.specs.declared.kept.Stage.{Stage}
-use Rattle.dali_journal.specs.declared.kept.Stage.TheVariants as stages
+use Rattle.dali_journal.specs.declared.kept.Progress.{Progress}
+use Rattle.dali_journal.specs.declared.kept.Progress.TheVariants as reached
 use Rattle.dali_journal.specs.declared.standing.Standing.{Standing}
 use Rattle.dali_journal.specs.declared.standing.Standing.TheVariants as standings
 use Rattle.dali_journal.specs.Sentence.{Allows}
@@ -177,10 +177,10 @@ due start past other work may planned = absurd work
 
 -- No two of them at once
 
-ends_as_one : (one other : ℕ) (code last : Code) (orders : List (Contents × Stage)) → EndsAs one code orders
+ends_as_one : (one other : ℕ) (code last : Code) (orders : List (Contents × Progress)) → EndsAs one code orders
     → EndsAs other last orders
     → Answered other (replies.Kept last) ≡ Answered one (replies.Kept code)
-ends_as_one one other code last ((order, stages.Ended newest) ∷ older) first second =
+ends_as_one one other code last ((order, reached.Ended newest) ∷ older) first second =
     let a = first.0 in let b = second.0 in let c = first.1 in let d = second.1 in cc
 ends_as_one one other code last orders first second = absurd first
 

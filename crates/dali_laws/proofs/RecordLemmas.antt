@@ -9,8 +9,8 @@ use Rattle.dali_journal.specs.declared.record.Record.{Record}
 use Rattle.dali_journal.specs.declared.record.Record.TheVariants.{Began, Opened, Ended, Closed}
 use Rattle.dali_journal.specs.declared.standing.Standing.{Standing}
 use Rattle.dali_journal.specs.declared.standing.Standing.TheVariants as standings
-use Rattle.dali_journal.specs.declared.kept.Stage.{Stage}
-use Rattle.dali_journal.specs.declared.kept.Stage.TheVariants as stages
+use Rattle.dali_journal.specs.declared.kept.Progress.{Progress}
+use Rattle.dali_journal.specs.declared.kept.Progress.TheVariants as reached
 use Rattle.dali_journal.specs.Sentence.{Allows, next_standing, standing_of, named_unit}
 use Rattle.dali_journal.specs.Orders.{orders_of, come_to}
 use Rattle.dali_write.specs.Findings.{ShowsAll, IsWritten}
@@ -74,16 +74,16 @@ written : (found : Option ℕ) (before : ℕ → Type 0) (byte : ℕ) → ((upda
 written None before byte is may = may
 written (Some update) before byte is may = is update refl
 
--- the newest order comes from one stage to another
-abbrev Comes : World → Stage → Stage → Contents → Type 0
+-- the newest order comes from one progress to another
+abbrev Comes : World → Progress → Progress → Contents → Type 0
 Comes now old new order =
-    (older : List (Contents × Stage)) (address bank location first byte : ℕ)
+    (older : List (Contents × Progress)) (address bank location first byte : ℕ)
     → byte_at now address bank location ≡ Some byte
     → IsPossible first address bank location ((order, old) ∷ older) byte
     → IsPossible first address bank location ((order, new) ∷ older) byte
 
-comes_fit : (zero now : World) (records : List Record) (entry : Record) (order : Contents) (old new : Stage)
-    → ((older : List (Contents × Stage)) × orders_of records ≡ (order, old) ∷ older)
+comes_fit : (zero now : World) (records : List Record) (entry : Record) (order : Contents) (old new : Progress)
+    → ((older : List (Contents × Progress)) × orders_of records ≡ (order, old) ∷ older)
     → orders_of (entry ∷ records) ≡ come_to new (orders_of records)
     → ((address : ℕ) → HasBeenOpened address records → HasBeenOpened address (entry ∷ records))
     → Comes now old new order → Fits zero records now → Fits zero (entry ∷ records) now
@@ -91,13 +91,13 @@ comes_fit zero now records entry order old new newest came opened comes fits =
     let so : orders_of (entry ∷ records) ≡ (order, new) ∷ newest.0 = came ∙ ap (come_to new) newest.1 in
     changed_fits zero now records (entry ∷ records)
     (λ address bank location first byte is possible.
-    let P : List (Contents × Stage) → Type 0 = λ orders. IsPossible first address bank location orders byte in
+    let P : List (Contents × Progress) → Type 0 = λ orders. IsPossible first address bank location orders byte in
     subst P (sym so) (comes newest.0 address bank location first byte is (subst P newest.1 possible)))
     opened fits
 
 -- the bytes of an order that is done
 done_comes : (now : World) (order : Contents) → IsWritten (Shows now order.unit) order.updates
-    → Comes now stages.Open (stages.Ended Done) order
+    → Comes now reached.Open (reached.Ended Done) order
 done_comes now order done older address bank location first byte is possible =
     written (byte_for order address bank location) (IsPossible first address bank location older) byte
     (λ update found. by update found (byte_for_or_none order address bank location)) possible where
@@ -127,33 +127,34 @@ keeps_fitting zero now records (Began order) stands at allowed grounds fits =
       by None before byte may = may
       by (Some update) before byte may = may
 keeps_fitting zero now records (Opened unit) (standings.Began order) at allowed grounds fits =
-    comes_fit zero now records (Opened unit) order stages.Begun stages.Open (begun_order records order at) refl
+    comes_fit zero now records (Opened unit) order reached.Begun reached.Open (begun_order records order at) refl
     (λ address opened. inr opened)
     (λ older address bank location first byte is possible.
     doubted (byte_for order address bank location) (IsPossible first address bank location older) byte possible)
     fits
 keeps_fitting zero now records (Ended Short) (standings.Began order) at allowed grounds fits =
-    comes_fit zero now records (Ended Short) order stages.Begun (stages.Ended Short) (begun_order records order at) refl
+    comes_fit zero now records (Ended Short) order reached.Begun (reached.Ended Short)
+    (begun_order records order at) refl
     (λ address opened. opened)
     (λ older address bank location first byte is possible. possible) fits
 keeps_fitting zero now records (Ended Format) (standings.Began order) at allowed grounds fits =
-    comes_fit zero now records (Ended Format) order stages.Begun (stages.Ended Format) (begun_order records order at)
+    comes_fit zero now records (Ended Format) order reached.Begun (reached.Ended Format) (begun_order records order at)
     refl (λ address opened. opened)
     (λ older address bank location first byte is possible. possible) fits
 keeps_fitting zero now records (Ended Silent) (standings.Began order) at allowed grounds fits =
-    comes_fit zero now records (Ended Silent) order stages.Begun (stages.Ended Silent) (begun_order records order at)
+    comes_fit zero now records (Ended Silent) order reached.Begun (reached.Ended Silent) (begun_order records order at)
     refl (λ address opened. opened)
     (λ older address bank location first byte is possible. possible) fits
 keeps_fitting zero now records (Ended Done) (standings.Opened order) at allowed grounds fits =
-    comes_fit zero now records (Ended Done) order stages.Open (stages.Ended Done) (open_order records order at) refl
+    comes_fit zero now records (Ended Done) order reached.Open (reached.Ended Done) (open_order records order at) refl
     (λ address opened. opened)
     (done_comes now order grounds) fits
 keeps_fitting zero now records (Ended Doubt) (standings.Opened order) at allowed grounds fits =
-    comes_fit zero now records (Ended Doubt) order stages.Open (stages.Ended Doubt) (open_order records order at) refl
+    comes_fit zero now records (Ended Doubt) order reached.Open (reached.Ended Doubt) (open_order records order at) refl
     (λ address opened. opened)
     (λ older address bank location first byte is possible. possible) fits
 keeps_fitting zero now records (Ended DoubtOpen) (standings.Opened order) at allowed grounds fits =
-    comes_fit zero now records (Ended DoubtOpen) order stages.Open (stages.Ended DoubtOpen)
+    comes_fit zero now records (Ended DoubtOpen) order reached.Open (reached.Ended DoubtOpen)
     (open_order records order at) refl (λ address opened. opened)
     (λ older address bank location first byte is possible. possible) fits
 keeps_fitting zero now records (Closed unit) (standings.Left left) at allowed grounds fits =

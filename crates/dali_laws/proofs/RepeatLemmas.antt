@@ -7,8 +7,8 @@ use Rattle.dali_bank.specs.Order.{Contents}
 use Rattle.dali_journal.specs.declared.record.Code.{Code}
 use Rattle.dali_journal.specs.declared.record.Record.{Record}
 use Rattle.dali_journal.specs.declared.record.Record.TheVariants.{Began, Opened, Ended, Closed}
-use Rattle.dali_journal.specs.declared.kept.Stage.{Stage}
-use Rattle.dali_journal.specs.declared.kept.Stage.TheVariants as stages
+use Rattle.dali_journal.specs.declared.kept.Progress.{Progress}
+use Rattle.dali_journal.specs.declared.kept.Progress.TheVariants as reached
 use Rattle.dali_journal.specs.declared.kept.Kept.TheVariants as kepts
 use Rattle.dali_journal.specs.Sentence.{is_begun, IsSentence}
 use Rattle.dali_journal.specs.Orders.{orders_of, come_to, kept_at, kept_among, kept_of}
@@ -25,21 +25,21 @@ use Rattle.dali_laws.proofs.TakenLemmas.{neither}
 use Rattle.dali_laws.proofs.QuietLemmas.{stays_still}
 
 -- no two orders have one number
-abbrev AreDistinct : List (Contents × Stage) → Type 0
+abbrev AreDistinct : List (Contents × Progress) → Type 0
 AreDistinct [] = Unit {0}
 AreDistinct (newest ∷ older) = (kept_among newest.0.id older ≡ kepts.Absent) × AreDistinct older
 
 -- what is kept of an order is never nothing
-pub never_absent : {A : Type 0} (order : Contents) (stage : Stage) → kept_at order stage ≡ kepts.Absent → A
-never_absent order stages.Begun e = cc
-never_absent order stages.Open e = cc
-never_absent order (stages.Ended code) e = cc
+pub never_absent : {A : Type 0} (order : Contents) (progress : Progress) → kept_at order progress ≡ kepts.Absent → A
+never_absent order reached.Begun e = cc
+never_absent order reached.Open e = cc
+never_absent order (reached.Ended code) e = cc
 
-none_come : (id : ℕ) (stage : Stage) (orders : List (Contents × Stage)) → kept_among id orders ≡ kepts.Absent
-    → kept_among id (come_to stage orders) ≡ kepts.Absent
-none_come id stage [] e = refl
-none_come id stage (newest ∷ older) e = by (newest.0.id == id) refl where
-  by : (x : Bool) → (newest.0.id == id) ≡ x → kept_among id (come_to stage (newest ∷ older)) ≡ kepts.Absent
+none_come : (id : ℕ) (progress : Progress) (orders : List (Contents × Progress)) → kept_among id orders ≡ kepts.Absent
+    → kept_among id (come_to progress orders) ≡ kepts.Absent
+none_come id progress [] e = refl
+none_come id progress (newest ∷ older) e = by (newest.0.id == id) refl where
+  by : (x : Bool) → (newest.0.id == id) ≡ x → kept_among id (come_to progress (newest ∷ older)) ≡ kepts.Absent
   by true p = let some : kept_at newest.0 newest.1 ≡ kepts.Absent = rw p at e in never_absent newest.0 newest.1 some
   by false p = let none : kept_among id older ≡ kepts.Absent = rw p at e in rw p none
 
@@ -47,29 +47,29 @@ absent : (id : ℕ) (records : List Record) → is_begun id records ≡ false �
 absent id [] e = refl
 absent id (Began order ∷ older) e =
     let both = neither (order.id == id) (is_begun id older) e in rw both.0 (absent id older both.1)
-absent id (Opened unit ∷ older) e = none_come id stages.Open (orders_of older) (absent id older e)
-absent id (Ended code ∷ older) e = none_come id (stages.Ended code) (orders_of older) (absent id older e)
+absent id (Opened unit ∷ older) e = none_come id reached.Open (orders_of older) (absent id older e)
+absent id (Ended code ∷ older) e = none_come id (reached.Ended code) (orders_of older) (absent id older e)
 absent id (Closed unit ∷ older) e = absent id older e
 
-distinct_come : (stage : Stage) (orders : List (Contents × Stage)) → AreDistinct orders
-    → AreDistinct (come_to stage orders)
-distinct_come stage [] distinct = tt
-distinct_come stage (newest ∷ older) distinct = distinct
+distinct_come : (progress : Progress) (orders : List (Contents × Progress)) → AreDistinct orders
+    → AreDistinct (come_to progress orders)
+distinct_come progress [] distinct = tt
+distinct_come progress (newest ∷ older) distinct = distinct
 
 distinct_orders : (records : List Record) → IsSentence records → AreDistinct (orders_of records)
 distinct_orders [] sentence = tt
 distinct_orders (Began order ∷ older) sentence = (absent order.id older sentence.2, distinct_orders older sentence.0)
 distinct_orders (Opened unit ∷ older) sentence =
-    distinct_come stages.Open (orders_of older) (distinct_orders older sentence.0)
+    distinct_come reached.Open (orders_of older) (distinct_orders older sentence.0)
 distinct_orders (Ended code ∷ older) sentence =
-    distinct_come (stages.Ended code) (orders_of older) (distinct_orders older sentence.0)
+    distinct_come (reached.Ended code) (orders_of older) (distinct_orders older sentence.0)
 distinct_orders (Closed unit ∷ older) sentence = distinct_orders older sentence.0
 
-found_first : (x newest : Contents × Stage) (older : List (Contents × Stage)) → newest ≡ x
+found_first : (x newest : Contents × Progress) (older : List (Contents × Progress)) → newest ≡ x
     → kept_among x.0.id (newest ∷ older) ≡ kept_at x.0 x.1
 found_first x newest older e = rw e (rw (eq-eqb x.0.id x.0.id refl) refl)
 
-found_later : (x newest : Contents × Stage) (older : List (Contents × Stage))
+found_later : (x newest : Contents × Progress) (older : List (Contents × Progress))
     → kept_among newest.0.id older ≡ kepts.Absent
     → kept_among x.0.id older ≡ kept_at x.0 x.1 → kept_among x.0.id (newest ∷ older) ≡ kept_at x.0 x.1
 found_later x newest older none some = by (newest.0.id == x.0.id) refl where
@@ -80,7 +80,8 @@ found_later x newest older none some = by (newest.0.id == x.0.id) refl where
       never_absent x.0 x.1 (sym some ∙ gone)
   by false p = rw p some
 
-found_at : (x : Contents × Stage) (orders : List (Contents × Stage)) (k : ℕ) → AreDistinct orders → k < length orders
+found_at : (x : Contents × Progress) (orders : List (Contents × Progress)) (k : ℕ) → AreDistinct orders
+    → k < length orders
     → get_or orders k x ≡ x
     → kept_among x.0.id orders ≡ kept_at x.0 x.1
 found_at x [] k distinct less e = absurd (omega arith)
@@ -90,10 +91,10 @@ found_at x (newest ∷ older) (suc k) distinct less e =
 
 -- an order that has ended is what is kept of its number
 pub ended_kept : (records : List Record) (order : Contents) (code : Code) → IsSentence records
-    → Contains (orders_of records) (order, stages.Ended code)
+    → Contains (orders_of records) (order, reached.Ended code)
     → kept_of order.id records ≡ kepts.Ended order code
 ended_kept records order code sentence among =
-    found_at (order, stages.Ended code) (orders_of records) among.0 (distinct_orders records sentence) among.1 among.2
+    found_at (order, reached.Ended code) (orders_of records) among.0 (distinct_orders records sentence) among.1 among.2
 
 -- the records of a legal trace are a sentence within the limit
 pub legal_sentence : (start : Start) (past : List Happening) → Legal start past
@@ -120,7 +121,7 @@ answered start past order code (Keeps entry) ended due = absurd due
 answered start past order code Stopped ended due = absurd due
 
 pub repeat_answered : (start : Start) (past : List Happening) (order : Contents) (code : Code) (next : Happening)
-    → Contains (orders_of (records_of start past)) (order, stages.Ended code) → Legal start (next ∷ Asked order ∷ past)
+    → Contains (orders_of (records_of start past)) (order, reached.Ended code) → Legal start (next ∷ Asked order ∷ past)
     → next ≡ Answered order.id (replies.Kept code)
 repeat_answered start past order code next among legal =
     answered start past order code next
@@ -146,7 +147,7 @@ none_more (Keeps entry ∷ more) older none before = none_more more older none b
 none_more (Stopped ∷ more) older none before = none_more more older none before
 
 pub repeat_quiet : (start : Start) (past more : List Happening) (order : Contents) (code : Code) (next : Happening)
-    → Contains (orders_of (records_of start past)) (order, stages.Ended code) → is_busy start past ≡ false
+    → Contains (orders_of (records_of start past)) (order, reached.Ended code) → is_busy start past ≡ false
     → Legal start (more ++ next ∷ Asked order ∷ past) → NoneTaken more
     → NothingIsDone start (more ++ next ∷ Asked order ∷ []) past
 repeat_quiet start past more order code next among busy legal none =

@@ -36,7 +36,7 @@ use Rattle.dali_trace.specs.declared.happening.Happening.{Happening}
 use Rattle.dali_trace.specs.declared.happening.Happening.TheVariants.{Answered}
 use Rattle.dali_trace.specs.Trace.{Start, records_of, standing_at, sent_since_taken, waiting, has_ended, is_at_work}
 use Rattle.dali_trace.specs.Legal.{Legal, MaySay, HasNumber}
-use Rattle.dali_journal.specs.declared.kept.Stage.{Stage}
+use Rattle.dali_journal.specs.declared.kept.Progress.{Progress}
 use Rattle.dali_journal.specs.Orders.{orders_of}
 use Rattle.dali_trace.specs.Grounds.{EndsIn}
 use Rattle.dali_trace.specs.ByPlan.{told_in, Asks, IsPlanned, ByPlan}
@@ -362,7 +362,8 @@ spared_closed (standings.Left other) left unit bank sent begun last run at onset
 same_order : (one other : Contents) (hand : Option Contents) → hand ≡ Some one → hand ≡ Some other → one ≡ other
 same_order one other hand is also = let both : Some one ≡ Some other = sym is ∙ also in cc
 
-pub blocked_never : (first now : Standing) (waiter : Option Contents) (ended : Bool) (orders : List (Contents × Stage))
+pub blocked_never : (first now : Standing) (waiter : Option Contents) (ended : Bool)
+    (orders : List (Contents × Progress))
     (sent told : List Exchange) (kept id left : ℕ)
     → now ≡ standings.Left left
     → HasNumber id waiter → Asks now told (asks.Ended verdicts.NotClosed)

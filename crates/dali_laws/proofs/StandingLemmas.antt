@@ -8,8 +8,8 @@ use Rattle.dali_journal.specs.declared.record.Record.{Record}
 use Rattle.dali_journal.specs.declared.record.Record.TheVariants.{Began, Opened, Ended, Closed}
 use Rattle.dali_journal.specs.declared.standing.Standing.{Standing}
 use Rattle.dali_journal.specs.declared.standing.Standing.TheVariants as standings
-use Rattle.dali_journal.specs.declared.kept.Stage.{Stage}
-use Rattle.dali_journal.specs.declared.kept.Stage.TheVariants as stages
+use Rattle.dali_journal.specs.declared.kept.Progress.{Progress}
+use Rattle.dali_journal.specs.declared.kept.Progress.TheVariants as reached
 use Rattle.dali_journal.specs.Sentence.{Allows, next_standing, standing_of, named_unit, IsSentence}
 use Rattle.dali_journal.specs.Orders.{orders_of, come_to}
 use Rattle.dali_trace.specs.Possible.{byte_for}
@@ -38,22 +38,22 @@ opened_by _ _ o e = cc
 
 -- the newest order of records that stand so, and how far it has come
 pub begun_order : (records : List Record) (o : Contents) → standing_of records ≡ standings.Began o
-    → (older : List (Contents × Stage)) × orders_of records ≡ (o, stages.Begun) ∷ older
+    → (older : List (Contents × Progress)) × orders_of records ≡ (o, reached.Begun) ∷ older
 begun_order [] o e = cc
 begun_order (entry ∷ rest) o e =
     let P : Record → Type 0 =
-    λ r. (older : List (Contents × Stage)) × orders_of (r ∷ rest) ≡ (o, stages.Begun) ∷ older in
+    λ r. (older : List (Contents × Progress)) × orders_of (r ∷ rest) ≡ (o, reached.Begun) ∷ older in
     subst P (sym (no_begun (standing_of rest) entry o e)) (orders_of rest, refl)
 
 pub open_order : (records : List Record) (o : Contents) → standing_of records ≡ standings.Opened o
-    → (older : List (Contents × Stage)) × orders_of records ≡ (o, stages.Open) ∷ older
+    → (older : List (Contents × Progress)) × orders_of records ≡ (o, reached.Open) ∷ older
 open_order [] o e = cc
 open_order (entry ∷ rest) o e =
     let by = opened_by (standing_of rest) entry o e in
     let before = begun_order rest o by.was in
     let P : Record → Type 0 =
-    λ r. (older : List (Contents × Stage)) × orders_of (r ∷ rest) ≡ (o, stages.Open) ∷ older in
-    subst P (sym by.is) (before.0, ap (come_to stages.Open) before.1)
+    λ r. (older : List (Contents × Progress)) × orders_of (r ∷ rest) ≡ (o, reached.Open) ∷ older in
+    subst P (sym by.is) (before.0, ap (come_to reached.Open) before.1)
 
 -- a unit that is named was opened
 pub named_opened : (records : List Record) (unit : ℕ) → IsSentence records

@@ -7,8 +7,8 @@ use Rattle.dali_journal.specs.declared.record.Record.{Record}
 use Rattle.dali_journal.specs.declared.record.Record.TheVariants.{Began, Opened, Ended, Closed}
 use Rattle.dali_journal.specs.declared.standing.Standing.{Standing}
 use Rattle.dali_journal.specs.declared.standing.Standing.TheVariants as standings
-use Rattle.dali_journal.specs.declared.kept.Stage.{Stage}
-use Rattle.dali_journal.specs.declared.kept.Stage.TheVariants as stages
+use Rattle.dali_journal.specs.declared.kept.Progress.{Progress}
+use Rattle.dali_journal.specs.declared.kept.Progress.TheVariants as reached
 use Rattle.dali_journal.specs.Sentence.{Allows, next_standing, standing_of}
 use Rattle.dali_journal.specs.Orders.{orders_of, come_to}
 use Rattle.dali_trace.specs.declared.happening.Event.{Event}
@@ -31,7 +31,7 @@ use Rattle.dali_laws.proofs.CourseLemmas.{idle_next}
 use Rattle.dali_laws.proofs.WorkLemmas.{within_limit, said_end}
 
 -- while an order is at hand the trace is busy
-at_hand_busy : (now : Standing) (waiter : Option Contents) (ended unsaid : Bool) (orders : List (Contents × Stage))
+at_hand_busy : (now : Standing) (waiter : Option Contents) (ended unsaid : Bool) (orders : List (Contents × Progress))
     (order : Contents)
     → order_at now waiter ended orders ≡ Some order
     → ((o : Contents) → waiter ≡ Some o → unsaid ≡ true) → (ended ≡ true → unsaid ≡ true)
@@ -54,7 +54,7 @@ busy start past order legal hand =
 
 -- a record leaves the order at hand
 still_opened : (now : Standing) (unit : ℕ) (waiter : Option Contents) (ended : Bool)
-    (orders others : List (Contents × Stage)) (order : Contents)
+    (orders others : List (Contents × Progress)) (order : Contents)
     → Allows now (Opened unit)
     → order_at now waiter ended orders ≡ Some order
     → order_at (next_standing now (Opened unit)) waiter ended others ≡ Some order
@@ -63,7 +63,8 @@ still_opened standings.Idle unit waiter ended orders others order allowed hand =
 still_opened (standings.Opened other) unit waiter ended orders others order allowed hand = absurd allowed
 still_opened (standings.Left left) unit waiter ended orders others order allowed hand = absurd allowed
 
-still_closed : (now : Standing) (unit : ℕ) (waiter : Option Contents) (ended : Bool) (orders : List (Contents × Stage))
+still_closed : (now : Standing) (unit : ℕ) (waiter : Option Contents) (ended : Bool)
+    (orders : List (Contents × Progress))
     (order : Contents)
     → Allows now (Closed unit) → IsSome waiter
     → order_at now waiter ended orders ≡ Some order → order_at standings.Idle waiter ended orders ≡ Some order
@@ -74,7 +75,7 @@ still_closed (standings.Began other) unit waiter ended orders order allowed some
 still_closed (standings.Opened other) unit waiter ended orders order allowed some hand = absurd allowed
 
 still_began : (now : Standing) (begun : Contents) (waiter : Option Contents) (ended : Bool)
-    (orders : List (Contents × Stage)) (order : Contents)
+    (orders : List (Contents × Progress)) (order : Contents)
     → Allows now (Began begun) → waiter ≡ Some begun
     → order_at now waiter ended orders ≡ Some order → Some begun ≡ Some order
 still_began standings.Idle begun (Some other) ended orders order allowed is hand = sym is ∙ hand
@@ -83,28 +84,29 @@ still_began (standings.Began other) begun waiter ended orders order allowed is h
 still_began (standings.Opened other) begun waiter ended orders order allowed is hand = absurd allowed
 still_began (standings.Left left) begun waiter ended orders order allowed is hand = absurd allowed
 
-newest_is : (next : Standing) (order : Contents) (stage : Stage) (older : List (Contents × Stage))
-    → is_at_work next ≡ false → order_at next None true ((order, stage) ∷ older) ≡ Some order
-newest_is standings.Idle order stage older idle = refl
-newest_is (standings.Left unit) order stage older idle = refl
-newest_is (standings.Began other) order stage older idle = cc
-newest_is (standings.Opened other) order stage older idle = cc
+newest_is : (next : Standing) (order : Contents) (progress : Progress) (older : List (Contents × Progress))
+    → is_at_work next ≡ false → order_at next None true ((order, progress) ∷ older) ≡ Some order
+newest_is standings.Idle order progress older idle = refl
+newest_is (standings.Left unit) order progress older idle = refl
+newest_is (standings.Began other) order progress older idle = cc
+newest_is (standings.Opened other) order progress older idle = cc
 
 still_ended : (now : Standing) (records : List Record) (code : Code) (waiter : Option Contents) (ended : Bool)
     (order : Contents)
     → standing_of records ≡ now → Allows now (Ended code)
     → order_at now waiter ended (orders_of records) ≡ Some order
-    → order_at (next_standing now (Ended code)) None true (come_to (stages.Ended code) (orders_of records)) ≡ Some order
+    → order_at (next_standing now (Ended code)) None true (come_to (reached.Ended code) (orders_of records))
+    ≡ Some order
 still_ended standings.Idle records code waiter ended order at allowed hand = absurd allowed
 still_ended (standings.Left unit) records code waiter ended order at allowed hand = absurd allowed
 still_ended (standings.Began begun) records code waiter ended order at allowed hand =
     let newest = begun_order records begun at in
-    rw newest.1 (newest_is (next_standing (standings.Began begun) (Ended code)) begun (stages.Ended code) newest.0
+    rw newest.1 (newest_is (next_standing (standings.Began begun) (Ended code)) begun (reached.Ended code) newest.0
     (idle_next (standings.Began begun) code allowed)
     ∙ hand)
 still_ended (standings.Opened opened) records code waiter ended order at allowed hand =
     let newest = open_order records opened at in
-    rw newest.1 (newest_is (next_standing (standings.Opened opened) (Ended code)) opened (stages.Ended code) newest.0
+    rw newest.1 (newest_is (next_standing (standings.Opened opened) (Ended code)) opened (reached.Ended code) newest.0
     (idle_next (standings.Opened opened) code allowed)
     ∙ hand)
 
@@ -135,7 +137,7 @@ same_number one other id hand is also number =
     let both : Some one ≡ Some other = sym is ∙ also in
     let same : one ≡ other = cc in sym number ∙ ap (λ (o : Contents). o.id) same
 
-blocked_number : (now : Standing) (waiter : Option Contents) (ended : Bool) (orders : List (Contents × Stage))
+blocked_number : (now : Standing) (waiter : Option Contents) (ended : Bool) (orders : List (Contents × Progress))
     (unit id : ℕ) (order : Contents)
     → now ≡ standings.Left unit
     → HasNumber id waiter → order_at now waiter ended orders ≡ Some order → id ≡ order.id

@@ -7,8 +7,8 @@ use Rattle.dali_journal.specs.declared.record.Code.{Code}
 use Rattle.dali_journal.specs.declared.record.Record.TheVariants.{Began, Opened, Ended, Closed}
 use Rattle.dali_journal.specs.declared.standing.Standing.{Standing}
 use Rattle.dali_journal.specs.declared.standing.Standing.TheVariants as standings
-use Rattle.dali_journal.specs.declared.kept.Stage.{Stage}
-use Rattle.dali_journal.specs.declared.kept.Stage.TheVariants as stages
+use Rattle.dali_journal.specs.declared.kept.Progress.{Progress}
+use Rattle.dali_journal.specs.declared.kept.Progress.TheVariants as reached
 use Rattle.dali_journal.specs.Sentence.{Allows}
 use Rattle.dali_journal.specs.Orders.{orders_of, come_to}
 use Rattle.dali_trace.specs.declared.happening.Reply.TheVariants as replies
@@ -119,11 +119,11 @@ none_waits_at_work start past code legal allowed = by (waiting past) refl where
   by (Some order) e = no_ended (standing_at start past) code (waits start past order legal e).idle allowed
 
 -- no order more by a record that begins none
-come_same : (stage : Stage) (orders : List (Contents × Stage))
-    → map (λ (order : Contents × Stage). order.0) (come_to stage orders)
-    ≡ map (λ (order : Contents × Stage). order.0) orders
-come_same stage [] = refl
-come_same stage (newest ∷ older) = refl
+come_same : (progress : Progress) (orders : List (Contents × Progress))
+    → map (λ (order : Contents × Progress). order.0) (come_to progress orders)
+    ≡ map (λ (order : Contents × Progress). order.0) orders
+come_same progress [] = refl
+come_same progress (newest ∷ older) = refl
 
 begins : (order : Contents) (waiter : Option Contents) (taken older begun first : List Contents) → waiter ≡ Some order
     → taken ≡ order ∷ older
@@ -164,10 +164,10 @@ kept_are_taken start (Kept (Began order) ∷ past) legal =
     (begun_orders start.records) due w.taken
     (kept_are_taken start past legal.0)
 kept_are_taken start (Kept (Opened unit) ∷ past) legal =
-    come_same stages.Open (orders_of (records_of start past)) ∙ kept_are_taken start past legal.0
+    come_same reached.Open (orders_of (records_of start past)) ∙ kept_are_taken start past legal.0
 kept_are_taken start (Kept (Ended code) ∷ past) legal =
     let none = none_waits_at_work start past code legal.0 (may_keep start past (Ended code) legal.1).whole.0.1 in
-    come_same (stages.Ended code) (orders_of (records_of start past))
+    come_same (reached.Ended code) (orders_of (records_of start past))
     ∙ stays (waiting past) (taken_or_waiting past) (begun_orders (records_of start past))
     (begun_orders start.records) none
     (kept_are_taken start past legal.0)

@@ -15,8 +15,8 @@ use Rattle.dali_journal.specs.declared.record.Record.{Record}
 use Rattle.dali_journal.specs.declared.record.Record.TheVariants.{Began, Opened, Ended, Closed}
 use Rattle.dali_journal.specs.declared.standing.Standing.{Standing}
 use Rattle.dali_journal.specs.declared.standing.Standing.TheVariants as standings
-use Rattle.dali_journal.specs.declared.kept.Stage.{Stage}
-use Rattle.dali_journal.specs.declared.kept.Stage.TheVariants as stages
+use Rattle.dali_journal.specs.declared.kept.Progress.{Progress}
+use Rattle.dali_journal.specs.declared.kept.Progress.TheVariants as reached
 use Rattle.dali_journal.specs.Sentence.{standing_of}
 use Rattle.dali_journal.specs.Orders.{orders_of, come_to}
 use Rattle.dali_trace.specs.declared.happening.Reply.TheVariants as replies
@@ -29,13 +29,14 @@ use Rattle.dali_trace.specs.Work.{order_at, order_at_hand}
 use Rattle.dali_laws.proofs.MomentLemmas.{may_keep}
 use Rattle.dali_laws.proofs.StandingLemmas.{begun_order, open_order}
 
-abbrev AllValid : List (Contents × Stage) → Type 0
+abbrev AllValid : List (Contents × Progress) → Type 0
 AllValid [] = Unit {0}
 AllValid (newest ∷ older) = AreUpdates newest.0.updates × AllValid older
 
-come_valid : (stage : Stage) (orders : List (Contents × Stage)) → AllValid orders → AllValid (come_to stage orders)
-come_valid stage [] valid = tt
-come_valid stage (newest ∷ older) valid = valid
+come_valid : (progress : Progress) (orders : List (Contents × Progress)) → AllValid orders
+    → AllValid (come_to progress orders)
+come_valid progress [] valid = tt
+come_valid progress (newest ∷ older) valid = valid
 
 waiting_valid : (past : List Happening) (order : Contents) → AsksAllProper past → waiting past ≡ Some order
     → AreUpdates order.updates
@@ -69,15 +70,16 @@ orders_valid start (Kept (Began order) ∷ past) none legal asks = (
   orders_valid start past none legal.0 asks.1,
 )
 orders_valid start (Kept (Opened unit) ∷ past) none legal asks =
-    come_valid stages.Open (orders_of (records_of start past)) (orders_valid start past none legal.0 asks.1)
+    come_valid reached.Open (orders_of (records_of start past)) (orders_valid start past none legal.0 asks.1)
 orders_valid start (Kept (Ended code) ∷ past) none legal asks =
-    come_valid (stages.Ended code) (orders_of (records_of start past)) (orders_valid start past none legal.0 asks.1)
+    come_valid (reached.Ended code) (orders_of (records_of start past)) (orders_valid start past none legal.0 asks.1)
 orders_valid start (Kept (Closed unit) ∷ past) none legal asks = orders_valid start past none legal.0 asks.1
 
-newest_valid : (order : Contents) (stage : Stage) (orders : List (Contents × Stage))
-    → (older : List (Contents × Stage)) × (orders ≡ (order, stage) ∷ older) → AllValid orders → AreUpdates order.updates
-newest_valid order stage orders newest valid =
-    let all : AllValid ((order, stage) ∷ newest.0) = rw newest.1 at valid in all.0
+newest_valid : (order : Contents) (progress : Progress) (orders : List (Contents × Progress))
+    → (older : List (Contents × Progress)) × (orders ≡ (order, progress) ∷ older) → AllValid orders
+    → AreUpdates order.updates
+newest_valid order progress orders newest valid =
+    let all : AllValid ((order, progress) ∷ newest.0) = rw newest.1 at valid in all.0
 
 hand_by : (records : List Record) (now : Standing) (waiter : Option Contents) (ended : Bool) (order : Contents)
     → standing_of records ≡ now → AllValid (orders_of records)
@@ -86,16 +88,16 @@ hand_by : (records : List Record) (now : Standing) (waiter : Option Contents) (e
 hand_by records (standings.Began other) waiter ended order at valid waits hand =
     let same : other ≡ order = cc in
     subst (λ (o : Contents). AreUpdates o.updates) same
-    (newest_valid other stages.Begun (orders_of records) (begun_order records other at) valid)
+    (newest_valid other reached.Begun (orders_of records) (begun_order records other at) valid)
 hand_by records (standings.Opened other) waiter ended order at valid waits hand =
     let same : other ≡ order = cc in
     subst (λ (o : Contents). AreUpdates o.updates) same
-    (newest_valid other stages.Open (orders_of records) (open_order records other at) valid)
+    (newest_valid other reached.Open (orders_of records) (open_order records other at) valid)
 hand_by records standings.Idle (Some other) ended order at valid waits hand = waits order hand
 hand_by records (standings.Left unit) (Some other) ended order at valid waits hand = waits order hand
 hand_by records standings.Idle None ended order at valid waits hand = by (orders_of records) ended valid hand
   where
-    by : (orders : List (Contents × Stage)) (ended : Bool) → AllValid orders
+    by : (orders : List (Contents × Progress)) (ended : Bool) → AllValid orders
         → order_at standings.Idle None ended orders ≡ Some order → AreUpdates order.updates
     by [] true valid hand = cc
     by (newest ∷ older) true valid hand =
@@ -103,7 +105,7 @@ hand_by records standings.Idle None ended order at valid waits hand = by (orders
     by orders false valid hand = cc
 hand_by records (standings.Left unit) None ended order at valid waits hand = by (orders_of records) ended valid hand
   where
-    by : (orders : List (Contents × Stage)) (ended : Bool) → AllValid orders
+    by : (orders : List (Contents × Progress)) (ended : Bool) → AllValid orders
         → order_at (standings.Left unit) None ended orders ≡ Some order → AreUpdates order.updates
     by [] true valid hand = cc
     by (newest ∷ older) true valid hand =

@@ -10,8 +10,8 @@ use Rattle.dali_journal.specs.declared.record.Code.TheVariants as codes
 use Rattle.dali_journal.specs.declared.record.Record.TheVariants.{Began, Opened, Ended, Closed}
 use Rattle.dali_journal.specs.declared.standing.Standing.{Standing}
 use Rattle.dali_journal.specs.declared.standing.Standing.TheVariants as standings
-use Rattle.dali_journal.specs.declared.kept.Stage.{Stage}
-use Rattle.dali_journal.specs.declared.kept.Stage.TheVariants as stages
+use Rattle.dali_journal.specs.declared.kept.Progress.{Progress}
+use Rattle.dali_journal.specs.declared.kept.Progress.TheVariants as reached
 use Rattle.dali_journal.specs.Sentence.{standing_of}
 use Rattle.dali_journal.specs.Orders.{orders_of}
 use Rattle.dali_write.specs.Exchanges.{Exchange}
@@ -130,14 +130,15 @@ ended_few first order code sent (verdict, told, older, parts, inr (ends, wants, 
     (opened_few order.unit order.updates told (asks.Ended verdict) wants)
     (opened_by_few first order older opened) in omega arith
 
-newest_few : (first : Standing) (newest : Contents × Stage) (older : List (Contents × Stage)) (sent : List Exchange)
+newest_few : (first : Standing) (newest : Contents × Progress) (older : List (Contents × Progress))
+    (sent : List Exchange)
     → NewestEndedBy first (newest ∷ older) sent
     → length sent ≤ work_limit (length newest.0.updates)
-newest_few first (order, stages.Ended code) older sent ended = ended_few first order code sent ended
-newest_few first (order, stages.Begun) older sent ended = absurd ended
-newest_few first (order, stages.Open) older sent ended = absurd ended
+newest_few first (order, reached.Ended code) older sent ended = ended_few first order code sent ended
+newest_few first (order, reached.Begun) older sent ended = absurd ended
+newest_few first (order, reached.Open) older sent ended = absurd ended
 
-within : (first now : Standing) (waiter : Option Contents) (ended : Bool) (orders : List (Contents × Stage))
+within : (first now : Standing) (waiter : Option Contents) (ended : Bool) (orders : List (Contents × Progress))
     (sent told : List Exchange) (kept : ℕ)
     → InSession now told → HasCome first now waiter ended orders sent told kept
     → IfSome (order_at now waiter ended orders)
@@ -304,26 +305,26 @@ ended_idle start (Kept (Closed unit) ∷ past) legal e = refl
 ended_idle start (Stopped ∷ past) legal e = cc
 
 -- the newest order, that has ended so
-abbrev SaidEnd : Standing → Standing → Option Contents → Bool → List (Contents × Stage) → List Exchange → ℕ → Code
+abbrev SaidEnd : Standing → Standing → Option Contents → Bool → List (Contents × Progress) → List Exchange → ℕ → Code
     → Type 0
 SaidEnd first now waiter ended orders sent id code =
     (order : Contents) × (order.id ≡ id) × (order_at now waiter ended orders ≡ Some order)
     × EndedBy first order code sent
 
-said_newest : (first now : Standing) (orders : List (Contents × Stage)) (sent : List Exchange) (id : ℕ) (code : Code)
+said_newest : (first now : Standing) (orders : List (Contents × Progress)) (sent : List Exchange) (id : ℕ) (code : Code)
     → is_at_work now ≡ false
     → EndsAs id code orders → NewestEndedBy first orders sent → SaidEnd first now None true orders sent id code
 said_newest first now [] sent id code idle ends ended = absurd ends
-said_newest first now ((order, stages.Begun) ∷ older) sent id code idle ends ended = absurd ends
-said_newest first now ((order, stages.Open) ∷ older) sent id code idle ends ended = absurd ends
-said_newest first standings.Idle ((order, stages.Ended last) ∷ older) sent id code idle ends ended =
+said_newest first now ((order, reached.Begun) ∷ older) sent id code idle ends ended = absurd ends
+said_newest first now ((order, reached.Open) ∷ older) sent id code idle ends ended = absurd ends
+said_newest first standings.Idle ((order, reached.Ended last) ∷ older) sent id code idle ends ended =
     (order, ends.0, refl, subst (λ (c : Code). EndedBy first order c sent) ends.1 ended)
-said_newest first (standings.Left unit) ((order, stages.Ended last) ∷ older) sent id code idle ends ended =
+said_newest first (standings.Left unit) ((order, reached.Ended last) ∷ older) sent id code idle ends ended =
     (order, ends.0, refl, subst (λ (c : Code). EndedBy first order c sent) ends.1 ended)
-said_newest first (standings.Began other) ((order, stages.Ended last) ∷ older) sent id code idle ends ended = cc
-said_newest first (standings.Opened other) ((order, stages.Ended last) ∷ older) sent id code idle ends ended = cc
+said_newest first (standings.Began other) ((order, reached.Ended last) ∷ older) sent id code idle ends ended = cc
+said_newest first (standings.Opened other) ((order, reached.Ended last) ∷ older) sent id code idle ends ended = cc
 
-said_by : (first now : Standing) (waiter : Option Contents) (ended : Bool) (orders : List (Contents × Stage))
+said_by : (first now : Standing) (waiter : Option Contents) (ended : Bool) (orders : List (Contents × Progress))
     (sent told : List Exchange) (kept id : ℕ) (code : Code)
     → is_at_work now ≡ false
     → waiter ≡ None → ended ≡ true → EndsAs id code orders → HasCome first now waiter ended orders sent told kept
@@ -349,7 +350,7 @@ said_end start past id code legal planned may =
     (on_course start past legal planned)
 
 -- the saying that an order is blocked
-blocked_by : (first now : Standing) (waiter : Option Contents) (ended : Bool) (orders : List (Contents × Stage))
+blocked_by : (first now : Standing) (waiter : Option Contents) (ended : Bool) (orders : List (Contents × Progress))
     (sent told : List Exchange) (kept id unit : ℕ)
     → now ≡ standings.Left unit
     → HasNumber id waiter → Asks now told (asks.Ended verdicts.NotClosed)

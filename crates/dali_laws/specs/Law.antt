@@ -5,7 +5,7 @@ use Rattle.dali_bank.specs.Order.{Contents}
 use Rattle.dali_bus.specs.World.{World}
 use Rattle.dali_bus.specs.Chain.{IsChain, AtEachMoment}
 use Rattle.dali_journal.specs.declared.record.Code.{Code}
-use Rattle.dali_journal.specs.declared.kept.Stage.TheVariants as stages
+use Rattle.dali_journal.specs.declared.kept.Progress.TheVariants as reached
 use Rattle.dali_journal.specs.Sentence.{IsSentenceWithin}
 use Rattle.dali_journal.specs.Orders.{orders_of}
 use Rattle.dali_trace.specs.declared.happening.Reply.{Reply}
@@ -44,7 +44,7 @@ OneReplyIsDue = (start : Start) (past : List Happening) (order : Contents)
 -- straight after an order that has ended comes its kept reply
 abbrev pub RepeatsAreAnswered : Type 0
 RepeatsAreAnswered = (start : Start) (past : List Happening) (order : Contents) (code : Code) (next : Happening)
-    → Contains (orders_of (records_of start past)) (order, stages.Ended code) → Legal start (next ∷ Asked order ∷ past)
+    → Contains (orders_of (records_of start past)) (order, reached.Ended code) → Legal start (next ∷ Asked order ∷ past)
     → next ≡ Answered order.id (replies.Kept code)
 
 -- no frame is sent and no record is kept by this part of a trace
@@ -69,6 +69,6 @@ RefusedOrdersChangeNothing =
 -- is taken
 abbrev pub RepeatsAreQuiet : Type 0
 RepeatsAreQuiet = (start : Start) (past more : List Happening) (order : Contents) (code : Code) (next : Happening)
-    → Contains (orders_of (records_of start past)) (order, stages.Ended code) → is_busy start past ≡ false
+    → Contains (orders_of (records_of start past)) (order, reached.Ended code) → is_busy start past ≡ false
     → Legal start (more ++ next ∷ Asked order ∷ past) → NoneTaken more
     → NothingIsDone start (more ++ next ∷ Asked order ∷ []) past

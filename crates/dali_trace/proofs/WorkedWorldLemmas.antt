@@ -2,8 +2,8 @@
 use Rattle.std.proofs.Common.{◌≡◌, ◌≤◌, ◌<◌, inl, inr, refl, arith, ap, true, false, ℕ, Bool, List, [], ◌∷◌, Option}
 use Rattle.std.proofs.Common.{Some, None, ◌==◌, if◌then◌else◌}
 use Rattle.dali_bus.specs.World.{Gear, World, is_enabled}
-use Rattle.dali_journal.specs.declared.kept.Stage.{Stage}
-use Rattle.dali_journal.specs.declared.kept.Stage.TheVariants as stages
+use Rattle.dali_journal.specs.declared.kept.Progress.{Progress}
+use Rattle.dali_journal.specs.declared.kept.Progress.TheVariants as reached
 use Rattle.dali_journal.specs.declared.record.Code.TheVariants.{Done, Short, Format, Silent, Doubt, DoubtOpen}
 use Rattle.dali_journal.specs.declared.record.Record.{Record}
 use Rattle.dali_journal.specs.declared.record.Record.TheVariants.{Began, Opened, Ended, Closed}
@@ -20,77 +20,78 @@ use Rattle.dali_trace.specs.Worked.{first_order, third_order, empty, left_open, 
 
 -- Which bytes a place may hold. The first order has 03h for location 03h of unit 5, where FFh stood.
 
-abbrev MayBe : Stage → ℕ → Type 0
-MayBe stage byte = IsPossible 0xFF 5 1 3 ((first_order, stage) ∷ []) byte
+abbrev MayBe : Progress → ℕ → Type 0
+MayBe progress byte = IsPossible 0xFF 5 1 3 ((first_order, progress) ∷ []) byte
 
 -- the old byte alone, the new one alone, or either and no third
-abbrev IsOld : Stage → Type 0
-IsOld stage = MayBe stage 0xFF × (MayBe stage 0x03 → ⊥)
+abbrev IsOld : Progress → Type 0
+IsOld progress = MayBe progress 0xFF × (MayBe progress 0x03 → ⊥)
 
-abbrev IsNew : Stage → Type 0
-IsNew stage = MayBe stage 0x03 × (MayBe stage 0xFF → ⊥)
+abbrev IsNew : Progress → Type 0
+IsNew progress = MayBe progress 0x03 × (MayBe progress 0xFF → ⊥)
 
-abbrev IsEither : Stage → Type 0
-IsEither stage = MayBe stage 0xFF × MayBe stage 0x03 × (MayBe stage 0x04 → ⊥)
+abbrev IsEither : Progress → Type 0
+IsEither progress = MayBe progress 0xFF × MayBe progress 0x03 × (MayBe progress 0x04 → ⊥)
 
-pub old_when_begun : IsOld stages.Begun
+pub old_when_begun : IsOld reached.Begun
 old_when_begun = (refl, λ is. omega (arith, is))
 
-pub either_when_opened : IsEither stages.Open
+pub either_when_opened : IsEither reached.Open
 either_when_opened = (inl refl, inr refl, elim [ inl is ↦ omega (arith, is) | inr is ↦ omega (arith, is) ])
 
-pub new_when_done : IsNew (stages.Ended Done)
+pub new_when_done : IsNew (reached.Ended Done)
 new_when_done = (refl, λ is. omega (arith, is))
 
-pub old_when_too_short : IsOld (stages.Ended Short)
+pub old_when_too_short : IsOld (reached.Ended Short)
 old_when_too_short = (refl, λ is. omega (arith, is))
 
-pub old_with_another_format : IsOld (stages.Ended Format)
+pub old_with_another_format : IsOld (reached.Ended Format)
 old_with_another_format = (refl, λ is. omega (arith, is))
 
-pub old_when_silent : IsOld (stages.Ended Silent)
+pub old_when_silent : IsOld (reached.Ended Silent)
 old_when_silent = (refl, λ is. omega (arith, is))
 
-pub either_in_doubt : IsEither (stages.Ended Doubt)
+pub either_in_doubt : IsEither (reached.Ended Doubt)
 either_in_doubt = (inl refl, inr refl, elim [ inl is ↦ omega (arith, is) | inr is ↦ omega (arith, is) ])
 
-pub either_when_left_open : IsEither (stages.Ended DoubtOpen)
+pub either_when_left_open : IsEither (reached.Ended DoubtOpen)
 either_when_left_open = (inl refl, inr refl, elim [ inl is ↦ omega (arith, is) | inr is ↦ omega (arith, is) ])
 
 -- in another unit, in another bank, at a location that the order has no byte for
-pub not_in_another_unit : IsPossible 0xFF 4 1 3 ((first_order, stages.Ended Done) ∷ []) 0x03 → ⊥
+pub not_in_another_unit : IsPossible 0xFF 4 1 3 ((first_order, reached.Ended Done) ∷ []) 0x03 → ⊥
 not_in_another_unit is = omega (arith, is)
 
-pub not_in_another_bank : IsPossible 0xFF 5 2 3 ((first_order, stages.Ended Done) ∷ []) 0x03 → ⊥
+pub not_in_another_bank : IsPossible 0xFF 5 2 3 ((first_order, reached.Ended Done) ∷ []) 0x03 → ⊥
 not_in_another_bank is = omega (arith, is)
 
-pub not_at_another_location : IsPossible 0xFF 5 1 9 ((first_order, stages.Ended Done) ∷ []) 0x03 → ⊥
+pub not_at_another_location : IsPossible 0xFF 5 1 9 ((first_order, reached.Ended Done) ∷ []) 0x03 → ⊥
 not_at_another_location is = omega (arith, is)
 
 -- The byte with the done orders applied, and whether it is the only one
 
-pub applied_when_done : applied 0xFF 5 1 3 ((first_order, stages.Ended Done) ∷ []) ≡ 0x03
+pub applied_when_done : applied 0xFF 5 1 3 ((first_order, reached.Ended Done) ∷ []) ≡ 0x03
 applied_when_done = refl
 
-pub not_applied_in_doubt : applied 0xFF 5 1 3 ((first_order, stages.Ended Doubt) ∷ []) ≡ 0xFF
+pub not_applied_in_doubt : applied 0xFF 5 1 3 ((first_order, reached.Ended Doubt) ∷ []) ≡ 0xFF
 not_applied_in_doubt = refl
 
-pub settled_when_begun : IsSettled 5 1 3 ((first_order, stages.Begun) ∷ [])
+pub settled_when_begun : IsSettled 5 1 3 ((first_order, reached.Begun) ∷ [])
 settled_when_begun = tt
 
-pub not_settled_in_doubt : IsSettled 5 1 3 ((first_order, stages.Ended Doubt) ∷ []) → ⊥
+pub not_settled_in_doubt : IsSettled 5 1 3 ((first_order, reached.Ended Doubt) ∷ []) → ⊥
 not_settled_in_doubt is = is
 
 pub not_settled_by_a_silent_order : IsSettled 5 1 3
-    ((first_order, stages.Ended Silent) ∷ (first_order, stages.Ended Doubt) ∷ [])
+    ((first_order, reached.Ended Silent) ∷ (first_order, reached.Ended Doubt) ∷ [])
     → ⊥
 not_settled_by_a_silent_order is = is
 
 pub settled_by_a_done_order : IsSettled 5 1 3
-    ((first_order, stages.Ended Done) ∷ (first_order, stages.Ended Doubt) ∷ [])
+    ((first_order, reached.Ended Done) ∷ (first_order, reached.Ended Doubt) ∷ [])
 settled_by_a_done_order = tt
 
-pub not_settled_elsewhere : IsSettled 5 1 3 ((third_order, stages.Ended Done) ∷ (first_order, stages.Ended Doubt) ∷ [])
+pub not_settled_elsewhere : IsSettled 5 1 3
+    ((third_order, reached.Ended Done) ∷ (first_order, reached.Ended Doubt) ∷ [])
     → ⊥
 not_settled_elsewhere is = is
 

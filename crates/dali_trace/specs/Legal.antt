@@ -6,8 +6,8 @@ use Rattle.dali_bank.specs.Order.{Contents, update_at}
 use Rattle.dali_journal.specs.declared.record.Code.{Code}
 use Rattle.dali_journal.specs.declared.record.Record.{Record}
 use Rattle.dali_journal.specs.declared.record.Record.TheVariants.{Began, Closed}
-use Rattle.dali_journal.specs.declared.kept.Stage.{Stage}
-use Rattle.dali_journal.specs.declared.kept.Stage.TheVariants as stages
+use Rattle.dali_journal.specs.declared.kept.Progress.{Progress}
+use Rattle.dali_journal.specs.declared.kept.Progress.TheVariants as reached
 use Rattle.dali_journal.specs.declared.standing.Standing.{Standing}
 use Rattle.dali_journal.specs.declared.standing.Standing.TheVariants as standings
 use Rattle.dali_journal.specs.Sentence.{named_unit, IsSentenceWithin}
@@ -79,8 +79,8 @@ pub record MayKeep (start : Start) (past : List Happening) (entry : Record) : Ty
 -- Sayings
 
 -- the newest order has this number and ended so
-abbrev pub EndsAs : ℕ → Code → List (Contents × Stage) → Type 0
-EndsAs id code ((order, stages.Ended last) ∷ older) = (order.id ≡ id) × (last ≡ code)
+abbrev pub EndsAs : ℕ → Code → List (Contents × Progress) → Type 0
+EndsAs id code ((order, reached.Ended last) ∷ older) = (order.id ≡ id) × (last ≡ code)
 EndsAs id code other = ⊥
 
 -- there is an order, and it has this number

@@ -2,8 +2,8 @@
 use Rattle.std.specs.Prelude.{◌≡◌, ◌⊎◌, ◌==◌, ◌&&◌, ℕ, List, [], ◌∷◌, Option, Some, None, if◌then◌else◌}
 use Rattle.dali_bank.specs.Order.{Contents, update_at}
 use Rattle.dali_journal.specs.declared.record.Code.TheVariants.{Done, Short, Format, Silent, Doubt, DoubtOpen}
-use Rattle.dali_journal.specs.declared.kept.Stage.{Stage}
-use Rattle.dali_journal.specs.declared.kept.Stage.TheVariants as stages
+use Rattle.dali_journal.specs.declared.kept.Progress.{Progress}
+use Rattle.dali_journal.specs.declared.kept.Progress.TheVariants as reached
 
 -- what is known of an order's bytes: all of them are written, none is, or each of them may be
 pub data Mark : Type 0 where
@@ -12,15 +12,15 @@ pub data Mark : Type 0 where
   InDoubt : Mark
 
 -- how far an order has come tells what is known of its bytes
-abbrev pub mark_of : Stage → Mark
-mark_of stages.Begun = Untouched
-mark_of stages.Open = InDoubt
-mark_of (stages.Ended Done) = Applied
-mark_of (stages.Ended Short) = Untouched
-mark_of (stages.Ended Format) = Untouched
-mark_of (stages.Ended Silent) = Untouched
-mark_of (stages.Ended Doubt) = InDoubt
-mark_of (stages.Ended DoubtOpen) = InDoubt
+abbrev pub mark_of : Progress → Mark
+mark_of reached.Begun = Untouched
+mark_of reached.Open = InDoubt
+mark_of (reached.Ended Done) = Applied
+mark_of (reached.Ended Short) = Untouched
+mark_of (reached.Ended Format) = Untouched
+mark_of (reached.Ended Silent) = Untouched
+mark_of (reached.Ended Doubt) = InDoubt
+mark_of (reached.Ended DoubtOpen) = InDoubt
 
 -- the byte that an order has for a place, if it has one: in bank 1 of its unit
 abbrev pub byte_for : Contents → ℕ → ℕ → ℕ → Option ℕ
@@ -35,7 +35,7 @@ MayHold Untouched (Some update) before byte = before byte
 MayHold mark None before byte = before byte
 
 -- the byte is possible at a place that held the first one, after these orders
-abbrev pub IsPossible : ℕ → ℕ → ℕ → ℕ → List (Contents × Stage) → ℕ → Type 0
+abbrev pub IsPossible : ℕ → ℕ → ℕ → ℕ → List (Contents × Progress) → ℕ → Type 0
 IsPossible first address bank location [] byte = byte ≡ first
 IsPossible first address bank location (newest ∷ older) byte =
     MayHold (mark_of newest.1) (byte_for newest.0 address bank location)
@@ -47,7 +47,7 @@ applied_to Applied (Some update) before = update
 applied_to mark other before = before
 
 -- the first byte of a place, with the done orders applied once each in their order
-abbrev pub applied : ℕ → ℕ → ℕ → ℕ → List (Contents × Stage) → ℕ
+abbrev pub applied : ℕ → ℕ → ℕ → ℕ → List (Contents × Progress) → ℕ
 applied first address bank location [] = first
 applied first address bank location (newest ∷ older) =
     applied_to (mark_of newest.1) (byte_for newest.0 address bank location) (applied first address bank location older)
@@ -60,7 +60,7 @@ Settles InDoubt (Some update) before = ⊥
 Settles mark other before = before
 
 -- no order in doubt has a byte for the place, but before one that is done and has one
-abbrev pub IsSettled : ℕ → ℕ → ℕ → List (Contents × Stage) → Type 0
+abbrev pub IsSettled : ℕ → ℕ → ℕ → List (Contents × Progress) → Type 0
 IsSettled address bank location [] = Unit {0}
 IsSettled address bank location (newest ∷ older) =
     Settles (mark_of newest.1) (byte_for newest.0 address bank location) (IsSettled address bank location older)

@@ -2,7 +2,7 @@
 use Rattle.std.specs.Prelude.{List, [], ◌∷◌, Option, Some, None, map}
 use Rattle.dali_bank.specs.Order.{Contents}
 use Rattle.dali_journal.specs.declared.record.Record.{Record}
-use Rattle.dali_journal.specs.declared.kept.Stage.{Stage}
+use Rattle.dali_journal.specs.declared.kept.Progress.{Progress}
 use Rattle.dali_journal.specs.Orders.{orders_of}
 use Rattle.dali_trace.specs.declared.happening.Reply.TheVariants as replies
 use Rattle.dali_trace.specs.declared.happening.Happening.{Happening}
@@ -29,4 +29,4 @@ taken_orders trace = without (waiting trace) (taken_or_waiting trace)
 
 -- the orders that records begin
 abbrev pub begun_orders : List Record → List Contents
-begun_orders records = map (λ (order : Contents × Stage). order.0) (orders_of records)
+begun_orders records = map (λ (order : Contents × Progress). order.0) (orders_of records)

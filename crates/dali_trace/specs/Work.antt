@@ -6,7 +6,7 @@ use Rattle.dali_journal.specs.declared.record.Code.{Code}
 use Rattle.dali_journal.specs.declared.record.Code.TheVariants as codes
 use Rattle.dali_journal.specs.declared.standing.Standing.{Standing}
 use Rattle.dali_journal.specs.declared.standing.Standing.TheVariants as standings
-use Rattle.dali_journal.specs.declared.kept.Stage.{Stage}
+use Rattle.dali_journal.specs.declared.kept.Progress.{Progress}
 use Rattle.dali_journal.specs.Sentence.{standing_of}
 use Rattle.dali_journal.specs.Orders.{orders_of}
 use Rattle.dali_write.specs.Exchanges.{Exchange}
@@ -70,7 +70,7 @@ IsEarned first order codes.Doubt sent = HasFailed order.unit sent ⊎ FindsAnoth
 IsEarned first order codes.DoubtOpen sent = EndsUnread order.unit 0x02 sent
 
 -- the order at hand: the one at work, the one that waits, or the one that has ended and isn't said yet
-abbrev pub order_at : Standing → Option Contents → Bool → List (Contents × Stage) → Option Contents
+abbrev pub order_at : Standing → Option Contents → Bool → List (Contents × Progress) → Option Contents
 order_at (standings.Began order) waits ended orders = Some order
 order_at (standings.Opened order) waits ended orders = Some order
 order_at other (Some order) ended orders = Some order

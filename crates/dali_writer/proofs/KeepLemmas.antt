@@ -8,8 +8,8 @@ use Rattle.dali_journal.specs.declared.record.Record.{Record}
 use Rattle.dali_journal.specs.declared.record.Record.TheVariants.{Began, Opened, Ended, Closed}
 use Rattle.dali_journal.specs.declared.standing.Standing.{Standing}
 use Rattle.dali_journal.specs.declared.standing.Standing.TheVariants as standings
-use Rattle.dali_journal.specs.declared.kept.Stage.{Stage}
-use Rattle.dali_journal.specs.declared.kept.Stage.TheVariants as stages
+use Rattle.dali_journal.specs.declared.kept.Progress.{Progress}
+use Rattle.dali_journal.specs.declared.kept.Progress.TheVariants as reached
 use Rattle.dali_journal.specs.Sentence.{Allows, standing_of, next_standing, IsNew}
 use Rattle.dali_journal.specs.Orders.{orders_of, come_to}
 use Rattle.dali_journal.specs.JournalState.{JournalState, MayBegin, KeepsRoom}
@@ -54,9 +54,10 @@ kept_on start past journal new old next entry d may records limit place = record
 }
 
 -- no order more
-come_length : (stage : Stage) (orders : List (Contents × Stage)) → length (come_to stage orders) ≡ length orders
-come_length stage [] = refl
-come_length stage (newest ∷ older) = refl
+come_length : (progress : Progress) (orders : List (Contents × Progress)) → length (come_to progress orders)
+    ≡ length orders
+come_length progress [] = refl
+come_length progress (newest ∷ older) = refl
 
 -- the record of an order that is at work
 goes_on : (start : Start) (past : List Happening) (w : Held) (entry : Record) (stands : Standing)
@@ -134,10 +135,10 @@ check_due past unit _ = tt
 
 check_none : (unit : ℕ) (verdict : Verdict) (records : List Record)
     → length (orders_of (check_record unit verdict ∷ records)) ≡ length (orders_of records)
-check_none unit verdicts.MayOpen records = come_length stages.Open (orders_of records)
-check_none unit verdicts.Short records = come_length (stages.Ended codes.Short) (orders_of records)
-check_none unit verdicts.Format records = come_length (stages.Ended codes.Format) (orders_of records)
-check_none unit _ records = come_length (stages.Ended codes.Silent) (orders_of records)
+check_none unit verdicts.MayOpen records = come_length reached.Open (orders_of records)
+check_none unit verdicts.Short records = come_length (reached.Ended codes.Short) (orders_of records)
+check_none unit verdicts.Format records = come_length (reached.Ended codes.Format) (orders_of records)
+check_none unit _ records = come_length (reached.Ended codes.Silent) (orders_of records)
 
 check_place : (past : List Happening) (order : Contents) (verdict : Verdict) (next : Phase)
     → IsAfterCheck order verdict next → IsAt next (Kept (check_record order.unit verdict) ∷ past)
@@ -204,7 +205,7 @@ written_on start past journal new order s verdict d ready aim records limit =
     let may =
     goes_on start past _ (Ended (write_code verdict)) (standings.Opened order) d ready.0
     (write_allowed order verdict) tt
-    (come_length (stages.Ended (write_code verdict)) (orders_of (records_of start past))) tt
+    (come_length (reached.Ended (write_code verdict)) (orders_of (records_of start past))) tt
     (opened_grounds (sent_of past) order verdict rests) in
     kept_on start past journal new (Writes order s) (Says order.id (write_code verdict)) (Ended (write_code verdict)) d
     may records limit refl
@@ -238,11 +239,11 @@ pub ready_begun : (new : JournalState) (records : List Record) (order : Contents
     → new.records ≡ Began order ∷ records → IsReady (Checks order s) new
 ready_begun new records order s fresh valid is = (rw is refl, fresh, valid)
 
-said_ready : (journal new : JournalState) (order : Contents) (code : Code) (stage : Stage)
-    → (older : List (Contents × Stage)) × orders_of journal.records ≡ (order, stage) ∷ older
+said_ready : (journal new : JournalState) (order : Contents) (code : Code) (progress : Progress)
+    → (older : List (Contents × Progress)) × orders_of journal.records ≡ (order, progress) ∷ older
     → is_at_work (standing_of (Ended code ∷ journal.records)) ≡ false → new.records ≡ Ended code ∷ journal.records
     → IsReady (Says order.id code) new
-said_ready journal new order code stage newest idle records =
+said_ready journal new order code progress newest idle records =
     rw records (idle, rw newest.1 (refl, refl))
 
 pub ready_checked : (journal new : JournalState) (order : Contents) (s : Session) (verdict : Verdict) (next : Phase)
@@ -251,13 +252,13 @@ pub ready_checked : (journal new : JournalState) (order : Contents) (s : Session
 ready_checked journal new order s verdicts.MayOpen next ready (opened, is, is_opened, is_told, valid, left) records =
     subst (λ (p : Phase). IsReady p new) (sym is) (rw records (rw ready.0 refl), is_opened, valid)
 ready_checked journal new order s verdicts.Short next ready is records =
-    subst (λ (p : Phase). IsReady p new) (sym is) (said_ready journal new order codes.Short stages.Begun
+    subst (λ (p : Phase). IsReady p new) (sym is) (said_ready journal new order codes.Short reached.Begun
     (begun_order journal.records order ready.0) (rw ready.0 refl) records)
 ready_checked journal new order s verdicts.Format next ready is records =
-    subst (λ (p : Phase). IsReady p new) (sym is) (said_ready journal new order codes.Format stages.Begun
+    subst (λ (p : Phase). IsReady p new) (sym is) (said_ready journal new order codes.Format reached.Begun
     (begun_order journal.records order ready.0) (rw ready.0 refl) records)
 ready_checked journal new order s _ next ready is records =
-    subst (λ (p : Phase). IsReady p new) (sym is) (said_ready journal new order codes.Silent stages.Begun
+    subst (λ (p : Phase). IsReady p new) (sym is) (said_ready journal new order codes.Silent reached.Begun
     (begun_order journal.records order ready.0) (rw ready.0 refl) records)
 
 idle_written : (order : Contents) (verdict : Verdict) (stands : Standing) → stands ≡ standings.Opened order
@@ -269,7 +270,7 @@ pub ready_written : (journal new : JournalState) (order : Contents) (s : Session
     → IsReady (Writes order s) journal
     → new.records ≡ Ended (write_code verdict) ∷ journal.records → IsReady (Says order.id (write_code verdict)) new
 ready_written journal new order s verdict ready records =
-    said_ready journal new order (write_code verdict) stages.Open (open_order journal.records order ready.0)
+    said_ready journal new order (write_code verdict) reached.Open (open_order journal.records order ready.0)
     (idle_written order verdict (standing_of journal.records) ready.0) records
 
 pub ready_closed : (journal new : JournalState) (order : Contents) (s : Session) → IsReady (Closes order s) journal

@@ -11,8 +11,8 @@ use Rattle.dali_journal.specs.declared.record.Record.{Record}
 use Rattle.dali_journal.specs.declared.record.Record.TheVariants.{Began, Opened, Ended, Closed}
 use Rattle.dali_journal.specs.declared.standing.Standing.{Standing}
 use Rattle.dali_journal.specs.declared.standing.Standing.TheVariants as standings
-use Rattle.dali_journal.specs.declared.kept.Stage.{Stage}
-use Rattle.dali_journal.specs.declared.kept.Stage.TheVariants as stages
+use Rattle.dali_journal.specs.declared.kept.Progress.{Progress}
+use Rattle.dali_journal.specs.declared.kept.Progress.TheVariants as reached
 use Rattle.dali_journal.specs.declared.kept.Kept.{Kept}
 use Rattle.dali_journal.specs.declared.kept.Kept.TheVariants as kepts
 use Rattle.dali_journal.specs.Sentence.{Allows, standing_of, next_standing, is_begun, IsSentence}
@@ -176,25 +176,25 @@ taken_on start past journal new phase next order stands d ready fresh idle less 
     (first_place past order stands next first)
 
 -- all these orders have ended
-abbrev HaveEnded : List (Contents × Stage) → Type 0
+abbrev HaveEnded : List (Contents × Progress) → Type 0
 HaveEnded [] = Unit {0}
-HaveEnded ((order, stages.Ended code) ∷ older) = HaveEnded older
+HaveEnded ((order, reached.Ended code) ∷ older) = HaveEnded older
 HaveEnded (newest ∷ older) = ⊥
 
 -- what a sentence leaves of its orders: all but the one at work have ended
-abbrev Leaves : Standing → List (Contents × Stage) → Type 0
+abbrev Leaves : Standing → List (Contents × Progress) → Type 0
 Leaves standings.Idle orders = HaveEnded orders
 Leaves (standings.Left unit) orders = HaveEnded orders
 Leaves (standings.Began order) orders =
-    (older : List (Contents × Stage)) × (orders ≡ (order, stages.Begun) ∷ older) × HaveEnded older
+    (older : List (Contents × Progress)) × (orders ≡ (order, reached.Begun) ∷ older) × HaveEnded older
 Leaves (standings.Opened order) orders =
-    (older : List (Contents × Stage)) × (orders ≡ (order, stages.Open) ∷ older) × HaveEnded older
+    (older : List (Contents × Progress)) × (orders ≡ (order, reached.Open) ∷ older) × HaveEnded older
 
-ended_now : (code : Code) (orders : List (Contents × Stage)) (order : Contents) (stage : Stage)
-    (older : List (Contents × Stage))
-    → orders ≡ (order, stage) ∷ older
-    → HaveEnded older → HaveEnded (come_to (stages.Ended code) orders)
-ended_now code orders order stage older is ended = rw is ended
+ended_now : (code : Code) (orders : List (Contents × Progress)) (order : Contents) (progress : Progress)
+    (older : List (Contents × Progress))
+    → orders ≡ (order, progress) ∷ older
+    → HaveEnded older → HaveEnded (come_to (reached.Ended code) orders)
+ended_now code orders order progress older is ended = rw is ended
 
 leaves : (records : List Record) → IsSentence records → Leaves (standing_of records) (orders_of records)
 leaves [] sentence = tt
@@ -202,36 +202,37 @@ leaves (entry ∷ older) sentence = by (standing_of older) entry sentence.1 (lea
   by : (stands : Standing) (entry : Record) → Allows stands entry → Leaves stands (orders_of older)
       → Leaves (next_standing stands entry) (orders_of (entry ∷ older))
   by standings.Idle (Began order) allowed before = (orders_of older, refl, before)
-  by (standings.Began order) (Opened unit) allowed before = (before.0, ap (come_to stages.Open) before.1, before.2)
+  by (standings.Began order) (Opened unit) allowed before = (before.0, ap (come_to reached.Open) before.1, before.2)
   by (standings.Began order) (Ended codes.Short) allowed before =
-      ended_now codes.Short (orders_of older) order stages.Begun before.0 before.1 before.2
+      ended_now codes.Short (orders_of older) order reached.Begun before.0 before.1 before.2
   by (standings.Began order) (Ended codes.Format) allowed before =
-      ended_now codes.Format (orders_of older) order stages.Begun before.0 before.1 before.2
+      ended_now codes.Format (orders_of older) order reached.Begun before.0 before.1 before.2
   by (standings.Began order) (Ended codes.Silent) allowed before =
-      ended_now codes.Silent (orders_of older) order stages.Begun before.0 before.1 before.2
+      ended_now codes.Silent (orders_of older) order reached.Begun before.0 before.1 before.2
   by (standings.Opened order) (Ended codes.Done) allowed before =
-      ended_now codes.Done (orders_of older) order stages.Open before.0 before.1 before.2
+      ended_now codes.Done (orders_of older) order reached.Open before.0 before.1 before.2
   by (standings.Opened order) (Ended codes.Doubt) allowed before =
-      ended_now codes.Doubt (orders_of older) order stages.Open before.0 before.1 before.2
+      ended_now codes.Doubt (orders_of older) order reached.Open before.0 before.1 before.2
   by (standings.Opened order) (Ended codes.DoubtOpen) allowed before =
-      ended_now codes.DoubtOpen (orders_of older) order stages.Open before.0 before.1 before.2
+      ended_now codes.DoubtOpen (orders_of older) order reached.Open before.0 before.1 before.2
   by (standings.Left unit) (Closed closed) allowed before = before
   by _ _ allowed before = absurd allowed
 
 -- among orders that have ended none is found that hasn't
-none_open : {A : Type 0} (id : ℕ) (orders : List (Contents × Stage)) (order : Contents) → HaveEnded orders
+none_open : {A : Type 0} (id : ℕ) (orders : List (Contents × Progress)) (order : Contents) → HaveEnded orders
     → kept_among id orders ≡ kepts.Unfinished order → A
 none_open id [] order ended e = cc
-none_open id ((first, stages.Ended code) ∷ older) order ended e =
+none_open id ((first, reached.Ended code) ∷ older) order ended e =
     by (λ later. none_open id older order ended later) (first.id == id) refl where
       by : {A : Type 0} → (kept_among id older ≡ kepts.Unfinished order → A) → (x : Bool) → (first.id == id) ≡ x → A
       by more true p = let found : kepts.Ended first code ≡ kepts.Unfinished order = rw p at e in cc
       by more false p = more (rw p at e)
-none_open id ((first, stages.Begun) ∷ older) order ended e = absurd ended
-none_open id ((first, stages.Open) ∷ older) order ended e = absurd ended
+none_open id ((first, reached.Begun) ∷ older) order ended e = absurd ended
+none_open id ((first, reached.Open) ∷ older) order ended e = absurd ended
 
 -- where no order is at work, all have ended
-idle_ended : (stands : Standing) (orders : List (Contents × Stage)) → is_at_work stands ≡ false → Leaves stands orders
+idle_ended : (stands : Standing) (orders : List (Contents × Progress)) → is_at_work stands ≡ false
+    → Leaves stands orders
     → HaveEnded orders
 idle_ended standings.Idle orders idle left = left
 idle_ended (standings.Left unit) orders idle left = left
@@ -239,12 +240,12 @@ idle_ended (standings.Began order) orders idle left = cc
 idle_ended (standings.Opened order) orders idle left = cc
 
 -- an order that isn't kept was not begun
-come_absent : (id : ℕ) (stage : Stage) (orders : List (Contents × Stage))
-    → kept_among id (come_to stage orders) ≡ kepts.Absent → kept_among id orders ≡ kepts.Absent
-come_absent id stage [] e = refl
-come_absent id stage (newest ∷ older) e = by (newest.0.id == id) refl where
+come_absent : (id : ℕ) (progress : Progress) (orders : List (Contents × Progress))
+    → kept_among id (come_to progress orders) ≡ kepts.Absent → kept_among id orders ≡ kepts.Absent
+come_absent id progress [] e = refl
+come_absent id progress (newest ∷ older) e = by (newest.0.id == id) refl where
   by : (x : Bool) → (newest.0.id == id) ≡ x → kept_among id (newest ∷ older) ≡ kepts.Absent
-  by true p = let some : kept_at newest.0 stage ≡ kepts.Absent = rw p at e in never_absent newest.0 stage some
+  by true p = let some : kept_at newest.0 progress ≡ kepts.Absent = rw p at e in never_absent newest.0 progress some
   by false p = let none : kept_among id older ≡ kepts.Absent = rw p at e in rw p none
 
 not_begun : (id : ℕ) (records : List Record) → kept_of id records ≡ kepts.Absent → is_begun id records ≡ false
@@ -254,8 +255,8 @@ not_begun id (Began order ∷ older) e = by (λ none. not_begun id older none) (
       → (order.id == id || is_begun id older) ≡ false
   by more true p = let some : kepts.Unfinished order ≡ kepts.Absent = rw p at e in cc
   by more false p = let none : kept_of id older ≡ kepts.Absent = rw p at e in rw p (more none)
-not_begun id (Opened unit ∷ older) e = not_begun id older (come_absent id stages.Open (orders_of older) e)
-not_begun id (Ended code ∷ older) e = not_begun id older (come_absent id (stages.Ended code) (orders_of older) e)
+not_begun id (Opened unit ∷ older) e = not_begun id older (come_absent id reached.Open (orders_of older) e)
+not_begun id (Ended code ∷ older) e = not_begun id older (come_absent id (reached.Ended code) (orders_of older) e)
 not_begun id (Closed unit ∷ older) e = not_begun id older e
 
 pub new_number : (records : List Record) (order : Contents) → IsSentence records

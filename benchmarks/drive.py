@@ -1,7 +1,7 @@
 #!/usr/bin/env python3
 """Measure how long `dali_bench drive` takes, beyond its link.
 
-Orders of a GTIN (96 frames and three records each) for a few units are sent
+Orders of a GTIN (112 frames and three records each) for a few units are sent
 through pipes to a link that answers at once (null_link.c). What the pipes
 alone take is measured with a command that does nothing but send and read.
 
@@ -36,7 +36,7 @@ from measuring import (
 PROGRAM = REPOSITORY / "crates" / "dali_bench" / "out" / "dali_bench"
 GTIN = "4006381333931"
 UNITS = 5
-FRAMES_OF_ORDER = 96
+FRAMES_OF_ORDER = 112
 RECORDS_OF_ORDER = 3
 MEMORY_FOLDER = pathlib.Path("/dev/shm")
 

@@ -19,7 +19,13 @@ enum { UNITS = 64, LOCATIONS = 256, LINE = 5 };
 static unsigned char banks[UNITS][LOCATIONS];
 static int location, bank, enabled = -1;
 
-/* The answer to a frame, or -1. Each read and write has its location set before it, so that none has to move on. */
+/* The location of a read or a write, which moves on by one. */
+static int moved_on(void)
+{
+    return location < LOCATIONS - 1 ? location++ : location;
+}
+
+/* The answer to a frame, or -1. */
 static int answer_to(int word)
 {
     int first = word >> 8, second = word & 0xFF, unit = first >> 1;
@@ -28,7 +34,7 @@ static int answer_to(int word)
     else if (first == 0xC3)
         bank = second;
     else if (first == 0xC7 && enabled >= 0)
-        return banks[enabled][location] = second;
+        return banks[enabled][moved_on()] = second;
     else if (second == 0x81)
         enabled = unit;
     else if (second == 0x98)
@@ -36,7 +42,7 @@ static int answer_to(int word)
     else if (second == 0x9C)
         return bank;
     else if (second == 0xC5)
-        return banks[unit % UNITS][location];
+        return banks[unit % UNITS][moved_on()];
     return -1;
 }
 

@@ -16,11 +16,11 @@ ABSENT = UNIT_COUNT
 # How many frames an order takes, and how many steps: those and one for each
 # record that is kept and for the reply. An order of a GTIN that is done keeps
 # three records; one that a unit is too short for or doesn't answer keeps two.
-GTIN_FRAMES = 96
+GTIN_FRAMES = 112
 GTIN_STEPS = GTIN_FRAMES + 4
 ABSENT_FRAMES = 16
 ABSENT_STEPS = ABSENT_FRAMES + 3
-SHORT_FRAMES = 5
+SHORT_FRAMES = 7
 SHORT_STEPS = SHORT_FRAMES + 3
 
 # A bank that ends before the year of manufacture.

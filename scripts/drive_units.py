@@ -28,7 +28,7 @@ from driven import Ended, groups_of, judge, kept_lines, records_of, simulated_li
 
 
 class Scene:
-    """Orders, the units that they go to, what the bus loses, and the codes that the orders end with.
+    """Orders, the units that they go to, what is lost, and the codes that the orders end with where nothing is killed.
 
     Kills come at each frame, or at one of so many as `step` says, spread evenly.
     """
@@ -64,14 +64,23 @@ LOSSY = Scene(
 DOUBTFUL = Scene(
     [{"order": 11, "unit": 5, "gtin": GTIN}, {"order": 12, "unit": 6, "year": 24},
      {"order": 13, "unit": 5, "year": 24, "cri": 80}],
-    [(5, BLANK, (5,)), (6, bank_of(0x78, x12=0x04), ())], {11: 4, 12: 2, 13: 0}, lost_answers={12, 90})
+    [(5, BLANK, (5,)), (6, bank_of(0x78, x12=0x04), ())], {11: 4, 12: 2, 13: 0}, lost_answers={14, 90})
 LEFT = Scene(
     [{"order": 21, "unit": 5, "gtin": GTIN}, {"order": 22, "unit": 6, "year": 24}],
     [(5, BLANK, ()), (6, BLANK, ())], {21: 5, 22: 0}, lost_frames=set(range(40, 130)))
 ALL_FIELDS = Scene(
     driven.json.loads((driven.ROOT / "examples" / "full.json").read_text()), [(5, BLANK, ())], {1: 0}, step=31,
     lost_frames={40, 300, 900}, lost_answers={19, 500, 1300})
-SCENES = {"lossy": LOSSY, "doubtful": DOUBTFUL, "left": LEFT, "all fields": ALL_FIELDS}
+# Unit 5 loses its power before and behind a read for order 31, while order 32 is carried out at unit 6, and once it is
+# unlocked for order 33; unit 6 loses it while order 31 is carried out.
+POWERLESS = Scene(
+    [{"order": 31, "unit": 5, "gtin": GTIN}, {"order": 32, "unit": 6, "year": 24},
+     {"order": 33, "unit": 5, "week": 53}],
+    [(5, BLANK, ()), (6, BLANK, ())], {31: 0, 32: 0, 33: 4},
+    lost_power={(5, 3), (5, 11), (5, 150), (5, 208), (6, 20)})
+SCENES = {"lossy": LOSSY, "doubtful": DOUBTFUL, "left": LEFT, "powerless": POWERLESS, "all fields": ALL_FIELDS}
+# In these the codes depend on when the program is killed.
+CHANGED_BY_KILLS = ("left", "powerless")
 
 
 def finish(desk, scene, bus, codes=None):
@@ -104,14 +113,15 @@ def test_whole_runs(folder):
         want(ended.told, "".join(f"reply {number} taken\nreply {number} kept {code} {driven.NAMES[code]}\n"
                                  for number, code in scene.codes.items()))
         kinds = "".join(kind for kind, _ in records_of(desk.held())[0])
-        want(kinds, {"lossy": "BOEBEBEBOE", "doubtful": "BOEBEBOE", "left": "BOECBOE", "all fields": "BOE"}[name])
+        want(kinds, {"lossy": "BOEBEBEBOE", "doubtful": "BOEBEBOE", "left": "BOECBOE", "powerless": "BOEBOEBOE",
+                     "all fields": "BOE"}[name])
 
 
 def test_gtin_on_disk(folder):
     with tempfile.TemporaryDirectory() as on_disk:
         desk, bus = desk_of(on_disk, PRESENT), simulated_link.Bus([simulated_link.Unit(5)])
         ended = desk.over(bus)
-        want((ended.status, bus.frames, ended.told), (0, 96, DONE_TOLD))
+        want((ended.status, bus.frames, ended.told), (0, 112, DONE_TOLD))
         want(bytes(bus.units[0].banks[1]), BLANK[:3] + GTIN_BYTES + BLANK[9:])
         want(desk.held(), DONE_JOURNAL)
         want(desk.over(bus), Ended(0, b"", "reply 1 kept 0 Done\n"))
@@ -208,7 +218,7 @@ def kill_at_each_frame(folder, name, moment, part, count):
     scene = SCENES[name]
     (folder / "whole").mkdir()
     total = len(whole_run(folder / "whole", scene)[2].sent) // 5
-    codes = None if name == "left" else scene.codes
+    codes = None if name in CHANGED_BY_KILLS else scene.codes
     for frame in range(1 + part * scene.step, total + 1, count * scene.step):
         try:
             killed_run(folder, scene, [(frame, moment)], codes)

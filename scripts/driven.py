@@ -1,4 +1,4 @@
-"""Runs of `dali_bench drive` over pipes, and the judge of what they leave: used by scripts/test_drive.py.
+"""Runs of `dali_bench drive` over pipes, and the judge of what they leave: used by scripts/test_drive.py and scripts/fuzz.
 
 The journal is read and judged here by docs/JOURNAL.md and docs/WRITER.md alone, with nothing of the program's own.
 """

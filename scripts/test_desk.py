@@ -168,6 +168,13 @@ def test_losses_and_refusals(folder):
     want((found.split()[5:], unit.banks[1][3]), (["--", "04"], 0xFF))
 
 
+def test_losses_of_power(folder):
+    found, unit = one_unit(*OPENED, "C712 0B98 0B9C C713 C301 A302 0BC5", lost_power=[(5, 7), (6, 4)])
+    want(found.split()[4:], "55 12 00 00 -- -- -- FF".split())
+    want(bytes(unit.banks[1]), blank(x03=0x12))
+    want(one_unit("0B81 0B81 C301 A302 C755", lost_power=[(5, 2)])[0].split()[-1], "--")
+
+
 def test_two_units(folder):
     units = [simulated_link.Unit(5), simulated_link.Unit(6, fixed=[0x04])]
     bus = simulated_link.Bus(units)
@@ -200,7 +207,8 @@ def test_units_that_cannot_be(folder):
 
 
 def test_stored_runs(folder):
-    for name, options in [("run_gtin_frames", []), ("run_retry_frames", ["--lose-answer", "19"])]:
+    for name, options in [("run_gtin_frames", []), ("run_retry_frames", ["--lose-answer", "21"]),
+                          ("run_power_frames", ["--lose-power", "5:6"])]:
         sent = re.findall("^send (....) (..)$", (ROOT / "examples" / f"{name}.stdout").read_text(), re.MULTILINE)
         assert len(sent) > 90
         status, answers, _ = run(SIMULATED, ["--folder", folder, *options], [frame for frame, _ in sent])
@@ -222,7 +230,7 @@ def test_the_file_is_as_after_power_down(folder):
 
 def test_options(folder):
     options = ["--folder", folder, "--unit", "5", "--unit", "6", "--lose-frame", "8,9", "--lose-frame", "14",
-               "--lose-answer", "10", "--refuse", "11", "--fixed", "5:07", "--frames"]
+               "--lose-answer", "10", "--refuse", "11", "--fixed", "5:07", "--lose-power", "6:3,15", "--frames"]
     words = [*OPENED, *"C701 C702 0B98 0B98 C703 C704 C705 C706 A300 0B98".split()]
     status, answers, told = run(SIMULATED, options, words)
     want((status, answers[5:]), (7, "01 02 -- -- -- -- -- 06 -- 09".split()))
@@ -250,7 +258,8 @@ def test_what_cannot_start(folder):
     (folder / "unit_8.hex").write_text("77 FF")
     for options in [["--unit", "64"], ["--unit", "5", "--unit", "5"], ["--unit", "7"], ["--unit", "8"],
                     ["--fixed", "6:03"], ["--fixed", "5:02"], ["--fixed", "503"], ["--lose-frame", "0"],
-                    ["--refuse", "x"], ["--folder", folder / "none"]]:
+                    ["--refuse", "x"], ["--lose-power", "6:3"], ["--lose-power", "5"], ["--lose-power", "5:0"],
+                    ["--folder", folder / "none"]]:
         status, answers, told = run(SIMULATED, ["--folder", folder, *options], ["A312"])
         assert status == 2 and answers is None and told and "Traceback" not in told, (options, status, told)
     want(subprocess.run([SIMULATED, "--folder", folder], stderr=subprocess.DEVNULL).returncode, 2)

@@ -109,17 +109,24 @@ class Unit:
 class Bus:
     """A bus with its units. What it loses and refuses is named by the numbers of frames, counted from 1."""
 
-    def __init__(self, units, lost_frames=(), lost_answers=(), refused=()):
-        """Make a bus. At a lost frame no unit hears, at a refused one no unit stores a write."""
+    def __init__(self, units, lost_frames=(), lost_answers=(), refused=(), lost_power=()):
+        """Make a bus. At a lost frame no unit hears, at a refused one no unit stores a write.
+
+        Lost power is pairs of a short address and a frame: that unit loses its power and gets it back just before it.
+        """
         self.units = list(units)
         self.lost_frames = set(lost_frames)
         self.lost_answers = set(lost_answers)
         self.refused = set(refused)
+        self.lost_power = set(lost_power)
         self.frames = 0
 
     def carry(self, word):
         """Carry a forward frame to the units; return the answer where exactly one came back, and else None."""
         self.frames += 1
+        for unit in self.units:
+            if (unit.short_address, self.frames) in self.lost_power:
+                unit.power_up()
         if self.frames in self.lost_frames:
             return None
         refusing = self.frames in self.refused
@@ -198,6 +205,12 @@ def fixed_location(text):
     return int(short_address), int(location, 16)
 
 
+def power_losses(text):
+    """Read a short address and the numbers of frames, as 5:17,40."""
+    short_address, numbers = text.split(":")
+    return [(int(short_address), number) for number in frame_numbers(numbers)]
+
+
 def options_and_words(arguments):
     """Read the command line: the options, and behind -- the words of the command."""
     parser = argparse.ArgumentParser(usage="%(prog)s [options] -- COMMAND WORDS..", allow_abbrev=False,
@@ -210,6 +223,8 @@ def options_and_words(arguments):
                            ("--lose-answer", "the answer to this frame doesn't come back"),
                            ("--refuse", "a write at this frame is refused")]:
         parser.add_argument(option, metavar="N[,N..]", type=frame_numbers, action="extend", default=[], help=effect)
+    parser.add_argument("--lose-power", metavar="A:N[,N..]", type=power_losses, action="extend", default=[],
+                        help="unit A loses its power, and gets it back, just before the frame of this number")
     parser.add_argument("--fixed", metavar="A:LL", type=fixed_location, action="append", default=[],
                         help="location LL (hexadecimal) of unit A can't be written; may be repeated")
     parser.add_argument("--frames", action="store_true", help="print each frame and its answer to standard error")
@@ -220,6 +235,8 @@ def options_and_words(arguments):
         parser.error("two units are at one short address")
     if not {short_address for short_address, _ in options.fixed} <= set(options.unit):
         parser.error("a fixed location is of a unit that isn't there")
+    if not {short_address for short_address, _ in options.lose_power} <= set(options.unit):
+        parser.error("power is lost by a unit that isn't there")
     if not words:
         parser.error("there is no command: put -- and its words behind the options")
     return options, words
@@ -232,7 +249,7 @@ def main(arguments):
     try:
         units = [load_unit(options.folder, unit, [location for at, location in options.fixed if at == unit])
                  for unit in options.unit]
-        bus = Bus(units, options.lose_frame, options.lose_answer, options.refuse)
+        bus = Bus(units, options.lose_frame, options.lose_answer, options.refuse, options.lose_power)
         try:
             save_units(options.folder, units)
             return serve(bus, words, options.frames)

@@ -4,8 +4,9 @@
 use clap::error::ErrorKind;
 use dali_commands::drive_files::drive_files;
 use dali_commands::frame::frame;
-use dali_commands::{Fault, FileCommand, Job, Status, job_of, write_fault};
+use dali_commands::{Fault, FileCommand, Status, write_fault};
 use dali_input::{Input, InputFault};
+use dali_job::{Job, job_of};
 use dali_text::Output;
 use std::alloc::{AllocError, Global};
 use std::io::{BufWriter, LineWriter};

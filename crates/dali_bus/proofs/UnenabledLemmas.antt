@@ -107,7 +107,7 @@ none_at world at (AskDtr2 to) some quiet = λ f. f
 none_at world at (Read to) some quiet = λ f. f
 
 -- what a place holds after its unit lost power
-relocked_twice : (byte : Option ℕ) → relocked (relocked byte) ≡ relocked byte
+pub relocked_twice : (byte : Option ℕ) → relocked (relocked byte) ≡ relocked byte
 relocked_twice None = refl
 relocked_twice (Some byte) = refl
 
@@ -138,10 +138,10 @@ powered_place old new bank location powers = by (location == 2) refl
         ]
 
 -- a unit, or none, after the unit at an address lost power
-record PoweredAt (at address : ℕ) (old new : Option Gear) : Type 0 where
-  shut : is_open old ≡ false → is_open new ≡ false
-  some : is_some new ≡ is_some old
-  bytes : (bank location : ℕ) → (byte_in new bank location ≡ byte_in old bank location)
+pub record PoweredAt (at address : ℕ) (old new : Option Gear) : Type 0 where
+  pub shut : is_open old ≡ false → is_open new ≡ false
+  pub some : is_some new ≡ is_some old
+  pub bytes : (bank location : ℕ) → (byte_in new bank location ≡ byte_in old bank location)
       ⊎ ((address ≡ at) × (1 ≤ bank) × (location ≡ 2)
       × (byte_in new bank location ≡ relocked (byte_in old bank location)))
 
@@ -163,7 +163,7 @@ powered_there at (Some old) (Some new) powers =
 powered_there at None (Some new) powers = absurd powers
 powered_there at (Some old) None powers = absurd powers
 
-powered_at : (old : World) (address : ℕ) (new : World) → LosesPower old address new
+pub powered_at : (old : World) (address : ℕ) (new : World) → LosesPower old address new
     → (at : ℕ) → PoweredAt at address (old at) (new at)
 powered_at old address new loses at = by (at == address) refl
   where

@@ -1,5 +1,4 @@
 pub mod DriveLemmas
 pub mod FrameLemmas
-pub mod JobLemmas
 pub mod ReportLemmas
 pub mod RunLemmas

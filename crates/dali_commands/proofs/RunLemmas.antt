@@ -1,19 +1,22 @@
--- Lemmas on what is answered where a scenario isn't run.
-use Rattle.std.proofs.Common.{◌≡◌, List, ℕ, Bool, Option, Result, Ok, Err, IfOk, OnOk, inr, refl}
+-- Lemmas on what is answered where a scenario is run, and where it isn't.
+use Rattle.std.proofs.Common.{◌≡◌, List, ℕ, length, Bool, Option, Result, Ok, Err, IfOk, OnOk, inl, inr, refl}
 use Rattle.std.specs.Io.KnownBytes.{Appends}
 use Rattle.dali_gear.specs.SimState.{SimState}
 use Rattle.dali_journal.specs.JournalState.{IsLimit}
 use Rattle.dali_writer.specs.declared.fault.RunFault.{RunFault}
 use Rattle.dali_writer.specs.declared.fault.RunFault.TheVariants.{Limit, NoMemory}
 use Rattle.dali_trace.specs.declared.happening.Event.{Event}
+use Rattle.dali_trace.specs.declared.happening.Happening.{Happening}
+use Rattle.dali_text.specs.RunText.{run_text}
 use Rattle.dali_input.specs.Input.{InputState}
 use Rattle.dali_input.specs.Scenario.{Planned}
 use Rattle.dali_input.specs.Setup.{IsSetUp}
 use Rattle.dali_commands.specs.declared.fault.Fault.TheVariants.{Run}
 use Rattle.dali_commands.specs.declared.fault.Fault.{Fault}
 use Rattle.dali_commands.specs.declared.fault.Status.{Status}
+use Rattle.dali_commands.specs.declared.fault.Status.TheVariants.{Good}
 use Rattle.dali_commands.specs.Faults.{told_line, status_of}
-use Rattle.dali_commands.specs.RunAnswers.{IsRunAnswer, IsUnderstood, IsUnrun}
+use Rattle.dali_commands.specs.RunAnswers.{IsRan, IsRunAnswer, IsUnderstood, IsUnrun}
 
 -- a fault of the run, which tells Limit only where the limit is none
 pub not_run : (before after : InputState) (planned : Planned) (bus : SimState) (all : List Event) (fault : RunFault)
@@ -32,3 +35,23 @@ pub unrun_told : {E : Type 0} (single_frames : Bool) (before after : InputState)
 unrun_told single_frames before after old new fault (Ok status) unrun told is =
     (told_line fault, inr (fault, unrun, record { status_is = is; text_is = refl }), told)
 unrun_told single_frames before after old new fault (Err e) unrun told is = tt
+
+-- and one that was made by its trace
+pub run_told : {E : Type 0} (single_frames : Bool) (before after : InputState) (trace : List Happening)
+    (journal : List ℕ) (last : SimState) (old new : Option (List ℕ)) (r : Result Status E)
+    → IsRan before after trace journal last
+    → IfOk r (λ status. (status ≡ Good) × Appends old new (run_text single_frames trace (length journal) last.units))
+    → IfOk r (λ status. (text : List ℕ) × IsRunAnswer single_frames before after status text × Appends old new text)
+run_told single_frames before after trace journal last old new (Ok status) ran told = (
+  run_text single_frames trace (length journal) last.units,
+  inl (record {
+    trace = trace;
+    journal = journal;
+    last = last;
+    ran = ran;
+    status_is = told.0;
+    text_is = refl;
+  }),
+  told.1,
+)
+run_told single_frames before after trace journal last old new (Err e) ran told = tt

@@ -6,5 +6,4 @@ pub mod BankAnswers
 pub mod RunAnswers
 pub mod JournalAnswers
 pub mod DriveAnswers
-pub mod Jobs
 pub mod FileCommands

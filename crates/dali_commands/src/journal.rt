@@ -60,7 +60,7 @@ fn try_journal<R: Read, W: Write>(
     ensures end { TellsEnd result output.new }
 {
     match read_input(alloc, input, JOURNAL_LIMIT) {
-        Ok(bytes) => write_input(alloc, bytes.as_slice(), output),
+        Ok(bytes) => write_input(alloc, bytes, output),
         Err(fault) => write_failure(output, Fault::Input(fault)),
     }
 }
@@ -68,16 +68,17 @@ fn try_journal<R: Read, W: Write>(
 // Writes what an input says as a journal.
 fn write_input<W: Write>(
     alloc: Global,
-    input: &[u8],
+    input: Vec<u8>,
     output: &mut Output<W>,
 ) -> Result<Status, Unwritten>
-    ensures told { IfOk result (λ status. (text : List ℕ) × TellsInput input.now status text
+    ensures told { IfOk result (λ status. (text : List ℕ) × TellsInput input.items status text
         × Takes W.contents output.old output.new text) }
     ensures end { TellsEnd result output.new }
 {
+    let total = input.len();
     match journal_in(alloc, input) {
-        Ok((journal, counted)) => {
-            write_journal(output, &journal, &input[..counted], input.len())?;
+        Ok((journal, _)) => {
+            write_journal(output, &journal, journal.bytes(), total)?;
             output.flush()?;
             Ok(Status::Good)
         }
@@ -99,23 +100,26 @@ pub(crate) fn read_journal<R: Read>(
     ensures read { ReadsAtMost journal_limit (state_of R.remaining input.old) (state_of R.remaining input.new) }
 {
     match read_input(alloc, input, JOURNAL_LIMIT) {
-        Ok(bytes) => match journal_in(alloc, bytes.as_slice()) {
-            Ok((journal, counted)) => Ok((journal, counted, bytes.len())),
-            Err(fault) => Err(fault),
-        },
+        Ok(bytes) => {
+            let total = bytes.len();
+            match journal_in(alloc, bytes) {
+                Ok((journal, counted)) => Ok((journal, counted, total)),
+                Err(fault) => Err(fault),
+            }
+        }
         Err(fault) => Err(Fault::Input(fault)),
     }
 }
 
 // The journal of an input, and how many bytes of it count.
-fn journal_in(alloc: Global, input: &[u8]) -> Result<(Journal, usize), Fault>
-    ensures ok { IfOk result (λ loaded. IsJournalIn input.now loaded.0 loaded.1) }
-    ensures err { IfErr result (IsUnloaded input.now) }
+fn journal_in(alloc: Global, input: Vec<u8>) -> Result<(Journal, usize), Fault>
+    ensures ok { IfOk result (λ loaded. IsJournalIn input.items loaded.0 loaded.1) }
+    ensures err { IfErr result (IsUnloaded input.items) }
 {
     if input.len() > JOURNAL_LIMIT as usize {
         return Err(Fault::Input(InputFault::TooBig));
     }
-    match Journal::load(alloc, MOST_ORDERS, input) {
+    match Journal::load_vec(alloc, MOST_ORDERS, input) {
         Ok(loaded) => Ok(loaded),
         Err(fault) => Err(Fault::Journal(fault)),
     }

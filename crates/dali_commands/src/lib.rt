@@ -1,5 +1,5 @@
-//! The commands of the bench (profile): which one a command line asks for, and what each does with the readers, the
-//! writers and the files that it is given, up to its status.
+//! The commands of the bench (profile): what each does with the readers, the writers and the files that it is given,
+//! up to its status.
 #![tactic(auto)]
 
 pub mod check;
@@ -9,7 +9,6 @@ mod fault;
 mod fault_lines;
 mod file_command;
 pub mod frame;
-mod job;
 pub mod journal;
 mod journal_file;
 mod lines;
@@ -19,4 +18,3 @@ pub mod show;
 pub use fault::{Fault, Status};
 pub use fault_lines::write_fault;
 pub use file_command::FileCommand;
-pub use job::{Job, job_of};

@@ -15,7 +15,7 @@ use Rattle.dali_journal.specs.Spelling.{spelling, journal_spelling, IsRecord}
 use Rattle.dali_journal.specs.JournalState.{AreKept}
 use Rattle.dali_journal.proofs.TornLemmas.{torn_no_fault}
 use Rattle.dali_trace.specs.declared.happening.Happening.{Happening}
-use Rattle.dali_trace.specs.declared.happening.Happening.TheVariants.{Asked, Answered, Sent, Kept, Stopped}
+use Rattle.dali_trace.specs.declared.happening.Happening.TheVariants.{Asked, Answered, Sent, Kept, Stopped, Powered}
 use Rattle.dali_drive.specs.declared.fault.DriveFault.{DriveFault}
 use Rattle.dali_drive.specs.declared.fault.DriveFault.TheVariants.{Journal, Link, Line, End, NoMemory, TooLong, Out}
 use Rattle.dali_trace.specs.Trace.{Start, records_of}
@@ -28,7 +28,8 @@ use Rattle.dali_drive.specs.Driven.{KeepsRecords, IsDriven, IsDrive, IsBrokenDri
 use Rattle.dali_drive.specs.Driven.{Unanswered}
 use Rattle.dali_laws.specs.Joined.{Sitting, joined, FollowOn}
 use Rattle.dali_trace.specs.Moves.{Moves}
-use Rattle.dali_trace.specs.Fits.{Fits, OnlyNamed}
+use Rattle.dali_trace.specs.Fits.{Fits, IsLockedAbove, OnlyNamed}
+use Rattle.dali_laws.specs.Powered.{unpowered, IsPowerApart}
 use Rattle.dali_drive.specs.Sittings.{IsFileOf, after, MayHaveHappened, WasDriven, AreSittings, LeavesFile, ActOnce}
 use Rattle.dali_laws.proofs.JoinLemmas.{joined_records, joined_sittings, sittings_right}
 use Rattle.dali_laws.proofs.TakenLemmas.{kept_are_taken}
@@ -49,6 +50,7 @@ journal_recorded start (Asked order ∷ past) = journal_recorded start past
 journal_recorded start (Answered id reply ∷ past) = journal_recorded start past
 journal_recorded start (Sent frame answer ∷ past) = journal_recorded start past
 journal_recorded start (Stopped ∷ past) = journal_recorded start past
+journal_recorded start (Powered address ∷ past) = journal_recorded start past
 journal_recorded start (Kept entry ∷ past) =
     ap (λ (b : List ℕ). b ++ spelling entry) (journal_recorded start past)
     ∙ append_assoc (journal_spelling start.records) (recorded past) (spelling entry)
@@ -61,6 +63,7 @@ in_range start (Asked order ∷ past) all keeps = in_range start past all keeps
 in_range start (Answered id reply ∷ past) all keeps = in_range start past all keeps
 in_range start (Sent frame answer ∷ past) all keeps = in_range start past all keeps
 in_range start (Stopped ∷ past) all keeps = in_range start past all keeps
+in_range start (Powered address ∷ past) all keeps = in_range start past all keeps
 in_range start (Kept entry ∷ past) all keeps = (keeps.0, in_range start past all keeps.1)
 
 kept_so : (start : Start) (past : List Happening) → AreKept start.limit start.records → Legal start past
@@ -181,6 +184,7 @@ frame_finished start (Answered id reply ∷ past) frame answer next = tt
 frame_finished start (Sent last heard ∷ past) frame answer next = tt
 frame_finished start (Kept entry ∷ past) frame answer next = tt
 frame_finished start (Stopped ∷ past) frame answer next = tt
+frame_finished start (Powered address ∷ past) frame answer next = tt
 
 record_finished : (start : Start) (past : List Happening) (entry : Record) → IsNext start past (Kept entry)
     → IsFinished past
@@ -190,6 +194,7 @@ record_finished start (Answered id reply ∷ past) entry next = tt
 record_finished start (Sent last heard ∷ past) entry next = tt
 record_finished start (Kept last ∷ past) entry next = tt
 record_finished start (Stopped ∷ past) entry next = tt
+record_finished start (Powered address ∷ past) entry next = tt
 
 -- the file that a drive leaves
 
@@ -273,6 +278,7 @@ joined_after start newest [] same = by newest.past where
   by (Sent frame answer ∷ past) = by past
   by (Kept entry ∷ past) = ap (λ (records : List Record). entry ∷ records) (by past)
   by (Stopped ∷ past) = by past
+  by (Powered address ∷ past) = by past
 joined_after start newest (last ∷ older) same =
     joined_records start newest.start (joined (last ∷ older)) newest.past same
 
@@ -293,18 +299,19 @@ sittings_follow start first last len (newest ∷ older) is (before, sat, limit, 
       subst (λ (s : Start). IsFileOf last s one.count) now one.file,
     )
 
-pub act_once : (zero : World) (start : Start) (first left : List ℕ) (len : ℕ) (sittings : List Sitting)
-    (now last : World) (states : List World)
-    → IsFileOf first start len
-    → AreSittings start.limit first sittings left → Fits zero start.records now → OnlyNamed start.records now
-    → IsChain Moves now (joined sittings) last states
-    → ActOnce zero start sittings left last states
-act_once zero start first left len sittings now last states is sat fits only chain =
+pub act_once : (zero : World) (lost : List ℕ) (start : Start) (first left : List ℕ) (len : ℕ) (sittings : List Sitting)
+    (past : List Happening) (now last : World) (states : List World)
+    → IsFileOf first start len → AreSittings start.limit first sittings left
+    → unpowered past ≡ joined sittings → IsPowerApart past
+    → IsLockedAbove zero → Fits zero start.records lost now → OnlyNamed start.records now
+    → IsChain Moves now past last states
+    → ActOnce zero lost start sittings left past last states
+act_once zero lost start first left len sittings past now last states is sat same apart locked fits only chain =
     let all = sittings_follow start first left len sittings is sat in
     let one = joined_sittings start sittings all.0 in record {
       trace = one;
       count = all.1;
       file = all.2;
       once = kept_are_taken start (joined sittings) one.0;
-      right = sittings_right zero start sittings now last states all.0 fits only chain;
+      right = sittings_right zero lost start sittings past now last states all.0 same apart locked fits only chain;
     }

@@ -9,7 +9,7 @@ use Rattle.dali_journal.specs.Spelling.{spelling, IsRecord}
 use Rattle.dali_trace.specs.declared.happening.Reply.{Reply}
 use Rattle.dali_trace.specs.declared.happening.Reply.TheVariants as replies
 use Rattle.dali_trace.specs.declared.happening.Happening.{Happening}
-use Rattle.dali_trace.specs.declared.happening.Happening.TheVariants.{Asked, Answered, Sent, Kept, Stopped}
+use Rattle.dali_trace.specs.declared.happening.Happening.TheVariants.{Asked, Answered, Sent, Kept, Stopped, Powered}
 use Rattle.dali_drive.specs.declared.fault.DriveFault.{DriveFault}
 use Rattle.dali_drive.specs.declared.fault.DriveFault.TheVariants.{Journal, Link, NoMemory, Out}
 use Rattle.dali_trace.specs.Trace.{Start, is_busy}
@@ -29,11 +29,12 @@ orders_asked [] = []
 orders_asked (Asked order ∷ past) = order ∷ orders_asked past
 orders_asked (other ∷ past) = orders_asked past
 
--- each order is asked where nothing is to be done, and the program isn't stopped
+-- each order is asked where nothing is to be done, and the program isn't stopped, nor does it know of losses of power
 abbrev pub IsInTurn : Start → List Happening → Type 0
 IsInTurn start [] = Unit {0}
 IsInTurn start (Asked order ∷ past) = (is_busy start past ≡ false) × IsInTurn start past
 IsInTurn start (Stopped ∷ past) = ⊥
+IsInTurn start (Powered address ∷ past) = ⊥
 IsInTurn start (other ∷ past) = IsInTurn start past
 
 -- the numbers of each record that was kept are in their ranges

@@ -71,14 +71,14 @@ pub record LeavesFile (start : Start) (trace : List Happening) (last : Streams) 
   pub count : ℕ
   pub file : IsFileOf left (after start past) count
 
--- What a bench may rely on that is switched off and on again any number of times: all that happened is one legal
--- trace that keeps to the plans, the file is again that of its records, the orders that were begun are the taken
--- ones, each once, and every moment is right.
-pub record ActOnce (zero : World) (start : Start) (sittings : List Sitting) (left : List ℕ) (last : World)
-    (states : List World) : Type 0 where
+-- What a bench may rely on that is switched off and on again any number of times, while units lose their power: all
+-- that the program knows of is one legal trace that keeps to the plans, the file is again that of its records, the
+-- orders that were begun are the taken ones, each once, and every moment is right of all that happened.
+pub record ActOnce (zero : World) (lost : List ℕ) (start : Start) (sittings : List Sitting) (left : List ℕ)
+    (past : List Happening) (last : World) (states : List World) : Type 0 where
   pub trace : IsOneTrace start sittings
   pub count : ℕ
   pub file : IsFileOf left (after start (joined sittings)) count
   pub once : begun_orders (records_of start (joined sittings))
       ≡ taken_orders (joined sittings) ++ begun_orders start.records
-  pub right : AtEachMoment (IsRight zero start) (joined sittings) last states
+  pub right : AtEachMoment (IsRight zero lost start) past last states

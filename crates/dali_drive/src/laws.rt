@@ -9,7 +9,9 @@ ghost use Rattle.dali_journal.specs.JournalState.{AreKept};
 ghost use Rattle.dali_trace.specs.Trace.{Start};
 ghost use Rattle.dali_writer.specs.Held.{Held};
 ghost use Rattle.dali_trace.specs.Moves.{Moves};
-ghost use Rattle.dali_trace.specs.Fits.{Fits, OnlyNamed};
+ghost use Rattle.dali_trace.specs.Fits.{Fits, IsLockedAbove, OnlyNamed};
+ghost use Rattle.dali_trace.specs.declared.happening.Happening.{Happening};
+ghost use Rattle.dali_laws.specs.Powered.{unpowered, IsPowerApart};
 ghost use Rattle.dali_laws.specs.Joined.{Sitting, joined, FollowOn};
 ghost use Rattle.dali_drive.specs.declared.fault.DriveFault.{DriveFault};
 ghost use Rattle.dali_drive.specs.Transcript.{Streams};
@@ -32,12 +34,16 @@ pub fn drives_leave_their_journal()
 /// Drives one after another, however many and however each ended, each from the journal that is loaded from the file
 /// that the one before it left, over one chain of worlds from a world that fits the start world and the start records
 /// and in which no unit is write-enabled but the one that they name: together they act as one, and each order once.
+/// Units may lose their power anywhere but between an order and its reply; in the start world the lock bytes of the
+/// banks from 2 up are FFh.
 pub fn drives_act_once()
     ensures follow { (start : Start) (first left : List ℕ) (len : ℕ) (sittings : List Sitting)
         → IsFileOf first start len → AreSittings start.limit first sittings left → FollowOn start sittings }
-    ensures once { (zero : World) (start : Start) (first left : List ℕ) (len : ℕ) (sittings : List Sitting)
-        (now last : World) (states : List World)
+    ensures once { (zero : World) (lost : List ℕ) (start : Start) (first left : List ℕ) (len : ℕ)
+        (sittings : List Sitting) (past : List Happening) (now last : World) (states : List World)
         → IsFileOf first start len → AreSittings start.limit first sittings left
-        → Fits zero start.records now → OnlyNamed start.records now → IsChain Moves now (joined sittings) last states
-        → ActOnce zero start sittings left last states }
+        → unpowered past ≡ joined sittings → IsPowerApart past
+        → IsLockedAbove zero → Fits zero start.records lost now → OnlyNamed start.records now
+        → IsChain Moves now past last states
+        → ActOnce zero lost start sittings left past last states }
 {}

@@ -11,7 +11,7 @@ use Rattle.serde_json.specs.Data.{Data, null, boolean, number, string, array, ob
 use Rattle.serde_json.specs.Find.{get, get_member}
 use Rattle.dali_input.specs.declared.fault.InputFault.{InputFault}
 use Rattle.dali_input.specs.Items.{keys_of}
-use Rattle.dali_input.specs.Scenario.{PlannedEvent, submit, steps, stop, IsEvent, most_events}
+use Rattle.dali_input.specs.Scenario.{PlannedEvent, submit, steps, stop, power, IsEvent, most_events}
 use Rattle.dali_input.specs.Values.{IsWhole, IsNoReading, has_only_keys}
 use Rattle.dali_input.proofs.ValueLemmas.{needs}
 
@@ -56,4 +56,36 @@ no_steps json value fault there none = needs (IsWhole 1 most_events value) (IsEv
         absurd (only_key (codes "steps") (codes "submit") json value (λ found v. refl) only there)
     by (stop bytes) (only, is) =
         absurd (only_key (codes "steps") (codes "stop") json value (λ found v. refl) only there)
+    by (power address) (only, is) =
+        absurd (only_key (codes "steps") (codes "power") json value (λ found v. refl) only there)
     by (steps count) (only, is) = (count, rw there at is)
+
+-- one whose number of bytes can't be read
+pub no_bytes : (json value : Data) (fault : InputFault) → get (codes "stop") json ≡ Some value
+    → IsNoReading (IsWhole 0 65535 value) fault
+    → IsNoReading (IsEvent json) fault
+no_bytes json value fault there none = needs (IsWhole 0 65535 value) (IsEvent json) fault by none
+  where
+    by : (event : PlannedEvent) → IsEvent json event → (bytes : ℕ) × IsWhole 0 65535 value bytes
+    by (submit order) (only, is) =
+        absurd (only_key (codes "stop") (codes "submit") json value (λ found v. refl) only there)
+    by (steps count) (only, is) =
+        absurd (only_key (codes "stop") (codes "steps") json value (λ found v. refl) only there)
+    by (stop bytes) (only, is) = (bytes, rw there at is)
+    by (power address) (only, is) =
+        absurd (only_key (codes "stop") (codes "power") json value (λ found v. refl) only there)
+
+-- and one whose address can't be read
+pub no_address : (json value : Data) (fault : InputFault) → get (codes "power") json ≡ Some value
+    → IsNoReading (IsWhole 0 63 value) fault
+    → IsNoReading (IsEvent json) fault
+no_address json value fault there none = needs (IsWhole 0 63 value) (IsEvent json) fault by none
+  where
+    by : (event : PlannedEvent) → IsEvent json event → (address : ℕ) × IsWhole 0 63 value address
+    by (submit order) (only, is) =
+        absurd (only_key (codes "power") (codes "submit") json value (λ found v. refl) only there)
+    by (steps count) (only, is) =
+        absurd (only_key (codes "power") (codes "steps") json value (λ found v. refl) only there)
+    by (stop bytes) (only, is) =
+        absurd (only_key (codes "power") (codes "stop") json value (λ found v. refl) only there)
+    by (power address) (only, is) = (address, rw there at is)

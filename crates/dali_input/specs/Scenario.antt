@@ -11,7 +11,7 @@ use Rattle.dali_bank.specs.Blank.{blank_bank}
 use Rattle.dali_input.specs.declared.scenario.UnitPlan.{UnitPlan}
 use Rattle.dali_input.specs.declared.scenario.FatePlan.{FatePlan}
 use Rattle.dali_input.specs.declared.scenario.EventPlan.{EventPlan}
-use Rattle.dali_input.specs.declared.scenario.EventPlan.TheVariants.{Submit, Steps, Stop}
+use Rattle.dali_input.specs.declared.scenario.EventPlan.TheVariants.{Submit, Steps, Stop, Power}
 use Rattle.dali_input.specs.declared.scenario.Scenario.{Scenario}
 use Rattle.dali_input.specs.Values.{IsWhole, IsArrayOf, IsRequired, IsOptional, has_only_keys}
 
@@ -70,12 +70,13 @@ pub record IsFate (json : Data) (plan : FatePlan) : Type 0 where
 
 -- ---- events
 
--- an order is submitted, whatever stands there; so many steps are made; or the program stops, and so many bytes of a
--- record reach the journal
+-- an order is submitted, whatever stands there; so many steps are made; the program stops, and so many bytes of a
+-- record reach the journal; or the unit at an address loses its power
 pub data PlannedEvent : Type 0 where
   submit : Data → PlannedEvent
   steps : ℕ → PlannedEvent
   stop : ℕ → PlannedEvent
+  power : ℕ → PlannedEvent
 
 -- an object with one key
 abbrev pub IsEvent : Data → PlannedEvent → Type 0
@@ -85,6 +86,8 @@ IsEvent json (steps count) = (has_only_keys (codes "steps" ∷ []) json ≡ true
     × IsRequired (IsWhole 1 most_events) (get (codes "steps") json) count
 IsEvent json (stop bytes) = (has_only_keys (codes "stop" ∷ []) json ≡ true)
     × IsRequired (IsWhole 0 65535) (get (codes "stop") json) bytes
+IsEvent json (power address) = (has_only_keys (codes "power" ∷ []) json ≡ true)
+    × IsRequired (IsWhole 0 63) (get (codes "power") json) address
 
 -- ---- the whole
 
@@ -106,6 +109,7 @@ abbrev pub event_count : PlannedEvent → ℕ
 event_count (submit order) = 1
 event_count (steps count) = count
 event_count (stop bytes) = 1
+event_count (power address) = 1
 
 -- there are no more events and fates than there may be
 pub record IsSmall (planned : Planned) : Type 0 where
@@ -122,6 +126,7 @@ abbrev pub event_of : EventPlan → PlannedEvent
 event_of (Submit order) = submit (view order.now)
 event_of (Steps count) = steps count
 event_of (Stop bytes) = stop bytes
+event_of (Power address) = power address
 
 abbrev pub planned_of : Scenario → Planned
 planned_of scenario = record {

@@ -17,7 +17,7 @@ use Rattle.dali_input.specs.declared.scenario.FatePlan.{FatePlan}
 use Rattle.dali_input.specs.declared.setup.SetupFault.{SetupFault}
 use Rattle.dali_input.specs.declared.setup.SetupFault.TheVariants as faults
 use Rattle.dali_input.specs.Items.{IsOrderOf, IsFaultOf}
-use Rattle.dali_input.specs.Scenario.{PlannedUnit, PlannedEvent, submit, steps, stop, Planned, IsSmall}
+use Rattle.dali_input.specs.Scenario.{PlannedUnit, PlannedEvent, submit, steps, stop, power, Planned, IsSmall}
 
 -- ---- units
 
@@ -62,7 +62,7 @@ fates_of plans = flat_map (λ plan. replicate plan.times plan.fate) plans
 
 -- ---- events
 
--- the events: a submission for an order, as many steps as are made, a stop for a stop
+-- the events: a submission for an order, as many steps as are made, a stop for a stop, a loss of power for one
 abbrev pub AreEvents : List PlannedEvent → List Event → Type 0
 AreEvents [] all = all ≡ []
 AreEvents (submit source ∷ planned) all = (order : Contents) × (rest : List Event)
@@ -70,6 +70,8 @@ AreEvents (submit source ∷ planned) all = (order : Contents) × (rest : List E
 AreEvents (steps count ∷ planned) all =
     (rest : List Event) × AreEvents planned rest × (all ≡ replicate count events.Step ++ rest)
 AreEvents (stop bytes ∷ planned) all = (rest : List Event) × AreEvents planned rest × (all ≡ events.Stop bytes ∷ rest)
+AreEvents (power address ∷ planned) all =
+    (rest : List Event) × AreEvents planned rest × (all ≡ events.Power address ∷ rest)
 
 -- the first event with an order that is refused, counted from 1, and why
 pub record IsFirstOrderFault (planned : List PlannedEvent) (number : ℕ) (fault : ItemFault) : Type 0 where

@@ -53,6 +53,8 @@ pub enum EventPlan<'a> {
     Steps(u32),
     /// The program stops, and at most so many bytes of the record that was to be kept reach the journal.
     Stop(u16),
+    /// The unit at this short address, 0 to 63, loses its power and gets it back.
+    Power(u8),
 }
 
 impl EventPlan<'_> {
@@ -64,6 +66,7 @@ impl EventPlan<'_> {
             EventPlan::Submit(_order) => 1,
             EventPlan::Steps(count) => u64::from(*count),
             EventPlan::Stop(_bytes) => 1,
+            EventPlan::Power(_address) => 1,
         }
     }
 }
@@ -241,6 +244,12 @@ fn event_plan(json: &Json) -> Result<EventPlan<'_>, InputFault>
         if let Some(bytes) = json.get("stop") {
             let bytes = whole_within(bytes, 0, u64::from(u16::MAX))?;
             return Ok(EventPlan::Stop(bytes as u16));
+        }
+    }
+    if has_only_keys(json, &["power"]) {
+        if let Some(address) = json.get("power") {
+            let address = whole_within(address, 0, 63)?;
+            return Ok(EventPlan::Power(address as u8));
         }
     }
     Err(InputFault::Document)

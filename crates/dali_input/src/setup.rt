@@ -163,6 +163,7 @@ fn events_of(alloc: Global, plans: &[EventPlan<'_>]) -> Result<Vec<Event>, Setup
             },
             EventPlan::Steps(count) => push_steps(&mut events, *count)?,
             EventPlan::Stop(bytes) => events.push(Event::Stop(*bytes))?,
+            EventPlan::Power(address) => events.push(Event::Power(*address))?,
         }
     }
     Ok(events)

@@ -13,7 +13,7 @@ use Rattle.dali_journal.specs.Spelling.{journal_spelling}
 use Rattle.dali_journal.specs.Reading.{BeginsWith, IsCutOf}
 use Rattle.dali_journal.specs.Decoding.{records_from, records_in}
 use Rattle.dali_journal.specs.JournalState.{AreKept}
-use Rattle.dali_journal.specs.Loading.{MayNotStand, IsFault, BytesHaveOneFault}
+use Rattle.dali_journal.specs.Loading.{MayNotFollow, IsFault, BytesHaveOneFault}
 use Rattle.dali_journal.proofs.PairLemmas.{AreBytes}
 use Rattle.dali_journal.proofs.DecodeLemmas.{AreRecords, read_all, enough_bytes}
 use Rattle.dali_journal.proofs.TornLemmas.{bytes_back, record_stands, bad_read, stands, older_sentence, older_orders}
@@ -25,7 +25,7 @@ IsBad rest = (entry : Record) → (¬ BeginsWith rest entry) × (¬ IsCutOf rest
 abbrev Kind : JournalFault → ℕ → ℕ → List Record → List ℕ → Type 0
 Kind fault limit place records rest =
     ((fault ≡ faults.Record place) × IsBad rest)
-    ⊎ ((entry : Record) × BeginsWith rest entry × MayNotStand fault limit place records entry)
+    ⊎ ((entry : Record) × BeginsWith rest entry × MayNotFollow fault limit place records entry)
 
 kind_of : (fault : JournalFault) (limit place : ℕ) (records : List Record) (rest : List ℕ)
     → IsFault fault limit place records rest
@@ -54,7 +54,7 @@ bad_records bytes records rest are in_range spelled bad =
 -- a record of a journal is none that may not stand
 stands_in : (limit place : ℕ) (whole more records : List Record) (entry : Record) (fault : JournalFault)
     → AreKept limit whole → whole ≡ more ++ entry ∷ records
-    → MayNotStand fault limit place records entry → ⊥
+    → MayNotFollow fault limit place records entry → ⊥
 stands_in limit place whole more records entry fault kept same not =
     let few = kept.whole.1 in
     let fewer = ap (λ those. length (orders_of those)) same in
@@ -76,8 +76,8 @@ places (m ∷ ms) (n ∷ ns) a b ones twos e = places ms ns a b ones twos (ap (d
 
 -- what may not stand in one place is one fault
 same_fault : (f g : JournalFault) (limit place : ℕ) (records : List Record) (entry : Record)
-    → MayNotStand f limit place records entry
-    → MayNotStand g limit place records entry → f ≡ g
+    → MayNotFollow f limit place records entry
+    → MayNotFollow g limit place records entry → f ≡ g
 same_fault (faults.Sequence at) (faults.Sequence other) limit place records entry a b =
     ap faults.Sequence (a.0 ∙ sym b.0)
 same_fault (faults.Sequence at) (faults.Repeated other) limit place records (Began order) a b = absurd (a.1 b.1)
@@ -129,8 +129,8 @@ one_of limit bytes f g ones twos rest more are kept also spelled again (inr a) (
     by : Places a.0 ones b.0 twos → f ≡ g
     by (inl same) =
         same_fault f g limit (place_behind twos) twos b.0
-        (subst (λ those. MayNotStand f limit (place_behind those) those b.0) same.1
-        (subst (MayNotStand f limit (place_behind ones) ones) same.0 a.2))
+        (subst (λ those. MayNotFollow f limit (place_behind those) those b.0) same.1
+        (subst (MayNotFollow f limit (place_behind ones) ones) same.0 a.2))
         b.2
     by (inr (inl before)) = absurd (stands_in limit (place_behind ones) twos before.0 ones a.0 f also before.1 a.2)
     by (inr (inr behind)) = absurd (stands_in limit (place_behind twos) ones behind.0 twos b.0 g kept behind.1 b.2)

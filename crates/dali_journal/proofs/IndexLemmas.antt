@@ -24,7 +24,7 @@ use Rattle.dali_journal.specs.Sentence.{Allows, next_standing, standing_of, IsSe
 use Rattle.dali_journal.specs.Orders.{come_to, orders_of, kept_at, kept_among, kept_of}
 use Rattle.dali_journal.specs.Spelling.{spelling, IsRecord}
 use Rattle.dali_journal.specs.Reading.{IsRead}
-use Rattle.dali_journal.specs.Index.{StandsAt, Agrees, ended_place, place_after}
+use Rattle.dali_journal.specs.Index.{IsRecordAt, Agrees, ended_place, place_after}
 use Rattle.dali_journal.proofs.DecodeLemmas.{read_is}
 
 -- the order that is at work is the newest, and hasn't ended
@@ -59,8 +59,8 @@ drop_append (suc n) [] ys h = absurd (omega arith)
 drop_append (suc n) (x ∷ xs) ys h = drop_append n xs ys (omega arith)
 
 -- what stands in bytes stands in longer ones
-stands_more : (bytes more : List ℕ) (at : ℕ) (entry : Record) → StandsAt bytes at entry
-    → StandsAt (bytes ++ more) at entry
+stands_more : (bytes more : List ℕ) (at : ℕ) (entry : Record) → IsRecordAt bytes at entry
+    → IsRecordAt (bytes ++ more) at entry
 stands_more bytes more at entry stands = (
   let n = length-append bytes more in let h = stands.0 in omega arith,
   (
@@ -71,7 +71,7 @@ stands_more bytes more at entry stands = (
   ),
 )
 
-agrees_more : (bytes more : List ℕ) (place : Place) (kept : Kept) → Agrees bytes place kept
+pub agrees_more : (bytes more : List ℕ) (place : Place) (kept : Kept) → Agrees bytes place kept
     → Agrees (bytes ++ more) place kept
 agrees_more bytes more places.NotBegun kept a = a
 agrees_more bytes more (places.Begun at) kept a = (a.0, a.1, stands_more bytes more at (Began a.0) a.2)
@@ -127,7 +127,7 @@ opened_same _ unit older id a n = absurd a
 
 -- the new record stands where the bytes ended
 stands_new : (bytes : List ℕ) (entry : Record) → IsRecord entry
-    → StandsAt (bytes ++ spelling entry) (length bytes) entry
+    → IsRecordAt (bytes ++ spelling entry) (length bytes) entry
 stands_new bytes entry is = (
   let n = length-append bytes (spelling entry) in omega arith,
   (is, [], drop-append_seam bytes (spelling entry) ∙ sym (append-nil (spelling entry))),
@@ -170,7 +170,7 @@ slice_rest at bytes = ap (λ k. take k (drop at bytes)) (sym (length-drop at byt
 
 pub order_there : (bytes : List ℕ) (at : ℕ) (order : Contents) (piece : Piece)
     → IsRead (take (length bytes - at) (drop at bytes)) piece
-    → StandsAt bytes at (Began order) → piece ≡ Whole (Began order) (length (spelling (Began order)))
+    → IsRecordAt bytes at (Began order) → piece ≡ Whole (Began order) (length (spelling (Began order)))
 order_there bytes at order piece reads stands =
     read_is (drop at bytes) (Began order) piece
     (subst (λ (bs : List ℕ). IsRead bs piece) (slice_rest at bytes) reads) stands.1
@@ -184,7 +184,7 @@ none_some order e = cc
 -- what is told of an order whose place agrees with what was kept
 pub told_unfinished : (bytes : List ℕ) (place : Place) (at : ℕ) (kept : Kept) (order : Contents)
     → place ≡ places.Begun at
-    → ((o : Contents) → StandsAt bytes at (Began o) → Some order ≡ Some o) → Agrees bytes place kept
+    → ((o : Contents) → IsRecordAt bytes at (Began o) → Some order ≡ Some o) → Agrees bytes place kept
     → kepts.Unfinished order ≡ kept
 told_unfinished bytes place at kept order is found agrees =
     let a = subst (λ (p : Place). Agrees bytes p kept) is agrees in
@@ -192,18 +192,18 @@ told_unfinished bytes place at kept order is found agrees =
 
 pub told_ended : (bytes : List ℕ) (place : Place) (at : ℕ) (code : Code) (kept : Kept) (order : Contents)
     → place ≡ places.Ended at code
-    → ((o : Contents) → StandsAt bytes at (Began o) → Some order ≡ Some o) → Agrees bytes place kept
+    → ((o : Contents) → IsRecordAt bytes at (Began o) → Some order ≡ Some o) → Agrees bytes place kept
     → kepts.Ended order code ≡ kept
 told_ended bytes place at code kept order is found agrees =
     let a = subst (λ (p : Place). Agrees bytes p kept) is agrees in
     ap (λ (o : Contents). kepts.Ended o code) (some_same order a.0 (found a.0 a.2)) ∙ sym a.1
 
 pub found_unfinished : (bytes : List ℕ) (place : Place) (at : ℕ) (kept : Kept) → place ≡ places.Begun at
-    → ((o : Contents) → StandsAt bytes at (Began o) → None ≡ Some o) → Agrees bytes place kept → ⊥
+    → ((o : Contents) → IsRecordAt bytes at (Began o) → None ≡ Some o) → Agrees bytes place kept → ⊥
 found_unfinished bytes place at kept is found agrees =
     let a = subst (λ (p : Place). Agrees bytes p kept) is agrees in none_some a.0 (found a.0 a.2)
 
 pub found_ended : (bytes : List ℕ) (place : Place) (at : ℕ) (code : Code) (kept : Kept) → place ≡ places.Ended at code
-    → ((o : Contents) → StandsAt bytes at (Began o) → None ≡ Some o) → Agrees bytes place kept → ⊥
+    → ((o : Contents) → IsRecordAt bytes at (Began o) → None ≡ Some o) → Agrees bytes place kept → ⊥
 found_ended bytes place at code kept is found agrees =
     let a = subst (λ (p : Place). Agrees bytes p kept) is agrees in none_some a.0 (found a.0 a.2)

@@ -235,7 +235,8 @@ keeps_room journal new (Closed unit) a records numbers rest =
     room_left journal new (Closed unit) a tt records numbers rest
 
 -- the bytes of updates that are spelled
-pairs_in_range : (pairs : List (ℕ × ℕ)) → AreBytes (pairs_spelling pairs) → AllByRecursion (λ pair. pair.1 < 256) pairs
+pub pairs_in_range : (pairs : List (ℕ × ℕ)) → AreBytes (pairs_spelling pairs)
+    → AllByRecursion (λ pair. pair.1 < 256) pairs
 pairs_in_range [] bytes = tt
 pairs_in_range (pair ∷ pairs) bytes = (bytes.1.0, pairs_in_range pairs bytes.1.1)
 

@@ -7,6 +7,8 @@ pub mod DecodeLemmas
 pub mod IndexLemmas
 pub mod JournalLemmas
 pub mod BegunLemmas
+pub mod AheadLemmas
+pub mod FrontLemmas
 pub mod LoadLemmas
 pub mod TornLemmas
 pub mod FaultLemmas

@@ -19,7 +19,7 @@ abbrev pub Climb : ℕ → List (ℕ × ℕ) → Type 0
 Climb low [] = ⊤
 Climb low (update ∷ updates) = IsWritable update.0 × (low < update.0) × (update.1 < 256) × Climb update.0 updates
 
-climb : (low : ℕ) (updates : List (ℕ × ℕ)) → RisesAbove low updates
+pub climb : (low : ℕ) (updates : List (ℕ × ℕ)) → RisesAbove low updates
     → AllByRecursion (λ update. IsWritable update.0) updates
     → AllByRecursion (λ update. update.1 < 256) updates → Climb low updates
 climb low [] rises writable bytes = tt
@@ -43,7 +43,7 @@ places_fall : (low place : ℕ) → IsWritable place → low < place → suc (pl
 places_fall low place (inl w) h = omega arith
 places_fall low place (inr w) h = omega arith
 
-length-climb : (low : ℕ) (updates : List (ℕ × ℕ)) → Climb low updates → length updates ≤ places_above low
+pub length-climb : (low : ℕ) (updates : List (ℕ × ℕ)) → Climb low updates → length updates ≤ places_above low
 length-climb low [] c = omega arith
 length-climb low (u ∷ us) c = omega (arith, places_fall low u.0 c.0 c.1, length-climb u.0 us c.3)
 

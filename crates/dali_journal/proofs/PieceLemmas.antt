@@ -125,7 +125,8 @@ no-order bytes none (Began o) rest more is e = none o rest more is e
 no-order bytes none entry rest more is e = other-letter entry rest 0x42 (bytes ++ more) (omega arith) e
 
 -- behind a count that may be
-reads-began : (id unit count : ℕ) (bytes : List ℕ) (piece : Pairs) → id < 2 ^ 64 → unit ≤ 63 → 1 ≤ count → count ≤ 115 →
+pub reads-began : (id unit count : ℕ) (bytes : List ℕ) (piece : Pairs) → id < 2 ^ 64 → unit ≤ 63
+    → 1 ≤ count → count ≤ 115 →
     ReadsPairs count 0 bytes piece
     → IsRead (0x42 ∷ to_be_bytes w64 id ++ unit ∷ count ∷ bytes) (began_piece id unit count piece)
 reads-began id unit count bytes (lists.Whole pairs) i u some few reads =
@@ -218,7 +219,7 @@ zeros : (n : ℕ) → AreBytes (replicate n 0)
 zeros zero = tt
 zeros (suc n) = (omega arith, zeros n)
 
-bytes-take : (n : ℕ) (a : List ℕ) → AreBytes a → AreBytes (take n a)
+pub bytes-take : (n : ℕ) (a : List ℕ) → AreBytes a → AreBytes (take n a)
 bytes-take zero a p = tt
 bytes-take (suc n) [] p = tt
 bytes-take (suc n) (x ∷ a) p = (p.0, bytes-take n a p.1)
@@ -229,7 +230,7 @@ bytes-drop (suc n) [] p = tt
 bytes-drop (suc n) (x ∷ a) p = bytes-drop n a p.1
 
 -- eight bytes are a number's
-number-of : (bytes : List ℕ) → length bytes ≡ 8 → AreBytes bytes →
+pub number-of : (bytes : List ℕ) → length bytes ≡ 8 → AreBytes bytes →
     (from_be_bytes w64 bytes < 2 ^ 64) × (to_be_bytes w64 (from_be_bytes w64 bytes) ≡ bytes)
 number-of bytes n fit =
     let at = bytes-at bytes fit in (

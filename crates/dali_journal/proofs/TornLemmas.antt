@@ -14,7 +14,7 @@ use Rattle.dali_journal.specs.Spelling.{spelling, journal_spelling}
 use Rattle.dali_journal.specs.Reading.{IsRead, BeginsWith, IsCutOf}
 use Rattle.dali_journal.specs.Decoding.{piece_of, read_further, records_from, records_in}
 use Rattle.dali_journal.specs.JournalState.{AreKept}
-use Rattle.dali_journal.specs.Loading.{IsLoadFault, IsTornWithin, IsTorn, MayNotStand, IsFault, TornHasNoFault}
+use Rattle.dali_journal.specs.Loading.{IsLoadFault, IsTornWithin, IsTorn, MayNotFollow, IsFault, TornHasNoFault}
 use Rattle.dali_journal.proofs.PairLemmas.{AreBytes}
 use Rattle.dali_journal.proofs.PieceLemmas.{reads-piece_of, bytes-append}
 use Rattle.dali_journal.proofs.SpellingLemmas.{records_same}
@@ -23,7 +23,7 @@ use Rattle.dali_journal.proofs.DecodeLemmas.{enough_bytes, some_bytes}
 use Rattle.dali_journal.proofs.JournalLemmas.{orders_more}
 
 -- the front of bytes are bytes
-bytes_front : (bytes more : List ℕ) → AreBytes (bytes ++ more) → AreBytes bytes
+pub bytes_front : (bytes more : List ℕ) → AreBytes (bytes ++ more) → AreBytes bytes
 bytes_front [] more are = tt
 bytes_front (byte ∷ bytes) more are = (are.0, bytes_front bytes more are.1)
 
@@ -98,7 +98,7 @@ older_orders (entry ∷ more) records = omega (arith, older_orders more records,
 -- a record that stands in a sentence may stand there
 pub stands : (fault : JournalFault) (limit place : ℕ) (records : List Record) (entry : Record)
     → IsSentence (entry ∷ records)
-    → length (orders_of (entry ∷ records)) ≤ limit → MayNotStand fault limit place records entry → ⊥
+    → length (orders_of (entry ∷ records)) ≤ limit → MayNotFollow fault limit place records entry → ⊥
 stands (faults.Sequence at) limit place records entry s few not = not.1 s.1
 stands (faults.Repeated at) limit place records (Began order) s few not = true≢false (sym not.2 ∙ s.2)
 stands (faults.Full at) limit place records (Began order) s few not =
@@ -180,7 +180,7 @@ no_record : (limit : ℕ) (bytes : List ℕ) (records : List Record) (len : ℕ)
     → IsTorn bytes records len
     → (fault : JournalFault) (others : List Record) (rest : List ℕ) (place : ℕ) → AreKept limit others
     → bytes ≡ journal_spelling others ++ rest
-    → (entry : Record) → BeginsWith rest entry → MayNotStand fault limit place others entry → ⊥
+    → (entry : Record) → BeginsWith rest entry → MayNotFollow fault limit place others entry → ⊥
 no_record limit bytes records len kept torn fault others rest place before spelled entry begins not =
     let found = record_stands limit bytes records others rest entry (torn_read bytes records len kept.in_range torn)
     (torn_bytes bytes records len kept.in_range torn) before.in_range spelled begins in

@@ -32,16 +32,16 @@ is_begun_at (places.Begun at) = true
 is_begun_at (places.Ended at code) = true
 
 -- a record's bytes stand there
-abbrev pub StandsAt : List ℕ → ℕ → Record → Type 0
-StandsAt bytes at entry = (at ≤ length bytes) × BeginsWith (drop at bytes) entry
+abbrev pub IsRecordAt : List ℕ → ℕ → Record → Type 0
+IsRecordAt bytes at entry = (at ≤ length bytes) × BeginsWith (drop at bytes) entry
 
 -- what the index tells of a number is what the journal has kept of it
 abbrev pub Agrees : List ℕ → Place → Kept → Type 0
 Agrees bytes places.NotBegun kept = kept ≡ kepts.Absent
 Agrees bytes (places.Begun at) kept =
-    (order : Contents) × (kept ≡ kepts.Unfinished order) × StandsAt bytes at (Began order)
+    (order : Contents) × (kept ≡ kepts.Unfinished order) × IsRecordAt bytes at (Began order)
 Agrees bytes (places.Ended at code) kept =
-    (order : Contents) × (kept ≡ kepts.Ended order code) × StandsAt bytes at (Began order)
+    (order : Contents) × (kept ≡ kepts.Ended order code) × IsRecordAt bytes at (Began order)
 
 -- what an end makes of an order's place
 abbrev pub ended_place : Code → Place → Place

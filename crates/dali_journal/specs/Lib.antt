@@ -1,5 +1,6 @@
 pub mod Sentence
 pub mod Groups
+pub mod GroupAhead
 pub mod Orders
 pub mod Spelling
 pub mod Reading

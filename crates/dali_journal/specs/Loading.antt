@@ -24,26 +24,26 @@ IsLoaded limit bytes journal len =
     (journal.limit ≡ limit) × AreKept limit journal.records × IsTorn bytes journal.records len
 
 -- a record that may not stand behind the records, at this place: the first of these that is so
-abbrev pub MayNotStand : JournalFault → ℕ → ℕ → List Record → Record → Type 0
-MayNotStand (faults.Sequence at) limit place records entry = (at ≡ place) × (¬ Allows (standing_of records) entry)
-MayNotStand (faults.Repeated at) limit place records (Began order) =
+abbrev pub MayNotFollow : JournalFault → ℕ → ℕ → List Record → Record → Type 0
+MayNotFollow (faults.Sequence at) limit place records entry = (at ≡ place) × (¬ Allows (standing_of records) entry)
+MayNotFollow (faults.Repeated at) limit place records (Began order) =
     (at ≡ place) × Allows (standing_of records) (Began order) × (is_begun order.id records ≡ true)
-MayNotStand (faults.Full at) limit place records (Began order) =
+MayNotFollow (faults.Full at) limit place records (Began order) =
     (at ≡ place) × Allows (standing_of records) (Began order) × (is_begun order.id records ≡ false)
     × (limit ≤ length (orders_of records))
-MayNotStand _ _ _ _ _ = ⊥
+MayNotFollow _ _ _ _ _ = ⊥
 
 -- why a record isn't taken
 abbrev pub IsRecordRefused : JournalFault → ℕ → ℕ → List Record → Record → Type 0
 IsRecordRefused faults.NoMemory limit place records entry = ⊤
-IsRecordRefused fault limit place records entry = MayNotStand fault limit place records entry
+IsRecordRefused fault limit place records entry = MayNotFollow fault limit place records entry
 
 -- what stands behind the records, at this place, is the fault
 abbrev pub IsFault : JournalFault → ℕ → ℕ → List Record → List ℕ → Type 0
 IsFault (faults.Record at) limit place records rest =
     (at ≡ place) × ((entry : Record) → (¬ BeginsWith rest entry) × (¬ IsCutOf rest entry))
 IsFault fault limit place records rest =
-    (entry : Record) × BeginsWith rest entry × MayNotStand fault limit place records entry
+    (entry : Record) × BeginsWith rest entry × MayNotFollow fault limit place records entry
 
 -- the bytes have this fault: what stands before it is a journal
 pub record HasFault (limit : ℕ) (bytes : List ℕ) (fault : JournalFault) : Type 0 where

@@ -4,7 +4,7 @@ ghost use Rattle.dali_bank.specs.Order.{Contents};
 ghost use Rattle.dali_journal.specs.declared.kept.Kept.{Kept as KeptValue};
 ghost use Rattle.dali_journal.specs.declared.record.Record.TheVariants.{Began};
 ghost use Rattle.dali_journal.specs.Index.{is_begun_at, place_of, ended_place, place_after, EntersNumber};
-ghost use Rattle.dali_journal.specs.Index.{StandsAt, Agrees, order_in};
+ghost use Rattle.dali_journal.specs.Index.{IsRecordAt, Agrees, order_in};
 
 use crate::kept::Kept;
 use crate::read::Piece;
@@ -136,7 +136,7 @@ pub(crate) fn kept_at(bytes: &[u8], place: Place) -> Kept
 
 // The order that begins there.
 fn order_at(bytes: &[u8], at: usize) -> Option<Order>
-    ensures { (order : Contents) → StandsAt bytes.now at (Began order) → result ≡ Some order }
+    ensures { (order : Contents) → IsRecordAt bytes.now at (Began order) → result ≡ Some order }
 {
     if at > bytes.len() {
         return None;

@@ -12,6 +12,7 @@ ghost use Rattle.dali_journal.specs.Faults.{IsNewFault};
 ghost use Rattle.dali_journal.specs.Loading.{IsLoaded, IsLoadFault, IsRecordRefused, IsTornWithin};
 
 use crate::fault::{JournalFault, NoMemory};
+use crate::group::groups_ahead;
 use crate::index::{Place, enter, kept_at, note, place_of};
 use crate::kept::Kept;
 use crate::read::Piece;
@@ -19,7 +20,7 @@ use crate::record::Record;
 use crate::standing::Standing;
 use dali_bank::Order;
 use indexmap::IndexMap;
-use std::alloc::Global;
+use std::alloc::{AllocError, Global};
 use std::marker::Model;
 use std::mem;
 
@@ -106,17 +107,89 @@ impl Journal {
         ensures err { IfErr result (λ fault. IsLoadFault limit bytes.now fault) }
         ensures torn { IfErr result (λ fault. IsTornWithin limit bytes.now → fault ≡ JournalFault.NoMemory) }
     {
-        let mut journal = match Journal::new(alloc, limit) {
+        let journal = match Journal::new(alloc, limit) {
             Ok(journal) => journal,
             Err(fault) => return Err(fault),
         };
+        match copy_in_room(alloc, bytes) {
+            Ok(copy) => journal.filled(alloc, copy),
+            Err(_) => Err(JournalFault::NoMemory),
+        }
+    }
+
+    /// The same as `load`, of bytes that become the journal's own, so that there is no second copy of them.
+    pub fn load_vec(
+        alloc: Global,
+        limit: u32,
+        bytes: Vec<u8>,
+    ) -> Result<(Journal, usize), JournalFault>
+        ensures accepted { OnOk result (IsLimit limit) }
+        ensures ok { IfOk result (λ loaded. IsLoaded limit bytes.items loaded.0 loaded.1) }
+        ensures err { IfErr result (λ fault. IsLoadFault limit bytes.items fault) }
+        ensures torn { IfErr result (λ fault. IsTornWithin limit bytes.items → fault ≡ JournalFault.NoMemory) }
+    {
+        match Journal::new(alloc, limit) {
+            Ok(journal) => journal.filled(alloc, bytes),
+            Err(fault) => Err(fault),
+        }
+    }
+
+    // The journal of these bytes in place of this one, for as many orders, and how many of them count.
+    fn filled(mut self, alloc: Global, bytes: Vec<u8>) -> Result<(Journal, usize), JournalFault>
+        ensures ok { IfOk result (λ loaded. IsLoaded self.limit bytes.items loaded.0 loaded.1) }
+        ensures err { IfErr result (λ fault. IsLoadFault self.limit bytes.items fault) }
+        ensures torn { IfErr result (λ fault. IsTornWithin self.limit bytes.items → fault ≡ JournalFault.NoMemory) }
+    {
+        let rest = match self.take_groups(alloc, bytes) {
+            Ok(rest) => rest,
+            Err(fault) => return Err(fault),
+        };
+        match self.take_rest(&rest) {
+            Ok(len) => Ok((self, len)),
+            Err(fault) => Err(fault),
+        }
+    }
+
+    // Makes it the journal of the whole groups in front of the bytes, up to its limit. The bytes behind them.
+    fn take_groups(&mut self, alloc: Global, mut bytes: Vec<u8>) -> Result<Vec<u8>, JournalFault>
+        ensures journal { OnOk result (IsJournal self.new) }
+        ensures limit { OnOk result (self.new.limit ≡ self.old.limit) }
+        ensures spelled { IfOk result (λ rest. bytes.items ≡ journal_spelling self.new.records ++ rest.items) }
+        ensures err { IfErr result (λ fault. IsLoadFault self.old.limit bytes.items fault) }
+    {
+        // it tells the groups what is so of every limit
+        let limit = self.limit();
+        let groups = match groups_ahead(alloc, limit, &bytes) {
+            Ok(groups) => groups,
+            Err(fault) => return Err(fault),
+        };
+        let Ok(rest) = bytes[groups.len..].to_vec(alloc) else {
+            return Err(JournalFault::NoMemory);
+        };
+        bytes.truncate(groups.len);
+        self.orders = groups.orders;
+        self.standing = Standing::Idle;
+        self.bytes = bytes;
+        self.index = groups.index;
+        Ok(rest)
+    }
+
+    // Adds the records that the bytes behind its own begin with, up to a cut one. How many bytes count then.
+    fn take_rest(&mut self, rest: &[u8]) -> Result<usize, JournalFault>
+        requires { IsJournal self.old }
+        ensures ok { IfOk result (λ len.
+            IsLoaded self.old.limit (journal_spelling self.old.records ++ rest.now) self.new len) }
+        ensures err { IfErr result (λ fault.
+            IsLoadFault self.old.limit (journal_spelling self.old.records ++ rest.now) fault) }
+    {
+        let front = self.bytes().len();
         let mut at = 0;
-        loop {
-            match Record::read(&bytes[at..]) {
-                Piece::Cut => return Ok((journal, at)),
-                Piece::Bad => return Err(JournalFault::Record(at)),
+        'records: loop {
+            match Record::read(&rest[at..]) {
+                Piece::Cut => return Ok(front + at),
+                Piece::Bad => return Err(JournalFault::Record(front + at)),
                 Piece::Whole(entry, len) => {
-                    if let Err(fault) = journal.take(entry, at) {
+                    if let Err(fault) = self.take(entry, front + at) {
                         return Err(fault);
                     }
                     at += len;
@@ -243,6 +316,13 @@ impl Journal {
     }
 
     /// The journal's bytes (profile): those of its records, the oldest first.
+    pub fn bytes(&self) -> &[u8]
+        ensures { result.now ≡ journal_spelling self.now.records }
+    {
+        self.bytes.as_slice()
+    }
+
+    /// A copy of the journal's bytes (profile): those of its records, the oldest first.
     ///
     /// `NoMemory` where there is no memory.
     pub fn to_bytes(&self, alloc: Global) -> Result<Vec<u8>, NoMemory>
@@ -257,6 +337,15 @@ fn bytes_wanted(standing: &Standing, order: &Order) -> usize
     ensures { result ≡ bytes_due standing.now + length (spelling (Began order.now)) + 6 }
 {
     standing.bytes_due() + BEGAN_BYTES + 2 * order.updates().len() + BYTES_BEHIND_BEGAN
+}
+
+// A copy of the bytes, with room for what ends the last order.
+fn copy_in_room(alloc: Global, bytes: &[u8]) -> Result<Vec<u8>, AllocError>
+    ensures { IfOk result (λ copy. copy.items ≡ bytes.now) }
+{
+    let mut copy = Vec::with_capacity(alloc, bytes.len() + BYTES_BEHIND_BEGAN)?;
+    copy.extend_from_slice(bytes)?;
+    Ok(copy)
 }
 
 // How many orders a record begins.

@@ -1,10 +1,11 @@
 //! The journal of a writer (profile): which orders it began, and how far each has come.
 //!
 //! A journal is a list of records, held as their bytes. What it has begun it can always end without
-//! taking memory. Only `Journal::load`, `reserve` and `to_bytes` take memory.
+//! taking memory. Only `Journal::load`, `load_vec`, `reserve` and `to_bytes` take memory.
 #![tactic(auto)]
 
 mod fault;
+mod group;
 mod index;
 mod journal;
 mod kept;

@@ -11,7 +11,7 @@ use Rattle.dali_write.specs.Worlds.{Selects}
 use Rattle.dali_trace.specs.declared.happening.Reply.{Reply}
 use Rattle.dali_trace.specs.declared.happening.Reply.TheVariants as replies
 use Rattle.dali_trace.specs.declared.happening.Happening.{Happening}
-use Rattle.dali_trace.specs.declared.happening.Happening.TheVariants.{Asked, Answered, Sent, Kept, Stopped}
+use Rattle.dali_trace.specs.declared.happening.Happening.TheVariants.{Asked, Answered, Sent, Kept, Stopped, Powered}
 use Rattle.dali_trace.specs.Trace.{Start, records_of, standing_at, sent_of, sent_since_taken, waiting, course_of}
 use Rattle.dali_trace.specs.Trace.{waits_in}
 use Rattle.dali_trace.specs.Legal.{Serves, IsGuardedWrite, MaySend, IsDue, MayKeep, MaySay, MayHappen, Replies}
@@ -92,6 +92,7 @@ happens_too start next whole more (Sent frame answer) agree may =
     rw agree.records (sends_too whole more (standing_at next more) frame (ap waits_in agree.course) agree.sent may)
 happens_too start next whole more (Kept entry) agree may = keeps_too start next whole more entry agree may
 happens_too start next whole more Stopped agree may = tt
+happens_too start next whole more (Powered address) agree may = tt
 
 pub replies_too : (start next : Start) (whole more : List Happening) (order : Contents) (newest : Happening)
     → Agree start next whole more
@@ -102,6 +103,7 @@ replies_too start next whole more order (Asked other) agree due = absurd due
 replies_too start next whole more order (Sent frame answer) agree due = absurd due
 replies_too start next whole more order (Kept entry) agree due = absurd due
 replies_too start next whole more order Stopped agree due = absurd due
+replies_too start next whole more order (Powered address) agree due = absurd due
 
 pub planned_too : (start next : Start) (whole more : List Happening) (newest : Happening)
     → records_of start whole ≡ records_of next more

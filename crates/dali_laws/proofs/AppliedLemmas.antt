@@ -34,9 +34,9 @@ byte_there : (found : Option ℕ) → is_some found ≡ true → (byte : ℕ) ×
 byte_there None some = cc
 byte_there (Some byte) some = (byte, refl)
 
-pub fits_applied : (zero : World) (records : List Record) (now : World) → Fits zero records now
+pub fits_applied : (zero : World) (records : List Record) (lost : List ℕ) (now : World) → Fits zero records lost now
     → IsApplied zero records now
-fits_applied zero records now fits = λ address bank location first lock was is.
+fits_applied zero records lost now fits = λ address bank location first lock was is.
     let there = byte_there (byte_at now address bank location) (fits.places address bank location ∙ ap is_some was) in
     let possible = fits.bytes address bank location first there.0 lock was there.1 in
     there.1 ∙ ap Some (is_applied first address bank location there.0 (orders_of records) is possible)

@@ -23,7 +23,7 @@ use Rattle.dali_write.specs.Plans.{read_length, close}
 use Rattle.dali_write.specs.Tries.{Wants}
 use Rattle.dali_trace.specs.declared.happening.Reply.TheVariants as replies
 use Rattle.dali_trace.specs.declared.happening.Happening.{Happening}
-use Rattle.dali_trace.specs.declared.happening.Happening.TheVariants.{Asked, Answered, Sent, Kept, Stopped}
+use Rattle.dali_trace.specs.declared.happening.Happening.TheVariants.{Asked, Answered, Sent, Kept, Stopped, Powered}
 use Rattle.dali_trace.specs.Trace.{Start, records_of, standing_at, sent_since_taken, waiting, has_ended, is_unsaid}
 use Rattle.dali_trace.specs.Trace.{is_at_work}
 use Rattle.dali_trace.specs.Legal.{Legal, MaySend}
@@ -232,6 +232,7 @@ after_began first standings.Idle order (Some other) next ended orders others sen
 pub on_course : (start : Start) (past : List Happening) → Legal start past → ByPlan start past → IsOnCourse start past
 on_course start [] legal planned = begins_anew (standing_of start.records) (orders_of start.records)
 on_course start (Asked order ∷ past) legal planned = on_course start past legal.0 planned.0
+on_course start (Powered address ∷ past) legal planned = on_course start past legal.0 planned.0
 on_course start (Answered id replies.Taken ∷ Asked order ∷ past) legal planned =
     let rest = neither (is_at_work (standing_at start past)) (is_unsaid past) legal.1.1.1 in
     begins_taken (standing_at start past) order false (orders_of (records_of start past)) rest.0

@@ -1,39 +1,40 @@
 -- A frame that may be sent keeps a world fitting, and enables no unit but the named one.
 use Rattle.std.proofs.Common.{◌≡◌, ◌⊎◌, inl, inr, refl, sym, ap, subst, ◌∙◌, ℕ, Bool, true, false, ◌==◌, List, [], ◌∷◌}
-use Rattle.std.proofs.Common.{Option, Some, None, IsSome, is_some}
+use Rattle.std.proofs.Common.{Option, Some, None, IsSome, is_some, ◌≤◌, ◌&&◌, if◌then◌else◌, arith}
 use Rattle.std.proofs.lemmas.Bool.{eqb-true, eqb-false}
+use Rattle.std.proofs.Math.Nat.{eq-or-lt_of_le}
 use Rattle.dali_frame.specs.declared.forward.Frame.{Frame}
 use Rattle.dali_frame.specs.declared.forward.Frame.TheVariants.{Dtr0, Dtr1, Dtr2, Write, WriteSilent, Enable, AskDtr0}
 use Rattle.dali_frame.specs.declared.forward.Frame.TheVariants.{AskDtr1, AskDtr2, Read, Other}
 use Rattle.dali_bus.specs.World.{World, Gear, byte_at, is_open, is_enabled}
+use Rattle.dali_bank.specs.Order.{Contents, update_at}
 use Rattle.dali_bus.specs.Carry.{Carry}
+use Rattle.dali_bus.specs.Power.{relocked, LosesPower}
+use Rattle.dali_bus.proofs.UnenabledLemmas.{powered_at, relocked_twice}
+use Rattle.dali_journal.specs.declared.kept.Progress.{Progress}
 use Rattle.dali_journal.specs.declared.record.Record.{Record}
 use Rattle.dali_journal.specs.declared.standing.Standing.{Standing}
 use Rattle.dali_journal.specs.declared.standing.Standing.TheVariants as standings
 use Rattle.dali_journal.specs.Sentence.{standing_of, named_unit, IsSentence}
 use Rattle.dali_journal.specs.Orders.{orders_of}
 use Rattle.dali_write.specs.Reads.{IsPassive}
-use Rattle.dali_write.specs.Worlds.{Run, KeepsAt, IsOff, OnlyEnabled}
-use Rattle.dali_write.specs.Touches.{Has, OldOrNew, Touches}
-use Rattle.dali_write.proofs.GearLemmas.{carry_keeps}
-use Rattle.dali_write.proofs.StandingReadLemmas.{passive_quiet}
-use Rattle.dali_write.proofs.TouchLemmas.{same_byte, enable_safe, guarded_safe}
+use Rattle.dali_write.specs.Worlds.{IsAmong, Run, Stays, MayRelock, IsOff, OnlyEnabled}
+use Rattle.dali_write.specs.Touches.{Has}
+use Rattle.dali_write.proofs.GearLemmas.{StaysAt, carry_stays, off_where, same_byte, dtr1_in}
+use Rattle.dali_write.proofs.PowerLemmas.{relock_then, after_power}
+use Rattle.dali_write.proofs.StillReadLemmas.{passive_quiet}
+use Rattle.dali_write.proofs.PutLemmas.{NowOldOrNew, Puts, enable_safe, guarded_safe}
 use Rattle.dali_trace.specs.declared.happening.Happening.{Happening}
 use Rattle.dali_trace.specs.Trace.{sent_of}
 use Rattle.dali_trace.specs.Legal.{MayPut, MaySend, IsGuardedWrite}
-use Rattle.dali_trace.specs.Possible.{InDoubt, byte_for, MayHold, IsPossible}
-use Rattle.dali_trace.specs.Fits.{Fits, OnlyNamed, HasBeenOpened, IsLockByte}
+use Rattle.dali_trace.specs.Possible.{Mark, Applied, Untouched, InDoubt, mark_of, byte_for, MayHold, IsPossible}
+use Rattle.dali_trace.specs.Fits.{Fits, IsLockedAbove, OnlyNamed, HasBeenOpened, IsLockByte}
 use Rattle.dali_laws.proofs.StandingLemmas.{open_order, named_opened, byte_for_here}
 
 -- what is so before and after each frame
-pub record IsFine (zero : World) (records : List Record) (now : World) : Type 0 where
-  pub fits : Fits zero records now
+pub record IsFine (zero : World) (records : List Record) (lost : List ℕ) (now : World) : Type 0 where
+  pub fits : Fits zero records lost now
   pub only : OnlyNamed records now
-
--- a unit, or none, is open or off
-off_where : (gear : Option Gear) → is_open gear ≡ false → IsOff gear
-off_where None e = tt
-off_where (Some gear) e = e
 
 off_unless : (gear : Option Gear) → (is_open gear ≡ true → ⊥) → IsOff gear
 off_unless None never = tt
@@ -62,28 +63,31 @@ others_off records unit now is_named only =
       same address is = cc
 
 -- a frame that enables no unit and writes nothing
-pub same_bytes_fit : (zero old new : World) (records : List Record)
+pub same_bytes_fit : (zero old new : World) (records : List Record) (lost : List ℕ)
     → ((address bank location : ℕ) → byte_at new address bank location ≡ byte_at old address bank location)
-    → Fits zero records old → Fits zero records new
-same_bytes_fit zero old new records same fits = record {
+    → Fits zero records lost old → Fits zero records lost new
+same_bytes_fit zero old new records lost same fits = record {
   places = λ address bank location. ap is_some (same address bank location) ∙ fits.places address bank location;
   bytes =
       λ address bank location first byte lock was is.
       fits.bytes address bank location first byte lock was (sym (same address bank location) ∙ is);
-  locks = λ address closed. same address 1 2 ∙ fits.locks address closed;
+  locks = λ address closed.
+      relock_then (byte_at zero address 1 2) (byte_at old address 1 2) (byte_at new address 1 2)
+      (fits.locks address closed) (inl (same address 1 2));
 }
 
-after_passive : (zero old new : World) (records : List Record) (frame : Frame) (answer : Option ℕ) → IsPassive frame
+after_passive : (zero old new : World) (records : List Record) (lost : List ℕ) (frame : Frame) (answer : Option ℕ)
+    → IsPassive frame
     → Carry old frame answer new
-    → IsFine zero records old → IsFine zero records new
-after_passive zero old new records frame answer passive carry fine = record {
+    → IsFine zero records lost old → IsFine zero records lost new
+after_passive zero old new records lost frame answer passive carry fine = record {
   fits =
-      same_bytes_fit zero old new records
+      same_bytes_fit zero old new records lost
       (λ address bank location. same_byte (old address) (new address) (keeps address).memory bank location) fine.fits;
   only = λ address on. fine.only address (was_open (old address) (new address) (keeps address).off on);
 } where
-  keeps : (address : ℕ) → KeepsAt old new address
-  keeps address = carry_keeps old frame answer new address (passive_quiet frame passive address) carry
+  keeps : (address : ℕ) → StaysAt old new address
+  keeps address = carry_stays old frame answer new address (passive_quiet frame passive address) carry
 
 -- a place of the unit, in bank 1, was there before and holds one of the writes now
 record IsPut (writes : List (ℕ × ℕ)) (unit address bank location : ℕ) (old new : World) : Type 0 where
@@ -95,7 +99,7 @@ record IsPut (writes : List (ℕ × ℕ)) (unit address bank location : ℕ) (ol
   is : byte_at new address bank location ≡ Some byte
 
 -- each place is as it was, or one of the writes was put there
-changed : (writes : List (ℕ × ℕ)) (unit : ℕ) (old new : World) → Touches writes unit old new
+changed : (writes : List (ℕ × ℕ)) (unit : ℕ) (old new : World) → Puts writes unit old new
     → (address bank location : ℕ)
     → (byte_at new address bank location ≡ byte_at old address bank location)
     ⊎ IsPut writes unit address bank location old new
@@ -105,8 +109,8 @@ changed writes unit old new touches address bank location = by (address == unit)
       ⊎ IsPut writes unit address bank location old new
   by true e =
       let here : address ≡ unit = eqb-true address unit e in
-      let at : OldOrNew writes (old address) (new address) =
-      subst (λ (a : ℕ). OldOrNew writes (old a) (new a)) (sym here) touches.here in
+      let at : NowOldOrNew writes (old address) (new address) =
+      subst (λ (a : ℕ). NowOldOrNew writes (old a) (new a)) (sym here) touches.here in
       elim (at bank location) [
         | inl same ↦ inl same
         | inr put ↦ inr (record { byte = put.0; here = here; one = put.1; has = put.2; was = put.3; is = put.4 })
@@ -134,11 +138,12 @@ is_possible first unit location byte records (standings.Opened order) at is_name
     rw newest.1 (subst P (sym has) (inr refl))
 
 -- a frame by which the named unit may be enabled, or one of the writes put that may be
-pub after_touch : (zero old new : World) (records : List Record) (writes : List (ℕ × ℕ)) (unit : ℕ) → IsSentence records
+pub after_touch : (zero old new : World) (records : List Record) (lost : List ℕ) (writes : List (ℕ × ℕ)) (unit : ℕ)
+    → IsSentence records
     → named_unit (standing_of records) ≡ Some unit
     → ((location byte : ℕ) → Has writes location byte → MayPut (standing_of records) location byte)
-    → Touches writes unit old new → IsFine zero records old → IsFine zero records new
-after_touch zero old new records writes unit sentence is_named may touches fine = record {
+    → Puts writes unit old new → IsFine zero records lost old → IsFine zero records lost new
+after_touch zero old new records lost writes unit sentence is_named may touches fine = record {
   fits = record {
     places =
         λ address bank location.
@@ -177,8 +182,10 @@ after_touch zero old new records writes unit sentence is_named may touches fine 
 
   locks : (address : ℕ) → (HasBeenOpened address records → ⊥)
       → (byte_at new address 1 2 ≡ byte_at old address 1 2) ⊎ IsPut writes unit address 1 2 old new
-      → byte_at new address 1 2 ≡ byte_at zero address 1 2
-  locks address closed (inl same) = same ∙ fine.fits.locks address closed
+      → MayRelock (IsAmong lost address) 1 2 (byte_at zero address 1 2) (byte_at new address 1 2)
+  locks address closed (inl same) =
+      relock_then (byte_at zero address 1 2) (byte_at old address 1 2) (byte_at new address 1 2)
+      (fine.fits.locks address closed) (inl same)
   locks address closed (inr put) =
       absurd (closed (named_opened records address sentence (is_named ∙ ap Some (sym put.here))))
 
@@ -189,52 +196,154 @@ after_touch zero old new records writes unit sentence is_named may touches fine 
       fine.only address
       (was_open (old address) (new address) (touches.others address (eqb-false address unit e)).off on)
 
-after_enable : (zero old new : World) (records : List Record) (unit : ℕ) (answer : Option ℕ) → IsSentence records
+after_enable : (zero old new : World) (records : List Record) (lost : List ℕ) (unit : ℕ) (answer : Option ℕ)
+    → IsSentence records
     → named_unit (standing_of records) ≡ Some unit
-    → Carry old (Enable unit) answer new → IsFine zero records old → IsFine zero records new
-after_enable zero old new records unit answer sentence is_named carry fine =
+    → Carry old (Enable unit) answer new → IsFine zero records lost old → IsFine zero records lost new
+after_enable zero old new records lost unit answer sentence is_named carry fine =
     let touches =
-    enable_safe [] unit [] old old new answer (others_off records unit old is_named fine.only) refl carry in
-    after_touch zero old new records [] unit sentence is_named (λ location byte has. absurd has) touches fine
+    enable_safe (IsAmong lost) [] unit [] old old new answer (others_off records unit old is_named fine.only) Stays
+    carry in
+    after_touch zero old new records lost [] unit sentence is_named (λ location byte has. absurd has) touches fine
 
-after_write : (zero old new since : World) (records : List Record) (past : List Happening) (byte : ℕ)
+after_write : (zero old new since : World) (records : List Record) (lost : List ℕ) (past : List Happening) (byte : ℕ)
     (answer : Option ℕ)
     → IsSentence records
-    → Run (sent_of past) since old → IsGuardedWrite past (standing_of records) byte → Carry old (Write byte) answer new
-    → IsFine zero records old → IsFine zero records new
-after_write zero old new since records past byte answer sentence run guarded carry fine =
+    → Run (IsAmong lost) (sent_of past) since old → IsGuardedWrite past (standing_of records) byte
+    → Carry old (Write byte) answer new
+    → IsFine zero records lost old → IsFine zero records lost new
+after_write zero old new since records lost past byte answer sentence run guarded carry fine =
     let writes : List (ℕ × ℕ) = (guarded.location, byte) ∷ [] in
     let touches =
-    guarded_safe writes guarded.unit guarded.location byte (sent_of past) (inl (refl, refl)) guarded.selected since old
+    guarded_safe (IsAmong lost) writes guarded.unit guarded.location byte (sent_of past) (inl (refl, refl))
+    guarded.selected since old
     new answer
     (others_off records guarded.unit old guarded.is_named fine.only) run carry in
-    after_touch zero old new records writes guarded.unit sentence guarded.is_named may touches fine where
+    after_touch zero old new records lost writes guarded.unit sentence guarded.is_named may touches fine where
       may : (location value : ℕ) → Has ((guarded.location, byte) ∷ []) location value
           → MayPut (standing_of records) location value
       may location value (inl is) = rw (← is.0, ← is.1) guarded.may
       may location value (inr never) = absurd never
 
 -- a frame that may be sent
-pub after_sent : (zero old new since : World) (records : List Record) (past : List Happening) (frame : Frame)
+pub after_sent : (zero old new since : World) (records : List Record) (lost : List ℕ) (past : List Happening)
+    (frame : Frame)
     (answer : Option ℕ)
     → IsSentence records
-    → Run (sent_of past) since old → MaySend past (standing_of records) frame → Carry old frame answer new
-    → IsFine zero records old → IsFine zero records new
-after_sent zero old new since records past (Dtr0 byte) answer sentence run may carry fine =
-    after_passive zero old new records (Dtr0 byte) answer tt carry fine
-after_sent zero old new since records past (Dtr1 byte) answer sentence run may carry fine =
-    after_passive zero old new records (Dtr1 byte) answer tt carry fine
-after_sent zero old new since records past (AskDtr0 unit) answer sentence run may carry fine =
-    after_passive zero old new records (AskDtr0 unit) answer tt carry fine
-after_sent zero old new since records past (AskDtr1 unit) answer sentence run may carry fine =
-    after_passive zero old new records (AskDtr1 unit) answer tt carry fine
-after_sent zero old new since records past (Read unit) answer sentence run may carry fine =
-    after_passive zero old new records (Read unit) answer tt carry fine
-after_sent zero old new since records past (Enable unit) answer sentence run may carry fine =
-    after_enable zero old new records unit answer sentence may.1 carry fine
-after_sent zero old new since records past (Write byte) answer sentence run may carry fine =
-    after_write zero old new since records past byte answer sentence run may carry fine
-after_sent zero old new since records past (Dtr2 byte) answer sentence run may carry fine = absurd may
-after_sent zero old new since records past (WriteSilent byte) answer sentence run may carry fine = absurd may
-after_sent zero old new since records past (AskDtr2 unit) answer sentence run may carry fine = absurd may
-after_sent zero old new since records past (Other word) answer sentence run may carry fine = absurd may
+    → Run (IsAmong lost) (sent_of past) since old → MaySend past (standing_of records) frame
+    → Carry old frame answer new
+    → IsFine zero records lost old → IsFine zero records lost new
+after_sent zero old new since records lost past (Dtr0 byte) answer sentence run may carry fine =
+    after_passive zero old new records lost (Dtr0 byte) answer tt carry fine
+after_sent zero old new since records lost past (Dtr1 byte) answer sentence run may carry fine =
+    after_passive zero old new records lost (Dtr1 byte) answer tt carry fine
+after_sent zero old new since records lost past (AskDtr0 unit) answer sentence run may carry fine =
+    after_passive zero old new records lost (AskDtr0 unit) answer tt carry fine
+after_sent zero old new since records lost past (AskDtr1 unit) answer sentence run may carry fine =
+    after_passive zero old new records lost (AskDtr1 unit) answer tt carry fine
+after_sent zero old new since records lost past (Read unit) answer sentence run may carry fine =
+    after_passive zero old new records lost (Read unit) answer tt carry fine
+after_sent zero old new since records lost past (Enable unit) answer sentence run may carry fine =
+    after_enable zero old new records lost unit answer sentence may.1 carry fine
+after_sent zero old new since records lost past (Write byte) answer sentence run may carry fine =
+    after_write zero old new since records lost past byte answer sentence run may carry fine
+after_sent zero old new since records lost past (Dtr2 byte) answer sentence run may carry fine = absurd may
+after_sent zero old new since records lost past (WriteSilent byte) answer sentence run may carry fine = absurd may
+after_sent zero old new since records lost past (AskDtr2 unit) answer sentence run may carry fine = absurd may
+after_sent zero old new since records lost past (Other word) answer sentence run may carry fine = absurd may
+
+-- A loss of power
+
+-- no order has a byte for another bank than bank 1
+no_byte : (order : Contents) (address bank location : ℕ) → 2 ≤ bank → byte_for order address bank location ≡ None
+no_byte order address bank location above = by (order.unit == address) (bank == 1) refl where
+  by : (here one : Bool) → (bank == 1) ≡ one
+      → (if here && one then update_at order.updates location else None) ≡ None
+  by here true e = let is : bank ≡ 1 = eqb-true bank 1 e in absurd (omega (arith, above, is))
+  by true false e = refl
+  by false false e = refl
+
+untouched : (mark : Mark) (found : Option ℕ) (before : ℕ → Type 0) (byte : ℕ) → found ≡ None → before byte
+    → MayHold mark found before byte
+untouched Applied None before byte none is = is
+untouched Untouched None before byte none is = is
+untouched InDoubt None before byte none is = is
+untouched mark (Some update) before byte none is = cc
+
+first_possible : (orders : List (Contents × Progress)) (first address bank location : ℕ) → 2 ≤ bank
+    → IsPossible first address bank location orders first
+first_possible [] first address bank location above = refl
+first_possible (newest ∷ older) first address bank location above =
+    untouched (mark_of newest.1) (byte_for newest.0 address bank location)
+    (IsPossible first address bank location older) first (no_byte newest.0 address bank location above)
+    (first_possible older first address bank location above)
+
+-- past bank 1
+further : (bank : ℕ) → 1 ≤ bank → (bank ≡ 1 → ⊥) → 2 ≤ bank
+further bank some other = elim (eq-or-lt_of_le {n = 1} {m = bank} some) [
+  | inl is ↦ absurd (other (sym is))
+  | inr more ↦ omega (arith, more)
+]
+
+-- a lock byte that is FFh since then
+relocked_is : (old : Option ℕ) (byte : ℕ) → relocked old ≡ Some byte → byte ≡ 0xFF
+relocked_is None byte is = cc
+relocked_is (Some was) byte is = cc
+
+same_some : (old : Option ℕ) → is_some (relocked old) ≡ is_some old
+same_some None = refl
+same_some (Some byte) = refl
+
+pub after_loss : (zero old new : World) (records : List Record) (lost : List ℕ) (unit : ℕ) → IsLockedAbove zero
+    → LosesPower old unit new → IsFine zero records lost old → IsFine zero records (unit ∷ lost) new
+after_loss zero old new records lost unit above loses fine = record {
+  fits = record {
+    places = λ address bank location.
+        places address bank location ((powered_at old unit new loses address).bytes bank location);
+    bytes = λ address bank location first byte lock was is.
+        bytes address bank location first byte lock was is
+        ((powered_at old unit new loses address).bytes bank location);
+    locks = λ address closed. locks address (fine.fits.locks address closed)
+        ((powered_at old unit new loses address).bytes 1 2);
+  };
+  only = λ address on. fine.only address (on_before address on (after_power old unit new loses address));
+} where
+  Changes : ℕ → ℕ → ℕ → Type 0
+  Changes address bank location =
+      (byte_at new address bank location ≡ byte_at old address bank location)
+      ⊎ ((unit ≡ address) × (1 ≤ bank) × (location ≡ 2)
+      × (byte_at new address bank location ≡ relocked (byte_at old address bank location)))
+
+  places : (address bank location : ℕ) → Changes address bank location
+      → is_some (byte_at new address bank location) ≡ is_some (byte_at zero address bank location)
+  places address bank location (inl same) = ap is_some same ∙ fine.fits.places address bank location
+  places address bank location (inr (here, some, lock, is)) =
+      ap is_some is ∙ same_some (byte_at old address bank location) ∙ fine.fits.places address bank location
+
+  bytes : (address bank location first byte : ℕ) → (IsLockByte bank location → ⊥)
+      → byte_at zero address bank location ≡ Some first → byte_at new address bank location ≡ Some byte
+      → Changes address bank location → IsPossible first address bank location (orders_of records) byte
+  bytes address bank location first byte lock was is (inl same) =
+      fine.fits.bytes address bank location first byte lock was (sym same ∙ is)
+  bytes address bank location first byte lock was is (inr (here, one, at, now)) =
+      let more : 2 ≤ bank = further bank one (λ e. lock (e, at)) in
+      let full : byte ≡ 0xFF = relocked_is (byte_at old address bank location) byte (sym now ∙ is) in
+      let start : first ≡ 0xFF =
+      above address bank first more (subst (λ (l : ℕ). byte_at zero address bank l ≡ Some first) at was) in
+      subst (λ (b : ℕ). IsPossible first address bank location (orders_of records) b) (start ∙ sym full)
+      (first_possible (orders_of records) first address bank location more)
+
+  locks : (address : ℕ) → MayRelock (IsAmong lost address) 1 2 (byte_at zero address 1 2) (byte_at old address 1 2)
+      → Changes address 1 2
+      → MayRelock (IsAmong (unit ∷ lost) address) 1 2 (byte_at zero address 1 2) (byte_at new address 1 2)
+  locks address (inl before) (inl same) = inl (same ∙ before)
+  locks address (inr (was, one, lock, is)) (inl same) = inr (inr was, one, lock, same ∙ is)
+  locks address (inl before) (inr (here, one, lock, is)) = inr (inl here, one, lock, is ∙ ap relocked before)
+  locks address (inr (was, more, again, is)) (inr (here, one, lock, now)) =
+      inr (inl here, one, lock, now ∙ ap relocked is ∙ relocked_twice (byte_at zero address 1 2))
+
+  on_before : (address : ℕ) → is_enabled new address ≡ true
+      → (new address ≡ old address) ⊎ ((is_open (new address) ≡ false) × (dtr1_in (new address) ≡ Some 1 → ⊥))
+      → is_enabled old address ≡ true
+  on_before address on (inl same) = sym (ap is_open same) ∙ on
+  on_before address on (inr gone) = let never = gone.0 in cc

@@ -10,6 +10,7 @@ use Rattle.dali_trace.specs.Legal.{MayFollow, Legal, IsFinished}
 use Rattle.dali_trace.specs.ByPlan.{told_in, ByPlan}
 use Rattle.dali_laws.specs.Joined.{Sitting, joined, FollowOn, IsOneTrace, SittingsAreRight}
 use Rattle.dali_laws.proofs.AgreeLemmas.{Agree, happens_too, replies_too, planned_too}
+use Rattle.dali_laws.proofs.PoweredLemmas.{powered_legal}
 use Rattle.dali_laws.proofs.MomentLemmas.{every_moment}
 
 -- Each function of a trace begins anew at a stop
@@ -125,7 +126,8 @@ joined_sittings start (newest ∷ last ∷ older) follow =
     )
 
 pub sittings_right : SittingsAreRight
-sittings_right zero start sittings first last states follow fits only chain =
+sittings_right zero lost start sittings past first last states follow same apart locked fits only chain =
     let one = joined_sittings start sittings follow in
-    every_moment zero start first (joined sittings) last states
-    (record { legal = one.0; fits = fits; only = only; chain = chain })
+    let legal = powered_legal start past apart (subst (λ (p : List Happening). Legal start p) (sym same) one.0) in
+    every_moment zero lost start first past last states
+    (record { legal = legal; locked = locked; fits = fits; only = only; chain = chain })

@@ -18,4 +18,5 @@ pub mod ValidLemmas
 pub mod OnsetLemmas
 pub mod StepsLemmas
 pub mod AgreeLemmas
+pub mod PoweredLemmas
 pub mod JoinLemmas

@@ -1,6 +1,6 @@
 -- What is so of the simulated bus where an order starts.
 use Rattle.std.proofs.Common.{◌≡◌, ◌≢◌, inl, inr, refl, sym, ap, ◌∙◌, subst, ℕ, Bool, true, false, ◌==◌, if◌then◌else◌}
-use Rattle.std.proofs.Common.{List, [], ◌∷◌, ◌++◌, Option, Some, None, is_some}
+use Rattle.std.proofs.Common.{List, [], ◌∷◌, ◌++◌, Option, Some, None, is_some, arith}
 use Rattle.std.proofs.lemmas.Bool.{eqb-true}
 use Rattle.dali_bank.specs.Order.{Contents}
 use Rattle.dali_bus.specs.Chain.{IsChain, AtEachMoment}
@@ -9,7 +9,7 @@ use Rattle.dali_gear.specs.UnitState.{BankState, UnitState, gear_of}
 use Rattle.dali_gear.specs.SimState.{SimState, SimStep, AreApart, AreBanks, world_of}
 use Rattle.dali_gear.specs.Faults.{IsBank}
 use Rattle.dali_journal.specs.declared.record.Code.{Code}
-use Rattle.dali_journal.specs.declared.record.Record.TheVariants.{Began, Opened, Ended, Closed}
+use Rattle.dali_journal.specs.declared.record.Record.TheVariants.{Opened}
 use Rattle.dali_journal.specs.declared.standing.Standing.{Standing}
 use Rattle.dali_journal.specs.Sentence.{named_unit}
 use Rattle.dali_write.specs.Exchanges.{Exchange}
@@ -18,26 +18,27 @@ use Rattle.dali_write.specs.declared.ask.Verdict.{Verdict}
 use Rattle.dali_write.specs.declared.ask.Verdict.TheVariants as verdicts
 use Rattle.dali_write.specs.Plans.{read_length, unlock, close}
 use Rattle.dali_write.specs.Tries.{Wants}
-use Rattle.dali_write.specs.Worlds.{IsOff}
+use Rattle.dali_write.specs.Worlds.{IsAmong, IsOff}
 use Rattle.dali_write.specs.Successes.{HasBank}
 use Rattle.dali_write.proofs.NextLemmas.{none_ended}
 use Rattle.dali_write.proofs.SuccessLemmas.{starts_whole}
 use Rattle.dali_trace.specs.declared.happening.Reply.TheVariants as replies
 use Rattle.dali_trace.specs.declared.happening.Happening.{Happening}
-use Rattle.dali_trace.specs.declared.happening.Happening.TheVariants.{Asked, Answered, Sent, Kept, Stopped}
+use Rattle.dali_trace.specs.declared.happening.Happening.TheVariants.{Asked, Answered, Sent, Kept, Stopped, Powered}
 use Rattle.dali_trace.specs.WhenKept.{TellsTruth}
 use Rattle.dali_journal.specs.declared.standing.Standing.TheVariants as standings
-use Rattle.dali_trace.specs.Trace.{Start, records_of, standing_at, sent_since_taken, waiting, has_ended}
+use Rattle.dali_trace.specs.Trace.{Start, records_of, standing_at, powered_of, sent_since_taken, waiting, has_ended}
 use Rattle.dali_trace.specs.Legal.{Legal}
 use Rattle.dali_trace.specs.Moves.{MovesBy}
 use Rattle.dali_trace.specs.Fits.{OnlyNamed, HasBeenOpened}
 use Rattle.dali_trace.specs.Moments.{IsRight}
 use Rattle.dali_trace.specs.Work.{stood_at, kept_since}
+use Rattle.dali_laws.proofs.RecordLemmas.{not_lock}
 use Rattle.dali_laws.proofs.Courses.{EndedBy}
 use Rattle.dali_trace.specs.Spared.{state_at_start, IsSpared, AtEachState}
 use Rattle.dali_laws.proofs.StandingLemmas.{named_opened}
 use Rattle.dali_laws.proofs.RepeatLemmas.{legal_sentence}
-use Rattle.dali_laws.proofs.RunLossLemmas.{since_start}
+use Rattle.dali_laws.proofs.RunLossLemmas.{IsAnother, since_start}
 use Rattle.dali_laws.proofs.SparedLemmas.{Onset, blocked_never, kept_spared, blocked_spared}
 use Rattle.dali_trace.specs.Runs.{AsksAllProper}
 use Rattle.dali_laws.proofs.ValidLemmas.{hand_valid, takes_all}
@@ -182,16 +183,18 @@ there_is world address bank location some = by (world address) refl some
     by (Some gear) e some = (gear, e)
 
 -- a unit that is opened has a byte at location 00h of bank 1
-held_length : (now : World) (stands : Standing) (other : ℕ) → TellsTruth now stands (Opened other)
+held_length : (lost : List ℕ) (now : World) (stands : Standing) (other : ℕ) → TellsTruth lost now stands (Opened other)
     → is_some (byte_at now other 1 0) ≡ true
-held_length now (standings.Began order) other kept = let held = kept.grounds.1 in rw (kept.allowed, held) refl
-held_length now _ other kept = absurd kept.allowed
+held_length lost now (standings.Began order) other kept =
+    let held = not_lock (IsAmong lost order.unit) 0 _ _ (λ e. omega (arith, e)) kept.grounds.1 in
+    rw (kept.allowed, held) refl
+held_length lost now _ other kept = absurd kept.allowed
 
 -- opened at some moment, where it had its first byte
 opened_was : (limit : Start) (zero : World) (past : List Happening) (last : SimState) (states : List SimState)
     (unit : ℕ)
     → Legal limit past
-    → AtEachMoment (λ moment now. IsRight zero limit moment (world_of now.units)) past last states
+    → AtEachMoment (λ moment now. IsRight zero [] limit moment (world_of now.units)) past last states
     → (limit.records ≡ []) → HasBeenOpened unit (records_of limit past)
     → is_some (byte_at zero unit 1 0) ≡ true
 opened_was limit zero [] last states unit legal each none opened =
@@ -201,7 +204,7 @@ opened_was limit zero (Kept (Opened other) ∷ past) last (state ∷ states) uni
     opened_was limit zero past state states unit legal.0 each.1 none earlier
 opened_was limit zero (Kept (Opened other) ∷ past) last (state ∷ states) unit legal each none (inl same) =
     let fits = each.0.0 in
-    let held = held_length (world_of last.units) (standing_at limit past) other each.0.3 in
+    let held = held_length (powered_of [] past) (world_of last.units) (standing_at limit past) other each.0.3 in
     subst (λ (a : ℕ). is_some (byte_at zero a 1 0) ≡ true) same (sym (fits.places other 1 0) ∙ held)
 opened_was limit zero (_ ∷ past) last (state ∷ states) unit legal each none opened =
     opened_was limit zero past state states unit legal.0 each.1 none opened
@@ -209,7 +212,7 @@ opened_was limit zero (_ ∷ past) last (state ∷ states) unit legal each none 
 -- the right moments of a chain of the simulated bus
 abbrev pub RightAlong : World → Start → List Happening → SimState → List SimState → Type 0
 RightAlong zero start past last states =
-    AtEachMoment (λ moment now. IsRight zero start moment (world_of now.units)) past last states
+    AtEachMoment (λ moment now. IsRight zero [] start moment (world_of now.units)) past last states
 
 -- all that is so where the order started
 pub onset : (start : Start) (zero : World) (past : List Happening) (last : SimState) (states : List SimState) (unit : ℕ)
@@ -220,7 +223,8 @@ pub onset : (start : Start) (zero : World) (past : List Happening) (last : SimSt
     → HasBank unit bank (state_at_start past last states).units
     → Onset (named_unit (stood_at start past)) unit bank (state_at_start past last states)
 onset start zero past last states unit bank none legal each whole has =
-    let m = at_start (λ moment now. IsRight zero start moment (world_of now.units)) start past last states legal each in
+    let m = at_start (λ moment now. IsRight zero [] start moment (world_of now.units)) start past last states legal
+    each in
     record {
       apart = whole.0;
       only = only_left start past m.moment (state_at_start past last states) m.stands m.so.1;
@@ -250,33 +254,36 @@ said_spared start zero first (Asked order ∷ past) last states none legal plann
 said_spared start zero first (Sent frame answer ∷ past) last states none legal planned chain asks each = tt
 said_spared start zero first (Kept entry ∷ past) last states none legal planned chain asks each = tt
 said_spared start zero first (Stopped ∷ past) last states none legal planned chain asks each = tt
+said_spared start zero first (Powered address ∷ past) last states none legal planned chain asks each = tt
 said_spared start zero first (Answered id reply ∷ Asked order ∷ past) last states none legal planned chain asks each =
     tt
 said_spared start zero first (Answered id reply ∷ past) last [] none legal planned chain asks each = absurd chain
 said_spared start zero first (Answered id (replies.Kept code) ∷ past) last (state ∷ states) none legal planned chain
     asks each =
-    λ order bank hand idle has kind few takes.
-    let since = since_start first past state states chain.1 in
+    λ order bank hand idle has kind powered few takes.
+    let left_one = named_unit (stood_at start past) in
+    let since = since_start order.unit left_one first past state states chain.1 powered in
     let valid = hand_valid start past order none legal.0 asks.1 hand in
     let said = said_end start past id code legal.0 planned.0 legal.1 in
     let whole =
-    starts_whole (sent_since_taken past) (state_at_start past state states) state since.run
-    (ended_sent (stood_at start past) said.0 code (sent_since_taken past) said.3) in
+    starts_whole (IsAnother order.unit left_one) (sent_since_taken past) (state_at_start past state states) state
+    since.run (ended_sent (stood_at start past) said.0 code (sent_since_taken past) said.3) in
     let start_is = onset start zero past state states order.unit bank none legal.0 each.1 whole has in
-    kept_spared start past id code state states legal.0 planned.0 legal.1 since order bank hand valid idle
+    kept_spared start past id code state states legal.0 planned.0 legal.1 order bank since hand valid idle
     start_is kind few (λ due. takes_all bank order.updates start_is.whole valid (takes due) due)
 said_spared start zero first (Answered id (replies.Blocked left) ∷ past) last (state ∷ states) none legal planned chain
     asks each =
-    λ order bank hand idle has kind few takes.
-    let since = since_start first past state states chain.1 in
+    λ order bank hand idle has kind powered few takes.
+    let left_one = named_unit (stood_at start past) in
+    let since = since_start order.unit left_one first past state states chain.1 powered in
     let never =
     blocked_never (stood_at start past) (standing_at start past) (waiting past) (has_ended past)
     (orders_of (records_of start past)) (sent_since_taken past) (told_in past) (kept_since past)
     id left legal.1.0 legal.1.1 planned.1 (on_course start past legal.0 planned.0) in
     let whole =
-    starts_whole (sent_since_taken past) (state_at_start past state states) state since.run
-    (blocked_sent left (sent_since_taken past) never.1) in
-    absurd (blocked_spared start past id left state states legal.0 planned.0 legal.1 planned.1 since order.unit bank
+    starts_whole (IsAnother order.unit left_one) (sent_since_taken past) (state_at_start past state states) state
+    since.run (blocked_sent left (sent_since_taken past) never.1) in
+    absurd (blocked_spared start past id left state states legal.0 planned.0 legal.1 planned.1 order.unit bank since
     (onset start zero past state states order.unit bank none legal.0 each.1 whole has) kind few)
 said_spared start zero first (Answered id reply ∷ past) last (state ∷ states) none legal planned chain asks each =
     absurd legal.1

@@ -15,6 +15,7 @@ use Rattle.dali_journal.specs.Orders.{orders_of, come_to, kept_at, kept_among, k
 use Rattle.dali_trace.specs.declared.happening.Reply.TheVariants as replies
 use Rattle.dali_trace.specs.declared.happening.Happening.{Happening}
 use Rattle.dali_trace.specs.declared.happening.Happening.TheVariants.{Asked, Answered, Sent, Kept as Keeps, Stopped}
+use Rattle.dali_trace.specs.declared.happening.Happening.TheVariants.{Powered}
 use Rattle.dali_trace.specs.Trace.{Start, records_of, is_busy, is_full}
 use Rattle.dali_trace.specs.Legal.{Replies, Legal}
 use Rattle.dali_trace.specs.Quiet.{NoneTaken}
@@ -105,6 +106,7 @@ legal_sentence start (Answered id reply ∷ past) legal = legal_sentence start p
 legal_sentence start (Sent frame answer ∷ past) legal = legal_sentence start past legal.0
 legal_sentence start (Keeps entry ∷ past) legal = let may = may_keep start past entry legal.1 in may.whole
 legal_sentence start (Stopped ∷ past) legal = legal_sentence start past legal.0
+legal_sentence start (Powered address ∷ past) legal = legal_sentence start past legal.0
 
 -- what follows a repeat at once
 answered : (start : Start) (past : List Happening) (order : Contents) (code : Code) (next : Happening)
@@ -119,6 +121,7 @@ answered start past order code (Asked other) ended due = absurd due
 answered start past order code (Sent frame answer) ended due = absurd due
 answered start past order code (Keeps entry) ended due = absurd due
 answered start past order code Stopped ended due = absurd due
+answered start past order code (Powered address) ended due = absurd due
 
 pub repeat_answered : (start : Start) (past : List Happening) (order : Contents) (code : Code) (next : Happening)
     → Contains (orders_of (records_of start past)) (order, reached.Ended code) → Legal start (next ∷ Asked order ∷ past)
@@ -145,6 +148,7 @@ none_more (Answered id (replies.Blocked unit) ∷ more) older none before = none
 none_more (Sent frame answer ∷ more) older none before = none_more more older none before
 none_more (Keeps entry ∷ more) older none before = none_more more older none before
 none_more (Stopped ∷ more) older none before = none_more more older none before
+none_more (Powered address ∷ more) older none before = none_more more older none before
 
 pub repeat_quiet : (start : Start) (past more : List Happening) (order : Contents) (code : Code) (next : Happening)
     → Contains (orders_of (records_of start past)) (order, reached.Ended code) → is_busy start past ≡ false

@@ -1,75 +1,103 @@
 -- The run of the simulated bus behind a trace, what of it is lost, and its halves.
-use Rattle.std.proofs.Common.{◌≡◌, refl, sym, ap, subst, ℕ, ◌+◌, ◌≤◌, Bool, true, false, ◌||◌}
+use Rattle.std.proofs.Common.{◌≡◌, ◌≢◌, refl, sym, ap, subst, ℕ, ◌+◌, ◌≤◌, Bool, true, false, ◌||◌}
 use Rattle.std.proofs.Common.{if◌then◌else◌, List, [], ◌∷◌, ◌++◌, Option, Some, None, arith}
 use Rattle.dali_frame.specs.declared.forward.Frame.{Frame}
 use Rattle.dali_bus.specs.Chain.{IsChain}
-use Rattle.dali_gear.specs.SimState.{SimState, SimStep}
+use Rattle.dali_gear.specs.SimState.{SimState, SimStep, SimPower}
 use Rattle.dali_write.specs.Exchanges.{Exchange}
-use Rattle.dali_write.specs.Losses.{SimRun, is_loss, losses, Unrefused}
+use Rattle.dali_write.specs.Losses.{SimRun, SimStays, SimLoses, is_loss, losses, Unrefused}
 use Rattle.dali_trace.specs.declared.happening.Reply.TheVariants as replies
 use Rattle.dali_trace.specs.declared.happening.Happening.{Happening}
-use Rattle.dali_trace.specs.declared.happening.Happening.TheVariants.{Asked, Answered, Sent, Kept, Stopped}
+use Rattle.dali_trace.specs.declared.happening.Happening.TheVariants.{Asked, Answered, Sent, Kept, Stopped, Powered}
 use Rattle.dali_trace.specs.Trace.{sent_since_taken}
 use Rattle.dali_trace.specs.Moves.{MovesBy}
-use Rattle.dali_trace.specs.Spared.{is_lost_to, state_at_start, losses_since, UnrefusedSince}
+use Rattle.dali_trace.specs.Spared.{is_lost_to, state_at_start, losses_since, UnrefusedSince, KeepsPowerSince}
+
+-- the address is another one than the unit's and the left one's
+abbrev pub IsAnother : ℕ → Option ℕ → ℕ → Type 0
+IsAnother unit left address = (address ≢ unit) × (left ≢ Some address)
+
+-- a run in which other units may lose their power
+abbrev pub RunBeside : ℕ → Option ℕ → List Exchange → SimState → SimState → Type 0
+RunBeside unit left told first last = SimRun (IsAnother unit left) told first last
 
 -- so many of the exchanges are: one that is lost to both counts once
-abbrev pub losses_to : ℕ → Option ℕ → (told : List Exchange) (first last : SimState) → SimRun told first last → ℕ
+abbrev pub losses_to : (unit : ℕ) (left : Option ℕ) (told : List Exchange) (first last : SimState)
+    → RunBeside unit left told first last → ℕ
 losses_to unit left [] first last run = 0
 losses_to unit left (x ∷ told) first last run =
     (if is_lost_to unit left run.0 x.frame then 1 else 0) + losses_to unit left told first run.0 run.1
 
 -- exchanges as a run of the simulated bus, with so many losses, and unrefused where it is so
-pub record RunSo (told : List Exchange) (first last : SimState) (count : ℕ → Option ℕ → ℕ) (Kind : Type 0)
-    : Type 0 where
-  pub run : SimRun told first last
-  pub losses : (unit : ℕ) (left : Option ℕ) → losses_to unit left told first last run ≡ count unit left
-  pub kind : Kind → Unrefused told first last run
+pub record RunSo (unit : ℕ) (left : Option ℕ) (told : List Exchange) (first last : SimState) (count : ℕ)
+    (Kind : Type 0) : Type 0 where
+  pub run : RunBeside unit left told first last
+  pub losses : losses_to unit left told first last run ≡ count
+  pub kind : Kind → Unrefused (IsAnother unit left) told first last run
 
 -- the frames since the last start
-abbrev pub Since : List Happening → SimState → List SimState → Type 0
-Since past last states =
-    RunSo (sent_since_taken past) (state_at_start past last states) last
-    (λ unit left. losses_since unit left past states) (UnrefusedSince past states)
+abbrev pub Since : ℕ → Option ℕ → List Happening → SimState → List SimState → Type 0
+Since unit left past last states =
+    RunSo unit left (sent_since_taken past) (state_at_start past last states) last
+    (losses_since unit left past states) (UnrefusedSince past states)
 
-begins_run : (last : SimState) → RunSo [] last last (λ unit left. 0) (Unit {0})
-begins_run last = record { run = refl; losses = λ unit left. refl; kind = λ kind. tt }
+begins_run : (unit : ℕ) (left : Option ℕ) (last : SimState) → RunSo unit left [] last last 0 (Unit {0})
+begins_run unit left last = record { run = SimStays; losses = refl; kind = λ kind. tt }
 
-stays : (told : List Exchange) (first last state : SimState) (count : ℕ → Option ℕ → ℕ) (Kind : Type 0) → last ≡ state
-    → RunSo told first state count Kind → RunSo told first last count Kind
-stays told first last state count Kind same since =
-    subst (λ (s : SimState). RunSo told first s count Kind) (sym same) since
+stays : (unit : ℕ) (left : Option ℕ) (told : List Exchange) (first last state : SimState) (count : ℕ) (Kind : Type 0)
+    → last ≡ state → RunSo unit left told first state count Kind → RunSo unit left told first last count Kind
+stays unit left told first last state count Kind same since =
+    subst (λ (s : SimState). RunSo unit left told first s count Kind) (sym same) since
 
-pub since_start : (first : SimState) (past : List Happening) (last : SimState) (states : List SimState)
-    → IsChain (MovesBy SimStep) first past last states → Since past last states
-since_start first [] last [] chain = begins_run last
-since_start first [] last (state ∷ states) chain = absurd chain
-since_start first (next ∷ past) last [] chain = absurd chain
-since_start first (Answered id replies.Taken ∷ past) last (state ∷ states) chain = begins_run last
-since_start first (Stopped ∷ past) last (state ∷ states) chain = begins_run last
-since_start first (Sent frame answer ∷ past) last (state ∷ states) chain =
-    let before = since_start first past state states chain.1 in
+-- another unit loses its power
+drifts_on : (unit : ℕ) (left : Option ℕ) (told : List Exchange) (first last state : SimState) (count : ℕ)
+    (Kind : Type 0) (address : ℕ)
+    → IsAnother unit left address → SimPower state address last
+    → RunSo unit left told first state count Kind → RunSo unit left told first last count Kind
+drifts_on unit left [] first last state count Kind address is lost since =
+    record { run = SimLoses address is since.run lost; losses = since.losses; kind = since.kind }
+drifts_on unit left (x ∷ told) first last state count Kind address is lost since =
+    let run = since.run in
     record {
-      run = (state, before.run, chain.0);
-      losses =
-          λ unit left.
-          ap (λ (n : ℕ). (if is_lost_to unit left state frame then 1 else 0) + n) (before.losses unit left);
+      run = (run.0, run.1, run.2, run.3, SimLoses address is run.4 lost);
+      losses = since.losses;
+      kind = since.kind;
+    }
+
+pub since_start : (unit : ℕ) (left : Option ℕ) (first : SimState) (past : List Happening) (last : SimState)
+    (states : List SimState)
+    → IsChain (MovesBy SimStep) first past last states → KeepsPowerSince unit left past
+    → Since unit left past last states
+since_start unit left first [] last [] chain kept = begins_run unit left last
+since_start unit left first [] last (state ∷ states) chain kept = absurd chain
+since_start unit left first (next ∷ past) last [] chain kept = absurd chain
+since_start unit left first (Answered id replies.Taken ∷ past) last (state ∷ states) chain kept =
+    begins_run unit left last
+since_start unit left first (Stopped ∷ past) last (state ∷ states) chain kept = begins_run unit left last
+since_start unit left first (Powered address ∷ past) last (state ∷ states) chain kept =
+    drifts_on unit left _ _ last state _ _ address (kept.0, kept.1) chain.0
+    (since_start unit left first past state states chain.1 kept.2)
+since_start unit left first (Sent frame answer ∷ past) last (state ∷ states) chain kept =
+    let before = since_start unit left first past state states chain.1 kept in
+    record {
+      run = (state, before.run, last, chain.0, SimStays);
+      losses = ap (λ (n : ℕ). (if is_lost_to unit left state frame then 1 else 0) + n) before.losses;
       kind = λ kind. (kind.0, before.kind kind.1);
     }
-since_start first (Asked order ∷ past) last (state ∷ states) chain =
-    stays _ _ last state _ _ chain.0 (since_start first past state states chain.1)
-since_start first (Kept entry ∷ past) last (state ∷ states) chain =
-    stays _ _ last state _ _ chain.0 (since_start first past state states chain.1)
-since_start first (Answered id (replies.Kept code) ∷ past) last (state ∷ states) chain =
-    stays _ _ last state _ _ chain.0 (since_start first past state states chain.1)
-since_start first (Answered id replies.IdReused ∷ past) last (state ∷ states) chain =
-    stays _ _ last state _ _ chain.0 (since_start first past state states chain.1)
-since_start first (Answered id replies.Busy ∷ past) last (state ∷ states) chain =
-    stays _ _ last state _ _ chain.0 (since_start first past state states chain.1)
-since_start first (Answered id replies.Full ∷ past) last (state ∷ states) chain =
-    stays _ _ last state _ _ chain.0 (since_start first past state states chain.1)
-since_start first (Answered id (replies.Blocked unit) ∷ past) last (state ∷ states) chain =
-    stays _ _ last state _ _ chain.0 (since_start first past state states chain.1)
+since_start unit left first (Asked order ∷ past) last (state ∷ states) chain kept =
+    stays unit left _ _ last state _ _ chain.0 (since_start unit left first past state states chain.1 kept)
+since_start unit left first (Kept entry ∷ past) last (state ∷ states) chain kept =
+    stays unit left _ _ last state _ _ chain.0 (since_start unit left first past state states chain.1 kept)
+since_start unit left first (Answered id (replies.Kept code) ∷ past) last (state ∷ states) chain kept =
+    stays unit left _ _ last state _ _ chain.0 (since_start unit left first past state states chain.1 kept)
+since_start unit left first (Answered id replies.IdReused ∷ past) last (state ∷ states) chain kept =
+    stays unit left _ _ last state _ _ chain.0 (since_start unit left first past state states chain.1 kept)
+since_start unit left first (Answered id replies.Busy ∷ past) last (state ∷ states) chain kept =
+    stays unit left _ _ last state _ _ chain.0 (since_start unit left first past state states chain.1 kept)
+since_start unit left first (Answered id replies.Full ∷ past) last (state ∷ states) chain kept =
+    stays unit left _ _ last state _ _ chain.0 (since_start unit left first past state states chain.1 kept)
+since_start unit left first (Answered id (replies.Blocked other) ∷ past) last (state ∷ states) chain kept =
+    stays unit left _ _ last state _ _ chain.0 (since_start unit left first past state states chain.1 kept)
 
 -- losses to the one unit, or to the one that was left, are losses to either
 bit_le : (a b : Bool) → (if a then 1 else 0) ≤ (if a || b then 1 else 0)
@@ -88,14 +116,15 @@ one_le unit None state frame = omega arith
 one_le unit (Some left) state frame = bit_le (is_loss unit state frame) (is_loss left state frame)
 
 pub own_losses : (unit : ℕ) (left : Option ℕ) (told : List Exchange) (first last : SimState)
-    (run : SimRun told first last)
-    → losses unit told first last run ≤ losses_to unit left told first last run
+    (run : RunBeside unit left told first last)
+    → losses unit (IsAnother unit left) told first last run ≤ losses_to unit left told first last run
 own_losses unit left [] first last run = omega arith
 own_losses unit left (x ∷ told) first last run =
     let here = one_le unit left run.0 x.frame in let rest = own_losses unit left told first run.0 run.1 in omega arith
 
-pub left_losses : (unit left : ℕ) (told : List Exchange) (first last : SimState) (run : SimRun told first last)
-    → losses left told first last run ≤ losses_to unit (Some left) told first last run
+pub left_losses : (unit left : ℕ) (told : List Exchange) (first last : SimState)
+    (run : RunBeside unit (Some left) told first last)
+    → losses left (IsAnother unit (Some left)) told first last run ≤ losses_to unit (Some left) told first last run
 left_losses unit left [] first last run = omega arith
 left_losses unit left (x ∷ told) first last run =
     let here = bit_right (is_loss unit run.0 x.frame) (is_loss left run.0 x.frame) in
@@ -103,33 +132,34 @@ left_losses unit left (x ∷ told) first last run =
 
 -- a run in two parts
 pub record Halves (unit : ℕ) (left : Option ℕ) (sent told older : List Exchange) (first last : SimState)
-    (run : SimRun sent first last) : Type 0 where
+    (run : RunBeside unit left sent first last) : Type 0 where
   pub mid : SimState
-  pub before : SimRun older first mid
-  pub after : SimRun told mid last
+  pub before : RunBeside unit left older first mid
+  pub after : RunBeside unit left told mid last
   pub sum : losses_to unit left sent first last run
       ≡ losses_to unit left told mid last after + losses_to unit left older first mid before
-  pub kinds : Unrefused sent first last run → Unrefused older first mid before × Unrefused told mid last after
+  pub kinds : Unrefused (IsAnother unit left) sent first last run
+      → Unrefused (IsAnother unit left) older first mid before × Unrefused (IsAnother unit left) told mid last after
 
 joined_halves : (unit : ℕ) (left : Option ℕ) (told older : List Exchange) (first last : SimState)
-    (run : SimRun (told ++ older) first last)
+    (run : RunBeside unit left (told ++ older) first last)
     → Halves unit left (told ++ older) told older first last run
 joined_halves unit left [] older first last run =
-    record { mid = last; before = run; after = refl; sum = omega arith; kinds = λ kind. (kind, tt) }
+    record { mid = last; before = run; after = SimStays; sum = omega arith; kinds = λ kind. (kind, tt) }
 joined_halves unit left (x ∷ told) older first last run =
     let rest = joined_halves unit left told older first run.0 run.1 in
     let sum = rest.sum in
     record {
       mid = rest.mid;
       before = rest.before;
-      after = (run.0, rest.after, run.2);
+      after = (run.0, rest.after, run.2, run.3, run.4);
       sum = omega arith;
       kinds = λ kind. let both = rest.kinds kind.1 in (both.0, (kind.0, both.1));
     }
 
 pub halves : (unit : ℕ) (left : Option ℕ) (sent told older : List Exchange) (first last : SimState)
-    (run : SimRun sent first last)
+    (run : RunBeside unit left sent first last)
     → sent ≡ told ++ older → Halves unit left sent told older first last run
 halves unit left sent told older first last run same =
-    subst (λ (t : List Exchange). (r : SimRun t first last) → Halves unit left t told older first last r) (sym same)
-    (joined_halves unit left told older first last) run
+    subst (λ (t : List Exchange). (r : RunBeside unit left t first last) → Halves unit left t told older first last r)
+    (sym same) (joined_halves unit left told older first last) run

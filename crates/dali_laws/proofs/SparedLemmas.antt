@@ -27,7 +27,9 @@ use Rattle.dali_write.specs.Losses.{SimRun, losses, Unrefused, IsAlone, OnlyDiff
 use Rattle.dali_write.specs.Misses.{misses_in}
 use Rattle.dali_write.specs.Successes.{HasBank, TakesAll, has_format, found_verdict, Spared}
 use Rattle.dali_write.proofs.RunLemmas.{sim_run}
-use Rattle.dali_write.proofs.StandingReadLemmas.{stands_true}
+use Rattle.dali_write.proofs.PowerLemmas.{drifts_keep}
+use Rattle.dali_write.proofs.DriftLemmas.{drifts_bank}
+use Rattle.dali_write.proofs.StillReadLemmas.{stands_true}
 use Rattle.dali_write.proofs.RestLemmas.{closing_rests}
 use Rattle.dali_write.proofs.SuccessLemmas.{gone, closing_goes, fresh_goes, unlock_goes, world_alone, takes_still}
 use Rattle.dali_write.proofs.ElseLemmas.{closing_keeps_bank, run_apart, none_on, same_bank, alone_with}
@@ -45,7 +47,7 @@ use Rattle.dali_trace.specs.Work.{stood_at, kept_since, order_at_hand}
 use Rattle.dali_laws.proofs.CourseLemmas.{on_course}
 use Rattle.dali_laws.proofs.WorkLemmas.{said_end}
 use Rattle.dali_trace.specs.Spared.{state_at_start, losses_since, UnrefusedSince, due_code}
-use Rattle.dali_laws.proofs.RunLossLemmas.{losses_to, Since, own_losses, left_losses, halves}
+use Rattle.dali_laws.proofs.RunLossLemmas.{IsAnother, RunBeside, losses_to, Since, own_losses, left_losses, halves}
 
 -- Where an order starts, and this unit or none was left: the units are apart, none is enabled but the left one, the
 -- order's unit has this bank 1, and the left one has some.
@@ -80,33 +82,40 @@ some_bank unit bank state older lost apart only has few =
     }
 
 -- a unit that was closed isn't enabled
-closed_off : (left : ℕ) (now : UnitState) (older : List Exchange) (begun mid : SimState) → SimRun older begun mid
+closed_off : (loses : ℕ → Type 0) (left : ℕ) (now : UnitState) (older : List Exchange) (begun mid : SimState)
+    → SimRun loses older begun mid
     → Wants left (close verdicts.Closed verdicts.NotClosed) older (asks.Ended verdicts.Closed)
     → IsAlone left now mid.units → now.enabled ≡ false
-closed_off left now older begun mid run closed alone =
+closed_off loses left now older begun mid run closed alone =
     let read = closing_rests older left verdicts.Closed closed in
     let shows =
-    stands_true older (world_of begun.units) (world_of mid.units) left 2 read.0 (sim_run older begun mid run) read.1 in
+    stands_true older (world_of begun.units) (world_of mid.units) left 2 read.0
+    (sim_run loses older begun mid run)
+    read.1 in
     let both : Some shows.gear ≡ Some (gear_of now) = sym shows.is ∙ world_alone left now mid.units alone in
     let same : shows.gear ≡ gear_of now = cc in
     ap (λ (g : Gear). g.enabled) (sym same) ∙ shows.off
 
 cleared : (first : Standing) (unit : ℕ) (bank : BankState) (older : List Exchange) (begun mid : SimState)
-    (run : SimRun older begun mid)
+    (run : RunBeside unit (named_unit first) older begun mid)
     → is_at_work first ≡ false
-    → Onset (named_unit first) unit bank begun → ClosedBy first older → Unrefused older begun mid run
+    → Onset (named_unit first) unit bank begun → ClosedBy first older
+    → Unrefused (IsAnother unit (named_unit first)) older begun mid run
     → losses_to unit (named_unit first) older begun mid run < most_tries
     → Cleared unit bank mid older (losses_to unit (named_unit first) older begun mid run)
 cleared standings.Idle unit bank older begun mid run idle onset closed kind few =
-    let still : SimRun [] begun mid = subst (λ (t : List Exchange). SimRun t begun mid) closed run in
+    let loses = IsAnother unit None in
+    let still : SimRun loses [] begun mid = subst (λ (t : List Exchange). SimRun loses t begun mid) closed run in
     let none : misses_in older ≡ 0 = ap misses_in closed in
-    some_bank unit bank mid older _ (subst (λ (s : SimState). AreApart s.units) (sym still) onset.apart)
+    some_bank unit bank mid older _ (run_apart loses older begun mid run onset.apart)
     (λ address other.
-    subst (λ (s : SimState). IsOff (world_of s.units address)) (sym still) (onset.only address (λ same. cc)))
-    (subst (λ (s : SimState). HasBank unit bank s.units) (sym still) onset.has) (omega arith)
+    (drifts_keep (world_of begun.units) (world_of mid.units) (sim_run loses [] begun mid still) address).off
+    (onset.only address (λ same. cc)))
+    (drifts_bank loses unit bank begun mid (λ another. another.0 refl) still onset.has) (omega arith)
 cleared (standings.Began order) unit bank older begun mid run idle onset closed kind few = cc
 cleared (standings.Opened order) unit bank older begun mid run idle onset closed kind few = cc
 cleared (standings.Left left) unit bank older begun mid run idle onset closed kind few =
+    let loses = IsAnother unit (Some left) in
     let there = onset.left_has left refl in
     let at_left =
     alone_with left there.0 begun.units onset.apart
@@ -114,13 +123,19 @@ cleared (standings.Left left) unit bank older begun mid run idle onset closed ki
     let lost = left_losses unit left older begun mid run in
     let whole : IsBank at_left.0.bank1.bytes = subst (λ (b : BankState). IsBank b.bytes) (sym at_left.2) there.2 in
     let least = whole.least in
-    let spared : Spared left at_left.0 older begun mid =
-    record { run = run; alone = at_left.1; kind = kind; few = omega arith } in
+    let spared : Spared loses left at_left.0 older begun mid =
+    record {
+      run = run;
+      keeps_power = λ another. another.1 refl;
+      alone = at_left.1;
+      kind = kind;
+      few = omega arith;
+    } in
     let end =
-    gone (OnlyDiffers at_left.0.bank1 2) verdicts.Closed verdicts.Closed left (close verdicts.Closed verdicts.NotClosed)
-    at_left.0 older [] begun mid spared
+    gone loses (OnlyDiffers at_left.0.bank1 2) verdicts.Closed verdicts.Closed left
+    (close verdicts.Closed verdicts.NotClosed) at_left.0 older [] begun mid spared
     (closing_goes at_left.0.bank1 (omega arith)) closed in
-    let off = closed_off left end.2.now older begun mid run closed end.2.alone in
+    let off = closed_off loses left end.2.now older begun mid run closed end.2.alone in
     let same_misses : misses_in (older ++ []) ≡ misses_in older = ap misses_in (append-nil older) in
     let count = end.1 in
     let less = end.2.few in
@@ -142,9 +157,10 @@ cleared (standings.Left left) unit bank older begun mid run idle onset closed ki
         }
     by false e u was now alone only off few =
         some_bank unit bank mid older (losses_to unit (Some left) older begun mid run)
-        (run_apart older begun mid run onset.apart)
+        (run_apart (IsAnother unit (Some left)) older begun mid run onset.apart)
         (λ address other. none_on left address now mid.units alone off)
-        (closing_keeps_bank left unit bank u older (asks.Ended verdicts.Closed) begun mid run closed
+        (closing_keeps_bank (IsAnother unit (Some left)) left unit bank u older (asks.Ended verdicts.Closed) begun mid
+        run (λ another. another.1 refl) (λ another. another.0 refl) closed
         (eqb-false unit left e) was onset.has)
         few
 
@@ -243,23 +259,31 @@ record Looked (order : Contents) (bank : BankState) (verdict : Verdict) (sent : 
   few : misses_in sent ≤ lost
 
 looked : (first : Standing) (order : Contents) (bank : BankState) (verdict : Verdict) (sent told older : List Exchange)
-    (begun last : SimState) (run : SimRun sent begun last)
+    (begun last : SimState) (run : RunBeside order.unit (named_unit first) sent begun last)
     → is_at_work first ≡ false
-    → Onset (named_unit first) order.unit bank begun → Unrefused sent begun last run
+    → Onset (named_unit first) order.unit bank begun
+    → Unrefused (IsAnother order.unit (named_unit first)) sent begun last run
     → losses_to order.unit (named_unit first) sent begun last run < most_tries
     → sent ≡ told ++ older → Wants order.unit (read_length order.updates) told (asks.Ended verdict)
     → ClosedBy first older
     → Looked order bank verdict sent last (losses_to order.unit (named_unit first) sent begun last run)
 looked first order bank verdict sent told older begun last run idle onset kind few same wants closed =
+    let loses = IsAnother order.unit (named_unit first) in
     let two = halves order.unit (named_unit first) sent told older begun last run same in
     let sum = two.sum in
     let kinds = two.kinds kind in
     let clear = cleared first order.unit bank older begun two.mid two.before idle onset closed kinds.0 (omega arith) in
     let own = own_losses order.unit (named_unit first) told two.mid last two.after in
-    let spared : Spared order.unit clear.now told two.mid last =
-    record { run = two.after; alone = clear.alone; kind = kinds.1; few = omega arith } in
+    let spared : Spared loses order.unit clear.now told two.mid last =
+    record {
+      run = two.after;
+      keeps_power = λ another. another.0 refl;
+      alone = clear.alone;
+      kind = kinds.1;
+      few = omega arith;
+    } in
     let end =
-    gone (λ now. now ≡ clear.now.bank1) (found_verdict clear.now.bank1.bytes order.updates) verdict order.unit
+    gone loses (λ now. now ≡ clear.now.bank1) (found_verdict clear.now.bank1.bytes order.updates) verdict order.unit
     (read_length order.updates) clear.now told older two.mid last spared
     (fresh_goes order.updates clear.now.bank1 (like_bank bank clear.now.bank1 clear.like onset.whole)) wants in
     let count = end.1 in
@@ -278,9 +302,10 @@ looked first order bank verdict sent told older begun last run idle onset kind f
 
 -- the end of an order that loses little
 pub spared_end : (first : Standing) (order : Contents) (code : Code) (bank : BankState) (sent : List Exchange)
-    (begun last : SimState) (run : SimRun sent begun last)
+    (begun last : SimState) (run : RunBeside order.unit (named_unit first) sent begun last)
     → is_at_work first ≡ false
-    → Onset (named_unit first) order.unit bank begun → RisesAbove 0 order.updates → Unrefused sent begun last run
+    → Onset (named_unit first) order.unit bank begun → RisesAbove 0 order.updates
+    → Unrefused (IsAnother order.unit (named_unit first)) sent begun last run
     → losses_to order.unit (named_unit first) sent begun last run < most_tries
     → (due_code bank.bytes order.updates ≡ codes.Done → TakesAll bank order.updates) → EndedBy first order code sent
     → (code ≡ due_code bank.bytes order.updates)
@@ -293,6 +318,7 @@ spared_end first order code bank sent begun last run idle onset rises kind few t
     (short_code order code bank.bytes order.updates is, look.few)
 spared_end first order code bank sent begun last run idle onset rises kind few takes
     (verdict, told, older, same, inr (ends, wants, opened)) =
+    let loses = IsAnother order.unit (named_unit first) in
     let two = halves order.unit (named_unit first) sent told older begun last run same in
     let sum = two.sum in
     let kinds = two.kinds kind in
@@ -302,12 +328,18 @@ spared_end first order code bank sent begun last run idle onset rises kind few t
     (omega arith) check.2 check.3 check.4 in
     let due = open_due bank.bytes order.updates look.verdict_is in
     let own = own_losses order.unit (named_unit first) told two.mid last two.after in
-    let spared : Spared order.unit look.now told two.mid last =
-    record { run = two.after; alone = look.alone; kind = kinds.1; few = omega arith } in
+    let spared : Spared loses order.unit look.now told two.mid last =
+    record {
+      run = two.after;
+      keeps_power = λ another. another.0 refl;
+      alone = look.alone;
+      kind = kinds.1;
+      few = omega arith;
+    } in
     let least = onset.whole.least in
     let long = look.like.lengths in
     let end =
-    gone (λ now. Unit {0}) verdicts.Done verdict order.unit (unlock order.updates) look.now told older two.mid
+    gone loses (λ now. Unit {0}) verdicts.Done verdict order.unit (unlock order.updates) look.now told older two.mid
     last spared
     (unlock_goes order.updates look.now.bank1 rises (omega arith)
     (like_takes bank look.now.bank1 order.updates look.like (takes due)))
@@ -329,15 +361,17 @@ spared_end first order code bank sent begun last run idle onset rises kind few t
 
 -- a left unit that loses little is closed
 spared_closed : (first : Standing) (left unit : ℕ) (bank : BankState) (sent : List Exchange) (begun last : SimState)
-    (run : SimRun sent begun last)
+    (run : RunBeside unit (named_unit first) sent begun last)
     → first ≡ standings.Left left
-    → Onset (named_unit first) unit bank begun → Unrefused sent begun last run
+    → Onset (named_unit first) unit bank begun
+    → Unrefused (IsAnother unit (named_unit first)) sent begun last run
     → losses_to unit (named_unit first) sent begun last run < most_tries
     → Wants left (close verdicts.Closed verdicts.NotClosed) sent (asks.Ended verdicts.NotClosed) → ⊥
 spared_closed standings.Idle left unit bank sent begun last run at onset kind few wants = cc
 spared_closed (standings.Began order) left unit bank sent begun last run at onset kind few wants = cc
 spared_closed (standings.Opened order) left unit bank sent begun last run at onset kind few wants = cc
 spared_closed (standings.Left other) left unit bank sent begun last run at onset kind few wants =
+    let loses = IsAnother unit (Some other) in
     let same : other ≡ left = cc in
     let there = onset.left_has left (ap Some same) in
     let at_left =
@@ -347,12 +381,18 @@ spared_closed (standings.Left other) left unit bank sent begun last run at onset
     let lost = left_losses unit other sent begun last run in
     let whole : IsBank at_left.0.bank1.bytes = subst (λ (b : BankState). IsBank b.bytes) (sym at_left.2) there.2 in
     let least = whole.least in
-    let lost_here : losses left sent begun last run ≤ losses_to unit (Some other) sent begun last run =
-    subst (λ (l : ℕ). losses l sent begun last run ≤ losses_to unit (Some other) sent begun last run) same lost in
-    let spared : Spared left at_left.0 sent begun last =
-    record { run = run; alone = at_left.1; kind = kind; few = omega arith } in
+    let lost_here : losses left loses sent begun last run ≤ losses_to unit (Some other) sent begun last run =
+    subst (λ (l : ℕ). losses l loses sent begun last run ≤ losses_to unit (Some other) sent begun last run) same lost in
+    let spared : Spared loses left at_left.0 sent begun last =
+    record {
+      run = run;
+      keeps_power = λ another. another.1 (ap Some same);
+      alone = at_left.1;
+      kind = kind;
+      few = omega arith;
+    } in
     let end =
-    gone (OnlyDiffers at_left.0.bank1 2) verdicts.Closed verdicts.NotClosed left
+    gone loses (OnlyDiffers at_left.0.bank1 2) verdicts.Closed verdicts.NotClosed left
     (close verdicts.Closed verdicts.NotClosed) at_left.0 sent [] begun last spared
     (closing_goes at_left.0.bank1 (omega arith)) wants in
     let never = end.2.ends in cc
@@ -386,7 +426,8 @@ blocked_never first (standings.Opened order) waiter ended orders sent told kept 
 pub kept_spared : (start : Start) (past : List Happening) (id : ℕ) (code : Code) (state : SimState)
     (states : List SimState)
     → Legal start past → ByPlan start past → MaySay start past id (replies.Kept code)
-    → Since past state states → (order : Contents) (bank : BankState) → order_at_hand start past ≡ Some order
+    → (order : Contents) (bank : BankState) → Since order.unit (named_unit (stood_at start past)) past state states
+    → order_at_hand start past ≡ Some order
     → AreUpdates order.updates → is_at_work (stood_at start past) ≡ false
     → Onset (named_unit (stood_at start past)) order.unit bank (state_at_start past state states)
     → UnrefusedSince past states
@@ -394,12 +435,12 @@ pub kept_spared : (start : Start) (past : List Happening) (id : ℕ) (code : Cod
     → (due_code bank.bytes order.updates ≡ codes.Done → TakesAll bank order.updates)
     → (replies.Kept code ≡ replies.Kept (due_code bank.bytes order.updates))
     × (misses_in (sent_since_taken past) ≤ losses_since order.unit (named_unit (stood_at start past)) past states)
-kept_spared start past id code state states legal planned may since order bank hand valid idle onset kind few takes =
+kept_spared start past id code state states legal planned may order bank since hand valid idle onset kind few takes =
     let said = said_end start past id code legal planned may in
     let same = same_order said.0 order (order_at_hand start past) said.2 hand in
     let ended : EndedBy (stood_at start past) order code (sent_since_taken past) =
     subst (λ (o : Contents). EndedBy (stood_at start past) o code (sent_since_taken past)) same said.3 in
-    let count = since.losses order.unit (named_unit (stood_at start past)) in
+    let count = since.losses in
     let end =
     spared_end (stood_at start past) order code bank (sent_since_taken past) (state_at_start past state states) state
     since.run idle onset valid.rising (since.kind kind) (omega arith) takes ended in
@@ -408,15 +449,15 @@ kept_spared start past id code state states legal planned may since order bank h
 
 pub blocked_spared : (start : Start) (past : List Happening) (id left : ℕ) (state : SimState) (states : List SimState)
     → Legal start past → ByPlan start past → MaySay start past id (replies.Blocked left)
-    → IsPlanned start past (Answered id (replies.Blocked left)) → Since past state states
-    → (unit : ℕ) (bank : BankState)
+    → IsPlanned start past (Answered id (replies.Blocked left))
+    → (unit : ℕ) (bank : BankState) → Since unit (named_unit (stood_at start past)) past state states
     → Onset (named_unit (stood_at start past)) unit bank (state_at_start past state states) → UnrefusedSince past states
     → losses_since unit (named_unit (stood_at start past)) past states < most_tries → ⊥
-blocked_spared start past id left state states legal planned may asked since unit bank onset kind few =
+blocked_spared start past id left state states legal planned may asked unit bank since onset kind few =
     let never =
     blocked_never (stood_at start past) (standing_at start past) (waiting past) (has_ended past)
     (orders_of (records_of start past)) (sent_since_taken past) (told_in past) (kept_since past)
     id left may.0 may.1 asked (on_course start past legal planned) in
-    let count = since.losses unit (named_unit (stood_at start past)) in
+    let count = since.losses in
     spared_closed (stood_at start past) left unit bank (sent_since_taken past) (state_at_start past state states) state
     since.run never.0 onset (since.kind kind) (omega arith) never.1

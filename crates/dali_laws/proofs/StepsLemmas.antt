@@ -12,11 +12,11 @@ use Rattle.dali_journal.specs.declared.kept.Progress.TheVariants as reached
 use Rattle.dali_journal.specs.Sentence.{Allows, next_standing, standing_of}
 use Rattle.dali_journal.specs.Orders.{orders_of, come_to}
 use Rattle.dali_trace.specs.declared.happening.Event.{Event}
-use Rattle.dali_trace.specs.declared.happening.Event.TheVariants.{Submit, Step, Stop}
+use Rattle.dali_trace.specs.declared.happening.Event.TheVariants.{Submit, Step, Stop, Power}
 use Rattle.dali_trace.specs.declared.happening.Reply.{Reply}
 use Rattle.dali_trace.specs.declared.happening.Reply.TheVariants as replies
 use Rattle.dali_trace.specs.declared.happening.Happening.{Happening}
-use Rattle.dali_trace.specs.declared.happening.Happening.TheVariants.{Asked, Answered, Sent, Kept, Stopped}
+use Rattle.dali_trace.specs.declared.happening.Happening.TheVariants.{Asked, Answered, Sent, Kept, Stopped, Powered}
 use Rattle.dali_trace.specs.Trace.{Start, records_of, standing_at, sent_since_taken, waiting, has_ended, is_unsaid}
 use Rattle.dali_trace.specs.Trace.{is_at_work, is_busy, course_of}
 use Rattle.dali_trace.specs.Legal.{Legal, MaySay, HasNumber, IsFinished}
@@ -194,6 +194,7 @@ may_say start (Answered other last ∷ past) id reply finished legal = legal.1
 may_say start (Sent frame answer ∷ past) id reply finished legal = legal.1
 may_say start (Kept entry ∷ past) id reply finished legal = legal.1
 may_say start (Stopped ∷ past) id reply finished legal = legal.1
+may_say start (Powered address ∷ past) id reply finished legal = legal.1
 
 one_step : (start : Start) (before mid : List Happening) (order : Contents) (steps : ℕ) (work : Happening) → IsWork work
     → Legal start (work ∷ mid) → ByPlan start (work ∷ mid)
@@ -234,6 +235,7 @@ one_step start before mid order steps (Answered id reply) is legal planned at =
     })
 one_step start before mid order steps (Asked other) is legal planned at = absurd is
 one_step start before mid order steps Stopped is legal planned at = absurd is
+one_step start before mid order steps (Powered address) is legal planned at = absurd is
 
 not_idle : {A : Type 0} (b : Bool) → b ≡ true → b ≡ false → A
 not_idle b one two = let both : true ≡ false = sym one ∙ two in cc
@@ -292,6 +294,21 @@ after_submit start before mid after order asked steps (reply, same) legal planne
         (said_more start order before mid (Asked asked) said))
     by legal (inr at) = inr (reply_on start before mid order asked steps reply legal at)
 
+-- a loss of power changes nothing of what is at hand
+after_loss : (start : Start) (before mid : List Happening) (order : Contents) (steps address : ℕ)
+    → GoesOn start before mid order steps → GoesOn start before (Powered address ∷ mid) order steps
+after_loss start before mid order steps address (inl said) =
+    inl (said_more start order before mid (Powered address) said)
+after_loss start before mid order steps address (inr at) =
+    inr (record {
+      more = Powered address ∷ at.more;
+      parts = ap (λ (t : List Happening). Powered address ∷ t) at.parts;
+      finished = tt;
+      hand = at.hand;
+      start_is = at.start_is;
+      work = at.work;
+    })
+
 goes_on : (start : Start) (before : List Happening) (order : Contents) (events : List Event) (after : List Happening)
     → IsFinished before → order_at_hand start before ≡ Some order
     → PartsSince start events before after → NoneStops events → Legal start after → ByPlan start after
@@ -312,6 +329,12 @@ goes_on start before order (Submit asked ∷ events) after finished hand (mid, p
     after_submit start before mid after order asked (steps_in events) part legal planned
     (λ legal planned. goes_on start before order events mid finished hand rest none legal planned)
 goes_on start before order (Stop bytes ∷ events) after finished hand parts none legal planned = absurd none
+goes_on start before order (Power address ∷ events) after finished hand (mid, same, rest) none legal planned =
+    let legal_now : Legal start (Powered address ∷ mid) = subst (Legal start) same legal in
+    let planned_now : ByPlan start (Powered address ∷ mid) = subst (ByPlan start) same planned in
+    subst (λ (t : List Happening). GoesOn start before t order (steps_in events)) (sym same)
+    (after_loss start before mid order (steps_in events) address
+    (goes_on start before order events mid finished hand rest none legal_now.0 planned_now.0))
 
 within_at : (start : Start) (past : List Happening) (order : Contents) → IsWithinLimit start past
     → order_at_hand start past ≡ Some order
@@ -364,9 +387,11 @@ part_finished start Step before after (inl (due, (work, is, same))) finished = s
     by (Answered id reply) is = tt
     by (Asked other) is = absurd is
     by Stopped is = absurd is
+    by (Powered address) is = absurd is
 part_finished start Step before after (inr (due, same)) finished = subst IsFinished (sym same) finished
 part_finished start (Stop bytes) before after (inl (same, none)) finished = subst IsFinished (sym same) tt
 part_finished start (Stop bytes) before after (inr (entry, next, few, same)) finished = subst IsFinished (sym same) tt
+part_finished start (Power address) before after same finished = subst IsFinished (sym same) tt
 
 parts_finished : (start : Start) (events : List Event) (trace : List Happening) → AreParts start events trace
     → IsFinished trace

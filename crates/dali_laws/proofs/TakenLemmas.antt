@@ -13,7 +13,7 @@ use Rattle.dali_journal.specs.Sentence.{Allows}
 use Rattle.dali_journal.specs.Orders.{orders_of, come_to}
 use Rattle.dali_trace.specs.declared.happening.Reply.TheVariants as replies
 use Rattle.dali_trace.specs.declared.happening.Happening.{Happening}
-use Rattle.dali_trace.specs.declared.happening.Happening.TheVariants.{Asked, Answered, Sent, Kept, Stopped}
+use Rattle.dali_trace.specs.declared.happening.Happening.TheVariants.{Asked, Answered, Sent, Kept, Stopped, Powered}
 use Rattle.dali_trace.specs.Trace.{Start, records_of, standing_at, waiting, is_unsaid, is_at_work, is_busy}
 use Rattle.dali_trace.specs.Trace.{Course, Quiet, Waiting, Working, JustEnded, course_of, waits_in, unsaid_in, ended_in}
 use Rattle.dali_trace.specs.Taken.{without, taken_or_waiting, taken_orders, begun_orders}
@@ -108,6 +108,8 @@ waits start (Kept (Ended code) ∷ past) order legal e = cc
 waits start (Kept (Closed unit) ∷ past) order legal e =
     let w = waits start past order legal.0 e in record { older = w.older; taken = w.taken; idle = refl }
 waits start (Stopped ∷ past) order legal e = cc
+waits start (Powered address ∷ past) order legal e =
+    let w = waits start past order legal.0 e in record { older = w.older; taken = w.taken; idle = w.idle }
 
 -- nor where one ends
 pub none_waits_at_work : (start : Start) (past : List Happening) (code : Code) → Legal start past
@@ -173,6 +175,7 @@ kept_are_taken start (Kept (Ended code) ∷ past) legal =
     (kept_are_taken start past legal.0)
 kept_are_taken start (Kept (Closed unit) ∷ past) legal = kept_are_taken start past legal.0
 kept_are_taken start (Stopped ∷ past) legal = kept_are_taken start past legal.0
+kept_are_taken start (Powered address ∷ past) legal = kept_are_taken start past legal.0
 
 pub taken_from_none : (start : Start) (past : List Happening) → start.records ≡ [] → Legal start past
     → begun_orders (records_of start past) ≡ taken_orders past

@@ -21,7 +21,7 @@ use Rattle.dali_journal.specs.Sentence.{standing_of}
 use Rattle.dali_journal.specs.Orders.{orders_of, come_to}
 use Rattle.dali_trace.specs.declared.happening.Reply.TheVariants as replies
 use Rattle.dali_trace.specs.declared.happening.Happening.{Happening}
-use Rattle.dali_trace.specs.declared.happening.Happening.TheVariants.{Asked, Answered, Sent, Kept, Stopped}
+use Rattle.dali_trace.specs.declared.happening.Happening.TheVariants.{Asked, Answered, Sent, Kept, Stopped, Powered}
 use Rattle.dali_trace.specs.Trace.{Start, records_of, standing_at, waiting, has_ended}
 use Rattle.dali_trace.specs.Legal.{Legal}
 use Rattle.dali_trace.specs.Runs.{AsksAllProper}
@@ -57,6 +57,7 @@ waiting_valid (Kept (Opened unit) ∷ past) order asks e = waiting_valid past or
 waiting_valid (Kept (Ended code) ∷ past) order asks e = cc
 waiting_valid (Kept (Closed unit) ∷ past) order asks e = waiting_valid past order asks.1 e
 waiting_valid (Stopped ∷ past) order asks e = cc
+waiting_valid (Powered address ∷ past) order asks e = waiting_valid past order asks.1 e
 
 orders_valid : (start : Start) (past : List Happening) → start.records ≡ [] → Legal start past → AsksAllProper past
     → AllValid (orders_of (records_of start past))
@@ -65,6 +66,7 @@ orders_valid start (Asked order ∷ past) none legal asks = orders_valid start p
 orders_valid start (Answered id reply ∷ past) none legal asks = orders_valid start past none legal.0 asks.1
 orders_valid start (Sent frame answer ∷ past) none legal asks = orders_valid start past none legal.0 asks.1
 orders_valid start (Stopped ∷ past) none legal asks = orders_valid start past none legal.0 asks.1
+orders_valid start (Powered address ∷ past) none legal asks = orders_valid start past none legal.0 asks.1
 orders_valid start (Kept (Began order) ∷ past) none legal asks = (
   waiting_valid past order asks.1 (may_keep start past (Began order) legal.1).due,
   orders_valid start past none legal.0 asks.1,

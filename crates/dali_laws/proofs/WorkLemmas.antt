@@ -35,7 +35,7 @@ use Rattle.dali_write.proofs.GiveUpLemmas.{failed_joined}
 use Rattle.dali_write.proofs.DoubtLemmas.{doubt_cause}
 use Rattle.dali_trace.specs.declared.happening.Reply.TheVariants as replies
 use Rattle.dali_trace.specs.declared.happening.Happening.{Happening}
-use Rattle.dali_trace.specs.declared.happening.Happening.TheVariants.{Asked, Answered, Sent, Kept, Stopped}
+use Rattle.dali_trace.specs.declared.happening.Happening.TheVariants.{Asked, Answered, Sent, Kept, Stopped, Powered}
 use Rattle.dali_trace.specs.Trace.{Start, records_of, standing_at, sent_since_taken, waiting, has_ended, is_at_work}
 use Rattle.dali_trace.specs.Trace.{course_of}
 use Rattle.dali_trace.specs.Legal.{Legal, MaySay, EndsAs, HasNumber}
@@ -85,6 +85,7 @@ in_session start (Sent frame answer ∷ past) planned =
     next_in (standing_at start past) (told_in past) frame answer planned.1
 in_session start (Kept entry ∷ past) planned = begins_session (standing_at start (Kept entry ∷ past))
 in_session start (Stopped ∷ past) planned = begins_session (standing_at start past)
+in_session start (Powered address ∷ past) planned = in_session start past planned.0
 
 -- lengths
 
@@ -303,6 +304,7 @@ ended_idle start (Kept (Opened unit) ∷ past) legal e =
     (may_keep start past (Opened unit) legal.1).whole.0.1
 ended_idle start (Kept (Closed unit) ∷ past) legal e = refl
 ended_idle start (Stopped ∷ past) legal e = cc
+ended_idle start (Powered address ∷ past) legal e = ended_idle start past legal.0 e
 
 -- the newest order, that has ended so
 abbrev SaidEnd : Standing → Standing → Option Contents → Bool → List (Contents × Progress) → List Exchange → ℕ → Code
@@ -379,6 +381,7 @@ said_so start (Answered id reply ∷ past) legal planned = absurd legal.1
 said_so start (Sent frame answer ∷ past) legal planned = tt
 said_so start (Kept entry ∷ past) legal planned = tt
 said_so start (Stopped ∷ past) legal planned = tt
+said_so start (Powered address ∷ past) legal planned = tt
 
 pub worked : (start : Start) (past : List Happening) → Legal start past → ByPlan start past → IsWorked start past
 worked start [] legal planned = (within_limit start [] legal planned, tt)

@@ -1,2 +1,3 @@
 pub mod Law
+pub mod Powered
 pub mod Joined

@@ -9,6 +9,7 @@ ghost use Rattle.dali_trace.specs.Trace.{Start};
 ghost use Rattle.dali_trace.specs.Legal.{Legal, IsFinished};
 ghost use Rattle.dali_trace.specs.Steps.{IsSaidInTime};
 ghost use Rattle.dali_trace.specs.ByPlan.{ByPlan};
+ghost use Rattle.dali_laws.specs.Powered.{unpowered, IsPowerApart};
 ghost use Rattle.dali_laws.specs.Joined.{Sitting, FollowOn, IsOneTrace, SittingsAreRight};
 ghost use Rattle.dali_trace.specs.Next.{IsNext, IsSameBut};
 ghost use Rattle.dali_trace.specs.Work.{IsWorked};
@@ -16,8 +17,9 @@ ghost use Rattle.dali_trace.specs.Moments.{Always, FitsAt, OnlyNamedAt, AppliedA
 ghost use Rattle.dali_laws.specs.Law.{RecordsAreTrue, RecordsAreASentence, TakenOrdersAreKept, OneReplyIsDue};
 ghost use Rattle.dali_laws.specs.Law.{RepeatsAreAnswered, RepeatsAreQuiet, RefusedOrdersChangeNothing, QuietUntilTaken};
 
-/// Along every chain of worlds of every legal trace, from a world that fits the start world and the
-/// start records and in which no unit is write-enabled but the one that they name.
+/// Along every chain of worlds of every legal trace, whichever units lose their power, from a world that fits the start
+/// world and the start records and in which no unit is write-enabled but the one that they name. In the start world the
+/// lock bytes of the banks from 2 up are FFh.
 pub fn every_moment_fits()
     // each moment fits;
     ensures fits { Always FitsAt }
@@ -86,13 +88,21 @@ pub fn orders_are_said_in_time()
 /// The limit, and the frames of an order that is done: where it starts anew, with or without a left unit, and where
 /// it was opened.
 pub fn limits_are_these()
-    ensures limit { (updates : ℕ) → work_limit updates ≡ 96 * updates + 464 }
+    ensures limit { (updates : ℕ) → work_limit updates ≡ 112 * updates + 560 }
     ensures low { (updates : List (ℕ × ℕ)) → greatest updates < 0x13
-        → frames_from standings.Idle updates ≡ 12 * length updates + 24 }
+        → frames_from standings.Idle updates ≡ 14 * length updates + 28 }
     ensures high { (updates : List (ℕ × ℕ)) → 0x13 ≤ greatest updates
-        → frames_from standings.Idle updates ≡ 12 * length updates + 34 }
+        → frames_from standings.Idle updates ≡ 14 * length updates + 42 }
     ensures left { (unit : ℕ) (updates : List (ℕ × ℕ))
-        → frames_from (standings.Left unit) updates ≡ frames_from standings.Idle updates + 12 }
+        → frames_from (standings.Left unit) updates ≡ frames_from standings.Idle updates + 14 }
+{}
+
+/// Losses of power, anywhere but between an order and its reply, change nothing of what is legal and by plan: a trace
+/// is both with them where it is without them.
+pub fn losses_of_power_change_nothing()
+    ensures legal { (start : Start) (past : List Happening) → IsPowerApart past → Legal start (unpowered past)
+        → Legal start past }
+    ensures planned { (start : Start) (past : List Happening) → ByPlan start (unpowered past) → ByPlan start past }
 {}
 
 /// Sittings one after another, each from the records that those before it left, are one legal trace that keeps to the
@@ -101,9 +111,11 @@ pub fn sittings_are_one_trace()
     ensures { (start : Start) (sittings : List Sitting) → FollowOn start sittings → IsOneTrace start sittings }
 {}
 
-/// Along every chain of worlds of such sittings, from a world that fits the start world and the start records and in
-/// which no unit is write-enabled but the one that they name: each moment fits, no unit but the named one is enabled,
-/// every place that is in no doubt is as the journal says, and when a record is kept, what it says is so.
+/// Along every chain of worlds of such sittings, whichever units lose their power anywhere but between an order and its
+/// reply, from a world that fits the start world and the start records and in which no unit is write-enabled but the
+/// one that they name: each moment fits, no unit but the named one is enabled, every place that is in no doubt is as
+/// the journal says, and when a record is kept, what it says is so. In the start world the lock bytes of the banks from
+/// 2 up are FFh.
 pub fn every_moment_of_sittings_is_right()
     ensures { SittingsAreRight }
 {}

@@ -1,2 +1,1 @@
-pub mod TestBusLemmas
 pub mod HostileLemmas

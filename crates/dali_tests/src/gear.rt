@@ -1,4 +1,4 @@
-mod own_bus;
+pub(crate) mod own_bus;
 mod sim_bus;
 mod unit;
 mod worked_frames;

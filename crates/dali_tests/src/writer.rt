@@ -1,8 +1,11 @@
+mod bank_0;
 mod bench;
 pub(crate) mod case;
 mod gtin;
 mod hostile_bus;
 mod losses;
+mod moments;
+mod power;
 mod stops;
 mod submits;
 mod worked;

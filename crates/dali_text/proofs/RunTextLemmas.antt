@@ -8,7 +8,7 @@ use Rattle.std.proofs.lemmas.List.{flat_map_more, reverse-append, take_more}
 use Rattle.dali_frame.specs.declared.forward.Frame.{Frame}
 use Rattle.dali_gear.specs.UnitState.{UnitState}
 use Rattle.dali_trace.specs.declared.happening.Happening.{Happening}
-use Rattle.dali_trace.specs.declared.happening.Happening.TheVariants.{Asked, Answered, Sent, Kept, Stopped}
+use Rattle.dali_trace.specs.declared.happening.Happening.TheVariants.{Asked, Answered, Sent, Kept, Stopped, Powered}
 use Rattle.dali_trace.specs.Runs.{SendsAllProper, SendsProper}
 use Rattle.dali_text.specs.RunText.{frames_ahead, frames_line, happening_line, is_sent, run_line, summary}
 use Rattle.dali_text.specs.UnitLines.{group_line, unit_text}
@@ -74,12 +74,15 @@ left_other zero (Answered id reply) rest other = refl
 left_other zero (Sent frame answer) rest other = cc
 left_other zero (Kept entry) rest other = refl
 left_other zero Stopped rest other = refl
+left_other zero (Powered address) rest other = refl
 left_other (suc k) (Asked order) rest other = told_before k (happening_line (Asked order)) (summary false rest)
 left_other (suc k) (Answered id reply) rest other =
     told_before k (happening_line (Answered id reply)) (summary false rest)
 left_other (suc k) (Sent frame answer) rest other = cc
 left_other (suc k) (Kept entry) rest other = told_before k (happening_line (Kept entry)) (summary false rest)
 left_other (suc k) Stopped rest other = told_before k (happening_line Stopped) (summary false rest)
+left_other (suc k) (Powered address) rest other =
+    told_before k (happening_line (Powered address)) (summary false rest)
 
 left_nothing : (frames : ℕ) → left_text frames [] ≡ run_line frames
 left_nothing zero = refl
@@ -145,6 +148,7 @@ not_sent (Answered id reply) other = refl
 not_sent (Sent frame answer) other = absurd (other frame answer refl)
 not_sent (Kept entry) other = refl
 not_sent Stopped other = refl
+not_sent (Powered address) other = refl
 
 -- ---- units
 

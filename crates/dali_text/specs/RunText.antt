@@ -6,7 +6,7 @@ use Rattle.dali_frame.specs.Frame.{frame_word}
 use Rattle.dali_frame.specs.Hex.{byte_digits, word_digits}
 use Rattle.dali_gear.specs.UnitState.{UnitState}
 use Rattle.dali_trace.specs.declared.happening.Happening.{Happening}
-use Rattle.dali_trace.specs.declared.happening.Happening.TheVariants.{Asked, Answered, Sent, Kept, Stopped}
+use Rattle.dali_trace.specs.declared.happening.Happening.TheVariants.{Asked, Answered, Sent, Kept, Stopped, Powered}
 use Rattle.dali_trace.specs.Replies.{reply_text}
 use Rattle.dali_text.specs.RecordText.{record_text}
 use Rattle.dali_text.specs.UnitLines.{unit_text}
@@ -26,6 +26,7 @@ happening_line (Sent frame answer) =
     codes "send " ++ word_digits (frame_word frame) ++ codes " " ++ answer_text answer ++ codes "\n"
 happening_line (Kept entry) = codes "keep " ++ record_text entry ++ codes "\n"
 happening_line Stopped = codes "stop\n"
+happening_line (Powered address) = codes "power " ++ decimal address ++ codes "\n"
 
 -- ---- a trace, the oldest happening first
 

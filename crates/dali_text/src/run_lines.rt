@@ -122,6 +122,7 @@ fn write_happening<W: Write>(output: &mut Output<W>, happening: &Happening) -> R
             writeln!(output, "keep {entry}")
         }
         Happening::Stopped => writeln!(output, "stop"),
+        Happening::Powered(address) => writeln!(output, "power {address}"),
     }
 }
 

@@ -1,10 +1,10 @@
 -- A blank unit, alone on its bus, goes along the worked trace.
 use Rattle.std.proofs.Common.{◌≡◌, inl, inr, refl, ℕ, Bool, true, false, ◌==◌, List, [], ◌∷◌, Option, Some, None}
-use Rattle.std.proofs.Common.{if◌then◌else◌}
-use Rattle.std.proofs.lemmas.Bool.{eqb-true}
+use Rattle.std.proofs.Common.{if◌then◌else◌, arith, sym, ◌∙◌}
+use Rattle.std.proofs.lemmas.Bool.{eqb-true, ne_eqb}
 use Rattle.dali_frame.specs.declared.forward.Frame.{Frame}
 use Rattle.dali_frame.specs.declared.forward.Frame.TheVariants.{Dtr0, Dtr1, Write, Enable, AskDtr0, AskDtr1, Read}
-use Rattle.dali_bus.specs.World.{Gear, stored, is_open}
+use Rattle.dali_bus.specs.World.{Gear, stored, is_open, byte_in}
 use Rattle.dali_bus.specs.Hears.{Hears, up}
 use Rattle.dali_bus.specs.Carry.{Carry, MayHear, MayAnswer}
 use Rattle.dali_bus.specs.Chain.{Chain}
@@ -14,10 +14,10 @@ use Rattle.dali_trace.specs.declared.happening.Reply.TheVariants as replies
 use Rattle.dali_trace.specs.declared.happening.Happening.{Happening}
 use Rattle.dali_trace.specs.declared.happening.Happening.TheVariants.{Asked, Answered, Sent, Kept}
 use Rattle.dali_trace.specs.Moves.{Moves}
-use Rattle.dali_trace.specs.Fits.{Fits, OnlyNamed}
+use Rattle.dali_trace.specs.Fits.{Fits, IsLockedAbove, OnlyNamed}
 use Rattle.dali_trace.specs.Worked.{select_at, read_at, write_at, write_all, reads_of, all_written, alone, blank_unit}
 use Rattle.dali_trace.specs.Worked.{empty, first_order, asked, taken, begun, measured, opened, unlocked, locked}
-use Rattle.dali_trace.specs.Worked.{lock_read, all_read_back, ended, said, first_carried_out, GoesAlong}
+use Rattle.dali_trace.specs.Worked.{blank, lock_read, all_read_back, ended, said, first_carried_out, GoesAlong}
 use Rattle.dali_trace.proofs.WorkedLemmas.{whole_legal}
 
 -- the unit, alone, hears a frame
@@ -85,7 +85,16 @@ read_comes past gear location byte there chain =
     let g2 : Gear = after_read gear location in
     let h : Hears 5 g1 (Read 5) (Some byte) g2 =
     record { obeyed = g2; obeys = inl (refl, inl (rw there refl, rw there refl, refl)); ends = inl refl } in
-    sent (select_at 5 location past) g1 g2 (Read 5) (Some byte) (select_comes past gear location chain) h
+    let h6 : Hears 5 g2 (AskDtr0 5) (Some (up location)) g2 =
+    record { obeyed = g2; obeys = inl (refl, (refl, refl)); ends = inl refl } in
+    let h7 : Hears 5 g2 (AskDtr1 5) (Some 1) g2 =
+    record { obeyed = g2; obeys = inl (refl, (refl, refl)); ends = inl refl } in
+    let p4 : List Happening = select_at 5 location past in
+    let p5 : List Happening = Sent (Read 5) (Some byte) ∷ p4 in
+    sent (Sent (AskDtr0 5) (Some (up location)) ∷ p5) g2 g2 (AskDtr1 5) (Some 1)
+    (sent p5 g2 g2 (AskDtr0 5) (Some (up location))
+    (sent p4 g1 g2 (Read 5) (Some byte) (select_comes past gear location chain) h) h6)
+    h7
 
 -- after a checked write
 abbrev after_write : Gear → ℕ → ℕ → Gear
@@ -188,11 +197,11 @@ whole_comes =
     besides (Asked first_order ∷ said) last_gear (Answered 1 (replies.Kept Done)) asked_comes refl
 
 -- it begins with a world that fits, in which no unit is enabled
-fits : Fits (alone blank_unit) empty.records (alone blank_unit)
+fits : Fits (alone blank_unit) empty.records [] (alone blank_unit)
 fits = record {
   places = λ address bank location. refl;
   bytes = λ address bank location first byte lock was is. same first byte was is;
-  locks = λ address closed. refl;
+  locks = λ address closed. inl refl;
 } where
   same : {x : Option ℕ} (first byte : ℕ) → x ≡ Some first → x ≡ Some byte → byte ≡ first
   same first byte was is = cc
@@ -203,12 +212,20 @@ only address on = off (address == 5) on where
   off true e = cc
   off false e = cc
 
+locked_above : IsLockedAbove (alone blank_unit)
+locked_above address bank byte above is = by (address == 5) is where
+  by : (here : Bool) → byte_in (if here then Some blank_unit else None) bank 2 ≡ Some byte → byte ≡ 0xFF
+  by true at =
+      let none : blank bank 2 ≡ None = rw (ne_eqb bank 1 (λ one. omega (arith, above, one))) refl in
+      let never : None ≡ Some byte = sym none ∙ at in cc
+  by false at = cc
+
 -- so the law's premises are met, and the unit is as the order and the rules of units say
 pub goes_along : GoesAlong
 goes_along = (
   last_gear,
   whole_comes.states,
-  record { legal = whole_legal; fits = fits; only = only; chain = whole_comes.steps },
+  record { legal = whole_legal; locked = locked_above; fits = fits; only = only; chain = whole_comes.steps },
   (refl, refl, refl),
   (refl, refl, refl, refl, refl, refl, refl, refl),
 )

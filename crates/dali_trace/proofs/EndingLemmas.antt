@@ -1,6 +1,6 @@
 -- The other ends of an order, and stops on the way, are legal.
 use Rattle.std.proofs.Common.{inl, inr, refl, sym, ap, List, ◌∷◌, Some, arith}
-use Rattle.dali_write.specs.Reads.{ReadStands}
+use Rattle.dali_write.specs.Reads.{StillRead}
 use Rattle.dali_trace.specs.declared.happening.Happening.{Happening}
 use Rattle.dali_trace.specs.declared.happening.Happening.TheVariants.{Stopped}
 use Rattle.dali_trace.specs.Trace.{sent_of}
@@ -59,7 +59,7 @@ format_legal =
     let one = read_legal empty third_begun 5 0x00 0x77 third_begun_legal (5, refl) refl in
     let two = read_legal empty p0 5 0x11 0x00 one (5, refl) refl in
     let three = read_legal empty p1 5 0x12 0x04 two (5, refl) refl in
-    let high : ReadStands (sent_of (read_at 5 0x12 0x04 p1)) 5 0x11 0x00 =
+    let high : StillRead (sent_of (read_at 5 0x12 0x04 p1)) 5 0x11 0x00 =
     behind_read p1 5 0x11 0x00 5 0x12 0x04 (read_stands p0 5 0x11 0x00) in (
       three,
       record {

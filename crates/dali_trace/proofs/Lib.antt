@@ -2,6 +2,7 @@ pub mod WorkedLemmas
 pub mod WorkedPlanLemmas
 pub mod WorkedWorkLemmas
 pub mod WorkedStepLemmas
+pub mod NewUnitLemmas
 pub mod WorkedLossLemmas
 pub mod RefusedLemmas
 pub mod LeftLemmas

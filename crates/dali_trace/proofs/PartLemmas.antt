@@ -1,11 +1,11 @@
 -- What isn't the parts of these events.
-use Rattle.std.proofs.Common.{◌≡◌, ◌<◌, ◌≤◌, inl, inr, refl, sym, subst, ◌∙◌, true, false, List, [], ◌∷◌, length, arith}
+use Rattle.std.proofs.Common.{◌≡◌, ℕ, ◌<◌, ◌≤◌, inl, inr, refl, sym, subst, ◌∙◌, true, false, List, [], ◌∷◌, length, arith}
 use Rattle.dali_journal.specs.declared.record.Record.{Record}
 use Rattle.dali_journal.specs.declared.record.Record.TheVariants.{Began}
 use Rattle.dali_journal.specs.Spelling.{spelling}
 use Rattle.dali_trace.specs.declared.happening.Happening.{Happening}
-use Rattle.dali_trace.specs.declared.happening.Happening.TheVariants.{Asked, Answered, Kept, Stopped}
-use Rattle.dali_trace.specs.declared.happening.Event.TheVariants.{Submit, Step, Stop}
+use Rattle.dali_trace.specs.declared.happening.Happening.TheVariants.{Asked, Answered, Kept, Stopped, Powered}
+use Rattle.dali_trace.specs.declared.happening.Event.TheVariants.{Submit, Step, Stop, Power}
 use Rattle.dali_trace.specs.Trace.{is_busy}
 use Rattle.dali_write.proofs.NextLemmas.{none_ended}
 use Rattle.dali_trace.specs.Parts.{IsKeptNext, AreParts}
@@ -50,3 +50,13 @@ not_lost (before, inl (stopped, none), rest) =
     stopped_at : (before : List Happening) → Stopped ∷ taken ≡ Stopped ∷ before → before ≡ taken
     stopped_at before e = cc
 not_lost (before, inr (entry, next, few, stopped), rest) = cc
+
+unit_is : (one other : ℕ) (before : List Happening) → Powered one ∷ [] ≡ Powered other ∷ before → one ≡ other
+unit_is one other before same = cc
+
+-- a loss of power is of the unit that it names
+pub powered_there : AreParts empty (Power 5 ∷ []) (Powered 5 ∷ [])
+powered_there = ([], refl, refl)
+
+pub not_powered_elsewhere : AreParts empty (Power 5 ∷ []) (Powered 6 ∷ []) → ⊥
+not_powered_elsewhere (before, same, start) = omega (arith, unit_is 6 5 before same)

@@ -11,12 +11,12 @@ use Rattle.dali_journal.specs.declared.record.Record.TheVariants.{Began}
 use Rattle.dali_journal.specs.declared.standing.Standing.TheVariants as standings
 use Rattle.dali_write.specs.Exchanges.{Exchange}
 use Rattle.dali_write.specs.Worlds.{Selects}
-use Rattle.dali_write.specs.Reads.{EndsInRead, ReadStands, HasRead}
+use Rattle.dali_write.specs.Reads.{EndsInRead, StillRead, HasRead}
 use Rattle.dali_write.proofs.EndLemmas.{reads_by, ends_selecting, ends_reading}
 use Rattle.dali_trace.specs.declared.happening.Reply.TheVariants as replies
 use Rattle.dali_trace.specs.declared.happening.Happening.{Happening}
-use Rattle.dali_trace.specs.declared.happening.Happening.TheVariants.{Answered, Sent}
-use Rattle.dali_trace.specs.Trace.{sent_of, sent_since_taken, waiting}
+use Rattle.dali_trace.specs.declared.happening.Happening.TheVariants.{Answered, Sent, Powered}
+use Rattle.dali_trace.specs.Trace.{sent_of, sent_since_taken, waiting, powered_of}
 use Rattle.dali_trace.specs.Legal.{MayPut, MayKeep, Legal}
 use Rattle.dali_trace.specs.Worked.{read_at, write_at, second_taken, empty, left_open, first_order, locked, unguarded}
 use Rattle.dali_trace.specs.Worked.{bank_not_asked, written_twice, another_byte, idle_frame, frame_to_another_unit}
@@ -27,7 +27,7 @@ use Rattle.dali_trace.specs.Worked.{another_code_said, blocked_by_no_unit, silen
 use Rattle.dali_trace.specs.Worked.{second_order, another_number_said, blocked_under_another_number}
 use Rattle.dali_trace.specs.Worked.{frame_to_another_unit_once_opened, frame_past_the_left_unit, another_lock_byte}
 use Rattle.dali_trace.specs.Worked.{opened_after_a_stop, written_after_a_stop, said_after_a_stop, closed_by_an_old_read}
-use Rattle.dali_trace.specs.Worked.{begun, said}
+use Rattle.dali_trace.specs.Worked.{asked, begun, said, select_at, short_after_six_frames}
 
 -- the newest exchange and the third newest of those that select
 newest_is : (unit location : ℕ) (x : Exchange) (told : List Exchange) → Selects unit location (x ∷ told)
@@ -46,22 +46,33 @@ third_is unit location x y z told selects =
     let same : z ≡ ends.x2 = cc in
     ap (λ (e : Exchange). e.frame) same ∙ ends.got2.frame_is
 
--- the newest exchange of a checked read, and the one before it
-read_is : (unit location byte : ℕ) (x : Exchange) (told : List Exchange) → EndsInRead unit location byte (x ∷ told)
-    → x.frame ≡ Read unit
-read_is unit location byte x told reads =
-    let ends = ends_reading unit location byte (x ∷ told) reads in
-    let is = ends.is in
-    let same : x ≡ ends.x5 = cc in
-    ap (λ (e : Exchange). e.frame) same ∙ ends.got5.frame_is
-
-told_is : (unit location byte : ℕ) (x y : Exchange) (told : List Exchange)
-    → EndsInRead unit location byte (x ∷ y ∷ told) → y.answer ≡ Some location
-told_is unit location byte x y told reads =
+-- the two newest frames of a checked read, and the answer before its read
+read_is : (unit location byte : ℕ) (x y : Exchange) (told : List Exchange)
+    → EndsInRead unit location byte (x ∷ y ∷ told) → (x.frame ≡ AskDtr1 unit) × (y.frame ≡ AskDtr0 unit)
+read_is unit location byte x y told reads =
     let ends = ends_reading unit location byte (x ∷ y ∷ told) reads in
     let is = ends.is in
-    let same : y ≡ ends.x4 = cc in
+    let newest : x ≡ ends.x7 = cc in
+    let next : y ≡ ends.x6 = cc in (
+      ap (λ (e : Exchange). e.frame) newest ∙ ends.got7.frame_is,
+      ap (λ (e : Exchange). e.frame) next ∙ ends.got6.frame_is,
+    )
+
+told_is : (unit location byte : ℕ) (x7 x6 x5 x4 : Exchange) (told : List Exchange)
+    → EndsInRead unit location byte (x7 ∷ x6 ∷ x5 ∷ x4 ∷ told) → x4.answer ≡ Some location
+told_is unit location byte x7 x6 x5 x4 told reads =
+    let ends = ends_reading unit location byte (x7 ∷ x6 ∷ x5 ∷ x4 ∷ told) reads in
+    let is = ends.is in
+    let same : x4 ≡ ends.x4 = cc in
     ap (λ (e : Exchange). e.answer) same ∙ ends.got4.meets
+
+newest_ends : (unit location byte : ℕ) (x : Exchange) (told : List Exchange) → EndsInRead unit location byte (x ∷ told)
+    → x.frame ≡ AskDtr1 unit
+newest_ends unit location byte x told reads =
+    let ends = ends_reading unit location byte (x ∷ told) reads in
+    let is = ends.is in
+    let newest : x ≡ ends.x7 = cc in
+    ap (λ (e : Exchange). e.frame) newest ∙ ends.got7.frame_is
 
 -- no two of these frames are one
 write_or_ask : (byte unit : ℕ) → Write byte ≡ AskDtr0 unit → ⊥
@@ -73,58 +84,75 @@ enable_or_ask to unit e = cc
 set_or_ask : (byte unit : ℕ) → Dtr1 byte ≡ AskDtr1 unit → ⊥
 set_or_ask byte unit e = cc
 
-write_or_read : (byte unit : ℕ) → Write byte ≡ Read unit → ⊥
-write_or_read byte unit e = cc
+write_or_end : (byte unit : ℕ) → Write byte ≡ AskDtr1 unit → ⊥
+write_or_end byte unit e = cc
+
+set_or_next : (byte unit : ℕ) → Dtr1 byte ≡ AskDtr0 unit → ⊥
+set_or_next byte unit e = cc
 
 -- after a write no read stands
 none_stands : (told : List Exchange) (byte : ℕ) (answer : Option ℕ) (unit location found : ℕ)
-    → ReadStands (record { frame = Write byte; answer = answer } ∷ told) unit location found → ⊥
+    → StillRead (record { frame = Write byte; answer = answer } ∷ told) unit location found → ⊥
 none_stands told byte answer unit location found (inl reads) =
-    write_or_read byte unit (read_is unit location found _ told reads)
+    write_or_end byte unit (newest_ends unit location found _ told reads)
 none_stands told byte answer unit location found (inr stands) = stands.0
+
+-- the frame asks for DTR1
+abbrev may_end : Frame → Bool
+may_end (AskDtr1 unit) = true
+may_end _ = false
+
+-- no other frame ends a checked read
+ends_none : (unit location byte : ℕ) (x : Exchange) (told : List Exchange) → may_end x.frame ≡ false
+    → EndsInRead unit location byte (x ∷ told) → ⊥
+ends_none unit location byte x told is_not reads =
+    let is : may_end x.frame ≡ true = ap may_end (newest_ends unit location byte x told reads) in cc
+
+-- a read of another location shows nothing of this one
+not_behind : (past : List Happening) (unit location byte other place found : ℕ) → place ≢ location
+    → StillRead (sent_of (read_at other place found past)) unit location byte
+    → StillRead (sent_of past) unit location byte
+not_behind past unit location byte other place found differs (inl reads) =
+    let told : Some place ≡ Some location = told_is unit location byte _ _ _ _ _ reads in
+    absurd (differs (let same : place ≡ location = cc in same))
+not_behind past unit location byte other place found differs (inr (t7, inl reads)) =
+    absurd (ends_none unit location byte _ _ refl reads)
+not_behind past unit location byte other place found differs (inr (t7, inr (t6, inl reads))) =
+    absurd (ends_none unit location byte _ _ refl reads)
+not_behind past unit location byte other place found differs (inr (t7, inr (t6, inr (t5, inl reads)))) =
+    absurd (ends_none unit location byte _ _ refl reads)
+not_behind past unit location byte other place found differs (inr (t7, inr (t6, inr (t5, inr (t4, inl reads))))) =
+    absurd (ends_none unit location byte _ _ refl reads)
+not_behind past unit location byte other place found differs
+    (inr (t7, inr (t6, inr (t5, inr (t4, inr (t3, inl reads)))))) =
+    absurd (set_or_next 1 unit (read_is unit location byte _ _ _ reads).1)
+not_behind past unit location byte other place found differs
+    (inr (t7, inr (t6, inr (t5, inr (t4, inr (t3, inr (t2, inl reads))))))) =
+    absurd (ends_none unit location byte _ _ refl reads)
+not_behind past unit location byte other place found differs
+    (inr (t7, inr (t6, inr (t5, inr (t4, inr (t3, inr (t2, inr (t1, stands)))))))) =
+    stands
 
 abbrev pub is_read : Frame → Bool
 is_read (Read unit) = true
 is_read _ = false
-
--- a frame other than a read ends no checked read
-ends_none : (unit location byte : ℕ) (x : Exchange) (told : List Exchange) → is_read x.frame ≡ false
-    → EndsInRead unit location byte (x ∷ told) → ⊥
-ends_none unit location byte x told is_not reads =
-    let is : is_read x.frame ≡ true = ap is_read (read_is unit location byte x told reads) in cc
-
--- a read of another location shows nothing of this one
-not_behind : (past : List Happening) (unit location byte other place found : ℕ) → place ≢ location
-    → ReadStands (sent_of (read_at other place found past)) unit location byte
-    → ReadStands (sent_of past) unit location byte
-not_behind past unit location byte other place found differs (inl reads) =
-    let told : Some place ≡ Some location = told_is unit location byte _ _ _ reads in
-    absurd (differs (let same : place ≡ location = cc in same))
-not_behind past unit location byte other place found differs (inr (t5, inl reads)) =
-    absurd (ends_none unit location byte _ _ refl reads)
-not_behind past unit location byte other place found differs (inr (t5, inr (t4, inl reads))) =
-    absurd (ends_none unit location byte _ _ refl reads)
-not_behind past unit location byte other place found differs (inr (t5, inr (t4, inr (t3, inl reads)))) =
-    absurd (ends_none unit location byte _ _ refl reads)
-not_behind past unit location byte other place found differs (inr (t5, inr (t4, inr (t3, inr (t2, inl reads))))) =
-    absurd (ends_none unit location byte _ _ refl reads)
-not_behind past unit location byte other place found differs
-    (inr (t5, inr (t4, inr (t3, inr (t2, inr (t1, stands)))))) =
-    stands
 
 -- where no read was sent, none was answered
 abbrev pub none_read : List Exchange → Bool
 none_read [] = true
 none_read (x ∷ told) = not (is_read x.frame) && none_read told
 
+reads_one : (unit location byte : ℕ) (told : List Exchange) → EndsInRead unit location byte told
+    → none_read told ≡ false
+reads_one unit location byte told reads =
+    let ends = ends_reading unit location byte told reads in
+    subst (λ (t : List Exchange). none_read t ≡ false) (sym ends.is)
+    (rw (ends.got7.frame_is, ends.got6.frame_is, ends.got5.frame_is) refl)
+
 pub has_none : (unit : ℕ) (told : List Exchange) → none_read told ≡ true → HasRead unit told → ⊥
 has_none unit [] none has = has
 has_none unit (x ∷ told) none (inl reads) =
-    ends_none unit reads.0 reads.1 x told
-    (off (is_read x.frame) (and_parts (not (is_read x.frame)) (none_read told) none).0) reads.2 where
-      off : (b : Bool) → not b ≡ true → b ≡ false
-      off true e = cc
-      off false e = refl
+    let one = reads_one unit reads.0 reads.1 (x ∷ told) reads.2 in cc
 has_none unit (x ∷ told) none (inr has) =
     has_none unit told (and_parts (not (is_read x.frame)) (none_read told) none).1 has
 
@@ -164,6 +192,21 @@ not_enabled_before_opened legal = let e = legal.1.1 in cc
 pub not_opened_unread : Legal empty opened_unread → ⊥
 not_opened_unread legal = legal.1.grounds.1
 
+-- six frames of a read tell nothing
+six_none : (byte : ℕ) → StillRead (sent_of (Sent (AskDtr0 5) (Some 0x01) ∷ Sent (Read 5) (Some 0x02)
+    ∷ select_at 5 0x00 begun)) 5 0x00 byte → ⊥
+six_none byte (inl reads) = ends_none 5 0x00 byte _ _ refl reads
+six_none byte (inr (t6, inl reads)) = ends_none 5 0x00 byte _ _ refl reads
+six_none byte (inr (t6, inr (t5, inl reads))) = ends_none 5 0x00 byte _ _ refl reads
+six_none byte (inr (t6, inr (t5, inr (t4, inl reads)))) = ends_none 5 0x00 byte _ _ refl reads
+six_none byte (inr (t6, inr (t5, inr (t4, inr (t3, inl reads))))) =
+    set_or_next 1 5 (read_is 5 0x00 byte _ _ _ reads).1
+six_none byte (inr (t6, inr (t5, inr (t4, inr (t3, inr (t2, inl reads)))))) = ends_none 5 0x00 byte _ _ refl reads
+six_none byte (inr (t6, inr (t5, inr (t4, inr (t3, inr (t2, inr (t1, none))))))) = none
+
+pub not_short_after_six_frames : Legal empty short_after_six_frames → ⊥
+not_short_after_six_frames legal = let grounds = legal.1.grounds in six_none grounds.0 grounds.1
+
 pub not_done_unread : Legal empty done_unread → ⊥
 not_done_unread legal = none_stands _ 0xFF (Some 0xFF) 5 0x02 0xFF legal.1.grounds.0
 
@@ -202,6 +245,14 @@ not_busy_at_once legal = let e = legal.1.1.1 in cc
 
 pub not_to_another_number : Legal empty reply_to_another → ⊥
 not_to_another_number legal = let e = legal.1.0 in omega (arith, e)
+
+-- no loss of power comes between an order and its reply
+pub not_powered_before_the_reply : Legal empty (Powered 5 ∷ asked) → ⊥
+not_powered_before_the_reply legal = legal.1
+
+-- all that have lost their power by now, the newest first
+pub all_powered : powered_of (7 ∷ []) (Powered 5 ∷ Sent (Dtr1 1) None ∷ Powered 6 ∷ []) ≡ 5 ∷ 6 ∷ 7 ∷ []
+all_powered = refl
 
 pub not_said_before_ended : Legal empty said_before_ended → ⊥
 not_said_before_ended legal = let e = legal.1.0 in cc

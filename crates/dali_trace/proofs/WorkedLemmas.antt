@@ -2,13 +2,14 @@
 use Rattle.std.proofs.Common.{◌≡◌, inl, inr, refl, sym, ap, ℕ, List, [], ◌∷◌, Option, Some, None, arith}
 use Rattle.std.specs.Prelude.{◌≢◌}
 use Rattle.dali_frame.specs.declared.forward.Frame.{Frame}
-use Rattle.dali_frame.specs.declared.forward.Frame.TheVariants.{Dtr0, Dtr1, Enable, AskDtr0, AskDtr1}
+use Rattle.dali_frame.specs.declared.forward.Frame.TheVariants.{Dtr0, Dtr1, Enable, AskDtr0, AskDtr1, Read}
+use Rattle.dali_bus.specs.Hears.{up}
 use Rattle.dali_bank.specs.Order.{Contents, update_at}
 use Rattle.dali_journal.specs.declared.standing.Standing.{Standing}
 use Rattle.dali_journal.specs.declared.standing.Standing.TheVariants as standings
 use Rattle.dali_journal.specs.Sentence.{named_unit}
 use Rattle.dali_write.specs.Findings.{ShowsAll}
-use Rattle.dali_write.specs.Reads.{ReadStands}
+use Rattle.dali_write.specs.Reads.{StillRead}
 use Rattle.dali_write.proofs.EndLemmas.{selects_by, reads_by}
 use Rattle.dali_trace.specs.declared.happening.Happening.{Happening}
 use Rattle.dali_trace.specs.declared.happening.Happening.TheVariants.{Sent}
@@ -46,7 +47,13 @@ select_legal start past unit location legal first serves =
 pub read_legal : (start : Start) (past : List Happening) (unit location byte : ℕ) → Legal start past
     → MayFollow start past (Sent (Dtr1 1) None)
     → Serves past (standing_at start past) unit → Legal start (read_at unit location byte past)
-read_legal start past unit location byte legal first serves = select_legal start past unit location legal first serves
+read_legal start past unit location byte legal first serves =
+    let stands = standing_at start past in
+    let four = select_legal start past unit location legal first serves in
+    let p4 = select_at unit location past in
+    let s5 = next p4 (Read unit) (Some byte) stands unit four.1 in
+    let s6 = next (Sent (Read unit) (Some byte) ∷ p4) (AskDtr0 unit) (Some (up location)) stands unit s5 in
+    ((four, s5), s6)
 
 -- so may two frames that enable the unit
 pub enable_legal : (start : Start) (past : List Happening) (unit : ℕ) → Legal start past
@@ -81,13 +88,14 @@ write_legal start past unit location byte legal first serves is_named may =
 
 -- a checked read stands, and goes on to stand behind another
 pub read_stands : (past : List Happening) (unit location byte : ℕ)
-    → ReadStands (sent_of (read_at unit location byte past)) unit location byte
+    → StillRead (sent_of (read_at unit location byte past)) unit location byte
 read_stands past unit location byte = inl (reads_by unit location byte None None (sent_of past))
 
 pub behind_read : (past : List Happening) (unit location byte other place found : ℕ)
-    → ReadStands (sent_of past) unit location byte
-    → ReadStands (sent_of (read_at other place found past)) unit location byte
-behind_read past unit location byte other place found stands = inr (tt, inr (tt, inr (tt, inr (tt, inr (tt, stands)))))
+    → StillRead (sent_of past) unit location byte
+    → StillRead (sent_of (read_at other place found past)) unit location byte
+behind_read past unit location byte other place found stands =
+    inr (tt, inr (tt, inr (tt, inr (tt, inr (tt, inr (tt, inr (tt, stands)))))))
 
 -- the same of all updates that are all_written, or read
 abbrev pub IsAmong : Contents → List (ℕ × ℕ) → Type 0
@@ -121,15 +129,15 @@ reads_legal start order (update ∷ updates) past at legal first =
 
 -- what was read before all of them still stands, and so does each of them
 pub reads_behind : (unit location byte : ℕ) (updates : List (ℕ × ℕ)) (other : ℕ) (past : List Happening)
-    → ReadStands (sent_of past) unit location byte
-    → ReadStands (sent_of (reads_of other updates past)) unit location byte
+    → StillRead (sent_of past) unit location byte
+    → StillRead (sent_of (reads_of other updates past)) unit location byte
 reads_behind unit location byte [] other past stands = stands
 reads_behind unit location byte (update ∷ updates) other past stands =
     reads_behind unit location byte updates other (read_at other update.0 update.1 past)
     (behind_read past unit location byte other update.0 update.1 stands)
 
 pub reads_stand : (unit : ℕ) (updates : List (ℕ × ℕ)) (past : List Happening)
-    → ShowsAll (ReadStands (sent_of (reads_of unit updates past)) unit) updates
+    → ShowsAll (StillRead (sent_of (reads_of unit updates past)) unit) updates
 reads_stand unit [] past = tt
 reads_stand unit (update ∷ updates) past = (
   reads_behind unit update.0 update.1 updates unit (read_at unit update.0 update.1 past)

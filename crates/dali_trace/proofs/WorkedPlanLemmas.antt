@@ -1,5 +1,5 @@
 -- The worked traces near the edges of the plans: which keep to them, and which are legal and don't.
-use Rattle.std.proofs.Common.{◌≡◌, refl, sym, ap, subst, ℕ, List, [], ◌∷◌, None, arith}
+use Rattle.std.proofs.Common.{◌≡◌, refl, sym, ap, subst, ℕ, List, [], ◌∷◌, ◌++◌, None, arith}
 use Rattle.dali_frame.specs.declared.forward.Frame.TheVariants.{Dtr0, Dtr1, Enable, AskDtr1}
 use Rattle.dali_journal.specs.declared.record.Code.TheVariants as codes
 use Rattle.dali_journal.specs.declared.record.Record.TheVariants.{Ended}
@@ -10,7 +10,7 @@ use Rattle.dali_write.specs.declared.ask.Ask.TheVariants as asks
 use Rattle.dali_write.specs.declared.ask.Verdict.{Verdict}
 use Rattle.dali_write.specs.declared.ask.Verdict.TheVariants as verdicts
 use Rattle.dali_write.specs.Plans.{Plan, read_length, unlock, close}
-use Rattle.dali_write.specs.Tries.{plan_lines, Wants}
+use Rattle.dali_write.specs.Tries.{plan_requests, Wants}
 use Rattle.dali_write.proofs.StandingLemmas.{stands_at_first}
 use Rattle.dali_write.proofs.NextLemmas.{next_wanted}
 use Rattle.dali_write.proofs.AskLemmas.{ask_shown}
@@ -41,10 +41,10 @@ keeps_wants : (unit : ℕ) (plan : Plan) (told : List Exchange) → Keeps unit p
 keeps_wants unit plan [] keeps = record {
   now = plan;
   misses = 0;
-  left = plan_lines unit plan;
+  left = plan_requests unit plan;
   byte = None;
   stands = stands_at_first unit plan;
-  ask_is = sym (ask_shown plan (plan_lines unit plan) (stands_at_first unit plan).going);
+  ask_is = sym (ask_shown plan (plan_requests unit plan) (stands_at_first unit plan).going);
 }
 keeps_wants unit plan (x ∷ told) keeps =
     let before = subst (λ (a : Ask). Wants unit plan told a) keeps.1 (keeps_wants unit plan told keeps.0) in
@@ -82,6 +82,24 @@ frames_planned start past unit plan onset (x ∷ told) keeps = (
   frames_planned start past unit plan onset told keeps.0,
   rw (records_sent start told past, told_sent told past onset.untold)
       (onset.asks told (asks.Send x.frame) (wants_so unit plan told (asks.Send x.frame) keeps.0 keeps.1)),
+)
+
+-- and where one has sent frames already
+told_on : (told before : List Exchange) (past : List Happening) → told_in past ≡ before
+    → told_in (sent told past) ≡ told ++ before
+told_on [] before past are = are
+told_on (x ∷ told) before past are = ap (λ (t : List Exchange). x ∷ t) (told_on told before past are)
+
+pub frames_go_on : (start : Start) (past : List Happening) (unit : ℕ) (plan : Plan) (before : List Exchange)
+    → ByPlan start past → told_in past ≡ before
+    → ((told : List Exchange) (ask : Ask) → Wants unit plan told ask → Asks (standing_at start past) told ask)
+    → (told : List Exchange) → Keeps unit plan (told ++ before) → ByPlan start (sent told past)
+frames_go_on start past unit plan before planned are asks_so [] keeps = planned
+frames_go_on start past unit plan before planned are asks_so (x ∷ told) keeps = (
+  frames_go_on start past unit plan before planned are asks_so told keeps.0,
+  rw (records_sent start told past, told_on told before past are)
+      (asks_so (told ++ before) (asks.Send x.frame) (wants_so unit plan (told ++ before) (asks.Send x.frame) keeps.0
+      keeps.1)),
 )
 
 -- the first order, once it is begun
@@ -139,7 +157,7 @@ through_a_stop_legal = (((begun_legal, (5, refl)), tt), refl)
 opened_planned : ByPlan empty opened
 opened_planned =
     let keeps : Keeps 5 (read_length first_order.updates) (told_in measured) =
-    (((((tt, refl), refl), refl), refl), refl) in (
+    (((((((tt, refl), refl), refl), refl), refl), refl), refl) in (
       looks_on (told_in measured) keeps,
       (
         verdicts.MayOpen,
@@ -161,7 +179,8 @@ read_once_opened_legal = (opened_legal, (5, refl))
 pub short_planned : ByPlan empty short_ended
 short_planned =
     let told = told_in (read_at 5 0x00 0x07 begun) in
-    let keeps : Keeps 5 (read_length first_order.updates) told = (((((tt, refl), refl), refl), refl), refl) in (
+    let keeps : Keeps 5 (read_length first_order.updates) told =
+    (((((((tt, refl), refl), refl), refl), refl), refl), refl) in (
       looks_on told keeps,
       (
         verdicts.Short,

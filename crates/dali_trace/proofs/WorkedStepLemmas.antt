@@ -36,7 +36,7 @@ submits_are_none = tt
 pub a_stop_is_one : NoneStops (Step ∷ Stop 0 ∷ Step ∷ []) → ⊥
 a_stop_is_one none = none
 
-pub says_by_then : (n : ℕ) (trace : List Happening) → 1045 ≤ n → SaysInTime at_work (replicate n Step) [] trace
+pub says_by_then : (n : ℕ) (trace : List Happening) → 1237 ≤ n → SaysInTime at_work (replicate n Step) [] trace
     → IsSaid at_work first_order [] trace
 says_by_then n trace many (before, older, newer, says) =
     let count = count_steps n in
@@ -45,7 +45,7 @@ says_by_then n trace many (before, older, newer, says) =
     subst (λ (t : List Happening). IsSaid at_work first_order t trace) older
     (says first_order at (none_stops n) (omega arith))
 
-pub said_by_then : (n : ℕ) (trace : List Happening) → 1045 ≤ n → IsSaidInTime empty taken trace
+pub said_by_then : (n : ℕ) (trace : List Happening) → 1237 ≤ n → IsSaidInTime empty taken trace
     → PartsSince empty (replicate n Step) taken trace → IsSaid empty first_order taken trace
 said_by_then n trace many in_time parts =
     let count = count_steps n in in_time (replicate n Step) first_order parts refl (none_stops n) (omega arith)

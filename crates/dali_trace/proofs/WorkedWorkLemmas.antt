@@ -8,7 +8,7 @@ use Rattle.dali_journal.specs.declared.record.Record.TheVariants.{Opened, Ended}
 use Rattle.dali_journal.specs.declared.standing.Standing.{Standing}
 use Rattle.dali_journal.specs.declared.standing.Standing.TheVariants as standings
 use Rattle.dali_write.specs.Exchanges.{Exchange}
-use Rattle.dali_write.specs.Lines.{read_lines}
+use Rattle.dali_write.specs.Requests.{read_requests}
 use Rattle.dali_write.specs.Plans.{Plan, unlock}
 use Rattle.dali_write.specs.Reads.{IsPassive, EndsInRead, HasRead}
 use Rattle.dali_write.specs.Tries.{Succeeds, Wants}
@@ -19,7 +19,7 @@ use Rattle.dali_write.specs.declared.ask.Ask.TheVariants as asks
 use Rattle.dali_write.specs.declared.ask.Verdict.TheVariants as verdicts
 use Rattle.dali_write.proofs.MissLemmas.{failure_misses, failed_misses}
 use Rattle.dali_write.proofs.DeterminedLemmas.{ask_is, frame_wanted}
-use Rattle.dali_write.proofs.WorkedStepLemmas.{found_doubts}
+use Rattle.dali_write.proofs.WorkedAccessLemmas.{found_doubts}
 use Rattle.dali_trace.specs.declared.happening.Reply.TheVariants as replies
 use Rattle.dali_trace.specs.declared.happening.Happening.{Happening}
 use Rattle.dali_trace.specs.declared.happening.Happening.TheVariants.{Answered, Kept, Stopped}
@@ -44,14 +44,14 @@ frames_kept : (n : ℕ) → kept_since (frames_more n begun) ≡ 1
 frames_kept zero = refl
 frames_kept (suc n) = frames_kept n
 
-pub frames_within : (n : ℕ) → IsWithinLimit empty (frames_more n begun) → n ≤ 1040
+pub frames_within : (n : ℕ) → IsWithinLimit empty (frames_more n begun) → n ≤ 1232
 frames_within n within =
     let here = rw (frames_hand n) at within in
     let few = here.0 in
     let long = frames_length n in
     omega arith
 
-pub frames_enough : (n : ℕ) → n ≤ 1040 → IsWithinLimit empty (frames_more n begun)
+pub frames_enough : (n : ℕ) → n ≤ 1232 → IsWithinLimit empty (frames_more n begun)
 frames_enough n few =
     let long = frames_length n in
     let kept = frames_kept n in
@@ -97,7 +97,7 @@ frames_done : (n : ℕ)
 frames_done zero = refl
 frames_done (suc n) = frames_done n
 
-pub done_after : (n : ℕ) → IsSaidSo empty (opened_said codes.Done (frames_more n begun)) → n ≡ 96
+pub done_after : (n : ℕ) → IsSaidSo empty (opened_said codes.Done (frames_more n begun)) → n ≡ 112
 done_after n (order, number, hand, earned) =
     let both : Some first_order ≡ Some order = sym (frames_done n) ∙ hand in
     let same : order ≡ first_order = cc in
@@ -118,20 +118,20 @@ done_after n (order, number, hand, earned) =
     let met = frames_met n in
     omega arith
 
-done_after_96 : IsSaidSo empty (opened_said codes.Done (frames_more 96 begun))
-done_after_96 =
-    let long : IsLong 96 (sent_since_taken (frames_more 96 begun)) =
-    let count = frames_length 96 in (omega arith, omega arith) in (
+done_after_112 : IsSaidSo empty (opened_said codes.Done (frames_more 112 begun))
+done_after_112 =
+    let long : IsLong 112 (sent_since_taken (frames_more 112 begun)) =
+    let count = frames_length 112 in (omega arith, omega arith) in (
       first_order,
       refl,
-      frames_done 96,
+      frames_done 112,
       subst (λ (stands : Standing).
-          IsLong (frames_from stands first_order.updates) (sent_since_taken (frames_more 96 begun)))
-          (sym (frames_stood 96)) long,
+          IsLong (frames_from stands first_order.updates) (sent_since_taken (frames_more 112 begun)))
+          (sym (frames_stood 112)) long,
     )
 
-pub done_so : (n : ℕ) → n ≡ 96 → IsSaidSo empty (opened_said codes.Done (frames_more n begun))
-done_so n is = subst (λ (m : ℕ). IsSaidSo empty (opened_said codes.Done (frames_more m begun))) (sym is) done_after_96
+pub done_so : (n : ℕ) → n ≡ 112 → IsSaidSo empty (opened_said codes.Done (frames_more n begun))
+done_so n is = subst (λ (m : ℕ). IsSaidSo empty (opened_said codes.Done (frames_more m begun))) (sym is) done_after_112
 
 -- It is the order at hand that is said, by its number.
 pub not_said_so_of_another : IsSaidSo empty (Answered 2 (replies.Kept codes.Short) ∷ short_ended) → ⊥
@@ -198,7 +198,7 @@ found_read : (unit : ℕ) (plan : Plan) (expected : List (ℕ × ℕ)) (told : L
     → FoundAnother unit plan expected told → HasRead unit told
 found_read unit plan expected told found = by found.answered
   where
-    by : Succeeds (read_lines unit found.location) (Some found.found) found.read → HasRead unit told
+    by : Succeeds (read_requests unit found.location) (Some found.found) found.read → HasRead unit told
     by (tried, missed, misses, same, try, outcome, few, are) =
         let parts : found.read ++ found.older ≡ tried ++ (missed ++ found.older) =
         ap (λ (t : List Exchange). t ++ found.older) same ∙ append_assoc tried missed found.older in
@@ -247,7 +247,7 @@ AllPassive (x ∷ told) = IsPassive x.frame × AllPassive told
 
 reads_passive : (n : ℕ) → AllPassive (sent_since_taken (reads_more n begun))
 reads_passive zero = tt
-reads_passive (suc n) = (tt, (tt, (tt, (tt, (tt, reads_passive n)))))
+reads_passive (suc n) = (tt, (tt, (tt, (tt, (tt, (tt, (tt, reads_passive n)))))))
 
 front_passive : (told older : List Exchange) → AllPassive (told ++ older) → AllPassive told
 front_passive [] older passive = tt
@@ -308,10 +308,10 @@ pub stood_left : stood_at empty (second_taken_behind left_said) ≡ standings.Le
 stood_left = refl
 
 -- the frames of the first order, from where it starts
-pub frames_of_begun : frames_from (standings.Began first_order) first_order.updates ≡ 96
+pub frames_of_begun : frames_from (standings.Began first_order) first_order.updates ≡ 112
 frames_of_begun = refl
 
-pub frames_of_opened : frames_from (standings.Opened first_order) first_order.updates ≡ 91
+pub frames_of_opened : frames_from (standings.Opened first_order) first_order.updates ≡ 105
 frames_of_opened = refl
 
 -- the order at hand

@@ -11,7 +11,8 @@ use Rattle.dali_journal.specs.declared.standing.Standing.{Standing}
 use Rattle.dali_journal.specs.declared.standing.Standing.TheVariants as standings
 use Rattle.dali_journal.specs.Sentence.{named_unit}
 use Rattle.dali_write.specs.Findings.{IsWritten}
-use Rattle.dali_trace.specs.declared.happening.Happening.TheVariants.{Kept}
+use Rattle.dali_write.specs.Worlds.{IsAmong, MayRelock}
+use Rattle.dali_trace.specs.declared.happening.Happening.TheVariants.{Kept, Powered}
 use Rattle.dali_trace.specs.Possible.{IsPossible, IsSettled, applied}
 use Rattle.dali_trace.specs.Fits.{HasBeenOpened, IsLockByte, Fits, OnlyNamed, IsApplied}
 use Rattle.dali_trace.specs.Moves.{Moves}
@@ -137,23 +138,50 @@ records_begun = Began first_order ∷ []
 abbrev records_done : List Record
 records_done = Ended Done ∷ Opened 5 ∷ records_begun
 
--- A world that doesn't fit
+-- A byte of a unit that hasn't lost its power, and of one that has
 
 -- the number, or 100h, which is no byte
 abbrev or_none : Option ℕ → ℕ
 or_none None = 0x100
 or_none (Some number) = number
 
-pub not_written_when_begun : Fits before records_begun after → ⊥
+unlost : (unit bank location : ℕ) (old new : Option ℕ) → MayRelock (IsAmong [] unit) bank location old new → new ≡ old
+unlost unit bank location old new (inl same) = same
+unlost unit bank location old new (inr relocks) = absurd relocks.0
+
+abbrev unlocked_world : World
+unlocked_world = world_with false 0x77 0x55 0x00 0xFF
+
+pub locked_since_it_lost_its_power : Holds (5 ∷ []) before 5 2 0x55
+locked_since_it_lost_its_power = inr (inl refl, omega arith, refl, refl)
+
+pub not_locked_where_another_lost_its_power : Holds (6 ∷ []) before 5 2 0x55 → ⊥
+not_locked_where_another_lost_its_power (inl is) = omega (arith, ap (λ (byte : Option ℕ). or_none byte) is)
+not_locked_where_another_lost_its_power (inr (inl is, above, lock, now)) = omega (arith, is)
+not_locked_where_another_lost_its_power (inr (inr none, above, lock, now)) = none
+
+pub no_other_byte_by_a_loss_of_power : Holds (5 ∷ []) before 5 8 0x12 → ⊥
+no_other_byte_by_a_loss_of_power (inl is) = omega (arith, ap (λ (byte : Option ℕ). or_none byte) is)
+no_other_byte_by_a_loss_of_power (inr relocks) = omega (arith, relocks.2)
+
+pub no_other_lock_byte_by_a_loss_of_power : Holds (5 ∷ []) unlocked_world 5 2 0x33 → ⊥
+no_other_lock_byte_by_a_loss_of_power (inl is) = omega (arith, ap (λ (byte : Option ℕ). or_none byte) is)
+no_other_lock_byte_by_a_loss_of_power (inr relocks) =
+    omega (arith, ap (λ (byte : Option ℕ). or_none byte) relocks.3)
+
+-- A world that doesn't fit
+
+pub not_written_when_begun : Fits before records_begun [] after → ⊥
 not_written_when_begun fits = omega (arith, fits.bytes 5 1 8 0xFF 0xAB (λ lock. omega (arith, lock.1)) refl refl)
 
-pub not_unwritten_when_done : Fits before records_done before → ⊥
+pub not_unwritten_when_done : Fits before records_done [] before → ⊥
 not_unwritten_when_done fits = omega (arith, fits.bytes 5 1 8 0xFF 0xFF (λ lock. omega (arith, lock.1)) refl refl)
 
-pub not_unlocked_when_begun : Fits before records_begun (world_with false 0x77 0x55 0x00 0xFF) → ⊥
-not_unlocked_when_begun fits = omega (arith, ap (λ (byte : Option ℕ). or_none byte) (fits.locks 5 (λ is. is)))
+pub not_unlocked_when_begun : Fits before records_begun [] (world_with false 0x77 0x55 0x00 0xFF) → ⊥
+not_unlocked_when_begun fits =
+    omega (arith, ap (λ (byte : Option ℕ). or_none byte) (unlost 5 1 2 _ _ (fits.locks 5 (λ is. is))))
 
-pub not_a_unit_more : Fits (λ address. None) records_begun before → ⊥
+pub not_a_unit_more : Fits (λ address. None) records_begun [] before → ⊥
 not_a_unit_more fits = let more : true ≡ false = fits.places 5 1 3 in cc
 
 pub opened_where_opened : HasBeenOpened 5 records_done
@@ -201,13 +229,13 @@ off_at_5 now stands entry at off = λ unit named gone. let is : 5 ≡ unit = cc 
 pub opened_where_it_reaches : WhenKept empty (Kept (Opened 5) ∷ begun) (world_with false 0x08 0xFF 0x00 0xFF)
 opened_where_it_reaches = record {
   allowed = refl;
-  grounds = (0x08, refl, omega arith, λ high. absurd (omega (arith, high)));
+  grounds = (0x08, inl refl, omega arith, λ high. absurd (omega (arith, high)));
   let_go = λ unit named gone. cc;
 }
 
 pub not_opened_where_it_ends_before : WhenKept empty (Kept (Opened 5) ∷ begun) (world_with false 0x07 0xFF 0x00 0xFF)
     → ⊥
-not_opened_where_it_ends_before kept = by kept.grounds.0 kept.grounds.1 kept.grounds.2 where
+not_opened_where_it_ends_before kept = by kept.grounds.0 (unlost 5 1 0 _ _ kept.grounds.1) kept.grounds.2 where
   by : (last : ℕ) → Some 0x07 ≡ Some last → 8 ≤ last → ⊥
   by last shows reaches = let is : last ≡ 0x07 = cc in omega (arith, is, reaches)
 
@@ -216,10 +244,10 @@ not_opened_at_another_unit kept = omega (arith, kept.allowed)
 
 pub short_where_it_ends_before : WhenKept empty (Kept (Ended Short) ∷ begun) (world_with false 0x07 0xFF 0x00 0xFF)
 short_where_it_ends_before =
-    record { allowed = tt; grounds = (0x07, refl, omega arith); let_go = λ unit named gone. cc }
+    record { allowed = tt; grounds = (0x07, inl refl, omega arith); let_go = λ unit named gone. cc }
 
 pub not_short_where_it_reaches : WhenKept empty (Kept (Ended Short) ∷ begun) (world_with false 0x08 0xFF 0x00 0xFF) → ⊥
-not_short_where_it_reaches kept = by kept.grounds.0 kept.grounds.1 kept.grounds.2 where
+not_short_where_it_reaches kept = by kept.grounds.0 (unlost 5 1 0 _ _ kept.grounds.1) kept.grounds.2 where
   by : (last : ℕ) → Some 0x08 ≡ Some last → last < 8 → ⊥
   by last shows ends = let is : last ≡ 0x08 = cc in omega (arith, is, ends)
 
@@ -227,7 +255,7 @@ pub format_where_it_is_another : WhenKept empty (Kept (Ended Format) ∷ third_b
     (world_with false 0x77 0xFF 0x01 0xFF)
 format_where_it_is_another = record {
   allowed = tt;
-  grounds = (0x01, 0x03, refl, refl, omega arith, λ is. omega (arith, is.0));
+  grounds = (0x01, 0x03, inl refl, inl refl, omega arith, λ is. omega (arith, is.0));
   let_go = λ unit named gone. cc;
 }
 
@@ -235,26 +263,26 @@ pub not_format_where_it_is_0003 : WhenKept empty (Kept (Ended Format) ∷ third_
     (world_with false 0x77 0xFF 0x00 0xFF)
     → ⊥
 not_format_where_it_is_0003 kept =
-    let high = kept.grounds.2 in
-    let low = kept.grounds.3 in
+    let high = unlost 5 1 0x11 _ _ kept.grounds.2 in
+    let low = unlost 5 1 0x12 _ _ kept.grounds.3 in
     kept.grounds.5 (cc, cc)
 
 pub done_where_all_is_there : WhenKept empty (Kept (Ended Done) ∷ opened) after
 done_where_all_is_there = record {
   allowed = tt;
-  grounds = (refl, (refl, (refl, (refl, (refl, (refl, (refl, tt)))))));
+  grounds = (inl refl, (inl refl, (inl refl, (inl refl, (inl refl, (inl refl, (inl refl, tt)))))));
   let_go = off_at_5 after (standings.Opened first_order) (Ended Done) refl refl;
 }
 
 pub not_done_with_a_byte_missing : WhenKept empty (Kept (Ended Done) ∷ opened) before → ⊥
 not_done_with_a_byte_missing kept =
-    let written : IsWritten (Holds before 5) first_order.updates = kept.grounds in
-    omega (arith, ap (λ (byte : Option ℕ). or_none byte) written.1.1.1.1.1.1.0)
+    let written : IsWritten (Holds [] before 5) first_order.updates = kept.grounds in
+    omega (arith, ap (λ (byte : Option ℕ). or_none byte) (unlost 5 1 8 _ _ written.1.1.1.1.1.1.0))
 
 pub not_done_where_unlocked : WhenKept empty (Kept (Ended Done) ∷ opened) (world_with false 0x77 0x55 0x00 0xAB) → ⊥
 not_done_where_unlocked kept =
-    let written : IsWritten (Holds (world_with false 0x77 0x55 0x00 0xAB) 5) first_order.updates = kept.grounds in
-    omega (arith, ap (λ (byte : Option ℕ). or_none byte) written.0)
+    let written : IsWritten (Holds [] (world_with false 0x77 0x55 0x00 0xAB) 5) first_order.updates = kept.grounds in
+    omega (arith, ap (λ (byte : Option ℕ). or_none byte) (unlost 5 1 2 _ _ written.0))
 
 pub not_done_where_enabled : WhenKept empty (Kept (Ended Done) ∷ opened) (world_with true 0x77 0xFF 0x00 0xAB) → ⊥
 not_done_where_enabled kept = let is : true ≡ false = kept.let_go 5 refl refl in cc
@@ -263,7 +291,7 @@ not_done_where_enabled kept = let is : true ≡ false = kept.let_go 5 refl refl 
 pub doubt_where_not_enabled : WhenKept empty (Kept (Ended Doubt) ∷ opened) before
 doubt_where_not_enabled = record {
   allowed = tt;
-  grounds = (0x00, 0x77, refl);
+  grounds = (0x00, 0x77, inl refl);
   let_go = off_at_5 before (standings.Opened first_order) (Ended Doubt) refl refl;
 }
 
@@ -271,7 +299,8 @@ pub not_doubt_where_enabled : WhenKept empty (Kept (Ended Doubt) ∷ opened) ena
 not_doubt_where_enabled kept = let is : true ≡ false = kept.let_go 5 refl refl in cc
 
 pub not_doubt_without_the_unit : WhenKept empty (Kept (Ended Doubt) ∷ opened) (λ address. None) → ⊥
-not_doubt_without_the_unit kept = let none : None ≡ Some kept.grounds.1 = kept.grounds.2 in cc
+not_doubt_without_the_unit kept =
+    let none : None ≡ Some kept.grounds.1 = unlost 5 1 kept.grounds.0 _ _ kept.grounds.2 in cc
 
 -- a unit that is left may be enabled
 pub left_where_enabled : WhenKept empty (Kept (Ended DoubtOpen) ∷ opened) enabled_world
@@ -280,7 +309,7 @@ left_where_enabled = record { allowed = tt; grounds = tt; let_go = λ unit named
 pub closed_where_not_enabled : WhenKept left_open (Kept (Closed 5) ∷ []) before
 closed_where_not_enabled = record {
   allowed = refl;
-  grounds = (0x00, 0x77, refl);
+  grounds = (0x00, 0x77, inl refl);
   let_go = off_at_5 before (standings.Left 5) (Closed 5) refl refl;
 }
 
@@ -288,12 +317,16 @@ pub not_closed_where_enabled : WhenKept left_open (Kept (Closed 5) ∷ []) enabl
 not_closed_where_enabled kept = let is : true ≡ false = kept.let_go 5 refl refl in cc
 
 pub not_closed_without_the_unit : WhenKept left_open (Kept (Closed 5) ∷ []) (λ address. None) → ⊥
-not_closed_without_the_unit kept = let none : None ≡ Some kept.grounds.1 = kept.grounds.2 in cc
+not_closed_without_the_unit kept =
+    let none : None ≡ Some kept.grounds.1 = unlost 5 1 kept.grounds.0 _ _ kept.grounds.2 in cc
 
 pub not_closed_where_none_is_left : WhenKept empty (Kept (Closed 5) ∷ []) before → ⊥
 not_closed_where_none_is_left kept = kept.allowed
 
 -- What a happening does to a world: keeping a record does nothing
+
+pub changed_by_a_loss_of_power : Moves enabled_world (Powered 5) enabled_world → ⊥
+changed_by_a_loss_of_power loses = let off : true ≡ false = loses.there.off in cc
 
 pub not_changed_by_a_record : Moves before (Kept (Opened 5)) enabled_world → ⊥
 not_changed_by_a_record moves = let same : true ≡ false = ap (λ (now : World). is_enabled now 5) moves in cc

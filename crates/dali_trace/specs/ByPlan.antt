@@ -1,9 +1,9 @@
 -- Which traces keep to the plans of their sessions: each frame is the one that the session at hand asks for after the
 -- frames that it was told of, and each record and saying is what its end asks for.
 --
--- So each frame belongs to a try of a checked step, a try ends at its first miss or with its last frame, and a step
--- has a further try exactly where its last one ended in a miss and it has had fewer than eight. A stop cuts off the
--- try at hand, and the session begins anew.
+-- So each frame belongs to a try of a checked access, a try ends at its first miss or with its last frame, and an
+-- access has a further try exactly where its last one ended in a miss and it has had fewer than eight. A stop cuts off
+-- the try at hand, and the session begins anew.
 use Rattle.std.specs.Prelude.{List, [], ◌∷◌}
 use Rattle.dali_journal.specs.declared.record.Record.TheVariants.{Began}
 use Rattle.dali_journal.specs.declared.standing.Standing.{Standing}

@@ -1,10 +1,11 @@
 -- What a journal promises of a world. The start world is called zero.
-use Rattle.std.specs.Prelude.{◌≡◌, ◌⊎◌, ℕ, true, List, [], ◌∷◌, Some, is_some}
+use Rattle.std.specs.Prelude.{◌≡◌, ◌≤◌, ◌⊎◌, ℕ, true, List, [], ◌∷◌, Some, is_some}
 use Rattle.dali_bus.specs.World.{World, byte_at, is_enabled}
 use Rattle.dali_journal.specs.declared.record.Record.{Record}
 use Rattle.dali_journal.specs.declared.record.Record.TheVariants.{Opened}
 use Rattle.dali_journal.specs.Sentence.{standing_of, named_unit}
 use Rattle.dali_journal.specs.Orders.{orders_of}
+use Rattle.dali_write.specs.Worlds.{IsAmong, MayRelock}
 use Rattle.dali_trace.specs.Possible.{IsPossible, IsSettled, applied}
 
 -- a unit was opened
@@ -17,8 +18,12 @@ HasBeenOpened address (other ∷ older) = HasBeenOpened address older
 abbrev pub IsLockByte : ℕ → ℕ → Type 0
 IsLockByte bank location = (bank ≡ 1) × (location ≡ 2)
 
--- a world fits a start world and the records
-pub record Fits (zero : World) (records : List Record) (now : World) : Type 0 where
+-- the lock bytes of the banks from 2 up are FFh, as after power-up: no loss of power changes them
+abbrev pub IsLockedAbove : World → Type 0
+IsLockedAbove world = (address bank byte : ℕ) → 2 ≤ bank → byte_at world address bank 2 ≡ Some byte → byte ≡ 0xFF
+
+-- a world fits a start world and the records, where these units have lost their power
+pub record Fits (zero : World) (records : List Record) (lost : List ℕ) (now : World) : Type 0 where
   -- it has the same places
   pub places : (address bank location : ℕ)
       → is_some (byte_at now address bank location) ≡ is_some (byte_at zero address bank location)
@@ -26,8 +31,9 @@ pub record Fits (zero : World) (records : List Record) (now : World) : Type 0 wh
   pub bytes : (address bank location first byte : ℕ) → (IsLockByte bank location → ⊥)
       → byte_at zero address bank location ≡ Some first
       → byte_at now address bank location ≡ Some byte → IsPossible first address bank location (orders_of records) byte
-  -- the lock byte of a unit that was never opened is as it was
-  pub locks : (address : ℕ) → (HasBeenOpened address records → ⊥) → byte_at now address 1 2 ≡ byte_at zero address 1 2
+  -- the lock byte of a unit that was never opened is as it was, or FFh where the unit has lost its power
+  pub locks : (address : ℕ) → (HasBeenOpened address records → ⊥)
+      → MayRelock (IsAmong lost address) 1 2 (byte_at zero address 1 2) (byte_at now address 1 2)
 
 -- no unit is enabled but the one that the records name
 abbrev pub OnlyNamed : List Record → World → Type 0

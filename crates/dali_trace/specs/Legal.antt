@@ -13,11 +13,11 @@ use Rattle.dali_journal.specs.declared.standing.Standing.TheVariants as standing
 use Rattle.dali_journal.specs.Sentence.{named_unit, IsSentenceWithin}
 use Rattle.dali_journal.specs.Orders.{orders_of}
 use Rattle.dali_write.specs.Worlds.{Selects}
-use Rattle.dali_write.specs.Reads.{ReadStands, HasRead}
+use Rattle.dali_write.specs.Reads.{StillRead, HasRead}
 use Rattle.dali_trace.specs.declared.happening.Reply.{Reply}
 use Rattle.dali_trace.specs.declared.happening.Reply.TheVariants as replies
 use Rattle.dali_trace.specs.declared.happening.Happening.{Happening}
-use Rattle.dali_trace.specs.declared.happening.Happening.TheVariants.{Asked, Answered, Sent, Kept, Stopped}
+use Rattle.dali_trace.specs.declared.happening.Happening.TheVariants.{Asked, Answered, Sent, Kept, Stopped, Powered}
 use Rattle.dali_trace.specs.Trace.{Start, records_of, standing_at, sent_of, sent_since_taken, waiting, has_ended}
 use Rattle.dali_trace.specs.Replies.{IsReply}
 use Rattle.dali_trace.specs.Grounds.{Grounds}
@@ -74,7 +74,7 @@ IsDue past other = Unit {0}
 pub record MayKeep (start : Start) (past : List Happening) (entry : Record) : Type 0 where
   pub whole : IsSentenceWithin start.limit (entry ∷ records_of start past)
   pub due : IsDue past entry
-  pub grounds : Grounds (ReadStands (sent_of past)) (standing_at start past) entry
+  pub grounds : Grounds (StillRead (sent_of past)) (standing_at start past) entry
 
 -- Sayings
 
@@ -106,6 +106,7 @@ MayHappen start past (Answered id reply) = MaySay start past id reply
 MayHappen start past (Sent frame answer) = MaySend past (standing_at start past) frame
 MayHappen start past (Kept entry) = MayKeep start past entry
 MayHappen start past Stopped = Unit {0}
+MayHappen start past (Powered address) = Unit {0}
 
 -- an order is followed at once by its reply
 abbrev pub Replies : Start → List Happening → Contents → Happening → Type 0

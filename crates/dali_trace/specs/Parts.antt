@@ -10,10 +10,10 @@ use Rattle.dali_write.specs.Exchanges.{Exchange}
 use Rattle.dali_write.specs.declared.ask.Ask.TheVariants as asks
 use Rattle.dali_write.specs.declared.ask.Verdict.{Verdict}
 use Rattle.dali_trace.specs.declared.happening.Event.{Event}
-use Rattle.dali_trace.specs.declared.happening.Event.TheVariants.{Submit, Step, Stop}
+use Rattle.dali_trace.specs.declared.happening.Event.TheVariants.{Submit, Step, Stop, Power}
 use Rattle.dali_trace.specs.declared.happening.Reply.{Reply}
 use Rattle.dali_trace.specs.declared.happening.Happening.{Happening}
-use Rattle.dali_trace.specs.declared.happening.Happening.TheVariants.{Asked, Answered, Sent, Kept, Stopped}
+use Rattle.dali_trace.specs.declared.happening.Happening.TheVariants.{Asked, Answered, Sent, Kept, Stopped, Powered}
 use Rattle.dali_trace.specs.Trace.{Start, standing_at, waiting, is_busy}
 use Rattle.dali_trace.specs.Grounds.{EndsIn}
 use Rattle.dali_trace.specs.ByPlan.{told_in, Asks}
@@ -45,7 +45,7 @@ IsKeptNext start past entry = NextRecord (standing_at start past) (waiting past)
 
 -- The part of one event, from the trace before it to the trace after it. A Submit adds the order and its reply. A
 -- Step adds one piece of work where the trace is busy, else nothing. A Stop adds Stopped, and before it the record
--- that is to be kept next exactly where there is one, and all its bytes reached the journal.
+-- that is to be kept next exactly where there is one, and all its bytes reached the journal. A Power adds Powered.
 abbrev pub Part : Start → Event → List Happening → List Happening → Type 0
 Part start (Submit order) before after = (reply : Reply) × (after ≡ Answered order.id reply ∷ Asked order ∷ before)
 Part start Step before after =
@@ -55,6 +55,7 @@ Part start (Stop bytes) before after =
     ((after ≡ Stopped ∷ before) × ((entry : Record) → IsKeptNext start before entry → bytes < length (spelling entry)))
     ⊎ ((entry : Record) × IsKeptNext start before entry × (length (spelling entry) ≤ bytes)
     × (after ≡ Stopped ∷ Kept entry ∷ before))
+Part start (Power address) before after = after ≡ Powered address ∷ before
 
 -- the trace is the parts of these events
 abbrev pub AreParts : Start → List Event → List Happening → Type 0

@@ -1,6 +1,6 @@
 -- Over the simulated bus: what is lost of an order's frames since its start, and how an order ends that loses little.
-use Rattle.std.specs.Prelude.{◌≡◌, ◌<◌, ◌≤◌, ℕ, ◌+◌, Bool, false, ◌||◌, ◌==◌, nat_lt, List, [], ◌∷◌, Option, Some, None}
-use Rattle.std.specs.Prelude.{slice_index, reverse, if◌then◌else◌}
+use Rattle.std.specs.Prelude.{◌≡◌, ◌≢◌, ◌<◌, ◌≤◌, ℕ, ◌+◌, Bool, false, ◌||◌, ◌==◌, nat_lt, List, [], ◌∷◌, Option, Some}
+use Rattle.std.specs.Prelude.{None, slice_index, reverse, if◌then◌else◌}
 use Rattle.std.specs.List.{list_any}
 use Rattle.dali_frame.specs.declared.forward.Frame.{Frame}
 use Rattle.dali_bank.specs.Order.{Contents}
@@ -19,9 +19,10 @@ use Rattle.dali_write.specs.Misses.{misses_in}
 use Rattle.dali_trace.specs.declared.happening.Reply.TheVariants as replies
 use Rattle.dali_trace.specs.declared.happening.Event.{Event}
 use Rattle.dali_trace.specs.declared.happening.Happening.{Happening}
-use Rattle.dali_trace.specs.declared.happening.Happening.TheVariants.{Asked, Answered, Sent, Stopped}
+use Rattle.dali_trace.specs.declared.happening.Happening.TheVariants.{Asked, Answered, Sent, Stopped, Powered}
 use Rattle.dali_journal.specs.Sentence.{named_unit}
 use Rattle.dali_trace.specs.Trace.{Start, sent_since_taken, is_at_work}
+use Rattle.dali_trace.specs.Fits.{IsLockedAbove}
 use Rattle.dali_trace.specs.Moves.{MovesBy}
 use Rattle.dali_trace.specs.Runs.{fresh, IsRun}
 use Rattle.dali_trace.specs.Work.{stood_at, order_at_hand}
@@ -61,6 +62,15 @@ UnrefusedSince (Sent frame answer ∷ past) (state ∷ states) =
 UnrefusedSince (other ∷ past) (state ∷ states) = UnrefusedSince past states
 UnrefusedSince (other ∷ past) [] = Unit {0}
 
+-- neither the unit nor the left one has lost its power since then
+abbrev pub KeepsPowerSince : ℕ → Option ℕ → List Happening → Type 0
+KeepsPowerSince unit left [] = Unit {0}
+KeepsPowerSince unit left (Answered id replies.Taken ∷ past) = Unit {0}
+KeepsPowerSince unit left (Stopped ∷ past) = Unit {0}
+KeepsPowerSince unit left (Powered address ∷ past) =
+    (address ≢ unit) × (left ≢ Some address) × KeepsPowerSince unit left past
+KeepsPowerSince unit left (other ∷ past) = KeepsPowerSince unit left past
+
 -- how an order of these updates is to end where bank 1 has these bytes: Short where it ends before the greatest
 -- location, Format where an update is at 13h or above and the content format isn't 0003h, else Done
 abbrev pub due_code : List ℕ → List (ℕ × ℕ) → Code
@@ -75,15 +85,16 @@ abbrev pub NoneFixed : BankState → List (ℕ × ℕ) → Type 0
 NoneFixed bank [] = Unit {0}
 NoneFixed bank (update ∷ updates) = (list_any (λ fixed. fixed == update.0) bank.fixed ≡ false) × NoneFixed bank updates
 
--- What is said of an order that was taken, with no stop since. Where its unit is on the bus, no fate refuses and
--- little is lost: how it is to end, if none of its locations is fixed where they are to be written; and the misses
--- are no more than the losses.
+-- What is said of an order that was taken, with no stop since. Where its unit is on the bus, its unit and a left one
+-- keep their power, no fate refuses and little is lost: how it is to end, if none of its locations is fixed where they
+-- are to be written; and the misses are no more than the losses.
 abbrev pub IsSpared : Start → List Happening → SimState → List SimState → Type 0
 IsSpared start (Answered id reply ∷ Asked order ∷ past) last states = Unit {0}
 IsSpared start (Answered id reply ∷ past) last (state ∷ states) =
     (order : Contents) (bank : BankState) → order_at_hand start past ≡ Some order
     → is_at_work (stood_at start past) ≡ false
     → HasBank order.unit bank (state_at_start past state states).units → UnrefusedSince past states
+    → KeepsPowerSince order.unit (named_unit (stood_at start past)) past
     → losses_since order.unit (named_unit (stood_at start past)) past states < most_tries
     → (due_code bank.bytes order.updates ≡ codes.Done → NoneFixed bank order.updates)
     → (reply ≡ replies.Kept (due_code bank.bytes order.updates))
@@ -99,12 +110,13 @@ AtEachState holds (next ∷ past) last (state ∷ states) =
 AtEachState holds [] last (state ∷ states) = ⊥
 AtEachState holds (next ∷ past) last [] = ⊥
 
--- a chain of the simulated bus leads along the trace, and where no unit was enabled at first, what is said along it
--- is so
+-- a chain of the simulated bus leads along the trace, and where no unit was enabled at first and the lock bytes of the
+-- banks from 2 up were FFh, what is said along it is so
 pub record LeadsSpared (limit : ℕ) (first : SimState) (past : List Happening) (last : SimState) : Type 0 where
   pub states : List SimState
   pub chain : IsChain (MovesBy SimStep) first past last states
-  pub spared : NoneEnabled (world_of first.units) → AtEachState (IsSpared (fresh limit)) past last states
+  pub spared : NoneEnabled (world_of first.units) → IsLockedAbove (world_of first.units)
+      → AtEachState (IsSpared (fresh limit)) past last states
 
 -- What a run of these events over the simulated bus is: all that a run over any bus is, and what is said along it
 -- where little is lost.

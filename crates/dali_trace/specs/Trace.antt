@@ -11,7 +11,7 @@ use Rattle.dali_write.specs.Exchanges.{Exchange}
 use Rattle.dali_trace.specs.declared.happening.Reply.{Reply}
 use Rattle.dali_trace.specs.declared.happening.Reply.TheVariants as replies
 use Rattle.dali_trace.specs.declared.happening.Happening.{Happening}
-use Rattle.dali_trace.specs.declared.happening.Happening.TheVariants.{Asked, Answered, Sent, Kept, Stopped}
+use Rattle.dali_trace.specs.declared.happening.Happening.TheVariants.{Asked, Answered, Sent, Kept, Stopped, Powered}
 
 -- what a trace starts from: the records of a journal, the newest first, and the most orders that it may hold
 pub record Start : Type 0 where
@@ -42,6 +42,12 @@ sent_since_taken (Sent frame answer ∷ past) = record { frame = frame; answer =
 sent_since_taken (Answered id replies.Taken ∷ past) = []
 sent_since_taken (Stopped ∷ past) = []
 sent_since_taken (other ∷ past) = sent_since_taken past
+
+-- the units that have lost their power by now, where these had before
+abbrev pub powered_of : List ℕ → List Happening → List ℕ
+powered_of before [] = before
+powered_of before (Powered address ∷ past) = address ∷ powered_of before past
+powered_of before (other ∷ past) = powered_of before past
 
 -- What is still to be said since the last stop.
 pub data Course : Type 0 where

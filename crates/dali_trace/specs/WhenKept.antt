@@ -1,17 +1,20 @@
 -- What is so in the world when a record is kept.
-use Rattle.std.specs.Prelude.{◌≡◌, ℕ, false, List, ◌∷◌, Some, None}
+use Rattle.std.specs.Prelude.{◌≡◌, ℕ, false, List, [], ◌∷◌, Some, None}
 use Rattle.dali_bus.specs.World.{World, byte_at, is_enabled}
 use Rattle.dali_journal.specs.declared.record.Record.{Record}
 use Rattle.dali_journal.specs.declared.standing.Standing.{Standing}
 use Rattle.dali_journal.specs.Sentence.{Allows, next_standing, named_unit}
+use Rattle.dali_write.specs.Worlds.{IsAmong, MayRelock}
 use Rattle.dali_trace.specs.declared.happening.Happening.{Happening}
 use Rattle.dali_trace.specs.declared.happening.Happening.TheVariants.{Kept}
-use Rattle.dali_trace.specs.Trace.{Start, standing_at}
+use Rattle.dali_trace.specs.Trace.{Start, standing_at, powered_of}
 use Rattle.dali_trace.specs.Grounds.{Grounds}
 
--- the unit's location in bank 1 holds the byte
-abbrev pub Holds : World → ℕ → ℕ → ℕ → Type 0
-Holds now unit location byte = byte_at now unit 1 location ≡ Some byte
+-- the unit's location in bank 1 holds the byte, or is the lock byte of one of these units, which have lost their power,
+-- and FFh since then
+abbrev pub Holds : List ℕ → World → ℕ → ℕ → ℕ → Type 0
+Holds lost now unit location byte =
+    MayRelock (IsAmong lost unit) 1 location (Some byte) (byte_at now unit 1 location)
 
 -- a unit that the records name no more, once this one is kept, isn't enabled: that of an order which ends as Done or
 -- Doubt, and a left one that is closed
@@ -20,14 +23,14 @@ IsLetGo now stands entry =
     (unit : ℕ) → named_unit stands ≡ Some unit → named_unit (next_standing stands entry) ≡ None
     → is_enabled now unit ≡ false
 
--- what is so when this record is kept where the records stand so: it may come there, what it rests on is so, and the
--- unit that it lets go isn't enabled
-pub record TellsTruth (now : World) (stands : Standing) (entry : Record) : Type 0 where
+-- what is so when this record is kept where the records stand so and these units have lost their power: it may come
+-- there, what it rests on is so, and the unit that it lets go isn't enabled
+pub record TellsTruth (lost : List ℕ) (now : World) (stands : Standing) (entry : Record) : Type 0 where
   pub allowed : Allows stands entry
-  pub grounds : Grounds (Holds now) stands entry
+  pub grounds : Grounds (Holds lost now) stands entry
   pub let_go : IsLetGo now stands entry
 
 -- the record that was just kept, if one was, is true
 abbrev pub WhenKept : Start → List Happening → World → Type 0
-WhenKept start (Kept entry ∷ past) now = TellsTruth now (standing_at start past) entry
+WhenKept start (Kept entry ∷ past) now = TellsTruth (powered_of [] past) now (standing_at start past) entry
 WhenKept start other now = Unit {0}

@@ -58,8 +58,8 @@ FindsAnother order sent =
     × FoundAnother order.unit (unlock order.updates) (read_backs order.updates) told
 
 -- What earns an order its code, among the frames from its start on. Done: exactly so many, and for each miss at most
--- those of a try more. Silent: the last step, which read the length or the content format, failed. DoubtOpen: the
--- last step, which read the lock byte, failed. Doubt: a step failed, or another byte was found.
+-- those of a try more. Silent: the last access, which read the length or the content format, failed. DoubtOpen: the
+-- last access, which read the lock byte, failed. Doubt: an access failed, or another byte was found.
 -- (What Done, Short, Format and Doubt besides rest on, checked reads, is a rule of legal traces.)
 abbrev pub IsEarned : Standing → Contents → Code → List Exchange → Type 0
 IsEarned first order codes.Done sent = IsLong (frames_from first order.updates) sent

@@ -5,6 +5,7 @@ use Rattle.dali_frame.specs.declared.forward.Frame.TheVariants.{Dtr0, Dtr1, Writ
 use Rattle.dali_frame.specs.declared.forward.Frame.TheVariants.{AskDtr1, Read}
 use Rattle.dali_bank.specs.Order.{Contents}
 use Rattle.dali_bus.specs.World.{Gear, World, Memory}
+use Rattle.dali_bus.specs.Hears.{up}
 use Rattle.dali_journal.specs.declared.record.Code.TheVariants.{Done, Short, Format, Silent, Doubt, DoubtOpen}
 use Rattle.dali_journal.specs.declared.record.Record.TheVariants.{Began, Opened, Ended, Closed}
 use Rattle.dali_trace.specs.declared.happening.Reply.TheVariants as replies
@@ -21,7 +22,9 @@ select_at unit location past =
 
 -- a checked read more, answered by the byte
 abbrev pub read_at : ℕ → ℕ → ℕ → List Happening → List Happening
-read_at unit location byte past = Sent (Read unit) (Some byte) ∷ select_at unit location past
+read_at unit location byte past =
+    Sent (AskDtr1 unit) (Some 1) ∷ Sent (AskDtr0 unit) (Some (up location)) ∷ Sent (Read unit) (Some byte)
+    ∷ select_at unit location past
 
 -- two frames more that enable the unit
 abbrev pub enable_twice : ℕ → List Happening → List Happening
@@ -119,7 +122,7 @@ alone gear address = if address == 5 then Some gear else None
 abbrev pub GoesAlong : Type 0
 GoesAlong =
     (last : Gear) × (states : List World)
-    × Along (alone blank_unit) empty (alone blank_unit) first_carried_out (alone last) states
+    × Along (alone blank_unit) [] empty (alone blank_unit) first_carried_out (alone last) states
     × ((last.dtr0 ≡ 0x09) × (last.dtr1 ≡ 0x01) × (last.enabled ≡ false))
     × ((last.memory 1 0x02 ≡ Some 0xFF) × (last.memory 1 0x03 ≡ Some 0x03) × (last.memory 1 0x04 ≡ Some 0xA4)
     × (last.memory 1 0x05 ≡ Some 0xCE)
@@ -169,6 +172,11 @@ enabled_before_opened = Sent (Enable 5) None ∷ measured
 -- opened with the length not read
 abbrev pub opened_unread : List Happening
 opened_unread = Kept (Opened 5) ∷ begun
+
+-- Short by a byte that was read, with DTR1 not asked back behind it
+abbrev pub short_after_six_frames : List Happening
+short_after_six_frames =
+    Kept (Ended Short) ∷ Sent (AskDtr0 5) (Some 0x01) ∷ Sent (Read 5) (Some 0x02) ∷ select_at 5 0x00 begun
 
 -- Done by the answers to the writes, with nothing read back
 abbrev pub done_unread : List Happening

@@ -4,7 +4,7 @@ use Rattle.dali_frame.specs.declared.forward.Frame.{Frame}
 use Rattle.dali_frame.specs.declared.forward.Frame.TheVariants.{Dtr1}
 use Rattle.dali_bank.specs.Order.{Contents}
 use Rattle.dali_gear.specs.Fate.{whole, next_fate, fates_after}
-use Rattle.dali_gear.specs.SimState.{SimState, SimStep, unit_after, world_of}
+use Rattle.dali_gear.specs.SimState.{SimState, SimStep, unit_after, unit_powered, world_of}
 use Rattle.dali_bus.specs.Chain.{IsChain}
 use Rattle.dali_bus.specs.Unenabled.{NoneEnabled}
 use Rattle.dali_gear.specs.UnitState.{BankState, new_unit}
@@ -16,14 +16,16 @@ use Rattle.dali_write.specs.Successes.{HasBank}
 use Rattle.dali_trace.specs.declared.happening.Reply.{Reply}
 use Rattle.dali_trace.specs.declared.happening.Reply.TheVariants as replies
 use Rattle.dali_trace.specs.declared.happening.Happening.{Happening}
-use Rattle.dali_trace.specs.declared.happening.Happening.TheVariants.{Answered, Sent, Kept}
+use Rattle.dali_trace.specs.declared.happening.Happening.TheVariants.{Answered, Sent, Kept, Powered}
 use Rattle.dali_trace.specs.Trace.{Start, sent_since_taken, is_at_work}
 use Rattle.dali_trace.specs.Legal.{Legal}
 use Rattle.dali_trace.specs.ByPlan.{ByPlan}
+use Rattle.dali_trace.specs.Fits.{IsLockedAbove}
 use Rattle.dali_trace.specs.Moves.{MovesBy}
 use Rattle.dali_trace.specs.Runs.{fresh}
 use Rattle.dali_trace.specs.Work.{stood_at, order_at_hand}
-use Rattle.dali_trace.specs.Spared.{state_at_start, losses_since, UnrefusedSince, due_code, NoneFixed, IsSpared}
+use Rattle.dali_trace.specs.Spared.{state_at_start, losses_since, UnrefusedSince, KeepsPowerSince, due_code, NoneFixed}
+use Rattle.dali_trace.specs.Spared.{IsSpared}
 use Rattle.dali_trace.specs.Worked.{read_at, read_try, taken, third_order, third_begun}
 
 -- a bus whose next frame is lost to the units of these bits, and one whose next frame is refused
@@ -54,19 +56,20 @@ fixed_beside = record { bytes = []; fixed = 0x07 ∷ 0x0A ∷ [] }
 abbrev pub fixed_there : BankState
 fixed_there = record { bytes = []; fixed = 0x07 ∷ 0x09 ∷ [] }
 
--- An order that ends Short after one answer was lost: the bus, with a bank of 17 bytes at address 5, and the trace
+-- An order that ends Short after one answer was lost and another unit lost its power: the bus, with a bank of 17 bytes
+-- at address 5 and another one at 6, and the trace
 
 abbrev pub short_bank : BankState
 short_bank = record { bytes = 0x10 ∷ replicate 0x10 0xFF; fixed = [] }
 
 abbrev pub short_bus : SimState
 short_bus = record {
-  units = new_unit 5 (0x10 ∷ replicate 0x10 0xFF) [] ∷ [];
+  units = new_unit 5 (0x10 ∷ replicate 0x10 0xFF) [] ∷ new_unit 6 (0x10 ∷ replicate 0x10 0xFF) [] ∷ [];
   fates = whole ∷ record whole { answer_lost = true } ∷ [];
 }
 
 abbrev pub short_sent : List Happening
-short_sent = Kept (Ended codes.Short) ∷ read_at 5 0x00 0x10 (read_try third_begun)
+short_sent = Kept (Ended codes.Short) ∷ read_at 5 0x00 0x10 (Powered 6 ∷ read_try third_begun)
 
 abbrev pub short_said : List Happening
 short_said = Answered 3 (replies.Kept codes.Short) ∷ short_sent
@@ -77,6 +80,9 @@ bus_after first [] = first
 bus_after first (Sent frame answer ∷ past) =
     let old = bus_after first past in
     record { units = map (unit_after (next_fate old.fates) frame) old.units; fates = fates_after old.fates }
+bus_after first (Powered address ∷ past) =
+    let old = bus_after first past in
+    record { units = map (unit_powered address) old.units; fates = old.fates }
 bus_after first (other ∷ past) = bus_after first past
 
 abbrev pub buses_along : SimState → List Happening → List SimState
@@ -88,11 +94,12 @@ abbrev pub MeetsAll : Type 0
 MeetsAll =
     Legal (fresh 10) short_said × ByPlan (fresh 10) short_said
     × IsChain (MovesBy SimStep) short_bus short_said (bus_after short_bus short_said) (buses_along short_bus short_said)
-    × NoneEnabled (world_of short_bus.units) × (order_at_hand (fresh 10) short_sent ≡ Some third_order)
+    × NoneEnabled (world_of short_bus.units) × IsLockedAbove (world_of short_bus.units)
+    × (order_at_hand (fresh 10) short_sent ≡ Some third_order)
     × (is_at_work (stood_at (fresh 10) short_sent) ≡ false)
     × HasBank 5 short_bank
     (state_at_start short_sent (bus_after short_bus short_sent) (buses_along short_bus short_sent)).units
-    × UnrefusedSince short_sent (buses_along short_bus short_sent)
+    × UnrefusedSince short_sent (buses_along short_bus short_sent) × KeepsPowerSince 5 None short_sent
     × (losses_since 5 None short_sent (buses_along short_bus short_sent) ≡ 1)
     × (misses_in (sent_since_taken short_sent) ≡ 1) × (due_code short_bank.bytes third_order.updates ≡ codes.Short)
 
@@ -106,6 +113,7 @@ SparesSeven =
     → is_at_work (stood_at start (Sent frame answer ∷ older)) ≡ false
     → HasBank order.unit bank (state_at_start (Sent frame answer ∷ older) state states).units
     → UnrefusedSince (Sent frame answer ∷ older) states
+    → KeepsPowerSince order.unit (named_unit (stood_at start (Sent frame answer ∷ older))) (Sent frame answer ∷ older)
     → losses_since order.unit (named_unit (stood_at start (Sent frame answer ∷ older)))
     (Sent frame answer ∷ older) states
     ≡ 7

@@ -58,6 +58,9 @@ pub enum Happening {
     Kept(Record),
     /// The program was stopped, and began anew from its journal.
     Stopped,
+    /// The unit at this address lost its power and got it back. Where there is none, as over 63,
+    /// nothing changed.
+    Powered(u8),
 }
 
 /// What is to be done (profile).
@@ -71,6 +74,8 @@ pub enum Event {
     /// Stop the program: of the record that is to be kept next, if there is one, the first so many
     /// bytes reach the journal, or all. It goes on from the journal that is loaded from these bytes.
     Stop(u16),
+    /// The unit at this address loses its power and gets it back. The program doesn't notice.
+    Power(u8),
 }
 
 /// What a writer wants to be done next (profile).

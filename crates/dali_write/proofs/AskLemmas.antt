@@ -1,20 +1,20 @@
--- What is asked for, by plan and lines alone.
+-- What is asked for, by plan and requests alone.
 use Rattle.std.proofs.Common.{◌≡◌, refl, List, [], ◌∷◌}
-use Rattle.dali_write.specs.declared.line.Line.{Line}
+use Rattle.dali_write.specs.declared.request.Request.{Request}
 use Rattle.dali_write.specs.declared.ask.Ask.{Ask}
 use Rattle.dali_write.specs.declared.ask.Ask.TheVariants.{Send, Ended}
 use Rattle.dali_write.specs.declared.ask.Verdict.TheVariants.{Silent}
-use Rattle.dali_write.specs.Plans.{Plan, Finish, Check}
+use Rattle.dali_write.specs.Plans.{Plan, Finish, Make}
 use Rattle.dali_write.specs.Tries.{GoesOn, ask_at}
 
 -- the same without the proof that there is a next frame; where there is none it is no matter what is asked
-abbrev pub shown_ask : Plan → List Line → Ask
+abbrev pub shown_ask : Plan → List Request → Ask
 shown_ask (Finish verdict) left = Ended verdict
-shown_ask (Check step after) [] = Ended Silent
-shown_ask (Check step after) (next ∷ left) = Send next.frame
+shown_ask (Make access after) [] = Ended Silent
+shown_ask (Make access after) (next ∷ left) = Send next.frame
 
-pub ask_shown : (plan : Plan) (left : List Line) (going : GoesOn plan left)
+pub ask_shown : (plan : Plan) (left : List Request) (going : GoesOn plan left)
     → shown_ask plan left ≡ ask_at plan left going
 ask_shown (Finish verdict) left going = refl
-ask_shown (Check step after) [] going = cc
-ask_shown (Check step after) (next ∷ left) going = refl
+ask_shown (Make access after) [] going = cc
+ask_shown (Make access after) (next ∷ left) going = refl

@@ -3,90 +3,92 @@ use Rattle.std.proofs.Common.{◌≡◌, ◌⊎◌, inl, inr, refl, ap, subst, �
 use Rattle.std.proofs.Common.{nat_lt, if◌then◌else◌, List, [], ◌∷◌, ◌++◌, length, length-append, Option, arith}
 use Rattle.std.proofs.lemmas.Nat.{mul-le}
 use Rattle.dali_write.specs.Exchanges.{Exchange}
-use Rattle.dali_write.specs.declared.line.Line.{Line}
-use Rattle.dali_write.specs.declared.step.Step.{Step}
-use Rattle.dali_write.specs.declared.step.Step.TheVariants.{ReadFrom, WriteTo}
+use Rattle.dali_write.specs.declared.request.Request.{Request}
+use Rattle.dali_write.specs.declared.access.Access.{Access}
+use Rattle.dali_write.specs.declared.access.Access.TheVariants.{ReadFrom, WriteTo}
 use Rattle.dali_write.specs.declared.ask.Verdict.{Verdict}
 use Rattle.dali_write.specs.declared.stage.Job.{Job}
 use Rattle.dali_write.specs.declared.stage.Job.TheVariants.{Fresh, Opened, Closing, Reading}
 use Rattle.dali_write.specs.declared.session.Session.{Session}
-use Rattle.dali_write.specs.Lines.{line, step_lines}
+use Rattle.dali_write.specs.Requests.{request, access_requests}
 use Rattle.dali_write.specs.Frames.{read_frames, write_frames}
-use Rattle.dali_write.specs.Plans.{Plan, Finish, Check, goes_on, plan_after, greatest, read_format, judge_length}
+use Rattle.dali_write.specs.Plans.{Plan, Finish, Make, goes_on, plan_after, greatest, read_format, judge_length}
 use Rattle.dali_write.specs.Plans.{read_length, close, give_up, expect, read_back, read_lock, write_on, unlock, read_on}
-use Rattle.dali_write.specs.Tries.{most_tries, Trying, Missed, Misses, Succeeds, Fails, StepEnds, StepsEnd, plan_lines}
+use Rattle.dali_write.specs.Tries.{most_tries, Trying, Missed, Misses, Succeeds, Fails, AccessEnds, AccessesEnd}
+use Rattle.dali_write.specs.Tries.{plan_requests}
 use Rattle.dali_write.specs.Tries.{Stands}
-use Rattle.dali_write.specs.Counts.{step_limit, TakesAtMost, frame_limit}
+use Rattle.dali_write.specs.Counts.{access_limit, TakesAtMost, frame_limit}
 use Rattle.dali_write.specs.Stages.{plan_of}
 use Rattle.dali_write.specs.Told.{Told}
 use Rattle.dali_write.proofs.ShapeLemmas.{trying_length}
 use Rattle.dali_write.proofs.PlanLemmas.{either_all, if_all}
 
-pub missed_length : (lines : List Line) (tried : List Exchange) → Missed lines tried → length tried ≤ length lines
-missed_length lines [] missed = absurd missed
-missed_length lines (x ∷ tried) missed =
-    let all = trying_length lines tried (line x.frame missed.0 ∷ missed.1) missed.3 in omega arith
+pub missed_length : (requests : List Request) (tried : List Exchange) → Missed requests tried
+    → length tried ≤ length requests
+missed_length requests [] missed = absurd missed
+missed_length requests (x ∷ tried) missed =
+    let all = trying_length requests tried (request x.frame missed.0 ∷ missed.1) missed.3 in omega arith
 
 suc_times : (n k : ℕ) → (suc n) * k ≡ k + n * k
 suc_times n k = omega arith
 
-pub misses_length : (lines : List Line) (misses : ℕ) (told : List Exchange) → Misses lines misses told
-    → length told ≤ misses * length lines
-misses_length lines zero told is = let none = ap (λ (t : List Exchange). length t) is in omega arith
-misses_length lines (suc misses) told is =
-    let newer = missed_length lines is.0 is.3 in
-    let older = misses_length lines misses is.1 is.4 in
+pub misses_length : (requests : List Request) (misses : ℕ) (told : List Exchange) → Misses requests misses told
+    → length told ≤ misses * length requests
+misses_length requests zero told is = let none = ap (λ (t : List Exchange). length t) is in omega arith
+misses_length requests (suc misses) told is =
+    let newer = missed_length requests is.0 is.3 in
+    let older = misses_length requests misses is.1 is.4 in
     let both = ap (λ (t : List Exchange). length t) is.2 in
     let joined = length-append is.0 is.1 in
-    let times = suc_times misses (length lines) in
+    let times = suc_times misses (length requests) in
     omega arith
 
--- a step takes no more than its most tries of its lines
-times_most : (misses lines few more : ℕ) → misses < most_tries → more ≤ misses * lines → few ≤ lines
-    → few + more ≤ most_tries * lines
-times_most misses lines few more below older newer =
-    let most : misses * lines ≤ (most_tries - 1) * lines =
-    mul-le misses lines (most_tries - 1) lines (omega arith) (omega arith) in
+-- an access takes no more than its most tries of its requests
+times_most : (misses requests few more : ℕ) → misses < most_tries → more ≤ misses * requests → few ≤ requests
+    → few + more ≤ most_tries * requests
+times_most misses requests few more below older newer =
+    let most : misses * requests ≤ (most_tries - 1) * requests =
+    mul-le misses requests (most_tries - 1) requests (omega arith) (omega arith) in
     omega arith
 
-limit_lines : (unit : ℕ) (step : Step) → step_limit step ≡ most_tries * length (step_lines unit step)
-limit_lines unit (ReadFrom location) = refl
-limit_lines unit (WriteTo location byte) = refl
+limit_requests : (unit : ℕ) (access : Access) → access_limit access ≡ most_tries * length (access_requests unit access)
+limit_requests unit (ReadFrom location) = refl
+limit_requests unit (WriteTo location byte) = refl
 
-step_length : (unit : ℕ) (step : Step) (outcome : Option ℕ) (told : List Exchange)
-    → Succeeds (step_lines unit step) outcome told ⊎ Fails (step_lines unit step) outcome told
-    → length told ≤ step_limit step
-step_length unit step outcome told (inl done) =
-    let lines = length (step_lines unit step) in
-    let newer : length done.0 ≤ lines =
-    let all = trying_length (step_lines unit step) done.0 [] done.4 in omega arith in
-    let older = misses_length (step_lines unit step) done.2 done.1 done.7 in
+access_length : (unit : ℕ) (access : Access) (outcome : Option ℕ) (told : List Exchange)
+    → Succeeds (access_requests unit access) outcome told ⊎ Fails (access_requests unit access) outcome told
+    → length told ≤ access_limit access
+access_length unit access outcome told (inl done) =
+    let requests = length (access_requests unit access) in
+    let newer : length done.0 ≤ requests =
+    let all = trying_length (access_requests unit access) done.0 [] done.4 in omega arith in
+    let older = misses_length (access_requests unit access) done.2 done.1 done.7 in
     let both = ap (λ (t : List Exchange). length t) done.3 in
     let joined = length-append done.0 done.1 in
-    let limit = limit_lines unit step in
-    let most = times_most done.2 lines (length done.0) (length done.1) done.6 older newer in
+    let limit = limit_requests unit access in
+    let most = times_most done.2 requests (length done.0) (length done.1) done.6 older newer in
     omega arith
-step_length unit step outcome told (inr failed) =
-    let all = misses_length (step_lines unit step) most_tries told failed.1 in
-    let limit = limit_lines unit step in
+access_length unit access outcome told (inr failed) =
+    let all = misses_length (access_requests unit access) most_tries told failed.1 in
+    let limit = limit_requests unit access in
     omega arith
 
 one_takes : (unit : ℕ) (plan : Plan) (outcome : Option ℕ) (newer : List Exchange) (limit : ℕ)
-    → StepEnds unit plan outcome newer → TakesAtMost limit plan
+    → AccessEnds unit plan outcome newer → TakesAtMost limit plan
     → (rest : ℕ) × TakesAtMost rest (goes_on plan outcome) × (length newer + rest ≤ limit)
 one_takes unit (Finish verdict) outcome newer limit ends takes = absurd ends
-one_takes unit (Check step after) outcome newer limit ends takes =
-    let few = step_length unit step outcome newer ends in
+one_takes unit (Make access after) outcome newer limit ends takes =
+    let few = access_length unit access outcome newer ends in
     let le = takes.0 in
-    (limit - step_limit step, takes.1 outcome, omega arith)
+    (limit - access_limit access, takes.1 outcome, omega arith)
 
-steps_take : (unit : ℕ) (plan : Plan) (outcomes : List (Option ℕ)) (told : List Exchange) (limit : ℕ)
-    → StepsEnd unit plan outcomes told → TakesAtMost limit plan
+accesses_take : (unit : ℕ) (plan : Plan) (outcomes : List (Option ℕ)) (told : List Exchange) (limit : ℕ)
+    → AccessesEnd unit plan outcomes told → TakesAtMost limit plan
     → (rest : ℕ) × TakesAtMost rest (plan_after plan outcomes) × (length told + rest ≤ limit)
-steps_take unit plan [] told limit ends takes =
+accesses_take unit plan [] told limit ends takes =
     let none = ap (λ (t : List Exchange). length t) ends in (limit, takes, omega arith)
-steps_take unit plan (outcome ∷ outcomes) told limit ends takes =
-    let before = steps_take unit plan outcomes ends.1 limit ends.4 takes in
+accesses_take unit plan (outcome ∷ outcomes) told limit ends takes =
+    let before = accesses_take unit plan outcomes ends.1 limit ends.4 takes in
     let now = one_takes unit (plan_after plan outcomes) outcome ends.0 before.0 ends.3 before.1 in
     let both = ap (λ (t : List Exchange). length t) ends.2 in
     let joined = length-append ends.0 ends.1 in
@@ -94,28 +96,29 @@ steps_take unit plan (outcome ∷ outcomes) told limit ends takes =
     let le2 = now.2 in
     (now.0, now.1, omega arith)
 
-at_hand_takes : (unit : ℕ) (now : Plan) (misses : ℕ) (missed tried : List Exchange) (left : List Line) (rest : ℕ)
+at_hand_takes : (unit : ℕ) (now : Plan) (misses : ℕ) (missed tried : List Exchange) (left : List Request) (rest : ℕ)
     → misses < most_tries
-    → Misses (plan_lines unit now) misses missed → Trying (plan_lines unit now) tried left → TakesAtMost rest now
+    → Misses (plan_requests unit now) misses missed → Trying (plan_requests unit now) tried left → TakesAtMost rest now
     → length tried + length missed ≤ rest
 at_hand_takes unit (Finish verdict) misses missed tried left rest few are try takes =
     let newer = trying_length [] tried left try in
     let older = misses_length [] misses missed are in
     omega arith
-at_hand_takes unit (Check step after) misses missed tried left rest few are try takes =
-    let lines = length (step_lines unit step) in
-    let newer : length tried ≤ lines = let all = trying_length (step_lines unit step) tried left try in omega arith in
-    let older = misses_length (step_lines unit step) misses missed are in
-    let limit = limit_lines unit step in
-    let most = times_most misses lines (length tried) (length missed) few older newer in
+at_hand_takes unit (Make access after) misses missed tried left rest few are try takes =
+    let requests = length (access_requests unit access) in
+    let newer : length tried ≤ requests =
+    let all = trying_length (access_requests unit access) tried left try in omega arith in
+    let older = misses_length (access_requests unit access) misses missed are in
+    let limit = limit_requests unit access in
+    let most = times_most misses requests (length tried) (length missed) few older newer in
     let le = takes.0 in
     omega arith
 
-pub stands_takes : (unit : ℕ) (plan : Plan) (told : List Exchange) (now : Plan) (misses : ℕ) (left : List Line)
+pub stands_takes : (unit : ℕ) (plan : Plan) (told : List Exchange) (now : Plan) (misses : ℕ) (left : List Request)
     (byte : Option ℕ) (limit : ℕ)
     → Stands unit plan told now misses left byte → TakesAtMost limit plan → length told ≤ limit
 stands_takes unit plan told now misses left byte limit s takes =
-    let before = steps_take unit plan s.outcomes s.ended limit s.steps takes in
+    let before = accesses_take unit plan s.outcomes s.ended limit s.accesses takes in
     let rest = before.0 in
     let here =
     at_hand_takes unit now misses s.missed s.tried left rest s.few s.misses_are s.try

@@ -3,31 +3,32 @@ use Rattle.std.proofs.Common.{◌≡◌, ◌⊎◌, inl, inr, refl, sym, ap, sub
 use Rattle.std.proofs.Common.{nat_lt, lt-ltb, eq-eqb, ne_eqb, if◌then◌else◌, List, [], ◌∷◌, ◌++◌, append_assoc, Option}
 use Rattle.std.proofs.Common.{Some, None, is_some, arith}
 use Rattle.dali_write.specs.Exchanges.{Exchange}
-use Rattle.dali_write.specs.declared.line.Line.{Line}
-use Rattle.dali_write.specs.declared.line.Wish.{Wish}
-use Rattle.dali_write.specs.declared.line.Wish.TheVariants.{Nothing, Exactly, Anything}
-use Rattle.dali_write.specs.declared.step.Step.{Step}
-use Rattle.dali_write.specs.declared.step.Step.TheVariants.{ReadFrom, WriteTo}
+use Rattle.dali_write.specs.declared.request.Request.{Request}
+use Rattle.dali_write.specs.declared.request.Wish.{Wish}
+use Rattle.dali_write.specs.declared.request.Wish.TheVariants.{Nothing, Exactly, Anything}
+use Rattle.dali_write.specs.declared.access.Access.{Access}
+use Rattle.dali_write.specs.declared.access.Access.TheVariants.{ReadFrom, WriteTo}
 use Rattle.dali_write.specs.declared.ask.Ask.{Ask}
 use Rattle.dali_write.specs.declared.ask.Ask.TheVariants.{Send}
-use Rattle.dali_write.specs.Lines.{Meets, line, step_lines, byte_after}
-use Rattle.dali_write.specs.Plans.{Plan, Finish, Check, goes_on, plan_after}
-use Rattle.dali_write.specs.Tries.{Trying, Missed, Misses, byte_of, StepEnds, StepsEnd, plan_lines, GoesOn, Stands}
+use Rattle.dali_write.specs.Requests.{Meets, request, access_requests, byte_after}
+use Rattle.dali_write.specs.Plans.{Plan, Finish, Make, goes_on, plan_after}
+use Rattle.dali_write.specs.Tries.{Trying, Missed, Misses, byte_of, AccessEnds, AccessesEnd, plan_requests, GoesOn}
+use Rattle.dali_write.specs.Tries.{Stands}
 use Rattle.dali_write.specs.Tries.{Wants}
 use Rattle.dali_write.proofs.AskLemmas.{shown_ask, ask_shown}
 use Rattle.dali_write.proofs.ShapeLemmas.{none_left}
 
--- where a session stands: its plan from the step at hand on, the missed tries of that step, what is left of the try
+-- where a session stands: its plan from the access at hand on, the missed tries of that access, what is left of the try
 -- at hand, and its byte
 pub record Place : Type 0 where
   pub now : Plan
   pub misses : ℕ
-  pub left : List Line
+  pub left : List Request
   pub byte : Option ℕ
 
 -- before the first frame of a try
 abbrev pub begins : ℕ → Plan → ℕ → Place
-begins unit now misses = record { now = now; misses = misses; left = plan_lines unit now; byte = None }
+begins unit now misses = record { now = now; misses = misses; left = plan_requests unit now; byte = None }
 
 -- whether the answer is as wished
 abbrev pub is_met : Wish → Option ℕ → Bool
@@ -36,18 +37,18 @@ is_met (Exactly byte) None = false
 is_met (Exactly byte) (Some other) = other == byte
 is_met Anything answer = is_some answer
 
--- the answer was as wished: the next frame of the try, or the next step of the plan
-abbrev pub met_then : ℕ → Plan → ℕ → List Line → Option ℕ → Place
+-- the answer was as wished: the next frame of the try, or the next access of the plan
+abbrev pub met_then : ℕ → Plan → ℕ → List Request → Option ℕ → Place
 met_then unit now misses [] byte = begins unit (goes_on now byte) 0
 met_then unit now misses (next ∷ left) byte = record { now = now; misses = misses; left = next ∷ left; byte = byte }
 
--- the answer was not as wished: another try of the step, or after the eighth the next step of the plan
+-- the answer was not as wished: another try of the access, or after the eighth the next access of the plan
 abbrev pub missed_then : ℕ → Plan → ℕ → Place
 missed_then unit now misses =
     if nat_lt (suc misses) 8 then begins unit now (suc misses) else begins unit (goes_on now None) 0
 
 -- where one more exchange leads (from an ended plan, which has no frame left, it stays)
-abbrev pub moved : ℕ → Exchange → Plan → ℕ → List Line → Option ℕ → Place
+abbrev pub moved : ℕ → Exchange → Plan → ℕ → List Request → Option ℕ → Place
 moved unit x now misses [] byte = record { now = now; misses = misses; left = []; byte = byte }
 moved unit x now misses (next ∷ left) byte =
     if is_met next.wish x.answer
@@ -72,10 +73,10 @@ misses_is (Exactly byte) (Some other) misses = ne_eqb other byte λ same. misses
 misses_is Anything None misses = refl
 misses_is Anything (Some other) misses = absurd (misses refl)
 
--- a step has a frame
-some_lines : (unit : ℕ) (step : Step) → [] ≡ step_lines unit step → ⊥
-some_lines unit (ReadFrom location) none = cc
-some_lines unit (WriteTo location byte) none = cc
+-- an access has a frame
+some_requests : (unit : ℕ) (access : Access) → [] ≡ access_requests unit access → ⊥
+some_requests unit (ReadFrom location) none = cc
+some_requests unit (WriteTo location byte) none = cc
 
 -- The newest exchange was of the frame that was wanted, and it led from where the session stood.
 record Peeled (unit : ℕ) (plan : Plan) (told : List Exchange) (place : Place) : Type 0 where
@@ -85,37 +86,37 @@ record Peeled (unit : ℕ) (plan : Plan) (told : List Exchange) (place : Place) 
   pub now : Plan
   pub misses : ℕ
   pub wish : Wish
-  pub left : List Line
+  pub left : List Request
   pub byte : Option ℕ
-  pub before : Stands unit plan older now misses (line newest.frame wish ∷ left) byte
-  pub sends : shown_ask now (line newest.frame wish ∷ left) ≡ Send newest.frame
-  pub leads : moved unit newest now misses (line newest.frame wish ∷ left) byte ≡ place
+  pub before : Stands unit plan older now misses (request newest.frame wish ∷ left) byte
+  pub sends : shown_ask now (request newest.frame wish ∷ left) ≡ Send newest.frame
+  pub leads : moved unit newest now misses (request newest.frame wish ∷ left) byte ≡ place
 
 -- nothing was told yet, or there is a newest exchange
 abbrev Peels : ℕ → Plan → List Exchange → Place → Type 0
 Peels unit plan told place = ((told ≡ []) × (begins unit plan 0 ≡ place)) ⊎ Peeled unit plan told place
 
--- whole steps after which the plan goes on so
+-- whole accesses after which the plan goes on so
 abbrev Reaches : ℕ → Plan → Plan → List Exchange → Type 0
 Reaches unit plan now ended =
-    (outcomes : List (Option ℕ)) × StepsEnd unit plan outcomes ended × (plan_after plan outcomes ≡ now)
+    (outcomes : List (Option ℕ)) × AccessesEnd unit plan outcomes ended × (plan_after plan outcomes ≡ now)
 
 -- what was told, split before its newest exchange
 peeled : (unit : ℕ) (plan : Plan) (told ended missed tried : List Exchange) (now : Plan) (misses : ℕ) (x : Exchange)
-    (wish : Wish) (left : List Line) (place : Place)
+    (wish : Wish) (left : List Request) (place : Place)
     → told ≡ (x ∷ tried) ++ (missed ++ ended) → Reaches unit plan now ended → misses < 8
-    → Misses (plan_lines unit now) misses missed
-    → Trying (plan_lines unit now) tried (line x.frame wish ∷ left)
-    → moved unit x now misses (line x.frame wish ∷ left) (byte_of tried) ≡ place
+    → Misses (plan_requests unit now) misses missed
+    → Trying (plan_requests unit now) tried (request x.frame wish ∷ left)
+    → moved unit x now misses (request x.frame wish ∷ left) (byte_of tried) ≡ place
     → Peeled unit plan told place
 peeled unit plan told ended missed tried (Finish verdict) misses x wish left place parts reaches few are try leads =
-    absurd (none_left tried (line x.frame wish) left try)
-peeled unit plan told ended missed tried (Check step after) misses x wish left place parts reaches few are try leads =
+    absurd (none_left tried (request x.frame wish) left try)
+peeled unit plan told ended missed tried (Make access after) misses x wish left place parts reaches few are try leads =
     record {
       newest = x;
       older = tried ++ (missed ++ ended);
       told_is = parts;
-      now = Check step after;
+      now = Make access after;
       misses = misses;
       wish = wish;
       left = left;
@@ -126,7 +127,7 @@ peeled unit plan told ended missed tried (Check step after) misses x wish left p
         missed = missed;
         tried = tried;
         parts = refl;
-        steps = reaches.1;
+        accesses = reaches.1;
         now_is = reaches.2;
         few = few;
         misses_are = are;
@@ -147,7 +148,7 @@ regroup told newer older ended first parts is =
 -- the newest exchange is the miss of a try
 peel_miss : (unit : ℕ) (plan : Plan) (told newer older ended : List Exchange) (now : Plan) (misses : ℕ)
     → told ≡ newer ++ (older ++ ended) → Reaches unit plan now ended → misses < 8
-    → Misses (plan_lines unit now) misses older → Missed (plan_lines unit now) newer
+    → Misses (plan_requests unit now) misses older → Missed (plan_requests unit now) newer
     → Peeled unit plan told (missed_then unit now misses)
 peel_miss unit plan told [] older ended now misses parts reaches few are missed = absurd missed
 peel_miss unit plan told (x ∷ tried) older ended now misses parts reaches few are missed =
@@ -156,45 +157,47 @@ peel_miss unit plan told (x ∷ tried) older ended now misses parts reaches few 
     (rw (misses_is missed.0 x.answer missed.2) refl)
 
 -- the newest exchange is the last of a try that came to its end
-peel_end : (unit : ℕ) (plan : Plan) (told newer older ended : List Exchange) (step : Step) (after : Option ℕ → Plan)
+peel_end : (unit : ℕ) (plan : Plan) (told newer older ended : List Exchange) (access : Access) (after : Option ℕ → Plan)
     (misses : ℕ)
-    → told ≡ newer ++ (older ++ ended) → Reaches unit plan (Check step after) ended → misses < 8
-    → Misses (step_lines unit step) misses older
-    → Trying (step_lines unit step) newer [] → Peeled unit plan told (begins unit (after (byte_of newer)) 0)
-peel_end unit plan told [] older ended step after misses parts reaches few are try = absurd (some_lines unit step try)
-peel_end unit plan told (x ∷ tried) older ended step after misses parts reaches few are try =
-    peeled unit plan told ended older tried (Check step after) misses x try.0 []
+    → told ≡ newer ++ (older ++ ended) → Reaches unit plan (Make access after) ended → misses < 8
+    → Misses (access_requests unit access) misses older
+    → Trying (access_requests unit access) newer [] → Peeled unit plan told (begins unit (after (byte_of newer)) 0)
+peel_end unit plan told [] older ended access after misses parts reaches few are try =
+    absurd (some_requests unit access try)
+peel_end unit plan told (x ∷ tried) older ended access after misses parts reaches few are try =
+    peeled unit plan told ended older tried (Make access after) misses x try.0 []
     (begins unit (after (byte_of (x ∷ tried))) 0) parts reaches few are try.2
     (rw (meets_is try.0 x.answer try.1) refl)
 
--- the newest exchange is the last of a whole step
-peel_step : (unit : ℕ) (plan : Plan) (told newer ended : List Exchange) (now : Plan) (outcome : Option ℕ)
-    → told ≡ newer ++ ended → Reaches unit plan now ended → StepEnds unit now outcome newer
+-- the newest exchange is the last of a whole access
+peel_access : (unit : ℕ) (plan : Plan) (told newer ended : List Exchange) (now : Plan) (outcome : Option ℕ)
+    → told ≡ newer ++ ended → Reaches unit plan now ended → AccessEnds unit now outcome newer
     → Peeled unit plan told (begins unit (goes_on now outcome) 0)
-peel_step unit plan told newer ended (Finish verdict) outcome parts reaches ends = absurd ends
-peel_step unit plan told newer ended (Check step after) outcome parts reaches (inl done) =
+peel_access unit plan told newer ended (Finish verdict) outcome parts reaches ends = absurd ends
+peel_access unit plan told newer ended (Make access after) outcome parts reaches (inl done) =
     subst (λ (o : Option ℕ). Peeled unit plan told (begins unit (after o) 0)) (sym done.5)
-    (peel_end unit plan told done.0 done.1 ended step after done.2 (regroup told newer done.1 ended done.0 parts done.3)
+    (peel_end unit plan told done.0 done.1 ended access after done.2
+    (regroup told newer done.1 ended done.0 parts done.3)
     reaches done.6 done.7 done.4)
-peel_step unit plan told newer ended (Check step after) outcome parts reaches (inr failed) =
+peel_access unit plan told newer ended (Make access after) outcome parts reaches (inr failed) =
     let are = failed.1 in
     subst (λ (o : Option ℕ). Peeled unit plan told (begins unit (after o) 0)) (sym failed.0)
-    (peel_miss unit plan told are.0 are.1 ended (Check step after) 7 (regroup told newer are.1 ended are.0 parts are.2)
+    (peel_miss unit plan told are.0 are.1 ended (Make access after) 7 (regroup told newer are.1 ended are.0 parts are.2)
     reaches (omega arith) are.4 are.3)
 
--- no try of a step is at hand
+-- no try of an access is at hand
 peel_ended : (unit : ℕ) (plan : Plan) (told ended : List Exchange) (now : Plan) (outcomes : List (Option ℕ))
-    → told ≡ ended → StepsEnd unit plan outcomes ended → plan_after plan outcomes ≡ now
+    → told ≡ ended → AccessesEnd unit plan outcomes ended → plan_after plan outcomes ≡ now
     → Peels unit plan told (begins unit now 0)
-peel_ended unit plan told ended now [] parts steps is = inl (parts ∙ steps, ap (λ (p : Plan). begins unit p 0) is)
-peel_ended unit plan told ended now (outcome ∷ outcomes) parts steps is =
+peel_ended unit plan told ended now [] parts accesses is = inl (parts ∙ accesses, ap (λ (p : Plan). begins unit p 0) is)
+peel_ended unit plan told ended now (outcome ∷ outcomes) parts accesses is =
     inr (subst (λ (p : Plan). Peeled unit plan told (begins unit p 0)) is
-    (peel_step unit plan told steps.0 steps.1 (plan_after plan outcomes) outcome (parts ∙ steps.2)
-    (outcomes, steps.4, refl) steps.3))
+    (peel_access unit plan told accesses.0 accesses.1 (plan_after plan outcomes) outcome (parts ∙ accesses.2)
+    (outcomes, accesses.4, refl) accesses.3))
 
 -- the try at hand is at its first frame
 peel_misses : (unit : ℕ) (plan : Plan) (told missed ended : List Exchange) (now : Plan) (misses : ℕ)
-    → told ≡ missed ++ ended → Reaches unit plan now ended → misses < 8 → Misses (plan_lines unit now) misses missed
+    → told ≡ missed ++ ended → Reaches unit plan now ended → misses < 8 → Misses (plan_requests unit now) misses missed
     → Peels unit plan told (begins unit now misses)
 peel_misses unit plan told missed ended now zero parts reaches few are =
     peel_ended unit plan told ended now reaches.0 (parts ∙ ap (λ (t : List Exchange). t ++ ended) are)
@@ -206,37 +209,38 @@ peel_misses unit plan told missed ended now (suc misses) parts reaches few are =
     (omega arith) are.4 are.3))
 
 -- the frame at hand was not the last of its try
-goes_right : (unit : ℕ) (now : Plan) (misses : ℕ) (left : List Line) (byte : Option ℕ) (tried : List Exchange)
-    (next : Line)
+goes_right : (unit : ℕ) (now : Plan) (misses : ℕ) (left : List Request) (byte : Option ℕ) (tried : List Exchange)
+    (next : Request)
     → GoesOn now left
-    → Trying (plan_lines unit now) tried (next ∷ left)
+    → Trying (plan_requests unit now) tried (next ∷ left)
     → met_then unit now misses left byte ≡ record { now = now; misses = misses; left = left; byte = byte }
 goes_right unit (Finish verdict) misses left byte tried next going try = absurd (none_left tried next left try)
-goes_right unit (Check step after) misses [] byte tried next going try = cc
-goes_right unit (Check step after) misses (second ∷ left) byte tried next going try = refl
+goes_right unit (Make access after) misses [] byte tried next going try = cc
+goes_right unit (Make access after) misses (second ∷ left) byte tried next going try = refl
 
 -- the newest exchange is of the try at hand, or that is at its first frame
 peel_try : (unit : ℕ) (plan : Plan) (told ended missed tried : List Exchange) (now : Plan) (misses : ℕ)
-    (left : List Line) (byte : Option ℕ)
+    (left : List Request) (byte : Option ℕ)
     → told ≡ tried ++ (missed ++ ended) → Reaches unit plan now ended → misses < 8
-    → Misses (plan_lines unit now) misses missed
-    → Trying (plan_lines unit now) tried left → byte_of tried ≡ byte → GoesOn now left
+    → Misses (plan_requests unit now) misses missed
+    → Trying (plan_requests unit now) tried left → byte_of tried ≡ byte → GoesOn now left
     → Peels unit plan told (record { now = now; misses = misses; left = left; byte = byte })
 peel_try unit plan told ended missed [] now misses left byte parts reaches few are try is going =
     rw (try, sym is) (peel_misses unit plan told missed ended now misses parts reaches few are)
 peel_try unit plan told ended missed (x ∷ tried) now misses left byte parts reaches few are try is going =
     let met : is_met try.0 x.answer ≡ true = meets_is try.0 x.answer try.1 in
-    let right = goes_right unit now misses left byte tried (line x.frame try.0) going try.2 in
+    let right = goes_right unit now misses left byte tried (request x.frame try.0) going try.2 in
     inr (peeled unit plan told ended missed tried now misses x try.0 left
     (record { now = now; misses = misses; left = left; byte = byte }) parts reaches few are try.2
     (rw (met, is) right))
 
 -- The newest exchange, peeled off.
-peel : (unit : ℕ) (plan : Plan) (told : List Exchange) (now : Plan) (misses : ℕ) (left : List Line) (byte : Option ℕ)
+peel : (unit : ℕ) (plan : Plan) (told : List Exchange) (now : Plan) (misses : ℕ) (left : List Request) (byte : Option ℕ)
     → Stands unit plan told now misses left byte
     → Peels unit plan told (record { now = now; misses = misses; left = left; byte = byte })
 peel unit plan told now misses left byte s =
-    peel_try unit plan told s.ended s.missed s.tried now misses left byte s.parts (s.outcomes, s.steps, s.now_is) s.few
+    peel_try unit plan told s.ended s.missed s.tried now misses left byte s.parts (s.outcomes, s.accesses, s.now_is)
+    s.few
     s.misses_are s.try s.byte_is s.going
 
 -- so there is one place alone
@@ -250,13 +254,14 @@ place_is unit plan (x ∷ told) place (inr p) =
     let newest : x ≡ p.newest = cc in
     let older : p.older ≡ told = cc in
     let before =
-    subst (λ (t : List Exchange). Stands unit plan t p.now p.misses (line p.newest.frame p.wish ∷ p.left) p.byte)
+    subst (λ (t : List Exchange). Stands unit plan t p.now p.misses (request p.newest.frame p.wish ∷ p.left) p.byte)
     older p.before in
     let same =
     place_is unit plan told _
-    (peel unit plan told p.now p.misses (line p.newest.frame p.wish ∷ p.left) p.byte before) in
+    (peel unit plan told p.now p.misses (request p.newest.frame p.wish ∷ p.left) p.byte before) in
     ap (λ (at : Place). moved unit x at.now at.misses at.left at.byte) same
-    ∙ ap (λ (y : Exchange). moved unit y p.now p.misses (line p.newest.frame p.wish ∷ p.left) p.byte) newest ∙ p.leads
+    ∙ ap (λ (y : Exchange). moved unit y p.now p.misses (request p.newest.frame p.wish ∷ p.left) p.byte) newest
+    ∙ p.leads
 
 -- what is wanted at a place
 abbrev pub ask_from : Place → Ask
@@ -287,10 +292,10 @@ wanted unit plan told x place (inr p) =
     (record {
       now = p.now;
       misses = p.misses;
-      left = line p.newest.frame p.wish ∷ p.left;
+      left = request p.newest.frame p.wish ∷ p.left;
       byte = p.byte;
       stands = p.before;
-      ask_is = sym (ask_shown p.now (line p.newest.frame p.wish ∷ p.left) p.before.going) ∙ p.sends;
+      ask_is = sym (ask_shown p.now (request p.newest.frame p.wish ∷ p.left) p.before.going) ∙ p.sends;
     }))
 
 pub frame_wanted : (told : List Exchange) (x : Exchange) (unit : ℕ) (plan : Plan) (ask : Ask)

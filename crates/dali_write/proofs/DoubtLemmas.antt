@@ -1,17 +1,17 @@
--- A session ends in doubt only because a step failed, or because a read found another byte.
+-- A session ends in doubt only because an access failed, or because a read found another byte.
 use Rattle.std.proofs.Common.{◌≡◌, ◌≢◌, ◌⊎◌, inl, inr, refl, sym, ap, ◌∙◌, ℕ, suc, Bool, true, false, ◌==◌}
 use Rattle.std.proofs.Common.{if◌then◌else◌, List, [], ◌∷◌, ◌++◌, append_assoc, append-nil, Option, Some, None, arith}
 use Rattle.std.specs.List.{Contains}
 use Rattle.std.proofs.lemmas.Bool.{eq-eqb}
 use Rattle.dali_write.specs.Exchanges.{Exchange}
-use Rattle.dali_write.specs.declared.step.Step.{Step}
-use Rattle.dali_write.specs.declared.step.Step.TheVariants.{ReadFrom, WriteTo}
+use Rattle.dali_write.specs.declared.access.Access.{Access}
+use Rattle.dali_write.specs.declared.access.Access.TheVariants.{ReadFrom, WriteTo}
 use Rattle.dali_write.specs.declared.ask.Verdict.TheVariants.{Doubt}
 use Rattle.dali_write.specs.declared.ask.Ask.TheVariants.{Ended}
-use Rattle.dali_write.specs.Lines.{read_lines}
-use Rattle.dali_write.specs.Plans.{Plan, Finish, Check, either_way, give_up, expect, read_back, read_lock, write_on}
+use Rattle.dali_write.specs.Requests.{read_requests}
+use Rattle.dali_write.specs.Plans.{Plan, Finish, Make, either_way, give_up, expect, read_back, read_lock, write_on}
 use Rattle.dali_write.specs.Plans.{unlock}
-use Rattle.dali_write.specs.Tries.{Succeeds, StepEnds, Wants}
+use Rattle.dali_write.specs.Tries.{Succeeds, AccessEnds, Wants}
 use Rattle.dali_write.specs.Walks.{Walk}
 use Rattle.dali_write.specs.Doubts.{HasFailed, read_backs, FoundAnother}
 use Rattle.dali_write.proofs.WalkLemmas.{ended_walk}
@@ -27,35 +27,36 @@ HasCause unit plan expected =
     (outcomes : List (Option ℕ)) (told : List Exchange) → Walk unit plan outcomes told (Finish Doubt)
     → Cause unit plan expected told
 
--- the first step failed
-failed_first : (unit : ℕ) (step : Step) (after : Option ℕ → Plan) (expected : List (ℕ × ℕ)) (outcomes : List (Option ℕ))
+-- the first access failed
+failed_first : (unit : ℕ) (access : Access) (after : Option ℕ → Plan) (expected : List (ℕ × ℕ))
+    (outcomes : List (Option ℕ))
     (told : List Exchange)
-    → Walk unit (Check step after) (None ∷ outcomes) told (Finish Doubt) → Cause unit (Check step after) expected told
-failed_first unit step after expected outcomes told walk =
+    → Walk unit (Make access after) (None ∷ outcomes) told (Finish Doubt) → Cause unit (Make access after) expected told
+failed_first unit access after expected outcomes told walk =
     inl record {
       newer = walk.0;
       before = walk.1;
       parts = walk.2;
-      step = step;
+      access = access;
       failure = record {
         tries = walk.1;
         older = [];
         parts = sym (append-nil walk.1);
-        missed = all_missed unit step after walk.1 walk.3;
+        missed = all_missed unit access after walk.1 walk.3;
       };
     }
 
 append_twice : (a b c d : List Exchange) → (a ++ (b ++ c)) ++ d ≡ a ++ (b ++ (c ++ d))
 append_twice a b c d = append_assoc a (b ++ c) d ∙ ap (λ (t : List Exchange). a ++ t) (append_assoc b c d)
 
--- the cause came after the first step
-cause_later : (unit : ℕ) (step : Step) (after : Option ℕ → Plan) (expected : List (ℕ × ℕ)) (outcome : Option ℕ)
+-- the cause came after the first access
+cause_later : (unit : ℕ) (access : Access) (after : Option ℕ → Plan) (expected : List (ℕ × ℕ)) (outcome : Option ℕ)
     (outcomes : List (Option ℕ)) (told : List Exchange)
-    (walk : Walk unit (Check step after) (outcome ∷ outcomes) told (Finish Doubt))
-    → Cause unit (after outcome) expected walk.0 → Cause unit (Check step after) expected told
-cause_later unit step after expected outcome outcomes told walk (inl f) =
+    (walk : Walk unit (Make access after) (outcome ∷ outcomes) told (Finish Doubt))
+    → Cause unit (after outcome) expected walk.0 → Cause unit (Make access after) expected told
+cause_later unit access after expected outcome outcomes told walk (inl f) =
     inl (failed_joined unit told walk.0 walk.1 walk.2 f)
-cause_later unit step after expected outcome outcomes told walk (inr f) =
+cause_later unit access after expected outcome outcomes told walk (inr f) =
     inr record {
       newer = f.newer;
       read = f.read;
@@ -74,10 +75,10 @@ cause_later unit step after expected outcome outcomes told walk (inr f) =
       gave_up = f.gave_up;
     }
 
--- a step with an outcome succeeded
+-- an access with an outcome succeeded
 was_answered : (unit location found : ℕ) (after : Option ℕ → Plan) (told : List Exchange)
-    → StepEnds unit (Check (ReadFrom location) after) (Some found) told
-    → Succeeds (read_lines unit location) (Some found) told
+    → AccessEnds unit (Make (ReadFrom location) after) (Some found) told
+    → Succeeds (read_requests unit location) (Some found) told
 was_answered unit location found after told (inl done) = done
 was_answered unit location found after told (inr failed) = let never = failed.0 in cc
 
@@ -147,7 +148,7 @@ read_lock_cause unit updates =
 
 -- a write, after which the session goes on or gives up
 write_cause : (unit location byte : ℕ) (after : Plan) (expected : List (ℕ × ℕ)) → HasCause unit after expected
-    → HasCause unit (Check (WriteTo location byte) (either_way give_up (λ b. after))) expected
+    → HasCause unit (Make (WriteTo location byte) (either_way give_up (λ b. after))) expected
 write_cause unit location byte after expected rest [] told walk = let differs = walk.1 in cc
 write_cause unit location byte after expected rest (None ∷ outcomes) told walk =
     failed_first unit (WriteTo location byte) _ expected outcomes told walk

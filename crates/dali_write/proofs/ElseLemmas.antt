@@ -24,6 +24,7 @@ use Rattle.dali_write.specs.Guards.{IsGuarded}
 use Rattle.dali_write.specs.Losses.{SimRun, IsElse, AllElse, IsAlone}
 use Rattle.dali_write.specs.Successes.{HasBank}
 use Rattle.dali_write.proofs.OneFrameLemmas.{IsFor, alone_then}
+use Rattle.dali_write.proofs.DriftLemmas.{drifts_alone, drifts_bank, drifts_apart}
 use Rattle.dali_write.proofs.GuardLemmas.{closing_guarded}
 use Rattle.dali_write.proofs.DeterminedLemmas.{frame_wanted}
 use Rattle.dali_write.proofs.AloneLemmas.{alone_of}
@@ -107,40 +108,48 @@ record Along (at address : ℕ) (bank : BankState) (last : SimState) : Type 0 wh
   alone : IsAlone at now last.units
   has : HasBank address bank last.units
 
-along : (at address : ℕ) (bank : BankState) (unit : UnitState) (told : List Exchange) (first last : SimState)
-    → SimRun told first last → AllAre at told → address ≢ at
+along : (loses : ℕ → Type 0) (at address : ℕ) (bank : BankState) (unit : UnitState) (told : List Exchange)
+    (first last : SimState)
+    → SimRun loses told first last → (loses at → ⊥) → (loses address → ⊥) → AllAre at told → address ≢ at
     → IsAlone at unit first.units → HasBank address bank first.units → Along at address bank last
-along at address bank unit [] first last run all other alone has =
+along loses at address bank unit [] first last run keeps_power also all other alone has =
     record {
       now = unit;
-      alone = subst (λ (s : SimState). IsAlone at unit s.units) (sym run) alone;
-      has = subst (λ (s : SimState). HasBank address bank s.units) (sym run) has;
+      alone = drifts_alone loses at unit first last keeps_power run alone;
+      has = drifts_bank loses address bank first last also run has;
     }
-along at address bank unit (x ∷ told) first last run all other alone has =
-    let before = along at address bank unit told first run.0 run.1 all.1 other alone has in
+along loses at address bank unit (x ∷ told) first last run keeps_power also all other alone has =
+    let before = along loses at address bank unit told first run.0 run.1 keeps_power also all.1 other alone has in
     record {
       now = _;
-      alone = alone_then at run.0 before.now x.frame x.answer last run.2 all.0 before.alone;
+      alone =
+          drifts_alone loses at _ run.2 last keeps_power run.4
+          (alone_then at run.0 before.now x.frame x.answer run.2 run.3 all.0 before.alone);
       has =
-          subst (HasBank address bank) (sym run.2.units) (bank_after (next_fate run.0.fates) at address bank before.now
-          run.0.units x.frame all.0 other before.alone before.has);
+          drifts_bank loses address bank run.2 last also run.4
+          (subst (HasBank address bank) (sym run.3.units) (bank_after (next_fate run.0.fates) at address bank before.now
+          run.0.units x.frame all.0 other before.alone before.has));
     }
 
-pub closing_keeps_bank : (at address : ℕ) (bank : BankState) (unit : UnitState) (told : List Exchange) (ask : Ask)
-    (first last : SimState)
-    → SimRun told first last
+-- a session that closes one unit, where neither it nor this other one loses its power
+pub closing_keeps_bank : (loses : ℕ → Type 0) (at address : ℕ) (bank : BankState) (unit : UnitState)
+    (told : List Exchange) (ask : Ask) (first last : SimState)
+    → SimRun loses told first last → (loses at → ⊥) → (loses address → ⊥)
     → Wants at (close Closed NotClosed) told ask → address ≢ at → IsAlone at unit first.units
     → HasBank address bank first.units → HasBank address bank last.units
-closing_keeps_bank at address bank unit told ask first last run wants other alone has =
-    (along at address bank unit told first last run (closing_all at told ask wants) other alone has).has
+closing_keeps_bank loses at address bank unit told ask first last run keeps_power also wants other alone has =
+    (along loses at address bank unit told first last run keeps_power also (closing_all at told ask wants) other alone
+    has).has
 
 -- units that are apart stay so
-pub run_apart : (told : List Exchange) (first last : SimState) → SimRun told first last → AreApart first.units
-    → AreApart last.units
-run_apart [] first last run apart = subst (λ (s : SimState). AreApart s.units) (sym run) apart
-run_apart (x ∷ told) first last run apart =
-    subst AreApart (sym run.2.units)
-    (AreApart-map _ (fate_keeps (next_fate run.0.fates) x.frame) run.0.units (run_apart told first run.0 run.1 apart))
+pub run_apart : (loses : ℕ → Type 0) (told : List Exchange) (first last : SimState) → SimRun loses told first last
+    → AreApart first.units → AreApart last.units
+run_apart loses [] first last run apart = drifts_apart loses first last run apart
+run_apart loses (x ∷ told) first last run apart =
+    drifts_apart loses run.2 last run.4
+    (subst AreApart (sym run.3.units)
+    (AreApart-map _ (fate_keeps (next_fate run.0.fates) x.frame) run.0.units
+    (run_apart loses told first run.0 run.1 apart)))
 
 -- where the one isn't enabled either, none is
 all_off : (at address : ℕ) (units : List UnitState) → AllElse at units → IsOff (world_of units address)

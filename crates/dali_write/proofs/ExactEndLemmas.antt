@@ -4,22 +4,22 @@ use Rattle.std.proofs.Common.{false, ◌==◌, ◌&&◌, nat_lt, if◌then◌els
 use Rattle.std.proofs.Common.{Some, None, arith}
 use Rattle.std.proofs.lemmas.Bool.{lt-ltb, le-ltb}
 use Rattle.dali_write.specs.Exchanges.{Exchange}
-use Rattle.dali_write.specs.declared.line.Line.{Line}
-use Rattle.dali_write.specs.declared.step.Step.{Step}
-use Rattle.dali_write.specs.declared.step.Step.TheVariants.{ReadFrom, WriteTo}
+use Rattle.dali_write.specs.declared.request.Request.{Request}
+use Rattle.dali_write.specs.declared.access.Access.{Access}
+use Rattle.dali_write.specs.declared.access.Access.TheVariants.{ReadFrom, WriteTo}
 use Rattle.dali_write.specs.declared.ask.Verdict.{Verdict}
 use Rattle.dali_write.specs.declared.ask.Verdict.TheVariants.{MayOpen, Short, Format, Silent, Closed, NotClosed, Read}
 use Rattle.dali_write.specs.declared.ask.Ask.TheVariants.{Ended}
-use Rattle.dali_write.specs.Lines.{step_lines}
+use Rattle.dali_write.specs.Requests.{access_requests}
 use Rattle.dali_write.specs.Frames.{read_frames, write_frames, try_frames}
 use Rattle.dali_write.specs.Counts.{read_all_frames}
-use Rattle.dali_write.specs.Plans.{Plan, Finish, Check, either_way, greatest, read_format_low, read_format}
+use Rattle.dali_write.specs.Plans.{Plan, Finish, Make, either_way, greatest, read_format_low, read_format}
 use Rattle.dali_write.specs.Plans.{judge_length, read_length, read_closed, close, read_on, read_all}
-use Rattle.dali_write.specs.Tries.{most_tries, Missed, Misses, StepEnds, Wants}
-use Rattle.dali_write.specs.Walks.{Walk, step_misses, Took, TookAll}
+use Rattle.dali_write.specs.Tries.{most_tries, Missed, Misses, AccessEnds, Wants}
+use Rattle.dali_write.specs.Walks.{Walk, access_misses, Took, TookAll}
 use Rattle.dali_write.proofs.WalkLemmas.{ended_walk}
 use Rattle.dali_write.proofs.CountLemmas.{misses_length}
-use Rattle.dali_write.proofs.ExactLemmas.{Frames, at_most, and_rest, step_first}
+use Rattle.dali_write.proofs.ExactLemmas.{Frames, at_most, and_rest, access_first}
 use Rattle.dali_write.proofs.GiveUpLemmas.{has_byte}
 use Rattle.dali_write.proofs.VerdictLemmas.{finish_walk}
 
@@ -53,17 +53,17 @@ ends_not unit end verdict differs outcomes told walk =
 -- a read, after which the session goes on with the byte or is silent
 read_takes : (unit location : ℕ) (found : ℕ → Plan) (failed verdict : Verdict) (frames : ℕ) → failed ≢ verdict
     → ((byte : ℕ) → Takes unit (found byte) verdict frames)
-    → Takes unit (Check (ReadFrom location) (either_way (Finish failed) found)) verdict (read_frames + frames)
+    → Takes unit (Make (ReadFrom location) (either_way (Finish failed) found)) verdict (read_frames + frames)
 read_takes unit location found failed verdict frames differs rest [] told walk = let no = walk.1 in cc
 read_takes unit location found failed verdict frames differs rest (None ∷ outcomes) told walk =
     absurd (ends_not unit failed verdict differs outcomes walk.0 walk.4)
 read_takes unit location found failed verdict frames differs rest (Some byte ∷ outcomes) told walk =
-    step_first unit (ReadFrom location) _ byte outcomes told (Finish verdict) walk frames (read_frames + frames) refl
+    access_first unit (ReadFrom location) _ byte outcomes told (Finish verdict) walk frames (read_frames + frames) refl
     (rest byte outcomes walk.0 walk.4)
 
 read_never : (unit location : ℕ) (found : ℕ → Plan) (failed verdict : Verdict) → failed ≢ verdict
     → ((byte : ℕ) → Never unit (found byte) verdict)
-    → Never unit (Check (ReadFrom location) (either_way (Finish failed) found)) verdict
+    → Never unit (Make (ReadFrom location) (either_way (Finish failed) found)) verdict
 read_never unit location found failed verdict differs rest [] told walk = let no = walk.1 in cc
 read_never unit location found failed verdict differs rest (None ∷ outcomes) told walk =
     ends_not unit failed verdict differs outcomes walk.0 walk.4
@@ -164,29 +164,30 @@ format_took told unit updates wants =
 -- a closing session
 
 -- each missed try has a frame
-misses_take : (lines : List Line) (misses : ℕ) (told : List Exchange) → Misses lines misses told → misses ≤ length told
-misses_take lines zero told is = omega arith
-misses_take lines (suc misses) told is =
-    let older = misses_take lines misses is.1 is.4 in
+misses_take : (requests : List Request) (misses : ℕ) (told : List Exchange) → Misses requests misses told
+    → misses ≤ length told
+misses_take requests zero told is = omega arith
+misses_take requests (suc misses) told is =
+    let older = misses_take requests misses is.1 is.4 in
     let both = ap (λ (t : List Exchange). length t) is.2 in
     let joined = length-append is.0 is.1 in
     let newer = one is.0 is.3 in
     omega arith
   where
-    one : (tried : List Exchange) → Missed lines tried → 1 ≤ length tried
+    one : (tried : List Exchange) → Missed requests tried → 1 ≤ length tried
     one [] missed = absurd missed
     one (x ∷ tried) missed = omega arith
 
--- a step that failed took no fewer frames than a write that succeeds, and no more than its misses allow
-failed_frames : (unit : ℕ) (step : Step) (after : Option ℕ → Plan) (told : List Exchange)
-    (ends : StepEnds unit (Check step after) None told)
+-- an access that failed took no fewer frames than a write that succeeds, and no more than its misses allow
+failed_frames : (unit : ℕ) (access : Access) (after : Option ℕ → Plan) (told : List Exchange)
+    (ends : AccessEnds unit (Make access after) None told)
     → (more : ℕ) × (length told ≡ write_frames + more)
-    × (more ≤ try_frames * step_misses unit (Check step after) None told ends)
-failed_frames unit step after told (inl done) = absurd (has_byte unit step told done)
-failed_frames unit step after told (inr failed) =
-    let least = misses_take (step_lines unit step) most_tries told failed.1 in
-    let most = misses_length (step_lines unit step) most_tries told failed.1 in
-    let lines = at_most unit step in
+    × (more ≤ try_frames * access_misses unit (Make access after) None told ends)
+failed_frames unit access after told (inl done) = absurd (has_byte unit access told done)
+failed_frames unit access after told (inr failed) =
+    let least = misses_take (access_requests unit access) most_tries told failed.1 in
+    let most = misses_length (access_requests unit access) most_tries told failed.1 in
+    let requests = at_most unit access in
     (length told - write_frames, omega arith, omega arith)
 
 close_takes : (unit : ℕ) → Takes unit (close Closed NotClosed) Closed (write_frames + read_frames)
@@ -198,7 +199,7 @@ close_takes unit (None ∷ outcomes) told walk =
     (read_takes unit 2 (λ byte. Finish Closed) NotClosed Closed 0 (λ e. cc) (λ byte. takes_none unit Closed Closed)
     outcomes walk.0 walk.4)
 close_takes unit (Some byte ∷ outcomes) told walk =
-    step_first unit (WriteTo 2 0xFF) _ byte outcomes told (Finish Closed) walk read_frames
+    access_first unit (WriteTo 2 0xFF) _ byte outcomes told (Finish Closed) walk read_frames
     (write_frames + read_frames) refl
     (read_takes unit 2 (λ byte. Finish Closed) NotClosed Closed 0 (λ e. cc) (λ byte. takes_none unit Closed Closed)
     outcomes walk.0 walk.4)
@@ -228,7 +229,7 @@ read_took told unit wants = let walk = ended_walk unit read_all told Read wants 
         let on = read_on_takes unit 1 (min last 0xFE) outcomes walk.0 walk.4 in
         let reads = either_way (Finish Silent) (λ byte. read_on 1 (min byte 0xFE)) in
         let all =
-        step_first unit (ReadFrom 0) reads last outcomes told (Finish Read) walk (min last 0xFE * read_frames)
+        access_first unit (ReadFrom 0) reads last outcomes told (Finish Read) walk (min last 0xFE * read_frames)
         (read_all_frames last) (omega arith) on in
         record {
           last = last;

@@ -3,17 +3,17 @@ use Rattle.std.proofs.Common.{◌≡◌, inl, inr, refl, ap, ℕ, ◌+◌, ◌*�
 use Rattle.std.proofs.Common.{[], ◌∷◌, length, length-append, Option, Some, None, arith}
 use Rattle.std.proofs.lemmas.Nat.{mul-le}
 use Rattle.dali_write.specs.Exchanges.{Exchange}
-use Rattle.dali_write.specs.declared.step.Step.{Step}
-use Rattle.dali_write.specs.declared.step.Step.TheVariants.{ReadFrom, WriteTo}
+use Rattle.dali_write.specs.declared.access.Access.{Access}
+use Rattle.dali_write.specs.declared.access.Access.TheVariants.{ReadFrom, WriteTo}
 use Rattle.dali_write.specs.declared.ask.Verdict.TheVariants.{Done}
 use Rattle.dali_write.specs.declared.ask.Ask.TheVariants.{Ended}
-use Rattle.dali_write.specs.Lines.{step_lines}
+use Rattle.dali_write.specs.Requests.{access_requests}
 use Rattle.dali_write.specs.Frames.{read_frames, write_frames, try_frames}
 use Rattle.dali_write.specs.Counts.{done_frames}
-use Rattle.dali_write.specs.Plans.{Plan, Finish, Check, either_way, give_up, expect, read_back, read_lock, write_on}
+use Rattle.dali_write.specs.Plans.{Plan, Finish, Make, either_way, give_up, expect, read_back, read_lock, write_on}
 use Rattle.dali_write.specs.Plans.{unlock}
-use Rattle.dali_write.specs.Tries.{StepEnds, Wants}
-use Rattle.dali_write.specs.Walks.{Walk, step_misses, misses_of, Took}
+use Rattle.dali_write.specs.Tries.{AccessEnds, Wants}
+use Rattle.dali_write.specs.Walks.{Walk, access_misses, misses_of, Took}
 use Rattle.dali_write.proofs.ShapeLemmas.{trying_length}
 use Rattle.dali_write.proofs.CountLemmas.{misses_length}
 use Rattle.dali_write.proofs.WalkLemmas.{ended_walk}
@@ -25,36 +25,36 @@ pub record Frames (unit : ℕ) (plan : Plan) (outcomes : List (Option ℕ)) (tol
   pub took : length told ≡ frames + more
   pub few : more ≤ try_frames * misses_of unit plan outcomes told end walk
 
--- each step has no more frames than this
-pub at_most : (unit : ℕ) (step : Step) → length (step_lines unit step) ≤ try_frames
+-- each access has no more frames than this
+pub at_most : (unit : ℕ) (access : Access) → length (access_requests unit access) ≤ try_frames
 at_most unit (ReadFrom location) = omega arith
 at_most unit (WriteTo location byte) = omega arith
 
--- a step that succeeded
-step_frames : (unit : ℕ) (step : Step) (after : Option ℕ → Plan) (byte : ℕ) (told : List Exchange)
-    (ends : StepEnds unit (Check step after) (Some byte) told)
-    → (more : ℕ) × (length told ≡ length (step_lines unit step) + more)
-    × (more ≤ try_frames * step_misses unit (Check step after) (Some byte) told ends)
-step_frames unit step after byte told (inl done) =
-    let whole = trying_length (step_lines unit step) done.0 [] done.4 in
-    let older = misses_length (step_lines unit step) done.2 done.1 done.7 in
-    let most : done.2 * length (step_lines unit step) ≤ done.2 * try_frames =
-    mul-le done.2 (length (step_lines unit step)) done.2 try_frames (omega arith) (at_most unit step) in
+-- an access that succeeded
+access_frames : (unit : ℕ) (access : Access) (after : Option ℕ → Plan) (byte : ℕ) (told : List Exchange)
+    (ends : AccessEnds unit (Make access after) (Some byte) told)
+    → (more : ℕ) × (length told ≡ length (access_requests unit access) + more)
+    × (more ≤ try_frames * access_misses unit (Make access after) (Some byte) told ends)
+access_frames unit access after byte told (inl done) =
+    let whole = trying_length (access_requests unit access) done.0 [] done.4 in
+    let older = misses_length (access_requests unit access) done.2 done.1 done.7 in
+    let most : done.2 * length (access_requests unit access) ≤ done.2 * try_frames =
+    mul-le done.2 (length (access_requests unit access)) done.2 try_frames (omega arith) (at_most unit access) in
     let both = ap (λ (t : List Exchange). length t) done.3 in
     let joined = length-append done.0 done.1 in
     (length done.1, omega arith, omega arith)
-step_frames unit step after byte told (inr failed) = let never = failed.0 in cc
+access_frames unit access after byte told (inr failed) = let never = failed.0 in cc
 
--- a step, and the steps after it
-pub and_rest : (unit : ℕ) (step : Step) (after : Option ℕ → Plan) (outcome : Option ℕ) (outcomes : List (Option ℕ))
+-- an access, and the accesses after it
+pub and_rest : (unit : ℕ) (access : Access) (after : Option ℕ → Plan) (outcome : Option ℕ) (outcomes : List (Option ℕ))
     (told : List Exchange) (end : Plan)
-    (walk : Walk unit (Check step after) (outcome ∷ outcomes) told end) (here frames all : ℕ)
+    (walk : Walk unit (Make access after) (outcome ∷ outcomes) told end) (here frames all : ℕ)
     → (more : ℕ) × (length walk.1 ≡ here + more)
-    × (more ≤ try_frames * step_misses unit (Check step after) outcome walk.1 walk.3)
+    × (more ≤ try_frames * access_misses unit (Make access after) outcome walk.1 walk.3)
     → here + frames ≡ all
     → Frames unit (after outcome) outcomes walk.0 end walk.4 frames
-    → Frames unit (Check step after) (outcome ∷ outcomes) told end walk all
-and_rest unit step after outcome outcomes told end walk length_here frames all here sum rest =
+    → Frames unit (Make access after) (outcome ∷ outcomes) told end walk all
+and_rest unit access after outcome outcomes told end walk length_here frames all here sum rest =
     let both = ap (λ (t : List Exchange). length t) walk.2 in
     let joined = length-append walk.0 walk.1 in
     let one = here.1 in
@@ -63,16 +63,16 @@ and_rest unit step after outcome outcomes told end walk length_here frames all h
     let four = rest.few in
     record { more = here.0 + rest.more; took = omega arith; few = omega arith }
 
--- a step that succeeded, and the steps after it
-pub step_first : (unit : ℕ) (step : Step) (after : Option ℕ → Plan) (byte : ℕ) (outcomes : List (Option ℕ))
+-- an access that succeeded, and the accesses after it
+pub access_first : (unit : ℕ) (access : Access) (after : Option ℕ → Plan) (byte : ℕ) (outcomes : List (Option ℕ))
     (told : List Exchange) (end : Plan)
-    (walk : Walk unit (Check step after) (Some byte ∷ outcomes) told end) (frames all : ℕ)
-    → length (step_lines unit step) + frames ≡ all
+    (walk : Walk unit (Make access after) (Some byte ∷ outcomes) told end) (frames all : ℕ)
+    → length (access_requests unit access) + frames ≡ all
     → Frames unit (after (Some byte)) outcomes walk.0 end walk.4 frames
-    → Frames unit (Check step after) (Some byte ∷ outcomes) told end walk all
-step_first unit step after byte outcomes told end walk frames all sum rest =
-    and_rest unit step after (Some byte) outcomes told end walk (length (step_lines unit step)) frames all
-    (step_frames unit step after byte walk.1 walk.3) sum rest
+    → Frames unit (Make access after) (Some byte ∷ outcomes) told end walk all
+access_first unit access after byte outcomes told end walk frames all sum rest =
+    and_rest unit access after (Some byte) outcomes told end walk (length (access_requests unit access)) frames all
+    (access_frames unit access after byte walk.1 walk.3) sum rest
 
 -- no plan that gives up ends Done
 never_done : (unit : ℕ) (outcomes : List (Option ℕ)) (told : List Exchange)
@@ -94,7 +94,8 @@ expect_took unit location byte after frames rest [] told walk = let differs = wa
 expect_took unit location byte after frames rest (None ∷ outcomes) told walk =
     absurd (never_done unit outcomes walk.0 walk.4)
 expect_took unit location byte after frames rest (Some found ∷ outcomes) told walk =
-    step_first unit (ReadFrom location) (either_way give_up (λ f. if f == byte then after else give_up)) found outcomes
+    access_first unit (ReadFrom location) (either_way give_up (λ f. if f == byte then after else give_up)) found
+    outcomes
     told (Finish Done) walk frames (read_frames + frames) refl
     (by (found == byte) walk.0 walk.4)
   where
@@ -123,14 +124,15 @@ write_on_took : (unit : ℕ) (updates left : List (ℕ × ℕ)) (outcomes : List
 write_on_took unit updates [] [] told walk = let differs = walk.1 in cc
 write_on_took unit updates [] (None ∷ outcomes) told walk = absurd (never_done unit outcomes walk.0 walk.4)
 write_on_took unit updates [] (Some byte ∷ outcomes) told walk =
-    step_first unit (WriteTo 2 0xFF) (either_way give_up (λ b. read_lock updates)) byte outcomes told (Finish Done) walk
+    access_first unit (WriteTo 2 0xFF) (either_way give_up (λ b. read_lock updates)) byte outcomes told (Finish Done)
+    walk
     (read_frames + length updates * read_frames) _ (omega arith)
     (expect_took unit 2 0xFF (read_back updates) (length updates * read_frames) (read_back_took unit updates) outcomes
     walk.0 walk.4)
 write_on_took unit updates (update ∷ left) [] told walk = let differs = walk.1 in cc
 write_on_took unit updates (update ∷ left) (None ∷ outcomes) told walk = absurd (never_done unit outcomes walk.0 walk.4)
 write_on_took unit updates (update ∷ left) (Some byte ∷ outcomes) told walk =
-    step_first unit (WriteTo update.0 update.1) (either_way give_up (λ b. write_on updates left)) byte outcomes told
+    access_first unit (WriteTo update.0 update.1) (either_way give_up (λ b. write_on updates left)) byte outcomes told
     (Finish Done) walk
     (length left * write_frames + write_frames + read_frames + length updates * read_frames) _ (omega arith)
     (write_on_took unit updates left outcomes walk.0 walk.4)
@@ -141,7 +143,7 @@ unlock_took : (unit : ℕ) (updates : List (ℕ × ℕ)) (outcomes : List (Optio
 unlock_took unit updates [] told walk = let differs = walk.1 in cc
 unlock_took unit updates (None ∷ outcomes) told walk = absurd (never_done unit outcomes walk.0 walk.4)
 unlock_took unit updates (Some byte ∷ outcomes) told walk =
-    step_first unit (WriteTo 2 0x55) (either_way give_up (λ b. write_on updates updates)) byte outcomes told
+    access_first unit (WriteTo 2 0x55) (either_way give_up (λ b. write_on updates updates)) byte outcomes told
     (Finish Done) walk
     (length updates * write_frames + write_frames + read_frames + length updates * read_frames) _ (omega arith)
     (write_on_took unit updates updates outcomes walk.0 walk.4)

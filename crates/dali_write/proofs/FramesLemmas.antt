@@ -3,7 +3,7 @@ use Rattle.std.proofs.Common.{◌≡◌, refl, ℕ, zero, suc, ◌+◌, ◌-◌,
 use Rattle.std.proofs.Common.{Some, None, IsSome, arith}
 use Rattle.std.proofs.lemmas.Nat.{mul-le}
 use Rattle.std.proofs.lemmas.Option.{slice_get_within}
-use Rattle.dali_write.specs.declared.line.Line.{Line}
+use Rattle.dali_write.specs.declared.request.Request.{Request}
 use Rattle.dali_write.specs.declared.stage.Job.{Job}
 use Rattle.dali_write.specs.declared.session.Session.{Session}
 use Rattle.dali_write.specs.declared.stage.Stage.{Stage}
@@ -11,61 +11,64 @@ use Rattle.dali_write.specs.declared.stage.Stage.TheVariants.{ReadLength, ReadFo
 use Rattle.dali_write.specs.declared.stage.Stage.TheVariants.{ReadLock, ReadBack, Close, ReadClosed, ReadAll, ReadOn}
 use Rattle.dali_write.specs.declared.stage.Stage.TheVariants.{Over}
 use Rattle.dali_write.specs.Plans.{write_on, read_back, read_on}
-use Rattle.dali_write.specs.Tries.{plan_lines}
+use Rattle.dali_write.specs.Tries.{plan_requests}
 use Rattle.dali_write.specs.Stages.{updates_for, plan_at}
 use Rattle.dali_write.specs.FramesLeft.{limit_at, read_limit}
-use Rattle.dali_write.specs.Told.{line_at_hand}
+use Rattle.dali_write.specs.Told.{request_at_hand}
 
-write_on_lines : (unit : ℕ) (updates left : List (ℕ × ℕ)) → length (plan_lines unit (write_on updates left)) ≤ 7
-write_on_lines unit updates [] = omega arith
-write_on_lines unit updates (update ∷ left) = omega arith
+write_on_requests : (unit : ℕ) (updates left : List (ℕ × ℕ)) → length (plan_requests unit (write_on updates left)) ≤ 7
+write_on_requests unit updates [] = omega arith
+write_on_requests unit updates (update ∷ left) = omega arith
 
-read_back_lines : (unit : ℕ) (updates : List (ℕ × ℕ)) → length (plan_lines unit (read_back updates)) ≤ 5
-read_back_lines unit [] = omega arith
-read_back_lines unit (update ∷ updates) = omega arith
+read_back_requests : (unit : ℕ) (updates : List (ℕ × ℕ)) → length (plan_requests unit (read_back updates)) ≤ 7
+read_back_requests unit [] = omega arith
+read_back_requests unit (update ∷ updates) = omega arith
 
-read_on_lines : (unit location left : ℕ) → 8 * length (plan_lines unit (read_on location left)) ≤ read_limit * left
-read_on_lines unit location zero = omega arith
-read_on_lines unit location (suc left) = omega arith
+read_on_requests : (unit location left : ℕ)
+    → 8 * length (plan_requests unit (read_on location left)) ≤ read_limit * left
+read_on_requests unit location zero = omega arith
+read_on_requests unit location (suc left) = omega arith
 
--- the limit of a stage has room for eight tries of the step at hand
+-- the limit of a stage has room for eight tries of the access at hand
 pub tries_fit : (unit : ℕ) (job : Job) (stage : Stage)
-    → 8 * length (plan_lines unit (plan_at job stage)) ≤ limit_at job stage
+    → 8 * length (plan_requests unit (plan_at job stage)) ≤ limit_at job stage
 tries_fit unit job ReadLength = omega arith
 tries_fit unit job ReadFormat = omega arith
 tries_fit unit job (ReadFormatLow high) = omega arith
 tries_fit unit job Unlock = omega arith
-tries_fit unit job (WriteOn index) = omega (arith, write_on_lines unit (updates_for job) (drop index (updates_for job)))
+tries_fit unit job (WriteOn index) =
+    omega (arith, write_on_requests unit (updates_for job) (drop index (updates_for job)))
 tries_fit unit job ReadLock = omega arith
-tries_fit unit job (ReadBack index) = omega (arith, read_back_lines unit (drop index (updates_for job)))
+tries_fit unit job (ReadBack index) = omega (arith, read_back_requests unit (drop index (updates_for job)))
 tries_fit unit job (Close answered unanswered) = omega arith
 tries_fit unit job (ReadClosed answered unanswered) = omega arith
 tries_fit unit job ReadAll = omega arith
-tries_fit unit job (ReadOn location last) = read_on_lines unit location (suc last - location)
+tries_fit unit job (ReadOn location last) = read_on_requests unit location (suc last - location)
 tries_fit unit job (Over verdict) = omega arith
 
 -- the frames of the tries so far are fewer than those of eight
-within_tries : (misses lines number : ℕ) → misses < 8 → number < lines → misses * lines + number < 8 * lines
-within_tries misses lines number few below = omega (arith, mul-le misses lines 7 lines (omega arith) (omega arith))
+within_tries : (misses requests number : ℕ) → misses < 8 → number < requests → misses * requests + number < 8 * requests
+within_tries misses requests number few below =
+    omega (arith, mul-le misses requests 7 requests (omega arith) (omega arith))
 
 -- one frame more of a try
-pub falls_on : (limit lines misses number : ℕ) → 8 * lines ≤ limit → misses < 8 → number < lines
-    → limit - (misses * lines + (number + 1)) < limit - (misses * lines + number)
-falls_on limit lines misses number fit few below = omega (arith, within_tries misses lines number few below)
+pub falls_on : (limit requests misses number : ℕ) → 8 * requests ≤ limit → misses < 8 → number < requests
+    → limit - (misses * requests + (number + 1)) < limit - (misses * requests + number)
+falls_on limit requests misses number fit few below = omega (arith, within_tries misses requests number few below)
 
 -- another try
-pub falls_again : (limit lines misses number : ℕ) → 8 * lines ≤ limit → misses < 7 → number < lines
-    → limit - ((misses + 1) * lines + 0) < limit - (misses * lines + number)
-falls_again limit lines misses number fit few below =
-    let times : (misses + 1) * lines ≡ misses * lines + lines = omega arith in
-    omega (arith, within_tries misses lines number (omega arith) below)
+pub falls_again : (limit requests misses number : ℕ) → 8 * requests ≤ limit → misses < 7 → number < requests
+    → limit - ((misses + 1) * requests + 0) < limit - (misses * requests + number)
+falls_again limit requests misses number fit few below =
+    let times : (misses + 1) * requests ≡ misses * requests + requests = omega arith in
+    omega (arith, within_tries misses requests number (omega arith) below)
 
--- while a frame is at hand, its number is below that of the lines
-pub number_below : (s : Session) → IsSome (line_at_hand s)
-    → s.number < length (plan_lines s.unit (plan_at s.job s.stage))
-number_below s some = by (line_at_hand s) refl some
+-- while a frame is at hand, its number is below that of the requests
+pub number_below : (s : Session) → IsSome (request_at_hand s)
+    → s.number < length (plan_requests s.unit (plan_at s.job s.stage))
+number_below s some = by (request_at_hand s) refl some
   where
-    by : (next : Option Line) → line_at_hand s ≡ next → IsSome next
-        → s.number < length (plan_lines s.unit (plan_at s.job s.stage))
+    by : (next : Option Request) → request_at_hand s ≡ next → IsSome next
+        → s.number < length (plan_requests s.unit (plan_at s.job s.stage))
     by None at some = cc
-    by (Some next) at some = slice_get_within (plan_lines s.unit (plan_at s.job s.stage)) s.number next at
+    by (Some next) at some = slice_get_within (plan_requests s.unit (plan_at s.job s.stage)) s.number next at

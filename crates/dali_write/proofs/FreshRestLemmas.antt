@@ -12,11 +12,11 @@ use Rattle.dali_write.specs.Findings.{Rests}
 use Rattle.dali_write.specs.Plans.{Finish, either_way, greatest, judge_length, read_format, read_format_low}
 use Rattle.dali_write.specs.Plans.{read_length}
 use Rattle.dali_write.specs.Tries.{Wants}
-use Rattle.dali_write.specs.Reads.{ReadStands}
+use Rattle.dali_write.specs.Reads.{StillRead}
 use Rattle.dali_write.specs.Walks.{Walk}
 use Rattle.dali_write.proofs.WalkLemmas.{ended_walk}
 use Rattle.dali_write.proofs.VerdictLemmas.{finish_walk}
-use Rattle.dali_write.proofs.RestLemmas.{After, split, read_step_shows, read_step_keeps, shows_kept}
+use Rattle.dali_write.proofs.RestLemmas.{After, split, read_access_shows, read_access_keeps, shows_kept}
 
 no_match : (high low : ℕ) → ((high == 0) && (low == 3)) ≡ false → (high ≡ 0) × (low ≡ 3) → ⊥
 no_match high low differs both =
@@ -25,12 +25,12 @@ no_match high low differs both =
 
 ends_silent : (unit : ℕ) (updates : List (ℕ × ℕ)) (verdict : Verdict) (last : List Exchange)
     (outcomes : List (Option ℕ)) (told : List Exchange)
-    → Walk unit (Finish Silent) outcomes told (Finish verdict) → Rests (ReadStands last unit) updates verdict
+    → Walk unit (Finish Silent) outcomes told (Finish verdict) → Rests (StillRead last unit) updates verdict
 ends_silent unit updates verdict last outcomes told walk =
     let end = finish_walk unit Silent outcomes told (Finish verdict) walk in
     let same = end.1 in
     let is : Silent ≡ verdict = cc in
-    subst (λ (v : Verdict). Rests (ReadStands last unit) updates v) is tt
+    subst (λ (v : Verdict). Rests (StillRead last unit) updates v) is tt
 
 -- it ended at once, in the same world
 ends_here : (unit : ℕ) (end verdict : Verdict) (first last : List Exchange) (outcomes : List (Option ℕ))
@@ -43,10 +43,10 @@ ends_here unit end verdict first last outcomes told walk run =
 
 format_low_rests : (unit : ℕ) (updates : List (ℕ × ℕ)) (length high : ℕ) (verdict : Verdict)
     (outcomes : List (Option ℕ)) (told : List Exchange) (first last : List Exchange)
-    → ReadStands first unit 0 length → greatest updates ≤ length → 0x13 ≤ greatest updates
-    → ReadStands first unit 0x11 high
+    → StillRead first unit 0 length → greatest updates ≤ length → 0x13 ≤ greatest updates
+    → StillRead first unit 0x11 high
     → Walk unit (read_format_low high) outcomes told (Finish verdict) → After told first last
-    → Rests (ReadStands last unit) updates verdict
+    → Rests (StillRead last unit) updates verdict
 format_low_rests unit updates length high verdict [] told first last size fits long shows walk run =
     let no = walk.1 in cc
 format_low_rests unit updates length high verdict (None ∷ outcomes) told first last size fits long shows walk run =
@@ -54,87 +54,87 @@ format_low_rests unit updates length high verdict (None ∷ outcomes) told first
 format_low_rests unit updates length high verdict (Some low ∷ outcomes) told first last size fits long shows walk run =
     let parts = split walk.0 walk.1 first last (subst (λ (t : List Exchange). After t first last) walk.2 run) in
     let after = either_way (Finish Silent) (λ l. Finish (if (high == 0) && (l == 3) then MayOpen else Format)) in
-    let low_is = read_step_shows unit 0x12 low after walk.1 first parts.0 walk.3 parts.1 in
-    let keeps = read_step_keeps unit 0x12 after (Some low) walk.1 first parts.0 walk.3 parts.1 in
+    let low_is = read_access_shows unit 0x12 low after walk.1 first parts.0 walk.3 parts.1 in
+    let keeps = read_access_keeps unit 0x12 after (Some low) walk.1 first parts.0 walk.3 parts.1 in
     by parts.0 parts.2 (shows_kept first parts.0 unit 0 length size keeps)
     (shows_kept first parts.0 unit 0x11 high shows keeps) low_is ((high == 0) && (low == 3)) refl walk.4 where
-      by : (mid : List Exchange) → After walk.0 mid last → ReadStands mid unit 0 length → ReadStands mid unit 0x11 high
-          → ReadStands mid unit 0x12 low
+      by : (mid : List Exchange) → After walk.0 mid last → StillRead mid unit 0 length → StillRead mid unit 0x11 high
+          → StillRead mid unit 0x12 low
           → (t : Bool) → ((high == 0) && (low == 3)) ≡ t
           → Walk unit (Finish (if t then MayOpen else Format)) outcomes walk.0 (Finish verdict)
-          → Rests (ReadStands last unit) updates verdict
+          → Rests (StillRead last unit) updates verdict
       by mid run size_is high_is low_is true suits on =
           let over = ends_here unit MayOpen verdict mid last outcomes walk.0 on run in
           let zero = eqb-true high 0 (first_so (high == 0) (low == 3) suits) in
           let three = eqb-true low 3 (second_so (high == 0) (low == 3) suits) in
-          subst (λ (v : Verdict). Rests (ReadStands last unit) updates v) over.0
-          (subst (λ (w : List Exchange). Rests (ReadStands w unit) updates MayOpen) (sym over.1) (
+          subst (λ (v : Verdict). Rests (StillRead last unit) updates v) over.0
+          (subst (λ (w : List Exchange). Rests (StillRead w unit) updates MayOpen) (sym over.1) (
             length,
             size_is,
             fits,
             λ long. (
-              subst (λ (h : ℕ). ReadStands mid unit 0x11 h) zero high_is,
-              subst (λ (l : ℕ). ReadStands mid unit 0x12 l) three low_is,
+              subst (λ (h : ℕ). StillRead mid unit 0x11 h) zero high_is,
+              subst (λ (l : ℕ). StillRead mid unit 0x12 l) three low_is,
             ),
           ))
       by mid run size_is high_is low_is false differs on =
           let over = ends_here unit Format verdict mid last outcomes walk.0 on run in
-          subst (λ (v : Verdict). Rests (ReadStands last unit) updates v) over.0
-          (subst (λ (w : List Exchange). Rests (ReadStands w unit) updates Format) (sym over.1)
+          subst (λ (v : Verdict). Rests (StillRead last unit) updates v) over.0
+          (subst (λ (w : List Exchange). Rests (StillRead w unit) updates Format) (sym over.1)
           (high, low, high_is, low_is, long, no_match high low differs))
 
 format_rests : (unit : ℕ) (updates : List (ℕ × ℕ)) (length : ℕ) (verdict : Verdict) (outcomes : List (Option ℕ))
     (told : List Exchange) (first last : List Exchange)
-    → ReadStands first unit 0 length → greatest updates ≤ length → 0x13 ≤ greatest updates
+    → StillRead first unit 0 length → greatest updates ≤ length → 0x13 ≤ greatest updates
     → Walk unit read_format outcomes told (Finish verdict) → After told first last
-    → Rests (ReadStands last unit) updates verdict
+    → Rests (StillRead last unit) updates verdict
 format_rests unit updates length verdict [] told first last size fits long walk run = let no = walk.1 in cc
 format_rests unit updates length verdict (None ∷ outcomes) told first last size fits long walk run =
     ends_silent unit updates verdict last outcomes walk.0 walk.4
 format_rests unit updates length verdict (Some high ∷ outcomes) told first last size fits long walk run =
     let parts = split walk.0 walk.1 first last (subst (λ (t : List Exchange). After t first last) walk.2 run) in
     let after = either_way (Finish Silent) read_format_low in
-    let high_is = read_step_shows unit 0x11 high after walk.1 first parts.0 walk.3 parts.1 in
-    let keeps = read_step_keeps unit 0x11 after (Some high) walk.1 first parts.0 walk.3 parts.1 in
+    let high_is = read_access_shows unit 0x11 high after walk.1 first parts.0 walk.3 parts.1 in
+    let keeps = read_access_keeps unit 0x11 after (Some high) walk.1 first parts.0 walk.3 parts.1 in
     format_low_rests unit updates length high verdict outcomes walk.0 parts.0 last
     (shows_kept first parts.0 unit 0 length size keeps) fits long high_is walk.4 parts.2
 
 length_rests : (unit : ℕ) (updates : List (ℕ × ℕ)) (verdict : Verdict) (outcomes : List (Option ℕ))
     (told : List Exchange) (first last : List Exchange)
     → Walk unit (read_length updates) outcomes told (Finish verdict) → After told first last
-    → Rests (ReadStands last unit) updates verdict
+    → Rests (StillRead last unit) updates verdict
 length_rests unit updates verdict [] told first last walk run = let no = walk.1 in cc
 length_rests unit updates verdict (None ∷ outcomes) told first last walk run =
     ends_silent unit updates verdict last outcomes walk.0 walk.4
 length_rests unit updates verdict (Some length ∷ outcomes) told first last walk run =
     let parts = split walk.0 walk.1 first last (subst (λ (t : List Exchange). After t first last) walk.2 run) in
     let size_is =
-    read_step_shows unit 0 length (either_way (Finish Silent) (judge_length updates)) walk.1 first parts.0
+    read_access_shows unit 0 length (either_way (Finish Silent) (judge_length updates)) walk.1 first parts.0
     walk.3 parts.1 in
     by parts.0 parts.2 size_is (nat_lt length (greatest updates)) refl (nat_lt (greatest updates) 0x13)
     refl walk.4 where
-      by : (mid : List Exchange) → After walk.0 mid last → ReadStands mid unit 0 length → (s : Bool)
+      by : (mid : List Exchange) → After walk.0 mid last → StillRead mid unit 0 length → (s : Bool)
           → nat_lt length (greatest updates) ≡ s → (t : Bool) → nat_lt (greatest updates) 0x13 ≡ t
           → Walk unit (if s then Finish Short else (if t then Finish MayOpen else read_format)) outcomes walk.0
           (Finish verdict)
-          → Rests (ReadStands last unit) updates verdict
+          → Rests (StillRead last unit) updates verdict
       by mid run size_is true short t early on =
           let over = ends_here unit Short verdict mid last outcomes walk.0 on run in
-          subst (λ (v : Verdict). Rests (ReadStands last unit) updates v) over.0
-          (subst (λ (w : List Exchange). Rests (ReadStands w unit) updates Short) (sym over.1)
+          subst (λ (v : Verdict). Rests (StillRead last unit) updates v) over.0
+          (subst (λ (w : List Exchange). Rests (StillRead w unit) updates Short) (sym over.1)
           (length, size_is, ltb-true length (greatest updates) short))
       by mid run size_is false fits true early on =
           let over = ends_here unit MayOpen verdict mid last outcomes walk.0 on run in
           let below = ltb-true (greatest updates) 0x13 early in
-          subst (λ (v : Verdict). Rests (ReadStands last unit) updates v) over.0
-          (subst (λ (w : List Exchange). Rests (ReadStands w unit) updates MayOpen) (sym over.1)
+          subst (λ (v : Verdict). Rests (StillRead last unit) updates v) over.0
+          (subst (λ (w : List Exchange). Rests (StillRead w unit) updates MayOpen) (sym over.1)
           (length, size_is, ltb-false length (greatest updates) fits, λ long. let no : ⊥ = omega arith in absurd no))
       by mid run size_is false fits false late on =
           format_rests unit updates length verdict outcomes walk.0 mid last size_is
           (ltb-false length (greatest updates) fits) (ltb-false (greatest updates) 0x13 late) on run
 
 pub fresh_rests : (told : List Exchange) (unit : ℕ) (updates : List (ℕ × ℕ)) (verdict : Verdict)
-    → Wants unit (read_length updates) told (Ended verdict) → Rests (ReadStands told unit) updates verdict
+    → Wants unit (read_length updates) told (Ended verdict) → Rests (StillRead told unit) updates verdict
 fresh_rests told unit updates verdict wants =
     let ended = ended_walk unit (read_length updates) told verdict wants in
     length_rests unit updates verdict ended.0 told [] told ended.1 (sym (append-nil told))

@@ -1,13 +1,13 @@
 -- What frames do to one unit.
-use Rattle.std.proofs.Common.{◌≡◌, ◌⊎◌, refl, ap, subst, ◌∙◌, inl, inr, ℕ, false, Option, Some, None}
+use Rattle.std.proofs.Common.{◌≡◌, ◌⊎◌, refl, sym, ap, ◌∙◌, inl, inr, ℕ, false, Option, Some, None, is_some}
 use Rattle.std.specs.Prelude.{◌≢◌}
 use Rattle.dali_frame.specs.declared.forward.Frame.{Frame}
 use Rattle.dali_frame.specs.declared.forward.Frame.TheVariants.{Dtr0, Dtr1, Dtr2, Write, WriteSilent, Enable, AskDtr0}
 use Rattle.dali_frame.specs.declared.forward.Frame.TheVariants.{AskDtr1, AskDtr2, Read, Other}
-use Rattle.dali_bus.specs.World.{World, Gear}
+use Rattle.dali_bus.specs.World.{World, Gear, Memory, byte_in, is_open}
 use Rattle.dali_bus.specs.Hears.{Hears, Obeys, MayEnd, Tells, Ignores, PassesBy}
 use Rattle.dali_bus.specs.Carry.{Carry, MayHear, Heard}
-use Rattle.dali_write.specs.Worlds.{memory_of, IsOff, KeepsAt}
+use Rattle.dali_write.specs.Worlds.{memory_of, memory_at, IsOff}
 
 -- the memory stays, and it isn't newly enabled
 pub record Keeps (old new : Gear) : Type 0 where
@@ -92,11 +92,101 @@ quiet_here at (Some old) frame (Some new) quiet (inr heard) =
 quiet_here at None frame (Some new) quiet hears = absurd hears
 quiet_here at (Some old) frame None quiet hears = absurd hears
 
-pub carry_keeps : (old : World) (frame : Frame) (answer : Option ℕ) (new : World) (address : ℕ) → IsQuiet address frame
-    → Carry old frame answer new → KeepsAt old new address
-carry_keeps old frame answer new address quiet carry =
+-- the unit keeps its memory, and isn't newly enabled
+pub record StaysAt (old new : World) (address : ℕ) : Type 0 where
+  pub memory : memory_at new address ≡ memory_at old address
+  pub off : IsOff (old address) → IsOff (new address)
+
+pub carry_stays : (old : World) (frame : Frame) (answer : Option ℕ) (new : World) (address : ℕ) → IsQuiet address frame
+    → Carry old frame answer new → StaysAt old new address
+carry_stays old frame answer new address quiet carry =
     let both = quiet_here address (old address) frame (new address) quiet (carry.units address) in
     record { memory = both.0; off = both.1 }
+
+-- the byte at a place of a memory
+abbrev byte_by : Option Memory → ℕ → ℕ → Option ℕ
+byte_by None bank location = None
+byte_by (Some memory) bank location = memory bank location
+
+-- a unit holds what its memory holds
+by_memory : (unit : Option Gear) (bank location : ℕ)
+    → byte_in unit bank location ≡ byte_by (memory_of unit) bank location
+by_memory None bank location = refl
+by_memory (Some gear) bank location = refl
+
+-- where the memory stays, each place does
+pub same_byte : (old new : Option Gear) → memory_of new ≡ memory_of old → (bank location : ℕ)
+    → byte_in new bank location ≡ byte_in old bank location
+same_byte old new same bank location =
+    by_memory new bank location
+    ∙ (ap (λ (m : Option Memory). byte_by m bank location) same ∙ sym (by_memory old bank location))
+
+-- and the unit is still there
+pub same_there : (old new : Option Gear) → memory_of new ≡ memory_of old → is_some new ≡ is_some old
+same_there None None same = refl
+same_there None (Some new) same = cc
+same_there (Some old) None same = cc
+same_there (Some old) (Some new) same = refl
+
+-- a unit, or none, is open or off
+pub off_where : (gear : Option Gear) → is_open gear ≡ false → IsOff gear
+off_where None e = tt
+off_where (Some gear) e = e
+
+pub shut_where : (gear : Option Gear) → IsOff gear → is_open gear ≡ false
+shut_where None off = refl
+shut_where (Some gear) off = off
+
+-- What a unit has in its registers
+
+abbrev pub dtr0_in : Option Gear → Option ℕ
+dtr0_in None = None
+dtr0_in (Some gear) = Some gear.dtr0
+
+abbrev pub dtr1_in : Option Gear → Option ℕ
+dtr1_in None = None
+dtr1_in (Some gear) = Some gear.dtr1
+
+-- the frame sets no DTR1
+abbrev pub LeavesDtr1 : Frame → Type 0
+LeavesDtr1 (Dtr0 byte) = Unit {0}
+LeavesDtr1 (AskDtr0 to) = Unit {0}
+LeavesDtr1 (AskDtr1 to) = Unit {0}
+LeavesDtr1 (Read to) = Unit {0}
+LeavesDtr1 other = ⊥
+
+obeys_dtr1 : (at : ℕ) (old : Gear) (frame : Frame) (answer : Option ℕ) (new : Gear) → LeavesDtr1 frame
+    → Obeys at old frame answer new → new.dtr1 ≡ old.dtr1
+obeys_dtr1 at old (Dtr0 byte) answer new leaves obeys = ap (λ (g : Gear). g.dtr1) obeys.0
+obeys_dtr1 at old (AskDtr0 to) answer new leaves (inl obeys) = ap (λ (g : Gear). g.dtr1) obeys.1.0
+obeys_dtr1 at old (AskDtr0 to) answer new leaves (inr obeys) = ap (λ (g : Gear). g.dtr1) obeys.1.0
+obeys_dtr1 at old (AskDtr1 to) answer new leaves (inl obeys) = ap (λ (g : Gear). g.dtr1) obeys.1.0
+obeys_dtr1 at old (AskDtr1 to) answer new leaves (inr obeys) = ap (λ (g : Gear). g.dtr1) obeys.1.0
+obeys_dtr1 at old (Read to) answer new leaves (inl (is, inl read)) = ap (λ (g : Gear). g.dtr1) read.2
+obeys_dtr1 at old (Read to) answer new leaves (inl (is, inr nothing)) = ap (λ (g : Gear). g.dtr1) nothing.1.2
+obeys_dtr1 at old (Read to) answer new leaves (inr obeys) = ap (λ (g : Gear). g.dtr1) obeys.1.0
+obeys_dtr1 at old (Dtr1 byte) answer new leaves obeys = absurd leaves
+obeys_dtr1 at old (Dtr2 byte) answer new leaves obeys = absurd leaves
+obeys_dtr1 at old (AskDtr2 to) answer new leaves obeys = absurd leaves
+obeys_dtr1 at old (Write byte) answer new leaves obeys = absurd leaves
+obeys_dtr1 at old (WriteSilent byte) answer new leaves obeys = absurd leaves
+obeys_dtr1 at old (Enable to) answer new leaves obeys = absurd leaves
+obeys_dtr1 at old (Other word) answer new leaves obeys = absurd leaves
+
+hears_dtr1 : (at : ℕ) (old : Option Gear) (frame : Frame) (new : Option Gear) → LeavesDtr1 frame
+    → MayHear at old frame new → dtr1_in new ≡ dtr1_in old
+hears_dtr1 at None frame None leaves hears = refl
+hears_dtr1 at (Some old) frame (Some new) leaves (inl same) = ap (λ (g : Gear). Some g.dtr1) same
+hears_dtr1 at (Some old) frame (Some new) leaves (inr heard) =
+    let h = heard.1 in
+    ap Some ((end_steady h.obeyed new h.ends).dtr1 ∙ obeys_dtr1 at old frame heard.0 h.obeyed leaves h.obeys)
+hears_dtr1 at None frame (Some new) leaves hears = absurd hears
+hears_dtr1 at (Some old) frame None leaves hears = absurd hears
+
+pub carry_dtr1 : (old : World) (frame : Frame) (answer : Option ℕ) (new : World) → LeavesDtr1 frame
+    → Carry old frame answer new → (unit : ℕ) → dtr1_in (new unit) ≡ dtr1_in (old unit)
+carry_dtr1 old frame answer new leaves carry unit =
+    hears_dtr1 unit (old unit) frame (new unit) leaves (carry.units unit)
 
 -- the unit that answers a query
 answers_ask1 : (at : ℕ) (old : Gear) (to v : ℕ) (new : Gear) → Hears at old (AskDtr1 to) (Some v) new
@@ -115,56 +205,17 @@ answers_ask0 at old to v new h = told h.obeys where
   told (inl (is, tells)) = let value = tells.1 in (is, cc, rw tells.0 at (end_steady h.obeyed new h.ends))
   told (inr (isnt, ignores)) = let never = ignores.1 in cc
 
--- the unit at the address has these bytes in DTR0 and DTR1
-pub record After (world : World) (unit : ℕ) (dtr0 dtr1 : ℕ) : Type 0 where
-  pub gear : Gear
-  pub is : world unit ≡ Some gear
-  pub dtr0_is : gear.dtr0 ≡ dtr0
-  pub dtr1_is : gear.dtr1 ≡ dtr1
-
--- it has this byte in DTR1
-pub record Banked (world : World) (unit dtr1 : ℕ) : Type 0 where
-  pub gear : Gear
-  pub is : world unit ≡ Some gear
-  pub dtr1_is : gear.dtr1 ≡ dtr1
-
-pub asked1 : (old : World) (unit v : ℕ) (new : World) → Carry old (AskDtr1 unit) (Some v) new → Banked new unit v
+-- the unit that was asked for a register, and told it, has it
+pub asked1 : (old : World) (unit v : ℕ) (new : World) → Carry old (AskDtr1 unit) (Some v) new
+    → dtr1_in (new unit) ≡ Some v
 asked1 old unit v new carry =
     let a = carry.answers in
     let told = answers_ask1 a.address a.before unit v a.after a.hears in
-    record { gear = a.after; is = rw told.0 a.is; dtr1_is = told.2.dtr1 ∙ told.1 }
+    rw told.0 (ap dtr1_in a.is ∙ ap Some (told.2.dtr1 ∙ told.1))
 
--- a unit that is there stays there
-pub stays : (at : ℕ) (old : Gear) (frame : Frame) (new : Option Gear) → MayHear at (Some old) frame new
-    → (gear : Gear) × (new ≡ Some gear) × ((gear ≡ old) ⊎ Heard at old frame gear)
-stays at old frame None hears = absurd hears
-stays at old frame (Some new) hears = (new, refl, hears)
-
-dtr0_keeps : (at : ℕ) (old : Gear) (b : ℕ) (new : Gear) → (new ≡ old) ⊎ Heard at old (Dtr0 b) new → new.dtr1 ≡ old.dtr1
-dtr0_keeps at old b new (inl same) = (same_steady old new same).dtr1
-dtr0_keeps at old b new (inr heard) =
-    let h = heard.1 in (end_steady h.obeyed new h.ends).dtr1 ∙ ap (λ (g : Gear). g.dtr1) h.obeys.0
-
-pub placed : (old : World) (b : ℕ) (answer : Option ℕ) (new : World) (unit v : ℕ) → Carry old (Dtr0 b) answer new
-    → Banked old unit v → Banked new unit v
-placed old b answer new unit v carry banked =
-    let there =
-    stays unit banked.gear (Dtr0 b) (new unit)
-    (subst (λ (g : Option Gear). MayHear unit g (Dtr0 b) (new unit)) banked.is (carry.units unit)) in
-    record { gear = there.0; is = there.1; dtr1_is = dtr0_keeps unit banked.gear b there.0 there.2 ∙ banked.dtr1_is }
-
-same_gear : (old : World) (unit : ℕ) (a b : Gear) → old unit ≡ Some a → old unit ≡ Some b → a ≡ b
-same_gear old unit a b e f = cc
-
-pub asked0 : (old : World) (unit v bank : ℕ) (new : World) → Carry old (AskDtr0 unit) (Some v) new
-    → Banked old unit bank → After new unit v bank
-asked0 old unit v bank new carry banked =
+pub asked0 : (old : World) (unit v : ℕ) (new : World) → Carry old (AskDtr0 unit) (Some v) new
+    → dtr0_in (new unit) ≡ Some v
+asked0 old unit v new carry =
     let a = carry.answers in
     let told = answers_ask0 a.address a.before unit v a.after a.hears in
-    let same : a.before ≡ banked.gear = same_gear old unit a.before banked.gear (rw told.0 a.was) banked.is in
-    record {
-      gear = a.after;
-      is = rw told.0 a.is;
-      dtr0_is = told.2.dtr0 ∙ told.1;
-      dtr1_is = told.2.dtr1 ∙ (ap (λ (g : Gear). g.dtr1) same ∙ banked.dtr1_is);
-    }
+    rw told.0 (ap dtr0_in a.is ∙ ap Some (told.2.dtr0 ∙ told.1))

@@ -16,14 +16,15 @@ use Rattle.dali_gear.specs.UnitState.{stores, carries_out, bank_of}
 use Rattle.dali_bus.specs.Hears.{up}
 use Rattle.dali_gear.specs.SimState.{SimState, SimCarry, unit_after}
 use Rattle.dali_gear.proofs.BankLemmas.{IsQuiet, bank_stays}
-use Rattle.dali_write.specs.declared.line.Line.{Line}
-use Rattle.dali_write.specs.declared.line.Wish.TheVariants.{Nothing, Exactly}
-use Rattle.dali_write.specs.declared.step.Step.{Step}
-use Rattle.dali_write.specs.declared.step.Step.TheVariants.{ReadFrom, WriteTo}
-use Rattle.dali_write.specs.Lines.{Meets, line, read_lines, step_lines}
+use Rattle.dali_write.specs.declared.request.Request.{Request}
+use Rattle.dali_write.specs.declared.request.Wish.TheVariants.{Nothing, Exactly}
+use Rattle.dali_write.specs.declared.access.Access.{Access}
+use Rattle.dali_write.specs.declared.access.Access.TheVariants.{ReadFrom, WriteTo}
+use Rattle.dali_write.specs.Requests.{Meets, request, read_requests, access_requests}
 use Rattle.dali_write.specs.Tries.{Trying, Missed, Misses, Succeeds}
-use Rattle.dali_write.specs.Losses.{SimRun, losses, Unrefused, IsAlone}
+use Rattle.dali_write.specs.Losses.{SimRun, SimStays, losses, Unrefused, IsAlone}
 use Rattle.dali_write.proofs.OneFrameLemmas.{own_answer, alone_then}
+use Rattle.dali_write.proofs.DriftLemmas.{drifts_alone}
 use Rattle.dali_write.proofs.LossLemmas.{AllFor, all_for}
 
 -- the unit hears the frame or not
@@ -34,9 +35,9 @@ hears lost refuses unit frame = if lost then unit else after_frame refuses unit 
 abbrev says : Bool → Bool → UnitState → Frame → Option ℕ
 says lost refuses unit frame = if lost then None else answer_to refuses unit frame
 
--- Whatever is lost or refused of the lines, it holds of the bank, and it goes on so while answers that come back are
--- as wished; after the last line, the unit is so.
-abbrev Safe : (BankState → Type 0) → (UnitState → Type 0) → List Line → UnitState → Type 0
+-- Whatever is lost or refused of the requests, it holds of the bank, and it goes on so while answers that come back are
+-- as wished; after the last request, the unit is so.
+abbrev Safe : (BankState → Type 0) → (UnitState → Type 0) → List Request → UnitState → Type 0
 Safe keep end [] unit = end unit
 Safe keep end (next ∷ left) unit =
     (lost refuses : Bool) (answer : Option ℕ)
@@ -49,27 +50,27 @@ keep_quiet : (keep : BankState → Type 0) (lost refuses : Bool) (unit : UnitSta
 keep_quiet keep true refuses unit frame quiet kept = kept
 keep_quiet keep false refuses unit frame quiet kept = subst keep (sym (bank_stays refuses unit frame quiet)) kept
 
--- none of the lines writes
-abbrev AllQuiet : List Line → Type 0
+-- none of the requests writes
+abbrev AllQuiet : List Request → Type 0
 AllQuiet [] = Unit {0}
 AllQuiet (next ∷ left) = IsQuiet next.frame × AllQuiet left
 
--- quiet lines, and then others
-quiet_first : (keep : BankState → Type 0) (end : UnitState → Type 0) (lines left : List Line) (unit : UnitState)
-    → AllQuiet lines → keep unit.bank1
-    → ((new : UnitState) → keep new.bank1 → Safe keep end left new) → Safe keep end (lines ++ left) unit
+-- quiet requests, and then others
+quiet_first : (keep : BankState → Type 0) (end : UnitState → Type 0) (requests left : List Request) (unit : UnitState)
+    → AllQuiet requests → keep unit.bank1
+    → ((new : UnitState) → keep new.bank1 → Safe keep end left new) → Safe keep end (requests ++ left) unit
 quiet_first keep end [] left unit quiet kept rest = rest unit kept
-quiet_first keep end (next ∷ lines) left unit quiet kept rest = λ lost refuses answer back.
+quiet_first keep end (next ∷ requests) left unit quiet kept rest = λ lost refuses answer back.
     let still = keep_quiet keep lost refuses unit next.frame quiet.0 kept in
-    (still, λ meets. quiet_first keep end lines left (hears lost refuses unit next.frame) quiet.1 still rest)
+    (still, λ meets. quiet_first keep end requests left (hears lost refuses unit next.frame) quiet.1 still rest)
 
--- storing the byte of the step keeps it
-abbrev pub Keeps : (BankState → Type 0) → Step → Type 0
+-- storing the byte of the access keeps it
+abbrev pub Keeps : (BankState → Type 0) → Access → Type 0
 Keeps keep (ReadFrom location) = Unit {0}
 Keeps keep (WriteTo location byte) = (bank : BankState) → keep bank → keep (with_byte bank location byte)
 
--- what the unit has after the step: its byte in bank 1, where it wrote one
-abbrev pub Ends : Step → UnitState → Type 0
+-- what the unit has after the access: its byte in bank 1, where it wrote one
+abbrev pub Ends : Access → UnitState → Type 0
 Ends (ReadFrom location) unit = Unit {0}
 Ends (WriteTo location byte) unit = slice_get unit.bank1.bytes location ≡ Some byte
 
@@ -110,10 +111,10 @@ has_written location byte refuses unit bank here done =
     rw (done, on, bank, here)
     (get_set unit.bank1.bytes location byte (ltb-true location (length unit.bank1.bytes) (first_so _ _ writable)))
 
--- the lines of a checked write, from the last one back
+-- the requests of a checked write, from the last one back
 safe_write : (keep : BankState → Type 0) (location byte : ℕ) → Keeps keep (WriteTo location byte)
     → (unit : UnitState) → unit.dtr1 ≡ 1 → unit.dtr0 ≡ location → keep unit.bank1
-    → Safe keep (Ends (WriteTo location byte)) (line (Write byte) (Exactly byte) ∷ []) unit
+    → Safe keep (Ends (WriteTo location byte)) (request (Write byte) (Exactly byte) ∷ []) unit
 safe_write keep location byte stored unit bank here kept true refuses answer back =
     (kept, λ meets. let lost : None ≡ Some byte = back byte meets in cc)
 safe_write keep location byte stored unit bank here kept false refuses answer back =
@@ -126,7 +127,7 @@ safe_write keep location byte stored unit bank here kept false refuses answer ba
 safe_ask0 : (keep : BankState → Type 0) (at location byte : ℕ) → Keeps keep (WriteTo location byte)
     → (unit : UnitState) → unit.dtr1 ≡ 1 → keep unit.bank1
     → Safe keep (Ends (WriteTo location byte))
-    (line (AskDtr0 at) (Exactly location) ∷ line (Write byte) (Exactly byte) ∷ []) unit
+    (request (AskDtr0 at) (Exactly location) ∷ request (Write byte) (Exactly byte) ∷ []) unit
 safe_ask0 keep at location byte stored unit bank kept true refuses answer back =
     (kept, λ meets. let lost : None ≡ Some location = back location meets in cc)
 safe_ask0 keep at location byte stored unit bank kept false refuses answer back = (
@@ -138,7 +139,8 @@ safe_ask0 keep at location byte stored unit bank kept false refuses answer back 
 safe_dtr0 : (keep : BankState → Type 0) (at location byte : ℕ) → Keeps keep (WriteTo location byte)
     → (unit : UnitState) → unit.dtr1 ≡ 1 → keep unit.bank1
     → Safe keep (Ends (WriteTo location byte))
-    (line (Dtr0 location) Nothing ∷ line (AskDtr0 at) (Exactly location) ∷ line (Write byte) (Exactly byte) ∷ []) unit
+    (request (Dtr0 location) Nothing ∷ request (AskDtr0 at) (Exactly location) ∷ request (Write byte) (Exactly byte)
+    ∷ []) unit
 safe_dtr0 keep at location byte stored unit bank kept true refuses answer back =
     (kept, λ meets. safe_ask0 keep at location byte stored unit bank kept)
 safe_dtr0 keep at location byte stored unit bank kept false refuses answer back = (
@@ -149,8 +151,8 @@ safe_dtr0 keep at location byte stored unit bank kept false refuses answer back 
 safe_ask1 : (keep : BankState → Type 0) (at location byte : ℕ) → Keeps keep (WriteTo location byte)
     → (unit : UnitState) → keep unit.bank1
     → Safe keep (Ends (WriteTo location byte))
-    (line (AskDtr1 at) (Exactly 1) ∷ line (Dtr0 location) Nothing ∷ line (AskDtr0 at) (Exactly location)
-    ∷ line (Write byte) (Exactly byte) ∷ [])
+    (request (AskDtr1 at) (Exactly 1) ∷ request (Dtr0 location) Nothing ∷ request (AskDtr0 at) (Exactly location)
+    ∷ request (Write byte) (Exactly byte) ∷ [])
     unit
 safe_ask1 keep at location byte stored unit kept true refuses answer back =
     (kept, λ meets. let lost : None ≡ Some 1 = back 1 meets in cc)
@@ -160,20 +162,21 @@ safe_ask1 keep at location byte stored unit kept false refuses answer back = (
       (told_if (at == unit.address) unit.dtr1 1 (back 1 meets)).1 kept,
 )
 
-safe_step : (keep : BankState → Type 0) (at : ℕ) (step : Step) (unit : UnitState) → Keeps keep step → keep unit.bank1
-    → Safe keep (Ends step) (step_lines at step) unit
-safe_step keep at (ReadFrom location) unit keeps kept =
-    quiet_first keep (Ends (ReadFrom location)) (read_lines at location) [] unit (tt, (tt, (tt, (tt, (tt, tt))))) kept
-    (λ new still. tt)
-safe_step keep at (WriteTo location byte) unit keeps kept =
+safe_access : (keep : BankState → Type 0) (at : ℕ) (access : Access) (unit : UnitState) → Keeps keep access
+    → keep unit.bank1
+    → Safe keep (Ends access) (access_requests at access) unit
+safe_access keep at (ReadFrom location) unit keeps kept =
+    quiet_first keep (Ends (ReadFrom location)) (read_requests at location) [] unit
+    (tt, (tt, (tt, (tt, (tt, (tt, (tt, tt))))))) kept (λ new still. tt)
+safe_access keep at (WriteTo location byte) unit keeps kept =
     quiet_first keep (Ends (WriteTo location byte))
-    (line (Enable at) Nothing ∷ line (Enable at) Nothing ∷ line (Dtr1 1) Nothing ∷ [])
-    (line (AskDtr1 at) (Exactly 1) ∷ line (Dtr0 location) Nothing ∷ line (AskDtr0 at) (Exactly location)
-    ∷ line (Write byte) (Exactly byte) ∷ [])
+    (request (Enable at) Nothing ∷ request (Enable at) Nothing ∷ request (Dtr1 1) Nothing ∷ [])
+    (request (AskDtr1 at) (Exactly 1) ∷ request (Dtr0 location) Nothing ∷ request (AskDtr0 at) (Exactly location)
+    ∷ request (Write byte) (Exactly byte) ∷ [])
     unit (tt, (tt, (tt, tt))) kept (safe_ask1 keep at location byte keeps)
 
 -- the unit after a part of a try
-record After (keep : BankState → Type 0) (end : UnitState → Type 0) (at : ℕ) (left : List Line) (last : SimState)
+record After (keep : BankState → Type 0) (end : UnitState → Type 0) (at : ℕ) (left : List Request) (last : SimState)
     : Type 0 where
   now : UnitState
   alone : IsAlone at now last.units
@@ -182,7 +185,7 @@ record After (keep : BankState → Type 0) (end : UnitState → Type 0) (at : �
   for : AllFor at left
 
 -- one more frame, with its answer
-one_more : (keep : BankState → Type 0) (end : UnitState → Type 0) (at : ℕ) (next : Line) (left : List Line)
+one_more : (keep : BankState → Type 0) (end : UnitState → Type 0) (at : ℕ) (next : Request) (left : List Request)
     (old : SimState) (answer : Option ℕ) (new : SimState)
     → SimCarry old next.frame answer new → After keep end at (next ∷ left) old
     → (now : UnitState) × IsAlone at now new.units × keep now.bank1 × (Meets next.wish answer → Safe keep end left now)
@@ -197,87 +200,112 @@ one_more keep end at next left old answer new carry before =
       here.1,
     )
 
-after_trying : (keep : BankState → Type 0) (end : UnitState → Type 0) (at : ℕ) (lines left : List Line)
-    (unit : UnitState) (told : List Exchange) (first last : SimState)
-    → SimRun told first last
-    → IsAlone at unit first.units → keep unit.bank1 → Safe keep end lines unit → AllFor at lines
-    → Trying lines told left → After keep end at left last
-after_trying keep end at lines left unit [] first last run alone kept safe for try =
-    rw (run, try) (record { now = unit; alone = alone; kept = kept; safe = safe; for = for })
-after_trying keep end at lines left unit (x ∷ told) first last run alone kept safe for try =
+after_trying : (loses : ℕ → Type 0) (keep : BankState → Type 0) (end : UnitState → Type 0) (at : ℕ)
+    (requests left : List Request) (unit : UnitState) (told : List Exchange) (first last : SimState)
+    → SimRun loses told first last → (loses at → ⊥)
+    → IsAlone at unit first.units → keep unit.bank1 → Safe keep end requests unit → AllFor at requests
+    → Trying requests told left → After keep end at left last
+after_trying loses keep end at requests left unit [] first last run keeps_power alone kept safe for try =
+    rw try (record {
+      now = unit;
+      alone = drifts_alone loses at unit first last keeps_power run alone;
+      kept = kept;
+      safe = safe;
+      for = for;
+    })
+after_trying loses keep end at requests left unit (x ∷ told) first last run keeps_power alone kept safe for try =
     let before =
-    after_trying keep end at lines (line x.frame try.0 ∷ left) unit told first run.0 run.1 alone kept safe for try.2 in
-    let more = one_more keep end at (line x.frame try.0) left run.0 x.answer last run.2 before in
-    record { now = more.0; alone = more.1; kept = more.2; safe = more.3 try.1; for = before.for.1 }
+    after_trying loses keep end at requests (request x.frame try.0 ∷ left) unit told first run.0 run.1 keeps_power alone
+    kept safe for try.2 in
+    let more = one_more keep end at (request x.frame try.0) left run.0 x.answer run.2 run.3 before in
+    record {
+      now = more.0;
+      alone = drifts_alone loses at more.0 run.2 last keeps_power run.4 more.1;
+      kept = more.2;
+      safe = more.3 try.1;
+      for = before.for.1;
+    }
 
 -- a try that missed
-after_missed : (keep : BankState → Type 0) (at : ℕ) (step : Step) (unit : UnitState) (told : List Exchange)
-    (first last : SimState)
-    → SimRun told first last
-    → IsAlone at unit first.units → keep unit.bank1 → Keeps keep step → Missed (step_lines at step) told
+after_missed : (loses : ℕ → Type 0) (keep : BankState → Type 0) (at : ℕ) (access : Access) (unit : UnitState)
+    (told : List Exchange) (first last : SimState)
+    → SimRun loses told first last → (loses at → ⊥)
+    → IsAlone at unit first.units → keep unit.bank1 → Keeps keep access → Missed (access_requests at access) told
     → (now : UnitState) × IsAlone at now last.units × keep now.bank1
-after_missed keep at step unit [] first last run alone kept keeps missed = absurd missed
-after_missed keep at step unit (x ∷ told) first last run alone kept keeps missed =
+after_missed loses keep at access unit [] first last run keeps_power alone kept keeps missed = absurd missed
+after_missed loses keep at access unit (x ∷ told) first last run keeps_power alone kept keeps missed =
     let before =
-    after_trying keep (Ends step) at (step_lines at step) (line x.frame missed.0 ∷ missed.1) unit told first run.0 run.1
+    after_trying loses keep (Ends access) at (access_requests at access) (request x.frame missed.0 ∷ missed.1) unit told
+    first run.0 run.1 keeps_power
     alone kept
-    (safe_step keep at step unit keeps kept) (all_for at step) missed.3 in
-    let more = one_more keep (Ends step) at (line x.frame missed.0) missed.1 run.0 x.answer last run.2 before in
-    (more.0, more.1, more.2)
+    (safe_access keep at access unit keeps kept) (all_for at access) missed.3 in
+    let more = one_more keep (Ends access) at (request x.frame missed.0) missed.1 run.0 x.answer run.2 run.3 before in
+    (more.0, drifts_alone loses at more.0 run.2 last keeps_power run.4 more.1, more.2)
 
 -- a run in two parts
-pub record Parts (at : ℕ) (told newer older : List Exchange) (first last : SimState) (run : SimRun told first last)
-    : Type 0 where
+pub record Parts (loses : ℕ → Type 0) (at : ℕ) (told newer older : List Exchange) (first last : SimState)
+    (run : SimRun loses told first last) : Type 0 where
   pub mid : SimState
-  pub before : SimRun older first mid
-  pub after : SimRun newer mid last
-  pub sum : losses at told first last run ≡ losses at newer mid last after + losses at older first mid before
-  pub kinds : Unrefused told first last run → Unrefused older first mid before × Unrefused newer mid last after
+  pub before : SimRun loses older first mid
+  pub after : SimRun loses newer mid last
+  pub sum : losses at loses told first last run
+      ≡ losses at loses newer mid last after + losses at loses older first mid before
+  pub kinds : Unrefused loses told first last run
+      → Unrefused loses older first mid before × Unrefused loses newer mid last after
 
-joined_parts : (at : ℕ) (newer older : List Exchange) (first last : SimState) (run : SimRun (newer ++ older) first last)
-    → Parts at (newer ++ older) newer older first last run
-joined_parts at [] older first last run =
-    record { mid = last; before = run; after = refl; sum = omega arith; kinds = λ kind. (kind, tt) }
-joined_parts at (x ∷ newer) older first last run =
-    let rest = joined_parts at newer older first run.0 run.1 in
+joined_parts : (loses : ℕ → Type 0) (at : ℕ) (newer older : List Exchange) (first last : SimState)
+    (run : SimRun loses (newer ++ older) first last)
+    → Parts loses at (newer ++ older) newer older first last run
+joined_parts loses at [] older first last run =
+    record { mid = last; before = run; after = SimStays; sum = omega arith; kinds = λ kind. (kind, tt) }
+joined_parts loses at (x ∷ newer) older first last run =
+    let rest = joined_parts loses at newer older first run.0 run.1 in
     let sum = rest.sum in
     record {
       mid = rest.mid;
       before = rest.before;
-      after = (run.0, rest.after, run.2);
+      after = (run.0, rest.after, run.2, run.3, run.4);
       sum = omega arith;
       kinds = λ kind. let older_newer = rest.kinds kind.1 in (older_newer.0, (kind.0, older_newer.1));
     }
 
-pub parts : (at : ℕ) (told newer older : List Exchange) (first last : SimState) (run : SimRun told first last)
-    → told ≡ newer ++ older → Parts at told newer older first last run
-parts at told newer older first last run same =
-    subst (λ (t : List Exchange). (r : SimRun t first last) → Parts at t newer older first last r) (sym same)
-    (joined_parts at newer older first last) run
+pub parts : (loses : ℕ → Type 0) (at : ℕ) (told newer older : List Exchange) (first last : SimState)
+    (run : SimRun loses told first last)
+    → told ≡ newer ++ older → Parts loses at told newer older first last run
+parts loses at told newer older first last run same =
+    subst (λ (t : List Exchange). (r : SimRun loses t first last) → Parts loses at t newer older first last r)
+    (sym same)
+    (joined_parts loses at newer older first last) run
 
 -- after misses the unit is alone still, and has kept it
-pub after_misses : (keep : BankState → Type 0) (at : ℕ) (step : Step) (unit : UnitState) (misses : ℕ)
-    (told : List Exchange) (first last : SimState)
-    → SimRun told first last
-    → IsAlone at unit first.units → keep unit.bank1 → Keeps keep step → Misses (step_lines at step) misses told
+pub after_misses : (loses : ℕ → Type 0) (keep : BankState → Type 0) (at : ℕ) (access : Access) (unit : UnitState)
+    (misses : ℕ) (told : List Exchange) (first last : SimState)
+    → SimRun loses told first last → (loses at → ⊥)
+    → IsAlone at unit first.units → keep unit.bank1 → Keeps keep access → Misses (access_requests at access) misses told
     → (now : UnitState) × IsAlone at now last.units × keep now.bank1
-after_misses keep at step unit zero [] first last run alone kept keeps are = rw run (unit, alone, kept)
-after_misses keep at step unit zero (x ∷ told) first last run alone kept keeps are = cc
-after_misses keep at step unit (suc misses) told first last run alone kept keeps are =
-    let two = parts at told are.0 are.1 first last run are.2 in
-    let older = after_misses keep at step unit misses are.1 first two.mid two.before alone kept keeps are.4 in
-    after_missed keep at step older.0 are.0 two.mid last two.after older.1 older.2 keeps are.3
+after_misses loses keep at access unit zero [] first last run keeps_power alone kept keeps are =
+    (unit, drifts_alone loses at unit first last keeps_power run alone, kept)
+after_misses loses keep at access unit zero (x ∷ told) first last run keeps_power alone kept keeps are = cc
+after_misses loses keep at access unit (suc misses) told first last run keeps_power alone kept keeps are =
+    let two = parts loses at told are.0 are.1 first last run are.2 in
+    let older =
+    after_misses loses keep at access unit misses are.1 first two.mid two.before keeps_power alone kept keeps are.4 in
+    after_missed loses keep at access older.0 are.0 two.mid last two.after keeps_power older.1 older.2 keeps are.3
 
--- a step that succeeded
-pub after_success : (keep : BankState → Type 0) (at : ℕ) (step : Step) (unit : UnitState) (outcome : Option ℕ)
-    (told : List Exchange) (first last : SimState)
-    → SimRun told first last
-    → IsAlone at unit first.units → keep unit.bank1 → Keeps keep step → Succeeds (step_lines at step) outcome told
-    → (now : UnitState) × IsAlone at now last.units × keep now.bank1 × Ends step now
-after_success keep at step unit outcome told first last run alone kept keeps done =
-    let two = parts at told done.0 done.1 first last run done.3 in
-    let older = after_misses keep at step unit done.2 done.1 first two.mid two.before alone kept keeps done.7 in
+-- an access that succeeded
+pub after_success : (loses : ℕ → Type 0) (keep : BankState → Type 0) (at : ℕ) (access : Access) (unit : UnitState)
+    (outcome : Option ℕ) (told : List Exchange) (first last : SimState)
+    → SimRun loses told first last → (loses at → ⊥)
+    → IsAlone at unit first.units → keep unit.bank1 → Keeps keep access
+    → Succeeds (access_requests at access) outcome told
+    → (now : UnitState) × IsAlone at now last.units × keep now.bank1 × Ends access now
+after_success loses keep at access unit outcome told first last run keeps_power alone kept keeps done =
+    let two = parts loses at told done.0 done.1 first last run done.3 in
+    let older =
+    after_misses loses keep at access unit done.2 done.1 first two.mid two.before keeps_power alone kept keeps done.7 in
     let all =
-    after_trying keep (Ends step) at (step_lines at step) [] older.0 done.0 two.mid last two.after older.1 older.2
-    (safe_step keep at step older.0 keeps older.2) (all_for at step) done.4 in
+    after_trying loses keep (Ends access) at (access_requests at access) [] older.0 done.0 two.mid last two.after
+    keeps_power older.1
+    older.2
+    (safe_access keep at access older.0 keeps older.2) (all_for at access) done.4 in
     (all.now, all.alone, all.kept, all.safe)

@@ -2,12 +2,12 @@
 use Rattle.std.proofs.Common.{◌∙◌, ◌≡◌, subst, ℕ, zero, suc, min, Bool, ◌==◌, ◌&&◌, nat_lt, true, false, if◌then◌else◌}
 use Rattle.std.proofs.Common.{List, [], ◌∷◌, Option}
 use Rattle.dali_write.specs.Exchanges.{Exchange}
-use Rattle.dali_write.specs.declared.line.Line.{Line}
+use Rattle.dali_write.specs.declared.request.Request.{Request}
 use Rattle.dali_write.specs.declared.ask.Ask.TheVariants.{Ended}
 use Rattle.dali_write.specs.declared.ask.Verdict.{Verdict}
 use Rattle.dali_write.specs.declared.ask.Verdict.TheVariants.{MayOpen, Short, Format, Silent, Doubt, DoubtOpen, Closed}
 use Rattle.dali_write.specs.declared.ask.Verdict.TheVariants.{NotClosed}
-use Rattle.dali_write.specs.Plans.{Plan, Finish, Check, goes_on, plan_after, greatest, judge_length, read_format}
+use Rattle.dali_write.specs.Plans.{Plan, Finish, Make, goes_on, plan_after, greatest, judge_length, read_format}
 use Rattle.dali_write.specs.Plans.{read_format_low, read_length, close, give_up, expect, read_back, read_lock, write_on}
 use Rattle.dali_write.specs.Plans.{unlock, read_on, read_all}
 use Rattle.dali_write.specs.Tries.{GoesOn, Wants}
@@ -18,11 +18,11 @@ use Rattle.dali_write.proofs.PlanLemmas.{either_all, if_all}
 -- wherever the plan ends, it ends so
 abbrev EndsSo : (Verdict → Type 0) → Plan → Type 0
 EndsSo P (Finish verdict) = P verdict
-EndsSo P (Check step after) = (outcome : Option ℕ) → EndsSo P (after outcome)
+EndsSo P (Make access after) = (outcome : Option ℕ) → EndsSo P (after outcome)
 
 on : (P : Verdict → Type 0) (plan : Plan) (outcome : Option ℕ) → EndsSo P plan → EndsSo P (goes_on plan outcome)
 on P (Finish verdict) outcome ends = ends
-on P (Check step after) outcome ends = ends outcome
+on P (Make access after) outcome ends = ends outcome
 
 after_all : (P : Verdict → Type 0) (plan : Plan) (outcomes : List (Option ℕ)) → EndsSo P plan
     → EndsSo P (plan_after plan outcomes)
@@ -30,11 +30,11 @@ after_all P plan [] ends = ends
 after_all P plan (outcome ∷ outcomes) ends = on P (plan_after plan outcomes) outcome (after_all P plan outcomes ends)
 
 -- the plan that is left has ended
-over : (P : Verdict → Type 0) (now : Plan) (left : List Line) (verdict : Verdict) → EndsSo P now → GoesOn now left
+over : (P : Verdict → Type 0) (now : Plan) (left : List Request) (verdict : Verdict) → EndsSo P now → GoesOn now left
     → shown_ask now left ≡ Ended verdict → P verdict
 over P (Finish end) left verdict ends going is = let same : end ≡ verdict = cc in subst P same ends
-over P (Check step after) [] verdict ends going is = cc
-over P (Check step after) (next ∷ left) verdict ends going is = cc
+over P (Make access after) [] verdict ends going is = cc
+over P (Make access after) (next ∷ left) verdict ends going is = cc
 
 ended : (P : Verdict → Type 0) (unit : ℕ) (plan : Plan) (told : List Exchange) (verdict : Verdict) → EndsSo P plan
     → Wants unit plan told (Ended verdict) → P verdict

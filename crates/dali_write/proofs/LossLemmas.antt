@@ -4,42 +4,68 @@ use Rattle.std.proofs.Common.{Option, Some, None, IsSome, IsTrue, arith}
 use Rattle.std.specs.Prelude.{slice_get, if◌then◌else◌}
 use Rattle.std.proofs.lemmas.Bool.{eq-eqb}
 use Rattle.std.proofs.Math.Nat.{pos_of_ne-zero}
-use Rattle.dali_frame.specs.declared.forward.Frame.TheVariants.{Write, Enable}
+use Rattle.dali_frame.specs.declared.forward.Frame.TheVariants.{Write, Enable, AskDtr0, AskDtr1, Read}
+use Rattle.dali_bus.specs.Hears.{up}
 use Rattle.dali_write.specs.Exchanges.{Exchange}
 use Rattle.dali_gear.specs.UnitState.{UnitState, after_frame, after_enable, answer_to, is_writable}
 use Rattle.dali_gear.specs.SimState.{SimState}
-use Rattle.dali_write.specs.declared.line.Line.{Line}
-use Rattle.dali_write.specs.declared.line.Wish.{Wish}
-use Rattle.dali_write.specs.declared.line.Wish.TheVariants.{Nothing, Exactly, Anything}
-use Rattle.dali_write.specs.declared.step.Step.{Step}
-use Rattle.dali_write.specs.declared.step.Step.TheVariants.{ReadFrom, WriteTo}
-use Rattle.dali_write.specs.Lines.{Meets, line, select_lines, read_lines, write_lines, step_lines}
+use Rattle.dali_write.specs.declared.request.Request.{Request}
+use Rattle.dali_write.specs.declared.request.Wish.{Wish}
+use Rattle.dali_write.specs.declared.request.Wish.TheVariants.{Nothing, Exactly, Anything}
+use Rattle.dali_write.specs.declared.access.Access.{Access}
+use Rattle.dali_write.specs.declared.access.Access.TheVariants.{ReadFrom, WriteTo}
+use Rattle.dali_write.specs.Requests.{Meets, request, select_requests, read_requests, write_requests, access_requests}
 use Rattle.dali_write.specs.Tries.{Trying, Missed}
 use Rattle.dali_write.specs.Losses.{SimRun, is_loss, losses, Unrefused, IsAlone, CanDo}
 use Rattle.dali_write.proofs.OneFrameLemmas.{IsFor, heard_whole, address_of}
+use Rattle.dali_write.proofs.DriftLemmas.{drifts_alone}
 
--- a unit that hears all of the lines gives the answers that they want
-abbrev pub Suits : List Line → UnitState → Type 0
+-- a unit that hears all of the requests gives the answers that they want
+abbrev pub Suits : List Request → UnitState → Type 0
 Suits [] unit = Unit {0}
 Suits (next ∷ left) unit =
     Meets next.wish (answer_to false unit next.frame) × Suits left (after_frame false unit next.frame)
 
-abbrev pub AllFor : ℕ → List Line → Type 0
+abbrev pub AllFor : ℕ → List Request → Type 0
 AllFor at [] = Unit {0}
 AllFor at (next ∷ left) = IsFor at next.frame × AllFor at left
 
-pub all_for : (at : ℕ) (step : Step) → AllFor at (step_lines at step)
-all_for at (ReadFrom location) = (tt, (refl, (tt, (refl, (refl, tt)))))
+pub all_for : (at : ℕ) (access : Access) → AllFor at (access_requests at access)
+all_for at (ReadFrom location) = (tt, (refl, (tt, (refl, (refl, (refl, (refl, tt)))))))
 all_for at (WriteTo location byte) = (refl, (refl, (tt, (refl, (tt, (refl, (tt, tt)))))))
 
+after_reading : (at : ℕ) (unit : UnitState) → unit.address ≡ at → unit.dtr1 ≡ 1
+    → after_frame false unit (Read at) ≡ record unit { half_pair = false; enabled = false; dtr0 = up unit.dtr0 }
+after_reading at unit is bank = rw (eq-eqb at unit.address (sym is), bank) refl
+
+suits_asking : (at location : ℕ) (unit : UnitState) → unit.address ≡ at → unit.dtr0 ≡ location → unit.dtr1 ≡ 1
+    → Suits (request (AskDtr0 at) (Exactly location) ∷ request (AskDtr1 at) (Exactly 1) ∷ []) unit
+suits_asking at location unit is place bank = rw (eq-eqb at unit.address (sym is), place, bank) (refl, (refl, tt))
+
+-- where the location is selected
+suits_reading : (at location : ℕ) (unit : UnitState) → unit.address ≡ at → unit.dtr0 ≡ location → unit.dtr1 ≡ 1
+    → IsSome (slice_get unit.bank1.bytes location)
+    → Suits (request (Read at) Anything ∷ request (AskDtr0 at) (Exactly (up location))
+    ∷ request (AskDtr1 at) (Exactly 1) ∷ []) unit
+suits_reading at location unit is place bank some = (
+  rw (eq-eqb at unit.address (sym is), place, bank) some,
+  subst (λ (u : UnitState). Suits (request (AskDtr0 at) (Exactly (up location)) ∷ request (AskDtr1 at) (Exactly 1) ∷ [])
+      u) (sym (after_reading at unit is bank))
+      (suits_asking at (up location) (record unit { half_pair = false; enabled = false; dtr0 = up unit.dtr0 }) is
+      (ap up place) bank),
+)
+
 suits_read : (at location : ℕ) (unit : UnitState) → unit.address ≡ at → IsSome (slice_get unit.bank1.bytes location)
-    → Suits (read_lines at location) unit
-suits_read at location unit is some = rw (eq-eqb at unit.address (sym is)) (tt, (refl, (tt, (refl, (some, tt)))))
+    → Suits (read_requests at location) unit
+suits_read at location unit is some =
+    let here = eq-eqb at unit.address (sym is) in
+    let selected : UnitState = record unit { half_pair = false; dtr1 = 1; dtr0 = location } in
+    (tt, (rw here refl, (tt, (rw here refl, suits_reading at location selected is refl refl some))))
 
 -- where it is enabled
 suits_enabled : (at location byte : ℕ) (unit : UnitState) → unit.address ≡ at → unit.enabled ≡ true
     → IsTrue (is_writable unit.bank1 location)
-    → Suits (select_lines at location ++ line (Write byte) (Exactly byte) ∷ []) unit
+    → Suits (select_requests at location ++ request (Write byte) (Exactly byte) ∷ []) unit
 suits_enabled at location byte unit is on can =
     rw (eq-eqb at unit.address (sym is), on, can) (tt, (refl, (tt, (refl, (refl, tt)))))
 
@@ -72,21 +98,21 @@ enabled_by_two at unit is = by unit.half_pair refl
         ∙ ap (λ (h : Bool). record unit { enabled = true; half_pair = h }) (sym e)
 
 suits_write : (at location byte : ℕ) (unit : UnitState) → unit.address ≡ at → IsTrue (is_writable unit.bank1 location)
-    → Suits (write_lines at location byte) unit
+    → Suits (write_requests at location byte) unit
 suits_write at location byte unit is can = (
   tt,
   (
     tt,
-    subst (λ (u : UnitState). Suits (select_lines at location ++ line (Write byte) (Exactly byte) ∷ []) u)
+    subst (λ (u : UnitState). Suits (select_requests at location ++ request (Write byte) (Exactly byte) ∷ []) u)
         (sym (enabled_by_two at unit is))
         (suits_enabled at location byte (record unit { enabled = true }) is refl can),
   ),
 )
 
-pub suits_step : (at : ℕ) (step : Step) (unit : UnitState) → unit.address ≡ at → CanDo step unit
-    → Suits (step_lines at step) unit
-suits_step at (ReadFrom location) unit is can = suits_read at location unit is can
-suits_step at (WriteTo location byte) unit is can = suits_write at location byte unit is can
+pub suits_access : (at : ℕ) (access : Access) (unit : UnitState) → unit.address ≡ at → CanDo access unit
+    → Suits (access_requests at access) unit
+suits_access at (ReadFrom location) unit is can = suits_read at location unit is can
+suits_access at (WriteTo location byte) unit is can = suits_write at location byte unit is can
 
 meets_own : (wish : Wish) (own answer : Option ℕ) → Meets wish own → ((byte : ℕ) → own ≡ Some byte → answer ≡ Some byte)
     → Meets wish answer
@@ -100,50 +126,59 @@ no_more true more e = absurd (omega arith)
 no_more false more e = (refl, omega arith)
 
 -- a try without a loss: the unit, as it is now, suits what is left
-pub record Suited (at : ℕ) (left : List Line) (last : SimState) : Type 0 where
+pub record Suited (at : ℕ) (left : List Request) (last : SimState) : Type 0 where
   pub now : UnitState
   pub alone : IsAlone at now last.units
   pub suits : Suits left now
   pub for : AllFor at left
 
-pub suited : (at : ℕ) (lines left : List Line) (unit : UnitState) (told : List Exchange) (first last : SimState)
-    (run : SimRun told first last)
-    → AllFor at lines → Suits lines unit → IsAlone at unit first.units → losses at told first last run ≡ 0
-    → Unrefused told first last run → Trying lines told left
+pub suited : (loses : ℕ → Type 0) (at : ℕ) (requests left : List Request) (unit : UnitState) (told : List Exchange)
+    (first last : SimState) (run : SimRun loses told first last)
+    → (loses at → ⊥) → AllFor at requests → Suits requests unit → IsAlone at unit first.units
+    → losses at loses told first last run ≡ 0 → Unrefused loses told first last run → Trying requests told left
     → Suited at left last
-suited at lines left unit [] first last run for suits alone none kind try =
-    rw (run, try) (record { now = unit; alone = alone; suits = suits; for = for })
-suited at lines left unit (x ∷ told) first last run for suits alone none kind try =
-    let whole = no_more (is_loss at run.0 x.frame) (losses at told first run.0 run.1) none in
+suited loses at requests left unit [] first last run keeps_power for suits alone none kind try =
+    rw try (record {
+      now = unit;
+      alone = drifts_alone loses at unit first last keeps_power run alone;
+      suits = suits;
+      for = for;
+    })
+suited loses at requests left unit (x ∷ told) first last run keeps_power for suits alone none kind try =
+    let whole = no_more (is_loss at run.0 x.frame) (losses at loses told first run.0 run.1) none in
     let before =
-    suited at lines (line x.frame try.0 ∷ left) unit told first run.0 run.1 for suits alone whole.1 kind.1 try.2 in
-    let heard = heard_whole at run.0 before.now x.frame x.answer last run.2 before.for.0 before.alone whole.0 kind.0 in
+    suited loses at requests (request x.frame try.0 ∷ left) unit told first run.0 run.1 keeps_power for suits alone
+    whole.1 kind.1 try.2 in
+    let heard =
+    heard_whole at run.0 before.now x.frame x.answer run.2 run.3 before.for.0 before.alone whole.0 kind.0 in
     record {
       now = after_frame false before.now x.frame;
-      alone = heard.alone;
+      alone = drifts_alone loses at _ run.2 last keeps_power run.4 heard.alone;
       suits = before.suits.1;
       for = before.for.1;
     }
 
 -- and so it doesn't miss
-ends : (at : ℕ) (lines : List Line) (unit : UnitState) (told : List Exchange) (first last : SimState)
-    (run : SimRun told first last)
-    → AllFor at lines → Suits lines unit → IsAlone at unit first.units → losses at told first last run ≡ 0
-    → Unrefused told first last run → Missed lines told → ⊥
-ends at lines unit [] first last run for suits alone none kind missed = missed
-ends at lines unit (x ∷ told) first last run for suits alone none kind missed =
-    let whole = no_more (is_loss at run.0 x.frame) (losses at told first run.0 run.1) none in
+ends : (loses : ℕ → Type 0) (at : ℕ) (requests : List Request) (unit : UnitState) (told : List Exchange)
+    (first last : SimState) (run : SimRun loses told first last)
+    → (loses at → ⊥) → AllFor at requests → Suits requests unit → IsAlone at unit first.units
+    → losses at loses told first last run ≡ 0 → Unrefused loses told first last run → Missed requests told → ⊥
+ends loses at requests unit [] first last run keeps_power for suits alone none kind missed = missed
+ends loses at requests unit (x ∷ told) first last run keeps_power for suits alone none kind missed =
+    let whole = no_more (is_loss at run.0 x.frame) (losses at loses told first run.0 run.1) none in
     let before =
-    suited at lines (line x.frame missed.0 ∷ missed.1) unit told first run.0 run.1 for suits alone whole.1
-    kind.1 missed.3 in
-    let heard = heard_whole at run.0 before.now x.frame x.answer last run.2 before.for.0 before.alone whole.0 kind.0 in
+    suited loses at requests (request x.frame missed.0 ∷ missed.1) unit told first run.0 run.1 keeps_power for suits
+    alone whole.1 kind.1 missed.3 in
+    let heard =
+    heard_whole at run.0 before.now x.frame x.answer run.2 run.3 before.for.0 before.alone whole.0 kind.0 in
     missed.2 (meets_own missed.0 (answer_to false before.now x.frame) x.answer before.suits.0 heard.answered)
 
-pub missed_by_loss : (at : ℕ) (step : Step) (unit : UnitState) (told : List Exchange) (first last : SimState)
-    (run : SimRun told first last)
-    → IsAlone at unit first.units → CanDo step unit → Unrefused told first last run → Missed (step_lines at step) told
-    → 1 ≤ losses at told first last run
-missed_by_loss at step unit told first last run alone can kind missed =
+pub missed_by_loss : (loses : ℕ → Type 0) (at : ℕ) (access : Access) (unit : UnitState) (told : List Exchange)
+    (first last : SimState) (run : SimRun loses told first last)
+    → (loses at → ⊥) → IsAlone at unit first.units → CanDo access unit → Unrefused loses told first last run
+    → Missed (access_requests at access) told
+    → 1 ≤ losses at loses told first last run
+missed_by_loss loses at access unit told first last run keeps_power alone can kind missed =
     pos_of_ne-zero
-    (λ none. ends at (step_lines at step) unit told first last run (all_for at step)
-    (suits_step at step unit (address_of at unit first.units alone) can) alone none kind missed)
+    (λ none. ends loses at (access_requests at access) unit told first last run keeps_power (all_for at access)
+    (suits_access at access unit (address_of at unit first.units alone) can) alone none kind missed)

@@ -4,27 +4,27 @@ use Rattle.std.proofs.Common.{if◌then◌else◌, List, [], ◌∷◌, ◌++◌
 use Rattle.std.proofs.Common.{arith}
 use Rattle.std.proofs.lemmas.Bool.{eq-eqb, ne_eqb}
 use Rattle.dali_write.specs.Exchanges.{Exchange}
-use Rattle.dali_write.specs.declared.line.Line.{Line}
-use Rattle.dali_write.specs.declared.line.Wish.{Wish}
-use Rattle.dali_write.specs.declared.line.Wish.TheVariants.{Nothing, Exactly, Anything}
-use Rattle.dali_write.specs.declared.step.Step.{Step}
-use Rattle.dali_write.specs.declared.step.Step.TheVariants.{ReadFrom, WriteTo}
+use Rattle.dali_write.specs.declared.request.Request.{Request}
+use Rattle.dali_write.specs.declared.request.Wish.{Wish}
+use Rattle.dali_write.specs.declared.request.Wish.TheVariants.{Nothing, Exactly, Anything}
+use Rattle.dali_write.specs.declared.access.Access.{Access}
+use Rattle.dali_write.specs.declared.access.Access.TheVariants.{ReadFrom, WriteTo}
 use Rattle.dali_write.specs.declared.ask.Verdict.{Verdict}
-use Rattle.dali_write.specs.Lines.{Meets, line, step_lines}
-use Rattle.dali_write.specs.Plans.{Plan, Finish, Check, goes_on}
-use Rattle.dali_write.specs.Tries.{most_tries, Trying, Missed, Misses, StepEnds}
-use Rattle.dali_write.specs.Walks.{Walk, step_misses, misses_of, Took}
+use Rattle.dali_write.specs.Requests.{Meets, request, access_requests}
+use Rattle.dali_write.specs.Plans.{Plan, Finish, Make, goes_on}
+use Rattle.dali_write.specs.Tries.{most_tries, Trying, Missed, Misses, AccessEnds}
+use Rattle.dali_write.specs.Walks.{Walk, access_misses, misses_of, Took}
 use Rattle.dali_write.specs.Doubts.{EndsInFailure, HasFailed}
 use Rattle.dali_write.specs.Misses.{location_after, location_in, wish_of, is_missed, misses_in, IsLong}
 
--- each line wishes what its frame asks for, where DTR0 was set so before the first one
-abbrev Apt : ℕ → List Line → Type 0
+-- each request wishes what its frame asks for, where DTR0 should stand so before the first one
+abbrev Apt : ℕ → List Request → Type 0
 Apt location [] = Unit {0}
 Apt location (next ∷ left) = (next.wish ≡ wish_of next.frame location) × Apt (location_after next.frame location) left
 
-apt_step : (unit : ℕ) (step : Step) (location : ℕ) → Apt location (step_lines unit step)
-apt_step unit (ReadFrom at) location = (refl, (refl, (refl, (refl, (refl, tt)))))
-apt_step unit (WriteTo at byte) location = (refl, (refl, (refl, (refl, (refl, (refl, (refl, tt)))))))
+apt_access : (unit : ℕ) (access : Access) (location : ℕ) → Apt location (access_requests unit access)
+apt_access unit (ReadFrom at) location = (refl, (refl, (refl, (refl, (refl, (refl, (refl, tt)))))))
+apt_access unit (WriteTo at byte) location = (refl, (refl, (refl, (refl, (refl, (refl, (refl, tt)))))))
 
 met : (wish : Wish) (answer : Option ℕ) → Meets wish answer → is_missed wish answer ≡ false
 met Nothing answer meets = refl
@@ -47,49 +47,52 @@ more : (x : Exchange) (told : List Exchange) (wish : Wish) (b : Bool) → wish �
 more x told wish b same is = rw (← same, is) refl
 
 -- a part of a try has no miss
-trying : (lines : List Line) (tried : List Exchange) (left : List Line) (older : List Exchange)
-    → Apt (location_in older) lines → Trying lines tried left
+trying : (requests : List Request) (tried : List Exchange) (left : List Request) (older : List Exchange)
+    → Apt (location_in older) requests → Trying requests tried left
     → (misses_in (tried ++ older) ≡ misses_in older) × Apt (location_in (tried ++ older)) left
-trying lines [] left older apt try = (refl, subst (Apt (location_in older)) (sym try) apt)
-trying lines (x ∷ tried) left older apt try =
-    let before = trying lines tried (line x.frame try.0 ∷ left) older apt try.2 in
+trying requests [] left older apt try = (refl, subst (Apt (location_in older)) (sym try) apt)
+trying requests (x ∷ tried) left older apt try =
+    let before = trying requests tried (request x.frame try.0 ∷ left) older apt try.2 in
     let one = more x (tried ++ older) try.0 false before.1.0 (met try.0 x.answer try.1) in
     let rest = before.0 in
     (omega arith, before.1.1)
 
-missed : (lines : List Line) (tried older : List Exchange) → Apt (location_in older) lines → Missed lines tried
+missed : (requests : List Request) (tried older : List Exchange) → Apt (location_in older) requests
+    → Missed requests tried
     → misses_in (tried ++ older) ≡ 1 + misses_in older
-missed lines [] older apt ends = absurd ends
-missed lines (x ∷ tried) older apt ends =
-    let before = trying lines tried (line x.frame ends.0 ∷ ends.1) older apt ends.3 in
+missed requests [] older apt ends = absurd ends
+missed requests (x ∷ tried) older apt ends =
+    let before = trying requests tried (request x.frame ends.0 ∷ ends.1) older apt ends.3 in
     let one = more x (tried ++ older) ends.0 true before.1.0 (unmet ends.0 x.answer ends.2) in
     let rest = before.0 in
     omega arith
 
-misses : (unit : ℕ) (step : Step) (count : ℕ) (told older : List Exchange) → Misses (step_lines unit step) count told
+misses : (unit : ℕ) (access : Access) (count : ℕ) (told older : List Exchange)
+    → Misses (access_requests unit access) count told
     → misses_in (told ++ older) ≡ count + misses_in older
-misses unit step zero told older are = rw are (omega arith)
-misses unit step (suc count) told older are =
-    let before = misses unit step count are.1 older are.4 in
+misses unit access zero told older are = rw are (omega arith)
+misses unit access (suc count) told older are =
+    let before = misses unit access count are.1 older are.4 in
     let last =
-    missed (step_lines unit step) are.0 (are.1 ++ older) (apt_step unit step (location_in (are.1 ++ older))) are.3 in
+    missed (access_requests unit access) are.0 (are.1 ++ older) (apt_access unit access (location_in (are.1 ++ older)))
+    are.3 in
     let joined = append_assoc are.0 are.1 older in
     let same : misses_in (told ++ older) ≡ misses_in (are.0 ++ (are.1 ++ older)) = rw are.2 (ap misses_in joined) in
     omega arith
 
-step_ends : (unit : ℕ) (plan : Plan) (outcome : Option ℕ) (told older : List Exchange)
-    (ends : StepEnds unit plan outcome told)
-    → misses_in (told ++ older) ≡ step_misses unit plan outcome told ends + misses_in older
-step_ends unit (Finish verdict) outcome told older ends = absurd ends
-step_ends unit (Check step after) outcome told older (inl done) =
-    let before = misses unit step done.2 done.1 older done.7 in
+access_ends : (unit : ℕ) (plan : Plan) (outcome : Option ℕ) (told older : List Exchange)
+    (ends : AccessEnds unit plan outcome told)
+    → misses_in (told ++ older) ≡ access_misses unit plan outcome told ends + misses_in older
+access_ends unit (Finish verdict) outcome told older ends = absurd ends
+access_ends unit (Make access after) outcome told older (inl done) =
+    let before = misses unit access done.2 done.1 older done.7 in
     let last =
-    (trying (step_lines unit step) done.0 [] (done.1 ++ older)
-    (apt_step unit step (location_in (done.1 ++ older))) done.4).0 in
+    (trying (access_requests unit access) done.0 [] (done.1 ++ older)
+    (apt_access unit access (location_in (done.1 ++ older))) done.4).0 in
     let joined = append_assoc done.0 done.1 older in
     let same : misses_in (told ++ older) ≡ misses_in (done.0 ++ (done.1 ++ older)) = rw done.3 (ap misses_in joined) in
     omega arith
-step_ends unit (Check step after) outcome told older (inr failed) = misses unit step most_tries told older failed.1
+access_ends unit (Make access after) outcome told older (inr failed) = misses unit access most_tries told older failed.1
 
 -- the misses of a walk
 pub walk_misses : (unit : ℕ) (plan : Plan) (outcomes : List (Option ℕ)) (told : List Exchange) (end : Plan)
@@ -97,7 +100,7 @@ pub walk_misses : (unit : ℕ) (plan : Plan) (outcomes : List (Option ℕ)) (tol
     → misses_in (told ++ older) ≡ misses_of unit plan outcomes told end walk + misses_in older
 walk_misses unit plan [] told end older walk = rw walk.0 (omega arith)
 walk_misses unit plan (outcome ∷ outcomes) told end older walk =
-    let here = step_ends unit plan outcome walk.1 older walk.3 in
+    let here = access_ends unit plan outcome walk.1 older walk.3 in
     let rest = walk_misses unit (goes_on plan outcome) outcomes walk.0 end (walk.1 ++ older) walk.4 in
     let joined = append_assoc walk.0 walk.1 older in
     let same : misses_in (told ++ older) ≡ misses_in (walk.0 ++ (walk.1 ++ older)) = rw walk.2 (ap misses_in joined) in
@@ -133,17 +136,17 @@ more_misses : (newer older : List Exchange) → misses_in older ≤ misses_in (n
 more_misses [] older = omega arith
 more_misses (x ∷ newer) older = let rest = more_misses newer older in omega arith
 
--- a step that failed missed as often as it has tries
-pub failure_misses : (unit : ℕ) (step : Step) (told : List Exchange) → EndsInFailure unit step told
+-- an access that failed missed as often as it has tries
+pub failure_misses : (unit : ℕ) (access : Access) (told : List Exchange) → EndsInFailure unit access told
     → most_tries ≤ misses_in told
-failure_misses unit step told f =
-    let all = misses unit step most_tries f.tries f.older f.missed in
+failure_misses unit access told f =
+    let all = misses unit access most_tries f.tries f.older f.missed in
     let same : misses_in told ≡ misses_in (f.tries ++ f.older) = ap misses_in f.parts in
     omega arith
 
 pub failed_misses : (unit : ℕ) (told : List Exchange) → HasFailed unit told → most_tries ≤ misses_in told
 failed_misses unit told f =
-    let here = failure_misses unit f.step f.before f.failure in
+    let here = failure_misses unit f.access f.before f.failure in
     let more = more_misses f.newer f.before in
     let same : misses_in told ≡ misses_in (f.newer ++ f.before) = ap misses_in f.parts in
     omega arith

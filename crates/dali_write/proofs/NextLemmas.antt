@@ -6,19 +6,19 @@ use Rattle.std.proofs.lemmas.Bool.Decides.{leb_tells}
 use Rattle.std.proofs.Math.Dec.{leb}
 use Rattle.dali_frame.specs.declared.forward.Frame.{Frame}
 use Rattle.dali_write.specs.Exchanges.{Exchange}
-use Rattle.dali_write.specs.declared.line.Line.{Line}
-use Rattle.dali_write.specs.declared.line.Wish.{Wish}
-use Rattle.dali_write.specs.declared.line.Wish.TheVariants.{Nothing, Exactly, Anything}
+use Rattle.dali_write.specs.declared.request.Request.{Request}
+use Rattle.dali_write.specs.declared.request.Wish.{Wish}
+use Rattle.dali_write.specs.declared.request.Wish.TheVariants.{Nothing, Exactly, Anything}
 use Rattle.dali_write.specs.declared.ask.Ask.{Ask}
 use Rattle.dali_write.specs.declared.ask.Ask.TheVariants.{Send, Ended}
 use Rattle.dali_write.specs.declared.ask.Verdict.TheVariants.{Closed, NotClosed}
 use Rattle.dali_write.specs.declared.ask.Verdict.{Verdict}
-use Rattle.dali_write.specs.declared.step.Step.{Step}
-use Rattle.dali_write.specs.declared.step.Step.TheVariants.{ReadFrom, WriteTo}
-use Rattle.dali_write.specs.Lines.{Meets, step_lines}
+use Rattle.dali_write.specs.declared.access.Access.{Access}
+use Rattle.dali_write.specs.declared.access.Access.TheVariants.{ReadFrom, WriteTo}
+use Rattle.dali_write.specs.Requests.{Meets, access_requests}
 use Rattle.dali_write.proofs.DeterminedLemmas.{wants_one}
-use Rattle.dali_write.specs.Plans.{Plan, Finish, Check, read_length, close, unlock}
-use Rattle.dali_write.specs.Tries.{plan_lines, Stands, Wants}
+use Rattle.dali_write.specs.Plans.{Plan, Finish, Make, read_length, close, unlock}
+use Rattle.dali_write.specs.Tries.{plan_requests, Stands, Wants}
 use Rattle.dali_write.proofs.AskLemmas.{shown_ask, ask_shown}
 use Rattle.dali_write.specs.Counts.{fresh_limit, opened_limit, closing_limit}
 use Rattle.dali_write.proofs.ShapeLemmas.{none_left}
@@ -44,7 +44,7 @@ first_wanted unit plan = (
   record {
     now = plan;
     misses = 0;
-    left = plan_lines unit plan;
+    left = plan_requests unit plan;
     byte = None;
     stands = stands_at_first unit plan;
     ask_is = refl;
@@ -52,7 +52,7 @@ first_wanted unit plan = (
 )
 
 -- what stands so wants something
-wants_of : (unit : ℕ) (plan : Plan) (told : List Exchange) (now : Plan) (misses : ℕ) (left : List Line)
+wants_of : (unit : ℕ) (plan : Plan) (told : List Exchange) (now : Plan) (misses : ℕ) (left : List Request)
     (byte : Option ℕ)
     → Stands unit plan told now misses left byte
     → (ask : Ask) × Wants unit plan told ask
@@ -60,30 +60,32 @@ wants_of unit plan told now misses left byte s =
     (_, record { now = now; misses = misses; left = left; byte = byte; stands = s; ask_is = refl })
 
 -- after one more answer
-next_at : (unit : ℕ) (plan : Plan) (told : List Exchange) (now : Plan) (misses : ℕ) (next : Line) (left : List Line)
+next_at : (unit : ℕ) (plan : Plan) (told : List Exchange) (now : Plan) (misses : ℕ) (next : Request)
+    (left : List Request)
     (byte : Option ℕ) (answer : Option ℕ)
     → Stands unit plan told now misses (next ∷ left) byte
     → (ask : Ask) × Wants unit plan (record { frame = next.frame; answer = answer } ∷ told) ask
 next_at unit plan told (Finish verdict) misses next left byte answer s = absurd (none_left s.tried next left s.try)
-next_at unit plan told (Check step after) misses next left byte answer s =
+next_at unit plan told (Make access after) misses next left byte answer s =
     by left s (decides next.wish answer) (leb_tells 7 misses)
   where
-    by : (rest : List Line) → Stands unit plan told (Check step after) misses (next ∷ rest) byte
+    by : (rest : List Request) → Stands unit plan told (Make access after) misses (next ∷ rest) byte
         → Meets next.wish answer ⊎ (¬ Meets next.wish answer)
         → ((leb 7 misses ≡ true) × (7 ≤ misses)) ⊎ ((leb 7 misses ≡ false) × (misses < 7))
         → (ask : Ask) × Wants unit plan (record { frame = next.frame; answer = answer } ∷ told) ask
     by [] s (inl meets) few =
         wants_of unit plan _ _ _ _ _
-        (stands_done unit plan told (Check step after) misses byte next.frame answer next.wish s meets)
+        (stands_done unit plan told (Make access after) misses byte next.frame answer next.wish s meets)
     by (more ∷ rest) s (inl meets) few =
         wants_of unit plan _ _ _ _ _
-        (stands_on unit plan told (Check step after) misses (more ∷ rest) byte next.frame answer next.wish s meets refl)
+        (stands_on unit plan told (Make access after) misses (more ∷ rest) byte next.frame answer next.wish s meets
+        refl)
     by rest s (inr missed) (inl many) =
         wants_of unit plan _ _ _ _ _
-        (stands_failed unit plan told (Check step after) misses rest byte next.frame answer next.wish s missed many.1)
+        (stands_failed unit plan told (Make access after) misses rest byte next.frame answer next.wish s missed many.1)
     by rest s (inr missed) (inr few) =
         let less = few.1 in
-        wants_of unit plan _ _ _ _ _ (stands_again unit plan told (Check step after) misses rest byte next.frame answer
+        wants_of unit plan _ _ _ _ _ (stands_again unit plan told (Make access after) misses rest byte next.frame answer
         next.wish s missed (omega arith))
 
 pub next_wanted : (unit : ℕ) (plan : Plan) (told : List Exchange) (frame : Frame) (answer : Option ℕ)
@@ -91,15 +93,15 @@ pub next_wanted : (unit : ℕ) (plan : Plan) (told : List Exchange) (frame : Fra
     → (ask : Ask) × Wants unit plan (record { frame = frame; answer = answer } ∷ told) ask
 next_wanted unit plan told frame answer w = by w.now w.left w.stands (ask_shown w.now w.left w.stands.going ∙ w.ask_is)
   where
-    by : (now : Plan) (left : List Line) → Stands unit plan told now w.misses left w.byte
+    by : (now : Plan) (left : List Request) → Stands unit plan told now w.misses left w.byte
         → shown_ask now left ≡ Send frame
         → (ask : Ask) × Wants unit plan (record { frame = frame; answer = answer } ∷ told) ask
     by (Finish verdict) left s is = cc
-    by (Check step after) [] s is = cc
-    by (Check step after) (next ∷ left) s is =
+    by (Make access after) [] s is = cc
+    by (Make access after) (next ∷ left) s is =
         let same : next.frame ≡ frame = cc in
         subst (λ (f : Frame). (ask : Ask) × Wants unit plan (record { frame = f; answer = answer } ∷ told) ask) same
-        (next_at unit plan told (Check step after) w.misses next left w.byte answer s)
+        (next_at unit plan told (Make access after) w.misses next left w.byte answer s)
 
 -- limits
 pub fresh_few : (unit : ℕ) (updates : List (ℕ × ℕ)) (told : List Exchange) (ask : Ask)
@@ -120,34 +122,34 @@ closing_few unit told ask w =
     stands_takes unit (close Closed NotClosed) told w.now w.misses w.left w.byte closing_limit w.stands
     (close_takes closing_limit Closed NotClosed (omega arith))
 
--- no session with a step ends before its first frame
-sends_first : (unit : ℕ) (step : Step) (after : Option ℕ → Plan)
-    → (frame : Frame) × Wants unit (Check step after) [] (Send frame)
+-- no session with an access ends before its first frame
+sends_first : (unit : ℕ) (access : Access) (after : Option ℕ → Plan)
+    → (frame : Frame) × Wants unit (Make access after) [] (Send frame)
 sends_first unit (ReadFrom location) after = (
   _,
   record {
-    now = Check (ReadFrom location) after;
+    now = Make (ReadFrom location) after;
     misses = 0;
-    left = step_lines unit (ReadFrom location);
+    left = access_requests unit (ReadFrom location);
     byte = None;
-    stands = stands_at_first unit (Check (ReadFrom location) after);
+    stands = stands_at_first unit (Make (ReadFrom location) after);
     ask_is = refl;
   },
 )
 sends_first unit (WriteTo location byte) after = (
   _,
   record {
-    now = Check (WriteTo location byte) after;
+    now = Make (WriteTo location byte) after;
     misses = 0;
-    left = step_lines unit (WriteTo location byte);
+    left = access_requests unit (WriteTo location byte);
     byte = None;
-    stands = stands_at_first unit (Check (WriteTo location byte) after);
+    stands = stands_at_first unit (Make (WriteTo location byte) after);
     ask_is = refl;
   },
 )
 
-pub none_ended : (unit : ℕ) (step : Step) (after : Option ℕ → Plan) (verdict : Verdict)
-    → Wants unit (Check step after) [] (Ended verdict) → ⊥
-none_ended unit step after verdict wants =
-    let first = sends_first unit step after in
-    let never = wants_one [] unit (Check step after) (Ended verdict) (Send first.0) wants first.1 in cc
+pub none_ended : (unit : ℕ) (access : Access) (after : Option ℕ → Plan) (verdict : Verdict)
+    → Wants unit (Make access after) [] (Ended verdict) → ⊥
+none_ended unit access after verdict wants =
+    let first = sends_first unit access after in
+    let never = wants_one [] unit (Make access after) (Ended verdict) (Send first.0) wants first.1 in cc

@@ -154,7 +154,7 @@ pub heard_whole : (at : ℕ) (old : SimState) (unit : UnitState) (frame : Frame)
     → SimCarry old frame answer new
     → IsFor at frame → IsAlone at unit old.units → is_loss at old frame ≡ false → (next_fate old.fates).refuse ≡ false
     → HeardWhole at unit frame answer new
-heard_whole at old unit frame answer new step is alone whole kind =
+heard_whole at old unit frame answer new access is alone whole kind =
     let fate = next_fate old.fates in
     let parts = loss_parts (is_lost fate at) fate.answer_lost (answers_at at fate frame old.units) whole in
     let here : is_lost fate unit.address ≡ false = rw (address_of at unit old.units alone) parts.0 in
@@ -162,10 +162,10 @@ heard_whole at old unit frame answer new step is alone whole kind =
     let own : unit_answer fate frame unit ≡ answer_to false unit frame = rw (here, kind) refl in
     record {
       alone =
-          rw step.units (subst (λ (u : UnitState). IsAlone at u (map (unit_after fate frame) old.units)) after
+          rw access.units (subst (λ (u : UnitState). IsAlone at u (map (unit_after fate frame) old.units)) after
           (alone_after fate at unit old.units frame is alone));
       answered = λ byte answers.
-          step.answers
+          access.answers
           ∙ comes_back fate.answer_lost (unit_answer fate frame unit) byte
           (filter_map (unit_answer fate frame) old.units)
           (parts.1 (found_answering fate at unit old.units frame byte alone (own ∙ answers)))
@@ -177,10 +177,10 @@ pub own_answer : (at : ℕ) (old : SimState) (unit : UnitState) (frame : Frame) 
     → SimCarry old frame answer new
     → IsFor at frame → IsAlone at unit old.units → (byte : ℕ) → answer ≡ Some byte
     → unit_answer (next_fate old.fates) frame unit ≡ Some byte
-own_answer at old unit frame answer new step is alone byte back =
+own_answer at old unit frame answer new access is alone byte back =
     let fate = next_fate old.fates in
     by fate.answer_lost (unit_answer fate frame unit) (own_answers fate at unit old.units frame is alone)
-    (sym step.answers ∙ back)
+    (sym access.answers ∙ back)
   where
     by : (lost : Bool) (own : Option ℕ)
         → filter_map (unit_answer (next_fate old.fates) frame) old.units ≡ cons_option own []
@@ -196,5 +196,5 @@ own_answer at old unit frame answer new step is alone byte back =
 pub alone_then : (at : ℕ) (old : SimState) (unit : UnitState) (frame : Frame) (answer : Option ℕ) (new : SimState)
     → SimCarry old frame answer new
     → IsFor at frame → IsAlone at unit old.units → IsAlone at (unit_after (next_fate old.fates) frame unit) new.units
-alone_then at old unit frame answer new step is alone =
-    rw step.units (alone_after (next_fate old.fates) at unit old.units frame is alone)
+alone_then at old unit frame answer new access is alone =
+    rw access.units (alone_after (next_fate old.fates) at unit old.units frame is alone)

@@ -1,4 +1,4 @@
--- A step misses no more often than its unit has losses.
+-- An access misses no more often than its unit has losses.
 use Rattle.std.proofs.Common.{◌≡◌, ◌⊎◌, inl, inr, refl, sym, ℕ, zero, suc, ◌≤◌, ◌<◌, Bool, true, false, ◌&&◌, ◌||◌, not}
 use Rattle.std.proofs.Common.{List, length, Option, IsSome, IsTrue, arith}
 use Rattle.std.specs.Prelude.{◌==◌, nat_lt, nat_le, slice_get, slice_set, slice_index}
@@ -8,9 +8,9 @@ use Rattle.std.proofs.lemmas.List.{length-set, get_or-set_other}
 use Rattle.dali_write.specs.Exchanges.{Exchange}
 use Rattle.dali_gear.specs.UnitState.{BankState, UnitState, is_writable, with_byte}
 use Rattle.dali_gear.specs.SimState.{SimState}
-use Rattle.dali_write.specs.declared.step.Step.{Step}
-use Rattle.dali_write.specs.declared.step.Step.TheVariants.{ReadFrom, WriteTo}
-use Rattle.dali_write.specs.Lines.{step_lines}
+use Rattle.dali_write.specs.declared.access.Access.{Access}
+use Rattle.dali_write.specs.declared.access.Access.TheVariants.{ReadFrom, WriteTo}
+use Rattle.dali_write.specs.Requests.{access_requests}
 use Rattle.dali_write.specs.Tries.{most_tries, Misses, Succeeds, Fails}
 use Rattle.dali_write.specs.Losses.{SimRun, losses, Unrefused, IsAlone, CanDo}
 use Rattle.dali_write.proofs.LossLemmas.{missed_by_loss}
@@ -33,41 +33,45 @@ still_writable bank location byte = rw (length-set bank.bytes location byte) (by
     by true e = refl
     by false e = rw (get_or-set_other bank.bytes location 2 byte 0 (λ same. eqb-false location 2 e (sym same))) refl
 
--- after misses the unit can do the step still
-can_after : (at : ℕ) (step : Step) (unit : UnitState) (misses : ℕ) (told : List Exchange) (first last : SimState)
-    → SimRun told first last
-    → IsAlone at unit first.units → CanDo step unit → Misses (step_lines at step) misses told
-    → (now : UnitState) × IsAlone at now last.units × CanDo step now
-can_after at (ReadFrom location) unit misses told first last run alone can are =
-    after_misses (λ bank. IsSome (slice_get bank.bytes location)) at (ReadFrom location) unit misses told first last run
-    alone can tt are
-can_after at (WriteTo location byte) unit misses told first last run alone can are =
-    after_misses (λ bank. IsTrue (is_writable bank location)) at (WriteTo location byte) unit misses told first last run
-    alone can
+-- after misses the unit can do the access still
+can_after : (loses : ℕ → Type 0) (at : ℕ) (access : Access) (unit : UnitState) (misses : ℕ) (told : List Exchange)
+    (first last : SimState)
+    → SimRun loses told first last → (loses at → ⊥)
+    → IsAlone at unit first.units → CanDo access unit → Misses (access_requests at access) misses told
+    → (now : UnitState) × IsAlone at now last.units × CanDo access now
+can_after loses at (ReadFrom location) unit misses told first last run keeps_power alone can are =
+    after_misses loses (λ bank. IsSome (slice_get bank.bytes location)) at (ReadFrom location) unit misses told first
+    last run keeps_power alone can tt are
+can_after loses at (WriteTo location byte) unit misses told first last run keeps_power alone can are =
+    after_misses loses (λ bank. IsTrue (is_writable bank location)) at (WriteTo location byte) unit misses told first
+    last run keeps_power alone can
     (λ bank can_still. rw (still_writable bank location byte) can_still) are
 
 -- each missed try took a loss
-pub misses_by_losses : (at : ℕ) (step : Step) (unit : UnitState) (misses : ℕ) (told : List Exchange)
-    (first last : SimState) (run : SimRun told first last)
-    → IsAlone at unit first.units → CanDo step unit → Unrefused told first last run
-    → Misses (step_lines at step) misses told → misses ≤ losses at told first last run
-misses_by_losses at step unit zero told first last run alone can kind are = omega arith
-misses_by_losses at step unit (suc misses) told first last run alone can kind are =
-    let two = parts at told are.0 are.1 first last run are.2 in
+pub misses_by_losses : (loses : ℕ → Type 0) (at : ℕ) (access : Access) (unit : UnitState) (misses : ℕ)
+    (told : List Exchange) (first last : SimState) (run : SimRun loses told first last)
+    → (loses at → ⊥) → IsAlone at unit first.units → CanDo access unit → Unrefused loses told first last run
+    → Misses (access_requests at access) misses told → misses ≤ losses at loses told first last run
+misses_by_losses loses at access unit zero told first last run keeps_power alone can kind are = omega arith
+misses_by_losses loses at access unit (suc misses) told first last run keeps_power alone can kind are =
+    let two = parts loses at told are.0 are.1 first last run are.2 in
     let kinds = two.kinds kind in
-    let older = can_after at step unit misses are.1 first two.mid two.before alone can are.4 in
-    let one = missed_by_loss at step older.0 are.0 two.mid last two.after older.1 older.2 kinds.1 are.3 in
-    let few = misses_by_losses at step unit misses are.1 first two.mid two.before alone can kinds.0 are.4 in
+    let older = can_after loses at access unit misses are.1 first two.mid two.before keeps_power alone can are.4 in
+    let one =
+    missed_by_loss loses at access older.0 are.0 two.mid last two.after keeps_power older.1 older.2 kinds.1 are.3 in
+    let few =
+    misses_by_losses loses at access unit misses are.1 first two.mid two.before keeps_power alone can kinds.0 are.4 in
     let sum = two.sum in
     omega arith
 
-pub step_succeeds : (at : ℕ) (step : Step) (unit : UnitState) (outcome : Option ℕ) (told : List Exchange)
-    (first last : SimState) (run : SimRun told first last)
-    → IsAlone at unit first.units → CanDo step unit → Unrefused told first last run
-    → losses at told first last run < most_tries
-    → Succeeds (step_lines at step) outcome told ⊎ Fails (step_lines at step) outcome told
-    → Succeeds (step_lines at step) outcome told
-step_succeeds at step unit outcome told first last run alone can kind few (inl done) = done
-step_succeeds at step unit outcome told first last run alone can kind few (inr failed) =
-    let many = misses_by_losses at step unit most_tries told first last run alone can kind failed.1 in
+pub access_succeeds : (loses : ℕ → Type 0) (at : ℕ) (access : Access) (unit : UnitState) (outcome : Option ℕ)
+    (told : List Exchange) (first last : SimState) (run : SimRun loses told first last)
+    → (loses at → ⊥) → IsAlone at unit first.units → CanDo access unit → Unrefused loses told first last run
+    → losses at loses told first last run < most_tries
+    → Succeeds (access_requests at access) outcome told ⊎ Fails (access_requests at access) outcome told
+    → Succeeds (access_requests at access) outcome told
+access_succeeds loses at access unit outcome told first last run keeps_power alone can kind few (inl done) = done
+access_succeeds loses at access unit outcome told first last run keeps_power alone can kind few (inr failed) =
+    let many =
+    misses_by_losses loses at access unit most_tries told first last run keeps_power alone can kind failed.1 in
     absurd (omega arith)

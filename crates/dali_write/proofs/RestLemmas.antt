@@ -7,21 +7,21 @@ use Rattle.dali_frame.specs.declared.forward.Frame.{Frame}
 use Rattle.dali_frame.specs.declared.forward.Frame.TheVariants.{Dtr0, Dtr1, Dtr2, Write, WriteSilent, Enable, AskDtr0}
 use Rattle.dali_frame.specs.declared.forward.Frame.TheVariants.{AskDtr1, AskDtr2, Read, Other}
 use Rattle.dali_write.specs.Exchanges.{Exchange}
-use Rattle.dali_write.specs.declared.step.Step.TheVariants.{ReadFrom}
+use Rattle.dali_write.specs.declared.access.Access.TheVariants.{ReadFrom}
 use Rattle.dali_write.specs.declared.ask.Ask.TheVariants.{Ended}
 use Rattle.dali_write.specs.declared.ask.Verdict.{Verdict}
 use Rattle.dali_write.specs.declared.ask.Verdict.TheVariants.{MayOpen, Done, Short, Format, Silent, Doubt, DoubtOpen}
 use Rattle.dali_write.specs.declared.ask.Verdict.TheVariants.{Closed, NotClosed, Read as ReadAll}
-use Rattle.dali_write.specs.Plans.{Plan, Finish, Check, either_way, read_closed, close, give_up, expect, read_back}
+use Rattle.dali_write.specs.Plans.{Plan, Finish, Make, either_way, read_closed, close, give_up, expect, read_back}
 use Rattle.dali_write.specs.Plans.{read_lock, write_on, unlock}
-use Rattle.dali_write.specs.Tries.{StepEnds, Wants}
+use Rattle.dali_write.specs.Tries.{AccessEnds, Wants}
 use Rattle.dali_write.specs.Findings.{Suits, IsTooShort, HasOtherFormat, ShowsAll, IsWritten, Rests}
-use Rattle.dali_write.specs.Reads.{IsPassive, EndsInRead, ReadStands}
+use Rattle.dali_write.specs.Reads.{IsPassive, EndsInRead, StillRead}
 use Rattle.dali_write.specs.Walks.{Walk}
 use Rattle.dali_write.proofs.GearLemmas.{IsQuiet}
 use Rattle.dali_write.proofs.TruthLemmas.{AllQuiet}
 use Rattle.dali_write.proofs.EndLemmas.{ends_reading}
-use Rattle.dali_write.proofs.VerdictLemmas.{read_step_quiet, finish_walk, only_older}
+use Rattle.dali_write.proofs.VerdictLemmas.{read_access_quiet, finish_walk, only_older}
 use Rattle.dali_write.proofs.WalkLemmas.{ended_walk}
 
 -- the exchanges, the newest first, after the first ones are the last ones
@@ -36,17 +36,17 @@ split newer older first last after = (older ++ first, refl, after ∙ append_ass
 -- what stood goes on to stand
 abbrev pub KeepsReads : List Exchange → List Exchange → Type 0
 KeepsReads first last =
-    (unit location byte : ℕ) → ReadStands first unit location byte → ReadStands last unit location byte
+    (unit location byte : ℕ) → StillRead first unit location byte → StillRead last unit location byte
 
 keeps_then : (first mid last : List Exchange) → KeepsReads first mid → KeepsReads mid last → KeepsReads first last
 keeps_then first mid last one two = λ unit location byte stands. two unit location byte (one unit location byte stands)
 
 keeps_none : (first last : List Exchange) → last ≡ first → KeepsReads first last
 keeps_none first last same =
-    λ unit location byte stands. subst (λ (t : List Exchange). ReadStands t unit location byte) (sym same) stands
+    λ unit location byte stands. subst (λ (t : List Exchange). StillRead t unit location byte) (sym same) stands
 
-pub shows_kept : (first last : List Exchange) (unit location byte : ℕ) → ReadStands first unit location byte
-    → KeepsReads first last → ReadStands last unit location byte
+pub shows_kept : (first last : List Exchange) (unit location byte : ℕ) → StillRead first unit location byte
+    → KeepsReads first last → StillRead last unit location byte
 shows_kept first last unit location byte stands keeps = keeps unit location byte stands
 
 -- a frame that is quiet at each address enables no unit and writes nothing
@@ -71,25 +71,25 @@ quiet_keeps (x ∷ told) first quiet = λ unit location byte stands.
       quiet_keeps told first (λ address. (quiet address).1) unit location byte stands,
     )
 
--- a read step keeps what stood
-pub read_step_keeps : (unit location : ℕ) (after : Option ℕ → Plan) (outcome : Option ℕ)
+-- a read access keeps what stood
+pub read_access_keeps : (unit location : ℕ) (after : Option ℕ → Plan) (outcome : Option ℕ)
     (told first last : List Exchange)
-    → StepEnds unit (Check (ReadFrom location) after) outcome told → After told first last → KeepsReads first last
-read_step_keeps unit location after outcome told first last ends is = λ u l b stands.
-    subst (λ (t : List Exchange). ReadStands t u l b) (sym is)
-    (quiet_keeps told first (λ address. read_step_quiet address unit location after outcome told ends) u l b stands)
+    → AccessEnds unit (Make (ReadFrom location) after) outcome told → After told first last → KeepsReads first last
+read_access_keeps unit location after outcome told first last ends is = λ u l b stands.
+    subst (λ (t : List Exchange). StillRead t u l b) (sym is)
+    (quiet_keeps told first (λ address. read_access_quiet address unit location after outcome told ends) u l b stands)
 
 -- a checked read that was just made stands
 stands_now : (unit location byte : ℕ) (told : List Exchange) → EndsInRead unit location byte told
-    → ReadStands told unit location byte
+    → StillRead told unit location byte
 stands_now unit location byte told ends =
     let is = (ends_reading unit location byte told ends).is in
-    subst (λ (t : List Exchange). ReadStands t unit location byte) (sym is)
+    subst (λ (t : List Exchange). StillRead t unit location byte) (sym is)
     (inl (subst (λ (t : List Exchange). EndsInRead unit location byte t) is ends))
 
 -- it stands whatever came before
-pub older_reads : (told older : List Exchange) (unit location byte : ℕ) → ReadStands told unit location byte
-    → ReadStands (told ++ older) unit location byte
+pub older_reads : (told older : List Exchange) (unit location byte : ℕ) → StillRead told unit location byte
+    → StillRead (told ++ older) unit location byte
 older_reads [] older unit location byte stands = absurd stands
 older_reads (x ∷ told) older unit location byte (inl ends) =
     let parts : (x ∷ told) ++ older ≡ ends.0 ++ (ends.1 ++ older) =
@@ -98,20 +98,20 @@ older_reads (x ∷ told) older unit location byte (inl ends) =
 older_reads (x ∷ told) older unit location byte (inr (passive, stands)) =
     inr (passive, older_reads told older unit location byte stands)
 
--- and a read step that didn't fail ends in one
-pub read_step_shows : (unit location byte : ℕ) (after : Option ℕ → Plan) (told first last : List Exchange)
-    → StepEnds unit (Check (ReadFrom location) after) (Some byte) told → After told first last
-    → ReadStands last unit location byte
-read_step_shows unit location byte after told first last (inl done) is =
+-- and a read access that didn't fail ends in one
+pub read_access_shows : (unit location byte : ℕ) (after : Option ℕ → Plan) (told first last : List Exchange)
+    → AccessEnds unit (Make (ReadFrom location) after) (Some byte) told → After told first last
+    → StillRead last unit location byte
+read_access_shows unit location byte after told first last (inl done) is =
     let parts : last ≡ done.0 ++ (done.1 ++ first) =
     is ∙ (subst (λ (t : List Exchange). told ++ first ≡ t ++ first) done.3 refl ∙ append_assoc done.0 done.1 first) in
     stands_now unit location byte last (done.0, done.1 ++ first, parts, (done.4, sym done.5))
-read_step_shows unit location byte after told first last (inr failed) is = let never = failed.0 in cc
+read_access_shows unit location byte after told first last (inr failed) is = let never = failed.0 in cc
 
 -- it gave the order up
 Gave : ℕ → Verdict → Verdict → Verdict → List Exchange → Type 0
 Gave unit answered unanswered verdict world =
-    (verdict ≡ unanswered) ⊎ ((verdict ≡ answered) × ((byte : ℕ) × ReadStands world unit 2 byte))
+    (verdict ≡ unanswered) ⊎ ((verdict ≡ answered) × ((byte : ℕ) × StillRead world unit 2 byte))
 
 read_closed_rests : (unit : ℕ) (answered unanswered verdict : Verdict) (outcomes : List (Option ℕ))
     (told : List Exchange) (first last : List Exchange)
@@ -132,7 +132,7 @@ read_closed_rests unit answered unanswered verdict (Some byte ∷ outcomes) told
       is,
       (
         byte,
-        read_step_shows unit 2 byte (either_way (Finish unanswered) (λ b. Finish answered)) walk.1 first last walk.3
+        read_access_shows unit 2 byte (either_way (Finish unanswered) (λ b. Finish answered)) walk.1 first last walk.3
             (subst (λ (t : List Exchange). After t first last) older run),
       ),
     )
@@ -148,11 +148,11 @@ close_rests unit answered unanswered verdict (o ∷ outcomes) told first last wa
     read_closed_rests unit answered unanswered verdict outcomes walk.0 parts.0 last walk.4 parts.2
 
 gave_up : (unit : ℕ) (updates : List (ℕ × ℕ)) (verdict : Verdict) (last : List Exchange)
-    → Gave unit Doubt DoubtOpen verdict last → Rests (ReadStands last unit) updates verdict
+    → Gave unit Doubt DoubtOpen verdict last → Rests (StillRead last unit) updates verdict
 unfolding Gave
-gave_up unit updates verdict last (inl is) = subst (λ (v : Verdict). Rests (ReadStands last unit) updates v) (sym is) tt
+gave_up unit updates verdict last (inl is) = subst (λ (v : Verdict). Rests (StillRead last unit) updates v) (sym is) tt
 gave_up unit updates verdict last (inr gave) =
-    subst (λ (v : Verdict). Rests (ReadStands last unit) updates v) (sym gave.0) gave.1
+    subst (λ (v : Verdict). Rests (StillRead last unit) updates v) (sym gave.0) gave.1
 
 -- the location held the byte, and the plan went on; or it gave the order up
 record Went (unit location byte : ℕ) (after : Plan) (verdict : Verdict) (first last : List Exchange) : Type 0 where
@@ -161,7 +161,7 @@ record Went (unit location byte : ℕ) (after : Plan) (verdict : Verdict) (first
   newer : List Exchange
   walk : Walk unit after outcomes newer (Finish verdict)
   run : After newer mid last
-  shows : ReadStands mid unit location byte
+  shows : StillRead mid unit location byte
   keeps : KeepsReads first mid
 
 expect_rests : (unit location byte : ℕ) (after : Plan) (verdict : Verdict) (outcomes : List (Option ℕ))
@@ -175,10 +175,10 @@ expect_rests unit location byte after verdict (None ∷ outcomes) told first las
 expect_rests unit location byte after verdict (Some found ∷ outcomes) told first last walk run =
     let parts = split walk.0 walk.1 first last (subst (λ (t : List Exchange). After t first last) walk.2 run) in
     let after_read = either_way give_up (λ f. if f == byte then after else give_up) in
-    let shows = read_step_shows unit location found after_read walk.1 first parts.0 walk.3 parts.1 in
-    let keeps = read_step_keeps unit location after_read (Some found) walk.1 first parts.0 walk.3 parts.1 in
+    let shows = read_access_shows unit location found after_read walk.1 first parts.0 walk.3 parts.1 in
+    let keeps = read_access_keeps unit location after_read (Some found) walk.1 first parts.0 walk.3 parts.1 in
     by parts.0 parts.2 shows keeps (found == byte) refl walk.4 where
-      by : (mid : List Exchange) → After walk.0 mid last → ReadStands mid unit location found → (KeepsReads first mid)
+      by : (mid : List Exchange) → After walk.0 mid last → StillRead mid unit location found → (KeepsReads first mid)
           → (t : Bool) → (found == byte) ≡ t → Walk unit (if t then after else give_up) outcomes walk.0 (Finish verdict)
           → Went unit location byte after verdict first last ⊎ Gave unit Doubt DoubtOpen verdict last
       by mid run shows keeps true same on =
@@ -189,7 +189,7 @@ expect_rests unit location byte after verdict (Some found ∷ outcomes) told fir
             newer = walk.0;
             walk = on;
             run = run;
-            shows = subst (λ (b : ℕ). ReadStands mid unit location b) is shows;
+            shows = subst (λ (b : ℕ). StillRead mid unit location b) is shows;
             keeps = keeps;
           })
       by mid run shows keeps false differs on =
@@ -198,7 +198,7 @@ expect_rests unit location byte after verdict (Some found ∷ outcomes) told fir
 -- all bytes were read back
 record Held (unit : ℕ) (updates : List (ℕ × ℕ)) (verdict : Verdict) (first last : List Exchange) : Type 0 where
   done : verdict ≡ Done
-  shows : ShowsAll (ReadStands last unit) updates
+  shows : ShowsAll (StillRead last unit) updates
   keeps : KeepsReads first last
 
 read_back_rests : (unit : ℕ) (updates : List (ℕ × ℕ)) (verdict : Verdict) (outcomes : List (Option ℕ))
@@ -228,14 +228,14 @@ read_back_rests unit (update ∷ updates) verdict outcomes told first last walk 
 read_lock_rests : (unit : ℕ) (updates : List (ℕ × ℕ)) (verdict : Verdict) (outcomes : List (Option ℕ))
     (told : List Exchange) (first last : List Exchange)
     → Walk unit (read_lock updates) outcomes told (Finish verdict) → After told first last
-    → Rests (ReadStands last unit) updates verdict
+    → Rests (StillRead last unit) updates verdict
 read_lock_rests unit updates verdict outcomes told first last walk run =
     elim (expect_rests unit 2 0xFF (read_back updates) verdict outcomes told first last walk run) [
       | inr gave ↦ gave_up unit updates verdict last gave
       | inl went ↦
           elim (read_back_rests unit updates verdict went.outcomes went.newer went.mid last went.walk went.run) [
             | inr gave ↦ gave_up unit updates verdict last gave
-            | inl held ↦ subst (λ (v : Verdict). Rests (ReadStands last unit) updates v) (sym held.done)
+            | inl held ↦ subst (λ (v : Verdict). Rests (StillRead last unit) updates v) (sym held.done)
                 (shows_kept went.mid last unit 2 0xFF went.shows held.keeps, held.shows)
           ]
     ]
@@ -243,7 +243,7 @@ read_lock_rests unit updates verdict outcomes told first last walk run =
 write_on_rests : (unit : ℕ) (updates left : List (ℕ × ℕ)) (verdict : Verdict) (outcomes : List (Option ℕ))
     (told : List Exchange) (first last : List Exchange)
     → Walk unit (write_on updates left) outcomes told (Finish verdict) → After told first last
-    → Rests (ReadStands last unit) updates verdict
+    → Rests (StillRead last unit) updates verdict
 write_on_rests unit updates [] verdict [] told first last walk run = let no = walk.1 in cc
 write_on_rests unit updates [] verdict (None ∷ outcomes) told first last walk run =
     let parts = split walk.0 walk.1 first last (subst (λ (t : List Exchange). After t first last) walk.2 run) in
@@ -264,7 +264,7 @@ write_on_rests unit updates (update ∷ left) verdict (Some byte ∷ outcomes) t
 unlock_rests : (unit : ℕ) (updates : List (ℕ × ℕ)) (verdict : Verdict) (outcomes : List (Option ℕ))
     (told : List Exchange) (first last : List Exchange)
     → Walk unit (unlock updates) outcomes told (Finish verdict) → After told first last
-    → Rests (ReadStands last unit) updates verdict
+    → Rests (StillRead last unit) updates verdict
 unlock_rests unit updates verdict [] told first last walk run = let no = walk.1 in cc
 unlock_rests unit updates verdict (None ∷ outcomes) told first last walk run =
     let parts = split walk.0 walk.1 first last (subst (λ (t : List Exchange). After t first last) walk.2 run) in
@@ -275,19 +275,19 @@ unlock_rests unit updates verdict (Some byte ∷ outcomes) told first last walk 
     write_on_rests unit updates updates verdict outcomes walk.0 parts.0 last walk.4 parts.2
 
 pub opened_rests : (told : List Exchange) (unit : ℕ) (updates : List (ℕ × ℕ)) (verdict : Verdict)
-    → Wants unit (unlock updates) told (Ended verdict) → Rests (ReadStands told unit) updates verdict
+    → Wants unit (unlock updates) told (Ended verdict) → Rests (StillRead told unit) updates verdict
 opened_rests told unit updates verdict wants =
     let ended = ended_walk unit (unlock updates) told verdict wants in
     unlock_rests unit updates verdict ended.0 told [] told ended.1 (sym (append-nil told))
 
 closed : (unit : ℕ) (verdict : Verdict) (last : List Exchange) → Gave unit Closed NotClosed verdict last
-    → Rests (ReadStands last unit) [] verdict
+    → Rests (StillRead last unit) [] verdict
 unfolding Gave
-closed unit verdict last (inl is) = subst (λ (v : Verdict). Rests (ReadStands last unit) [] v) (sym is) tt
-closed unit verdict last (inr gave) = subst (λ (v : Verdict). Rests (ReadStands last unit) [] v) (sym gave.0) gave.1
+closed unit verdict last (inl is) = subst (λ (v : Verdict). Rests (StillRead last unit) [] v) (sym is) tt
+closed unit verdict last (inr gave) = subst (λ (v : Verdict). Rests (StillRead last unit) [] v) (sym gave.0) gave.1
 
 pub closing_rests : (told : List Exchange) (unit : ℕ) (verdict : Verdict)
-    → Wants unit (close Closed NotClosed) told (Ended verdict) → Rests (ReadStands told unit) [] verdict
+    → Wants unit (close Closed NotClosed) told (Ended verdict) → Rests (StillRead told unit) [] verdict
 closing_rests told unit verdict wants =
     let ended = ended_walk unit (close Closed NotClosed) told verdict wants in
     closed unit verdict told

@@ -3,21 +3,21 @@ use Rattle.std.proofs.Common.{◌≡◌, sym, ap, subst, ◌∙◌, ℕ, zero, s
 use Rattle.std.proofs.Common.{length-append, Option, Some, None, arith}
 use Rattle.std.specs.Option.{option_to_list}
 use Rattle.dali_write.specs.Exchanges.{Exchange}
-use Rattle.dali_write.specs.declared.line.Line.{Line}
+use Rattle.dali_write.specs.declared.request.Request.{Request}
 use Rattle.dali_write.specs.declared.stage.Job.{Job}
 use Rattle.dali_write.specs.declared.stage.Job.TheVariants.{Fresh, Opened, Closing, Reading}
 use Rattle.dali_write.specs.declared.ask.Verdict.TheVariants.{Silent}
-use Rattle.dali_write.specs.declared.step.Step.{Step}
-use Rattle.dali_write.specs.Plans.{Plan, Finish, Check, goes_on, plan_after, read_on, read_all}
+use Rattle.dali_write.specs.declared.access.Access.{Access}
+use Rattle.dali_write.specs.Plans.{Plan, Finish, Make, goes_on, plan_after, read_on, read_all}
 use Rattle.dali_write.specs.Found.{StandsWith, found}
 use Rattle.dali_write.specs.Stages.{plan_of}
 use Rattle.dali_write.proofs.PlanLemmas.{either_all}
 
--- whatever the outcomes are, the plan has no more steps
+-- whatever the outcomes are, the plan has no more accesses
 abbrev HasAtMost : ℕ → Plan → Type 0
 HasAtMost most (Finish verdict) = Unit {0}
-HasAtMost zero (Check step after) = ⊥
-HasAtMost (suc most) (Check step after) = (outcome : Option ℕ) → HasAtMost most (after outcome)
+HasAtMost zero (Make access after) = ⊥
+HasAtMost (suc most) (Make access after) = (outcome : Option ℕ) → HasAtMost most (after outcome)
 
 read_on_has : (most location left : ℕ) → left ≤ most → HasAtMost most (read_on location left)
 read_on_has most location zero few = tt
@@ -31,28 +31,28 @@ read_all_has =
     either_all (HasAtMost 254) (Finish Silent) (λ last. read_on 1 (min last 0xFE)) tt
     (λ last. read_on_has 254 1 (min last 0xFE) (omega arith))
 
--- one step less
+-- one access less
 one_less : (most : ℕ) (plan : Plan) (outcome : Option ℕ) → HasAtMost most plan
     → HasAtMost (most - 1) (goes_on plan outcome)
 one_less most (Finish verdict) outcome has = tt
-one_less zero (Check step after) outcome has = absurd has
-one_less (suc most) (Check step after) outcome has =
+one_less zero (Make access after) outcome has = absurd has
+one_less (suc most) (Make access after) outcome has =
     let less : suc most - 1 ≡ most = omega arith in
     subst (λ (n : ℕ). HasAtMost n (after outcome)) (sym less) (has outcome)
 
-steps_left : (most : ℕ) (plan : Plan) (outcomes : List (Option ℕ)) → HasAtMost most plan
+accesses_left : (most : ℕ) (plan : Plan) (outcomes : List (Option ℕ)) → HasAtMost most plan
     → HasAtMost (most - length outcomes) (plan_after plan outcomes)
-steps_left most plan [] has =
+accesses_left most plan [] has =
     let all : most - 0 ≡ most = omega arith in subst (λ (n : ℕ). HasAtMost n plan) (sym all) has
-steps_left most plan (outcome ∷ outcomes) has =
+accesses_left most plan (outcome ∷ outcomes) has =
     let less : most - length outcomes - 1 ≡ most - suc (length outcomes) = omega arith in
     subst (λ (n : ℕ). HasAtMost n (goes_on (plan_after plan outcomes) outcome)) less
-    (one_less (most - length outcomes) (plan_after plan outcomes) outcome (steps_left most plan outcomes has))
+    (one_less (most - length outcomes) (plan_after plan outcomes) outcome (accesses_left most plan outcomes has))
 
-some_left : (most : ℕ) (plan : Plan) (step : Step) (after : Option ℕ → Plan) → plan ≡ Check step after
+some_left : (most : ℕ) (plan : Plan) (access : Access) (after : Option ℕ → Plan) → plan ≡ Make access after
     → HasAtMost most plan → 1 ≤ most
-some_left zero plan step after is has = absurd (subst (λ (p : Plan). HasAtMost zero p) is has)
-some_left (suc most) plan step after is has = omega arith
+some_left zero plan access after is has = absurd (subst (λ (p : Plan). HasAtMost zero p) is has)
+some_left (suc most) plan access after is has = omega arith
 
 found_few : (outcomes : List (Option ℕ)) → length (found outcomes) ≤ length outcomes
 found_few [] = omega arith
@@ -63,21 +63,22 @@ found_few (outcome ∷ outcomes) =
     at_most_one None = omega arith
     at_most_one (Some byte) = omega arith
 
--- while a step is at hand, a session has kept fewer bytes than there can be
-pub room_for_one : (job : Job) (unit : ℕ) (told : List Exchange) (now : Plan) (step : Step) (after : Option ℕ → Plan)
-    (misses : ℕ) (left : List Line)
-    (byte : Option ℕ) (bytes : List ℕ) → now ≡ Check step after
+-- while an access is at hand, a session has kept fewer bytes than there can be
+pub room_for_one : (job : Job) (unit : ℕ) (told : List Exchange) (now : Plan) (access : Access)
+    (after : Option ℕ → Plan)
+    (misses : ℕ) (left : List Request)
+    (byte : Option ℕ) (bytes : List ℕ) → now ≡ Make access after
     → StandsWith job unit (plan_of job) told now misses left byte bytes → length bytes < 255
-room_for_one Reading unit told now step after misses left byte bytes is s =
+room_for_one Reading unit told now access after misses left byte bytes is s =
     let outcomes = s.stands.outcomes in
     let some =
-    some_left (255 - length outcomes) (plan_after read_all outcomes) step after (s.stands.now_is ∙ is)
-    (steps_left 255 read_all outcomes read_all_has) in
+    some_left (255 - length outcomes) (plan_after read_all outcomes) access after (s.stands.now_is ∙ is)
+    (accesses_left 255 read_all outcomes read_all_has) in
     let count = ap (λ (kept : List ℕ). length kept) s.bytes_are in
     omega (arith, found_few outcomes)
-room_for_one (Fresh order) unit told now step after misses left byte bytes is s =
+room_for_one (Fresh order) unit told now access after misses left byte bytes is s =
     let none = ap (λ (kept : List ℕ). length kept) s.bytes_are in omega arith
-room_for_one (Opened order) unit told now step after misses left byte bytes is s =
+room_for_one (Opened order) unit told now access after misses left byte bytes is s =
     let none = ap (λ (kept : List ℕ). length kept) s.bytes_are in omega arith
-room_for_one Closing unit told now step after misses left byte bytes is s =
+room_for_one Closing unit told now access after misses left byte bytes is s =
     let none = ap (λ (kept : List ℕ). length kept) s.bytes_are in omega arith

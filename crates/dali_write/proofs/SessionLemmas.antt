@@ -15,7 +15,7 @@ use Rattle.dali_write.specs.Told.{Told, IsFresh, IsOpened, IsClosing, aim_of}
 use Rattle.dali_write.specs.Touches.{writes_of}
 use Rattle.dali_write.specs.Guards.{IsGuarded}
 use Rattle.dali_write.specs.Findings.{Rests}
-use Rattle.dali_write.specs.Reads.{ReadStands, HasRead}
+use Rattle.dali_write.specs.Reads.{StillRead, HasRead}
 use Rattle.dali_write.specs.Verdicts.{EndsFresh, EndsOpened, EndsClosing}
 use Rattle.dali_write.proofs.ToldLemmas.{told_wants}
 use Rattle.dali_write.proofs.GuardLemmas.{fresh_guarded, opened_guarded, closing_guarded}
@@ -57,21 +57,21 @@ closing_sends unit told s frame is is_told aim =
 
 pub fresh_over : (order : Contents) (told : List Exchange) (s : Session) (verdict : Verdict) → IsFresh order s
     → Told told s → aim_of s ≡ Ended verdict
-    → EndsFresh verdict × Rests (ReadStands told order.unit) order.updates verdict
+    → EndsFresh verdict × Rests (StillRead told order.unit) order.updates verdict
 fresh_over order told s verdict is is_told aim =
     let wants = fresh_wants order told s (Ended verdict) is is_told aim in
     (fresh_ends told order.unit order.updates verdict wants, fresh_rests told order.unit order.updates verdict wants)
 
 pub opened_over : (order : Contents) (told : List Exchange) (s : Session) (verdict : Verdict) → IsOpened order s
     → Told told s → aim_of s ≡ Ended verdict
-    → EndsOpened verdict × Rests (ReadStands told order.unit) order.updates verdict
+    → EndsOpened verdict × Rests (StillRead told order.unit) order.updates verdict
 opened_over order told s verdict is is_told aim =
     let wants = opened_wants order told s (Ended verdict) is is_told aim in
     (opened_ends told order.unit order.updates verdict wants, opened_rests told order.unit order.updates verdict wants)
 
 pub closing_over : (unit : ℕ) (told : List Exchange) (s : Session) (verdict : Verdict) → IsClosing unit s → Told told s
     → aim_of s ≡ Ended verdict
-    → EndsClosing verdict × Rests (ReadStands told unit) [] verdict
+    → EndsClosing verdict × Rests (StillRead told unit) [] verdict
 closing_over unit told s verdict is is_told aim =
     let wants = closing_wants unit told s (Ended verdict) is is_told aim in
     (closing_ends told unit verdict wants, closing_rests told unit verdict wants)

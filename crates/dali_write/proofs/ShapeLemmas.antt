@@ -1,42 +1,76 @@
 -- The exchanges of whole tries, one by one.
-use Rattle.std.proofs.Common.{◌≡◌, refl, ap, subst, ℕ, ◌+◌, List, [], ◌∷◌, length, arith}
+use Rattle.std.proofs.Common.{◌≡◌, refl, sym, ap, subst, ℕ, zero, suc, ◌+◌, List, [], ◌∷◌, ◌++◌, length, drop, arith}
+use Rattle.std.proofs.lemmas.List.{append_cancel_right}
 use Rattle.dali_frame.specs.declared.forward.Frame.{Frame}
 use Rattle.dali_frame.specs.declared.forward.Frame.TheVariants.{Dtr0, Dtr1, AskDtr0, AskDtr1, Read}
+use Rattle.dali_bus.specs.Hears.{up}
 use Rattle.dali_write.specs.Exchanges.{Exchange}
-use Rattle.dali_write.specs.declared.line.Line.{Line}
-use Rattle.dali_write.specs.declared.line.Wish.{Wish}
-use Rattle.dali_write.specs.declared.line.Wish.TheVariants.{Nothing, Exactly, Anything}
-use Rattle.dali_write.specs.Lines.{Meets, line, select_lines, read_lines}
+use Rattle.dali_write.specs.declared.request.Request.{Request}
+use Rattle.dali_write.specs.declared.request.Wish.{Wish}
+use Rattle.dali_write.specs.declared.request.Wish.TheVariants.{Nothing, Exactly, Anything}
+use Rattle.dali_write.specs.Requests.{Meets, request, select_requests, read_requests}
 use Rattle.dali_write.specs.Tries.{Trying}
 
--- the lines that were sent and those that are left are all of them
-pub trying_length : (lines : List Line) (tried : List Exchange) (left : List Line) → Trying lines tried left
-    → length tried + length left ≡ length lines
-trying_length lines [] left try = let same = ap (λ (l : List Line). length l) try in omega arith
-trying_length lines (x ∷ tried) left try =
-    let rest = trying_length lines tried (line x.frame try.0 ∷ left) try.2 in omega arith
+-- the requests that were sent and those that are left are all of them
+pub trying_length : (requests : List Request) (tried : List Exchange) (left : List Request) → Trying requests tried left
+    → length tried + length left ≡ length requests
+trying_length requests [] left try = let same = ap (λ (l : List Request). length l) try in omega arith
+trying_length requests (x ∷ tried) left try =
+    let rest = trying_length requests tried (request x.frame try.0 ∷ left) try.2 in omega arith
 
--- of no lines, none is left
-pub none_left : (tried : List Exchange) (next : Line) (left : List Line) → Trying [] tried (next ∷ left) → ⊥
+-- of no requests, none is left
+pub none_left : (tried : List Exchange) (next : Request) (left : List Request) → Trying [] tried (next ∷ left) → ⊥
 none_left tried next left try = let long = trying_length [] tried (next ∷ left) try in omega arith
 
--- an exchange of a line
+abbrev pub AllOf : (Request → Type 0) → List Request → Type 0
+AllOf P [] = Unit {0}
+AllOf P (next ∷ left) = P next × AllOf P left
+
+-- what holds of all requests holds of those that are left
+pub left_all : (P : Request → Type 0) (requests : List Request) (tried : List Exchange) (left : List Request)
+    → AllOf P requests → Trying requests tried left → AllOf P left
+left_all P requests [] left all try = subst (λ (l : List Request). AllOf P l) (sym try) all
+left_all P requests (x ∷ tried) left all try =
+    (left_all P requests tried (request x.frame try.0 ∷ left) all try.2).1
+
+drop_next : (number : ℕ) (requests : List Request) (next : Request) (left : List Request)
+    → next ∷ left ≡ drop number requests → left ≡ drop (suc number) requests
+drop_next zero [] next left is = cc
+drop_next zero (first ∷ requests) next left is = cc
+drop_next (suc number) [] next left is = cc
+drop_next (suc number) (first ∷ requests) next left is = drop_next number requests next left is
+
+-- those that are left are the last ones
+left_is : (requests : List Request) (tried : List Exchange) (left : List Request) → Trying requests tried left
+    → left ≡ drop (length tried) requests
+left_is requests [] left try = try
+left_is requests (x ∷ tried) left try =
+    drop_next (length tried) requests (request x.frame try.0) left
+    (left_is requests tried (request x.frame try.0 ∷ left) try.2)
+
+-- a try of the requests before the last ones
+cut : (front back : List Request) (tried : List Exchange) (left : List Request)
+    → Trying (front ++ back) tried (left ++ back) → Trying front tried left
+cut front back [] left try = append_cancel_right left front back try
+cut front back (x ∷ tried) left try = (try.0, try.1, cut front back tried (request x.frame try.0 ∷ left) try.2)
+
+-- an exchange of a request
 pub record Got (x : Exchange) (frame : Frame) (wish : Wish) : Type 0 where
   pub frame_is : x.frame ≡ frame
   pub meets : Meets wish x.answer
 
-got : (x : Exchange) (wish : Wish) (next : Line) → line x.frame wish ≡ next → Meets wish x.answer
+got : (x : Exchange) (wish : Wish) (next : Request) → request x.frame wish ≡ next → Meets wish x.answer
     → Got x next.frame next.wish
 got x wish next same meets =
     record {
-      frame_is = ap (λ (l : Line). l.frame) same;
-      meets = subst (λ (w : Wish). Meets w x.answer) (ap (λ (l : Line). l.wish) same) meets;
+      frame_is = ap (λ (l : Request). l.frame) same;
+      meets = subst (λ (w : Wish). Meets w x.answer) (ap (λ (l : Request). l.wish) same) meets;
     }
 
-head_is : (x y : Line) (xs ys : List Line) → x ∷ xs ≡ y ∷ ys → x ≡ y
+head_is : (x y : Request) (xs ys : List Request) → x ∷ xs ≡ y ∷ ys → x ≡ y
 head_is x y xs ys same = cc
 
-tail_is : (x y : Line) (xs ys : List Line) → x ∷ xs ≡ y ∷ ys → xs ≡ ys
+tail_is : (x y : Request) (xs ys : List Request) → x ∷ xs ≡ y ∷ ys → xs ≡ ys
 tail_is x y xs ys same = cc
 
 pub record Selected (unit location : ℕ) (tried : List Exchange) : Type 0 where
@@ -50,7 +84,7 @@ pub record Selected (unit location : ℕ) (tried : List Exchange) : Type 0 where
   pub got3 : Got x3 (Dtr0 location) Nothing
   pub got4 : Got x4 (AskDtr0 unit) (Exactly location)
 
-pub selected : (unit location : ℕ) (tried : List Exchange) → Trying (select_lines unit location) tried []
+pub selected : (unit location : ℕ) (tried : List Exchange) → Trying (select_requests unit location) tried []
     → Selected unit location tried
 selected unit location [] try = cc
 selected unit location (x1 ∷ []) try = let same = try.2 in cc
@@ -67,54 +101,55 @@ selected unit location (x4 ∷ x3 ∷ x2 ∷ x1 ∷ []) try =
       x3 = x3;
       x4 = x4;
       is = refl;
-      got1 = got x1 try.2.2.2.0 (line (Dtr1 1) Nothing) (head_is _ _ _ _ e1) try.2.2.2.1;
-      got2 = got x2 try.2.2.0 (line (AskDtr1 unit) (Exactly 1)) (head_is _ _ _ _ e2) try.2.2.1;
-      got3 = got x3 try.2.0 (line (Dtr0 location) Nothing) (head_is _ _ _ _ e3) try.2.1;
-      got4 = got x4 try.0 (line (AskDtr0 unit) (Exactly location)) (head_is _ _ _ _ e4) try.1;
+      got1 = got x1 try.2.2.2.0 (request (Dtr1 1) Nothing) (head_is _ _ _ _ e1) try.2.2.2.1;
+      got2 = got x2 try.2.2.0 (request (AskDtr1 unit) (Exactly 1)) (head_is _ _ _ _ e2) try.2.2.1;
+      got3 = got x3 try.2.0 (request (Dtr0 location) Nothing) (head_is _ _ _ _ e3) try.2.1;
+      got4 = got x4 try.0 (request (AskDtr0 unit) (Exactly location)) (head_is _ _ _ _ e4) try.1;
     }
 selected unit location (x5 ∷ x4 ∷ x3 ∷ x2 ∷ x1 ∷ rest) try =
-    let long = trying_length (select_lines unit location) (x5 ∷ x4 ∷ x3 ∷ x2 ∷ x1 ∷ rest) [] try in
+    let long = trying_length (select_requests unit location) (x5 ∷ x4 ∷ x3 ∷ x2 ∷ x1 ∷ rest) [] try in
     let no : ⊥ = omega arith in absurd no
 
+-- a checked read selects the location, reads, and asks both registers back
 pub record WasRead (unit location : ℕ) (tried : List Exchange) : Type 0 where
-  pub x1 : Exchange
-  pub x2 : Exchange
-  pub x3 : Exchange
-  pub x4 : Exchange
   pub x5 : Exchange
-  pub is : tried ≡ x5 ∷ x4 ∷ x3 ∷ x2 ∷ x1 ∷ []
-  pub got1 : Got x1 (Dtr1 1) Nothing
-  pub got2 : Got x2 (AskDtr1 unit) (Exactly 1)
-  pub got3 : Got x3 (Dtr0 location) Nothing
-  pub got4 : Got x4 (AskDtr0 unit) (Exactly location)
+  pub x6 : Exchange
+  pub x7 : Exchange
+  pub older : List Exchange
+  pub is : tried ≡ x7 ∷ x6 ∷ x5 ∷ older
+  pub selects : Trying (select_requests unit location) older []
   pub got5 : Got x5 (Read unit) Anything
+  pub got6 : Got x6 (AskDtr0 unit) (Exactly (up location))
+  pub got7 : Got x7 (AskDtr1 unit) (Exactly 1)
 
-pub was_read : (unit location : ℕ) (tried : List Exchange) → Trying (read_lines unit location) tried []
+abbrev reading : ℕ → ℕ → List Request
+reading unit location =
+    request (Read unit) Anything ∷ request (AskDtr0 unit) (Exactly (up location))
+    ∷ request (AskDtr1 unit) (Exactly 1) ∷ []
+
+pub was_read : (unit location : ℕ) (tried : List Exchange) → Trying (read_requests unit location) tried []
     → WasRead unit location tried
 was_read unit location [] try = cc
 was_read unit location (x1 ∷ []) try = let same = try.2 in cc
 was_read unit location (x2 ∷ x1 ∷ []) try = let same = try.2.2 in cc
-was_read unit location (x3 ∷ x2 ∷ x1 ∷ []) try = let same = try.2.2.2 in cc
-was_read unit location (x4 ∷ x3 ∷ x2 ∷ x1 ∷ []) try = let same = try.2.2.2.2 in cc
-was_read unit location (x5 ∷ x4 ∷ x3 ∷ x2 ∷ x1 ∷ []) try =
-    let e1 = try.2.2.2.2.2 in
-    let e2 = tail_is _ _ _ _ e1 in
-    let e3 = tail_is _ _ _ _ e2 in
-    let e4 = tail_is _ _ _ _ e3 in
-    let e5 = tail_is _ _ _ _ e4 in
+was_read unit location (x7 ∷ x6 ∷ x5 ∷ older) (w7, m7, (w6, m6, (w5, m5, rest))) =
+    let back : List Request = request x5.frame w5 ∷ request x6.frame w6 ∷ request x7.frame w7 ∷ [] in
+    let long = trying_length (read_requests unit location) older back rest in
+    let four : length older ≡ 4 = omega arith in
+    let e5 : back ≡ reading unit location =
+    subst (λ (n : ℕ). back ≡ drop n (read_requests unit location)) four
+    (left_is (read_requests unit location) older back rest) in
+    let e6 = tail_is _ _ _ _ e5 in
+    let e7 = tail_is _ _ _ _ e6 in
     record {
-      x1 = x1;
-      x2 = x2;
-      x3 = x3;
-      x4 = x4;
       x5 = x5;
+      x6 = x6;
+      x7 = x7;
+      older = older;
       is = refl;
-      got1 = got x1 try.2.2.2.2.0 (line (Dtr1 1) Nothing) (head_is _ _ _ _ e1) try.2.2.2.2.1;
-      got2 = got x2 try.2.2.2.0 (line (AskDtr1 unit) (Exactly 1)) (head_is _ _ _ _ e2) try.2.2.2.1;
-      got3 = got x3 try.2.2.0 (line (Dtr0 location) Nothing) (head_is _ _ _ _ e3) try.2.2.1;
-      got4 = got x4 try.2.0 (line (AskDtr0 unit) (Exactly location)) (head_is _ _ _ _ e4) try.2.1;
-      got5 = got x5 try.0 (line (Read unit) Anything) (head_is _ _ _ _ e5) try.1;
+      selects = cut (select_requests unit location) (reading unit location) older []
+          (subst (λ (l : List Request). Trying (read_requests unit location) older l) e5 rest);
+      got5 = got x5 w5 (request (Read unit) Anything) (head_is _ _ _ _ e5) m5;
+      got6 = got x6 w6 (request (AskDtr0 unit) (Exactly (up location))) (head_is _ _ _ _ e6) m6;
+      got7 = got x7 w7 (request (AskDtr1 unit) (Exactly 1)) (head_is _ _ _ _ e7) m7;
     }
-was_read unit location (x6 ∷ x5 ∷ x4 ∷ x3 ∷ x2 ∷ x1 ∷ rest) try =
-    let long = trying_length (read_lines unit location) (x6 ∷ x5 ∷ x4 ∷ x3 ∷ x2 ∷ x1 ∷ rest) [] try in
-    let no : ⊥ = omega arith in absurd no

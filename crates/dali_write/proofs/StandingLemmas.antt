@@ -3,21 +3,22 @@ use Rattle.std.proofs.Common.{◌≡◌, refl, sym, ap, subst, ◌∙◌, inl, i
 use Rattle.std.proofs.Common.{append_assoc, Option, None, arith}
 use Rattle.dali_frame.specs.declared.forward.Frame.{Frame}
 use Rattle.dali_write.specs.Exchanges.{Exchange}
-use Rattle.dali_write.specs.declared.line.Line.{Line}
-use Rattle.dali_write.specs.declared.line.Wish.{Wish}
-use Rattle.dali_write.specs.declared.step.Step.TheVariants.{ReadFrom, WriteTo}
-use Rattle.dali_write.specs.Lines.{Meets, line, byte_after}
-use Rattle.dali_write.specs.Plans.{Plan, Finish, Check, goes_on, plan_after}
-use Rattle.dali_write.specs.Tries.{most_tries, Trying, Misses, byte_of, StepEnds, StepsEnd, plan_lines, GoesOn, Stands}
+use Rattle.dali_write.specs.declared.request.Request.{Request}
+use Rattle.dali_write.specs.declared.request.Wish.{Wish}
+use Rattle.dali_write.specs.declared.access.Access.TheVariants.{ReadFrom, WriteTo}
+use Rattle.dali_write.specs.Requests.{Meets, request, byte_after}
+use Rattle.dali_write.specs.Plans.{Plan, Finish, Make, goes_on, plan_after}
+use Rattle.dali_write.specs.Tries.{most_tries, Trying, Misses, byte_of, AccessEnds, AccessesEnd, plan_requests, GoesOn}
+use Rattle.dali_write.specs.Tries.{Stands}
 use Rattle.dali_write.proofs.ShapeLemmas.{none_left}
 
-pub goes_first : (unit : ℕ) (plan : Plan) → GoesOn plan (plan_lines unit plan)
+pub goes_first : (unit : ℕ) (plan : Plan) → GoesOn plan (plan_requests unit plan)
 goes_first unit (Finish verdict) = refl
-goes_first unit (Check (ReadFrom location) after) = refl
-goes_first unit (Check (WriteTo location byte) after) = refl
+goes_first unit (Make (ReadFrom location) after) = refl
+goes_first unit (Make (WriteTo location byte) after) = refl
 
 -- at the beginning
-unfoldable pub stands_at_first : (unit : ℕ) (plan : Plan) → Stands unit plan [] plan 0 (plan_lines unit plan) None
+unfoldable pub stands_at_first : (unit : ℕ) (plan : Plan) → Stands unit plan [] plan 0 (plan_requests unit plan) None
 stands_at_first unit plan =
     record {
       outcomes = [];
@@ -25,7 +26,7 @@ stands_at_first unit plan =
       missed = [];
       tried = [];
       parts = refl;
-      steps = refl;
+      accesses = refl;
       now_is = refl;
       few = omega arith;
       misses_are = refl;
@@ -35,9 +36,10 @@ stands_at_first unit plan =
     }
 
 -- the frame at hand got what it wants
-unfoldable pub stands_on : (unit : ℕ) (plan : Plan) (told : List Exchange) (now : Plan) (misses : ℕ) (left : List Line)
+unfoldable pub stands_on : (unit : ℕ) (plan : Plan) (told : List Exchange) (now : Plan) (misses : ℕ)
+    (left : List Request)
     (byte : Option ℕ) (frame : Frame) (answer : Option ℕ) (wish : Wish)
-    → Stands unit plan told now misses (line frame wish ∷ left) byte → Meets wish answer → GoesOn now left
+    → Stands unit plan told now misses (request frame wish ∷ left) byte → Meets wish answer → GoesOn now left
     → Stands unit plan (record { frame = frame; answer = answer } ∷ told) now misses left (byte_after frame answer byte)
 stands_on unit plan told now misses left byte frame answer wish s meets going =
     let x : Exchange = record { frame = frame; answer = answer } in
@@ -47,7 +49,7 @@ stands_on unit plan told now misses left byte frame answer wish s meets going =
       missed = s.missed;
       tried = x ∷ s.tried;
       parts = ap (λ (t : List Exchange). x ∷ t) s.parts;
-      steps = s.steps;
+      accesses = s.accesses;
       now_is = s.now_is;
       few = s.few;
       misses_are = s.misses_are;
@@ -56,11 +58,11 @@ stands_on unit plan told now misses left byte frame answer wish s meets going =
       going = going;
     }
 
--- another try of the same step
+-- another try of the same access
 unfoldable pub stands_again : (unit : ℕ) (plan : Plan) (told : List Exchange) (now : Plan) (misses : ℕ)
-    (left : List Line) (byte : Option ℕ) (frame : Frame) (answer : Option ℕ) (wish : Wish)
-    → Stands unit plan told now misses (line frame wish ∷ left) byte → ¬ Meets wish answer → suc misses < most_tries
-    → Stands unit plan (record { frame = frame; answer = answer } ∷ told) now (suc misses) (plan_lines unit now) None
+    (left : List Request) (byte : Option ℕ) (frame : Frame) (answer : Option ℕ) (wish : Wish)
+    → Stands unit plan told now misses (request frame wish ∷ left) byte → ¬ Meets wish answer → suc misses < most_tries
+    → Stands unit plan (record { frame = frame; answer = answer } ∷ told) now (suc misses) (plan_requests unit now) None
 stands_again unit plan told now misses left byte frame answer wish s misses_it few =
     let x : Exchange = record { frame = frame; answer = answer } in
     record {
@@ -69,7 +71,7 @@ stands_again unit plan told now misses left byte frame answer wish s misses_it f
       missed = (x ∷ s.tried) ++ s.missed;
       tried = [];
       parts = ap (λ (t : List Exchange). x ∷ t) (s.parts ∙ sym (append_assoc s.tried s.missed s.ended));
-      steps = s.steps;
+      accesses = s.accesses;
       now_is = s.now_is;
       few = few;
       misses_are = (x ∷ s.tried, s.missed, refl, (wish, left, misses_it, s.try), s.misses_are);
@@ -78,20 +80,26 @@ stands_again unit plan told now misses left byte frame answer wish s misses_it f
       going = goes_first unit now;
     }
 
--- the step ended
-unfoldable pub ends_step : (unit : ℕ) (plan : Plan) (told : List Exchange) (now : Plan) (outcomes : List (Option ℕ))
+-- the access ended
+unfoldable pub ends_access : (unit : ℕ) (plan : Plan) (told : List Exchange) (now : Plan) (outcomes : List (Option ℕ))
     (ended newer : List Exchange) (outcome : Option ℕ)
-    → told ≡ newer ++ ended → StepsEnd unit plan outcomes ended → plan_after plan outcomes ≡ now
-    → StepEnds unit now outcome newer
-    → Stands unit plan told (goes_on now outcome) 0 (plan_lines unit (goes_on now outcome)) None
-ends_step unit plan told now outcomes ended newer outcome parts steps now_is ends =
+    → told ≡ newer ++ ended → AccessesEnd unit plan outcomes ended → plan_after plan outcomes ≡ now
+    → AccessEnds unit now outcome newer
+    → Stands unit plan told (goes_on now outcome) 0 (plan_requests unit (goes_on now outcome)) None
+ends_access unit plan told now outcomes ended newer outcome parts accesses now_is ends =
     record {
       outcomes = outcome ∷ outcomes;
       ended = told;
       missed = [];
       tried = [];
       parts = refl;
-      steps = (newer, ended, parts, subst (λ (p : Plan). StepEnds unit p outcome newer) (sym now_is) ends, steps);
+      accesses = (
+        newer,
+        ended,
+        parts,
+        subst (λ (p : Plan). AccessEnds unit p outcome newer) (sym now_is) ends,
+        accesses,
+      );
       now_is = ap (λ (p : Plan). goes_on p outcome) now_is;
       few = omega arith;
       misses_are = refl;
@@ -102,12 +110,12 @@ ends_step unit plan told now outcomes ended newer outcome parts steps now_is end
 
 pub done_ends : (unit : ℕ) (now : Plan) (misses : ℕ) (tried missed : List Exchange) (byte : Option ℕ) (frame : Frame)
     (answer : Option ℕ) (wish : Wish)
-    → misses < most_tries → Misses (plan_lines unit now) misses missed
-    → Trying (plan_lines unit now) tried (line frame wish ∷ []) → byte_of tried ≡ byte → Meets wish answer
-    → StepEnds unit now (byte_after frame answer byte) ((record { frame = frame; answer = answer } ∷ tried) ++ missed)
+    → misses < most_tries → Misses (plan_requests unit now) misses missed
+    → Trying (plan_requests unit now) tried (request frame wish ∷ []) → byte_of tried ≡ byte → Meets wish answer
+    → AccessEnds unit now (byte_after frame answer byte) ((record { frame = frame; answer = answer } ∷ tried) ++ missed)
 done_ends unit (Finish verdict) misses tried missed byte frame answer wish few are try is meets =
-    absurd (none_left tried (line frame wish) [] try)
-done_ends unit (Check step after) misses tried missed byte frame answer wish few are try is meets =
+    absurd (none_left tried (request frame wish) [] try)
+done_ends unit (Make access after) misses tried missed byte frame answer wish few are try is meets =
     let x : Exchange = record { frame = frame; answer = answer } in
     inl (
       x ∷ tried,
@@ -121,38 +129,38 @@ done_ends unit (Check step after) misses tried missed byte frame answer wish few
     )
 
 pub failed_ends : (unit : ℕ) (now : Plan) (tried missed : List Exchange) (frame : Frame) (answer : Option ℕ)
-    (wish : Wish) (left : List Line)
-    → Misses (plan_lines unit now) 7 missed → Trying (plan_lines unit now) tried (line frame wish ∷ left)
+    (wish : Wish) (left : List Request)
+    → Misses (plan_requests unit now) 7 missed → Trying (plan_requests unit now) tried (request frame wish ∷ left)
     → ¬ Meets wish answer
-    → StepEnds unit now None ((record { frame = frame; answer = answer } ∷ tried) ++ missed)
+    → AccessEnds unit now None ((record { frame = frame; answer = answer } ∷ tried) ++ missed)
 failed_ends unit (Finish verdict) tried missed frame answer wish left are try misses_it =
-    absurd (none_left tried (line frame wish) left try)
-failed_ends unit (Check step after) tried missed frame answer wish left are try misses_it =
+    absurd (none_left tried (request frame wish) left try)
+failed_ends unit (Make access after) tried missed frame answer wish left are try misses_it =
     let x : Exchange = record { frame = frame; answer = answer } in
     inr (refl, (x ∷ tried, missed, refl, (wish, left, misses_it, try), are))
 
 -- the last frame of a try got what it wants
 unfoldable pub stands_done : (unit : ℕ) (plan : Plan) (told : List Exchange) (now : Plan) (misses : ℕ) (byte : Option ℕ)
     (frame : Frame) (answer : Option ℕ) (wish : Wish)
-    → Stands unit plan told now misses (line frame wish ∷ []) byte → Meets wish answer
+    → Stands unit plan told now misses (request frame wish ∷ []) byte → Meets wish answer
     → Stands unit plan (record { frame = frame; answer = answer } ∷ told) (goes_on now (byte_after frame answer byte)) 0
-    (plan_lines unit (goes_on now (byte_after frame answer byte))) None
+    (plan_requests unit (goes_on now (byte_after frame answer byte))) None
 stands_done unit plan told now misses byte frame answer wish s meets =
     let x : Exchange = record { frame = frame; answer = answer } in
-    ends_step unit plan (x ∷ told) now s.outcomes s.ended ((x ∷ s.tried) ++ s.missed) (byte_after frame answer byte)
-    (ap (λ (t : List Exchange). x ∷ t) (s.parts ∙ sym (append_assoc s.tried s.missed s.ended))) s.steps s.now_is
+    ends_access unit plan (x ∷ told) now s.outcomes s.ended ((x ∷ s.tried) ++ s.missed) (byte_after frame answer byte)
+    (ap (λ (t : List Exchange). x ∷ t) (s.parts ∙ sym (append_assoc s.tried s.missed s.ended))) s.accesses s.now_is
     (done_ends unit now misses s.tried s.missed byte frame answer wish s.few s.misses_are s.try s.byte_is meets)
 
 -- the last try missed
 unfoldable pub stands_failed : (unit : ℕ) (plan : Plan) (told : List Exchange) (now : Plan) (misses : ℕ)
-    (left : List Line) (byte : Option ℕ) (frame : Frame) (answer : Option ℕ) (wish : Wish)
-    → Stands unit plan told now misses (line frame wish ∷ left) byte → ¬ Meets wish answer → 7 ≤ misses
+    (left : List Request) (byte : Option ℕ) (frame : Frame) (answer : Option ℕ) (wish : Wish)
+    → Stands unit plan told now misses (request frame wish ∷ left) byte → ¬ Meets wish answer → 7 ≤ misses
     → Stands unit plan (record { frame = frame; answer = answer } ∷ told) (goes_on now None) 0
-    (plan_lines unit (goes_on now None)) None
+    (plan_requests unit (goes_on now None)) None
 stands_failed unit plan told now misses left byte frame answer wish s misses_it many =
     let x : Exchange = record { frame = frame; answer = answer } in
     let seven : misses ≡ 7 = let few = s.few in omega arith in
-    ends_step unit plan (x ∷ told) now s.outcomes s.ended ((x ∷ s.tried) ++ s.missed) None
-    (ap (λ (t : List Exchange). x ∷ t) (s.parts ∙ sym (append_assoc s.tried s.missed s.ended))) s.steps s.now_is
+    ends_access unit plan (x ∷ told) now s.outcomes s.ended ((x ∷ s.tried) ++ s.missed) None
+    (ap (λ (t : List Exchange). x ∷ t) (s.parts ∙ sym (append_assoc s.tried s.missed s.ended))) s.accesses s.now_is
     (failed_ends unit now s.tried s.missed frame answer wish left
-    (subst (λ (m : ℕ). Misses (plan_lines unit now) m s.missed) seven s.misses_are) s.try misses_it)
+    (subst (λ (m : ℕ). Misses (plan_requests unit now) m s.missed) seven s.misses_are) s.try misses_it)

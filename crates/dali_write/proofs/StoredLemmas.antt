@@ -1,4 +1,4 @@
--- What a step keeps of bank 1: a write that succeeded has stored its byte, and nothing else.
+-- What an access keeps of bank 1: a write that succeeded has stored its byte, and nothing else.
 use Rattle.std.proofs.Common.{◌≡◌, ◌≢◌, ◌⊎◌, refl, inl, inr, ◌∙◌, ℕ, List, Option, Some, arith}
 use Rattle.std.specs.Prelude.{slice_get, slice_set}
 use Rattle.std.proofs.lemmas.Grind.{common_steps}
@@ -7,9 +7,9 @@ use Rattle.std.proofs.lemmas.List.{length-set}
 use Rattle.dali_write.specs.Exchanges.{Exchange}
 use Rattle.dali_gear.specs.UnitState.{BankState, UnitState, with_byte}
 use Rattle.dali_gear.specs.SimState.{SimState}
-use Rattle.dali_write.specs.declared.step.Step.{Step}
-use Rattle.dali_write.specs.declared.step.Step.TheVariants.{ReadFrom, WriteTo}
-use Rattle.dali_write.specs.Lines.{step_lines}
+use Rattle.dali_write.specs.declared.access.Access.{Access}
+use Rattle.dali_write.specs.declared.access.Access.TheVariants.{ReadFrom, WriteTo}
+use Rattle.dali_write.specs.Requests.{access_requests}
 use Rattle.dali_write.specs.Tries.{most_tries, Succeeds, Fails}
 use Rattle.dali_write.specs.Losses.{SimRun, IsAlone, OnlyDiffers}
 use Rattle.dali_write.proofs.KeptLemmas.{Keeps, after_misses, after_success}
@@ -29,45 +29,49 @@ stored old location byte bank so =
       fixed = so.fixed;
     }
 
-pub write_stored : (at location byte : ℕ) (unit : UnitState) (outcome : Option ℕ) (told : List Exchange)
-    (first last : SimState)
-    → SimRun told first last
-    → IsAlone at unit first.units → Succeeds (step_lines at (WriteTo location byte)) outcome told
+pub write_stored : (loses : ℕ → Type 0) (at location byte : ℕ) (unit : UnitState) (outcome : Option ℕ)
+    (told : List Exchange) (first last : SimState)
+    → SimRun loses told first last → (loses at → ⊥)
+    → IsAlone at unit first.units → Succeeds (access_requests at (WriteTo location byte)) outcome told
     → (now : UnitState) × IsAlone at now last.units × OnlyDiffers unit.bank1 location now.bank1
     × (slice_get now.bank1.bytes location ≡ Some byte)
-write_stored at location byte unit outcome told first last run alone done =
-    after_success (OnlyDiffers unit.bank1 location) at (WriteTo location byte) unit outcome told first last run alone
+write_stored loses at location byte unit outcome told first last run keeps_power alone done =
+    after_success loses (OnlyDiffers unit.bank1 location) at (WriteTo location byte) unit outcome told first last run
+    keeps_power alone
     (same location unit.bank1) (stored unit.bank1 location byte) done
 
--- a step that came to its end, either way
-kept_by : (keep : BankState → Type 0) (at : ℕ) (step : Step) (unit : UnitState) (outcome : Option ℕ)
-    (told : List Exchange) (first last : SimState)
-    → SimRun told first last
-    → IsAlone at unit first.units → keep unit.bank1 → Keeps keep step
-    → Succeeds (step_lines at step) outcome told ⊎ Fails (step_lines at step) outcome told
+-- an access that came to its end, either way
+kept_by : (loses : ℕ → Type 0) (keep : BankState → Type 0) (at : ℕ) (access : Access) (unit : UnitState)
+    (outcome : Option ℕ) (told : List Exchange) (first last : SimState)
+    → SimRun loses told first last → (loses at → ⊥)
+    → IsAlone at unit first.units → keep unit.bank1 → Keeps keep access
+    → Succeeds (access_requests at access) outcome told ⊎ Fails (access_requests at access) outcome told
     → (now : UnitState) × IsAlone at now last.units × keep now.bank1
-kept_by keep at step unit outcome told first last run alone kept keeps (inl done) =
-    let all = after_success keep at step unit outcome told first last run alone kept keeps done in
+kept_by loses keep at access unit outcome told first last run keeps_power alone kept keeps (inl done) =
+    let all = after_success loses keep at access unit outcome told first last run keeps_power alone kept keeps done in
     (all.0, all.1, all.2)
-kept_by keep at step unit outcome told first last run alone kept keeps (inr failed) =
-    after_misses keep at step unit most_tries told first last run alone kept keeps failed.1
+kept_by loses keep at access unit outcome told first last run keeps_power alone kept keeps (inr failed) =
+    after_misses loses keep at access unit most_tries told first last run keeps_power alone kept keeps failed.1
 
-pub read_keeps : (at location : ℕ) (unit : UnitState) (outcome : Option ℕ) (told : List Exchange)
+pub read_keeps : (loses : ℕ → Type 0) (at location : ℕ) (unit : UnitState) (outcome : Option ℕ) (told : List Exchange)
     (first last : SimState)
-    → SimRun told first last
+    → SimRun loses told first last → (loses at → ⊥)
     → IsAlone at unit first.units
-    → Succeeds (step_lines at (ReadFrom location)) outcome told ⊎ Fails (step_lines at (ReadFrom location)) outcome told
+    → Succeeds (access_requests at (ReadFrom location)) outcome told
+    ⊎ Fails (access_requests at (ReadFrom location)) outcome told
     → (now : UnitState) × IsAlone at now last.units × (now.bank1 ≡ unit.bank1)
-read_keeps at location unit outcome told first last run alone ends =
-    kept_by (λ bank. bank ≡ unit.bank1) at (ReadFrom location) unit outcome told first last run alone refl tt ends
+read_keeps loses at location unit outcome told first last run keeps_power alone ends =
+    kept_by loses (λ bank. bank ≡ unit.bank1) at (ReadFrom location) unit outcome told first last run keeps_power alone
+    refl tt ends
 
-pub write_keeps : (at location byte : ℕ) (unit : UnitState) (outcome : Option ℕ) (told : List Exchange)
-    (first last : SimState)
-    → SimRun told first last
+pub write_keeps : (loses : ℕ → Type 0) (at location byte : ℕ) (unit : UnitState) (outcome : Option ℕ)
+    (told : List Exchange) (first last : SimState)
+    → SimRun loses told first last → (loses at → ⊥)
     → IsAlone at unit first.units
-    → Succeeds (step_lines at (WriteTo location byte)) outcome told
-    ⊎ Fails (step_lines at (WriteTo location byte)) outcome told
+    → Succeeds (access_requests at (WriteTo location byte)) outcome told
+    ⊎ Fails (access_requests at (WriteTo location byte)) outcome told
     → (now : UnitState) × IsAlone at now last.units × OnlyDiffers unit.bank1 location now.bank1
-write_keeps at location byte unit outcome told first last run alone ends =
-    kept_by (OnlyDiffers unit.bank1 location) at (WriteTo location byte) unit outcome told first last run alone
+write_keeps loses at location byte unit outcome told first last run keeps_power alone ends =
+    kept_by loses (OnlyDiffers unit.bank1 location) at (WriteTo location byte) unit outcome told first last run
+    keeps_power alone
     (same location unit.bank1) (stored unit.bank1 location byte) ends

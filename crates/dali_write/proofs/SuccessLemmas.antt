@@ -12,36 +12,38 @@ use Rattle.dali_gear.specs.UnitState.{BankState, UnitState, is_writable, gear_of
 use Rattle.dali_gear.specs.SimState.{SimState, AreApart, AreBanks, world_of}
 use Rattle.dali_gear.specs.Faults.{IsBank}
 use Rattle.dali_write.specs.Exchanges.{Exchange}
-use Rattle.dali_write.specs.declared.step.Step.{Step}
-use Rattle.dali_write.specs.declared.step.Step.TheVariants.{ReadFrom, WriteTo}
+use Rattle.dali_write.specs.declared.access.Access.{Access}
+use Rattle.dali_write.specs.declared.access.Access.TheVariants.{ReadFrom, WriteTo}
 use Rattle.dali_write.specs.declared.ask.Verdict.{Verdict}
 use Rattle.dali_write.specs.declared.ask.Verdict.TheVariants.{MayOpen, Done, Short, Format, Closed, NotClosed, Read}
 use Rattle.dali_write.specs.declared.ask.Ask.TheVariants.{Ended}
-use Rattle.dali_write.specs.Plans.{Plan, Finish, Check, greatest, read_length, read_format, close, read_back, write_on}
+use Rattle.dali_write.specs.Plans.{Plan, Finish, Make, greatest, read_length, read_format, close, read_back, write_on}
 use Rattle.dali_write.specs.Plans.{unlock, read_on, read_all}
-use Rattle.dali_write.specs.Tries.{most_tries, StepEnds, Wants}
-use Rattle.dali_write.specs.Walks.{Walk, step_misses, misses_of}
+use Rattle.dali_write.specs.Tries.{most_tries, AccessEnds, Wants}
+use Rattle.dali_write.specs.Walks.{Walk, access_misses, misses_of}
 use Rattle.dali_write.specs.Losses.{SimRun, losses, Unrefused, IsAlone, CanDo, OnlyDiffers}
 use Rattle.dali_write.specs.Misses.{misses_in}
 use Rattle.dali_write.specs.Touches.{Has}
 use Rattle.dali_write.specs.Successes.{MayStoreAt, TakesAll, has_format, found_verdict, Spared, MissesByLosses}
+use Rattle.dali_write.specs.Worlds.{MayRelock}
 use Rattle.dali_write.proofs.RunLemmas.{sim_run}
-use Rattle.dali_write.proofs.VerdictLemmas.{read_step_shows}
+use Rattle.dali_write.proofs.VerdictLemmas.{read_access_shows}
+use Rattle.dali_write.proofs.DriftLemmas.{drifts_alone, whole_before}
 use Rattle.dali_write.proofs.KeptLemmas.{parts}
-use Rattle.dali_write.proofs.OutliveLemmas.{misses_by_losses, step_succeeds}
+use Rattle.dali_write.proofs.OutliveLemmas.{misses_by_losses, access_succeeds}
 use Rattle.dali_write.proofs.StoredLemmas.{write_stored, read_keeps}
 use Rattle.dali_write.proofs.GiveUpLemmas.{has_byte}
 use Rattle.dali_write.proofs.WalkLemmas.{ended_walk}
 use Rattle.dali_write.proofs.NextLemmas.{none_ended}
 use Rattle.dali_write.proofs.MissLemmas.{walk_misses, walk_misses_in}
 
--- From this bank the plan reads what is there and writes where it may, and where no step of it fails it ends so, with
+-- From this bank the plan reads what is there and writes where it may, and where no access of it fails it ends so, with
 -- a bank that is so.
 abbrev pub Goes : (BankState → Type 0) → Verdict → Plan → BankState → Type 0
 Goes P verdict (Finish v) bank = (v ≡ verdict) × P bank
-Goes P verdict (Check (ReadFrom location) after) bank =
+Goes P verdict (Make (ReadFrom location) after) bank =
     (byte : ℕ) × (slice_get bank.bytes location ≡ Some byte) × Goes P verdict (after (Some byte)) bank
-Goes P verdict (Check (WriteTo location byte) after) bank =
+Goes P verdict (Make (WriteTo location byte) after) bank =
     IsTrue (is_writable bank location)
     × ((new : BankState) (echo : ℕ) → OnlyDiffers bank location new → slice_get new.bytes location ≡ Some byte
     → Goes P verdict (after (Some echo)) new)
@@ -56,38 +58,46 @@ world_alone at unit (first ∷ units) (inl here) =
 world_alone at unit (first ∷ units) (inr further) =
     rw (ne_eqb at first.address (λ same. further.0.0 (sym same))) (world_alone at unit units further.1)
 
+-- a byte of a unit that doesn't lose its power
+unlost : (lost : Type 0) (location : ℕ) (old new : Option ℕ) → (lost → ⊥) → MayRelock lost 1 location old new
+    → new ≡ old
+unlost lost location old new keeps_power (inl same) = same
+unlost lost location old new keeps_power (inr relocks) = absurd (keeps_power relocks.0)
+
 -- a checked read tells the byte of the bank
-read_byte : (at location byte : ℕ) (after : Option ℕ → Plan) (unit : UnitState) (told : List Exchange)
-    (first last : SimState)
-    → SimRun told first last → IsAlone at unit first.units
-    → StepEnds at (Check (ReadFrom location) after) (Some byte) told
+read_byte : (loses : ℕ → Type 0) (at location byte : ℕ) (after : Option ℕ → Plan) (unit : UnitState)
+    (told : List Exchange) (first last : SimState)
+    → SimRun loses told first last → (loses at → ⊥) → IsAlone at unit first.units
+    → AccessEnds at (Make (ReadFrom location) after) (Some byte) told
     → (now : UnitState) × IsAlone at now last.units × (now.bank1 ≡ unit.bank1)
     × (slice_get unit.bank1.bytes location ≡ Some byte)
-read_byte at location byte after unit told first last run alone ends =
-    let kept = read_keeps at location unit (Some byte) told first last run alone ends in
+read_byte loses at location byte after unit told first last run keeps_power alone ends =
+    let kept = read_keeps loses at location unit (Some byte) told first last run keeps_power alone ends in
     let shows =
-    read_step_shows at location byte after told (world_of first.units) (world_of last.units) ends
-    (sim_run told first last run) in
+    read_access_shows at location byte after told (world_of first.units) (world_of last.units) ends
+    (sim_run loses told first last run) in
     let both : Some shows.gear ≡ Some (gear_of kept.0) = sym shows.is ∙ world_alone at kept.0 last.units kept.1 in
     let same : shows.gear ≡ gear_of kept.0 = cc in
     let there : slice_get kept.0.bank1.bytes location ≡ Some byte =
-    ap (λ (g : Gear). g.memory 1 location) (sym same) ∙ shows.byte_is in
+    ap (λ (g : Gear). g.memory 1 location) (sym same)
+    ∙ unlost (loses at) location (Some byte) _ keeps_power shows.byte_is in
     (kept.0, kept.1, kept.2, ap (λ (b : BankState). slice_get b.bytes location) (sym kept.2) ∙ there)
 
--- the misses of one step
-step_few : (at : ℕ) (step : Step) (after : Option ℕ → Plan) (unit : UnitState) (outcome : Option ℕ)
-    (told : List Exchange) (first last : SimState) (run : SimRun told first last)
-    → IsAlone at unit first.units → CanDo step unit → Unrefused told first last run
-    → (ends : StepEnds at (Check step after) outcome told)
-    → step_misses at (Check step after) outcome told ends ≤ losses at told first last run
-step_few at step after unit outcome told first last run alone can kind (inl done) =
-    let two = parts at told done.0 done.1 first last run done.3 in
+-- the misses of one access
+access_few : (loses : ℕ → Type 0) (at : ℕ) (access : Access) (after : Option ℕ → Plan) (unit : UnitState)
+    (outcome : Option ℕ) (told : List Exchange) (first last : SimState) (run : SimRun loses told first last)
+    → (loses at → ⊥) → IsAlone at unit first.units → CanDo access unit → Unrefused loses told first last run
+    → (ends : AccessEnds at (Make access after) outcome told)
+    → access_misses at (Make access after) outcome told ends ≤ losses at loses told first last run
+access_few loses at access after unit outcome told first last run keeps_power alone can kind (inl done) =
+    let two = parts loses at told done.0 done.1 first last run done.3 in
     let few =
-    misses_by_losses at step unit done.2 done.1 first two.mid two.before alone can (two.kinds kind).0 done.7 in
+    misses_by_losses loses at access unit done.2 done.1 first two.mid two.before keeps_power alone can (two.kinds kind).0
+    done.7 in
     let sum = two.sum in
     omega arith
-step_few at step after unit outcome told first last run alone can kind (inr failed) =
-    misses_by_losses at step unit most_tries told first last run alone can kind failed.1
+access_few loses at access after unit outcome told first last run keeps_power alone can kind (inr failed) =
+    misses_by_losses loses at access unit most_tries told first last run keeps_power alone can kind failed.1
 
 -- the end of a walk: its verdict, its misses, and the unit then
 pub record Gone (P : BankState → Type 0) (verdict end : Verdict) (at : ℕ) (misses lost : ℕ) (last : SimState)
@@ -99,107 +109,116 @@ pub record Gone (P : BankState → Type 0) (verdict end : Verdict) (at : ℕ) (m
   pub bank : P now.bank1
 
 -- a walk of the plan ends as it goes, and misses no more often than the unit loses
-goes : (P : BankState → Type 0) (verdict end : Verdict) (at : ℕ) (plan : Plan) (outcomes : List (Option ℕ))
-    (unit : UnitState) (told : List Exchange) (first last : SimState) (run : SimRun told first last)
-    → IsAlone at unit first.units → Goes P verdict plan unit.bank1 → Unrefused told first last run
-    → losses at told first last run < most_tries
+goes : (loses : ℕ → Type 0) (P : BankState → Type 0) (verdict end : Verdict) (at : ℕ) (plan : Plan)
+    (outcomes : List (Option ℕ)) (unit : UnitState) (told : List Exchange) (first last : SimState)
+    (run : SimRun loses told first last)
+    → (loses at → ⊥) → IsAlone at unit first.units → Goes P verdict plan unit.bank1
+    → Unrefused loses told first last run → losses at loses told first last run < most_tries
     → (walk : Walk at plan outcomes told (Finish end))
-    → Gone P verdict end at (misses_of at plan outcomes told (Finish end) walk) (losses at told first last run) last
-goes P verdict end at (Finish v) [] unit told first last run alone way kind few walk =
+    → Gone P verdict end at (misses_of at plan outcomes told (Finish end) walk) (losses at loses told first last run)
+    last
+goes loses P verdict end at (Finish v) [] unit told first last run keeps_power alone way kind few walk =
     let same = walk.1 in
     let is : v ≡ end = cc in
-    let none : SimRun [] first last = subst (λ (t : List Exchange). SimRun t first last) walk.0 run in
+    let none : SimRun loses [] first last = subst (λ (t : List Exchange). SimRun loses t first last) walk.0 run in
     record {
       ends = sym is ∙ way.0;
       few = omega arith;
       now = unit;
-      alone = subst (λ (s : SimState). IsAlone at unit s.units) (sym none) alone;
+      alone = drifts_alone loses at unit first last keeps_power none alone;
       bank = way.1;
     }
-goes P verdict end at (Finish v) (o ∷ outcomes) unit told first last run alone way kind few walk = absurd walk.3
-goes P verdict end at (Check step after) [] unit told first last run alone way kind few walk =
+goes loses P verdict end at (Finish v) (o ∷ outcomes) unit told first last run keeps_power alone way kind few walk =
+    absurd walk.3
+goes loses P verdict end at (Make access after) [] unit told first last run keeps_power alone way kind few walk =
     let differs = walk.1 in cc
-goes P verdict end at (Check (ReadFrom location) after) (None ∷ outcomes) unit told first last run alone way kind
-    few walk =
-    let two = parts at told walk.0 walk.1 first last run walk.2 in
+goes loses P verdict end at (Make (ReadFrom location) after) (None ∷ outcomes) unit told first last run keeps_power
+    alone way kind few walk =
+    let two = parts loses at told walk.0 walk.1 first last run walk.2 in
     let sum = two.sum in
     let can : CanDo (ReadFrom location) unit = rw way.1 refl in
     let done =
-    step_succeeds at (ReadFrom location) unit None walk.1 first two.mid two.before alone can (two.kinds kind).0
+    access_succeeds loses at (ReadFrom location) unit None walk.1 first two.mid two.before keeps_power alone can
+    (two.kinds kind).0
     (omega arith) walk.3 in
     absurd (has_byte at (ReadFrom location) walk.1 done)
-goes P verdict end at (Check (ReadFrom location) after) (Some byte ∷ outcomes) unit told first last run alone way kind
-    few walk =
-    let two = parts at told walk.0 walk.1 first last run walk.2 in
+goes loses P verdict end at (Make (ReadFrom location) after) (Some byte ∷ outcomes) unit told first last run keeps_power
+    alone way kind few walk =
+    let two = parts loses at told walk.0 walk.1 first last run walk.2 in
     let sum = two.sum in
     let kinds = two.kinds kind in
     let can : CanDo (ReadFrom location) unit = rw way.1 refl in
-    let read = read_byte at location byte after unit walk.1 first two.mid two.before alone walk.3 in
+    let read = read_byte loses at location byte after unit walk.1 first two.mid two.before keeps_power alone walk.3 in
     let both : Some way.0 ≡ Some byte = sym way.1 ∙ read.3 in
     let same : way.0 ≡ byte = cc in
     let on : Goes P verdict (after (Some byte)) read.0.bank1 =
     subst (λ (b : BankState). Goes P verdict (after (Some byte)) b) (sym read.2)
     (subst (λ (b : ℕ). Goes P verdict (after (Some b)) unit.bank1) same way.2) in
     let rest =
-    goes P verdict end at (after (Some byte)) outcomes read.0 walk.0 two.mid last two.after read.1 on kinds.1
-    (omega arith) walk.4 in
+    goes loses P verdict end at (after (Some byte)) outcomes read.0 walk.0 two.mid last two.after keeps_power read.1 on
+    kinds.1 (omega arith) walk.4 in
     let here =
-    step_few at (ReadFrom location) after unit (Some byte) walk.1 first two.mid two.before alone can kinds.0 walk.3 in
+    access_few loses at (ReadFrom location) after unit (Some byte) walk.1 first two.mid two.before keeps_power alone can
+    kinds.0 walk.3 in
     let more = rest.few in
     record { ends = rest.ends; few = omega arith; now = rest.now; alone = rest.alone; bank = rest.bank }
-goes P verdict end at (Check (WriteTo location byte) after) (None ∷ outcomes) unit told first last run alone way kind
-    few walk =
-    let two = parts at told walk.0 walk.1 first last run walk.2 in
+goes loses P verdict end at (Make (WriteTo location byte) after) (None ∷ outcomes) unit told first last run keeps_power
+    alone way kind few walk =
+    let two = parts loses at told walk.0 walk.1 first last run walk.2 in
     let sum = two.sum in
     let done =
-    step_succeeds at (WriteTo location byte) unit None walk.1 first two.mid two.before alone way.0 (two.kinds kind).0
-    (omega arith) walk.3 in
+    access_succeeds loses at (WriteTo location byte) unit None walk.1 first two.mid two.before keeps_power alone way.0
+    (two.kinds kind).0 (omega arith) walk.3 in
     absurd (has_byte at (WriteTo location byte) walk.1 done)
-goes P verdict end at (Check (WriteTo location byte) after) (Some echo ∷ outcomes) unit told first last run alone way
-    kind few walk =
-    let two = parts at told walk.0 walk.1 first last run walk.2 in
+goes loses P verdict end at (Make (WriteTo location byte) after) (Some echo ∷ outcomes) unit told first last run
+    keeps_power alone way kind few walk =
+    let two = parts loses at told walk.0 walk.1 first last run walk.2 in
     let sum = two.sum in
     let kinds = two.kinds kind in
     let done =
-    step_succeeds at (WriteTo location byte) unit (Some echo) walk.1 first two.mid two.before alone way.0 kinds.0
-    (omega arith) walk.3 in
-    let stored = write_stored at location byte unit (Some echo) walk.1 first two.mid two.before alone done in
+    access_succeeds loses at (WriteTo location byte) unit (Some echo) walk.1 first two.mid two.before keeps_power alone
+    way.0 kinds.0 (omega arith) walk.3 in
+    let stored =
+    write_stored loses at location byte unit (Some echo) walk.1 first two.mid two.before keeps_power alone done in
     let rest =
-    goes P verdict end at (after (Some echo)) outcomes stored.0 walk.0 two.mid last two.after stored.1
+    goes loses P verdict end at (after (Some echo)) outcomes stored.0 walk.0 two.mid last two.after keeps_power stored.1
     (way.1 stored.0.bank1 echo stored.2 stored.3) kinds.1 (omega arith) walk.4 in
     let here =
-    step_few at (WriteTo location byte) after unit (Some echo) walk.1 first two.mid two.before alone way.0
+    access_few loses at (WriteTo location byte) after unit (Some echo) walk.1 first two.mid two.before keeps_power alone
+    way.0
     kinds.0 walk.3 in
     let more = rest.few in
     record { ends = rest.ends; few = omega arith; now = rest.now; alone = rest.alone; bank = rest.bank }
 
 -- the same of a session, with frames before it
-pub gone : (P : BankState → Type 0) (verdict end : Verdict) (at : ℕ) (plan : Plan) (unit : UnitState)
-    (told older : List Exchange) (first last : SimState) (spared : Spared at unit told first last)
+pub gone : (loses : ℕ → Type 0) (P : BankState → Type 0) (verdict end : Verdict) (at : ℕ) (plan : Plan)
+    (unit : UnitState) (told older : List Exchange) (first last : SimState)
+    (spared : Spared loses at unit told first last)
     → Goes P verdict plan unit.bank1 → Wants at plan told (Ended end)
     → (misses : ℕ) × (misses_in (told ++ older) ≡ misses + misses_in older)
-    × Gone P verdict end at misses (losses at told first last spared.run) last
-gone P verdict end at plan unit told older first last spared way wants =
+    × Gone P verdict end at misses (losses at loses told first last spared.run) last
+gone loses P verdict end at plan unit told older first last spared way wants =
     let walk = ended_walk at plan told end wants in (
       misses_of at plan walk.0 told (Finish end) walk.1,
       walk_misses at plan walk.0 told (Finish end) older walk.1,
-      goes P verdict end at plan walk.0 unit told first last spared.run spared.alone way spared.kind spared.few walk.1,
+      goes loses P verdict end at plan walk.0 unit told first last spared.run spared.keeps_power spared.alone way
+          spared.kind spared.few walk.1,
     )
 
-succeeds : (P : BankState → Type 0) (verdict end : Verdict) (at : ℕ) (plan : Plan) (unit : UnitState)
-    (told : List Exchange) (first last : SimState) (spared : Spared at unit told first last)
+succeeds : (loses : ℕ → Type 0) (P : BankState → Type 0) (verdict end : Verdict) (at : ℕ) (plan : Plan)
+    (unit : UnitState) (told : List Exchange) (first last : SimState) (spared : Spared loses at unit told first last)
     → Goes P verdict plan unit.bank1 → Wants at plan told (Ended end)
-    → (end ≡ verdict) × MissesByLosses at unit told first last spared
-succeeds P verdict end at plan unit told first last spared way wants =
+    → (end ≡ verdict) × MissesByLosses loses at unit told first last spared
+succeeds loses P verdict end at plan unit told first last spared way wants =
     let walk = ended_walk at plan told end wants in
     let all =
-    goes P verdict end at plan walk.0 unit told first last spared.run spared.alone way spared.kind spared.few walk.1 in
+    goes loses P verdict end at plan walk.0 unit told first last spared.run spared.keeps_power spared.alone way
+    spared.kind spared.few walk.1 in
     let count = walk_misses_in at plan walk.0 told (Finish end) walk.1 in
     let few = all.few in
     (all.ends, omega arith)
 
 -- a session that has ended sent a frame, and so its unit had a bank
-
 alone_bank : (at : ℕ) (unit : UnitState) (units : List UnitState) → IsAlone at unit units → AreBanks units
     → IsBank unit.bank1.bytes
 alone_bank at unit [] alone are = absurd alone
@@ -207,22 +226,22 @@ alone_bank at unit (first ∷ units) (inl here) are = subst (λ (u : UnitState).
 alone_bank at unit (first ∷ units) (inr further) are = alone_bank at unit units further.1 are.1
 
 -- where a frame was sent the units were apart, each with a bank
-pub starts_whole : (sent : List Exchange) (first last : SimState) → SimRun sent first last → sent ≢ []
-    → AreApart first.units × AreBanks first.units
-starts_whole [] first last run some = absurd (some refl)
-starts_whole (x ∷ []) first last run some =
-    subst (λ (s : SimState). AreApart s.units × AreBanks s.units) run.1 (run.2.apart, run.2.banks)
-starts_whole (x ∷ y ∷ sent) first last run some = starts_whole (y ∷ sent) first run.0 run.1 (λ e. cc)
+pub starts_whole : (loses : ℕ → Type 0) (sent : List Exchange) (first last : SimState) → SimRun loses sent first last
+    → sent ≢ [] → AreApart first.units × AreBanks first.units
+starts_whole loses [] first last run some = absurd (some refl)
+starts_whole loses (x ∷ []) first last run some =
+    whole_before loses first run.0 run.1 (run.3.apart, run.3.banks)
+starts_whole loses (x ∷ y ∷ sent) first last run some = starts_whole loses (y ∷ sent) first run.0 run.1 (λ e. cc)
 
-spared_bank : (at : ℕ) (unit : UnitState) (step : Step) (after : Option ℕ → Plan) (verdict : Verdict)
-    (told : List Exchange) (first last : SimState)
-    → Spared at unit told first last
-    → Wants at (Check step after) told (Ended verdict) → IsBank unit.bank1.bytes
-spared_bank at unit step after verdict told first last spared wants =
+spared_bank : (loses : ℕ → Type 0) (at : ℕ) (unit : UnitState) (access : Access) (after : Option ℕ → Plan)
+    (verdict : Verdict) (told : List Exchange) (first last : SimState)
+    → Spared loses at unit told first last
+    → Wants at (Make access after) told (Ended verdict) → IsBank unit.bank1.bytes
+spared_bank loses at unit access after verdict told first last spared wants =
     alone_bank at unit first.units spared.alone
-    (starts_whole told first last spared.run
-    (λ none. none_ended at step after verdict
-    (subst (λ (t : List Exchange). Wants at (Check step after) t (Ended verdict)) none wants))).1
+    (starts_whole loses told first last spared.run
+    (λ none. none_ended at access after verdict
+    (subst (λ (t : List Exchange). Wants at (Make access after) t (Ended verdict)) none wants))).1
 
 -- a closing session
 
@@ -233,13 +252,13 @@ pub closing_goes : (bank : BankState) → 2 < length bank.bytes
     → Goes (OnlyDiffers bank 2) Closed (close Closed NotClosed) bank
 closing_goes bank long = (lock_writable bank long, λ new echo only stored. (0xFF, stored, (refl, only)))
 
-pub closing_succeeds : (at : ℕ) (unit : UnitState) (verdict : Verdict) (told : List Exchange) (first last : SimState)
-    (spared : Spared at unit told first last)
+pub closing_succeeds : (loses : ℕ → Type 0) (at : ℕ) (unit : UnitState) (verdict : Verdict) (told : List Exchange)
+    (first last : SimState) (spared : Spared loses at unit told first last)
     → Wants at (close Closed NotClosed) told (Ended verdict)
-    → (verdict ≡ Closed) × MissesByLosses at unit told first last spared
-closing_succeeds at unit verdict told first last spared wants =
-    let least = (spared_bank at unit _ _ verdict told first last spared wants).least in
-    succeeds (OnlyDiffers unit.bank1 2) Closed verdict at (close Closed NotClosed) unit told first last spared
+    → (verdict ≡ Closed) × MissesByLosses loses at unit told first last spared
+closing_succeeds loses at unit verdict told first last spared wants =
+    let least = (spared_bank loses at unit _ _ verdict told first last spared wants).least in
+    succeeds loses (OnlyDiffers unit.bank1 2) Closed verdict at (close Closed NotClosed) unit told first last spared
     (closing_goes unit.bank1 (omega arith)) wants
 
 -- a fresh session
@@ -275,14 +294,14 @@ fresh_goes updates bank is =
           (slice_index bank.bytes 0x12, byte_there bank.bytes 0x12 (omega arith), (refl, refl)),
         )
 
-pub fresh_succeeds : (at : ℕ) (unit : UnitState) (updates : List (ℕ × ℕ)) (verdict : Verdict) (told : List Exchange)
-    (first last : SimState) (spared : Spared at unit told first last)
+pub fresh_succeeds : (loses : ℕ → Type 0) (at : ℕ) (unit : UnitState) (updates : List (ℕ × ℕ)) (verdict : Verdict)
+    (told : List Exchange) (first last : SimState) (spared : Spared loses at unit told first last)
     → Wants at (read_length updates) told (Ended verdict)
-    → (verdict ≡ found_verdict unit.bank1.bytes updates) × MissesByLosses at unit told first last spared
-fresh_succeeds at unit updates verdict told first last spared wants =
-    succeeds (λ now. now ≡ unit.bank1) (found_verdict unit.bank1.bytes updates) verdict at (read_length updates) unit
-    told first last spared
-    (fresh_goes updates unit.bank1 (spared_bank at unit _ _ verdict told first last spared wants)) wants
+    → (verdict ≡ found_verdict unit.bank1.bytes updates) × MissesByLosses loses at unit told first last spared
+fresh_succeeds loses at unit updates verdict told first last spared wants =
+    succeeds loses (λ now. now ≡ unit.bank1) (found_verdict unit.bank1.bytes updates) verdict at (read_length updates)
+    unit told first last spared
+    (fresh_goes updates unit.bank1 (spared_bank loses at unit _ _ verdict told first last spared wants)) wants
 
 -- a reading session
 
@@ -305,12 +324,12 @@ read_all_goes bank is =
           (omega (arith, min-le_left (slice_index bank.bytes 0) 0xFE)),
     )
 
-pub reading_succeeds : (at : ℕ) (unit : UnitState) (verdict : Verdict) (told : List Exchange) (first last : SimState)
-    (spared : Spared at unit told first last)
-    → Wants at read_all told (Ended verdict) → (verdict ≡ Read) × MissesByLosses at unit told first last spared
-reading_succeeds at unit verdict told first last spared wants =
-    succeeds (λ now. now ≡ unit.bank1) Read verdict at read_all unit told first last spared
-    (read_all_goes unit.bank1 (spared_bank at unit _ _ verdict told first last spared wants)) wants
+pub reading_succeeds : (loses : ℕ → Type 0) (at : ℕ) (unit : UnitState) (verdict : Verdict) (told : List Exchange)
+    (first last : SimState) (spared : Spared loses at unit told first last)
+    → Wants at read_all told (Ended verdict) → (verdict ≡ Read) × MissesByLosses loses at unit told first last spared
+reading_succeeds loses at unit verdict told first last spared wants =
+    succeeds loses (λ now. now ≡ unit.bank1) Read verdict at read_all unit told first last spared
+    (read_all_goes unit.bank1 (spared_bank loses at unit _ _ verdict told first last spared wants)) wants
 
 -- an opened session
 
@@ -451,11 +470,11 @@ unlock_goes updates bank rises long takes = (
   }),
 )
 
-pub opened_succeeds : (at : ℕ) (unit : UnitState) (updates : List (ℕ × ℕ)) (verdict : Verdict) (told : List Exchange)
-    (first last : SimState) (spared : Spared at unit told first last)
+pub opened_succeeds : (loses : ℕ → Type 0) (at : ℕ) (unit : UnitState) (updates : List (ℕ × ℕ)) (verdict : Verdict)
+    (told : List Exchange) (first last : SimState) (spared : Spared loses at unit told first last)
     → RisesAbove 0 updates → TakesAll unit.bank1 updates → Wants at (unlock updates) told (Ended verdict)
-    → (verdict ≡ Done) × MissesByLosses at unit told first last spared
-opened_succeeds at unit updates verdict told first last spared rises takes wants =
-    let least = (spared_bank at unit _ _ verdict told first last spared wants).least in
-    succeeds (λ now. Unit {0}) Done verdict at (unlock updates) unit told first last spared
+    → (verdict ≡ Done) × MissesByLosses loses at unit told first last spared
+opened_succeeds loses at unit updates verdict told first last spared rises takes wants =
+    let least = (spared_bank loses at unit _ _ verdict told first last spared wants).least in
+    succeeds loses (λ now. Unit {0}) Done verdict at (unlock updates) unit told first last spared
     (unlock_goes updates unit.bank1 rises (omega arith) takes) wants

@@ -5,28 +5,30 @@ use Rattle.std.specs.Prelude.{◌≢◌, Bool}
 use Rattle.std.proofs.Math.Dec.{eqb}
 use Rattle.std.proofs.lemmas.Bool.{eqb-true, eqb-false}
 use Rattle.dali_frame.specs.declared.forward.Frame.{Frame}
-use Rattle.dali_frame.specs.declared.forward.Frame.TheVariants.{Dtr0, Dtr1, AskDtr0, AskDtr1, Read, Write}
-use Rattle.dali_bus.specs.World.{World, Gear, Memory}
+use Rattle.dali_frame.specs.declared.forward.Frame.TheVariants.{Dtr0, AskDtr0, AskDtr1, Read, Write}
+use Rattle.dali_bus.specs.World.{World, Gear, Memory, byte_in, is_open}
 use Rattle.dali_bus.specs.Hears.{Hears, MayEnd, Ignores, PassesBy, Stores, ReadsByte, ReadsNothing}
 use Rattle.dali_bus.specs.Hears.{selected as selected_byte}
 use Rattle.dali_bus.specs.Carry.{Carry, MayHear, Heard}
 use Rattle.dali_write.specs.Exchanges.{Exchange}
-use Rattle.dali_write.specs.Lines.{select_lines, byte_after}
+use Rattle.dali_write.specs.Requests.{select_requests, byte_after}
 use Rattle.dali_write.specs.Tries.{Trying, byte_of}
-use Rattle.dali_write.specs.Worlds.{Run, IsCheckedRead, Shows, KeepsAt, Selects, OnlyEnabled, MayWrite, IsOff}
+use Rattle.dali_write.specs.Worlds.{Run, Stays, IsCheckedRead, Shows, KeepsAt, Selects, OnlyEnabled, MayWrite, IsOff}
 use Rattle.dali_write.specs.Worlds.{memory_of, memory_at, Written}
-use Rattle.dali_write.proofs.GearLemmas.{After, asked1, placed, asked0, stays, carry_keeps, IsQuiet, passing_keeps}
-use Rattle.dali_write.proofs.GearLemmas.{end_steady}
-use Rattle.dali_write.proofs.ShapeLemmas.{selected, was_read}
+use Rattle.dali_write.proofs.GearLemmas.{asked1, asked0, carry_dtr1, carry_stays, IsQuiet, passing_keeps, end_steady}
+use Rattle.dali_write.proofs.GearLemmas.{dtr0_in, dtr1_in, off_where, shut_where, same_byte}
+use Rattle.dali_write.proofs.PowerLemmas.{drifts_have, drifts_keep, keeps_then, stays_keeps, shows_kept}
+use Rattle.dali_write.proofs.ShapeLemmas.{WasRead, selected, was_read}
 
 -- a run in two parts
-pub split : (newer older : List Exchange) (first last : World) → Run (newer ++ older) first last
-    → (mid : World) × Run older first mid × Run newer mid last
-split [] older first last run = (last, run, refl)
-split (x ∷ newer) older first last run =
-    let parts = split newer older first run.0 run.1 in (parts.0, parts.1, (run.0, parts.2, run.2))
+pub split : (loses : ℕ → Type 0) (newer older : List Exchange) (first last : World)
+    → Run loses (newer ++ older) first last → (mid : World) × Run loses older first mid × Run loses newer mid last
+split loses [] older first last run = (last, run, Stays)
+split loses (x ∷ newer) older first last run =
+    let parts = split _ newer older first run.0 run.2 in
+    (parts.0, parts.1, (run.0, run.1, parts.2, run.3, run.4))
 
-carried : (old new : World) (x : Exchange) (frame : Frame) (answer : Option ℕ) → x.frame ≡ frame → x.answer ≡ answer
+pub carried : (old new : World) (x : Exchange) (frame : Frame) (answer : Option ℕ) → x.frame ≡ frame → x.answer ≡ answer
     → Carry old x.frame x.answer new → Carry old frame answer new
 carried old new x frame answer f a carry =
     subst (λ (g : Option ℕ). Carry old frame g new) a (subst (λ (g : Frame). Carry old g x.answer new) f carry)
@@ -35,22 +37,65 @@ carried_any : (old new : World) (x : Exchange) (frame : Frame) → x.frame ≡ f
     → Carry old frame x.answer new
 carried_any old new x frame f carry = subst (λ (g : Frame). Carry old g x.answer new) f carry
 
+-- What a unit still has after some of the frames, as long as it keeps its power
+
+-- one that is enabled has the bank
+abbrev HasBank : Option Gear → Type 0
+HasBank gear = is_open gear ≡ true → dtr1_in gear ≡ Some 1
+
+-- one that has the bank has the location
+abbrev HasPlace : ℕ → Option Gear → Type 0
+HasPlace location gear = dtr1_in gear ≡ Some 1 → dtr0_in gear ≡ Some location
+
+-- one that has the bank holds what was read, and isn't enabled
+abbrev HasByte : ℕ → ℕ → Option Gear → Type 0
+HasByte location byte gear = dtr1_in gear ≡ Some 1 → (byte_in gear 1 location ≡ Some byte) × (is_open gear ≡ false)
+
+off_bank : (gear : Option Gear) → is_open gear ≡ false → (dtr1_in gear ≡ Some 1 → ⊥) → HasBank gear
+off_bank gear off gone on = let never = off in cc
+
+off_place : (location : ℕ) (gear : Option Gear) → is_open gear ≡ false → (dtr1_in gear ≡ Some 1 → ⊥)
+    → HasPlace location gear
+off_place location gear off gone bank = absurd (gone bank)
+
+off_byte : (location byte : ℕ) (gear : Option Gear) → is_open gear ≡ false → (dtr1_in gear ≡ Some 1 → ⊥)
+    → HasByte location byte gear
+off_byte location byte gear off gone bank = absurd (gone bank)
+
+was_on : (old new : World) (frame : Frame) (answer : Option ℕ) (unit : ℕ) → IsQuiet unit frame
+    → Carry old frame answer new → is_open (new unit) ≡ true → is_open (old unit) ≡ true
+was_on old new frame answer unit quiet carry on = by (is_open (old unit)) refl where
+  by : (b : Bool) → is_open (old unit) ≡ b → is_open (old unit) ≡ true
+  by true e = e
+  by false e =
+      let off = (carry_stays old frame answer new unit quiet carry).off (off_where (old unit) e) in
+      let never = shut_where (new unit) off in cc
+
 -- after the four frames the unit has selected the location
-pub selects_run : (unit location : ℕ) (tried : List Exchange) (first last : World) → Run tried first last
-    → Trying (select_lines unit location) tried []
-    → After last unit location 1
-selects_run unit location tried first last run try =
+pub selects_run : (loses : ℕ → Type 0) (unit location : ℕ) (tried : List Exchange) (first last : World)
+    → Run loses tried first last → Trying (select_requests unit location) tried []
+    → HasBank (last unit) × HasPlace location (last unit)
+selects_run loses unit location tried first last run try =
     let s = selected unit location tried try in
-    let r4 = subst (λ (t : List Exchange). Run t first last) s.is run in
-    let r3 = r4.1 in
-    let r2 = r3.1 in
+    let r4 = subst (λ (t : List Exchange). Run loses t first last) s.is run in
+    let r3 = r4.2 in
+    let r2 = r3.2 in
     let one =
-    asked1 r2.0 unit 1 r3.0 (carried r2.0 r3.0 s.x2 (AskDtr1 unit) (Some 1) s.got2.frame_is s.got2.meets r2.2) in
-    let there =
-    placed r3.0 location s.x3.answer r4.0 unit 1
-    (carried_any r3.0 r4.0 s.x3 (Dtr0 location) s.got3.frame_is r3.2) one in
-    asked0 r4.0 unit location 1 last
-    (carried r4.0 last s.x4 (AskDtr0 unit) (Some location) s.got4.frame_is s.got4.meets r4.2) there
+    asked1 r2.0 unit 1 r2.1 (carried r2.0 r2.1 s.x2 (AskDtr1 unit) (Some 1) s.got2.frame_is s.got2.meets r2.3) in
+    let bank2 : HasBank (r3.0 unit) = drifts_have HasBank off_bank unit r2.1 r3.0 r2.4 (λ on. one) in
+    let c3 = carried_any r3.0 r3.1 s.x3 (Dtr0 location) s.got3.frame_is r3.3 in
+    let bank3 : HasBank (r3.1 unit) = λ on.
+    carry_dtr1 r3.0 (Dtr0 location) s.x3.answer r3.1 tt c3 unit
+    ∙ bank2 (was_on r3.0 r3.1 (Dtr0 location) s.x3.answer unit tt c3 on) in
+    let later3 : HasBank (r4.0 unit) = drifts_have HasBank off_bank unit r3.1 r4.0 r3.4 bank3 in
+    let c4 = carried r4.0 r4.1 s.x4 (AskDtr0 unit) (Some location) s.got4.frame_is s.got4.meets r4.3 in
+    let bank4 : HasBank (r4.1 unit) = λ on.
+    carry_dtr1 r4.0 (AskDtr0 unit) (Some location) r4.1 tt c4 unit
+    ∙ later3 (was_on r4.0 r4.1 (AskDtr0 unit) (Some location) unit tt c4 on) in
+    let place4 : HasPlace location (r4.1 unit) = λ bank. asked0 r4.0 unit location r4.1 c4 in (
+      drifts_have HasBank off_bank unit r4.1 last r4.4 bank4,
+      drifts_have (HasPlace location) (off_place location) unit r4.1 last r4.4 place4,
+    )
 
 answers_read : (at : ℕ) (old : Gear) (to v : ℕ) (new : Gear) → Hears at old (Read to) (Some v) new
     → (to ≡ at) × (selected_byte old ≡ Some v) × (new.enabled ≡ false) × (new.memory ≡ old.memory)
@@ -65,94 +110,101 @@ answers_read at old to v new h = told h.obeys where
   told (inl (is, inr nothing)) = let never = nothing.1.3 in cc
   told (inr (isnt, ignores)) = let never = ignores.1 in cc
 
-byte_there : (gear before : Gear) (location byte : ℕ) → before ≡ gear → gear.dtr0 ≡ location → gear.dtr1 ≡ 1
-    → selected_byte before ≡ Some byte → before.memory 1 location ≡ Some byte
-byte_there gear before location byte same zero one byte_is =
-    let z : before.dtr0 ≡ location = ap (λ (g : Gear). g.dtr0) same ∙ zero in
-    let o : before.dtr1 ≡ 1 = ap (λ (g : Gear). g.dtr1) same ∙ one in
-    rw (z, o) at byte_is
-
+-- what a read tells of a unit that has the bank and the location
 shown : (old : World) (unit location byte : ℕ) (new : World) → Carry old (Read unit) (Some byte) new
-    → After old unit location 1 → Shows new unit location byte
-shown old unit location byte new carry after =
+    → dtr1_in (old unit) ≡ Some 1 → dtr0_in (old unit) ≡ Some location
+    → (byte_in (new unit) 1 location ≡ Some byte) × (is_open (new unit) ≡ false)
+shown old unit location byte new carry bank place =
     let a = carry.answers in
     let told = answers_read a.address a.before unit byte a.after a.hears in
     let was : old unit ≡ Some a.before = rw told.0 a.was in
     let is : new unit ≡ Some a.after = rw told.0 a.is in
-    let same : a.before ≡ after.gear = let one = after.is in cc in
-    let here = byte_there after.gear a.before location byte same after.dtr0_is after.dtr1_is told.1 in
-    record { gear = a.after; is = is; byte_is = ap (λ (m : Memory). m 1 location) told.3 ∙ here; off = told.2 }
+    let one : Some a.before.dtr1 ≡ Some 1 = sym (ap dtr1_in was) ∙ bank in
+    let at : Some a.before.dtr0 ≡ Some location = sym (ap dtr0_in was) ∙ place in
+    let one_is : a.before.dtr1 ≡ 1 = cc in
+    let at_is : a.before.dtr0 ≡ location = cc in
+    let here : a.before.memory 1 location ≡ Some byte = rw (one_is, at_is) at told.1 in
+    (rw is (ap (λ (m : Memory). m 1 location) told.3 ∙ here), rw is told.2)
 
-pub last_answer : (tried : List Exchange) (x : Exchange) (rest : List Exchange) (unit byte : ℕ) → tried ≡ x ∷ rest
-    → x.frame ≡ Read unit → byte_of tried ≡ Some byte → x.answer ≡ Some byte
-last_answer tried x rest unit byte is frame answer =
-    subst (λ (f : Frame). byte_after f x.answer (byte_of rest) ≡ Some byte) frame
-    (subst (λ (t : List Exchange). byte_of t ≡ Some byte) is answer)
+-- and that it was there when the read reached the unit
+pub held_then : (old : World) (unit location byte : ℕ) (new : World) → Carry old (Read unit) (Some byte) new
+    → dtr1_in (old unit) ≡ Some 1 → dtr0_in (old unit) ≡ Some location → byte_in (old unit) 1 location ≡ Some byte
+held_then old unit location byte new carry bank place =
+    let a = carry.answers in
+    let told = answers_read a.address a.before unit byte a.after a.hears in
+    let was : old unit ≡ Some a.before = rw told.0 a.was in
+    let one : Some a.before.dtr1 ≡ Some 1 = sym (ap dtr1_in was) ∙ bank in
+    let at : Some a.before.dtr0 ≡ Some location = sym (ap dtr0_in was) ∙ place in
+    let one_is : a.before.dtr1 ≡ 1 = cc in
+    let at_is : a.before.dtr0 ≡ location = cc in
+    rw was (rw (one_is, at_is) at told.1)
 
--- the answer to the last frame of a checked read
-pub read_true : (tried : List Exchange) (first last : World) (unit location byte : ℕ) → Run tried first last
-    → IsCheckedRead unit location byte tried
-    → Shows last unit location byte
-read_true tried first last unit location byte run reads =
+-- the byte of a whole try
+pub last_answer : (unit location byte : ℕ) (tried : List Exchange) (s : WasRead unit location tried)
+    → byte_of tried ≡ Some byte → s.x5.answer ≡ Some byte
+last_answer unit location byte tried s answer =
+    subst (λ (f : Frame). byte_after f s.x5.answer (byte_of s.older) ≡ Some byte) s.got5.frame_is
+    (subst (λ (f : Frame). byte_after f s.x6.answer (byte_of (s.x5 ∷ s.older)) ≡ Some byte) s.got6.frame_is
+    (subst (λ (f : Frame). byte_after f s.x7.answer (byte_of (s.x6 ∷ s.x5 ∷ s.older)) ≡ Some byte) s.got7.frame_is
+    (subst (λ (t : List Exchange). byte_of t ≡ Some byte) s.is answer)))
+
+quiet_byte : (old : World) (frame : Frame) (answer : Option ℕ) (new : World) (unit location byte : ℕ)
+    → IsQuiet unit frame → Carry old frame answer new
+    → (byte_in (old unit) 1 location ≡ Some byte) × (is_open (old unit) ≡ false)
+    → (byte_in (new unit) 1 location ≡ Some byte) × (is_open (new unit) ≡ false)
+quiet_byte old frame answer new unit location byte quiet carry holds =
+    let stays = carry_stays old frame answer new unit quiet carry in (
+      same_byte (old unit) (new unit) stays.memory 1 location ∙ holds.0,
+      shut_where (new unit) (stays.off (off_where (old unit) holds.1)),
+    )
+
+shows_now : {loses : ℕ → Type 0} (world : World) (unit location byte : ℕ) (gear : Option Gear) → world unit ≡ gear
+    → (byte_in gear 1 location ≡ Some byte) × (is_open gear ≡ false) → Shows loses world unit location byte
+shows_now world unit location byte None is holds = let never = holds.0 in cc
+shows_now world unit location byte (Some gear) is holds =
+    record { gear = gear; is = is; byte_is = inl holds.0; off = holds.1 }
+
+-- the answer to the read of a checked read: the unit that tells 01h of DTR1 at its end has kept its power since it told
+-- it first
+pub read_true : {loses : ℕ → Type 0} (tried : List Exchange) (first last : World) (unit location byte : ℕ)
+    → Run loses tried first last → IsCheckedRead unit location byte tried → Shows loses last unit location byte
+read_true {loses} tried first last unit location byte run reads =
     let s = was_read unit location tried reads.0 in
-    let r5 = subst (λ (t : List Exchange). Run t first last) s.is run in
-    let r4 = r5.1 in
-    let r3 = r4.1 in
-    let r2 = r3.1 in
-    let one =
-    asked1 r2.0 unit 1 r3.0 (carried r2.0 r3.0 s.x2 (AskDtr1 unit) (Some 1) s.got2.frame_is s.got2.meets r2.2) in
-    let there =
-    placed r3.0 location s.x3.answer r4.0 unit 1
-    (carried_any r3.0 r4.0 s.x3 (Dtr0 location) s.got3.frame_is r3.2) one in
-    let after =
-    asked0 r4.0 unit location 1 r5.0
-    (carried r4.0 r5.0 s.x4 (AskDtr0 unit) (Some location) s.got4.frame_is s.got4.meets r4.2) there in
-    let answer = last_answer tried s.x5 (s.x4 ∷ s.x3 ∷ s.x2 ∷ s.x1 ∷ []) unit byte s.is s.got5.frame_is reads.1 in
-    shown r5.0 unit location byte last (carried r5.0 last s.x5 (Read unit) (Some byte) s.got5.frame_is answer r5.2)
-    after
-
-pub keeps_then : (first mid last : World) (address : ℕ) → KeepsAt first mid address → KeepsAt mid last address
-    → KeepsAt first last address
-keeps_then first mid last address one two =
-    record { memory = two.memory ∙ one.memory; off = λ off. two.off (one.off off) }
-
-pub keeps_none : (first last : World) (address : ℕ) → last ≡ first → KeepsAt first last address
-keeps_none first last address same = rw same (record { memory = refl; off = λ off. off })
+    let r7 = subst (λ (t : List Exchange). Run loses t first last) s.is run in
+    let r6 = r7.2 in
+    let r5 = r6.2 in
+    let at = selects_run _ unit location s.older first r5.0 r5.2 s.selects in
+    let answer = last_answer unit location byte tried s reads.1 in
+    let c5 = carried r5.0 r5.1 s.x5 (Read unit) (Some byte) s.got5.frame_is answer r5.3 in
+    let read : HasByte location byte (r5.1 unit) = λ bank.
+    let before = sym (carry_dtr1 r5.0 (Read unit) (Some byte) r5.1 tt c5 unit) ∙ bank in
+    shown r5.0 unit location byte r5.1 c5 before (at.1 before) in
+    let later5 : HasByte location byte (r6.0 unit) =
+    drifts_have (HasByte location byte) (off_byte location byte) unit r5.1 r6.0 r5.4 read in
+    let c6 = carried_any r6.0 r6.1 s.x6 (AskDtr0 unit) s.got6.frame_is r6.3 in
+    let six : HasByte location byte (r6.1 unit) = λ bank.
+    quiet_byte r6.0 (AskDtr0 unit) s.x6.answer r6.1 unit location byte tt c6
+    (later5 (sym (carry_dtr1 r6.0 (AskDtr0 unit) s.x6.answer r6.1 tt c6 unit) ∙ bank)) in
+    let later6 : HasByte location byte (r7.0 unit) =
+    drifts_have (HasByte location byte) (off_byte location byte) unit r6.1 r7.0 r6.4 six in
+    let c7 = carried r7.0 r7.1 s.x7 (AskDtr1 unit) (Some 1) s.got7.frame_is s.got7.meets r7.3 in
+    let bank = sym (carry_dtr1 r7.0 (AskDtr1 unit) (Some 1) r7.1 tt c7 unit) ∙ asked1 r7.0 unit 1 r7.1 c7 in
+    let holds = quiet_byte r7.0 (AskDtr1 unit) (Some 1) r7.1 unit location byte tt c7 (later6 bank) in
+    shows_kept r7.1 last unit location byte (shows_now r7.1 unit location byte (r7.1 unit) refl holds)
+    (drifts_keep r7.1 last r7.4 unit)
 
 abbrev pub AllQuiet : ℕ → List Exchange → Type 0
 AllQuiet address [] = Unit {0}
 AllQuiet address (x ∷ told) = IsQuiet address x.frame × AllQuiet address told
 
-pub run_keeps : (told : List Exchange) (first last : World) (address : ℕ) → AllQuiet address told → Run told first last
-    → KeepsAt first last address
-run_keeps [] first last address quiet run = keeps_none first last address run
+pub run_keeps : {loses : ℕ → Type 0} (told : List Exchange) (first last : World) (address : ℕ) → AllQuiet address told
+    → Run loses told first last → KeepsAt loses first last address
+run_keeps [] first last address quiet run = drifts_keep first last run address
 run_keeps (x ∷ told) first last address quiet run =
-    keeps_then first run.0 last address (run_keeps told first run.0 address quiet.1 run.1)
-    (carry_keeps run.0 x.frame x.answer last address quiet.0 run.2)
-
-quiet_frame : (address : ℕ) (x : Exchange) (frame : Frame) → x.frame ≡ frame → IsQuiet address frame
-    → IsQuiet address x.frame
-quiet_frame address x frame same quiet = subst (λ (f : Frame). IsQuiet address f) (sym same) quiet
-
-pub read_quiet : (tried : List Exchange) (first last : World) (unit location byte : ℕ) → Run tried first last
-    → IsCheckedRead unit location byte tried
-    → (address : ℕ) → KeepsAt first last address
-read_quiet tried first last unit location byte run reads address =
-    let s = was_read unit location tried reads.0 in
-    let r = subst (λ (t : List Exchange). Run t first last) s.is run in
-    run_keeps (s.x5 ∷ s.x4 ∷ s.x3 ∷ s.x2 ∷ s.x1 ∷ []) first last address (
-      quiet_frame address s.x5 (Read unit) s.got5.frame_is tt,
-      (
-        quiet_frame address s.x4 (AskDtr0 unit) s.got4.frame_is tt,
-        (
-          quiet_frame address s.x3 (Dtr0 location) s.got3.frame_is tt,
-          (
-            quiet_frame address s.x2 (AskDtr1 unit) s.got2.frame_is tt,
-            (quiet_frame address s.x1 (Dtr1 1) s.got1.frame_is tt, tt),
-          ),
-        ),
-      ),
-    ) r
+    keeps_then first run.0 last address (run_keeps told first run.0 address quiet.1 run.2)
+    (keeps_then run.0 run.1 last address
+    (stays_keeps run.0 run.1 address (carry_stays run.0 x.frame x.answer run.1 address quiet.0 run.3))
+    (drifts_keep run.1 last run.4 address))
 
 -- a unit that isn't enabled stores nothing
 off_write : (at : ℕ) (old : Gear) (byte : ℕ) (new : Gear) → old.enabled ≡ false → Heard at old (Write byte) new
@@ -174,7 +226,7 @@ off_write_here at (Some old) byte (Some new) off (inr heard) = ap Some (off_writ
 off_write_here at None byte (Some new) off hears = absurd hears
 off_write_here at (Some old) byte None off hears = absurd hears
 
-same_or_not : (a b : ℕ) → (a ≡ b) ⊎ (a ≢ b)
+pub same_or_not : (a b : ℕ) → (a ≡ b) ⊎ (a ≢ b)
 same_or_not a b = by (eqb a b) refl where
   by : (t : Bool) → eqb a b ≡ t → (a ≡ b) ⊎ (a ≢ b)
   by true e = inl (eqb-true a b e)
@@ -220,51 +272,69 @@ off_not_on : (world : World) (address : ℕ) (gear : Gear) → world address ≡
     → IsOff (world address) → ⊥
 off_not_on world address gear is on off = let e : gear.enabled ≡ false = rw is at off in cc
 
+-- a unit that is enabled after it was made sure to have selected the location has it selected
+selected_after : (loses : ℕ → Type 0) (told : List Exchange) (first before : World) (unit location : ℕ) (gear : Gear)
+    → Run loses told first before → Selects unit location told → before unit ≡ Some gear → gear.enabled ≡ true
+    → (gear.dtr0 ≡ location) × (gear.dtr1 ≡ 1)
+selected_after loses told first before unit location gear run selects is on =
+    let parts =
+    split _ selects.0 selects.1 first before (subst (λ (t : List Exchange). Run loses t first before) selects.2 run) in
+    let at = selects_run _ unit location selects.0 parts.0 before parts.2 selects.3 in
+    let bank = at.0 (ap is_open is ∙ on) in
+    let one : Some gear.dtr1 ≡ Some 1 = sym (ap dtr1_in is) ∙ bank in
+    let there : Some gear.dtr0 ≡ Some location = sym (ap dtr0_in is) ∙ at.1 bank in
+    (cc, cc)
+
 -- the unit that answered is the only one that can be enabled
-answer_here : (before : World) (unit location byte v : ℕ) (last : World) → After before unit location 1
+answer_here : (loses : ℕ → Type 0) (told : List Exchange) (first before : World) (unit location byte v : ℕ)
+    (last : World) → Run loses told first before → Selects unit location told
     → OnlyEnabled unit before → Carry before (Write byte) (Some v) last
     → Written location byte (memory_at before unit) (memory_at last unit)
-answer_here before unit location byte v last after only carry =
+answer_here loses told first before unit location byte v last run selects only carry =
     let a = carry.answers in
-    let told = write_answered a.address a.before byte v a.after a.hears in
+    let answered = write_answered a.address a.before byte v a.after a.hears in
     elim (same_or_not a.address unit) [
-      | inr other ↦ absurd (off_not_on before a.address a.before a.was told.0 (only a.address other))
+      | inr other ↦ absurd (off_not_on before a.address a.before a.was answered.0 (only a.address other))
       | inl same ↦
           let was : before unit ≡ Some a.before = rw same at a.was in
           let is : last unit ≡ Some a.after = rw same at a.is in
-          let gear : a.before ≡ after.gear = let there = after.is in cc in
-          let zero : a.before.dtr0 ≡ location = ap (λ (g : Gear). g.dtr0) gear ∙ after.dtr0_is in
-          let one : a.before.dtr1 ≡ 1 = ap (λ (g : Gear). g.dtr1) gear ∙ after.dtr1_is in
-          rw (was, is) (told.1 location zero one)
+          let at = selected_after _ told first before unit location a.before run selects was answered.0 in
+          rw (was, is) (answered.1 location at.0 at.1)
     ]
 
-here_of : (before last : World) (unit location byte : ℕ) (old new : Gear) → before unit ≡ Some old
-    → last unit ≡ Some new
-    → (new.memory ≡ old.memory) ⊎ Written location byte (Some old.memory) (Some new.memory)
-    → (memory_at last unit ≡ memory_at before unit)
-    ⊎ Written location byte (memory_at before unit) (memory_at last unit)
-here_of before last unit location byte old new was is (inl same) = inl (rw (was, is) (ap Some same))
-here_of before last unit location byte old new was is (inr stored_it) = inr (rw (was, is) stored_it)
+-- at the unit itself, whether it is enabled or not
+here_on : (loses : ℕ → Type 0) (told : List Exchange) (first before last : World) (unit location byte : ℕ)
+    → Run loses told first before → Selects unit location told → (old : Option Gear) → before unit ≡ old
+    → (new : Option Gear) → last unit ≡ new → MayHear unit old (Write byte) new
+    → (memory_of new ≡ memory_of old) ⊎ Written location byte (memory_of old) (memory_of new)
+here_on loses told first before last unit location byte run selects None was None is hears = inl refl
+here_on loses told first before last unit location byte run selects None was (Some new) is hears = absurd hears
+here_on loses told first before last unit location byte run selects (Some old) was None is hears = absurd hears
+here_on loses told first before last unit location byte run selects (Some old) was (Some new) is hears =
+    by old.enabled refl
+  where
+    by : (on : Bool) → old.enabled ≡ on
+        → (Some new.memory ≡ Some old.memory) ⊎ Written location byte (Some old.memory) (Some new.memory)
+    by false off = inl (off_write_here unit (Some old) byte (Some new) off hears)
+    by true on =
+        let at = selected_after _ told first before unit location old run selects was on in
+        elim (write_here unit old location byte new at.0 at.1 hears) [
+          | inl same ↦ inl (ap Some same)
+          | inr stored_it ↦ inr stored_it
+        ]
 
-pub write_safe : (told : List Exchange) (first before last : World) (unit location byte : ℕ) (answer : Option ℕ)
-    → Run told first before → Selects unit location told → OnlyEnabled unit before
+pub write_safe : (loses : ℕ → Type 0) (told : List Exchange) (first before last : World) (unit location byte : ℕ)
+    (answer : Option ℕ) → Run loses told first before → Selects unit location told → OnlyEnabled unit before
     → Carry before (Write byte) answer last
     → MayWrite before unit location byte answer last
-write_safe told first before last unit location byte answer run selects only carry =
-    let parts =
-    split selects.0 selects.1 first before (subst (λ (t : List Exchange). Run t first before) selects.2 run) in
-    let after = selects_run unit location selects.0 parts.0 before parts.2 selects.3 in
-    let there =
-    stays unit after.gear (Write byte) (last unit)
-    (subst (λ (g : Option Gear). MayHear unit g (Write byte) (last unit)) after.is (carry.units unit)) in
+write_safe loses told first before last unit location byte answer run selects only carry =
     record {
       others =
           λ address other.
           off_write_here address (before address) byte (last address) (only address other) (carry.units address);
-      here =
-          here_of before last unit location byte after.gear there.0 after.is there.1
-          (write_here unit after.gear location byte there.0 after.dtr0_is after.dtr1_is there.2);
+      here = here_on _ told first before last unit location byte run selects (before unit) refl (last unit) refl
+          (carry.units unit);
       answered =
-          λ v is. answer_here before unit location byte v last after only
+          λ v is. answer_here _ told first before unit location byte v last run selects only
           (subst (λ (o : Option ℕ). Carry before (Write byte) o last) is carry);
     }

@@ -1,162 +1,185 @@
--- A closing session that ends as NotClosed was told of no read that was answered.
-use Rattle.std.proofs.Common.{◌≡◌, ◌⊎◌, inl, inr, refl, sym, ap, subst, ◌∙◌, ℕ, zero, suc, ◌≤◌, ◌<◌, List, [], ◌∷◌}
-use Rattle.std.proofs.Common.{◌++◌, length, Option, Some, None, arith}
+-- A closing session that ends as NotClosed was told of no checked read that came to its end.
+use Rattle.std.proofs.Common.{◌≡◌, ◌⊎◌, inl, inr, refl, sym, subst, ℕ, zero, suc, ◌≤◌, ◌<◌, List, [], ◌∷◌}
+use Rattle.std.proofs.Common.{◌++◌, append_assoc, append-nil, length, Bool, true, false, Option, Some, None, arith}
 use Rattle.dali_frame.specs.declared.forward.Frame.{Frame}
 use Rattle.dali_frame.specs.declared.forward.Frame.TheVariants.{Dtr0, Dtr1, Dtr2, Write, WriteSilent, Enable, AskDtr0}
 use Rattle.dali_frame.specs.declared.forward.Frame.TheVariants.{AskDtr1, AskDtr2, Read, Other}
 use Rattle.dali_write.specs.Exchanges.{Exchange}
-use Rattle.dali_write.specs.declared.line.Line.{Line}
-use Rattle.dali_write.specs.declared.line.Wish.{Wish}
-use Rattle.dali_write.specs.declared.line.Wish.TheVariants.{Anything}
-use Rattle.dali_write.specs.declared.step.Step.TheVariants.{ReadFrom}
+use Rattle.dali_write.specs.declared.request.Request.{Request}
+use Rattle.dali_write.specs.declared.request.Wish.{Wish}
+use Rattle.dali_write.specs.declared.request.Wish.TheVariants.{Exactly}
+use Rattle.dali_write.specs.declared.access.Access.TheVariants.{ReadFrom}
 use Rattle.dali_write.specs.declared.ask.Ask.TheVariants.{Ended}
 use Rattle.dali_write.specs.declared.ask.Verdict.TheVariants.{Closed, NotClosed}
-use Rattle.dali_write.specs.Lines.{Meets, line, read_lines, write_lines}
+use Rattle.dali_write.specs.Requests.{Meets, request, read_requests, write_requests}
 use Rattle.dali_write.specs.Plans.{Finish, read_closed, close}
 use Rattle.dali_write.specs.Tries.{most_tries, Trying, Missed, Misses, Succeeds, Fails, Wants}
 use Rattle.dali_write.specs.Walks.{Walk}
 use Rattle.dali_write.specs.Reads.{EndsInRead, HasRead}
-use Rattle.dali_write.proofs.ShapeLemmas.{was_read}
-use Rattle.dali_write.proofs.TruthLemmas.{last_answer}
+use Rattle.dali_write.proofs.EndLemmas.{ends_reading}
 use Rattle.dali_write.proofs.VerdictLemmas.{finish_walk, only_older}
 use Rattle.dali_write.proofs.WalkLemmas.{ended_walk}
 use Rattle.dali_write.proofs.GiveUpLemmas.{has_byte}
 
--- the frame reads no byte, or it wasn't answered
-abbrev IsUnread : Frame → Option ℕ → Type 0
-IsUnread (Read to) answer = answer ≡ None
-IsUnread frame answer = Unit {0}
+-- the newest frame asks for DTR0
+abbrev is_ask : Frame → Bool
+is_ask (AskDtr0 to) = true
+is_ask frame = false
+
+abbrev asked_in : List Exchange → Bool
+asked_in [] = false
+asked_in (x ∷ told) = is_ask x.frame
+
+-- The frame doesn't end a checked read: where it asks for DTR1 straight after DTR0, it isn't told 01h.
+abbrev IsUnread : Frame → Option ℕ → Bool → Type 0
+IsUnread (AskDtr1 to) answer true = answer ≡ Some 1 → ⊥
+IsUnread frame answer asked = Unit {0}
 
 abbrev AllUnread : List Exchange → Type 0
 AllUnread [] = Unit {0}
-AllUnread (x ∷ told) = IsUnread x.frame x.answer × AllUnread told
+AllUnread (x ∷ told) = IsUnread x.frame x.answer (asked_in told) × AllUnread told
 
--- the frame reads no byte, or any answer to it will do and fewer lines than so many are left after it
-abbrev ReadsLate : ℕ → Frame → Wish → List Line → Type 0
-ReadsLate late (Read to) wish left = (wish ≡ Anything) × (length left < late)
-ReadsLate late frame wish left = Unit {0}
+-- where the frame may end a checked read, it wants 01h, and fewer requests than so many are left after it
+abbrev ReadsLate : ℕ → Frame → Bool → Wish → List Request → Type 0
+ReadsLate late (AskDtr1 to) true wish left = (wish ≡ Exactly 1) × (length left < late)
+ReadsLate late frame asked wish left = Unit {0}
 
--- only so many lines, the last of them, may read a byte, and any answer to them will do
-abbrev LinesReadLate : ℕ → List Line → Type 0
-LinesReadLate late [] = Unit {0}
-LinesReadLate late (next ∷ left) = ReadsLate late next.frame next.wish left × LinesReadLate late left
+-- only so many requests, the last of them, may end a checked read
+abbrev RequestsReadLate : ℕ → Bool → List Request → Type 0
+RequestsReadLate late asked [] = Unit {0}
+RequestsReadLate late asked (next ∷ left) =
+    ReadsLate late next.frame asked next.wish left × RequestsReadLate late (is_ask next.frame) left
 
-early_unread : (late : ℕ) (frame : Frame) (wish : Wish) (answer : Option ℕ) (left : List Line)
-    → ReadsLate late frame wish left → late ≤ length left → IsUnread frame answer
-early_unread late (Read to) wish answer left reads early = let never : ⊥ = omega arith in absurd never
-early_unread late (Dtr0 b) wish answer left reads early = tt
-early_unread late (Dtr1 b) wish answer left reads early = tt
-early_unread late (Dtr2 b) wish answer left reads early = tt
-early_unread late (Write b) wish answer left reads early = tt
-early_unread late (WriteSilent b) wish answer left reads early = tt
-early_unread late (Enable to) wish answer left reads early = tt
-early_unread late (AskDtr0 to) wish answer left reads early = tt
-early_unread late (AskDtr1 to) wish answer left reads early = tt
-early_unread late (AskDtr2 to) wish answer left reads early = tt
-early_unread late (Other w) wish answer left reads early = tt
+early_unread : (late : ℕ) (frame : Frame) (asked : Bool) (wish : Wish) (answer : Option ℕ) (left : List Request)
+    → ReadsLate late frame asked wish left → late ≤ length left → IsUnread frame answer asked
+early_unread late (AskDtr1 to) true wish answer left reads early = let never : ⊥ = omega arith in absurd never
+early_unread late (AskDtr1 to) false wish answer left reads early = tt
+early_unread late (Dtr0 b) asked wish answer left reads early = tt
+early_unread late (Dtr1 b) asked wish answer left reads early = tt
+early_unread late (Dtr2 b) asked wish answer left reads early = tt
+early_unread late (Write b) asked wish answer left reads early = tt
+early_unread late (WriteSilent b) asked wish answer left reads early = tt
+early_unread late (Enable to) asked wish answer left reads early = tt
+early_unread late (AskDtr0 to) asked wish answer left reads early = tt
+early_unread late (AskDtr2 to) asked wish answer left reads early = tt
+early_unread late (Read to) asked wish answer left reads early = tt
+early_unread late (Other w) asked wish answer left reads early = tt
 
-unanswered : (answer : Option ℕ) → (Meets Anything answer → ⊥) → answer ≡ None
-unanswered None missed = refl
-unanswered (Some byte) missed = absurd (missed refl)
+miss_unread : (late : ℕ) (frame : Frame) (asked : Bool) (wish : Wish) (answer : Option ℕ) (left : List Request)
+    → ReadsLate late frame asked wish left → (Meets wish answer → ⊥) → IsUnread frame answer asked
+miss_unread late (AskDtr1 to) true wish answer left reads missed =
+    λ told. missed (subst (λ (w : Wish). Meets w answer) (sym reads.0) told)
+miss_unread late (AskDtr1 to) false wish answer left reads missed = tt
+miss_unread late (Dtr0 b) asked wish answer left reads missed = tt
+miss_unread late (Dtr1 b) asked wish answer left reads missed = tt
+miss_unread late (Dtr2 b) asked wish answer left reads missed = tt
+miss_unread late (Write b) asked wish answer left reads missed = tt
+miss_unread late (WriteSilent b) asked wish answer left reads missed = tt
+miss_unread late (Enable to) asked wish answer left reads missed = tt
+miss_unread late (AskDtr0 to) asked wish answer left reads missed = tt
+miss_unread late (AskDtr2 to) asked wish answer left reads missed = tt
+miss_unread late (Read to) asked wish answer left reads missed = tt
+miss_unread late (Other w) asked wish answer left reads missed = tt
 
-miss_unread : (late : ℕ) (frame : Frame) (wish : Wish) (answer : Option ℕ) (left : List Line)
-    → ReadsLate late frame wish left → (Meets wish answer → ⊥) → IsUnread frame answer
-miss_unread late (Read to) wish answer left reads missed =
-    unanswered answer (subst (λ (w : Wish). Meets w answer → ⊥) reads.0 missed)
-miss_unread late (Dtr0 b) wish answer left reads missed = tt
-miss_unread late (Dtr1 b) wish answer left reads missed = tt
-miss_unread late (Dtr2 b) wish answer left reads missed = tt
-miss_unread late (Write b) wish answer left reads missed = tt
-miss_unread late (WriteSilent b) wish answer left reads missed = tt
-miss_unread late (Enable to) wish answer left reads missed = tt
-miss_unread late (AskDtr0 to) wish answer left reads missed = tt
-miss_unread late (AskDtr1 to) wish answer left reads missed = tt
-miss_unread late (AskDtr2 to) wish answer left reads missed = tt
-miss_unread late (Other w) wish answer left reads missed = tt
+-- while all requests that may end a checked read are left, none was
+trying_unread : (late : ℕ) (requests : List Request) (tried : List Exchange) (left : List Request)
+    (older : List Exchange)
+    → RequestsReadLate late (asked_in older) requests → AllUnread older → Trying requests tried left
+    → late ≤ length left
+    → AllUnread (tried ++ older) × RequestsReadLate late (asked_in (tried ++ older)) left
+trying_unread late requests [] left older reads unread try early =
+    (unread, subst (λ (l : List Request). RequestsReadLate late (asked_in older) l) (sym try) reads)
+trying_unread late requests (x ∷ tried) left older reads unread try early =
+    let before =
+    trying_unread late requests tried (request x.frame try.0 ∷ left) older reads unread try.2 (omega arith) in (
+      (early_unread late x.frame (asked_in (tried ++ older)) try.0 x.answer left before.1.0 early, before.0),
+      before.1.1,
+    )
 
--- while all lines that may read are left, no read was answered
-trying_unread : (late : ℕ) (lines : List Line) (tried : List Exchange) (left : List Line) → LinesReadLate late lines
-    → Trying lines tried left → late ≤ length left
-    → AllUnread tried × LinesReadLate late left
-trying_unread late lines [] left reads try early = (tt, subst (λ (l : List Line). LinesReadLate late l) (sym try) reads)
-trying_unread late lines (x ∷ tried) left reads try early =
-    let before = trying_unread late lines tried (line x.frame try.0 ∷ left) reads try.2 (omega arith) in
-    ((early_unread late x.frame try.0 x.answer left before.1.0 early, before.0), before.1.1)
+-- the requests are such whatever was asked before them
+abbrev Reading : ℕ → List Request → Type 0
+Reading late requests = (asked : Bool) → RequestsReadLate late asked requests
 
-both_unread : (newer older : List Exchange) → AllUnread newer → AllUnread older → AllUnread (newer ++ older)
-both_unread [] older one two = two
-both_unread (x ∷ newer) older one two = (one.0, both_unread newer older one.1 two)
+-- where only the last request may end a checked read, no missed try has one
+missed_unread : (late : ℕ) (requests : List Request) (tried older : List Exchange) → Reading late requests → late ≤ 1
+    → AllUnread older → Missed requests tried → AllUnread (tried ++ older)
+missed_unread late requests [] older reads last unread missed = absurd missed
+missed_unread late requests (x ∷ tried) older reads last unread missed =
+    let before =
+    trying_unread late requests tried (request x.frame missed.0 ∷ missed.1) older (reads (asked_in older)) unread
+    missed.3 (omega arith) in (
+      miss_unread late x.frame (asked_in (tried ++ older)) missed.0 x.answer missed.1 before.1.0 missed.2,
+      before.0,
+    )
 
--- where only the last line may read, no read of a missed try was answered
-missed_unread : (late : ℕ) (lines : List Line) (tried : List Exchange) → LinesReadLate late lines → late ≤ 1
-    → Missed lines tried → AllUnread tried
-missed_unread late lines [] reads last missed = absurd missed
-missed_unread late lines (x ∷ tried) reads last missed =
-    let before = trying_unread late lines tried (line x.frame missed.0 ∷ missed.1) reads missed.3 (omega arith) in
-    (miss_unread late x.frame missed.0 x.answer missed.1 before.1.0 missed.2, before.0)
+misses_unread : (late : ℕ) (requests : List Request) (misses : ℕ) (told older : List Exchange) → Reading late requests
+    → late ≤ 1 → AllUnread older → Misses requests misses told → AllUnread (told ++ older)
+misses_unread late requests zero told older reads last unread are =
+    subst (λ (t : List Exchange). AllUnread (t ++ older)) (sym are) unread
+misses_unread late requests (suc misses) told older reads last unread are =
+    let before = misses_unread late requests misses are.1 older reads last unread are.4 in
+    subst (λ (t : List Exchange). AllUnread (t ++ older)) (sym are.2)
+    (subst AllUnread (sym (append_assoc are.0 are.1 older))
+    (missed_unread late requests are.0 (are.1 ++ older) reads last before are.3))
 
-misses_unread : (late : ℕ) (lines : List Line) (misses : ℕ) (told : List Exchange) → LinesReadLate late lines → late ≤ 1
-    → Misses lines misses told → AllUnread told
-misses_unread late lines zero told reads last are = subst AllUnread (sym are) tt
-misses_unread late lines (suc misses) told reads last are =
-    subst AllUnread (sym are.2)
-    (both_unread are.0 are.1 (missed_unread late lines are.0 reads last are.3)
-    (misses_unread late lines misses are.1 reads last are.4))
-
--- the lines of a write read no byte
-write_lines_unread : (unit location byte : ℕ) → LinesReadLate 0 (write_lines unit location byte)
-write_lines_unread unit location byte = (tt, (tt, (tt, (tt, (tt, (tt, (tt, tt)))))))
+-- the requests of a write end no checked read
+write_requests_unread : (unit location byte : ℕ) → Reading 0 (write_requests unit location byte)
+write_requests_unread unit location byte = λ asked. (tt, (tt, (tt, (tt, (tt, (tt, (tt, tt)))))))
 
 -- those of a read do so in the last
-read_lines_late : (unit location : ℕ) → LinesReadLate 1 (read_lines unit location)
-read_lines_late unit location = (tt, (tt, (tt, (tt, ((refl, omega arith), tt)))))
+read_requests_late : (unit location : ℕ) → Reading 1 (read_requests unit location)
+read_requests_late unit location = λ asked. (tt, (tt, (tt, (tt, (tt, (tt, ((refl, omega arith), tt)))))))
 
 write_unread : (unit location byte : ℕ) (outcome : Option ℕ) (told : List Exchange)
-    → Succeeds (write_lines unit location byte) outcome told ⊎ Fails (write_lines unit location byte) outcome told
+    → Succeeds (write_requests unit location byte) outcome told ⊎ Fails (write_requests unit location byte) outcome told
     → AllUnread told
 write_unread unit location byte outcome told (inl done) =
-    let lines = write_lines_unread unit location byte in
+    let requests = write_requests_unread unit location byte in
+    let missed =
+    misses_unread 0 (write_requests unit location byte) done.2 done.1 [] requests (omega arith) tt done.7 in
     subst AllUnread (sym done.3)
-    (both_unread done.0 done.1 (trying_unread 0 (write_lines unit location byte) done.0 [] lines done.4 (omega arith)).0
-    (misses_unread 0 (write_lines unit location byte) done.2 done.1 lines (omega arith) done.7))
+    (trying_unread 0 (write_requests unit location byte) done.0 [] done.1 (requests (asked_in done.1))
+    (subst AllUnread (append-nil done.1) missed) done.4 (omega arith)).0
 write_unread unit location byte outcome told (inr failed) =
-    misses_unread 0 (write_lines unit location byte) most_tries told (write_lines_unread unit location byte)
-    (omega arith) failed.1
+    subst AllUnread (append-nil told)
+    (misses_unread 0 (write_requests unit location byte) most_tries told [] (write_requests_unread unit location byte)
+    (omega arith) tt failed.1)
 
--- where a read step failed, no read was answered
-read_unread : (unit location : ℕ) (told : List Exchange)
-    → Succeeds (read_lines unit location) None told ⊎ Fails (read_lines unit location) None told → AllUnread told
-read_unread unit location told (inl done) = absurd (has_byte unit (ReadFrom location) told done)
-read_unread unit location told (inr failed) =
-    misses_unread 1 (read_lines unit location) most_tries told (read_lines_late unit location) (omega arith) failed.1
+-- where a read access failed, no checked read was answered
+read_unread : (unit location : ℕ) (told older : List Exchange)
+    → Succeeds (read_requests unit location) None told ⊎ Fails (read_requests unit location) None told
+    → AllUnread older → AllUnread (told ++ older)
+read_unread unit location told older (inl done) unread = absurd (has_byte unit (ReadFrom location) told done)
+read_unread unit location told older (inr failed) unread =
+    misses_unread 1 (read_requests unit location) most_tries told older (read_requests_late unit location) (omega arith)
+    unread failed.1
 
--- so it is in the two steps of a closing session that ended as NotClosed
-read_closed_unread : (unit : ℕ) (outcomes : List (Option ℕ)) (told : List Exchange)
+-- so it is in the two accesses of a closing session that ended as NotClosed
+read_closed_unread : (unit : ℕ) (outcomes : List (Option ℕ)) (told older : List Exchange)
     → Walk unit (read_closed Closed NotClosed) outcomes told (Finish NotClosed)
-    → AllUnread told
-read_closed_unread unit [] told walk = let differs = walk.1 in cc
-read_closed_unread unit (Some byte ∷ outcomes) told walk =
+    → AllUnread older → AllUnread (told ++ older)
+read_closed_unread unit [] told older walk unread = let differs = walk.1 in cc
+read_closed_unread unit (Some byte ∷ outcomes) told older walk unread =
     let same = (finish_walk unit Closed outcomes walk.0 (Finish NotClosed) walk.4).1 in cc
-read_closed_unread unit (None ∷ outcomes) told walk =
+read_closed_unread unit (None ∷ outcomes) told older walk unread =
     let end = finish_walk unit NotClosed outcomes walk.0 (Finish NotClosed) walk.4 in
-    subst AllUnread (sym (only_older told walk.0 walk.1 walk.2 end.0)) (read_unread unit 2 walk.1 walk.3)
+    subst (λ (t : List Exchange). AllUnread (t ++ older)) (sym (only_older told walk.0 walk.1 walk.2 end.0))
+    (read_unread unit 2 walk.1 older walk.3 unread)
 
 close_unread : (unit : ℕ) (outcomes : List (Option ℕ)) (told : List Exchange)
     → Walk unit (close Closed NotClosed) outcomes told (Finish NotClosed) → AllUnread told
 close_unread unit [] told walk = let differs = walk.1 in cc
 close_unread unit (outcome ∷ outcomes) told walk =
     subst AllUnread (sym walk.2)
-    (both_unread walk.0 walk.1 (read_closed_unread unit outcomes walk.0 walk.4)
-    (write_unread unit 2 0xFF outcome walk.1 walk.3))
+    (read_closed_unread unit outcomes walk.0 walk.1 walk.4 (write_unread unit 2 0xFF outcome walk.1 walk.3))
 
--- the newest exchange of a checked read is a read that was answered
+-- the newest exchange of a checked read ends one
 not_ended : (unit location byte : ℕ) (told : List Exchange) → AllUnread told → EndsInRead unit location byte told → ⊥
 not_ended unit location byte told unread ends =
-    let s = was_read unit location ends.0 ends.3.0 in
-    let all = subst AllUnread (ends.2 ∙ ap (λ (newer : List Exchange). newer ++ ends.1) s.is) unread in
-    let none : s.x5.answer ≡ None = subst (λ (f : Frame). IsUnread f s.x5.answer) s.got5.frame_is all.0 in
-    let some = last_answer ends.0 s.x5 _ unit byte s.is s.got5.frame_is ends.3.1 in
-    cc
+    let s = ends_reading unit location byte told ends in
+    let all = (subst AllUnread s.is unread).0 in
+    let six = subst (λ (f : Frame). IsUnread s.x7.frame s.x7.answer (is_ask f)) s.got6.frame_is all in
+    subst (λ (f : Frame). IsUnread f s.x7.answer true) s.got7.frame_is six s.got7.meets
 
 unread_none : (unit : ℕ) (told : List Exchange) → AllUnread told → HasRead unit told → ⊥
 unread_none unit [] unread has = has

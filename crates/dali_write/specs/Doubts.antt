@@ -3,27 +3,27 @@ use Rattle.std.specs.Prelude.{◌≡◌, ◌≢◌, ◌⊎◌, ℕ, List, ◌∷
 use Rattle.std.specs.List.{Contains}
 use Rattle.dali_write.specs.Exchanges.{Exchange}
 use Rattle.dali_write.specs.declared.ask.Verdict.TheVariants.{Doubt}
-use Rattle.dali_write.specs.declared.step.Step.{Step}
-use Rattle.dali_write.specs.declared.step.Step.TheVariants.{ReadFrom}
-use Rattle.dali_write.specs.Lines.{read_lines, step_lines}
+use Rattle.dali_write.specs.declared.access.Access.{Access}
+use Rattle.dali_write.specs.declared.access.Access.TheVariants.{ReadFrom}
+use Rattle.dali_write.specs.Requests.{read_requests, access_requests}
 use Rattle.dali_write.specs.Plans.{Plan, Finish, expect, give_up}
 use Rattle.dali_write.specs.Tries.{most_tries, Misses, Succeeds}
 use Rattle.dali_write.specs.Walks.{Walk}
 
--- the newest frames are those of a step that failed: each of its most tries ended at a miss
-pub record EndsInFailure (unit : ℕ) (step : Step) (told : List Exchange) : Type 0 where
+-- the newest frames are those of an access that failed: each of its most tries ended at a miss
+pub record EndsInFailure (unit : ℕ) (access : Access) (told : List Exchange) : Type 0 where
   pub tries : List Exchange
   pub older : List Exchange
   pub parts : told ≡ tries ++ older
-  pub missed : Misses (step_lines unit step) most_tries tries
+  pub missed : Misses (access_requests unit access) most_tries tries
 
 -- at some time that was so
 pub record HasFailed (unit : ℕ) (told : List Exchange) : Type 0 where
   pub newer : List Exchange
   pub before : List Exchange
   pub parts : told ≡ newer ++ before
-  pub step : Step
-  pub failure : EndsInFailure unit step before
+  pub access : Access
+  pub failure : EndsInFailure unit access before
 
 -- the newest frames are those of a checked read of the location that failed
 abbrev pub EndsUnread : ℕ → ℕ → List Exchange → Type 0
@@ -51,7 +51,7 @@ pub record FoundAnother (unit : ℕ) (plan : Plan) (expected : List (ℕ × ℕ)
   pub after : Plan
   pub came : Walk unit plan before older (expect location byte after)
   pub found : ℕ
-  pub answered : Succeeds (read_lines unit location) (Some found) read
+  pub answered : Succeeds (read_requests unit location) (Some found) read
   pub another : found ≢ byte
   pub later : List (Option ℕ)
   pub gave_up : Walk unit give_up later newer (Finish Doubt)

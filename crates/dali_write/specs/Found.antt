@@ -1,8 +1,8 @@
--- What a session has found in its steps so far.
+-- What a session has found in its accesses so far.
 use Rattle.std.specs.Prelude.{◌≡◌, ℕ, List, [], ◌++◌, ◌∷◌, Option}
 use Rattle.std.specs.Option.{option_to_list}
 use Rattle.dali_write.specs.Exchanges.{Exchange}
-use Rattle.dali_write.specs.declared.line.Line.{Line}
+use Rattle.dali_write.specs.declared.request.Request.{Request}
 use Rattle.dali_write.specs.declared.stage.Job.{Job}
 use Rattle.dali_write.specs.declared.stage.Job.TheVariants.{Reading}
 use Rattle.dali_write.specs.Plans.{Plan}
@@ -25,6 +25,6 @@ kept_after job bytes outcome = bytes
 
 -- what was told is so, and these bytes were kept of it
 pub record StandsWith (job : Job) (unit : ℕ) (plan : Plan) (told : List Exchange) (now : Plan) (misses : ℕ)
-    (left : List Line) (byte : Option ℕ) (bytes : List ℕ) : Type 0 where
+    (left : List Request) (byte : Option ℕ) (bytes : List ℕ) : Type 0 where
   pub stands : Stands unit plan told now misses left byte
   pub bytes_are : bytes ≡ kept_bytes job stands.outcomes

@@ -1,5 +1,5 @@
 pub mod Exchanges
-pub mod Lines
+pub mod Requests
 pub mod Frames
 pub mod Plans
 pub mod Tries
@@ -8,6 +8,7 @@ pub mod FramesLeft
 pub mod Told
 pub mod Worlds
 pub mod Reads
+pub mod WhenRead
 pub mod Findings
 pub mod Counts
 pub mod Verdicts
@@ -19,4 +20,5 @@ pub mod Guards
 pub mod Doubts
 pub mod Misses
 pub mod Successes
-pub mod WorkedSteps
+pub mod WorkedAccesses
+pub mod LoneUnit

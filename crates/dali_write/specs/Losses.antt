@@ -6,15 +6,25 @@ use Rattle.dali_frame.specs.declared.forward.Frame.{Frame}
 use Rattle.dali_gear.specs.declared.fate.Fate.{Fate}
 use Rattle.dali_gear.specs.Fate.{is_lost, next_fate}
 use Rattle.dali_gear.specs.UnitState.{BankState, UnitState, is_writable}
-use Rattle.dali_gear.specs.SimState.{SimState, SimCarry, unit_answer}
+use Rattle.dali_gear.specs.SimState.{SimState, SimCarry, SimPower, unit_answer}
 use Rattle.dali_write.specs.Exchanges.{Exchange}
-use Rattle.dali_write.specs.declared.step.Step.{Step}
-use Rattle.dali_write.specs.declared.step.Step.TheVariants.{ReadFrom, WriteTo}
+use Rattle.dali_write.specs.declared.access.Access.{Access}
+use Rattle.dali_write.specs.declared.access.Access.TheVariants.{ReadFrom, WriteTo}
 
--- exchanges, the newest first, lead the simulated bus from the first state to the last
-abbrev pub SimRun : List Exchange → SimState → SimState → Type 0
-SimRun [] first last = last ≡ first
-SimRun (x ∷ told) first last = (mid : SimState) × SimRun told first mid × SimCarry mid x.frame x.answer last
+-- Units of these addresses lose their power and get it back, one after another and any number of times. Nothing else
+-- happens.
+pub data SimDrifts (loses : ℕ → Type 0) : SimState → SimState → Type 0 where
+  SimStays : {state : SimState} → SimDrifts loses state state
+  SimLoses : {first mid last : SimState} → (address : ℕ) → loses address → SimDrifts loses first mid
+      → SimPower mid address last → SimDrifts loses first last
+
+-- exchanges, the newest first, lead the simulated bus from the first state to the last; before, between and after them
+-- units of these addresses may lose their power
+abbrev pub SimRun : (ℕ → Type 0) → List Exchange → SimState → SimState → Type 0
+SimRun loses [] first last = SimDrifts loses first last
+SimRun loses (x ∷ told) first last =
+    (before : SimState) × SimRun loses told first before × (after : SimState)
+    × SimCarry before x.frame x.answer after × SimDrifts loses after last
 
 -- the unit at the address answers the frame
 abbrev pub answers_at : ℕ → Fate → Frame → List UnitState → Bool
@@ -28,15 +38,18 @@ is_loss address state frame =
     || ((next_fate state.fates).answer_lost && answers_at address (next_fate state.fates) frame state.units)
 
 -- so many of the exchanges are losses to the unit
-abbrev pub losses : ℕ → (told : List Exchange) (first last : SimState) → SimRun told first last → ℕ
-losses address [] first last run = 0
-losses address (x ∷ told) first last run =
-    (if is_loss address run.0 x.frame then 1 else 0) + losses address told first run.0 run.1
+abbrev pub losses : ℕ → (loses : ℕ → Type 0) (told : List Exchange) (first last : SimState)
+    → SimRun loses told first last → ℕ
+losses address loses [] first last run = 0
+losses address loses (x ∷ told) first last run =
+    (if is_loss address run.0 x.frame then 1 else 0) + losses address loses told first run.0 run.1
 
 -- no fate of the exchanges refuses
-abbrev pub Unrefused : (told : List Exchange) (first last : SimState) → SimRun told first last → Type 0
-Unrefused [] first last run = Unit {0}
-Unrefused (x ∷ told) first last run = ((next_fate run.0.fates).refuse ≡ false) × Unrefused told first run.0 run.1
+abbrev pub Unrefused : (loses : ℕ → Type 0) (told : List Exchange) (first last : SimState)
+    → SimRun loses told first last → Type 0
+Unrefused loses [] first last run = Unit {0}
+Unrefused loses (x ∷ told) first last run =
+    ((next_fate run.0.fates).refuse ≡ false) × Unrefused loses told first run.0 run.1
 
 -- another unit, not enabled
 abbrev pub IsElse : ℕ → UnitState → Type 0
@@ -54,7 +67,7 @@ IsAlone address unit (first ∷ units) =
     ⊎ (IsElse address first × IsAlone address unit units)
 
 -- the unit has the location to read, or can write it
-abbrev pub CanDo : Step → UnitState → Type 0
+abbrev pub CanDo : Access → UnitState → Type 0
 CanDo (ReadFrom location) unit = IsSome (slice_get unit.bank1.bytes location)
 CanDo (WriteTo location byte) unit = IsTrue (is_writable unit.bank1 location)
 

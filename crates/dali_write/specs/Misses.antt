@@ -3,23 +3,25 @@ use Rattle.std.specs.Prelude.{ℕ, ◌+◌, ◌*◌, ◌≤◌, ◌==◌, Bool, 
 use Rattle.std.specs.Prelude.{Some, None, if◌then◌else◌}
 use Rattle.dali_frame.specs.declared.forward.Frame.{Frame}
 use Rattle.dali_frame.specs.declared.forward.Frame.TheVariants.{Dtr0, Write, AskDtr0, AskDtr1, Read}
+use Rattle.dali_bus.specs.Hears.{up}
 use Rattle.dali_write.specs.Exchanges.{Exchange}
-use Rattle.dali_write.specs.declared.line.Wish.{Wish}
-use Rattle.dali_write.specs.declared.line.Wish.TheVariants.{Nothing, Exactly, Anything}
+use Rattle.dali_write.specs.declared.request.Wish.{Wish}
+use Rattle.dali_write.specs.declared.request.Wish.TheVariants.{Nothing, Exactly, Anything}
 use Rattle.dali_write.specs.Frames.{try_frames}
 
--- the location that DTR0 is set to, after a frame
+-- where DTR0 should stand after a frame: a read moves it on
 abbrev pub location_after : Frame → ℕ → ℕ
 location_after (Dtr0 location) before = location
+location_after (Read unit) before = up before
 location_after other before = before
 
--- the location that DTR0 was set to last
+-- where DTR0 should stand: where it was set last, and moved on by the reads since then
 abbrev pub location_in : List Exchange → ℕ
 location_in [] = 0
 location_in (x ∷ told) = location_after x.frame (location_in told)
 
--- what a frame of a checked step asks for, where DTR0 was set so: that DTR1 is 01h, that DTR0 is what it was set to,
--- any byte of a read, the byte of a write
+-- what a frame of a checked access asks for, where DTR0 should stand so: that DTR1 is 01h, that DTR0 stands there, any
+-- byte of a read, the byte of a write
 abbrev pub wish_of : Frame → ℕ → Wish
 wish_of (AskDtr1 unit) location = Exactly 1
 wish_of (AskDtr0 unit) location = Exactly location

@@ -1,5 +1,5 @@
 -- What checked reads among exchanges show. The newest exchange comes first.
-use Rattle.std.specs.Prelude.{◌≡◌, ◌⊎◌, ℕ, List, [], ◌∷◌, ◌++◌, ⊤}
+use Rattle.std.specs.Prelude.{◌≡◌, ◌⊎◌, ℕ, suc, ◌<◌, min, List, [], ◌∷◌, ◌++◌, length, slice_get, Some, ⊤}
 use Rattle.dali_frame.specs.declared.forward.Frame.{Frame}
 use Rattle.dali_frame.specs.declared.forward.Frame.TheVariants.{Write, WriteSilent, Enable, Other}
 use Rattle.dali_write.specs.Exchanges.{Exchange}
@@ -19,12 +19,21 @@ EndsInRead unit location byte told =
     (newer : List Exchange) × (older : List Exchange) × (told ≡ newer ++ older) × IsCheckedRead unit location byte newer
 
 -- a checked read of the location was answered by the byte, and no frame since then enables a unit or writes
-abbrev pub ReadStands : List Exchange → ℕ → ℕ → ℕ → Type 0
-ReadStands [] unit location byte = ⊥
-ReadStands (x ∷ told) unit location byte =
-    EndsInRead unit location byte (x ∷ told) ⊎ (IsPassive x.frame × ReadStands told unit location byte)
+abbrev pub StillRead : List Exchange → ℕ → ℕ → ℕ → Type 0
+StillRead [] unit location byte = ⊥
+StillRead (x ∷ told) unit location byte =
+    EndsInRead unit location byte (x ∷ told) ⊎ (IsPassive x.frame × StillRead told unit location byte)
 
 -- some checked read of the unit was answered
 abbrev pub HasRead : ℕ → List Exchange → Type 0
 HasRead unit [] = ⊥
 HasRead unit (x ∷ told) = ((location : ℕ) × (byte : ℕ) × EndsInRead unit location byte (x ∷ told)) ⊎ HasRead unit told
+
+-- These bytes were told by checked reads, each of them still read: that of 00h, and those of each location up to the one
+-- that it names, at most to FEh.
+pub record ReadsBank (told : List Exchange) (unit : ℕ) (bytes : List ℕ) : Type 0 where
+  pub last : ℕ
+  pub names : StillRead told unit 0 last
+  pub count : length bytes ≡ suc (min last 0xFE)
+  pub bytes_are : (location : ℕ) → location < length bytes
+      → (byte : ℕ) × (slice_get bytes location ≡ Some byte) × StillRead told unit location byte

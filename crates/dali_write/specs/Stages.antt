@@ -1,7 +1,7 @@
 -- What is left to do at a stage of a session.
 use Rattle.std.specs.Prelude.{ℕ, suc, ◌-◌, List, [], drop, Option, Some, None, Result, Ok, Err}
 use Rattle.dali_bank.specs.Order.{Contents}
-use Rattle.dali_write.specs.declared.step.Step.{Step}
+use Rattle.dali_write.specs.declared.access.Access.{Access}
 use Rattle.dali_write.specs.declared.ask.Verdict.{Verdict}
 use Rattle.dali_write.specs.declared.ask.Verdict.TheVariants.{Closed, NotClosed}
 use Rattle.dali_write.specs.declared.stage.Job.{Job}
@@ -10,7 +10,7 @@ use Rattle.dali_write.specs.declared.stage.Stage.{Stage}
 use Rattle.dali_write.specs.declared.stage.Stage.TheVariants.{ReadLength, ReadFormat, ReadFormatLow, Unlock, WriteOn}
 use Rattle.dali_write.specs.declared.stage.Stage.TheVariants.{ReadLock, ReadBack, Close, ReadClosed, ReadAll, ReadOn}
 use Rattle.dali_write.specs.declared.stage.Stage.TheVariants.{Over}
-use Rattle.dali_write.specs.Plans.{Plan, Finish, Check, read_length, read_format, read_format_low, unlock, write_on}
+use Rattle.dali_write.specs.Plans.{Plan, Finish, Make, read_length, read_format, read_format_low, unlock, write_on}
 use Rattle.dali_write.specs.Plans.{read_lock, read_back, close, read_closed, read_all, read_on}
 
 abbrev pub updates_for : Job → List (ℕ × ℕ)
@@ -48,7 +48,7 @@ plan_at job ReadAll = read_all
 plan_at job (ReadOn location last) = read_on location (suc last - location)
 plan_at job (Over verdict) = Finish verdict
 
--- the step at hand, or how the session ended
-abbrev pub step_of : Plan → Result Step Verdict
-step_of (Finish verdict) = Err verdict
-step_of (Check step after) = Ok step
+-- the access at hand, or how the session ended
+abbrev pub access_of : Plan → Result Access Verdict
+access_of (Finish verdict) = Err verdict
+access_of (Make access after) = Ok access

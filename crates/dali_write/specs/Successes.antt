@@ -37,15 +37,18 @@ found_verdict bytes updates =
     if nat_lt (slice_index bytes 0) (greatest updates) then Short
     else (if nat_lt (greatest updates) 0x13 then MayOpen else (if has_format bytes then MayOpen else Format))
 
--- Along the simulated bus, from a unit that is alone at its address: no fate refuses, and it loses less than a step
--- has tries.
-pub record Spared (at : ℕ) (unit : UnitState) (told : List Exchange) (first last : SimState) : Type 0 where
-  pub run : SimRun told first last
+-- Along the simulated bus, where units of these addresses may lose their power, from a unit that is alone at its
+-- address and keeps its power: no fate refuses, and it loses less than an access has tries.
+pub record Spared (loses : ℕ → Type 0) (at : ℕ) (unit : UnitState) (told : List Exchange) (first last : SimState)
+    : Type 0 where
+  pub run : SimRun loses told first last
+  pub keeps_power : loses at → ⊥
   pub alone : IsAlone at unit first.units
-  pub kind : Unrefused told first last run
-  pub few : losses at told first last run < most_tries
+  pub kind : Unrefused loses told first last run
+  pub few : losses at loses told first last run < most_tries
 
 -- it missed no more often than it lost
-abbrev pub MissesByLosses : (at : ℕ) (unit : UnitState) (told : List Exchange) (first last : SimState)
-    → Spared at unit told first last → Type 0
-MissesByLosses at unit told first last spared = misses_in told ≤ losses at told first last spared.run
+abbrev pub MissesByLosses : (loses : ℕ → Type 0) (at : ℕ) (unit : UnitState) (told : List Exchange)
+    (first last : SimState)
+    → Spared loses at unit told first last → Type 0
+MissesByLosses loses at unit told first last spared = misses_in told ≤ losses at loses told first last spared.run

@@ -1,13 +1,13 @@
 -- What a session was told.
 use Rattle.std.specs.Prelude.{◌≡◌, ℕ, ◌+◌, ◌-◌, ◌*◌, List, length, drop, Option, None, slice_get}
 use Rattle.dali_write.specs.Exchanges.{Exchange}
-use Rattle.dali_write.specs.declared.line.Line.{Line}
+use Rattle.dali_write.specs.declared.request.Request.{Request}
 use Rattle.dali_write.specs.declared.ask.Ask.{Ask}
 use Rattle.dali_bank.specs.Order.{Contents}
 use Rattle.dali_write.specs.declared.stage.Job.{Job}
 use Rattle.dali_write.specs.declared.stage.Job.TheVariants.{Fresh, Opened, Closing}
 use Rattle.dali_write.specs.declared.session.Session.{Session}
-use Rattle.dali_write.specs.Tries.{plan_lines, ask_at}
+use Rattle.dali_write.specs.Tries.{plan_requests, ask_at}
 use Rattle.dali_write.specs.Found.{StandsWith}
 use Rattle.dali_write.specs.FramesLeft.{limit_at}
 use Rattle.dali_write.specs.Stages.{plan_of, plan_at}
@@ -34,13 +34,13 @@ IsClosing unit s = (unit_of s ≡ unit) × (job_of s ≡ Closing)
 
 -- what the session wants
 abbrev pub aim_of : Session → Ask
-aim_of s = ask_at (plan_at s.job s.stage) (drop s.number (plan_lines s.unit (plan_at s.job s.stage))) s.going
+aim_of s = ask_at (plan_at s.job s.stage) (drop s.number (plan_requests s.unit (plan_at s.job s.stage))) s.going
 
 -- the frame at hand, with the answer that it wants
-abbrev pub line_at_hand : Session → Option Line
-line_at_hand s = slice_get (plan_lines (s.unit) (plan_at s.job s.stage)) s.number
+abbrev pub request_at_hand : Session → Option Request
+request_at_hand s = slice_get (plan_requests (s.unit) (plan_at s.job s.stage)) s.number
 
--- a step begins, with its first try
+-- an access begins, with its first try
 abbrev pub BeginsTry : Session → Type 0
 BeginsTry s = (s.misses ≡ 0) × (s.number ≡ 0) × (s.byte ≡ None)
 
@@ -48,9 +48,9 @@ BeginsTry s = (s.misses ≡ 0) × (s.number ≡ 0) × (s.byte ≡ None)
 unfoldable pub Told : List Exchange → Session → Type 0
 Told told s =
     StandsWith s.job (s.unit) (plan_of s.job) told (plan_at s.job s.stage) s.misses
-    (drop s.number (plan_lines (s.unit) (plan_at s.job s.stage))) s.byte s.bytes.items
+    (drop s.number (plan_requests (s.unit) (plan_at s.job s.stage))) s.byte s.bytes.items
 
--- the most frames that are still to come: those from the stage on, less those of the step at hand that its tries so
+-- the most frames that are still to come: those from the stage on, less those of the access at hand that its tries so
 -- far used up
 abbrev pub frames_left : Session → ℕ
-frames_left s = limit_at s.job s.stage - (s.misses * length (plan_lines s.unit (plan_at s.job s.stage)) + s.number)
+frames_left s = limit_at s.job s.stage - (s.misses * length (plan_requests s.unit (plan_at s.job s.stage)) + s.number)

@@ -1,4 +1,4 @@
--- The whole steps of a session, the oldest first, and how many tries missed.
+-- The whole accesses of a session, the oldest first, and how many tries missed.
 use Rattle.std.specs.Prelude.{◌≡◌, ℕ, ◌+◌, ◌*◌, ◌≤◌, List, [], ◌∷◌, ◌++◌, length, Option, Some}
 use Rattle.std.proofs.Common.{inl, inr}
 use Rattle.dali_write.specs.Exchanges.{Exchange}
@@ -6,28 +6,28 @@ use Rattle.dali_write.specs.declared.ask.Verdict.{Verdict}
 use Rattle.dali_write.specs.declared.ask.Verdict.TheVariants.{Read}
 use Rattle.dali_write.specs.Frames.{try_frames}
 use Rattle.dali_write.specs.Counts.{read_all_frames}
-use Rattle.dali_write.specs.Plans.{Plan, Finish, Check, goes_on, read_all}
-use Rattle.dali_write.specs.Tries.{most_tries, StepEnds}
+use Rattle.dali_write.specs.Plans.{Plan, Finish, Make, goes_on, read_all}
+use Rattle.dali_write.specs.Tries.{most_tries, AccessEnds}
 
--- whole steps lead from the plan to what is left of it
+-- whole accesses lead from the plan to what is left of it
 abbrev pub Walk : ℕ → Plan → List (Option ℕ) → List Exchange → Plan → Type 0
 Walk unit plan [] told end = (told ≡ []) × (plan ≡ end)
 Walk unit plan (outcome ∷ outcomes) told end =
-    (newer : List Exchange) × (older : List Exchange) × (told ≡ newer ++ older) × StepEnds unit plan outcome older
+    (newer : List Exchange) × (older : List Exchange) × (told ≡ newer ++ older) × AccessEnds unit plan outcome older
     × Walk unit (goes_on plan outcome) outcomes newer end
 
--- so many tries of a step missed
-abbrev pub step_misses : (unit : ℕ) (plan : Plan) (outcome : Option ℕ) (told : List Exchange)
-    → StepEnds unit plan outcome told → ℕ
-step_misses unit (Finish verdict) outcome told ends = 0
-step_misses unit (Check step after) outcome told (inl done) = done.2
-step_misses unit (Check step after) outcome told (inr failed) = most_tries
+-- so many tries of an access missed
+abbrev pub access_misses : (unit : ℕ) (plan : Plan) (outcome : Option ℕ) (told : List Exchange)
+    → AccessEnds unit plan outcome told → ℕ
+access_misses unit (Finish verdict) outcome told ends = 0
+access_misses unit (Make access after) outcome told (inl done) = done.2
+access_misses unit (Make access after) outcome told (inr failed) = most_tries
 
 abbrev pub misses_of : (unit : ℕ) (plan : Plan) (outcomes : List (Option ℕ)) (told : List Exchange) (end : Plan)
     → Walk unit plan outcomes told end → ℕ
 misses_of unit plan [] told end walk = 0
 misses_of unit plan (outcome ∷ outcomes) told end walk =
-    step_misses unit plan outcome walk.1 walk.3 + misses_of unit (goes_on plan outcome) outcomes walk.0 end walk.4
+    access_misses unit plan outcome walk.1 walk.3 + misses_of unit (goes_on plan outcome) outcomes walk.0 end walk.4
 
 -- The plan ended so. It took this many frames where no try missed, and for each that did at most the frames of a try
 -- more.

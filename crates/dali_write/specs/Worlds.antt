@@ -1,15 +1,44 @@
 -- What exchanges do to a world of units.
-use Rattle.std.specs.Prelude.{◌≡◌, ◌≢◌, ◌⊎◌, ℕ, false, List, [], ◌∷◌, ◌++◌, Option, Some, None, IsSome}
-use Rattle.dali_bus.specs.World.{World, Gear, Memory, stored}
-use Rattle.dali_bus.specs.Carry.{Carry}
-use Rattle.dali_write.specs.Exchanges.{Exchange}
-use Rattle.dali_write.specs.Lines.{read_lines, select_lines}
+use Rattle.std.specs.Prelude.{◌≡◌, ◌≢◌, ◌≤◌, ◌⊎◌, ℕ, false, List, [], ◌∷◌, ◌++◌, Option, Some, None, IsSome, is_some}
+use Rattle.dali_bus.specs.World.{World, Gear, Memory, stored, byte_at}
+use Rattle.dali_bus.specs.Power.{relocked, LosesPower}
+use Rattle.dali_bus.specs.Carry.{Carry, BusEvent, WorldStep, HasLostPower}
+use Rattle.dali_bus.specs.Chain.{Chain}
+use Rattle.dali_write.specs.Exchanges.{Exchange, exchanges_of}
+use Rattle.dali_write.specs.Requests.{read_requests, select_requests}
 use Rattle.dali_write.specs.Tries.{Trying, byte_of}
 
--- exchanges, the newest first, lead from the first world to the last
-abbrev pub Run : List Exchange → World → World → Type 0
-Run [] first last = last ≡ first
-Run (x ∷ told) first last = (mid : World) × Run told first mid × Carry mid x.frame x.answer last
+-- the address is one of these
+abbrev pub IsAmong : List ℕ → ℕ → Type 0
+IsAmong [] address = ⊥
+IsAmong (first ∷ more) address = (first ≡ address) ⊎ IsAmong more address
+
+-- Units of these addresses lose their power and get it back, one after another and any number of times. Nothing else
+-- happens.
+pub data Drifts (loses : ℕ → Type 0) : World → World → Type 0 where
+  Stays : {world : World} → Drifts loses world world
+  Loses : {first mid last : World} → (address : ℕ) → loses address → Drifts loses first mid
+      → LosesPower mid address last → Drifts loses first last
+
+-- exchanges, the newest first, lead from the first world to the last; before, between and after them units of these
+-- addresses may lose their power
+abbrev pub Run : (ℕ → Type 0) → List Exchange → World → World → Type 0
+Run loses [] first last = Drifts loses first last
+Run loses (x ∷ told) first last =
+    (before : World) × (after : World) × Run loses told first before × Carry before x.frame x.answer after
+    × Drifts loses after last
+
+-- a chain of worlds whose frames are these exchanges, and in which only units of these addresses lose their power
+pub record ChainOf (loses : ℕ → Type 0) (told : List Exchange) (first last : World) : Type 0 where
+  pub past : List BusEvent
+  pub told_is : exchanges_of past ≡ told
+  pub among : (address : ℕ) → HasLostPower address past → loses address
+  pub chain : Chain WorldStep first past last
+
+-- the byte is as it was; or its place is a lock byte, the unit has lost its power, and the byte is FFh since then
+abbrev pub MayRelock : Type 0 → ℕ → ℕ → Option ℕ → Option ℕ → Type 0
+MayRelock lost bank location old new =
+    (new ≡ old) ⊎ (lost × (1 ≤ bank) × (location ≡ 2) × (new ≡ relocked old))
 
 abbrev pub memory_of : Option Gear → Option Memory
 memory_of None = None
@@ -23,27 +52,32 @@ abbrev pub IsOff : Option Gear → Type 0
 IsOff None = Unit {0}
 IsOff (Some gear) = gear.enabled ≡ false
 
--- the unit keeps its memory, and isn't newly enabled
-pub record KeepsAt (first last : World) (address : ℕ) : Type 0 where
-  pub memory : memory_at last address ≡ memory_at first address
+-- the unit stays there, keeps its memory but for lock bytes where it is one that loses its power, and isn't newly
+-- enabled
+pub record KeepsAt (loses : ℕ → Type 0) (first last : World) (address : ℕ) : Type 0 where
+  pub there : is_some (last address) ≡ is_some (first address)
+  pub memory : (bank location : ℕ)
+      → MayRelock (loses address) bank location (byte_at first address bank location)
+      (byte_at last address bank location)
   pub off : IsOff (first address) → IsOff (last address)
 
 -- a checked read, answered by the byte
 abbrev pub IsCheckedRead : ℕ → ℕ → ℕ → List Exchange → Type 0
-IsCheckedRead unit location byte tried = Trying (read_lines unit location) tried [] × (byte_of tried ≡ Some byte)
+IsCheckedRead unit location byte tried = Trying (read_requests unit location) tried [] × (byte_of tried ≡ Some byte)
 
--- the unit has the byte at the location of bank 1, and isn't enabled
-pub record Shows (world : World) (unit location byte : ℕ) : Type 0 where
+-- the unit has the byte at the location of bank 1, or its lock byte is FFh since it lost its power, and it isn't
+-- enabled
+pub record Shows (loses : ℕ → Type 0) (world : World) (unit location byte : ℕ) : Type 0 where
   pub gear : Gear
   pub is : world unit ≡ Some gear
-  pub byte_is : gear.memory 1 location ≡ Some byte
+  pub byte_is : MayRelock (loses unit) 1 location (Some byte) (gear.memory 1 location)
   pub off : gear.enabled ≡ false
 
 -- the newest exchanges made sure that the unit has selected the location of bank 1
 abbrev pub Selects : ℕ → ℕ → List Exchange → Type 0
 Selects unit location told =
     (newer : List Exchange) × (older : List Exchange) × (told ≡ newer ++ older)
-    × Trying (select_lines unit location) newer []
+    × Trying (select_requests unit location) newer []
 
 -- no unit but this one is enabled
 abbrev pub OnlyEnabled : ℕ → World → Type 0

@@ -13,7 +13,7 @@ pub enum Verdict {
     Short,
     /// A fresh session: the content format isn't 0003h.
     Format,
-    /// A fresh or reading session: a step failed.
+    /// A fresh or reading session: an access failed.
     Silent,
     /// An opened session: each location of the order holds its old byte or the new one, and the unit
     /// isn't write-enabled.

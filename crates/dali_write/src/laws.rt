@@ -1,4 +1,4 @@
-//! Laws of checked steps and sessions. Each is the contract of a function that does nothing.
+//! Laws of checked accesses and sessions. Each is the contract of a function that does nothing.
 ghost use Rattle.std.specs.Prelude.{◌↔◌, ◌≡◌, ◌∷◌, ◌≤◌, ◌<◌, ◌⊎◌, ◌+◌, ◌*◌, List, [], length, slice_get, Some, ℕ};
 ghost use Rattle.std.specs.Prelude.{Option};
 ghost use Rattle.dali_frame.specs.declared.forward.Frame.{Frame};
@@ -6,8 +6,7 @@ ghost use Rattle.dali_frame.specs.declared.forward.Frame.TheVariants.{Write};
 ghost use Rattle.dali_write.specs.declared.ask.Ask.{Ask};
 ghost use Rattle.dali_bus.specs.World.{World, Gear};
 ghost use Rattle.dali_bus.specs.Carry.{Carry};
-ghost use Rattle.dali_write.specs.Exchanges.{Exchange, by_exchange};
-ghost use Rattle.dali_bus.specs.Chain.{Chain};
+ghost use Rattle.dali_write.specs.Exchanges.{Exchange};
 ghost use Rattle.dali_write.specs.declared.session.Session.{Session};
 ghost use Rattle.dali_write.specs.declared.ask.Verdict.{Verdict};
 ghost use Rattle.dali_write.specs.Plans.{Plan, greatest, unlock, close, read_length, read_all};
@@ -20,9 +19,9 @@ ghost use Rattle.dali_write.specs.Frames.{read_frames, write_frames};
 ghost use Rattle.dali_write.specs.Counts.{done_frames, frame_limit};
 ghost use Rattle.dali_gear.specs.SimState.{SimState, AreApart, world_of};
 ghost use Rattle.dali_gear.specs.UnitState.{UnitState, gear_of};
-ghost use Rattle.dali_write.specs.declared.step.Step.{Step};
-ghost use Rattle.dali_write.specs.declared.step.Step.TheVariants.{ReadFrom, WriteTo};
-ghost use Rattle.dali_write.specs.Lines.{step_lines};
+ghost use Rattle.dali_write.specs.declared.access.Access.{Access};
+ghost use Rattle.dali_write.specs.declared.access.Access.TheVariants.{ReadFrom, WriteTo};
+ghost use Rattle.dali_write.specs.Requests.{access_requests};
 ghost use Rattle.dali_write.specs.Tries.{most_tries, Missed, Misses, Succeeds, Fails};
 ghost use Rattle.dali_write.specs.Walks.{Walk, misses_of, Took, TookAll};
 ghost use Rattle.dali_write.specs.Misses.{misses_in};
@@ -33,12 +32,16 @@ ghost use Rattle.dali_write.specs.Losses.{SimRun, losses, Unrefused, IsAlone, Ca
 ghost use Rattle.dali_write.specs.Touches.{Touches, writes_of};
 ghost use Rattle.dali_write.specs.Findings.{Rests};
 ghost use Rattle.dali_write.specs.Guards.{IsGuarded};
-ghost use Rattle.dali_write.specs.Reads.{ReadStands, HasRead};
-ghost use Rattle.dali_write.specs.Worlds.{Run, IsCheckedRead, Shows, KeepsAt, Selects, OnlyEnabled, MayWrite};
+ghost use Rattle.dali_write.specs.Reads.{StillRead, HasRead, ReadsBank};
+ghost use Rattle.dali_write.specs.Worlds.{IsAmong, Run, ChainOf, IsCheckedRead, Shows, KeepsAt, Selects, OnlyEnabled};
+ghost use Rattle.dali_write.specs.Worlds.{MayWrite};
+ghost use Rattle.dali_write.specs.WhenRead.{WhenRead};
 
-/// Exchanges lead from one world to another exactly where a chain of worlds does.
+/// Exchanges lead from one world to another exactly where a chain of worlds does whose frames they are, and in which
+/// no units but those of these addresses lose their power.
 pub fn runs_are_chains()
-    ensures { (told : List Exchange) (first last : World) → Run told first last ↔ Chain by_exchange first told last }
+    ensures { (loses : List ℕ) (told : List Exchange) (first last : World)
+        → Run (IsAmong loses) told first last ↔ ChainOf (IsAmong loses) told first last }
 {}
 
 /// A session wants what its plan asks after what it was told, and ends so.
@@ -52,29 +55,39 @@ pub fn sessions_send_few_frames()
     ensures { (told : List Exchange) (s : Session) → Told told s → length told ≤ frame_limit (job_of s) }
 {}
 
-/// A checked read tells the byte at its place, and then the unit isn't enabled; no memory changes,
-/// and no unit is newly enabled.
+/// A checked read tells the byte at its place, and then the unit isn't enabled; no memory changes but lock bytes of
+/// units that lose their power, and no unit is newly enabled.
 pub fn checked_reads_are_true()
-    ensures byte { (tried : List Exchange) (first last : World) (unit location byte : ℕ) → Run tried first last
-        → IsCheckedRead unit location byte tried
-        → Shows last unit location byte }
-    ensures quiet { (tried : List Exchange) (first last : World) (unit location byte : ℕ) → Run tried first last
-        → IsCheckedRead unit location byte tried
-        → (address : ℕ) → KeepsAt first last address }
+    ensures byte { (loses : List ℕ) (tried : List Exchange) (first last : World) (unit location byte : ℕ)
+        → Run (IsAmong loses) tried first last → IsCheckedRead unit location byte tried
+        → Shows (IsAmong loses) last unit location byte }
+    ensures quiet { (loses : List ℕ) (tried : List Exchange) (first last : World) (unit location byte : ℕ)
+        → Run (IsAmong loses) tried first last → IsCheckedRead unit location byte tried
+        → (address : ℕ) → KeepsAt (IsAmong loses) first last address }
 {}
 
-/// What a checked read told is still so until a frame enables a unit or writes.
-pub fn standing_reads_are_true()
-    ensures { (told : List Exchange) (first last : World) (unit location byte : ℕ) → Run told first last
-        → ReadStands told unit location byte
-        → Shows last unit location byte }
+/// What a checked read told is still so until a frame enables a unit or writes; the lock byte of a unit that lost its
+/// power may be FFh.
+pub fn still_reads_are_true()
+    ensures { (loses : List ℕ) (told : List Exchange) (first last : World) (unit location byte : ℕ)
+        → Run (IsAmong loses) told first last → StillRead told unit location byte
+        → Shows (IsAmong loses) last unit location byte }
+{}
+
+/// What a checked read told was there when the read reached the unit, and from the answer to its second frame to that
+/// to its seventh the unit kept its power, whichever units lose theirs before, between and behind.
+pub fn read_bytes_were_there()
+    ensures { (loses : List ℕ) (told : List Exchange) (first last : World) (unit location byte : ℕ)
+        → Run (IsAmong loses) told first last → StillRead told unit location byte
+        → WhenRead (IsAmong loses) told first last unit location byte }
 {}
 
 /// Where the unit was made sure to have selected the location, and no other unit is enabled, a
-/// write stores its byte there or nothing.
+/// write stores its byte there or nothing, whichever units lose their power before it.
 pub fn guarded_writes_are_safe()
-    ensures { (told : List Exchange) (first before last : World) (unit location byte : ℕ) (answer : Option ℕ)
-        → Run told first before → Selects unit location told → OnlyEnabled unit before
+    ensures { (loses : List ℕ) (told : List Exchange) (first before last : World) (unit location byte : ℕ)
+        (answer : Option ℕ)
+        → Run (IsAmong loses) told first before → Selects unit location told → OnlyEnabled unit before
         → Carry before (Write byte) answer last
         → MayWrite before unit location byte answer last }
 {}
@@ -94,49 +107,62 @@ pub fn sessions_end_by_their_kind()
 /// What a session's verdict rests on: checked reads of its own that still stand.
 pub fn verdicts_rest_on_reads()
     ensures opened { (told : List Exchange) (unit : ℕ) (updates : List (ℕ × ℕ)) (verdict : Verdict)
-        → Wants unit (unlock updates) told (Ask.Ended verdict) → Rests (ReadStands told unit) updates verdict }
+        → Wants unit (unlock updates) told (Ask.Ended verdict) → Rests (StillRead told unit) updates verdict }
     ensures fresh { (told : List Exchange) (unit : ℕ) (updates : List (ℕ × ℕ)) (verdict : Verdict)
-        → Wants unit (read_length updates) told (Ask.Ended verdict) → Rests (ReadStands told unit) updates verdict }
+        → Wants unit (read_length updates) told (Ask.Ended verdict) → Rests (StillRead told unit) updates verdict }
     ensures closing { (told : List Exchange) (unit : ℕ) (verdict : Verdict)
         → Wants unit (close Verdict.Closed Verdict.NotClosed) told (Ask.Ended verdict)
-        → Rests (ReadStands told unit) [] verdict }
+        → Rests (StillRead told unit) [] verdict }
+    ensures reading { (told : List Exchange) (s : Session) → Told told s → job_of s ≡ Job.Reading
+        → aim_of s ≡ Ask.Ended Verdict.Read → ReadsBank told (unit_of s) (bytes_read s) }
 {}
 
-/// What a session's verdict says of the world.
+/// What a session's verdict says of the world, whichever units lose their power meanwhile.
 pub fn verdicts_are_true()
-    ensures opened { (told : List Exchange) (first last : World) (unit : ℕ) (updates : List (ℕ × ℕ)) (verdict : Verdict)
-        → Run told first last → Wants unit (unlock updates) told (Ask.Ended verdict) → Says unit updates last verdict }
-    ensures fresh { (told : List Exchange) (first last : World) (unit : ℕ) (updates : List (ℕ × ℕ)) (verdict : Verdict)
-        → Run told first last → Wants unit (read_length updates) told (Ask.Ended verdict)
-        → Says unit updates last verdict }
-    ensures closing { (told : List Exchange) (first last : World) (unit : ℕ) (verdict : Verdict)
-        → Run told first last → Wants unit (close Verdict.Closed Verdict.NotClosed) told (Ask.Ended verdict)
-        → Says unit [] last verdict }
-    ensures reading { (told : List Exchange) (s : Session) (first last : World) → Told told s → job_of s ≡ Job.Reading
-        → aim_of s ≡ Ask.Ended Verdict.Read
-        → Run told first last → ShowsBank last (unit_of s) (bytes_read s) }
+    ensures opened { (loses : List ℕ) (told : List Exchange) (first last : World) (unit : ℕ)
+        (updates : List (ℕ × ℕ)) (verdict : Verdict)
+        → Run (IsAmong loses) told first last → Wants unit (unlock updates) told (Ask.Ended verdict)
+        → Says (IsAmong loses) unit updates last verdict }
+    ensures fresh { (loses : List ℕ) (told : List Exchange) (first last : World) (unit : ℕ)
+        (updates : List (ℕ × ℕ)) (verdict : Verdict)
+        → Run (IsAmong loses) told first last → Wants unit (read_length updates) told (Ask.Ended verdict)
+        → Says (IsAmong loses) unit updates last verdict }
+    ensures closing { (loses : List ℕ) (told : List Exchange) (first last : World) (unit : ℕ) (verdict : Verdict)
+        → Run (IsAmong loses) told first last
+        → Wants unit (close Verdict.Closed Verdict.NotClosed) told (Ask.Ended verdict)
+        → Says (IsAmong loses) unit [] last verdict }
+    ensures reading { (loses : List ℕ) (told : List Exchange) (s : Session) (first last : World) → Told told s
+        → job_of s ≡ Job.Reading → aim_of s ≡ Ask.Ended Verdict.Read
+        → Run (IsAmong loses) told first last → ShowsBank (IsAmong loses) last (unit_of s) (bytes_read s) }
 {}
 
-/// A session that looks whether a bank suits, or reads it, changes no memory and enables no unit.
+/// A session that looks whether a bank suits, or reads it, changes no memory and enables no unit; lock bytes of units
+/// that lose their power may change.
 pub fn readers_are_quiet()
-    ensures fresh { (told : List Exchange) (first last : World) (unit : ℕ) (updates : List (ℕ × ℕ)) (ask : Ask)
-        → Run told first last → Wants unit (read_length updates) told ask → (address : ℕ) → KeepsAt first last address }
-    ensures reading { (told : List Exchange) (first last : World) (unit : ℕ) (ask : Ask)
-        → Run told first last → Wants unit read_all told ask → (address : ℕ) → KeepsAt first last address }
+    ensures fresh { (loses : List ℕ) (told : List Exchange) (first last : World) (unit : ℕ)
+        (updates : List (ℕ × ℕ)) (ask : Ask)
+        → Run (IsAmong loses) told first last → Wants unit (read_length updates) told ask
+        → (address : ℕ) → KeepsAt (IsAmong loses) first last address }
+    ensures reading { (loses : List ℕ) (told : List Exchange) (first last : World) (unit : ℕ) (ask : Ask)
+        → Run (IsAmong loses) told first last → Wants unit read_all told ask
+        → (address : ℕ) → KeepsAt (IsAmong loses) first last address }
 {}
 
 /// Where no other unit is enabled, a session changes only the places that it writes, at its unit,
 /// and each of them holds its old byte or a written one. No other unit's memory changes, and none
-/// is newly enabled.
+/// is newly enabled. Lock bytes of units that lose their power may change besides.
 pub fn sessions_touch_their_places_alone()
-    ensures opened { (told : List Exchange) (first last : World) (unit : ℕ) (updates : List (ℕ × ℕ)) (ask : Ask)
-        → OnlyEnabled unit first → Run told first last → Wants unit (unlock updates) told ask
-        → Touches (writes_of updates) unit first last }
-    ensures closing { (told : List Exchange) (first last : World) (unit : ℕ) (ask : Ask)
-        → OnlyEnabled unit first → Run told first last → Wants unit (close Verdict.Closed Verdict.NotClosed) told ask
-        → Touches ((2, 0xFF) ∷ []) unit first last }
-    ensures enabled { (told : List Exchange) (first last : World) (unit : ℕ) (updates : List (ℕ × ℕ)) (ask : Ask)
-        → OnlyEnabled unit first → Run told first last
+    ensures opened { (loses : List ℕ) (told : List Exchange) (first last : World) (unit : ℕ)
+        (updates : List (ℕ × ℕ)) (ask : Ask)
+        → OnlyEnabled unit first → Run (IsAmong loses) told first last → Wants unit (unlock updates) told ask
+        → Touches (IsAmong loses) (writes_of updates) unit first last }
+    ensures closing { (loses : List ℕ) (told : List Exchange) (first last : World) (unit : ℕ) (ask : Ask)
+        → OnlyEnabled unit first → Run (IsAmong loses) told first last
+        → Wants unit (close Verdict.Closed Verdict.NotClosed) told ask
+        → Touches (IsAmong loses) ((2, 0xFF) ∷ []) unit first last }
+    ensures enabled { (loses : List ℕ) (told : List Exchange) (first last : World) (unit : ℕ)
+        (updates : List (ℕ × ℕ)) (ask : Ask)
+        → OnlyEnabled unit first → Run (IsAmong loses) told first last
         → Wants unit (unlock updates) told ask ⊎ Wants unit (close Verdict.Closed Verdict.NotClosed) told ask
         → OnlyEnabled unit last }
 {}
@@ -156,45 +182,50 @@ pub fn wanted_frames_are_guarded()
         → IsGuarded [] unit told frame }
 {}
 
-/// What the simulated bus does with exchanges is what its units may do.
+/// What the simulated bus does with exchanges, while units of these addresses may lose their power, is what its units
+/// may do.
 pub fn simulated_runs_are_runs()
-    ensures { (told : List Exchange) (first last : SimState) → SimRun told first last
-        → Run told (world_of first.units) (world_of last.units) }
+    ensures { (loses : List ℕ) (told : List Exchange) (first last : SimState) → SimRun (IsAmong loses) told first last
+        → Run (IsAmong loses) told (world_of first.units) (world_of last.units) }
 {}
 
 /// On the simulated bus, where no fate refuses, no other unit is write-enabled, and the unit has
-/// the location to read or can write it, a try misses only by a loss to the unit.
+/// the location to read or can write it, a try misses only by a loss to the unit. Other units may lose
+/// their power meanwhile.
 pub fn tries_miss_by_losses()
-    ensures { (at : ℕ) (step : Step) (unit : UnitState) (told : List Exchange) (first last : SimState)
-        (run : SimRun told first last)
-        → IsAlone at unit first.units → CanDo step unit → Unrefused told first last run
-        → Missed (step_lines at step) told → 1 ≤ losses at told first last run }
+    ensures { (loses : List ℕ) (at : ℕ) (access : Access) (unit : UnitState) (told : List Exchange)
+        (first last : SimState) (run : SimRun (IsAmong loses) told first last)
+        → (IsAmong loses at → ⊥) → IsAlone at unit first.units → CanDo access unit
+        → Unrefused (IsAmong loses) told first last run
+        → Missed (access_requests at access) told → 1 ≤ losses at (IsAmong loses) told first last run }
 {}
 
-/// With the same premises, a step misses no more often than its unit has losses, and with fewer of
-/// them than a step has tries it succeeds.
-pub fn steps_outlive_losses()
-    ensures misses { (at : ℕ) (step : Step) (unit : UnitState) (misses : ℕ) (told : List Exchange)
-        (first last : SimState) (run : SimRun told first last)
-        → IsAlone at unit first.units → CanDo step unit → Unrefused told first last run
-        → Misses (step_lines at step) misses told → misses ≤ losses at told first last run }
-    ensures succeeds { (at : ℕ) (step : Step) (unit : UnitState) (outcome : Option ℕ) (told : List Exchange)
-        (first last : SimState) (run : SimRun told first last)
-        → IsAlone at unit first.units → CanDo step unit → Unrefused told first last run
-        → losses at told first last run < most_tries
-        → Succeeds (step_lines at step) outcome told ⊎ Fails (step_lines at step) outcome told
-        → Succeeds (step_lines at step) outcome told }
+/// With the same premises, an access misses no more often than its unit has losses, and with fewer of
+/// them than an access has tries it succeeds.
+pub fn accesses_outlive_losses()
+    ensures misses { (loses : List ℕ) (at : ℕ) (access : Access) (unit : UnitState) (misses : ℕ)
+        (told : List Exchange) (first last : SimState) (run : SimRun (IsAmong loses) told first last)
+        → (IsAmong loses at → ⊥) → IsAlone at unit first.units → CanDo access unit
+        → Unrefused (IsAmong loses) told first last run
+        → Misses (access_requests at access) misses told → misses ≤ losses at (IsAmong loses) told first last run }
+    ensures succeeds { (loses : List ℕ) (at : ℕ) (access : Access) (unit : UnitState) (outcome : Option ℕ)
+        (told : List Exchange) (first last : SimState) (run : SimRun (IsAmong loses) told first last)
+        → (IsAmong loses at → ⊥) → IsAlone at unit first.units → CanDo access unit
+        → Unrefused (IsAmong loses) told first last run
+        → losses at (IsAmong loses) told first last run < most_tries
+        → Succeeds (access_requests at access) outcome told ⊎ Fails (access_requests at access) outcome told
+        → Succeeds (access_requests at access) outcome told }
 {}
 
 /// The limits and the exact counts of sessions, as numbers.
 pub fn counts_are_these()
     ensures tries { most_tries ≡ 8 }
-    ensures fresh { (order : Contents) → frame_limit (Job.Fresh order) ≡ 120 }
-    ensures opened { (order : Contents) → frame_limit (Job.Opened order) ≡ 96 * length order.updates + 248 }
-    ensures closing { frame_limit Job.Closing ≡ 96 }
-    ensures reading { frame_limit Job.Reading ≡ 10200 }
-    ensures done { (updates : ℕ) → done_frames updates ≡ 12 * updates + 19 }
-    ensures steps { (read_frames ≡ 5) × (write_frames ≡ 7) }
+    ensures fresh { (order : Contents) → frame_limit (Job.Fresh order) ≡ 168 }
+    ensures opened { (order : Contents) → frame_limit (Job.Opened order) ≡ 112 * length order.updates + 280 }
+    ensures closing { frame_limit Job.Closing ≡ 112 }
+    ensures reading { frame_limit Job.Reading ≡ 14280 }
+    ensures done { (updates : ℕ) → done_frames updates ≡ 14 * updates + 21 }
+    ensures frames { (read_frames ≡ 7) × (write_frames ≡ 7) }
 {}
 
 /// How many frames an opened session took that ended Done.
@@ -227,7 +258,7 @@ pub fn sessions_take_exactly()
         → TookAll unit told }
 {}
 
-/// A session gives up only where the step that it had last failed, in each of its tries: a read of
+/// A session gives up only where the access that it had last failed, in each of its tries: a read of
 /// the length or of the content format, of the lock byte, or of a location.
 pub fn sessions_give_up_late()
     ensures fresh { (told : List Exchange) (unit : ℕ) (updates : List (ℕ × ℕ))
@@ -248,7 +279,7 @@ pub fn unreached_units_were_not_read()
         → ⊥ }
 {}
 
-/// A session that carries an order out ends in doubt only because a step failed in each of its tries,
+/// A session that carries an order out ends in doubt only because an access failed in each of its tries,
 /// or because a checked read of the lock byte or of an update's location found another byte than
 /// must be there.
 pub fn doubts_have_a_cause()
@@ -258,32 +289,33 @@ pub fn doubts_have_a_cause()
 {}
 
 /// On the simulated bus a checked write that succeeded has stored its byte and nothing else,
-/// whatever was lost or refused before.
+/// whatever was lost or refused before, and whichever other units lost their power.
 pub fn successful_writes_are_stored()
-    ensures { (at location byte : ℕ) (unit : UnitState) (outcome : Option ℕ) (told : List Exchange)
+    ensures { (loses : List ℕ) (at location byte : ℕ) (unit : UnitState) (outcome : Option ℕ) (told : List Exchange)
         (first last : SimState)
-        → SimRun told first last
-        → IsAlone at unit first.units → Succeeds (step_lines at (WriteTo location byte)) outcome told
+        → SimRun (IsAmong loses) told first last → (IsAmong loses at → ⊥)
+        → IsAlone at unit first.units → Succeeds (access_requests at (WriteTo location byte)) outcome told
         → (now : UnitState) × IsAlone at now last.units × OnlyDiffers unit.bank1 location now.bank1
         × (slice_get now.bank1.bytes location ≡ Some byte) }
 {}
 
-/// On the simulated bus a step leaves its unit alone at its address, whatever is lost or refused. A
-/// checked read leaves bank 1 as it was, and so does a checked write but for its location.
-pub fn steps_keep_the_bank()
-    ensures read { (at location : ℕ) (unit : UnitState) (outcome : Option ℕ) (told : List Exchange)
+/// On the simulated bus an access leaves its unit alone at its address, whatever is lost or refused, and
+/// whichever other units lose their power. A checked read leaves bank 1 as it was, and so does a checked write but
+/// for its location.
+pub fn accesses_keep_the_bank()
+    ensures read { (loses : List ℕ) (at location : ℕ) (unit : UnitState) (outcome : Option ℕ) (told : List Exchange)
         (first last : SimState)
-        → SimRun told first last
+        → SimRun (IsAmong loses) told first last → (IsAmong loses at → ⊥)
         → IsAlone at unit first.units
-        → Succeeds (step_lines at (ReadFrom location)) outcome told
-        ⊎ Fails (step_lines at (ReadFrom location)) outcome told
+        → Succeeds (access_requests at (ReadFrom location)) outcome told
+        ⊎ Fails (access_requests at (ReadFrom location)) outcome told
         → (now : UnitState) × IsAlone at now last.units × (now.bank1 ≡ unit.bank1) }
-    ensures write { (at location byte : ℕ) (unit : UnitState) (outcome : Option ℕ) (told : List Exchange)
-        (first last : SimState)
-        → SimRun told first last
+    ensures write { (loses : List ℕ) (at location byte : ℕ) (unit : UnitState) (outcome : Option ℕ)
+        (told : List Exchange) (first last : SimState)
+        → SimRun (IsAmong loses) told first last → (IsAmong loses at → ⊥)
         → IsAlone at unit first.units
-        → Succeeds (step_lines at (WriteTo location byte)) outcome told
-        ⊎ Fails (step_lines at (WriteTo location byte)) outcome told
+        → Succeeds (access_requests at (WriteTo location byte)) outcome told
+        ⊎ Fails (access_requests at (WriteTo location byte)) outcome told
         → (now : UnitState) × IsAlone at now last.units × OnlyDiffers unit.bank1 location now.bank1 }
 {}
 
@@ -307,7 +339,7 @@ pub fn each_frame_was_wanted()
         → Wants unit plan (x ∷ told) ask → Wants unit plan told (Ask.Send x.frame) }
 {}
 
-/// The misses among exchanges are those of the tries of the session's steps, and a step that failed
+/// The misses among exchanges are those of the tries of the session's accesses, and an access that failed
 /// missed as often as it has tries.
 pub fn misses_are_those_of_the_tries()
     ensures failed { (unit : ℕ) (told : List Exchange) → HasFailed unit told → most_tries ≤ misses_in told }
@@ -319,24 +351,26 @@ pub fn misses_are_those_of_the_tries()
 {}
 
 /// On the simulated bus, where no fate refuses, no other unit is write-enabled and the unit loses
-/// less than a step has tries, each session comes to its good end, and misses no more often than
+/// less than an access has tries, each session comes to its good end, and misses no more often than
 /// the unit loses: a fresh one ends as the bytes of bank 1 say, an opened one as `Done` if each of
 /// its locations is there and none is fixed, a closing one as `Closed`, and a reading one as `Read`.
+/// Other units may lose their power meanwhile.
 pub fn spared_sessions_succeed()
-    ensures fresh { (at : ℕ) (unit : UnitState) (updates : List (ℕ × ℕ)) (verdict : Verdict) (told : List Exchange)
-        (first last : SimState) (spared : Spared at unit told first last)
+    ensures fresh { (loses : List ℕ) (at : ℕ) (unit : UnitState) (updates : List (ℕ × ℕ)) (verdict : Verdict)
+        (told : List Exchange) (first last : SimState) (spared : Spared (IsAmong loses) at unit told first last)
         → Wants at (read_length updates) told (Ask.Ended verdict)
-        → (verdict ≡ found_verdict unit.bank1.bytes updates) × MissesByLosses at unit told first last spared }
-    ensures opened { (at : ℕ) (unit : UnitState) (updates : List (ℕ × ℕ)) (verdict : Verdict) (told : List Exchange)
-        (first last : SimState) (spared : Spared at unit told first last)
+        → (verdict ≡ found_verdict unit.bank1.bytes updates)
+        × MissesByLosses (IsAmong loses) at unit told first last spared }
+    ensures opened { (loses : List ℕ) (at : ℕ) (unit : UnitState) (updates : List (ℕ × ℕ)) (verdict : Verdict)
+        (told : List Exchange) (first last : SimState) (spared : Spared (IsAmong loses) at unit told first last)
         → RisesAbove 0 updates → TakesAll unit.bank1 updates → Wants at (unlock updates) told (Ask.Ended verdict)
-        → (verdict ≡ Verdict.Done) × MissesByLosses at unit told first last spared }
-    ensures closing { (at : ℕ) (unit : UnitState) (verdict : Verdict) (told : List Exchange) (first last : SimState)
-        (spared : Spared at unit told first last)
+        → (verdict ≡ Verdict.Done) × MissesByLosses (IsAmong loses) at unit told first last spared }
+    ensures closing { (loses : List ℕ) (at : ℕ) (unit : UnitState) (verdict : Verdict) (told : List Exchange)
+        (first last : SimState) (spared : Spared (IsAmong loses) at unit told first last)
         → Wants at (close Verdict.Closed Verdict.NotClosed) told (Ask.Ended verdict)
-        → (verdict ≡ Verdict.Closed) × MissesByLosses at unit told first last spared }
-    ensures reading { (at : ℕ) (unit : UnitState) (verdict : Verdict) (told : List Exchange) (first last : SimState)
-        (spared : Spared at unit told first last)
+        → (verdict ≡ Verdict.Closed) × MissesByLosses (IsAmong loses) at unit told first last spared }
+    ensures reading { (loses : List ℕ) (at : ℕ) (unit : UnitState) (verdict : Verdict) (told : List Exchange)
+        (first last : SimState) (spared : Spared (IsAmong loses) at unit told first last)
         → Wants at read_all told (Ask.Ended verdict)
-        → (verdict ≡ Verdict.Read) × MissesByLosses at unit told first last spared }
+        → (verdict ≡ Verdict.Read) × MissesByLosses (IsAmong loses) at unit told first last spared }
 {}

@@ -3,41 +3,42 @@ ghost use Rattle.std.specs.Prelude.{drop, length, slice_get};
 ghost use Rattle.dali_frame.specs.declared.forward.Frame.{Frame};
 ghost use Rattle.dali_frame.specs.Frame.{IsProper};
 ghost use Rattle.dali_write.specs.Exchanges.{Exchange};
-ghost use Rattle.dali_write.specs.Lines.{Meets, line, step_lines};
+ghost use Rattle.dali_write.specs.Requests.{Meets, request, access_requests};
 ghost use Rattle.dali_write.specs.Plans.{goes_on};
-ghost use Rattle.dali_write.specs.Tries.{most_tries, plan_lines, GoesOn};
-ghost use Rattle.dali_write.specs.declared.line.Wish.{Wish};
+ghost use Rattle.dali_write.specs.Tries.{most_tries, plan_requests, GoesOn};
+ghost use Rattle.dali_write.specs.declared.request.Wish.{Wish};
 ghost use Rattle.dali_write.specs.declared.ask.Verdict.{Verdict};
 ghost use Rattle.dali_write.specs.declared.stage.Job.{Job};
-ghost use Rattle.dali_write.specs.Stages.{plan_of, order_for, plan_at, step_of};
+ghost use Rattle.dali_write.specs.Stages.{plan_of, order_for, plan_at, access_of};
 ghost use Rattle.dali_write.specs.Found.{kept_after};
 ghost use Rattle.dali_write.specs.FramesLeft.{limit_at};
 ghost use Rattle.dali_write.specs.Counts.{fresh_limit, opened_limit, closing_limit};
 
 use crate::ask::{Ask, Verdict};
-use crate::line::{Line, byte_after};
+use crate::request::{Request, byte_after};
 use crate::stage::{Job, Stage};
 use arrayvec::ArrayVec;
 use dali_bank::Order;
 use dali_frame::Frame;
 
-// The most tries of a step.
+// The most tries of an access.
 const MOST_TRIES: u8 = 8;
 
 /// A session with one unit (profile): it goes through a plan of checked reads and writes, frame by
 /// frame.
 ///
 /// A *checked read* of a location sets DTR1 to 01h and asks it back, sets DTR0 to the location and
-/// asks it back, and reads. A *checked write* enables writes by two frames, does the same four, and
-/// writes. A missing or other answer than the one that the frame wants ends the try, and the next
-/// one begins with the first frame; the step fails when its eighth try ends so. An answer to a frame
-/// that has none is passed over.
+/// asks it back, reads, and asks both back once more: DTR0 has moved on, and DTR1 is 01h still. A
+/// *checked write* enables writes by two frames, does the first four frames of a read, and writes. A
+/// missing or other answer than the one that the frame wants ends the try, and the next one begins with
+/// the first frame; the access fails when its eighth try ends so. An answer to a frame that has none is
+/// passed over.
 #[derive(Drop)]
 pub struct Session {
     unit: u8,
     job: Job,
     stage: Stage,
-    // the tries of the step at hand that missed
+    // the tries of the access at hand that missed
     misses: u8,
     // the number of the frame in the try at hand
     number: usize,
@@ -47,11 +48,11 @@ pub struct Session {
     bytes: ArrayVec<u8, 255>,
     ghost short: { unit ≤ 63 },
     ghost few: { misses < most_tries },
-    ghost going: { GoesOn (plan_at job stage) (drop number (plan_lines unit (plan_at job stage))) },
+    ghost going: { GoesOn (plan_at job stage) (drop number (plan_requests unit (plan_at job stage))) },
 }
 
 impl Session {
-    ghost use Rattle.dali_write.specs.Told.{Told, unit_of, job_of, bytes_read, aim_of, line_at_hand, frames_left};
+    ghost use Rattle.dali_write.specs.Told.{Told, unit_of, job_of, bytes_read, aim_of, request_at_hand, frames_left};
     ghost use Rattle.dali_write.specs.Told.{BeginsTry};
 
     /// Looks whether bank 1 of the order's unit suits the order: its last location, and the content
@@ -66,7 +67,7 @@ impl Session {
     }
 
     /// Carries the order out: unlocks bank 1, writes each update, locks it and reads all back. Where
-    /// a step fails or another byte is read back, closes the unit. Ends as `Done`, `Doubt` or
+    /// an access fails or another byte is read back, closes the unit. Ends as `Done`, `Doubt` or
     /// `DoubtOpen`.
     pub fn opened(order: Order) -> Session
         ensures unit { unit_of result ≡ order.unit }
@@ -128,10 +129,10 @@ impl Session {
         ensures aim { result ≡ aim_of self.now }
         ensures proper { (frame : Frame) → result ≡ Ask.Send frame → IsProper frame }
     {
-        match self.stage.step(&self.job) {
-            Ok(step) => match step.line(self.unit, self.number) {
-                Some(line) => Ask::Send(line.frame),
-                // a step at hand has a next frame
+        match self.stage.access(&self.job) {
+            Ok(access) => match access.request(self.unit, self.number) {
+                Some(request) => Ask::Send(request.frame),
+                // an access at hand has a next frame
                 None => unreachable!(),
             },
             Err(verdict) => Ask::Ended(verdict),
@@ -176,9 +177,9 @@ impl Session {
         ensures falls { (frame : Frame) → aim_of self.old ≡ Ask.Send frame
             → frames_left self.new < frames_left self.old }
     {
-        if let Some(line) = self.line() {
-            if line.wish.is_met(answer) {
-                self.go_on(&line.frame, answer);
+        if let Some(request) = self.request() {
+            if request.wish.is_met(answer) {
+                self.go_on(&request.frame, answer);
             } else {
                 self.miss();
             }
@@ -186,34 +187,34 @@ impl Session {
     }
 
     // The frame at hand, with the answer that it wants.
-    fn line(&self) -> Option<Line>
-        ensures { result ≡ line_at_hand self.now }
+    fn request(&self) -> Option<Request>
+        ensures { result ≡ request_at_hand self.now }
     {
-        self.line_at(self.number)
+        self.request_at(self.number)
     }
 
-    // The frame of this number of the step at hand, with the answer that it wants.
-    fn line_at(&self, number: usize) -> Option<Line>
-        ensures { result ≡ slice_get (plan_lines self.now.unit (plan_at self.now.job self.now.stage)) number }
+    // The frame of this number of the access at hand, with the answer that it wants.
+    fn request_at(&self, number: usize) -> Option<Request>
+        ensures { result ≡ slice_get (plan_requests self.now.unit (plan_at self.now.job self.now.stage)) number }
     {
-        match self.stage.step(&self.job) {
-            Ok(step) => step.line(self.unit, number),
+        match self.stage.access(&self.job) {
+            Ok(access) => access.request(self.unit, number),
             Err(_) => None,
         }
     }
 
     // The frame at hand got the answer that it wants.
     fn go_on(&mut self, frame: &Frame, answer: Option<u8>)
-        requires { IsSome (line_at_hand self.old) }
+        requires { IsSome (request_at_hand self.old) }
         ensures unit { self.new.unit ≡ self.old.unit }
         ensures job { self.new.job ≡ self.old.job }
-        ensures told { (told : List Exchange) (wish : Wish) → line_at_hand self.old ≡ Some (line frame.now wish)
+        ensures told { (told : List Exchange) (wish : Wish) → request_at_hand self.old ≡ Some (request frame.now wish)
             → Meets wish answer → Told told self.old
             → Told (record { frame = frame.now; answer = answer } ∷ told) self.new }
         ensures falls { frames_left self.new < frames_left self.old }
     {
         let byte = byte_after(frame, answer, self.byte);
-        if self.line_at(self.number + 1).is_some() {
+        if self.request_at(self.number + 1).is_some() {
             self.byte = byte;
             self.number += 1;
         } else {
@@ -226,9 +227,9 @@ impl Session {
         ensures unit { self.new.unit ≡ self.old.unit }
         ensures job { self.new.job ≡ self.old.job }
         ensures told { (told : List Exchange) (frame : Frame) (answer : Option ℕ) (wish : Wish)
-            → line_at_hand self.old ≡ Some (line frame wish) → ¬ Meets wish answer
+            → request_at_hand self.old ≡ Some (request frame wish) → ¬ Meets wish answer
             → Told told self.old → Told (record { frame = frame; answer = answer } ∷ told) self.new }
-        ensures falls { IsSome (line_at_hand self.old) → frames_left self.new < frames_left self.old }
+        ensures falls { IsSome (request_at_hand self.old) → frames_left self.new < frames_left self.old }
     {
         if self.misses + 1 < MOST_TRIES {
             self.misses += 1;
@@ -239,14 +240,14 @@ impl Session {
         }
     }
 
-    // The step at hand ended with this outcome, and the next one begins.
+    // The access at hand ended with this outcome, and the next one begins.
     fn advance(&mut self, outcome: Option<u8>)
         ensures unit { self.new.unit ≡ self.old.unit }
         ensures job { self.new.job ≡ self.old.job }
         ensures plan { plan_at self.new.job self.new.stage ≡ goes_on (plan_at self.old.job self.old.stage) outcome }
         ensures begins { BeginsTry self.new }
-        ensures limit { IfOk (step_of (plan_at self.old.job self.old.stage)) (λ step.
-            limit_at self.new.job self.new.stage + most_tries * length (step_lines self.old.unit step)
+        ensures limit { IfOk (access_of (plan_at self.old.job self.old.stage)) (λ access.
+            limit_at self.new.job self.new.stage + most_tries * length (access_requests self.old.unit access)
             ≤ limit_at self.old.job self.old.stage) }
         ensures bytes { length self.old.bytes.items < 255
             → self.new.bytes.items ≡ kept_after self.old.job self.old.bytes.items outcome }

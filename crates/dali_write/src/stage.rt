@@ -1,14 +1,14 @@
 ghost use Rattle.std.specs.Prelude.{◌≡◌, ◌≤◌, ◌+◌, ◌*◌, ℕ, IfOk, ◌==◌, if◌then◌else◌, length};
-ghost use Rattle.dali_write.specs.Lines.{step_lines};
+ghost use Rattle.dali_write.specs.Requests.{access_requests};
 ghost use Rattle.dali_write.specs.Plans.{greatest, goes_on, either_way, give_up};
 ghost use Rattle.dali_write.specs.Tries.{most_tries};
 ghost use Rattle.dali_write.specs.declared.stage.Job.{Job};
 ghost use Rattle.dali_write.specs.declared.stage.Stage.TheVariants.{ReadOn};
-ghost use Rattle.dali_write.specs.Stages.{plan_at, step_of, updates_for};
+ghost use Rattle.dali_write.specs.Stages.{plan_at, access_of, updates_for};
 ghost use Rattle.dali_write.specs.FramesLeft.{limit_at, read_limit, close_limit};
 
+use crate::access::Access;
 use crate::ask::Verdict;
-use crate::step::Step;
 use dali_bank::Order;
 
 /// What a session is for.
@@ -55,28 +55,28 @@ pub(crate) enum Stage {
 }
 
 impl Stage {
-    // The step at hand, or how the session ended.
-    pub(crate) fn step(self, job: &Job) -> Result<Step, Verdict>
-        ensures { result ≡ step_of (plan_at job.now self) }
+    // The access at hand, or how the session ended.
+    pub(crate) fn access(self, job: &Job) -> Result<Access, Verdict>
+        ensures { result ≡ access_of (plan_at job.now self) }
     {
         match self {
-            Stage::ReadLength | Stage::ReadAll => Ok(Step::ReadFrom(0x00)),
-            Stage::ReadFormat => Ok(Step::ReadFrom(0x11)),
-            Stage::ReadFormatLow(_) => Ok(Step::ReadFrom(0x12)),
-            Stage::Unlock => Ok(Step::WriteTo(0x02, 0x55)),
+            Stage::ReadLength | Stage::ReadAll => Ok(Access::ReadFrom(0x00)),
+            Stage::ReadFormat => Ok(Access::ReadFrom(0x11)),
+            Stage::ReadFormatLow(_) => Ok(Access::ReadFrom(0x12)),
+            Stage::Unlock => Ok(Access::WriteTo(0x02, 0x55)),
             Stage::WriteOn(index) => match job.updates().get(index).copied() {
-                Some((location, byte)) => Ok(Step::WriteTo(location, byte)),
-                None => Ok(Step::WriteTo(0x02, 0xFF)),
+                Some((location, byte)) => Ok(Access::WriteTo(location, byte)),
+                None => Ok(Access::WriteTo(0x02, 0xFF)),
             },
-            Stage::ReadLock | Stage::ReadClosed(_, _) => Ok(Step::ReadFrom(0x02)),
+            Stage::ReadLock | Stage::ReadClosed(_, _) => Ok(Access::ReadFrom(0x02)),
             Stage::ReadBack(index) => match job.updates().get(index).copied() {
-                Some((location, _)) => Ok(Step::ReadFrom(location)),
+                Some((location, _)) => Ok(Access::ReadFrom(location)),
                 None => Err(Verdict::Done),
             },
-            Stage::Close(_, _) => Ok(Step::WriteTo(0x02, 0xFF)),
+            Stage::Close(_, _) => Ok(Access::WriteTo(0x02, 0xFF)),
             Stage::ReadOn(location, last) => {
                 if location <= last {
-                    Ok(Step::ReadFrom(location))
+                    Ok(Access::ReadFrom(location))
                 } else {
                     Err(Verdict::Read)
                 }
@@ -85,11 +85,11 @@ impl Stage {
         }
     }
 
-    // The stage after this one, whose step had this outcome: its byte, or none where it failed.
+    // The stage after this one, whose access had this outcome: its byte, or none where it failed.
     pub(crate) fn next(self, job: &Job, outcome: Option<u8>) -> Stage
         ensures plan { plan_at job.now result ≡ goes_on (plan_at job.now self) outcome }
-        ensures limit { (unit : ℕ) → IfOk (step_of (plan_at job.now self)) (λ step.
-            limit_at job.now result + most_tries * length (step_lines unit step) ≤ limit_at job.now self) }
+        ensures limit { (unit : ℕ) → IfOk (access_of (plan_at job.now self)) (λ access.
+            limit_at job.now result + most_tries * length (access_requests unit access) ≤ limit_at job.now self) }
     {
         match self {
             Stage::ReadLength => judge_length(job.updates(), outcome),
@@ -196,7 +196,7 @@ fn after_read(outcome: Option<u8>, byte: u8, next: Stage) -> Stage
 }
 
 // What follows the read of a location, where those up to the last one are to be read.
-#[tactic(auto, using(crate::proofs::LineLemmas::read_on_next))]
+#[tactic(auto, using(crate::proofs::RequestLemmas::read_on_next))]
 fn read_next(location: u8, last: u8, outcome: Option<u8>) -> Stage
     ensures plan { (job : Job) → plan_at job result ≡ goes_on (plan_at job (Stage.ReadOn location last)) outcome }
     ensures limit { (job : Job) → location ≤ last

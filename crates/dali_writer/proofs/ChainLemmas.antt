@@ -1,21 +1,26 @@
 -- A chain goes on by one happening, and a chain of a bus is one of its worlds.
-use Rattle.std.proofs.Common.{◌≡◌, refl, sym, ap, subst, ◌∙◌, ℕ, List, [], ◌∷◌, ◌++◌, Option, Some, reverse, map}
+use Rattle.std.proofs.Common.{◌≡◌, inl, refl, sym, ap, subst, ◌∙◌, ℕ, List, [], ◌∷◌, ◌++◌, Option, Some, reverse, map}
 use Rattle.std.proofs.lemmas.List.{reverse-append}
 use Rattle.dali_bus.specs.World.{World}
 use Rattle.dali_bus.specs.Carry.{BusEvent, Carried, WorldStep}
+use Rattle.dali_bus.specs.Carry as bus
 use Rattle.dali_bus.specs.Chain.{IsChain, AtEachMoment, Chain}
 use Rattle.dali_bus.specs.Unenabled.{NoneEnabled}
 use Rattle.dali_journal.specs.declared.record.Record.{Record}
 use Rattle.dali_trace.specs.declared.happening.Happening.{Happening}
-use Rattle.dali_trace.specs.declared.happening.Happening.TheVariants.{Asked, Answered, Sent, Kept, Stopped}
+use Rattle.dali_trace.specs.declared.happening.Happening.TheVariants.{Asked, Answered, Sent, Kept, Stopped, Powered}
 use Rattle.dali_trace.specs.Trace.{Start}
 use Rattle.dali_trace.specs.Legal.{Legal}
 use Rattle.dali_trace.specs.Moves.{MovesBy, Moves}
-use Rattle.dali_trace.specs.Fits.{Fits, OnlyNamed}
+use Rattle.dali_trace.specs.Fits.{Fits, IsLockedAbove, OnlyNamed}
 use Rattle.dali_trace.specs.Moments.{IsRight}
 use Rattle.dali_trace.specs.Runs.{fresh, LeadsRight}
 use Rattle.dali_writer.specs.Held.{Held}
-use Rattle.dali_writer.specs.Describes.{Describes}
+use Rattle.dali_writer.specs.declared.phase.Phase.{Phase}
+use Rattle.dali_writer.specs.declared.phase.Phase.TheVariants.{Idle, Begins, Checks, Writes, Closes, Says}
+use Rattle.dali_writer.specs.Describes.{IsAt, Describes}
+use Rattle.dali_writer.specs.Follows.{Follows}
+use Rattle.dali_writer.proofs.StepLemmas.{may_next}
 use Rattle.dali_trace.specs.WhenKept.{WhenKept}
 use Rattle.dali_laws.proofs.MomentLemmas.{every_moment, each_kept}
 
@@ -24,6 +29,31 @@ pub onto : (start : Start) (w : Held) (trace new : List Happening) (next : Happe
     → Describes start (next ∷ reverse trace) w → Describes start (reverse new) w
 onto start w trace new next is d =
     subst (λ (t : List Happening). Describes start t w) (sym (ap reverse is ∙ reverse-append trace (next ∷ []))) d
+
+-- so does one that is longer by a loss of power
+pub onto_power : (start : Start) (w : Held) (trace new : List Happening) (address : ℕ)
+    → new ≡ trace ++ Powered address ∷ [] → Describes start (reverse trace) w → Describes start (reverse new) w
+onto_power start w trace new address is d = onto start w trace new (Powered address) is (record {
+  legal = (d.legal, may_next start (reverse trace) (Powered address) d.finished tt);
+  finished = tt;
+  same = d.same;
+  limit = d.limit;
+  place = place w.phase d.place;
+}) where
+  place : (phase : Phase) → IsAt phase (reverse trace) → IsAt phase (Powered address ∷ reverse trace)
+  place Idle at = at
+  place (Begins order) at = at
+  place (Checks order s) at = at
+  place (Writes order s) at = at
+  place (Closes order s) at = at
+  place (Says id code) at = at
+
+pub follows_power : (start : Start) (w : Held) (trace new : List Happening) (address : ℕ)
+    → new ≡ trace ++ Powered address ∷ [] → Follows start (reverse trace) w → Follows start (reverse new) w
+follows_power start w trace new address is follows =
+    subst (λ (t : List Happening). Follows start t w)
+    (sym (ap reverse is ∙ reverse-append trace (Powered address ∷ [])))
+    (record { planned = (follows.planned, tt); told = follows.told })
 
 -- and one that is longer by a record and a stop
 pub onto_stop : (start : Start) (w : Held) (trace mid new : List Happening) (entry : Record)
@@ -69,6 +99,7 @@ module _ {S : Type 0} (world : S → World) (step : S → BusEvent → S → Typ
     moves old (Sent frame answer) new moved = allowed old (Carried frame answer) new moved
     moves old (Kept entry) new same = ap world same
     moves old Stopped new same = ap world same
+    moves old (Powered address) new moved = allowed old (bus.Powered address) new moved
 
     worlds : (first last : S) (past : List Happening) (states : List S) → IsChain (MovesBy step) first past last states
         → IsChain Moves (world first) past (world last) (map world states)
@@ -96,13 +127,14 @@ module _ {S : Type 0} (world : S → World) (step : S → BusEvent → S → Typ
       kept = moments (WhenKept (fresh limit)) last past chain.states
           (each_kept (fresh limit) (world first) past (world last) (map world chain.states) legal
           (worlds first last past chain.states chain.steps)).1;
-      right = λ none. moments (IsRight (world first) (fresh limit)) last past chain.states (each none);
+      right = λ none locked.
+          moments (IsRight (world first) [] (fresh limit)) last past chain.states (each none locked);
     } where
-      fits : Fits (world first) [] (world first)
+      fits : Fits (world first) [] [] (world first)
       fits = record {
         places = λ address bank location. refl;
         bytes = λ address bank location one byte lock was is. same one byte was is;
-        locks = λ address closed. refl;
+        locks = λ address closed. inl refl;
       } where
         same : {x : Option ℕ} (one byte : ℕ) → x ≡ Some one → x ≡ Some byte → byte ≡ one
         same one byte was is = cc
@@ -110,12 +142,13 @@ module _ {S : Type 0} (world : S → World) (step : S → BusEvent → S → Typ
       only : NoneEnabled (world first) → OnlyNamed [] (world first)
       only none address on = let off = none address in cc
 
-      each : NoneEnabled (world first)
-          → AtEachMoment (IsRight (world first) (fresh limit)) past (world last) (map world chain.states)
-      each none =
-          every_moment (world first) (fresh limit) (world first) past (world last) (map world chain.states)
+      each : NoneEnabled (world first) → IsLockedAbove (world first)
+          → AtEachMoment (IsRight (world first) [] (fresh limit)) past (world last) (map world chain.states)
+      each none locked =
+          every_moment (world first) [] (fresh limit) (world first) past (world last) (map world chain.states)
           (record {
             legal = legal;
+            locked = locked;
             fits = fits;
             only = only none;
             chain = worlds first last past chain.states chain.steps;

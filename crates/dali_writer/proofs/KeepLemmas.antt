@@ -21,7 +21,7 @@ use Rattle.dali_write.specs.declared.ask.Verdict.TheVariants as verdicts
 use Rattle.dali_write.specs.declared.session.Session.{Session}
 use Rattle.dali_write.specs.Told.{Told, unit_of, aim_of, IsFresh}
 use Rattle.dali_write.specs.Findings.{Rests}
-use Rattle.dali_write.specs.Reads.{ReadStands, HasRead}
+use Rattle.dali_write.specs.Reads.{StillRead, HasRead}
 use Rattle.dali_write.proofs.RestLemmas.{older_reads, rests_too}
 use Rattle.dali_write.proofs.SessionLemmas.{fresh_over, opened_over, closing_over}
 use Rattle.dali_trace.specs.declared.happening.Happening.{Happening}
@@ -64,7 +64,7 @@ goes_on : (start : Start) (past : List Happening) (w : Held) (entry : Record) (s
     → Describes start past w → standing_of w.journal.records ≡ stands
     → Allows stands entry → IsNew entry (records_of start past)
     → length (orders_of (entry ∷ records_of start past)) ≡ length (orders_of (records_of start past))
-    → IsDue past entry → Grounds (ReadStands (sent_of past)) stands entry → MayKeep start past entry
+    → IsDue past entry → Grounds (StillRead (sent_of past)) stands entry → MayKeep start past entry
 goes_on start past w entry stands d at allowed is_new none due grounds =
     let before = legal_sentence start past d.legal in
     let stood = stands_so start past w stands d at in
@@ -100,16 +100,16 @@ begun_on start past journal new order s d ready is_told records limit =
 
 -- what the reads of a session show, the frames since the last stop show
 newest_rests : (sent told older : List Exchange) (unit : ℕ) (updates : List (ℕ × ℕ)) (verdict : Verdict)
-    → sent ≡ told ++ older → Rests (ReadStands told unit) updates verdict
-    → Rests (ReadStands sent unit) updates verdict
+    → sent ≡ told ++ older → Rests (StillRead told unit) updates verdict
+    → Rests (StillRead sent unit) updates verdict
 newest_rests sent told older unit updates verdict parts rests =
-    subst (λ (t : List Exchange). Rests (ReadStands t unit) updates verdict) (sym parts)
-    (rests_too (ReadStands told unit) (ReadStands (told ++ older) unit) updates verdict
+    subst (λ (t : List Exchange). Rests (StillRead t unit) updates verdict) (sym parts)
+    (rests_too (StillRead told unit) (StillRead (told ++ older) unit) updates verdict
     (λ location byte stands. older_reads told older unit location byte stands) rests)
 
 fresh_grounds : (sent : List Exchange) (order : Contents) (verdict : Verdict)
-    → Rests (ReadStands sent order.unit) order.updates verdict
-    → Grounds (ReadStands sent) (standings.Began order) (check_record order.unit verdict)
+    → Rests (StillRead sent order.unit) order.updates verdict
+    → Grounds (StillRead sent) (standings.Began order) (check_record order.unit verdict)
 fresh_grounds sent order verdicts.MayOpen rests = rests
 fresh_grounds sent order verdicts.Short rests = rests
 fresh_grounds sent order verdicts.Format rests = rests
@@ -179,8 +179,8 @@ checked_on start past journal new order s verdict next d ready aim after records
     (check_place past order verdict next after)
 
 opened_grounds : (sent : List Exchange) (order : Contents) (verdict : Verdict)
-    → Rests (ReadStands sent order.unit) order.updates verdict
-    → Grounds (ReadStands sent) (standings.Opened order) (Ended (write_code verdict))
+    → Rests (StillRead sent order.unit) order.updates verdict
+    → Grounds (StillRead sent) (standings.Opened order) (Ended (write_code verdict))
 opened_grounds sent order verdicts.Done rests = rests
 opened_grounds sent order verdicts.Doubt rests = (2, rests.0, rests.1)
 opened_grounds sent order _ rests = tt
@@ -211,7 +211,7 @@ written_on start past journal new order s verdict d ready aim records limit =
     may records limit refl
 
 -- a read that stands was answered
-stands_read : (told : List Exchange) (unit location byte : ℕ) → ReadStands told unit location byte → HasRead unit told
+stands_read : (told : List Exchange) (unit location byte : ℕ) → StillRead told unit location byte → HasRead unit told
 stands_read [] unit location byte stands = absurd stands
 stands_read (x ∷ told) unit location byte (inl ends) = inl (location, byte, ends)
 stands_read (x ∷ told) unit location byte (inr (passive, stands)) = inr (stands_read told unit location byte stands)

@@ -7,8 +7,8 @@ use Rattle.dali_trace.specs.declared.happening.Happening.{Happening}
 use Rattle.dali_trace.specs.Trace.{Start}
 use Rattle.dali_journal.specs.declared.record.Record.{Record}
 use Rattle.dali_journal.specs.Spelling.{spelling}
-use Rattle.dali_trace.specs.declared.happening.Event.TheVariants.{Stop}
-use Rattle.dali_trace.specs.declared.happening.Happening.TheVariants.{Kept, Stopped}
+use Rattle.dali_trace.specs.declared.happening.Event.TheVariants.{Stop, Power}
+use Rattle.dali_trace.specs.declared.happening.Happening.TheVariants.{Kept, Stopped, Powered}
 use Rattle.dali_trace.specs.Parts.{IsKeptNext, Part, AreParts}
 
 pub more_parts : (start : Start) (events : List Event) (i : ℕ) (d : Event) (before after : List Happening)
@@ -54,3 +54,10 @@ pub stop_cut : (start : Start) (event : Event) (bytes : ℕ) (trace new : List H
 stop_cut start event bytes trace new is one none =
     subst (λ (e : Event). Part start e (reverse trace) (reverse new)) (sym is)
     (inl (ap reverse one ∙ reverse-append trace (Stopped ∷ []), none))
+
+-- and that of a loss of power
+pub power_part : (start : Start) (event : Event) (address : ℕ) (trace new : List Happening) → event ≡ Power address
+    → new ≡ trace ++ Powered address ∷ [] → Part start event (reverse trace) (reverse new)
+power_part start event address trace new is one =
+    subst (λ (e : Event). Part start e (reverse trace) (reverse new)) (sym is)
+    (ap reverse one ∙ reverse-append trace (Powered address ∷ []))

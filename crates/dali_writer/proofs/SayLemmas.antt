@@ -15,7 +15,7 @@ use Rattle.dali_write.proofs.SessionLemmas.{closing_over, closing_unreached}
 use Rattle.dali_trace.specs.declared.happening.Reply.{Reply}
 use Rattle.dali_trace.specs.declared.happening.Reply.TheVariants as replies
 use Rattle.dali_trace.specs.declared.happening.Happening.{Happening}
-use Rattle.dali_trace.specs.declared.happening.Happening.TheVariants.{Asked, Answered, Sent, Kept, Stopped}
+use Rattle.dali_trace.specs.declared.happening.Happening.TheVariants.{Asked, Answered, Sent, Kept, Stopped, Powered}
 use Rattle.dali_trace.specs.declared.happening.Want.TheVariants.{Send, Say}
 use Rattle.dali_writer.specs.declared.phase.Phase.{Phase}
 use Rattle.dali_writer.specs.declared.phase.Phase.TheVariants.{Idle, Begins, Checks, Writes, Closes, Says}
@@ -41,12 +41,14 @@ all_said (Answered last other ∷ past) id (replies.Kept code) saying finished =
 all_said (Sent frame answer ∷ past) id (replies.Kept code) saying finished = refl
 all_said (Kept entry ∷ past) id (replies.Kept code) saying finished = refl
 all_said (Stopped ∷ past) id (replies.Kept code) saying finished = refl
+all_said (Powered address ∷ past) id (replies.Kept code) saying finished = refl
 all_said [] id (replies.Blocked unit) saying finished = refl
 all_said (Asked order ∷ past) id (replies.Blocked unit) saying finished = absurd finished
 all_said (Answered last other ∷ past) id (replies.Blocked unit) saying finished = refl
 all_said (Sent frame answer ∷ past) id (replies.Blocked unit) saying finished = refl
 all_said (Kept entry ∷ past) id (replies.Blocked unit) saying finished = refl
 all_said (Stopped ∷ past) id (replies.Blocked unit) saying finished = refl
+all_said (Powered address ∷ past) id (replies.Blocked unit) saying finished = refl
 all_said past id _ saying finished = absurd saying
 
 said : (start : Start) (past : List Happening) (journal : JournalState) (phase : Phase) (id : ℕ) (reply : Reply)

@@ -22,7 +22,7 @@ use Rattle.dali_write.proofs.GuardLemmas.{older_guarded}
 use Rattle.dali_write.proofs.SessionLemmas.{fresh_sends, opened_sends, closing_sends}
 use Rattle.dali_trace.specs.declared.happening.Reply.TheVariants as replies
 use Rattle.dali_trace.specs.declared.happening.Happening.{Happening}
-use Rattle.dali_trace.specs.declared.happening.Happening.TheVariants.{Asked, Answered, Sent, Kept, Stopped}
+use Rattle.dali_trace.specs.declared.happening.Happening.TheVariants.{Asked, Answered, Sent, Kept, Stopped, Powered}
 use Rattle.dali_trace.specs.declared.happening.Want.TheVariants as wants
 use Rattle.dali_writer.specs.declared.phase.Phase.{Phase}
 use Rattle.dali_writer.specs.declared.phase.Phase.TheVariants.{Idle, Begins, Checks, Writes, Closes, Says}
@@ -43,6 +43,7 @@ may_next start (Answered id reply ∷ past) next finished may = may
 may_next start (Sent frame answer ∷ past) next finished may = may
 may_next start (Kept entry ∷ past) next finished may = may
 may_next start (Stopped ∷ past) next finished may = may
+may_next start (Powered address ∷ past) next finished may = may
 
 -- a session always wants something
 pub check_wants : (unit : ℕ) (ask : Ask) → is_wanting (check_of unit ask) ≡ true
@@ -189,6 +190,7 @@ since_part (Sent frame answer ∷ past) =
     (part.0, ap (λ (t : List Exchange). record { frame = frame; answer = answer } ∷ t) part.1)
 since_part (Kept entry ∷ past) = since_part past
 since_part (Stopped ∷ past) = ([], refl)
+since_part (Powered address ∷ past) = since_part past
 
 -- one frame more, that may be sent
 sent_on : (start : Start) (past : List Happening) (journal : JournalState) (old new : Phase) (frame : Frame)

@@ -103,6 +103,10 @@ fn serve<B: Bus>(
                 trace.push_reserved(Happening::Stopped);
             }
         },
+        Event::Power(address) => {
+            bus.power(*address);
+            trace.push_reserved(Happening::Powered(*address));
+        }
     }
     Ok(())
 }
@@ -121,7 +125,8 @@ pub struct Outcome {
 ///
 /// A `Submit` takes an order and replies. A `Step` does the next thing, if there is one. A `Stop` leaves
 /// the journal's bytes, with the first ones of the record that was to be kept next, and all goes on from
-/// the journal that is loaded from them.
+/// the journal that is loaded from them. A `Power` takes its power from a unit and gives it back; the
+/// writer stays as it is.
 ///
 /// Fault 1 Limit where the limit is 0 or over 100000, before anything is done; 2 NoMemory where there
 /// is no memory: then the bus stands where the events so far left it.

@@ -18,12 +18,12 @@ const GTIN_RUN: &str = "\
 ask 1
 reply 1 taken
 keep B order 1 unit 5 bytes 6
-frames 5
+frames 7
 keep O unit 5
-frames 91
+frames 105
 keep E 0 Done
 reply 1 kept 0 Done
-total 96
+total 112
 journal 27
 unit 5 dtr 09 01 00 enabled no
 bank 5 00 77FFFF03A4CEEFADABFFFFFFFFFFFFFF
@@ -39,6 +39,8 @@ send 0B9C 01
 send A300 --
 send 0B98 00
 send 0BC5 77
+send 0B98 01
+send 0B9C 01
 keep O unit 5
 send 0B81 --
 send 0B81 --
@@ -101,39 +103,53 @@ send 0B9C 01
 send A302 --
 send 0B98 02
 send 0BC5 FF
+send 0B98 03
+send 0B9C 01
 send C301 --
 send 0B9C 01
 send A303 --
 send 0B98 03
 send 0BC5 03
+send 0B98 04
+send 0B9C 01
 send C301 --
 send 0B9C 01
 send A304 --
 send 0B98 04
 send 0BC5 A4
+send 0B98 05
+send 0B9C 01
 send C301 --
 send 0B9C 01
 send A305 --
 send 0B98 05
 send 0BC5 CE
+send 0B98 06
+send 0B9C 01
 send C301 --
 send 0B9C 01
 send A306 --
 send 0B98 06
 send 0BC5 EF
+send 0B98 07
+send 0B9C 01
 send C301 --
 send 0B9C 01
 send A307 --
 send 0B98 07
 send 0BC5 AD
+send 0B98 08
+send 0B9C 01
 send C301 --
 send 0B9C 01
 send A308 --
 send 0B98 08
 send 0BC5 AB
+send 0B98 09
+send 0B9C 01
 keep E 0 Done
 reply 1 kept 0 Done
-total 96
+total 112
 journal 27
 unit 5 dtr 09 01 00 enabled no
 bank 5 00 77FFFF03A4CEEFADABFFFFFFFFFFFFFF
@@ -179,16 +195,16 @@ ask 1
 reply 1 busy
 ask 2
 reply 2 busy
-frames 5
+frames 7
 keep O unit 5
-frames 91
+frames 105
 keep E 0 Done
 reply 1 kept 0 Done
 ask 2
 reply 2 full
 ask 1
 reply 1 kept 0 Done
-total 96
+total 112
 journal 27
 unit 5 dtr 09 01 00 enabled no
 bank 5 00 77FFFF03A4CEEFADABFFFFFFFFFFFFFF
@@ -196,7 +212,7 @@ bank 5 10 FF0003FFFFFFFFFFFFFFFFFFFFFFFFFF
 ====
 {"limit":10,"units":[{"address":5,"bank":"10FFFFFFFFFFFFFFFFFFFFFFFFFFFFFFFF"},
 {"address":6,"bank":"10FFFFFFFFFFFFFFFFFFFFFFFFFFFFFFFF"}],
-"fates":[{"times":5},{"times":128,"lost":[5]}],
+"fates":[{"times":7},{"times":128,"lost":[5]}],
 "events":[{"submit":{"order":1,"unit":5,"gtin":"4006381333931"}},{"steps":200},
 {"submit":{"order":2,"unit":6,"gtin":"4006381333931"}},{"steps":200},
 {"submit":{"order":2,"unit":6,"gtin":"4006381333931"}},{"steps":200}]}
@@ -204,7 +220,7 @@ bank 5 10 FF0003FFFFFFFFFFFFFFFFFFFFFFFFFF
 ask 1
 reply 1 taken
 keep B order 1 unit 5 bytes 6
-frames 5
+frames 7
 keep O unit 5
 frames 80
 keep E 5 DoubtOpen
@@ -215,15 +231,15 @@ frames 48
 reply 2 blocked 5
 ask 2
 reply 2 taken
-frames 12
+frames 14
 keep C unit 5
 keep B order 2 unit 6 bytes 6
-frames 5
+frames 7
 keep O unit 6
-frames 91
+frames 105
 keep E 0 Done
 reply 2 kept 0 Done
-total 241
+total 261
 journal 56
 unit 5 dtr 08 01 00 enabled no
 bank 5 00 10FFFFFFFFFFFFFFFFFFFFFFFFFFFFFF
@@ -231,55 +247,21 @@ unit 6 dtr 09 01 00 enabled no
 bank 6 00 10FFFF03A4CEEFADABFFFFFFFFFFFFFF
 ====
 {"limit":10,"units":[{"address":5,"bank":"10FFFFFFFFFFFFFFFFFFFFFFFFFFFFFFFF"}],
-"events":[{"submit":{"order":1,"unit":5,"gtin":"4006381333931"}},{"steps":9}]}
+"events":[{"submit":{"order":1,"unit":5,"gtin":"4006381333931"}},{"steps":11}]}
 ----
 ask 1
 reply 1 taken
 keep B order 1 unit 5 bytes 6
-frames 5
+frames 7
 keep O unit 5
 frames 2
-total 7
+total 9
 journal 25
 unit 5 dtr 01 01 00 enabled yes
 bank 5 00 10FFFFFFFFFFFFFFFFFFFFFFFFFFFFFF
 ====
 {"limit":10,"units":[{"address":5,"bank":"10FFFFFFFFFFFFFFFFFFFFFFFFFFFFFFFF"}],
-"fates":[{"times":18},{"answer_lost":true}],
-"events":[{"submit":{"order":1,"unit":5,"gtin":"4006381333931"}},{"steps":200}]}
-----
-ask 1
-reply 1 taken
-keep B order 1 unit 5 bytes 6
-frames 5
-keep O unit 5
-frames 98
-keep E 0 Done
-reply 1 kept 0 Done
-total 103
-journal 27
-unit 5 dtr 09 01 00 enabled no
-bank 5 00 10FFFF03A4CEEFADABFFFFFFFFFFFFFF
-====
-{"limit":10,"units":[{"address":5,"bank":"10FFFFFFFFFFFFFFFFFFFFFFFFFFFFFFFF"}],
-"fates":[{"times":18},{"refuse":true}],
-"events":[{"submit":{"order":1,"unit":5,"gtin":"4006381333931"}},{"steps":200}]}
-----
-ask 1
-reply 1 taken
-keep B order 1 unit 5 bytes 6
-frames 5
-keep O unit 5
-frames 98
-keep E 0 Done
-reply 1 kept 0 Done
-total 103
-journal 27
-unit 5 dtr 09 01 00 enabled no
-bank 5 00 10FFFF03A4CEEFADABFFFFFFFFFFFFFF
-====
-{"limit":10,"units":[{"address":5,"bank":"10FFFFFFFFFFFFFFFFFFFFFFFFFFFFFFFF","dtr":[0,2,0]}],
-"fates":[{"lost":[5]},{"times":6},{"lost":[5]}],
+"fates":[{"times":20},{"answer_lost":true}],
 "events":[{"submit":{"order":1,"unit":5,"gtin":"4006381333931"}},{"steps":200}]}
 ----
 ask 1
@@ -287,10 +269,44 @@ reply 1 taken
 keep B order 1 unit 5 bytes 6
 frames 7
 keep O unit 5
-frames 98
+frames 112
 keep E 0 Done
 reply 1 kept 0 Done
-total 105
+total 119
+journal 27
+unit 5 dtr 09 01 00 enabled no
+bank 5 00 10FFFF03A4CEEFADABFFFFFFFFFFFFFF
+====
+{"limit":10,"units":[{"address":5,"bank":"10FFFFFFFFFFFFFFFFFFFFFFFFFFFFFFFF"}],
+"fates":[{"times":20},{"refuse":true}],
+"events":[{"submit":{"order":1,"unit":5,"gtin":"4006381333931"}},{"steps":200}]}
+----
+ask 1
+reply 1 taken
+keep B order 1 unit 5 bytes 6
+frames 7
+keep O unit 5
+frames 112
+keep E 0 Done
+reply 1 kept 0 Done
+total 119
+journal 27
+unit 5 dtr 09 01 00 enabled no
+bank 5 00 10FFFF03A4CEEFADABFFFFFFFFFFFFFF
+====
+{"limit":10,"units":[{"address":5,"bank":"10FFFFFFFFFFFFFFFFFFFFFFFFFFFFFFFF","dtr":[0,2,0]}],
+"fates":[{"lost":[5]},{"times":8},{"lost":[5]}],
+"events":[{"submit":{"order":1,"unit":5,"gtin":"4006381333931"}},{"steps":200}]}
+----
+ask 1
+reply 1 taken
+keep B order 1 unit 5 bytes 6
+frames 9
+keep O unit 5
+frames 112
+keep E 0 Done
+reply 1 kept 0 Done
+total 121
 journal 27
 unit 5 dtr 09 01 00 enabled no
 bank 5 00 10FFFF03A4CEEFADABFFFFFFFFFFFFFF
@@ -301,12 +317,12 @@ bank 5 00 10FFFF03A4CEEFADABFFFFFFFFFFFFFF
 ask 1
 reply 1 taken
 keep B order 1 unit 5 bytes 6
-frames 5
+frames 7
 keep O unit 5
-frames 89
+frames 91
 keep E 4 Doubt
 reply 1 kept 4 Doubt
-total 94
+total 98
 journal 27
 unit 5 dtr 03 01 00 enabled no
 bank 5 00 10FFFF03A4FFFFFFFFFFFFFFFFFFFFFF

@@ -35,6 +35,7 @@ enum Told {
     Ended(Code),
     Closed(u8),
     Stopped,
+    Powered(u8),
 }
 
 // Where the order can't be made, a stop, which no case expects there.
@@ -56,6 +57,7 @@ fn happening_of(told: Told) -> Happening
         Told::Ended(code) => Happening::Kept(Record::Ended(code)),
         Told::Closed(unit) => Happening::Kept(Record::Closed(unit)),
         Told::Stopped => Happening::Stopped,
+        Told::Powered(address) => Happening::Powered(address),
     }
 }
 
@@ -79,8 +81,8 @@ fn outcome_of(alloc: Global, told: &[Told], journal: &[u8]) -> Result<Outcome, A
     })
 }
 
-// Three runs of frames: a record ends the first, a reply the second, and the trace the third.
-const RUNS: [Told; 11] = [
+// Four runs of frames: a record ends the first, a reply the second, a loss of power the third, the trace the fourth.
+const RUNS: [Told; 12] = [
     Told::Asked(1),
     Told::Answered(1, Reply::Taken),
     Told::Began(1, 5),
@@ -91,6 +93,7 @@ const RUNS: [Told; 11] = [
     Told::Sent(0xA30A, None),
     Told::Answered(1, Reply::Kept(Code::DoubtOpen)),
     Told::Sent(0xC70F, Some(0x0F)),
+    Told::Powered(5),
     Told::Sent(0xC9FF, None),
 ];
 
@@ -102,7 +105,9 @@ frames 3
 keep O unit 5
 frames 1
 reply 1 kept 5 DoubtOpen
-frames 2
+frames 1
+power 5
+frames 1
 total 6
 journal 27
 ";
@@ -118,14 +123,17 @@ keep O unit 5
 send A30A --
 reply 1 kept 5 DoubtOpen
 send C70F 0F
+power 5
 send C9FF --
 total 6
 journal 27
 ";
 
-// Each kind of reply, record and stop, the same in both forms.
-const KINDS: [Told; 16] = [
+// Each kind of reply, record, stop and loss of power, the same in both forms.
+const KINDS: [Told; 18] = [
     Told::Stopped,
+    Told::Powered(0),
+    Told::Powered(255),
     Told::Asked(LARGEST),
     Told::Answered(LARGEST, Reply::IdReused),
     Told::Answered(0, Reply::Busy),
@@ -145,6 +153,8 @@ const KINDS: [Told; 16] = [
 
 const KINDS_TOLD: &str = "\
 stop
+power 0
+power 255
 ask 18446744073709551615
 reply 18446744073709551615 reused
 reply 0 busy
@@ -312,12 +322,12 @@ const GTIN_TOLD: &str = "\
 ask 1
 reply 1 taken
 keep B order 1 unit 5 bytes 6
-frames 5
+frames 7
 keep O unit 5
-frames 91
+frames 105
 keep E 0 Done
 reply 1 kept 0 Done
-total 96
+total 112
 journal 27
 unit 5 dtr 09 01 00 enabled no
 bank 5 00 77FFFF03A4CEEFADABFFFFFFFFFFFFFF

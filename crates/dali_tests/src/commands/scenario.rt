@@ -65,8 +65,15 @@ const REFUSED: &str = r#"{"limit":0,"units":[],"events":[]}|run fault 1 Limit
 {"limit":10,"units":[],"events":[{"stop":-1}]}|fault 12 Document
 {"limit":10,"units":[],"events":[{"stop":1.0}]}|fault 12 Document
 {"limit":10,"units":[],"events":[{"stop":0,"steps":1}]}|fault 12 Document
+{"limit":10,"units":[],"events":[{"power":64}]}|fault 12 Document
+{"limit":10,"units":[],"events":[{"power":-1}]}|fault 12 Document
+{"limit":10,"units":[],"events":[{"power":5.0}]}|fault 12 Document
+{"limit":10,"units":[],"events":[{"power":"5"}]}|fault 12 Document
+{"limit":10,"units":[],"events":[{"power":5,"steps":1}]}|fault 12 Document
 {"limit":10,"units":[],"events":[{"steps":20000},{"stop":0}]}|fault 13 TooBig
 {"limit":10,"units":[],"events":[{"stop":0},{"stop":65535},{"submit":{}}]}|event 3 fault 9 Shape
+{"limit":10,"units":[],"events":[{"power":0},{"power":63},{"submit":{}}]}|event 3 fault 9 Shape
+{"limit":10,"units":[],"events":[{"steps":20000},{"power":0}]}|fault 13 TooBig
 {"limit":10,"units":[],"events":[{"submit":{"order":1}}]}|event 1 fault 9 Shape
 {"limit":10,"units":[],"events":[{"submit":{}}]}|event 1 fault 9 Shape
 {"limit":10,"units":[],"events":[{"submit":5}]}|event 1 fault 9 Shape

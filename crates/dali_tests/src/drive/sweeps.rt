@@ -211,10 +211,10 @@ const ABSENT: Run<'static> = Run {
 
 const WRITTEN: Run<'static> = Run {
     unit: 5,
-    frames: 96,
+    frames: 112,
     first: (
-        "C301\n0B9C\nA300\n0B98\n0BC5\n0B81\n0B81\nC301\n0B9C\nA302\n0B98\nC755\n",
-        "--\n01\n--\n00\n77\n--\n--\n--\n01\n--\n02\n55\n",
+        "C301\n0B9C\nA300\n0B98\n0BC5\n0B98\n0B9C\n0B81\n0B81\nC301\n0B9C\nA302\n0B98\nC755\n",
+        "--\n01\n--\n00\n77\n01\n01\n--\n--\n--\n01\n--\n02\n55\n",
     ),
     journal: &GTIN_JOURNAL,
     ends: &[23, 25, 27],
@@ -377,7 +377,7 @@ const LIES: [(Lie, usize); 2] = [
             answered: 0x03,
             told: 0x04,
         },
-        80,
+        84,
     ),
     (
         Lie {
@@ -385,7 +385,7 @@ const LIES: [(Lie, usize); 2] = [
             answered: 0x03,
             told: 0x00,
         },
-        83,
+        91,
     ),
 ];
 

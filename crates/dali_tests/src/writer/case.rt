@@ -28,10 +28,12 @@ pub(crate) enum Deed<'a> {
     Fill(u64, u8, u8, u8),
     Steps(usize),
     Stop(u16),
+    // The unit at this address loses its power.
+    Power(u8),
 }
 
 // As many steps as any order of these cases takes, and more.
-pub(crate) const ENOUGH: usize = 1_500;
+pub(crate) const ENOUGH: usize = 1_700;
 
 // Units at 5 and 6, of which the one at 5 may have another bank 1 and fixed locations.
 #[derive(Clone, Copy)]
@@ -66,8 +68,8 @@ pub(crate) const PLAIN: Case<'static> = Case {
     lost: &[],
     unanswered: &[],
     deeds: &[Deed::Submit(1, 5, &GTIN), Deed::Steps(ENOUGH)],
-    answers: &[(1, TAKEN, 0), (1, DONE, 96)],
-    frames: 96,
+    answers: &[(1, TAKEN, 0), (1, DONE, 112)],
+    frames: 112,
     journal: 27,
     ending: &[0x4F, 0x05, 0x45, 0x00],
     held: &[(5, 0x03, &STORED)],
@@ -113,6 +115,7 @@ pub(crate) fn events_of(alloc: Global, deeds: &[Deed<'_>]) -> Result<Vec<Event>,
                 }
             }
             Deed::Stop(bytes) => put(&mut events, Event::Stop(bytes))?,
+            Deed::Power(address) => put(&mut events, Event::Power(address))?,
         }
     }
     Ok(events)

@@ -8,12 +8,14 @@ use dali_writer::Happening;
 use std::test::Fail;
 
 // The first frames of the GTIN for unit 5: the length is read, the unit unlocked, the first byte written.
-const FIRST_FRAMES: [(Frame, Option<u8>); 19] = [
+const FIRST_FRAMES: [(Frame, Option<u8>); 21] = [
     (Frame::Dtr1(0x01), None),
     (Frame::AskDtr1(5), Some(0x01)),
     (Frame::Dtr0(0x00), None),
     (Frame::AskDtr0(5), Some(0x00)),
     (Frame::Read(5), Some(0x77)),
+    (Frame::AskDtr0(5), Some(0x01)),
+    (Frame::AskDtr1(5), Some(0x01)),
     (Frame::Enable(5), None),
     (Frame::Enable(5), None),
     (Frame::Dtr1(0x01), None),
@@ -38,7 +40,7 @@ fn a_gtin(rt: HostRuntime) -> Result<(), Fail> {
     let frames = sent(rt.alloc(), &outcome.trace)?;
     let first = frames.get(..FIRST_FRAMES.len()).unwrap_or_default();
     assert_eq!(rt; first, FIRST_FRAMES.as_slice());
-    assert_eq!(rt; frames.len(), 96);
+    assert_eq!(rt; frames.len(), 112);
     let mut before = 0usize;
     let mut opened = None;
     for happening in outcome.trace.iter() {
@@ -48,7 +50,7 @@ fn a_gtin(rt: HostRuntime) -> Result<(), Fail> {
             _ => {}
         }
     }
-    assert_eq!(rt; opened, Some((5, 5)));
+    assert_eq!(rt; opened, Some((5, 7)));
     let unit = unit_at(&bus, 5)?;
     assert_eq!(rt;
         (unit.dtrs(), unit.is_enabled()),
@@ -59,11 +61,11 @@ fn a_gtin(rt: HostRuntime) -> Result<(), Fail> {
     Ok(())
 }
 
-const ANSWER_19: Case<'static> = Case {
-    name: "the answer of frame 19",
-    unanswered: &[19],
-    answers: &[(1, TAKEN, 0), (1, DONE, 103)],
-    frames: 103,
+const ANSWER_21: Case<'static> = Case {
+    name: "the answer of frame 21",
+    unanswered: &[21],
+    answers: &[(1, TAKEN, 0), (1, DONE, 119)],
+    frames: 119,
     ..PLAIN
 };
 
@@ -82,8 +84,8 @@ const WRITTEN: [(u8, Option<u8>); 9] = [
 
 #[test]
 fn a_lost_write_answer(rt: HostRuntime) -> Result<(), Fail> {
-    let mut bus = bus_of(rt.alloc(), &ANSWER_19)?;
-    let outcome = run_case(rt.alloc(), &mut bus, &ANSWER_19)?;
+    let mut bus = bus_of(rt.alloc(), &ANSWER_21)?;
+    let outcome = run_case(rt.alloc(), &mut bus, &ANSWER_21)?;
     let mut number = 0usize;
     for (frame, answer) in sent(rt.alloc(), &outcome.trace)? {
         if let Frame::Write(byte) = frame {
@@ -92,5 +94,5 @@ fn a_lost_write_answer(rt: HostRuntime) -> Result<(), Fail> {
         }
     }
     assert_eq!(rt; number, WRITTEN.len());
-    judge(&rt, rt.alloc(), &ANSWER_19)
+    judge(&rt, rt.alloc(), &ANSWER_21)
 }

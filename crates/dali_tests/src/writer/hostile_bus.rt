@@ -123,10 +123,13 @@ fn is_as_said(unit: &Unit, end: Option<Code>) -> bool {
 fn orders_on_a_hostile_bus(rt: HostRuntime) -> Result<(), Fail> {
     let deeds = [
         Deed::Submit(1, 5, &GTIN),
+        Deed::Steps(3),
+        Deed::Power(5),
         Deed::Steps(ENOUGH),
         Deed::Submit(2, 6, &GTIN),
         Deed::Steps(300),
         Deed::Stop(1),
+        Deed::Power(6),
         Deed::Steps(ENOUGH),
         Deed::Submit(1, 5, &GTIN),
         Deed::Steps(ENOUGH),

@@ -1,13 +1,12 @@
 use crate::gtin::GTIN;
 use crate::writer::case::{
-    Case, DONE, Deed, ENOUGH, PLAIN, STORED, TAKEN, bus_of, events_of, frames_of, judge, put,
+    Case, DONE, Deed, ENOUGH, PLAIN, TAKEN, bus_of, events_of, frames_of, judge, put,
 };
-use dali_bank::{BLANK, Order};
-use dali_gear::{Bus, SimBus, Unit};
-use dali_journal::{Code, Record};
-use dali_writer::{Event, Happening, Outcome, RunFault, run_sim};
+use crate::writer::moments::judge_moments;
+use dali_bank::Order;
+use dali_gear::SimBus;
+use dali_writer::{Event, RunFault, run_sim};
 use std::alloc::Global;
-use std::process::Abort;
 use std::test::Fail;
 
 const BEGAN_CUT: Case<'static> = Case {
@@ -18,7 +17,7 @@ const BEGAN_CUT: Case<'static> = Case {
         Deed::Submit(1, 5, &GTIN),
         Deed::Steps(ENOUGH),
     ],
-    answers: &[(1, TAKEN, 0), (1, TAKEN, 0), (1, DONE, 96)],
+    answers: &[(1, TAKEN, 0), (1, TAKEN, 0), (1, DONE, 112)],
     ..PLAIN
 };
 
@@ -36,12 +35,12 @@ const ENDED_CUT: Case<'static> = Case {
     name: "Ended is cut",
     deeds: &[
         Deed::Submit(1, 5, &GTIN),
-        Deed::Steps(98),
+        Deed::Steps(114),
         Deed::Stop(1),
         Deed::Steps(ENOUGH),
     ],
-    answers: &[(1, TAKEN, 0), (1, DONE, 187)],
-    frames: 187,
+    answers: &[(1, TAKEN, 0), (1, DONE, 217)],
+    frames: 217,
     ..PLAIN
 };
 
@@ -49,7 +48,7 @@ const ENDED_WHOLE: Case<'static> = Case {
     name: "Ended is whole, and not said",
     deeds: &[
         Deed::Submit(1, 5, &GTIN),
-        Deed::Steps(98),
+        Deed::Steps(114),
         Deed::Stop(2),
         Deed::Steps(ENOUGH),
     ],
@@ -67,13 +66,13 @@ fn records_cut_and_whole(rt: HostRuntime) -> Result<(), Fail> {
 
 // The units that the three submissions are for, each with the number of its order, and how many steps
 // each takes with no stop: order 1 leaves unit 5 open, order 2 is blocked, and then done.
-const SUBMISSIONS: [(u64, u8, usize); 3] = [(1, 5, 89), (2, 6, 49), (2, 6, 113)];
+const SUBMISSIONS: [(u64, u8, usize); 3] = [(1, 5, 91), (2, 6, 49), (2, 6, 131)];
 
 // As many steps after each submission as it takes, wherever a stop comes.
 const STEPS: usize = 300;
 
 const LEFT: Case<'static> = Case {
-    lost: &[(6, 133)],
+    lost: &[(8, 135)],
     ..PLAIN
 };
 
@@ -99,107 +98,6 @@ fn events_with_a_stop(
     Ok(events)
 }
 
-// What a unit's six locations may hold, and whether it was ever opened.
-#[derive(Clone, Copy)]
-enum May {
-    HoldOld,
-    HoldEither,
-    HoldNew,
-}
-
-#[derive(Clone, Copy)]
-struct Allowed {
-    unit: u8,
-    may: May,
-    was_opened: bool,
-}
-
-impl Allowed {
-    fn holds(&self, location: usize, byte: u8) -> bool {
-        let old = BLANK.get(location) == Some(&byte);
-        let new = STORED.get(location.wrapping_sub(3)) == Some(&byte);
-        match location {
-            2 => old || self.was_opened,
-            3..=8 => match self.may {
-                May::HoldOld => old,
-                May::HoldEither => old || new,
-                May::HoldNew => new,
-            },
-            _ => old,
-        }
-    }
-
-    fn allows(&self, unit: &Unit) -> bool {
-        if unit.address() != self.unit {
-            return true;
-        }
-        for (location, &byte) in unit.bank1().iter().enumerate() {
-            if !self.holds(location, byte) {
-                return false;
-            }
-        }
-        true
-    }
-
-    // The same after a record of the unit's order.
-    fn after(self, entry: &Record) -> Allowed {
-        let may = match entry {
-            Record::Opened(_) => May::HoldEither,
-            Record::Ended(Code::Done) => May::HoldNew,
-            _ => self.may,
-        };
-        let was_opened = self.was_opened || matches!(entry, Record::Opened(_));
-        Allowed {
-            may,
-            was_opened,
-            ..self
-        }
-    }
-}
-
-// Carries the frames of a trace again, and tells whether each unit holds at each moment what the
-// records so far allow.
-fn judge_moments(
-    rt: &impl Abort,
-    alloc: Global,
-    outcome: &Outcome,
-    place: usize,
-) -> Result<(), Fail> {
-    let mut bus = bus_of(alloc, &LEFT)?;
-    let mut allowed = [5, 6].map(|unit| Allowed {
-        unit,
-        may: May::HoldOld,
-        was_opened: false,
-    });
-    let mut at_work = 0;
-    for happening in outcome.trace.iter() {
-        match happening {
-            Happening::Sent(frame, answer) => {
-                assert!(rt; frame.is_proper(), "{place}");
-                let again = bus.carry(frame);
-                assert_eq!(rt; again, *answer, "{place}");
-            }
-            Happening::Kept(entry) => {
-                if let Record::Began(order) = entry {
-                    at_work = order.unit();
-                }
-                for rule in allowed.iter_mut() {
-                    if rule.unit == at_work {
-                        *rule = rule.after(entry);
-                    }
-                }
-            }
-            _ => {}
-        }
-        for unit in bus.units() {
-            for rule in &allowed {
-                assert!(rt; rule.allows(unit), "{place}");
-            }
-        }
-    }
-    Ok(())
-}
-
 #[test]
 fn a_stop_after_each_step(rt: HostRuntime) -> Result<(), Fail> {
     let alloc = rt.alloc();
@@ -209,7 +107,7 @@ fn a_stop_after_each_step(rt: HostRuntime) -> Result<(), Fail> {
                 let events = events_with_a_stop(alloc, submission, step, bytes)?;
                 let mut bus = bus_of(alloc, &LEFT)?;
                 let outcome = run_sim(alloc, &mut bus, 10, &events)?;
-                judge_moments(&rt, alloc, &outcome, step)?;
+                judge_moments(&rt, alloc, &LEFT, &outcome, step)?;
             }
         }
     }
@@ -219,9 +117,9 @@ fn a_stop_after_each_step(rt: HostRuntime) -> Result<(), Fail> {
 const CUT: Case<'static> = Case {
     deeds: &[
         Deed::Submit(1, 5, &GTIN),
-        Deed::Steps(6),
+        Deed::Steps(8),
         Deed::Stop(1),
-        Deed::Steps(100),
+        Deed::Steps(116),
         Deed::Stop(2),
     ],
     ..PLAIN

@@ -9,6 +9,7 @@ ghost use Rattle.dali_trace.specs.Worked.{empty, left_open, first_order, second_
 ghost use Rattle.dali_trace.specs.Worked.{first_carried_out, unreached, blocked, second_begun, GoesAlong, unguarded};
 ghost use Rattle.dali_trace.specs.Worked.{bank_not_asked, written_twice, another_byte, idle_frame};
 ghost use Rattle.dali_trace.specs.Worked.{frame_to_another_unit, enabled_before_opened, opened_unread, done_unread};
+ghost use Rattle.dali_trace.specs.Worked.{short_after_six_frames};
 ghost use Rattle.dali_trace.specs.Worked.{done_with_the_lock_unread, second_taken, one_of_one, full};
 ghost use Rattle.dali_trace.specs.Worked.{busy_while_at_work, number_used_again, another_code_said, blocked_by_no_unit};
 ghost use Rattle.dali_trace.specs.Worked.{silent_write, short_ended, silent_ended, doubt_ended, left_said};
@@ -20,11 +21,11 @@ ghost use Rattle.dali_trace.specs.Worked.{blocked_under_another_number, said_aft
 ghost use Rattle.dali_trace.specs.Worked.{reply_to_another, said_before_ended, begun_while_left, closed_unread};
 ghost use Rattle.dali_trace.specs.Worked.{blocked_after_a_read, left_unit_unlocked, begun_after_a_stop};
 
-// A GTIN order on a blank unit, 96 frames, and the same order sent again.
+// A GTIN order on a blank unit, 112 frames, and the same order sent again.
 fn the_worked_trace_is_legal()
     ensures legal { Legal empty first_carried_out }
     ensures finished { IsFinished first_carried_out }
-    ensures frames { length (sent_of first_carried_out) ≡ 96 }
+    ensures frames { length (sent_of first_carried_out) ≡ 112 }
     ensures taken { taken_orders first_carried_out ≡ first_order ∷ [] }
 {}
 
@@ -99,6 +100,7 @@ fn frames_that_are_not_legal()
 
 fn records_that_are_not_legal()
     ensures opened_unread { ¬ Legal empty opened_unread }
+    ensures short_after_six_frames { ¬ Legal empty short_after_six_frames }
     ensures done_unread { ¬ Legal empty done_unread }
     ensures done_with_the_lock_unread { ¬ Legal empty done_with_the_lock_unread }
     ensures begun_twice { ¬ Legal empty begun_twice }

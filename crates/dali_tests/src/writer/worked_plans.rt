@@ -8,9 +8,10 @@ ghost use Rattle.dali_trace.specs.declared.happening.Reply.TheVariants as Reply;
 ghost use Rattle.dali_trace.specs.declared.happening.Event.{Event};
 ghost use Rattle.dali_trace.specs.declared.happening.Event.TheVariants.{Submit, Step, Stop};
 ghost use Rattle.dali_trace.specs.declared.happening.Happening.{Happening};
-ghost use Rattle.dali_trace.specs.declared.happening.Happening.TheVariants.{Answered, Stopped};
+ghost use Rattle.dali_trace.specs.declared.happening.Happening.TheVariants.{Answered, Stopped, Powered};
 ghost use Rattle.dali_trace.specs.Trace.{Start, sent_since_taken};
 ghost use Rattle.dali_trace.specs.Legal.{Legal};
+ghost use Rattle.dali_trace.specs.Fits.{IsLockedAbove};
 ghost use Rattle.dali_trace.specs.Moves.{MovesBy};
 ghost use Rattle.dali_trace.specs.Parts.{AreParts};
 ghost use Rattle.dali_trace.specs.Runs.{fresh};
@@ -19,7 +20,7 @@ ghost use Rattle.dali_trace.specs.Work.{stood_at, kept_since, frames_from, order
 ghost use Rattle.dali_trace.specs.Work.{IsWorked};
 ghost use Rattle.dali_trace.specs.Steps.{steps_in, NoneStops, IsSaid, PartsSince, IsSaidInTime, SaysInTime};
 ghost use Rattle.dali_trace.specs.Spared.{losses_since, UnrefusedSince, state_at_start, due_code, NoneFixed};
-ghost use Rattle.dali_trace.specs.Spared.{IsSpared, AtEachState, LeadsSpared};
+ghost use Rattle.dali_trace.specs.Spared.{KeepsPowerSince, IsSpared, AtEachState, LeadsSpared};
 ghost use Rattle.dali_trace.specs.Worked.{empty, left_open, first_order, second_order, short_ended, silent_ended};
 ghost use Rattle.dali_trace.specs.Worked.{blocked};
 ghost use Rattle.dali_trace.specs.Worked.{taken, begun, opened, unlocked, ended, said, left_said, second_taken};
@@ -84,11 +85,11 @@ fn but_they_are_legal()
     ensures past_the_end { Legal left_open try_past_the_end }
 {}
 
-// The limit of the first order is 1040 frames and four records, and Done comes after 96 frames where none missed.
+// The limit of the first order is 1232 frames and four records, and Done comes after 112 frames where none missed.
 fn limits_of_the_work()
-    ensures frames { (n : ℕ) → IsWithinLimit empty (frames_more n begun) ↔ (n ≤ 1040) }
+    ensures frames { (n : ℕ) → IsWithinLimit empty (frames_more n begun) ↔ (n ≤ 1232) }
     ensures records { (n : ℕ) → IsWithinLimit empty (records_more n taken) ↔ (n ≤ 4) }
-    ensures done { (n : ℕ) → IsSaidSo empty (opened_said Code.Done (frames_more n begun)) ↔ (n ≡ 96) }
+    ensures done { (n : ℕ) → IsSaidSo empty (opened_said Code.Done (frames_more n begun)) ↔ (n ≡ 112) }
     ensures another { ¬ IsSaidSo empty (Answered 2 (Reply.Kept Code.Short) ∷ short_ended) }
     ensures again { ¬ IsSaidSo empty said_again }
     ensures earlier { (start : Start) (next : Happening) (past : List Happening) → IsWorked start (next ∷ past)
@@ -120,8 +121,8 @@ fn what_counts_as_work()
     ensures stood { stood_at empty first_frame ≡ Standing.Idle }
     ensures stood_at_a_stop { stood_at empty begun_anew ≡ Standing.Began first_order }
     ensures stood_left { stood_at empty (second_taken_behind left_said) ≡ Standing.Left 5 }
-    ensures from_begun { frames_from (Standing.Began first_order) first_order.updates ≡ 96 }
-    ensures from_opened { frames_from (Standing.Opened first_order) first_order.updates ≡ 91 }
+    ensures from_begun { frames_from (Standing.Began first_order) first_order.updates ≡ 112 }
+    ensures from_opened { frames_from (Standing.Opened first_order) first_order.updates ≡ 105 }
     ensures waits { order_at_hand left_open unreached ≡ Some second_order }
     ensures opened { order_at_hand empty unlocked ≡ Some first_order }
     ensures ended { order_at_hand empty ended ≡ Some first_order }
@@ -129,11 +130,11 @@ fn what_counts_as_work()
     ensures forgotten { order_at_hand left_open (Stopped ∷ second_taken) ≡ None }
 {}
 
-// The first order is said by the 1045th step, 5 more than its limit.
-fn said_by_the_1045th_step()
-    ensures says { (n : ℕ) (trace : List Happening) → 1045 ≤ n → SaysInTime at_work (replicate n Step) [] trace
+// The first order is said by the 1237th step, 5 more than its limit.
+fn said_by_the_1237th_step()
+    ensures says { (n : ℕ) (trace : List Happening) → 1237 ≤ n → SaysInTime at_work (replicate n Step) [] trace
         → IsSaid at_work first_order [] trace }
-    ensures said { (n : ℕ) (trace : List Happening) → 1045 ≤ n → IsSaidInTime empty taken trace
+    ensures said { (n : ℕ) (trace : List Happening) → 1237 ≤ n → IsSaidInTime empty taken trace
         → PartsSince empty (replicate n Step) taken trace
         → IsSaid empty first_order taken trace }
     ensures parts { (start : Start) (newer older : List Event) (trace : List Happening)
@@ -153,7 +154,8 @@ fn what_does_not_say_it()
     ensures again { ¬ IsSaid empty first_order said said_again }
 {}
 
-// A loss counts once, whichever of the two units it is to, and only since the start. So does a refusal.
+// A loss counts once, whichever of the two units it is to, and only since the start. So does a refusal, and a loss of
+// power of one of them.
 fn what_counts_as_a_loss()
     ensures both { losses_since 5 (Some 7) (one_since start_taken) (losing 0xA0 ∷ clear ∷ losing 0xA0 ∷ []) ≡ 1 }
     ensures left { losses_since 5 (Some 7) (one_since start_taken) (losing 0x80 ∷ clear ∷ losing 0xA0 ∷ []) ≡ 1 }
@@ -162,6 +164,11 @@ fn what_counts_as_a_loss()
     ensures unrefused { UnrefusedSince (one_since start_taken) (clear ∷ clear ∷ refusing ∷ []) }
     ensures unrefused_since_a_stop { UnrefusedSince (one_since Stopped) (clear ∷ clear ∷ refusing ∷ []) }
     ensures refused { ¬ UnrefusedSince (one_since Stopped) (refusing ∷ clear ∷ clear ∷ []) }
+    ensures keeps_power { KeepsPowerSince 5 (Some 6) (one_since start_taken ++ Powered 5 ∷ Powered 6 ∷ []) }
+    ensures keeps_power_since_a_stop { KeepsPowerSince 5 (Some 6) (one_since Stopped ++ Powered 5 ∷ Powered 6 ∷ []) }
+    ensures own_powered { ¬ KeepsPowerSince 5 None (Powered 5 ∷ one_since Stopped) }
+    ensures left_powered { ¬ KeepsPowerSince 5 (Some 6) (Powered 6 ∷ one_since Stopped) }
+    ensures another_powered { KeepsPowerSince 5 (Some 6) (Powered 7 ∷ one_since Stopped) }
     ensures first { state_at_start (one_since start_taken) clear (losing 1 ∷ losing 2 ∷ losing 3 ∷ []) ≡ losing 1 }
 {}
 
@@ -178,7 +185,7 @@ fn how_an_order_is_to_end()
 {}
 
 // Seven losses are few, what is promised is so at each moment, and all that it asks for is met together by an order
-// that ends Short after one loss.
+// that ends Short after one loss, and after another unit lost its power.
 fn little_loss_is_spared()
     ensures seven { SparesSeven }
     ensures earlier { (start : Start) (next : Happening) (past : List Happening) (last state : SimState)
@@ -186,6 +193,7 @@ fn little_loss_is_spared()
         → IsSpared start (next ∷ past) last (state ∷ states) × AtEachState (IsSpared start) past state states }
     ensures leads { (limit : ℕ) (first : SimState) (past : List Happening) (last : SimState)
         (leads : LeadsSpared limit first past last) → NoneEnabled (world_of first.units)
+        → IsLockedAbove (world_of first.units)
         → IsChain (MovesBy SimStep) first past last leads.states
         × AtEachState (IsSpared (fresh limit)) past last leads.states }
     ensures met { MeetsAll }
@@ -202,7 +210,7 @@ fn the_worked_plans_are_as_they_should_be() {
     no_sooner_than_the_eighth_miss();
     nothing_wanting_after_reads();
     what_counts_as_work();
-    said_by_the_1045th_step();
+    said_by_the_1237th_step();
     what_does_not_say_it();
     what_counts_as_a_loss();
     how_an_order_is_to_end();

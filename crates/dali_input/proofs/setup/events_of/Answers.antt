@@ -4,6 +4,7 @@ use Rattle.dali_input.proofs.SetupLemmas.{more_events}
 use Rattle.dali_input.proofs.setup.events_of.Goals as goal
 use Rattle.dali_input.proofs.setup.events_of.Goals.{in-Submit+in-Ok+in_ok-push-in-Ok}
 use Rattle.dali_input.proofs.setup.events_of.Goals.{in-Steps+in_ok-push_steps-in-Steps, in-Stop+in_ok-push-in-Stop}
+use Rattle.dali_input.proofs.setup.events_of.Goals.{in-Power+in_ok-push-in-Power}
 
 pub loop-plan-preserved : goal.loop-plan-preserved
 loop-plan-preserved c = record {
@@ -19,6 +20,10 @@ loop-plan-preserved c = record {
     | in-Stop+in_ok-push-in-Stop w ↦ rw (w.events-is, w.in_ok-push-in-Stop.ensures.items)
         (more_events c.args.plans.now c.loop-plan.plan-index _ _ _ _ c.loop-plan-test.true c.plan-item.is
         (ap event_of w.in-Stop.is) c.loop-plan.invariant.made
+        ([], refl, refl))
+    | in-Power+in_ok-push-in-Power w ↦ rw (w.events-is, w.in_ok-push-in-Power.ensures.items)
+        (more_events c.args.plans.now c.loop-plan.plan-index _ _ _ _ c.loop-plan-test.true c.plan-item.is
+        (ap event_of w.in-Power.is) c.loop-plan.invariant.made
         ([], refl, refl))
   ];
   counted = ap (λ n. n + 1) c.loop-plan.invariant.counted;

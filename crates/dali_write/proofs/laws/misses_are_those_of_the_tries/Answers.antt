@@ -1,4 +1,4 @@
-use Rattle.dali_write.specs.declared.step.Step.TheVariants.{ReadFrom}
+use Rattle.dali_write.specs.declared.access.Access.TheVariants.{ReadFrom}
 use Rattle.dali_write.proofs.MissLemmas.{failed_misses, failure_misses, walk_misses_in}
 use Rattle.dali_write.proofs.laws.misses_are_those_of_the_tries.Goals as goal
 

@@ -20,9 +20,9 @@ returns-clause-ok c =
         states = ran.leads.states;
         chain = ran.leads.chain;
         spared =
-            λ none. all_spared (fresh c.args.limit) (world_of c.args.bus.now.units) c.args.bus.now
+            λ none locked. all_spared (fresh c.args.limit) (world_of c.args.bus.now.units) c.args.bus.now
             (reverse outcome.trace.items) c.run.new.bus ran.leads.states refl ran.legal ran.planned ran.leads.chain
-            ran.asked (ran.leads.right none);
+            ran.asked (ran.leads.right none locked);
       };
     })
     c.run.ensures.ok

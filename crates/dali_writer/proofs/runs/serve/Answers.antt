@@ -95,3 +95,8 @@ returns-in_ok-journal-in-None-clause-part g c = λ start d f.
     (rw c.in_ok-reserve.ensures.items at c.push_reserved-in-None.ensures.items)
     (λ entry next.
     c.in-None.ensures.cut refl entry ((c.in-None.ensures.next start (reverse c.args.trace.now.items) d f entry).1 next))
+
+pub returns-in-Power-clause-leads : goal.returns-in-Power-clause-leads
+returns-in-Power-clause-leads g c = λ first chain.
+    pushed g.B.Bus.world g.B.Bus.step first _ _ _ _ _ c.push_reserved-in-Power.ensures.items
+    (rw c.in_ok-reserve.ensures.items chain) c.power.ensures

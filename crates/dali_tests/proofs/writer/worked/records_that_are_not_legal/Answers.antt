@@ -1,10 +1,14 @@
 use Rattle.dali_trace.proofs.RefusedLemmas.{not_opened_after_a_stop, not_closed_by_an_old_read, not_opened_unread}
 use Rattle.dali_trace.proofs.RefusedLemmas.{not_done_unread, not_with_the_lock_unread, not_begun_twice}
+use Rattle.dali_trace.proofs.RefusedLemmas.{not_short_after_six_frames}
 use Rattle.dali_trace.proofs.RefusedLemmas.{not_begun_while_left, not_begun_after_a_stop, not_closed_unread}
 use Rattle.dali_tests.proofs.writer.worked.records_that_are_not_legal.Goals as goal
 
 pub returns-clause-opened_unread : goal.returns-clause-opened_unread
 returns-clause-opened_unread c = not_opened_unread
+
+pub returns-clause-short_after_six_frames : goal.returns-clause-short_after_six_frames
+returns-clause-short_after_six_frames c = not_short_after_six_frames
 
 pub returns-clause-done_unread : goal.returns-clause-done_unread
 returns-clause-done_unread c = not_done_unread

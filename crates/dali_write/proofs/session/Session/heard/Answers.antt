@@ -1,23 +1,29 @@
 use Rattle.std.proofs.Common.{◌≡◌, ◌∙◌, sym, subst, ◌∷◌, rules}
 use Rattle.dali_frame.specs.declared.forward.Frame.{Frame}
 use Rattle.dali_write.specs.Told.{Told}
-use Rattle.dali_write.proofs.ToldLemmas.{aim_at_line}
+use Rattle.dali_write.proofs.ToldLemmas.{aim_at_request}
 use Rattle.dali_write.proofs.session.Session.heard.Goals as goal
 
 pub returns-then-is_met-clause-told : goal.returns-then-is_met-clause-told
 returns-then-is_met-clause-told c told frame aim was =
     let s = c.args.self.now in
-    let at = sym c.line.ensures ∙ c.in-Some.is in
-    let wanted = aim_at_line s c.in-Some.line at in
-    let same : c.in-Some.line.frame ≡ frame = cc in
+    let at = sym c.request.ensures ∙ c.in-Some.is in
+    let wanted = aim_at_request s c.in-Some.request at in
+    let same : c.in-Some.request.frame ≡ frame = cc in
     subst (λ (f : Frame). Told (record { frame = f; answer = c.args.answer } ∷ told) c.go_on.new.self) same
-    (c.go_on.ensures.told told c.in-Some.line.wish at (search rules) was)
+    (c.go_on.ensures.told told c.in-Some.request.wish at (search rules) was)
 
 pub returns-else-is_met-clause-told : goal.returns-else-is_met-clause-told
 returns-else-is_met-clause-told c told frame aim was =
     let s = c.args.self.now in
-    let at = sym c.line.ensures ∙ c.in-Some.is in
-    let wanted = aim_at_line s c.in-Some.line at in
-    let same : c.in-Some.line.frame ≡ frame = cc in
+    let at = sym c.request.ensures ∙ c.in-Some.is in
+    let wanted = aim_at_request s c.in-Some.request at in
+    let same : c.in-Some.request.frame ≡ frame = cc in
     subst (λ (f : Frame). Told (record { frame = f; answer = c.args.answer } ∷ told) c.miss.new.self) same
-    (c.miss.ensures.told told c.in-Some.line.frame c.args.answer c.in-Some.line.wish at (search rules) was)
+    (c.miss.ensures.told told c.in-Some.request.frame c.args.answer c.in-Some.request.wish at (search rules) was)
+
+pub returns-then-is_met-clause-ended : goal.returns-then-is_met-clause-ended
+returns-then-is_met-clause-ended c verdict aim =
+    let s = c.args.self.now in
+    let wanted = aim_at_request s c.in-Some.request (sym c.request.ensures ∙ c.in-Some.is) in
+    let never : ⊥ = cc in absurd never

@@ -1,0 +1,114 @@
+-- Lemmas on what the command line names.
+use Rattle.std.proofs.Common.{◌≡◌, List, ℕ, Bool, Bor, Option, Some, None, IfSome, IfNone, true, false, option_map}
+use Rattle.std.proofs.Common.{codes, refl, ap, sym, ◌∙◌}
+use mathlib.Core.Bool.{beq}
+use Rattle.std.specs.Bool.{Decides}
+use Rattle.std.specs.Option.{option_eq}
+use Rattle.std.specs.Str.Parse.{ParsesBool}
+use Rattle.std.proofs.lemmas.Bool.Decides.{Decides-like}
+use Rattle.clap.specs.Words.{App, HasMatchesOf, ReadsOne, Row, Text, first_of, is_simple, is_simple_and_free, one_of}
+use Rattle.clap.specs.Words.{subcommand_of, subcommand_rows_of}
+use Rattle.clap.specs.declared.parser.matches.ArgMatches.{ArgMatches}
+use Rattle.clap.proofs.OnLiterals.{clap_on_literals}
+use Rattle.dali_job.specs.Jobs.{HasFlag, HasValue, IsJob, IsNoJob, bench_app}
+use Rattle.dali_job.specs.declared.job.Job.{Job}
+use Rattle.dali_job.specs.declared.job.Job.TheVariants.{Check, Run, Frame, Show, Journal, Drive}
+
+bench_is_simple : is_simple bench_app ≡ true
+unfolding clap_on_literals
+bench_is_simple = refl
+
+pub bench_is_free : is_simple_and_free bench_app ≡ true
+unfolding clap_on_literals
+bench_is_free = refl
+
+-- the command that a parse of the program's words entered
+pub entered_bench : (app : App) (words : List Text) (m : ArgMatches) → app ≡ bench_app → HasMatchesOf app words m
+    → subcommand_rows_of m ≡ subcommand_of bench_app words
+entered_bench app words m e matches =
+    (matches (ap is_simple e ∙ bench_is_simple)).1 ∙ ap (λ (a : App). subcommand_of a words) e
+
+-- a name and rows of one option
+pub name_and_rows : {A : Type 0} (o : Option A) (f : A → Text) (g : A → List Row) (name : Text) (rows : List Row)
+    → option_map f o ≡ Some name
+    → option_map (λ (p : Text × List Row). p.1) (option_map {U = Text × List Row} (λ b. (f b, g b)) o) ≡ Some rows
+    → option_map {U = Text × List Row} (λ b. (f b, g b)) o ≡ Some (name, rows)
+name_and_rows None f g name rows p q = cc
+name_and_rows (Some x) f g name rows p q = cc
+
+pub value_found : (entered : Option (Text × List Row)) (command id : Text) (rows : List Row) (o : Option (Bor (List ℕ)))
+    → entered ≡ Some (command, rows)
+    → first_of id rows ≡ option_map (λ (s : Bor (List ℕ)). s.now) o
+    → IfSome o (λ (value : Bor (List ℕ)). HasValue entered command id value.now)
+value_found entered command id rows None e first = tt
+value_found entered command id rows (Some x) e first = (rows, e, first)
+
+no_value : (f : List Row → Option Text) (command value : Text) (entered : Option (Text × List Row))
+    (rows other : List Row)
+    → entered ≡ Some (command, rows) → f rows ≡ None
+    → entered ≡ Some (command, other) → f other ≡ Some value → ⊥
+no_value f command value entered rows other e none e' some =
+    let second : Option (Text × List Row) → Option (List Row) = option_map (λ p. p.1) in
+    let same : Some rows ≡ Some other = ap second (sym e ∙ e') in
+    let clash : None ≡ Some value = cc in
+    cc
+
+pub value_none : (entered : Option (Text × List Row)) (command id : Text) (rows : List Row) (o : Option (Bor (List ℕ)))
+    → entered ≡ Some (command, rows)
+    → first_of id rows ≡ option_map (λ (s : Bor (List ℕ)). s.now) o
+    → IfNone o ((value : Text) → ¬ HasValue entered command id value)
+value_none entered command id rows None e first =
+    λ value has. no_value (first_of id) command value entered rows has.0 e first has.1 has.2
+value_none entered command id rows (Some x) e first = tt
+
+-- where no command has its value, the parse entered no job's
+pub no_job : (entered : Option (Text × List Row))
+    → ((value : Text) → ¬ HasValue entered (codes "check") (codes "ORDERS") value)
+    → ((value : Text) → ¬ HasValue entered (codes "run") (codes "SCENARIO") value)
+    → ((value : Text) → ¬ HasValue entered (codes "frame") (codes "HEX") value)
+    → ((value : Text) → ¬ HasValue entered (codes "show") (codes "HEXFILE") value)
+    → ((value : Text) → ¬ HasValue entered (codes "journal") (codes "FILE") value)
+    → ((orders journal : Bor Text) → ¬ IsJob entered (Drive orders journal)) → IsNoJob entered
+no_job entered no_orders no_scenario no_digits no_dump no_records no_drive (Check orders) = no_orders orders.now
+no_job entered no_orders no_scenario no_digits no_dump no_records no_drive (Run scenario _) =
+    λ named. no_scenario scenario.now named.0
+no_job entered no_orders no_scenario no_digits no_dump no_records no_drive (Frame digits) = no_digits digits.now
+no_job entered no_orders no_scenario no_digits no_dump no_records no_drive (Show dump) = no_dump dump.now
+no_job entered no_orders no_scenario no_digits no_dump no_records no_drive (Journal records) = no_records records.now
+no_job entered no_orders no_scenario no_digits no_dump no_records no_drive (Drive orders journal) =
+    no_drive orders journal
+
+-- the same of what may be no job
+pub no_job_in : (entered : Option (Text × List Row)) (found : Option Job)
+    → (((orders journal : Bor Text) → ¬ IsJob entered (Drive orders journal)) → IsNoJob entered)
+    → IfNone found ((orders journal : Bor Text) → ¬ IsJob entered (Drive orders journal))
+    → IfNone found (IsNoJob entered)
+no_job_in entered None others none = others none
+no_job_in entered (Some job) others none = tt
+
+-- what `get_one` reads of a text as a `bool` is true exactly where the text is `true`
+read_as_true : (E : Type 0) (text : Option Text) (o : Option Bool) → (text ≡ None → o ≡ None)
+    → ((t : Text) → text ≡ Some t → ReadsOne {E = E} ParsesBool t o)
+    → Decides (option_eq beq o (Some true)) (text ≡ Some (codes "true"))
+read_as_true E None None none value = (λ is_true. cc, λ given. cc)
+read_as_true E None (Some b) none value = let clash : Some b ≡ None = none refl in (λ is_true. cc, λ given. cc)
+read_as_true E (Some t) None none value =
+    (λ is_true. cc, λ given. let same : t ≡ codes "true" = cc in absurd ((value t refl).1.0 same))
+read_as_true E (Some t) (Some true) none value = (λ _. ap Some (value t refl), λ _. refl)
+read_as_true E (Some t) (Some false) none value =
+    let as_false : t ≡ codes "false" = value t refl in
+    (λ is_true. cc, λ given. cc)
+
+-- the same of a flag, where a parse entered the command
+pub flag_decided : (E : Type 0) (entered : Option (Text × List Row)) (command id : Text) (rows : List Row)
+    (o : Option Bool)
+    → entered ≡ Some (command, rows)
+    → (one_of id rows ≡ None → o ≡ None) → ((t : Text) → one_of id rows ≡ Some t → ReadsOne {E = E} ParsesBool t o)
+    → Decides (option_eq beq o (Some true)) (HasFlag entered command id)
+flag_decided E entered command id rows o e none value =
+    let second : Option (Text × List Row) → Option (List Row) = option_map (λ p. p.1) in
+    Decides-like _ (λ given. (rows, e, given))
+    (λ flag.
+    let same : Some rows ≡ Some flag.0 = ap second (sym e ∙ flag.1) in
+    let given : one_of id flag.0 ≡ Some (codes "true") = flag.2 in cc)
+    (read_as_true E (one_of id rows) o none value)

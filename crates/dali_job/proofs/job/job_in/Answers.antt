@@ -1,0 +1,25 @@
+use Rattle.dali_job.proofs.JobLemmas.{no_job, no_job_in}
+use Rattle.dali_job.proofs.job.job_in.Goals as goal
+
+pub returns-in-Some-clause-named : goal.returns-in-Some-clause-named
+returns-in-Some-clause-named c = c.in-Some.ensures.found
+
+pub returns-in-Some-value_of-clause-named : goal.returns-in-Some-value_of-clause-named
+returns-in-Some-value_of-clause-named c = (c.in-Some-value_of.ensures.found, c.has_flag-single_frames.ensures)
+
+pub returns-in-Some-value_of-2-clause-named : goal.returns-in-Some-value_of-2-clause-named
+returns-in-Some-value_of-2-clause-named c = c.in-Some-value_of-2.ensures.found
+
+pub returns-in-Some-value_of-3-clause-named : goal.returns-in-Some-value_of-3-clause-named
+returns-in-Some-value_of-3-clause-named c = c.in-Some-value_of-3.ensures.found
+
+pub returns-in-Some-value_of-4-clause-named : goal.returns-in-Some-value_of-4-clause-named
+returns-in-Some-value_of-4-clause-named c = c.in-Some-value_of-4.ensures.found
+
+pub returns-clause-none : goal.returns-clause-none
+returns-clause-none c =
+    no_job_in _ c.drive_in.result
+    (no_job _ c.in_default.ensures.none c.in_default-value_of.ensures.none c.in_default-value_of-2.ensures.none
+    c.in_default-value_of-3.ensures.none
+    c.in_default-value_of-4.ensures.none)
+    c.drive_in.ensures.none

@@ -1,0 +1,76 @@
+-- The command line, and what it asks for.
+use Rattle.std.specs.Prelude.{◌≡◌, List, Option, Some, codes, true}
+use Rattle.std.specs.Bool.{Decides}
+use Rattle.clap.specs.Words.{App, Row, Rule, Text, first_of, new_app, new_rule, one_of, subcommand_of, with_rule}
+use Rattle.clap.specs.Words.{with_subcommand}
+use Rattle.clap.specs.declared.builder.ArgAction.TheVariants.{Set, SetTrue}
+use Rattle.dali_job.specs.declared.job.Job.{Job}
+use Rattle.dali_job.specs.declared.job.Job.TheVariants.{Check, Run, Frame, Show, Journal, Drive}
+
+-- an argument that has to be there, and takes one value
+abbrev pub value_rule : Text → Rule
+value_rule id = record (new_rule id) { required = true; action = Some Set }
+
+-- a flag under its own name
+abbrev pub flag_rule : Text → Rule
+flag_rule id = record (new_rule id) { long = Some id; action = Some SetTrue }
+
+-- a command with one argument
+abbrev pub command_app : Text → Text → App
+command_app name id = with_rule (new_app name) (value_rule id)
+
+-- a program that wants a command
+abbrev pub top_app : App
+top_app = let app = new_app (codes "dali_bench") in record app { top = record app.top { subcommand_required = true } }
+
+-- the command that runs a scenario, with its flag
+abbrev pub run_app : App
+run_app = with_rule (command_app (codes "run") (codes "SCENARIO")) (flag_rule (codes "frames"))
+
+-- the command that drives, with its two files
+abbrev pub drive_app : App
+drive_app = with_rule (command_app (codes "drive") (codes "ORDERS")) (value_rule (codes "JOURNAL"))
+
+-- the program's commands and their arguments, as `clap` sees them
+abbrev pub bench_app : App
+bench_app = let checks = with_subcommand top_app (command_app (codes "check") (codes "ORDERS")).top in
+    let runs = with_subcommand checks run_app.top in
+    let frames = with_subcommand runs (command_app (codes "frame") (codes "HEX")).top in
+    let shows = with_subcommand frames (command_app (codes "show") (codes "HEXFILE")).top in
+    let journals = with_subcommand shows (command_app (codes "journal") (codes "FILE")).top in
+    with_subcommand journals drive_app.top
+
+-- a parse entered the command, and its argument has the value
+abbrev pub HasValue : Option (Text × List Row) → Text → Text → Text → Type 0
+HasValue entered command id value =
+    (rows : List Row) × (entered ≡ Some (command, rows)) × (first_of id rows ≡ Some value)
+
+-- a parse entered the command, and its flag is given
+abbrev pub HasFlag : Option (Text × List Row) → Text → Text → Type 0
+HasFlag entered command id =
+    (rows : List Row) × (entered ≡ Some (command, rows)) × (one_of id rows ≡ Some (codes "true"))
+
+-- the job is the command that a parse entered, with its values and flags
+abbrev pub IsJob : Option (Text × List Row) → Job → Type 0
+IsJob entered (Check orders) = HasValue entered (codes "check") (codes "ORDERS") orders.now
+IsJob entered (Run scenario single_frames) =
+    HasValue entered (codes "run") (codes "SCENARIO") scenario.now
+    × Decides single_frames (HasFlag entered (codes "run") (codes "frames"))
+IsJob entered (Frame digits) = HasValue entered (codes "frame") (codes "HEX") digits.now
+IsJob entered (Show dump) = HasValue entered (codes "show") (codes "HEXFILE") dump.now
+IsJob entered (Journal records) = HasValue entered (codes "journal") (codes "FILE") records.now
+IsJob entered (Drive orders journal) =
+    HasValue entered (codes "drive") (codes "ORDERS") orders.now
+    × HasValue entered (codes "drive") (codes "JOURNAL") journal.now
+
+-- no job is that of the command that a parse entered
+abbrev pub IsNoJob : Option (Text × List Row) → Type 0
+IsNoJob entered = (job : Job) → ¬ IsJob entered job
+
+-- the job that the words name
+abbrev pub IsJobOf : List Text → Job → Type 0
+IsJobOf words job = IsJob (subcommand_of bench_app words) job
+
+-- the words name no job
+abbrev pub NamesNoJob : List Text → Type 0
+NamesNoJob words = IsNoJob (subcommand_of bench_app words)

@@ -1,0 +1,311 @@
+ghost use Rattle.std.specs.Prelude.{◌≡◌, ◌⊎◌, List, ℕ, IfOk, IfErr, IfSome, IfNone, codes, false, map};
+ghost use Rattle.clap.specs.declared.builder.command.Command.TheViews.{out-Command as fields_of};
+ghost use Rattle.std.specs.Bool.{Decides};
+ghost use Rattle.clap.specs.Words.{HasKind, app_of, fault_of, subcommand_rows_of};
+ghost use Rattle.dali_job.specs.Jobs.{HasFlag, HasValue, IsJob, IsJobOf, IsNoJob, NamesNoJob, bench_app};
+ghost use Rattle.dali_job.specs.Jobs.{command_app, drive_app, run_app};
+ghost use Rattle.dali_job.specs.declared.job.Job.TheVariants.{Drive};
+ghost use Rattle.std.specs.Borrow.{Bor};
+
+use clap::error::ErrorKind;
+use clap::{Arg, ArgAction, ArgMatches, Command, Error};
+use std::alloc::{AllocError, Global};
+
+/// What the command line asks for.
+#[derive(Clone, Copy, Debug, PartialEq, Eq)]
+pub enum Job<'a> {
+    /// To check a file of orders.
+    Check(&'a str),
+    /// To run the events of a scenario file on simulated units; with `single_frames`, each frame
+    /// has a line of its own.
+    Run {
+        scenario: &'a str,
+        single_frames: bool,
+    },
+    /// To print what the word of a forward frame means.
+    Frame(&'a str),
+    /// To print what the bytes of a memory bank say.
+    Show(&'a str),
+    /// To print the records of a journal.
+    Journal(&'a str),
+    /// To carry out a file of orders over a link, with the journal of a file.
+    Drive {
+        orders: &'a str,
+        journal: &'a str,
+    },
+}
+
+const ABOUT: &str =
+    "Luminaire data in memory bank 1 of DALI control gear: orders checked, and run on simulated units";
+
+const CHECK_ABOUT: &str = "Checks a file of orders and prints the bytes that each would write";
+
+const ORDERS_HELP: &str = "A JSON array of orders; /dev/stdin for standard input";
+
+const CHECK_FAULTS: &str = "\
+Faults of an order: 1 Unit (short address over 63), 2 Kind (value of another kind),
+3 Range (number out of range), 4 Gtin (length or check digit), 5 Text (length or character,
+or no 16 hexadecimal digits), 7 Voltage (minimum over maximum), 8 Empty (no field),
+9 Shape (no object, or order or unit is missing or no whole number), 10 Key (unknown key).
+Faults of the file: 11 Json, 12 Document (no array), 13 TooBig (over 16777216 bytes),
+20 Memory, 21 File (can't be opened or read).
+Exit status: 0 all accepted, 1 something refused, 2 a file, the memory or the output failed.";
+
+const RUN_ABOUT: &str = "Runs the events of a scenario on simulated units and prints what happened";
+
+const SCENARIO_HELP: &str =
+    "A JSON object of limit, units, fates and events; /dev/stdin for standard input";
+
+const FRAMES_HELP: &str = "Prints a line for each frame, with its answer";
+
+const RUN_FAULTS: &str = "\
+Keys of a unit: address, bank, fixed, dtr; of a fate: times, lost, answer_lost, refuse;
+of an event: submit, steps, stop or power.
+Faults of the file: 11 Json, 12 Document (an unknown key, or another form), 13 TooBig (over 16777216
+bytes, 20000 events or 20000 fates), 20 Memory, 21 File (can't be opened or read).
+Faults of a unit: 1 Address (over 63), 2 Size (not 17 to 255 bytes, or 00h isn't the last location),
+3 Fixed (locations that don't rise, below 03h or past the last);
+of the units together: 5 SameAddress.
+Faults of a submitted order: as of `check`. Fault of the run: 1 Limit (0 or over 100000).
+Exit status: 0 it ran, 1 something refused, 2 a file, the memory or the output failed.";
+
+const FRAME_ABOUT: &str = "Prints what the word of a forward frame means";
+
+const HEX_HELP: &str = "Four hexadecimal digits, as A303";
+
+const FRAME_FAULTS: &str = "\
+Faults: 14 Hex (not four hexadecimal digits), 20 Memory.
+Exit status: 0 printed, 1 refused, 2 the memory or the output failed.";
+
+const SHOW_ABOUT: &str = "Prints what the bytes of a memory bank say";
+
+const HEXFILE_HELP: &str =
+    "The bytes as hexadecimal digits, location 00h first; /dev/stdin for standard input";
+
+const SHOW_FAULTS: &str = "\
+Faults of the file: 13 TooBig (over 4096 bytes of text, or over 255 bytes of the bank),
+14 Hex (no hexadecimal digits, or an odd number of them), 20 Memory, 21 File (can't be opened or read).
+Exit status: 0 printed, 1 refused, 2 a file, the memory or the output failed.";
+
+const JOURNAL_ABOUT: &str = "Prints the records of a writer's journal, and how much of it counts";
+
+const FILE_HELP: &str = "The journal's bytes; /dev/stdin for standard input";
+
+const JOURNAL_FAULTS: &str = "\
+Faults of the journal, with the place of the record, counted from 0: 3 Record (no record stands there),
+4 Sequence (the records before don't allow it), 5 Repeated (its order number was there),
+6 Full (over 100000 orders). A record that is cut off at the end doesn't count, and is no fault.
+Faults of the file: 13 TooBig (over 33554432 bytes), 20 Memory, 21 File (can't be opened or read).
+Exit status: 0 printed, 1 refused, 2 a file, the memory or the output failed.";
+
+const DRIVE_ABOUT: &str =
+    "Carries out a file of orders over a link: standard output has the frames, standard input the answers";
+
+const DRIVE_ORDERS_HELP: &str = "A JSON array of orders, as for `check`";
+
+const DRIVE_JOURNAL_HELP: &str = "The writer's journal, which is made where there is none";
+
+const DRIVE_FAULTS: &str = "\
+Standard output has a line for each frame, four hexadecimal digits. For each, one line is read from standard
+input: two hexadecimal digits, or -- for no answer. Replies and faults go to standard error.
+Nothing is sent where an item is refused, with the faults of `check`, or where a file has a fault:
+of ORDERS 11 Json, 12 Document, 13 TooBig (over 16777216 bytes), of JOURNAL 13 TooBig (over 33554432 bytes)
+and those of `journal`; 20 Memory, 21 File (can't be opened, read or synced, or another drive has the journal).
+Faults of a drive: 1 Journal (can't be written), 2 Link (can't be read or written), 3 Line (no answer),
+4 End (no more answers), 6 TooLong (over 8 bytes in a line), 7 Out (standard error can't be written).
+After a fault the same command goes on from the journal.
+Exit status: 0 each order has its reply, whatever it says, 1 something refused, or 3 Line, 4 End, 6 TooLong,
+2 a file, the memory, the link or the output failed.";
+
+/// Reads the command line, the program's name first.
+///
+/// The error is `clap`'s: its text for a person, which may be the help that was asked for, or want of memory.
+pub fn job_of<'a>(alloc: Global, words: &'a [&'a str]) -> Result<Job<'a>, Error>
+    ensures named { IfOk result (IsJobOf (map (λ word. word.now) words.entry.now)) }
+    ensures refused { IfErr result (λ error. HasKind (fault_of bench_app (map (λ word. word.now) words.entry.now)) error
+        ⊎ NamesNoJob (map (λ word. word.now) words.entry.now)) }
+{
+    let mut command = bench_command(alloc)?;
+    let matches = match command.try_get_matches_from_mut(words) {
+        Ok(matches) => matches,
+        Err(error) => return Err(error),
+    };
+    match job_in(&matches) {
+        Some(job) => Ok(job),
+        None => Err(missing(&mut command)),
+    }
+}
+
+// The job of the command that a parse entered.
+fn job_in<'a>(matches: &ArgMatches<'a>) -> Option<Job<'a>>
+    ensures named { IfSome result (IsJob (subcommand_rows_of matches.now)) }
+    ensures none { IfNone result (IsNoJob (subcommand_rows_of matches.now)) }
+{
+    if let Some(orders) = value_of(matches, "check", "ORDERS") {
+        return Some(Job::Check(orders));
+    }
+    if let Some(scenario) = value_of(matches, "run", "SCENARIO") {
+        let single_frames = has_flag(matches, "run", "frames");
+        return Some(Job::Run {
+            scenario,
+            single_frames,
+        });
+    }
+    if let Some(digits) = value_of(matches, "frame", "HEX") {
+        return Some(Job::Frame(digits));
+    }
+    if let Some(dump) = value_of(matches, "show", "HEXFILE") {
+        return Some(Job::Show(dump));
+    }
+    if let Some(records) = value_of(matches, "journal", "FILE") {
+        return Some(Job::Journal(records));
+    }
+    drive_in(matches)
+}
+
+// The job of the command that drives, where a parse entered it.
+fn drive_in<'a>(matches: &ArgMatches<'a>) -> Option<Job<'a>>
+    ensures named { IfSome result (IsJob (subcommand_rows_of matches.now)) }
+    ensures none { IfNone result
+        ((orders journal : Bor (List ℕ)) → ¬ IsJob (subcommand_rows_of matches.now) (Drive orders journal)) }
+{
+    let Some(orders) = value_of(matches, "drive", "ORDERS") else {
+        return None;
+    };
+    match value_of(matches, "drive", "JOURNAL") {
+        Some(journal) => Some(Job::Drive { orders, journal }),
+        None => None,
+    }
+}
+
+// The value of a command's argument, where a parse entered that command.
+fn value_of<'a>(matches: &ArgMatches<'a>, command: &str, id: &str) -> Option<&'a str>
+    ensures found { IfSome result (λ value. HasValue (subcommand_rows_of matches.now) command.now id.now value.now) }
+    ensures none { IfNone result
+        ((value : List ℕ) → ¬ HasValue (subcommand_rows_of matches.now) command.now id.now value) }
+{
+    match matches.subcommand_matches(command) {
+        Some(found) => found.get_str(id),
+        None => None,
+    }
+}
+
+// Whether a parse entered the command with its flag.
+fn has_flag(matches: &ArgMatches<'_>, command: &str, id: &str) -> bool
+    ensures { Decides result (HasFlag (subcommand_rows_of matches.now) command.now id.now) }
+{
+    match matches.subcommand_matches(command) {
+        Some(found) => found.get_one(id) == Some(true),
+        None => false,
+    }
+}
+
+// The program's commands.
+fn bench_command<'a>(alloc: Global) -> Result<Command<'a>, AllocError>
+    ensures { IfOk result (λ command. app_of command ≡ bench_app) }
+{
+    let top = Command::new(alloc, "dali_bench")
+        .about(ABOUT)
+        .subcommand_required(true);
+    let checks = top.subcommand(check_command(alloc)?)?;
+    let runs = checks.subcommand(run_command(alloc)?)?;
+    let frames = runs.subcommand(frame_command(alloc)?)?;
+    let shows = frames.subcommand(show_command(alloc)?)?;
+    let journals = shows.subcommand(journal_command(alloc)?)?;
+    journals.subcommand(drive_command(alloc)?)
+}
+
+// The command that checks a file of orders.
+fn check_command<'a>(alloc: Global) -> Result<Command<'a>, AllocError>
+    ensures app { IfOk result (λ command. app_of command ≡ command_app (codes "check") (codes "ORDERS")) }
+    ensures local { IfOk result (λ command. (fields_of command).has_globals ≡ false) }
+{
+    let command = command_with(alloc, "check", "ORDERS", ORDERS_HELP)?;
+    Ok(told(command, CHECK_ABOUT, CHECK_FAULTS))
+}
+
+// The command that runs a scenario, with its flag.
+fn run_command<'a>(alloc: Global) -> Result<Command<'a>, AllocError>
+    ensures app { IfOk result (λ command. app_of command ≡ run_app) }
+    ensures local { IfOk result (λ command. (fields_of command).has_globals ≡ false) }
+{
+    let frames = Arg::new(alloc, "frames")
+        .long("frames")
+        .help(FRAMES_HELP)
+        .action(ArgAction::SetTrue);
+    let command = command_with(alloc, "run", "SCENARIO", SCENARIO_HELP)?.arg(frames)?;
+    Ok(told(command, RUN_ABOUT, RUN_FAULTS))
+}
+
+// The command that says what a frame means.
+fn frame_command<'a>(alloc: Global) -> Result<Command<'a>, AllocError>
+    ensures app { IfOk result (λ command. app_of command ≡ command_app (codes "frame") (codes "HEX")) }
+    ensures local { IfOk result (λ command. (fields_of command).has_globals ≡ false) }
+{
+    let command = command_with(alloc, "frame", "HEX", HEX_HELP)?;
+    Ok(told(command, FRAME_ABOUT, FRAME_FAULTS))
+}
+
+// The command that says what a memory bank holds.
+fn show_command<'a>(alloc: Global) -> Result<Command<'a>, AllocError>
+    ensures app { IfOk result (λ command. app_of command ≡ command_app (codes "show") (codes "HEXFILE")) }
+    ensures local { IfOk result (λ command. (fields_of command).has_globals ≡ false) }
+{
+    let command = command_with(alloc, "show", "HEXFILE", HEXFILE_HELP)?;
+    Ok(told(command, SHOW_ABOUT, SHOW_FAULTS))
+}
+
+// The command that prints a journal's records.
+fn journal_command<'a>(alloc: Global) -> Result<Command<'a>, AllocError>
+    ensures app { IfOk result (λ command. app_of command ≡ command_app (codes "journal") (codes "FILE")) }
+    ensures local { IfOk result (λ command. (fields_of command).has_globals ≡ false) }
+{
+    let command = command_with(alloc, "journal", "FILE", FILE_HELP)?;
+    Ok(told(command, JOURNAL_ABOUT, JOURNAL_FAULTS))
+}
+
+// The command that carries out orders over a link.
+fn drive_command<'a>(alloc: Global) -> Result<Command<'a>, AllocError>
+    ensures app { IfOk result (λ command. app_of command ≡ drive_app) }
+    ensures local { IfOk result (λ command. (fields_of command).has_globals ≡ false) }
+{
+    let journal = Arg::new(alloc, "JOURNAL")
+        .help(DRIVE_JOURNAL_HELP)
+        .required(true)
+        .action(ArgAction::Set);
+    let command = command_with(alloc, "drive", "ORDERS", DRIVE_ORDERS_HELP)?.arg(journal)?;
+    Ok(told(command, DRIVE_ABOUT, DRIVE_FAULTS))
+}
+
+// A command with one argument, which has to be there.
+fn command_with<'a>(
+    alloc: Global,
+    name: &'a str,
+    id: &'a str,
+    help: &'a str,
+) -> Result<Command<'a>, AllocError>
+    ensures app { IfOk result (λ command. app_of command ≡ command_app name.entry.now id.entry.now) }
+    ensures local { IfOk result (λ command. (fields_of command).has_globals ≡ false) }
+{
+    let argument = Arg::new(alloc, id)
+        .help(help)
+        .required(true)
+        .action(ArgAction::Set);
+    Command::new(alloc, name).arg(argument)
+}
+
+// The command, with what it does and its faults in its help.
+fn told<'a>(command: Command<'a>, about: &'a str, faults: &'a str) -> Command<'a>
+    ensures app { app_of result ≡ app_of command.entry }
+    ensures local { (fields_of result).has_globals ≡ (fields_of command.entry).has_globals }
+{
+    command.about(about).after_help(faults)
+}
+
+// The error of a command line that names no job.
+fn missing(command: &mut Command<'_>) -> Error {
+    match command.error(ErrorKind::MissingSubcommand, "a command is wanted") {
+        Ok(error) => error,
+        Err(error) => Error::from(error),
+    }
+}

@@ -1,0 +1,171 @@
+-- What stands in front of bytes: updates, a Began, a whole group.
+use Rattle.std.proofs.Common.{◌≡◌, ℕ, ◌+◌, ◌*◌, ◌^◌, ◌<◌, ◌≤◌, List, [], ◌∷◌, ◌++◌, length, take, drop, get_or}
+use Rattle.std.proofs.Common.{refl, sym, ap, ◌∙◌, subst, arith, append_assoc, length-append, ◌≢◌, ◌⊎◌, inl, inr}
+use Rattle.std.proofs.Math.Seq.{drop-append_seam}
+use Rattle.std.proofs.lemmas.List.{append-nil, length-take, length-take-le, take-append-drop}
+use Rattle.std.proofs.lemmas.Bool.{cases_lt}
+use Rattle.std.specs.List.{AllByRecursion}
+use Rattle.std.specs.Int.{w64, to_be_bytes, from_be_bytes}
+use Rattle.dali_bank.specs.Order.{IsWritable, RisesAbove}
+use Rattle.dali_journal.specs.declared.record.Code.{Code}
+use Rattle.dali_journal.specs.declared.record.Record.{Record}
+use Rattle.dali_journal.specs.declared.record.Record.TheVariants.{Began}
+use Rattle.dali_journal.specs.declared.read.Pairs.TheVariants as lists
+use Rattle.dali_journal.specs.Spelling.{spelling, pairs_spelling, journal_spelling}
+use Rattle.dali_journal.specs.GroupAhead.{AreUpdatesAbove, HasUpdates, HasBegan, HasEnd, HasGroup}
+use Rattle.dali_journal.specs.GroupAhead.{last_location, end_records}
+use Rattle.dali_journal.specs.Reading.{IsRead}
+use Rattle.dali_journal.specs.Decoding.{began_piece}
+use Rattle.dali_journal.proofs.PairLemmas.{AreBytes, climb, length-climb}
+use Rattle.dali_journal.proofs.PieceLemmas.{length-pairs_spelling, reads-began, number-of, bytes-take}
+use Rattle.dali_journal.proofs.JournalLemmas.{pairs_in_range}
+use Rattle.dali_journal.proofs.TornLemmas.{bytes_front, bytes_back}
+
+-- the two bytes in front
+pub two_front : (bytes : List ℕ) → 2 ≤ length bytes
+    → get_or (take 2 bytes) 0 0 ∷ get_or (take 2 bytes) 1 0 ∷ drop 2 bytes ≡ bytes
+two_front [] h = absurd (omega arith)
+two_front (first ∷ []) h = absurd (omega arith)
+two_front (first ∷ second ∷ rest) h = refl
+
+-- one update in front of others
+pub one_more : (low : ℕ) (bytes two after : List ℕ) → two ≡ take 2 bytes → after ≡ drop 2 bytes
+    → length after + 2 ≡ length bytes
+    → low < get_or two 0 0 → get_or two 0 0 ≢ 0x11 → get_or two 0 0 ≢ 0x12
+    → AreUpdatesAbove (get_or two 0 0) after → AreUpdatesAbove low bytes
+one_more low bytes two after t a long above first second has = record {
+  updates = (get_or two 0 0, get_or two 1 0) ∷ has.updates;
+  rest = has.rest;
+  spelled =
+      sym (two_front bytes (omega arith)) ∙ (λ j. get_or (sym t j) 0 0 ∷ get_or (sym t j) 1 0 ∷ sym a j)
+      ∙ ap (λ bs. get_or two 0 0 ∷ get_or two 1 0 ∷ bs) has.spelled;
+  short = has.short;
+  rising = (above, has.rising);
+  outside = (beside (get_or two 0 0) first second, has.outside);
+  high = has.high;
+}
+  where
+    beside : (location : ℕ) → location ≢ 0x11 → location ≢ 0x12 → (location ≤ 0x10) ⊎ (0x13 ≤ location)
+    beside location first second = elim (cases_lt location 0x11) [
+      | inl below ↦ inl (omega arith)
+      | inr above ↦ inr (omega arith)
+    ]
+
+-- where locations rise, none is above the last
+last_above : (low : ℕ) (updates : List (ℕ × ℕ)) → RisesAbove low updates → low ≤ last_location low updates
+last_above low [] rises = omega arith
+last_above low (update ∷ updates) rises = omega (arith, rises.0, last_above update.0 updates rises.1)
+
+all_writable : (low : ℕ) (updates : List (ℕ × ℕ)) → 2 ≤ low → RisesAbove low updates
+    → AllByRecursion (λ update. (update.0 ≤ 0x10) ⊎ (0x13 ≤ update.0)) updates → last_location low updates ≤ 0x77
+    → AllByRecursion (λ update. IsWritable update.0) updates
+all_writable low [] most rises outside high = tt
+all_writable low (update ∷ updates) most rises outside high = (
+  by outside.0,
+  all_writable update.0 updates (omega (arith, rises.0)) rises.1 outside.1 high,
+)
+  where
+    by : (update.0 ≤ 0x10) ⊎ (0x13 ≤ update.0) → IsWritable update.0
+    by (inl below) = inl (omega (arith, rises.0), below)
+    by (inr above) = inr (above, omega (arith, last_above update.0 updates rises.1))
+
+rises_lower : (low lower : ℕ) (updates : List (ℕ × ℕ)) → lower ≤ low → RisesAbove low updates → RisesAbove lower updates
+rises_lower low lower [] below rises = tt
+rises_lower low lower (update ∷ updates) below rises = (omega (arith, rises.0), rises.1)
+
+-- so many bytes in front that are updates are half as many
+pub updates_there : (count most : ℕ) (bytes : List ℕ) → most ≡ 2 * count → most ≤ length bytes
+    → AreUpdatesAbove 0x02 (take most bytes) → HasUpdates count 0 bytes
+updates_there count most bytes twice within are = record {
+  updates = are.updates;
+  rest = are.rest ++ drop most bytes;
+  spelled =
+      sym (take-append-drop most bytes) ∙ ap (λ bs. bs ++ drop most bytes) are.spelled
+      ∙ append_assoc (pairs_spelling are.updates) are.rest (drop most bytes);
+  counted =
+      (let long = sym (length-take-le most bytes within) ∙ ap length are.spelled in
+      let parts = length-append (pairs_spelling are.updates) are.rest in
+      let pairs = length-pairs_spelling are.updates in
+      let short = are.short in omega arith);
+  rising = rises_lower 0x02 0 are.updates (omega arith) are.rising;
+  writable = all_writable 0x02 are.updates (omega arith) are.rising are.outside are.high;
+}
+
+-- a Began whose updates are there is there
+began_whole : (id unit count : ℕ) (bytes rest : List ℕ) → AreBytes rest → id < 2 ^ 64 → unit ≤ 63 → 1 ≤ count
+    → 0x42 ∷ to_be_bytes w64 id ++ unit ∷ count ∷ rest ≡ bytes → HasUpdates count 0 rest
+    → HasBegan id unit (11 + 2 * count) bytes
+began_whole id unit count bytes rest are i u some same has =
+    let in_range = pairs_in_range has.updates
+    (bytes_front (pairs_spelling has.updates) has.rest (subst AreBytes has.spelled are)) in
+    let climbs = climb 0 has.updates has.rising has.writable in_range in
+    let few : count ≤ 115 = omega (arith, length-climb 0 has.updates climbs, has.counted) in
+    let reads = reads-began id unit count rest (lists.Whole (record { items = has.updates })) i u some few
+    (record { length_is = has.counted; rises = climbs }, has.rest, has.spelled) in
+    let piece = began_piece id unit count (lists.Whole (record { items = has.updates })) in
+    let there = subst (λ (bs : List ℕ). IsRead bs piece) same reads in
+    record {
+      order = record { id = id; unit = unit; updates = has.updates };
+      begins = there.0;
+      named = refl;
+      unit_is = refl;
+      counted = there.1;
+    }
+
+pub began_there : (letter id : ℕ) (bytes rest number behind two after : List ℕ) → AreBytes bytes
+    → bytes ≡ letter ∷ rest → letter ≡ 0x42
+    → number ≡ take 8 rest → behind ≡ drop 8 rest → length behind + 8 ≡ length rest
+    → two ≡ take 2 behind → after ≡ drop 2 behind → length after + 2 ≡ length behind
+    → id ≡ from_be_bytes w64 number → get_or two 0 0 ≤ 63 → 1 ≤ get_or two 1 0
+    → HasUpdates (get_or two 1 0) 0 after
+    → HasBegan id (get_or two 0 0) (11 + 2 * get_or two 1 0) bytes
+began_there letter id bytes rest number behind two after are front is_b n b long t a more i u some has =
+    let are_rest : AreBytes rest = (subst AreBytes front are).1 in
+    let eight = number-of (take 8 rest) (rw length-take (omega arith)) (bytes-take 8 rest are_rest) in
+    let id_is : id ≡ from_be_bytes w64 (take 8 rest) = i ∙ ap (from_be_bytes w64) n in
+    let pair : get_or two 0 0 ∷ get_or two 1 0 ∷ after ≡ behind =
+    (λ j. get_or (t j) 0 0 ∷ get_or (t j) 1 0 ∷ a j) ∙ two_front behind (omega arith) in
+    let spelled : to_be_bytes w64 id ++ get_or two 0 0 ∷ get_or two 1 0 ∷ after ≡ rest =
+    (λ j. (ap (to_be_bytes w64) id_is ∙ eight.1) j ++ (pair ∙ b) j) ∙ take-append-drop 8 rest in
+    let are_behind : AreBytes (get_or two 0 0 ∷ get_or two 1 0 ∷ after) =
+    bytes_back (to_be_bytes w64 id) (get_or two 0 0 ∷ get_or two 1 0 ∷ after)
+    (subst AreBytes (sym spelled) are_rest) in
+    began_whole id (get_or two 0 0) (get_or two 1 0) bytes after are_behind.1.1
+    (subst (λ m. m < 2 ^ 64) (sym id_is) eight.0) u some
+    ((λ j. sym is_b j ∷ spelled j) ∙ sym front) has
+
+-- newer records stand behind older ones
+pub spelling_append : (newer older : List Record)
+    → journal_spelling (newer ++ older) ≡ journal_spelling older ++ journal_spelling newer
+spelling_append [] older = sym (append-nil (journal_spelling older))
+spelling_append (newest ∷ newer) older =
+    ap (λ front. front ++ spelling newest) (spelling_append newer older)
+    ∙ append_assoc (journal_spelling older) (journal_spelling newer) (spelling newest)
+
+-- a Began and the end of its group are the group
+pub group_there : (id unit : ℕ) (code : Code) (len end : ℕ) (bytes : List ℕ) → HasBegan id unit len bytes
+    → HasEnd unit code end (drop len bytes) → HasGroup id code (len + end) bytes
+group_there id unit code len end bytes began ended =
+    let order = began.order in
+    let ends : List Record = end_records order.unit code in
+    let head : List ℕ = spelling (Began order) in
+    let behind : drop len bytes ≡ began.begins.1 =
+    (λ j. drop (began.counted j) (began.begins.2 j)) ∙ drop-append_seam head began.begins.1 in
+    let unit_is : end_records unit code ≡ ends = ap (λ u. end_records u code) (sym began.unit_is) in
+    let whole : journal_spelling (ends ++ Began order ∷ []) ≡ head ++ journal_spelling ends =
+    spelling_append ends (Began order ∷ []) in
+    record {
+      order = order;
+      begins = began.begins;
+      named = began.named;
+      rest = ended.rest;
+      spelled =
+          began.begins.2
+          ∙ ap (λ bs. head ++ bs)
+          (sym behind ∙ ended.spelled ∙ ap (λ es. journal_spelling es ++ ended.rest) unit_is)
+          ∙ sym (append_assoc head (journal_spelling ends) ended.rest)
+          ∙ ap (λ bs. bs ++ ended.rest) (sym whole);
+      counted =
+          (let n = began.counted in let m = ended.counted ∙ ap (λ es. length (journal_spelling es)) unit_is in
+          let w = ap length whole ∙ length-append head (journal_spelling ends) in omega arith);
+    }

@@ -1,0 +1,79 @@
+-- What stands in front of bytes: a whole group of records (an order that began, and how it ended), or many.
+use Rattle.std.specs.Prelude.{◌≡◌, ◌⊎◌, ℕ, ◌≤◌, nat_eq, true, List, [], ◌∷◌, ◌++◌, length, take}
+use Rattle.std.specs.Prelude.{Some}
+use Rattle.std.specs.List.{AllByRecursion}
+use Rattle.std.specs.Map.{lookup}
+use Rattle.dali_bank.specs.Order.{Contents, IsWritable, RisesAbove}
+use Rattle.dali_journal.specs.declared.record.Code.{Code}
+use Rattle.dali_journal.specs.declared.record.Code.TheVariants.{Done, Short, Format, Silent, Doubt, DoubtOpen}
+use Rattle.dali_journal.specs.declared.record.Record.{Record}
+use Rattle.dali_journal.specs.declared.record.Record.TheVariants.{Began, Opened, Ended, Closed}
+use Rattle.dali_journal.specs.declared.standing.Standing.TheVariants as standings
+use Rattle.dali_journal.specs.declared.index.Place.{Place}
+use Rattle.dali_journal.specs.Spelling.{spelling, pairs_spelling, journal_spelling}
+use Rattle.dali_journal.specs.Reading.{BeginsWith}
+use Rattle.dali_journal.specs.Decoding.{records_in}
+use Rattle.dali_journal.specs.Index.{is_begun_at, IsSound}
+
+-- the location of the last update, or another where there is none
+abbrev pub last_location : ℕ → List (ℕ × ℕ) → ℕ
+last_location low [] = low
+last_location low (update ∷ updates) = last_location update.0 updates
+
+-- the bytes are updates above a location, and at most one byte more
+pub record AreUpdatesAbove (low : ℕ) (bytes : List ℕ) : Type 0 where
+  pub updates : List (ℕ × ℕ)
+  pub rest : List ℕ
+  pub spelled : bytes ≡ pairs_spelling updates ++ rest
+  pub short : length rest ≤ 1
+  pub rising : RisesAbove low updates
+  pub outside : AllByRecursion (λ update. (update.0 ≤ 0x10) ⊎ (0x13 ≤ update.0)) updates
+  pub high : last_location low updates ≤ 0x77
+
+-- in front of the bytes stand so many updates, above a location
+pub record HasUpdates (count low : ℕ) (bytes : List ℕ) : Type 0 where
+  pub updates : List (ℕ × ℕ)
+  pub rest : List ℕ
+  pub spelled : bytes ≡ pairs_spelling updates ++ rest
+  pub counted : length updates ≡ count
+  pub rising : RisesAbove low updates
+  pub writable : AllByRecursion (λ update. IsWritable update.0) updates
+
+-- in front of the bytes stands the Began of an order of this number and unit, with so many bytes
+pub record HasBegan (id unit len : ℕ) (bytes : List ℕ) : Type 0 where
+  pub order : Contents
+  pub begins : BeginsWith bytes (Began order)
+  pub named : order.id ≡ id
+  pub unit_is : order.unit ≡ unit
+  pub counted : len ≡ length (spelling (Began order))
+
+-- the records behind the Began of a unit's order that ended so, up to the last of its group: the newest first
+abbrev pub end_records : ℕ → Code → List Record
+end_records unit Short = Ended Short ∷ []
+end_records unit Format = Ended Format ∷ []
+end_records unit Silent = Ended Silent ∷ []
+end_records unit Done = Ended Done ∷ Opened unit ∷ []
+end_records unit Doubt = Ended Doubt ∷ Opened unit ∷ []
+end_records unit DoubtOpen = Closed unit ∷ Ended DoubtOpen ∷ Opened unit ∷ []
+
+-- in front of the bytes stand these records, with so many bytes
+pub record HasEnd (unit : ℕ) (code : Code) (len : ℕ) (bytes : List ℕ) : Type 0 where
+  pub rest : List ℕ
+  pub spelled : bytes ≡ journal_spelling (end_records unit code) ++ rest
+  pub counted : len ≡ length (journal_spelling (end_records unit code))
+
+-- in front of the bytes stands the whole group of an order of this number that ended so, with so many bytes
+pub record HasGroup (id : ℕ) (code : Code) (len : ℕ) (bytes : List ℕ) : Type 0 where
+  pub order : Contents
+  pub begins : BeginsWith bytes (Began order)
+  pub named : order.id ≡ id
+  pub rest : List ℕ
+  pub spelled : bytes ≡ journal_spelling (end_records order.unit code ++ Began order ∷ []) ++ rest
+  pub counted : len ≡ length (journal_spelling (end_records order.unit code ++ Began order ∷ []))
+
+-- so many bytes in front are those of a journal that is idle, with so many orders; the index tells of each of these,
+-- and of no other
+pub record IsFront (limit : ℕ) (bytes : List ℕ) (len orders : ℕ) (index : List (ℕ × Place)) : Type 0 where
+  pub within : len ≤ length bytes
+  pub sound : IsSound (take len bytes) (records_in (take len bytes)) standings.Idle orders limit 0 index
+  pub begun : (id : ℕ) (place : Place) → lookup (nat_eq id) index ≡ Some place → is_begun_at place ≡ true

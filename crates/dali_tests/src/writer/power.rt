@@ -1,0 +1,127 @@
+use crate::gtin::GTIN;
+use crate::writer::case::{
+    Case, DONE, Deed, ENOUGH, PLAIN, TAKEN, bus_of, holds, judge, run_case, unit_at,
+};
+use crate::writer::moments::judge_moments;
+use dali_journal::Code;
+use dali_writer::{Happening, Reply};
+use std::alloc::Global;
+use std::process::Abort;
+use std::test::Fail;
+
+const DOUBT: Reply = Reply::Kept(Code::Doubt);
+
+// Before the first read: DTR1 is 00h, so the read isn't answered, and the next try begins.
+const BEFORE_THE_READ: Case<'static> = Case {
+    name: "power lost after two steps of the first read",
+    deeds: &[
+        Deed::Submit(1, 5, &GTIN),
+        Deed::Steps(3),
+        Deed::Power(5),
+        Deed::Steps(200),
+    ],
+    answers: &[(1, TAKEN, 0), (1, DONE, 117)],
+    frames: 117,
+    ..PLAIN
+};
+
+// After it: QUERY CONTENT DTR0 answers 00h in place of 01h.
+const AFTER_THE_READ: Case<'static> = Case {
+    name: "power lost straight after the first read",
+    deeds: &[
+        Deed::Submit(1, 5, &GTIN),
+        Deed::Steps(6),
+        Deed::Power(5),
+        Deed::Steps(200),
+    ],
+    answers: &[(1, TAKEN, 0), (1, DONE, 118)],
+    frames: 118,
+    ..PLAIN
+};
+
+// The unit is locked again, so that the write at 03h isn't answered in eight tries. The order sent again sends
+// no frame, and at 9 there is no unit.
+const ONCE_UNLOCKED: Case<'static> = Case {
+    name: "power lost once the unit is unlocked",
+    deeds: &[
+        Deed::Submit(1, 5, &GTIN),
+        Deed::Steps(16),
+        Deed::Power(5),
+        Deed::Steps(200),
+        Deed::Power(9),
+        Deed::Submit(1, 5, &GTIN),
+        Deed::Steps(200),
+    ],
+    answers: &[(1, TAKEN, 0), (1, DOUBT, 84), (1, DOUBT, 84)],
+    frames: 84,
+    ending: &[0x4F, 0x05, 0x45, 0x04],
+    held: &[(5, 0x02, &[0xFF; 7])],
+    ..PLAIN
+};
+
+// Other units, or none, may lose their power at any time.
+const OF_OTHERS: Case<'static> = Case {
+    name: "power lost by other units, and where no unit is",
+    deeds: &[
+        Deed::Power(64),
+        Deed::Submit(1, 5, &GTIN),
+        Deed::Steps(5),
+        Deed::Power(6),
+        Deed::Steps(30),
+        Deed::Power(63),
+        Deed::Power(255),
+        Deed::Steps(ENOUGH),
+    ],
+    ..PLAIN
+};
+
+#[test]
+fn units_that_lose_their_power(rt: HostRuntime) -> Result<(), Fail> {
+    for case in [BEFORE_THE_READ, AFTER_THE_READ, ONCE_UNLOCKED, OF_OTHERS] {
+        judge(&rt, rt.alloc(), &case)?;
+    }
+    Ok(())
+}
+
+// The reply that came last, where one did.
+fn last_reply(trace: &[Happening]) -> Option<Reply> {
+    let mut last = None;
+    for happening in trace {
+        if let Happening::Answered(_, reply) = happening {
+            last = Some(*reply);
+        }
+    }
+    last
+}
+
+// A GTIN, with the unit's power lost after so many steps: at each moment each unit holds what the records allow, and
+// it ends as Done or in doubt, with the unit locked.
+fn judge_at(rt: &impl Abort, alloc: Global, steps: usize) -> Result<(), Fail> {
+    let deeds = [
+        Deed::Submit(1, 5, &GTIN),
+        Deed::Steps(steps),
+        Deed::Power(5),
+        Deed::Steps(ENOUGH),
+    ];
+    let case = Case {
+        deeds: &deeds,
+        ..PLAIN
+    };
+    let mut bus = bus_of(alloc, &case)?;
+    let outcome = run_case(alloc, &mut bus, &case)?;
+    judge_moments(rt, alloc, &case, &outcome, steps)?;
+    let reply = last_reply(&outcome.trace);
+    assert!(rt; reply == Some(DONE) || reply == Some(DOUBT), "{steps}");
+    let unit = unit_at(&bus, 5)?;
+    assert!(rt; holds(unit, 2, &[0xFF]) && !unit.is_enabled(), "{steps}");
+    Ok(())
+}
+
+// Of the 116 steps that a GTIN takes, after each in turn, and before the first.
+#[test]
+fn a_loss_of_power_after_each_step(rt: HostRuntime) -> Result<(), Fail> {
+    for steps in 0..=116usize {
+        judge_at(&rt, rt.alloc(), steps)?;
+    }
+    Ok(())
+}

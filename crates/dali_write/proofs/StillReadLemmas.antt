@@ -1,0 +1,40 @@
+-- A checked read goes on to tell the truth until a frame enables a unit or writes.
+use Rattle.std.proofs.Common.{inl, inr, subst, ℕ, List, [], ◌∷◌}
+use Rattle.dali_frame.specs.declared.forward.Frame.{Frame}
+use Rattle.dali_frame.specs.declared.forward.Frame.TheVariants.{Dtr0, Dtr1, Dtr2, Write, WriteSilent, Enable, AskDtr0}
+use Rattle.dali_frame.specs.declared.forward.Frame.TheVariants.{AskDtr1, AskDtr2, Read, Other}
+use Rattle.dali_bus.specs.World.{World}
+use Rattle.dali_write.specs.Exchanges.{Exchange}
+use Rattle.dali_write.specs.Reads.{IsPassive, StillRead}
+use Rattle.dali_write.specs.Worlds.{Run, Shows}
+use Rattle.dali_write.proofs.GearLemmas.{IsQuiet, carry_stays}
+use Rattle.dali_write.proofs.PowerLemmas.{shows_kept, stays_keeps, drifts_keep}
+use Rattle.dali_write.proofs.TruthLemmas.{split, read_true}
+
+-- a frame that enables no unit and writes nothing is quiet at each address
+pub passive_quiet : (frame : Frame) → IsPassive frame → (address : ℕ) → IsQuiet address frame
+passive_quiet (Dtr0 byte) passive address = tt
+passive_quiet (Dtr1 byte) passive address = tt
+passive_quiet (Dtr2 byte) passive address = tt
+passive_quiet (AskDtr0 unit) passive address = tt
+passive_quiet (AskDtr1 unit) passive address = tt
+passive_quiet (AskDtr2 unit) passive address = tt
+passive_quiet (Read unit) passive address = tt
+passive_quiet (Write byte) passive address = absurd passive
+passive_quiet (WriteSilent byte) passive address = absurd passive
+passive_quiet (Enable unit) passive address = absurd passive
+passive_quiet (Other word) passive address = absurd passive
+
+pub stands_true : {loses : ℕ → Type 0} (told : List Exchange) (first last : World) (unit location byte : ℕ)
+    → Run loses told first last → StillRead told unit location byte
+    → Shows loses last unit location byte
+stands_true [] first last unit location byte run stands = absurd stands
+stands_true {loses} (x ∷ told) first last unit location byte run (inl ends) =
+    let parts = split _ ends.0 ends.1 first last (subst (λ (t : List Exchange). Run loses t first last) ends.2 run) in
+    read_true ends.0 parts.0 last unit location byte parts.2 ends.3
+stands_true (x ∷ told) first last unit location byte run (inr (passive, stands)) =
+    let before = stands_true told first run.0 unit location byte run.2 stands in
+    let quiet = carry_stays run.0 x.frame x.answer run.1 unit (passive_quiet x.frame passive unit) run.3 in
+    shows_kept run.1 last unit location byte
+    (shows_kept run.0 run.1 unit location byte before (stays_keeps run.0 run.1 unit quiet))
+    (drifts_keep run.1 last run.4 unit)

@@ -1,0 +1,276 @@
+-- Near the edges of what is promised of accesses and sessions.
+use Rattle.std.proofs.Common.{◌≡◌, ◌⊎◌, inl, inr, refl, sym, ap, subst, ◌∙◌, ℕ, zero, suc, ◌+◌, ◌≤◌, true, false}
+use Rattle.std.proofs.Common.{ne_eqb, List, [], ◌∷◌, ◌++◌, append_assoc, append-nil, length, Option, Some, None, arith}
+use Rattle.dali_frame.specs.declared.forward.Frame.TheVariants.{Dtr0, Dtr1, AskDtr0, AskDtr1, Read}
+use Rattle.dali_gear.specs.UnitState.{UnitState}
+use Rattle.dali_gear.specs.SimState.{SimState}
+use Rattle.dali_write.specs.Exchanges.{Exchange}
+use Rattle.dali_write.specs.declared.request.Request.{Request}
+use Rattle.dali_write.specs.declared.request.Wish.{Wish}
+use Rattle.dali_write.specs.declared.request.Wish.TheVariants.{Nothing, Exactly, Anything}
+use Rattle.dali_write.specs.declared.ask.Ask.TheVariants.{Ended}
+use Rattle.dali_write.specs.declared.ask.Verdict.{Verdict}
+use Rattle.dali_write.specs.declared.ask.Verdict.TheVariants.{Doubt}
+use Rattle.dali_write.specs.Requests.{request, read_requests}
+use Rattle.dali_write.specs.Plans.{Plan, Finish, goes_on, plan_after, expect, give_up}
+use Rattle.dali_write.specs.Tries.{Trying, Missed, AccessEnds, AccessesEnd, Wants}
+use Rattle.dali_write.specs.Walks.{Walk}
+use Rattle.dali_write.specs.Misses.{is_missed, misses_in, IsLong}
+use Rattle.dali_write.specs.Losses.{SimRun, losses, Unrefused, IsAlone}
+use Rattle.dali_write.specs.Successes.{MayStoreAt, HasBank, Spared, MissesByLosses}
+use Rattle.dali_write.specs.Doubts.{EndsUnread, EndsUnlooked, FoundAnother}
+use Rattle.dali_write.specs.WorkedAccesses.{sent, missed_read, after_a_miss, small_bank, two_units}
+use Rattle.dali_write.proofs.ShapeLemmas.{trying_length}
+
+-- what is a miss
+pub another_missed : is_missed (Exactly 1) (Some 2) ≡ true
+another_missed = refl
+
+pub none_missed : is_missed Anything None ≡ true
+none_missed = refl
+
+pub wished_met : is_missed (Exactly 1) (Some 1) ≡ false
+wished_met = refl
+
+pub nothing_wished : is_missed Nothing None ≡ false
+nothing_wished = refl
+
+-- with one miss at most the frames of one try more
+miss_length : (n : ℕ) → length (after_a_miss n) ≡ 1 + n
+miss_length zero = refl
+miss_length (suc n) = let rest = miss_length n in omega arith
+
+one_miss : (n : ℕ) → misses_in (after_a_miss n) ≡ 1
+one_miss zero = refl
+one_miss (suc n) = let rest = one_miss n in omega arith
+
+pub long_within : (n : ℕ) → IsLong 12 (after_a_miss n) → (11 ≤ n) × (n ≤ 18)
+long_within n long =
+    let least = long.0 in
+    let most = long.1 in let all = miss_length n in let one = one_miss n in (omega arith, omega arith)
+
+pub long_enough : (n : ℕ) → (11 ≤ n) × (n ≤ 18) → IsLong 12 (after_a_miss n)
+long_enough n (least, most) = let all = miss_length n in let one = one_miss n in (omega arith, omega arith)
+
+-- the locations that are taken
+pub first_taken : MayStoreAt small_bank 0x03
+first_taken = (omega arith, omega arith, refl)
+
+pub last_taken : MayStoreAt small_bank 0x10
+last_taken = (omega arith, omega arith, refl)
+
+pub lock_not_taken : MayStoreAt small_bank 0x02 → ⊥
+lock_not_taken takes = let low = takes.0 in omega arith
+
+pub next_not_taken : MayStoreAt small_bank 0x11 → ⊥
+next_not_taken takes = let high = takes.1 in omega arith
+
+pub fixed_not_taken : MayStoreAt small_bank 0x07 → ⊥
+fixed_not_taken takes = let never : true ≡ false = takes.2 in cc
+
+-- a unit behind another one has its bank
+pub second_has : HasBank 5 small_bank two_units
+second_has = inr (inl (refl, refl))
+
+-- seven losses are few, and with none nothing was missed
+pub seven_spared : (loses : ℕ → Type 0) (at : ℕ) (unit : UnitState) (told : List Exchange) (first last : SimState)
+    (run : SimRun loses told first last)
+    → (loses at → ⊥) → IsAlone at unit first.units → Unrefused loses told first last run
+    → losses at loses told first last run ≡ 7 → Spared loses at unit told first last
+seven_spared loses at unit told first last run keeps_power alone kind seven =
+    record { run = run; keeps_power = keeps_power; alone = alone; kind = kind; few = omega arith }
+
+pub none_lost : (loses : ℕ → Type 0) (at : ℕ) (unit : UnitState) (told : List Exchange) (first last : SimState)
+    (spared : Spared loses at unit told first last)
+    → MissesByLosses loses at unit told first last spared
+    → losses at loses told first last spared.run ≡ 0 → misses_in told ≡ 0
+none_lost loses at unit told first last spared few none = omega arith
+
+-- a read that failed names its unit and its location
+head_of : (x y : Request) (xs ys : List Request) → x ∷ xs ≡ y ∷ ys → x.frame ≡ y.frame
+head_of x y xs ys e = let same : x ≡ y = cc in ap (λ (l : Request). l.frame) same
+
+rest_of : (x y : Request) (xs ys : List Request) → x ∷ xs ≡ y ∷ ys → xs ≡ ys
+rest_of x y xs ys e = cc
+
+try_names : (unit location u l : ℕ) (x : Exchange) (tried : List Exchange) (wish : Wish) (left : List Request)
+    (rest told : List Exchange)
+    → missed_read unit location told ≡ (x ∷ tried) ++ rest
+    → Trying (read_requests u l) tried (request x.frame wish ∷ left)
+    → (u ≡ unit) × (l ≡ location)
+try_names unit location u l x [] wish left rest told parts try =
+    let newest : sent (AskDtr0 unit) None ≡ x = cc in
+    let asks : AskDtr0 unit ≡ x.frame = ap (λ (e : Exchange). e.frame) newest in
+    let e0 = try in
+    let last = head_of _ _ _ _ e0 in
+    absurd (let never : AskDtr0 unit ≡ Dtr1 1 = asks ∙ last in cc)
+try_names unit location u l x (a ∷ []) wish left rest told parts try =
+    let newest : sent (AskDtr0 unit) None ≡ x = cc in
+    let asks : AskDtr0 unit ≡ x.frame = ap (λ (e : Exchange). e.frame) newest in
+    let e0 = try.2 in
+    let e1 = rest_of _ _ _ _ e0 in
+    let last = head_of _ _ _ _ e1 in
+    absurd (let never : AskDtr0 unit ≡ AskDtr1 u = asks ∙ last in cc)
+try_names unit location u l x (a ∷ b ∷ []) wish left rest told parts try =
+    let newest : sent (AskDtr0 unit) None ≡ x = cc in
+    let asks : AskDtr0 unit ≡ x.frame = ap (λ (e : Exchange). e.frame) newest in
+    let e0 = try.2.2 in
+    let e1 = rest_of _ _ _ _ e0 in
+    let e2 = rest_of _ _ _ _ e1 in
+    let last = head_of _ _ _ _ e2 in
+    absurd (let never : AskDtr0 unit ≡ Dtr0 l = asks ∙ last in cc)
+try_names unit location u l x (a ∷ b ∷ c ∷ []) wish left rest told parts try =
+    let newest : sent (AskDtr0 unit) None ≡ x = cc in
+    let asks : AskDtr0 unit ≡ x.frame = ap (λ (e : Exchange). e.frame) newest in
+    let e0 = try.2.2.2 in
+    let e1 = rest_of _ _ _ _ e0 in
+    let e2 = rest_of _ _ _ _ e1 in
+    let e3 = rest_of _ _ _ _ e2 in
+    let last = head_of _ _ _ _ e3 in
+    let before : sent (Dtr0 location) None ≡ a = cc in
+    let sets : Dtr0 location ≡ a.frame = ap (λ (e : Exchange). e.frame) before in
+    let third = head_of _ _ _ _ e2 in
+    let same_unit : AskDtr0 unit ≡ AskDtr0 u = asks ∙ last in
+    let same_location : Dtr0 location ≡ Dtr0 l = sets ∙ third in
+    (cc, cc)
+try_names unit location u l x (a ∷ b ∷ c ∷ d ∷ []) wish left rest told parts try =
+    let newest : sent (AskDtr0 unit) None ≡ x = cc in
+    let asks : AskDtr0 unit ≡ x.frame = ap (λ (e : Exchange). e.frame) newest in
+    let e0 = try.2.2.2.2 in
+    let e1 = rest_of _ _ _ _ e0 in
+    let e2 = rest_of _ _ _ _ e1 in
+    let e3 = rest_of _ _ _ _ e2 in
+    let e4 = rest_of _ _ _ _ e3 in
+    let last = head_of _ _ _ _ e4 in
+    absurd (let never : AskDtr0 unit ≡ Read u = asks ∙ last in cc)
+try_names unit location u l x (a ∷ b ∷ c ∷ d ∷ e ∷ []) wish left rest told parts try =
+    let before : sent (Dtr0 location) None ≡ a = cc in
+    let sets : Dtr0 location ≡ a.frame = ap (λ (e : Exchange). e.frame) before in
+    let e0 = try.2.2.2.2.2 in
+    let e1 = rest_of _ _ _ _ e0 in
+    let e2 = rest_of _ _ _ _ e1 in
+    let e3 = rest_of _ _ _ _ e2 in
+    let e4 = rest_of _ _ _ _ e3 in
+    let fifth = head_of _ _ _ _ e4 in
+    absurd (let never : Dtr0 location ≡ Read u = sets ∙ fifth in cc)
+try_names unit location u l x (a ∷ b ∷ c ∷ d ∷ e ∷ f ∷ []) wish left rest told parts try =
+    let newest : sent (AskDtr0 unit) None ≡ x = cc in
+    let asks : AskDtr0 unit ≡ x.frame = ap (λ (e : Exchange). e.frame) newest in
+    let e0 = try.2.2.2.2.2.2 in
+    let e1 = rest_of _ _ _ _ e0 in
+    let e2 = rest_of _ _ _ _ e1 in
+    let e3 = rest_of _ _ _ _ e2 in
+    let e4 = rest_of _ _ _ _ e3 in
+    let e5 = rest_of _ _ _ _ e4 in
+    let e6 = rest_of _ _ _ _ e5 in
+    let last = head_of _ _ _ _ e6 in
+    absurd (let never : AskDtr0 unit ≡ AskDtr1 u = asks ∙ last in cc)
+try_names unit location u l x (a ∷ b ∷ c ∷ d ∷ e ∷ f ∷ g ∷ more) wish left rest told parts try =
+    let long = trying_length (read_requests u l) (a ∷ b ∷ c ∷ d ∷ e ∷ f ∷ g ∷ more) (request x.frame wish ∷ left) try in
+    absurd (omega arith)
+
+missed_names : (unit location u l : ℕ) (newer rest told : List Exchange)
+    → missed_read unit location told ≡ newer ++ rest → Missed (read_requests u l) newer → (u ≡ unit) × (l ≡ location)
+missed_names unit location u l [] rest told parts missed = absurd missed
+missed_names unit location u l (x ∷ tried) rest told parts (wish, left, misses_it, try) =
+    try_names unit location u l x tried wish left rest told parts try
+
+pub unread_names : (unit location u l : ℕ) (told : List Exchange) → EndsUnread u l (missed_read unit location told)
+    → (u ≡ unit) × (l ≡ location)
+unread_names unit location u l told f =
+    let are = f.missed in
+    missed_names unit location u l are.0 (are.1 ++ f.older) told
+    (f.parts ∙ ap (λ (t : List Exchange). t ++ f.older) are.2 ∙ append_assoc are.0 are.1 f.older) are.3
+
+pub unlooked_names : (unit location u : ℕ) (told : List Exchange) → EndsUnlooked u (missed_read unit location told)
+    → (location ≡ 0x00) ⊎ ((location ≡ 0x11) ⊎ (location ≡ 0x12))
+unlooked_names unit location u told (inl f) = inl (sym (unread_names unit location u 0x00 told f).1)
+unlooked_names unit location u told (inr (inl f)) = inr (inl (sym (unread_names unit location u 0x11 told f).1))
+unlooked_names unit location u told (inr (inr f)) = inr (inr (sym (unread_names unit location u 0x12 told f).1))
+
+-- walks one after the other
+walk_then : (unit : ℕ) (plan mid end : Plan) (outcomes others : List (Option ℕ)) (older newer : List Exchange)
+    → Walk unit plan outcomes older mid → Walk unit mid others newer end
+    → (all : List (Option ℕ)) × Walk unit plan all (newer ++ older) end
+walk_then unit plan mid end [] others older newer (none, same) later =
+    let told : newer ++ older ≡ newer = ap (λ (t : List Exchange). newer ++ t) none ∙ append-nil newer in (
+      others,
+      subst (λ (t : List Exchange). Walk unit plan others t end) (sym told)
+          (subst (λ (p : Plan). Walk unit p others newer end) (sym same) later),
+    )
+walk_then unit plan mid end (outcome ∷ outcomes) others older newer (after, before, parts, ends, walk) later =
+    let rest = walk_then unit (goes_on plan outcome) mid end outcomes others after newer walk later in (
+      outcome ∷ rest.0,
+      (
+        newer ++ after,
+        before,
+        ap (λ (t : List Exchange). newer ++ t) parts ∙ sym (append_assoc newer after before),
+        ends,
+        rest.1,
+      ),
+    )
+
+-- the accesses of a walk, the newest first
+record Accesses (unit : ℕ) (plan : Plan) (told : List Exchange) (end : Plan) : Type 0 where
+  outcomes : List (Option ℕ)
+  accesses : AccessesEnd unit plan outcomes told
+  comes : plan_after plan outcomes ≡ end
+
+walk_accesses : (unit : ℕ) (plan now end : Plan) (done outcomes : List (Option ℕ)) (ended told : List Exchange)
+    → AccessesEnd unit plan done ended → plan_after plan done ≡ now
+    → Walk unit now outcomes told end → Accesses unit plan (told ++ ended) end
+walk_accesses unit plan now end done [] ended told accesses comes (none, same) =
+    record { outcomes = done; accesses = rw none accesses; comes = comes ∙ same }
+walk_accesses unit plan now end done (outcome ∷ outcomes) ended told accesses comes (newer, older, parts, ends, walk) =
+    let one : AccessesEnd unit plan (outcome ∷ done) (older ++ ended) =
+    (older, ended, refl, subst (λ (p : Plan). AccessEnds unit p outcome older) (sym comes) ends, accesses) in
+    let all =
+    walk_accesses unit plan (goes_on now outcome) end (outcome ∷ done) outcomes (older ++ ended) newer one
+    (ap (λ (p : Plan). goes_on p outcome) comes) walk in
+    let same : newer ++ (older ++ ended) ≡ told ++ ended =
+    sym (append_assoc newer older ended) ∙ ap (λ (t : List Exchange). t ++ ended) (sym parts) in
+    subst (λ (t : List Exchange). Accesses unit plan t end) same all
+
+walk_wants : (unit : ℕ) (plan : Plan) (verdict : Verdict) (outcomes : List (Option ℕ)) (told : List Exchange)
+    → Walk unit plan outcomes told (Finish verdict) → Wants unit plan told (Ended verdict)
+walk_wants unit plan verdict outcomes told walk =
+    let all =
+    subst (λ (t : List Exchange). Accesses unit plan t (Finish verdict)) (append-nil told)
+    (walk_accesses unit plan plan (Finish verdict) [] outcomes [] told refl refl walk) in
+    record {
+      now = Finish verdict;
+      misses = 0;
+      left = [];
+      byte = None;
+      stands = record {
+        outcomes = all.outcomes;
+        ended = told;
+        missed = [];
+        tried = [];
+        parts = refl;
+        accesses = all.accesses;
+        now_is = all.comes;
+        few = omega arith;
+        misses_are = refl;
+        try = refl;
+        byte_is = refl;
+        going = refl;
+      };
+      ask_is = refl;
+    }
+
+-- where another byte was found, the session ended in doubt
+pub found_doubts : (unit : ℕ) (plan : Plan) (expected : List (ℕ × ℕ)) (told : List Exchange)
+    → FoundAnother unit plan expected told → Wants unit plan told (Ended Doubt)
+found_doubts unit plan expected told f =
+    let differs = ne_eqb f.found f.byte f.another in
+    let goes : goes_on (expect f.location f.byte f.after) (Some f.found) ≡ give_up = rw differs refl in
+    let gave = subst (λ (p : Plan). Walk unit p f.later f.newer (Finish Doubt)) (sym goes) f.gave_up in
+    let later : Walk unit (expect f.location f.byte f.after) (Some f.found ∷ f.later) (f.newer ++ f.read)
+    (Finish Doubt) =
+    (f.newer, f.read, refl, inl f.answered, gave) in
+    let all =
+    walk_then unit plan (expect f.location f.byte f.after) (Finish Doubt) f.before (Some f.found ∷ f.later) f.older
+    (f.newer ++ f.read) f.came later in
+    walk_wants unit plan Doubt all.0 told (subst (λ (t : List Exchange). Walk unit plan all.0 t (Finish Doubt))
+    (append_assoc f.newer f.read f.older ∙ sym f.parts) all.1)

@@ -1,0 +1,70 @@
+-- What losses of power may change and what not, near the edges: what a weaker definition would let through.
+use Rattle.std.proofs.Common.{◌≡◌, ◌≢◌, inl, inr, refl, sym, ◌∙◌, ℕ, [], ◌∷◌, Option, Some, None, arith}
+use Rattle.dali_frame.specs.declared.forward.Frame.{Frame}
+use Rattle.dali_bus.specs.World.{World}
+use Rattle.dali_gear.specs.SimState.{SimState, SimCarry, SimPower, world_of}
+use Rattle.dali_write.specs.Losses.{SimDrifts, SimStays, SimLoses, SimRun}
+use Rattle.dali_write.specs.Worlds.{IsAmong, Drifts, Stays, Loses, MayRelock}
+use Rattle.dali_write.specs.WhenRead.{AllBut}
+use Rattle.dali_write.proofs.RunLemmas.{sim_drifts}
+
+byte_is : (one other : ℕ) → Some one ≡ Some other → one ≡ other
+byte_is one other e = cc
+
+pub relocked_in_bank_1 : MayRelock (Unit {0}) 1 2 (Some 0x55) (Some 0xFF)
+relocked_in_bank_1 = inr (tt, omega arith, refl, refl)
+
+pub not_relocked_in_bank_0 : MayRelock (Unit {0}) 0 2 (Some 0x55) (Some 0xFF) → ⊥
+not_relocked_in_bank_0 (inl same) = omega (arith, byte_is 0xFF 0x55 same)
+not_relocked_in_bank_0 (inr relocks) = omega (arith, relocks.1)
+
+pub not_relocked_at_03h : MayRelock (Unit {0}) 1 3 (Some 0x55) (Some 0xFF) → ⊥
+not_relocked_at_03h (inl same) = omega (arith, byte_is 0xFF 0x55 same)
+not_relocked_at_03h (inr relocks) = omega (arith, relocks.2)
+
+pub not_another_lock_byte : MayRelock (Unit {0}) 1 2 (Some 0x55) (Some 0x12) → ⊥
+not_another_lock_byte (inl same) = omega (arith, byte_is 0x12 0x55 same)
+not_another_lock_byte (inr relocks) = omega (arith, byte_is 0x12 0xFF relocks.3)
+
+pub no_lock_byte_comes : MayRelock (Unit {0}) 1 2 None (Some 0xFF) → ⊥
+no_lock_byte_comes (inl same) = cc
+no_lock_byte_comes (inr relocks) = let never : Some 0xFF ≡ None = relocks.3 in cc
+
+pub not_relocked_with_its_power : MayRelock ⊥ 1 2 (Some 0x55) (Some 0xFF) → ⊥
+not_relocked_with_its_power (inl same) = omega (arith, byte_is 0xFF 0x55 same)
+not_relocked_with_its_power (inr relocks) = relocks.0
+
+-- where the unit at 5 alone loses its power, that at 6 stays as it is
+other_than : (address : ℕ) → IsAmong (5 ∷ []) address → 6 ≢ address
+other_than address (inl is) = λ same. omega (arith, is, same)
+other_than address (inr none) = absurd none
+
+pub others_stay : (first last : World) → Drifts (IsAmong (5 ∷ [])) first last → last 6 ≡ first 6
+others_stay first last Stays = refl
+others_stay first last (Loses {mid = mid} address of_these drifts lost) =
+    lost.others 6 (other_than address of_these) ∙ others_stay first mid drifts
+
+-- and so it is on the simulated bus, where it may do so before a frame and after it, and twice
+pub simulated_others_stay : (first last : SimState) → SimDrifts (IsAmong (5 ∷ [])) first last
+    → world_of last.units 6 ≡ world_of first.units 6
+simulated_others_stay first last drifts =
+    others_stay (world_of first.units) (world_of last.units) (sim_drifts (IsAmong (5 ∷ [])) first last drifts)
+
+pub powered_before : (first mid last : SimState) (frame : Frame) (answer : Option ℕ) → SimPower first 5 mid
+    → SimCarry mid frame answer last
+    → SimRun (IsAmong (5 ∷ [])) (record { frame = frame; answer = answer } ∷ []) first last
+powered_before first mid last frame answer lost carried =
+    (mid, SimLoses 5 (inl refl) SimStays lost, last, carried, SimStays)
+
+pub powered_twice_after : (first mid then last : SimState) (frame : Frame) (answer : Option ℕ)
+    → SimCarry first frame answer mid → SimPower mid 5 then → SimPower then 5 last
+    → SimRun (IsAmong (5 ∷ [])) (record { frame = frame; answer = answer } ∷ []) first last
+powered_twice_after first mid then last frame answer carried one two =
+    (first, SimStays, mid, carried, SimLoses 5 (inl refl) (SimLoses 5 (inl refl) SimStays one) two)
+
+-- while only others lose their power, the unit stays as it is
+pub keeps_its_power : (loses : ℕ → Type 0) (first last : World) → Drifts (AllBut 6 loses) first last
+    → last 6 ≡ first 6
+keeps_its_power loses first last Stays = refl
+keeps_its_power loses first last (Loses {mid = mid} address of_these drifts lost) =
+    lost.others 6 (λ same. of_these.1 (sym same)) ∙ keeps_its_power loses first mid drifts

@@ -1,0 +1,39 @@
+-- Small lists of exchanges and units near the edges of what is promised of accesses and sessions.
+use Rattle.std.specs.Prelude.{ℕ, zero, suc, replicate, List, [], ◌∷◌, Option, Some, None}
+use Rattle.dali_frame.specs.declared.forward.Frame.{Frame}
+use Rattle.dali_frame.specs.declared.forward.Frame.TheVariants.{Dtr0, Dtr1, AskDtr0, AskDtr1}
+use Rattle.dali_gear.specs.UnitState.{BankState, UnitState, new_unit}
+use Rattle.dali_write.specs.declared.request.Wish.{Wish}
+use Rattle.dali_write.specs.declared.request.Wish.TheVariants.{Nothing, Exactly, Anything}
+use Rattle.dali_write.specs.Exchanges.{Exchange}
+
+-- one frame may wish for just the answer 01h, one for any answer, and one for none
+abbrev pub answer_01 : Wish
+answer_01 = Exactly 1
+
+abbrev pub any_answer : Wish
+any_answer = Anything
+
+abbrev pub no_answer : Wish
+no_answer = Nothing
+
+abbrev pub sent : Frame → Option ℕ → Exchange
+sent frame answer = record { frame = frame; answer = answer }
+
+-- a try of a checked read more, that misses where DTR0 is asked back
+abbrev pub missed_read : ℕ → ℕ → List Exchange → List Exchange
+missed_read unit location told =
+    sent (AskDtr0 unit) None ∷ sent (Dtr0 location) None ∷ sent (AskDtr1 unit) (Some 1) ∷ sent (Dtr1 1) None ∷ told
+
+-- so many frames after one that missed
+abbrev pub after_a_miss : ℕ → List Exchange
+after_a_miss zero = sent (AskDtr1 5) None ∷ []
+after_a_miss (suc frames) = sent (Dtr1 1) None ∷ after_a_miss frames
+
+-- a bank of 17 bytes with one fixed location
+abbrev pub small_bank : BankState
+small_bank = record { bytes = 0x10 ∷ replicate 0x10 0xFF; fixed = 0x07 ∷ [] }
+
+-- another unit before the one that has it
+abbrev pub two_units : List UnitState
+two_units = new_unit 6 [] [] ∷ new_unit 5 (0x10 ∷ replicate 0x10 0xFF) (0x07 ∷ []) ∷ []

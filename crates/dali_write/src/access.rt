@@ -1,0 +1,74 @@
+ghost use Rattle.std.specs.Prelude.{◌≡◌, ◌≤◌, slice_get, IfSome, All};
+ghost use Rattle.dali_frame.specs.Frame.{IsProper};
+ghost use Rattle.dali_write.specs.Requests.{select_requests, read_requests, write_requests, access_requests};
+
+use crate::request::{Request, Wish};
+use dali_frame::Frame;
+
+/// A checked access at a location of bank 1.
+#[derive(Clone, Copy, Debug, PartialEq, Eq)]
+pub(crate) enum Access {
+    ReadFrom(u8),
+    WriteTo(u8, u8),
+}
+
+impl Access {
+    // The frame of a try of this access that has a number, counted from 0.
+    pub(crate) fn request(self, unit: u8, number: usize) -> Option<Request>
+        ensures request { result ≡ slice_get (access_requests unit self) number }
+        ensures proper { unit ≤ 63 → IfSome result (λ request. IsProper request.frame) }
+    {
+        match self {
+            Access::ReadFrom(location) => checked_read(unit, location).get(number).copied(),
+            Access::WriteTo(location, byte) => {
+                checked_write(unit, location, byte).get(number).copied()
+            }
+        }
+    }
+}
+
+// The frames that set bank 1 and a location, and ask both back.
+fn selection(unit: u8, location: u8) -> [Request; 4]
+    ensures requests { result ≡ select_requests unit location }
+    ensures proper { unit ≤ 63 → All (λ request. IsProper request.frame) result }
+{
+    [
+        request(Frame::Dtr1(1), Wish::Nothing),
+        request(Frame::AskDtr1(unit), Wish::Exactly(1)),
+        request(Frame::Dtr0(location), Wish::Nothing),
+        request(Frame::AskDtr0(unit), Wish::Exactly(location)),
+    ]
+}
+
+// The frames of a checked read.
+fn checked_read(unit: u8, location: u8) -> [Request; 7]
+    ensures requests { result ≡ read_requests unit location }
+    ensures proper { unit ≤ 63 → All (λ request. IsProper request.frame) result }
+{
+    let [bank, bank_back, place, place_back] = selection(unit, location);
+    let read = request(Frame::Read(unit), Wish::Anything);
+    let moved_on = request(
+        Frame::AskDtr0(unit),
+        Wish::Exactly(location.saturating_add(1)),
+    );
+    [
+        bank, bank_back, place, place_back, read, moved_on, bank_back,
+    ]
+}
+
+// The frames of a checked write.
+fn checked_write(unit: u8, location: u8, byte: u8) -> [Request; 7]
+    ensures requests { result ≡ write_requests unit location byte }
+    ensures proper { unit ≤ 63 → All (λ request. IsProper request.frame) result }
+{
+    let enable = request(Frame::Enable(unit), Wish::Nothing);
+    let [bank, bank_back, place, place_back] = selection(unit, location);
+    let write = request(Frame::Write(byte), Wish::Exactly(byte));
+    [enable, enable, bank, bank_back, place, place_back, write]
+}
+
+fn request(frame: Frame, wish: Wish) -> Request
+    ensures { result ≡ record { frame = frame; wish = wish } }
+{
+    Request { frame, wish }
+}

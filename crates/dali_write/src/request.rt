@@ -1,0 +1,45 @@
+ghost use Rattle.std.specs.Prelude.{◌≡◌, ◌↔◌, IsTrue};
+ghost use Rattle.dali_write.specs.Requests.{Meets, byte_after as next_byte};
+
+use dali_frame::Frame;
+
+/// The answer that a frame wants.
+#[derive(Clone, Copy, Debug, PartialEq, Eq)]
+pub(crate) enum Wish {
+    /// None: one that comes is passed over.
+    Nothing,
+    /// This byte.
+    Exactly(u8),
+    /// Some byte.
+    Anything,
+}
+
+impl Wish {
+    // Whether the answer is as wished.
+    pub(crate) fn is_met(&self, answer: Option<u8>) -> bool
+        ensures { IsTrue result ↔ Meets self.now answer }
+    {
+        match self {
+            Wish::Nothing => true,
+            Wish::Exactly(byte) => answer == Some(*byte),
+            Wish::Anything => answer.is_some(),
+        }
+    }
+}
+
+/// A frame of a try, with the answer that it wants.
+#[derive(Clone, Copy, Debug, PartialEq, Eq)]
+pub(crate) struct Request {
+    pub(crate) frame: Frame,
+    pub(crate) wish: Wish,
+}
+
+// The byte that a try has read or written, after one more answer.
+pub(crate) fn byte_after(frame: &Frame, answer: Option<u8>, byte: Option<u8>) -> Option<u8>
+    ensures { result ≡ next_byte frame.now answer byte }
+{
+    match frame {
+        Frame::Read(_) | Frame::Write(_) => answer,
+        _ => byte,
+    }
+}

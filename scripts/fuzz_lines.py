@@ -1,0 +1,187 @@
+"""What each command of dali_bench may print, by docs/PROGRAM.md: the form of every line, and what the lines add up to.
+
+Each judge takes the status, standard output and standard error of a run, and raises AssertionError with what is wrong.
+"""
+
+import re
+
+ITEM_FAULTS = {1: "Unit", 2: "Kind", 3: "Range", 4: "Gtin", 5: "Text", 7: "Voltage", 8: "Empty", 9: "Shape", 10: "Key"}
+FILE_FAULTS = {11: "Json", 12: "Document", 13: "TooBig", 14: "Hex"}
+UNIT_FAULTS = {1: "Address", 2: "Size", 3: "Fixed"}
+CODES = ("Done", "Short", "Format", "Silent", "Doubt", "DoubtOpen")
+CODE = "|".join(f"{number} {name}" for number, name in enumerate(CODES))
+NUMBER = "(?:0|[1-9][0-9]*)"
+REPLY = re.compile(f"reply ({NUMBER}) (?:taken|reused|busy|full|blocked {NUMBER}|kept (?:{CODE}))")
+RECORD = re.compile(f"B order ({NUMBER}) unit ({NUMBER}) bytes ({NUMBER})|O unit ({NUMBER})|E ({CODE})|"
+                    f"C unit ({NUMBER})")
+BANK_WORDS = ("last indicator lock gtin identification format year week input_power min_dim_power min_voltage "
+              "max_voltage light_output cri cct distribution colour luminaire").split()
+BANK_TEXT = re.compile("absent|unknown|[0-9]+|[0-9A-F]{2,16}|text [ -~]{1,60}|raw [0-9A-F]{2,120}")
+FRAME = re.compile("[0-9A-F]{4} (?:(?:DTR[012]|WRITE MEMORY LOCATION(?: - NO REPLY)?) [0-9A-F]{2}|"
+                   "(?:ENABLE WRITE MEMORY|QUERY CONTENT DTR[012]|READ MEMORY LOCATION) "
+                   "unit (?:[0-9]|[1-5][0-9]|6[0-3])|OTHER)")
+UNIT = re.compile("unit [0-9]+ dtr(?: [0-9A-F]{2}){3} enabled (?:yes|no)|bank [0-9]+ [0-9A-F]0 (?:[0-9A-F]{2}){1,16}")
+JOURNAL_FAULT = re.compile(f"journal fault (?:3 Record|4 Sequence|5 Repeated|6 Full) at {NUMBER}")
+DRIVE_FAULTS = {"1 Journal": 2, "2 Link": 2, "3 Line": 1, "4 End": 1, "6 TooLong": 1}
+
+
+def lines_of(text):
+    """Split what was printed into its lines, each of which has its line feed."""
+    told = text.decode("ascii")
+    assert told == "" or told.endswith("\n"), f"the last line is cut: {told[-60:]!r}"
+    return told.split("\n")[:-1]
+
+
+def is_file_fault(line):
+    """Whether the line is a fault of a whole file."""
+    return line in [f"fault {number} {name}" for number, name in FILE_FAULTS.items()]
+
+
+def is_item_fault(line, kind, number):
+    """Whether the line is that of a refused item."""
+    return line in [f"{kind} {number} fault {fault} {name}" for fault, name in ITEM_FAULTS.items()]
+
+
+def judge_check(status, stdout, stderr):
+    """Judge what `check` printed."""
+    lines = lines_of(stdout)
+    assert stderr == b"", stderr
+    if len(lines) == 1 and is_file_fault(lines[0]):
+        return check_status(status, 1)
+    item, at, refused = 0, 0, 0
+    while at < len(lines) - 1:
+        item += 1
+        head = re.fullmatch(f"item {item} order {NUMBER} unit (?:{NUMBER}) bytes ({NUMBER})", lines[at])
+        if head:
+            judge_updates(lines[at + 1:at + 1 + int(head[1])], int(head[1]))
+            at += int(head[1])
+        else:
+            assert is_item_fault(lines[at], "item", item), lines[at]
+            refused += 1
+        at += 1
+    assert lines[-1:] == [f"accepted {item - refused} refused {refused}"], lines[-1:]
+    check_status(status, 1 if refused else 0)
+
+
+def judge_updates(lines, count):
+    """Judge the lines of an order's updates: locations that rise, in the places that may be written."""
+    assert 1 <= count <= 115 and len(lines) == count, (count, len(lines))
+    assert all(re.fullmatch("[0-9A-F]{2} [0-9A-F]{2}", line) for line in lines), lines
+    places = [int(line[:2], 16) for line in lines]
+    assert places == sorted(set(places)) and all(3 <= at <= 0x10 or 0x13 <= at <= 0x77 for at in places), places
+
+
+def check_status(status, wanted):
+    """Raise unless the status is the wanted one."""
+    assert status == wanted, f"it ended with status {status}, and not {wanted}"
+
+
+def judge_show(status, stdout, stderr):
+    """Judge what `show` printed."""
+    lines = lines_of(stdout)
+    assert stderr == b"", stderr
+    if len(lines) == 1 and is_file_fault(lines[0]):
+        return check_status(status, 1)
+    assert [line.split(" ", 1)[0] for line in lines] == BANK_WORDS, lines
+    assert all(BANK_TEXT.fullmatch(line.split(" ", 1)[1]) for line in lines), lines
+    check_status(status, 0)
+
+
+def judge_frame(status, stdout, stderr):
+    """Judge what `frame` printed."""
+    lines = lines_of(stdout)
+    assert stderr == b"" and len(lines) == 1, (lines, stderr)
+    assert lines[0] == "fault 14 Hex" or FRAME.fullmatch(lines[0]), lines
+    check_status(status, 1 if lines[0] == "fault 14 Hex" else 0)
+
+
+def record_length(found):
+    """Give how many bytes a record of this line has."""
+    return 11 + 2 * int(found[3]) if found[3] else 2
+
+
+def standing_after(found):
+    """Give where a journal stands after a record of this line, where it tells that alone."""
+    if found[5]:
+        return "left" if found[5].startswith("5") else "idle"
+    return "began" if found[1] else "opened" if found[4] else "idle"
+
+
+def judge_journal(status, stdout, stderr):
+    """Judge what `journal` printed."""
+    lines = lines_of(stdout)
+    assert stderr == b"" and lines, (lines, stderr)
+    if len(lines) == 1 and (lines[0] == "fault 13 TooBig" or JOURNAL_FAULT.fullmatch(lines[0])):
+        return check_status(status, 1)
+    found = [RECORD.fullmatch(line) for line in lines[:-1]]
+    assert all(found), lines
+    length, orders = sum(map(record_length, found)), sum(bool(it[1]) for it in found)
+    standing = standing_after(found[-1]) if found else "idle"
+    last = re.fullmatch(f"counts {length} of ({NUMBER}) orders {orders} standing {standing}(?: {NUMBER})?", lines[-1])
+    assert last and int(last[1]) >= length, lines[-1]
+    check_status(status, 0)
+
+
+def is_setup_fault(line):
+    """Whether the line is a fault of a scenario, its units or its orders."""
+    kinds = re.fullmatch(f"(unit|event) ({NUMBER}) fault .*", line)
+    if kinds and kinds[1] == "event":
+        return is_item_fault(line, "event", kinds[2])
+    if kinds:
+        return line in [f"unit {kinds[2]} fault {fault} {name}" for fault, name in UNIT_FAULTS.items()]
+    return line in ("gear fault 5 SameAddress", "run fault 1 Limit") or is_file_fault(line)
+
+
+def judge_run(status, stdout, stderr):
+    """Judge what `run` printed, with a line for each frame or not."""
+    lines = lines_of(stdout)
+    assert stderr == b"" and lines, (lines, stderr)
+    if len(lines) == 1 and is_setup_fault(lines[0]):
+        return check_status(status, 1)
+    frames, journal, at = 0, 0, 0
+    while not lines[at].startswith("total "):
+        line = lines[at]
+        run, record = re.fullmatch("frames ([1-9][0-9]*)", line), RECORD.fullmatch(line.removeprefix("keep "))
+        if run:
+            assert not lines[at + 1].startswith("frames"), lines[at:at + 2]
+            frames += int(run[1])
+        elif re.fullmatch("send [0-9A-F]{4} (?:--|[0-9A-F]{2})", line):
+            frames += 1
+        elif line.startswith("keep ") and record:
+            journal += record_length(record)
+        else:
+            assert REPLY.fullmatch(line) or re.fullmatch(f"ask {NUMBER}|stop|power (?:{NUMBER})", line), line
+        at += 1
+    assert lines[at:at + 2] == [f"total {frames}", f"journal {journal}"], (lines[at:at + 2], frames, journal)
+    assert all(UNIT.fullmatch(line) for line in lines[at + 2:]), lines[at + 2:]
+    check_status(status, 0)
+
+
+def runs_of(stdout):
+    """Give what `run --frames` printed as `run` prints it."""
+    lines, count = [], 0
+    for line in [*lines_of(stdout), None]:
+        if line is not None and line.startswith("send "):
+            count += 1
+            continue
+        if count:
+            lines.append(f"frames {count}")
+        count = 0
+        lines.append(line)
+    return "".join(line + "\n" for line in lines[:-1]).encode()
+
+
+def judge_drive(status, stdout, stderr):
+    """Judge what `drive` printed: frames to standard output, and all else to standard error."""
+    sent, told = lines_of(stdout), lines_of(stderr)
+    assert all(re.fullmatch("[0-9A-F]{4}", line) for line in sent), sent
+    if told and (is_file_fault(told[-1]) or JOURNAL_FAULT.fullmatch(told[-1])):
+        assert len(told) == 1 and not sent, (told, sent)
+        return check_status(status, 1)
+    refused = [re.fullmatch(f"item ({NUMBER}) fault .*", line) for line in told]
+    if any(refused):
+        assert not sent and all(found and is_item_fault(found[0], "item", found[1]) for found in refused), told
+        return check_status(status, 1)
+    fault = re.fullmatch("drive fault (.*)", told[-1]) if told else None
+    assert all(REPLY.fullmatch(line) for line in (told[:-1] if fault else told)), told
+    check_status(status, DRIVE_FAULTS[fault[1]] if fault else 0)

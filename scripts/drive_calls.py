@@ -19,7 +19,7 @@ from drive_desk import (
     settings,
     want,
 )
-from drive_units import BLANK, DOUBTFUL, LOSSY, SCENES, Scene, finish
+from drive_units import BLANK, CHANGED_BY_KILLS, DOUBTFUL, LOSSY, SCENES, Scene, finish
 from driven import judge, kept_lines, records_of
 
 
@@ -221,7 +221,7 @@ def test_kills_at_each_record_and_reply(folder, part, count):
                 ended = desk.over(bus, environment=shim(desk, act))
                 want(ended.status, -signal.SIGKILL)
                 judge(bus, scene.banks(), desk.held() if desk.journal.exists() else b"")
-                finish(desk, scene, bus, None if name == "left" else scene.codes)
+                finish(desk, scene, bus, None if name in CHANGED_BY_KILLS else scene.codes)
             except Exception as fault:
                 raise AssertionError(f"{name}, with the act {act}") from fault
 

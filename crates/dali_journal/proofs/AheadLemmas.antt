@@ -11,13 +11,14 @@ use Rattle.dali_journal.specs.declared.record.Code.{Code}
 use Rattle.dali_journal.specs.declared.record.Record.{Record}
 use Rattle.dali_journal.specs.declared.record.Record.TheVariants.{Began}
 use Rattle.dali_journal.specs.declared.read.Pairs.TheVariants as lists
-use Rattle.dali_journal.specs.Spelling.{spelling, pairs_spelling, journal_spelling}
+use Rattle.dali_journal.specs.declared.version.Version.TheVariants.{Two}
+use Rattle.dali_journal.specs.Spelling.{head_spelling, spelling, pairs_spelling, records_spelling}
 use Rattle.dali_journal.specs.GroupAhead.{AreUpdatesAbove, HasUpdates, HasBegan, HasEnd, HasGroup}
 use Rattle.dali_journal.specs.GroupAhead.{last_location, end_records}
 use Rattle.dali_journal.specs.Reading.{IsRead}
-use Rattle.dali_journal.specs.Decoding.{began_piece}
+use Rattle.dali_journal.specs.Decoding.{began_piece, head_length}
 use Rattle.dali_journal.proofs.PairLemmas.{AreBytes, climb, length-climb}
-use Rattle.dali_journal.proofs.PieceLemmas.{length-pairs_spelling, reads-began, number-of, bytes-take}
+use Rattle.dali_journal.proofs.PieceLemmas.{length-pairs_spelling, reads-began, number-of, bytes-take, bytes-drop}
 use Rattle.dali_journal.proofs.JournalLemmas.{pairs_in_range}
 use Rattle.dali_journal.proofs.TornLemmas.{bytes_front, bytes_back}
 
@@ -92,55 +93,70 @@ updates_there count most bytes twice within are = record {
 }
 
 -- a Began whose updates are there is there
-began_whole : (id unit count : ℕ) (bytes rest : List ℕ) → AreBytes rest → id < 2 ^ 64 → unit ≤ 63 → 1 ≤ count
-    → 0x42 ∷ to_be_bytes w64 id ++ unit ∷ count ∷ rest ≡ bytes → HasUpdates count 0 rest
-    → HasBegan id unit (11 + 2 * count) bytes
-began_whole id unit count bytes rest are i u some same has =
+began_whole : (id moment unit count : ℕ) (bytes rest : List ℕ) → AreBytes rest → id < 2 ^ 64 → moment < 2 ^ 64
+    → unit ≤ 63 → 1 ≤ count
+    → 0x42 ∷ head_spelling Two id moment ++ unit ∷ count ∷ rest ≡ bytes → HasUpdates count 0 rest
+    → HasBegan id unit (head_length Two + 2 * count) bytes
+began_whole id moment unit count bytes rest are i m u some same has =
     let in_range = pairs_in_range has.updates
     (bytes_front (pairs_spelling has.updates) has.rest (subst AreBytes has.spelled are)) in
     let climbs = climb 0 has.updates has.rising has.writable in_range in
     let few : count ≤ 115 = omega (arith, length-climb 0 has.updates climbs, has.counted) in
-    let reads = reads-began id unit count rest (lists.Whole (record { items = has.updates })) i u some few
+    let reads = reads-began Two id moment unit count rest (lists.Whole (record { items = has.updates })) i m u some few
     (record { length_is = has.counted; rises = climbs }, has.rest, has.spelled) in
-    let piece = began_piece id unit count (lists.Whole (record { items = has.updates })) in
-    let there = subst (λ (bs : List ℕ). IsRead bs piece) same reads in
+    let piece = began_piece Two id moment unit count (lists.Whole (record { items = has.updates })) in
+    let there = subst (λ (bs : List ℕ). IsRead Two bs piece) same reads in
     record {
       order = record { id = id; unit = unit; updates = has.updates };
+      moment = moment;
       begins = there.0;
       named = refl;
       unit_is = refl;
       counted = there.1;
     }
 
-pub began_there : (letter id : ℕ) (bytes rest number behind two after : List ℕ) → AreBytes bytes
+-- eight bytes in front of others are a number's
+number_front : (bytes number behind : List ℕ) → AreBytes bytes → number ≡ take 8 bytes → behind ≡ drop 8 bytes
+    → length behind + 8 ≡ length bytes
+    → (from_be_bytes w64 number < 2 ^ 64) × (to_be_bytes w64 (from_be_bytes w64 number) ++ behind ≡ bytes)
+    × AreBytes behind
+number_front bytes number behind are n b long =
+    let eight = number-of (take 8 bytes) (rw length-take (omega arith)) (bytes-take 8 bytes are) in (
+      subst (λ (bs : List ℕ). from_be_bytes w64 bs < 2 ^ 64) (sym n) eight.0,
+      (λ j. (ap (λ bs. to_be_bytes w64 (from_be_bytes w64 bs)) n ∙ eight.1) j ++ b j) ∙ take-append-drop 8 bytes,
+      subst AreBytes (sym b) (bytes-drop 8 bytes are),
+    )
+
+pub began_there : (letter id : ℕ) (bytes rest number behind time after_time two after : List ℕ) → AreBytes bytes
     → bytes ≡ letter ∷ rest → letter ≡ 0x42
     → number ≡ take 8 rest → behind ≡ drop 8 rest → length behind + 8 ≡ length rest
-    → two ≡ take 2 behind → after ≡ drop 2 behind → length after + 2 ≡ length behind
+    → time ≡ take 8 behind → after_time ≡ drop 8 behind → length after_time + 8 ≡ length behind
+    → two ≡ take 2 after_time → after ≡ drop 2 after_time → length after + 2 ≡ length after_time
     → id ≡ from_be_bytes w64 number → get_or two 0 0 ≤ 63 → 1 ≤ get_or two 1 0
     → HasUpdates (get_or two 1 0) 0 after
-    → HasBegan id (get_or two 0 0) (11 + 2 * get_or two 1 0) bytes
-began_there letter id bytes rest number behind two after are front is_b n b long t a more i u some has =
-    let are_rest : AreBytes rest = (subst AreBytes front are).1 in
-    let eight = number-of (take 8 rest) (rw length-take (omega arith)) (bytes-take 8 rest are_rest) in
-    let id_is : id ≡ from_be_bytes w64 (take 8 rest) = i ∙ ap (from_be_bytes w64) n in
-    let pair : get_or two 0 0 ∷ get_or two 1 0 ∷ after ≡ behind =
-    (λ j. get_or (t j) 0 0 ∷ get_or (t j) 1 0 ∷ a j) ∙ two_front behind (omega arith) in
-    let spelled : to_be_bytes w64 id ++ get_or two 0 0 ∷ get_or two 1 0 ∷ after ≡ rest =
-    (λ j. (ap (to_be_bytes w64) id_is ∙ eight.1) j ++ (pair ∙ b) j) ∙ take-append-drop 8 rest in
-    let are_behind : AreBytes (get_or two 0 0 ∷ get_or two 1 0 ∷ after) =
-    bytes_back (to_be_bytes w64 id) (get_or two 0 0 ∷ get_or two 1 0 ∷ after)
-    (subst AreBytes (sym spelled) are_rest) in
-    began_whole id (get_or two 0 0) (get_or two 1 0) bytes after are_behind.1.1
-    (subst (λ m. m < 2 ^ 64) (sym id_is) eight.0) u some
-    ((λ j. sym is_b j ∷ spelled j) ∙ sym front) has
+    → HasBegan id (get_or two 0 0) (head_length Two + 2 * get_or two 1 0) bytes
+began_there letter id bytes rest number behind time after_time two after are front is_b n b long m c longer t a more i u
+    some has =
+    let first = number_front rest number behind (subst AreBytes front are).1 n b long in
+    let second = number_front behind time after_time first.2 m c longer in
+    let pair : get_or two 0 0 ∷ get_or two 1 0 ∷ after ≡ after_time =
+    (λ j. get_or (t j) 0 0 ∷ get_or (t j) 1 0 ∷ a j) ∙ two_front after_time (omega arith) in
+    let behind_is = ap (λ bs. to_be_bytes w64 (from_be_bytes w64 time) ++ bs) pair ∙ second.1 in
+    let rest_is : to_be_bytes w64 id ++ (to_be_bytes w64 (from_be_bytes w64 time)
+    ++ get_or two 0 0 ∷ get_or two 1 0 ∷ after) ≡ rest =
+    (λ j. to_be_bytes w64 (i j) ++ behind_is j) ∙ first.1 in
+    let are_after : AreBytes (get_or two 0 0 ∷ get_or two 1 0 ∷ after) = subst AreBytes (sym pair) second.2 in
+    began_whole id (from_be_bytes w64 time) (get_or two 0 0) (get_or two 1 0) bytes after are_after.1.1
+    (subst (λ k. k < 2 ^ 64) (sym i) first.0) second.0 u some
+    ((λ j. sym is_b j ∷ rest_is j) ∙ sym front) has
 
 -- newer records stand behind older ones
 pub spelling_append : (newer older : List Record)
-    → journal_spelling (newer ++ older) ≡ journal_spelling older ++ journal_spelling newer
-spelling_append [] older = sym (append-nil (journal_spelling older))
+    → records_spelling Two (newer ++ older) ≡ records_spelling Two older ++ records_spelling Two newer
+spelling_append [] older = sym (append-nil (records_spelling Two older))
 spelling_append (newest ∷ newer) older =
-    ap (λ front. front ++ spelling newest) (spelling_append newer older)
-    ∙ append_assoc (journal_spelling older) (journal_spelling newer) (spelling newest)
+    ap (λ front. front ++ spelling Two newest) (spelling_append newer older)
+    ∙ append_assoc (records_spelling Two older) (records_spelling Two newer) (spelling Two newest)
 
 -- a Began and the end of its group are the group
 pub group_there : (id unit : ℕ) (code : Code) (len end : ℕ) (bytes : List ℕ) → HasBegan id unit len bytes
@@ -148,24 +164,26 @@ pub group_there : (id unit : ℕ) (code : Code) (len end : ℕ) (bytes : List �
 group_there id unit code len end bytes began ended =
     let order = began.order in
     let ends : List Record = end_records order.unit code in
-    let head : List ℕ = spelling (Began order) in
+    let moment = began.moment in
+    let head : List ℕ = spelling Two (Began order moment) in
     let behind : drop len bytes ≡ began.begins.1 =
     (λ j. drop (began.counted j) (began.begins.2 j)) ∙ drop-append_seam head began.begins.1 in
     let unit_is : end_records unit code ≡ ends = ap (λ u. end_records u code) (sym began.unit_is) in
-    let whole : journal_spelling (ends ++ Began order ∷ []) ≡ head ++ journal_spelling ends =
-    spelling_append ends (Began order ∷ []) in
+    let whole : records_spelling Two (ends ++ Began order moment ∷ []) ≡ head ++ records_spelling Two ends =
+    spelling_append ends (Began order moment ∷ []) in
     record {
       order = order;
+      moment = moment;
       begins = began.begins;
       named = began.named;
       rest = ended.rest;
       spelled =
           began.begins.2
           ∙ ap (λ bs. head ++ bs)
-          (sym behind ∙ ended.spelled ∙ ap (λ es. journal_spelling es ++ ended.rest) unit_is)
-          ∙ sym (append_assoc head (journal_spelling ends) ended.rest)
+          (sym behind ∙ ended.spelled ∙ ap (λ es. records_spelling Two es ++ ended.rest) unit_is)
+          ∙ sym (append_assoc head (records_spelling Two ends) ended.rest)
           ∙ ap (λ bs. bs ++ ended.rest) (sym whole);
       counted =
-          (let n = began.counted in let m = ended.counted ∙ ap (λ es. length (journal_spelling es)) unit_is in
-          let w = ap length whole ∙ length-append head (journal_spelling ends) in omega arith);
+          (let n = began.counted in let m = ended.counted ∙ ap (λ es. length (records_spelling Two es)) unit_is in
+          let w = ap length whole ∙ length-append head (records_spelling Two ends) in omega arith);
     }

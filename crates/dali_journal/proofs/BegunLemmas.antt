@@ -1,5 +1,5 @@
 -- What the index tells of a number is whether an order of it was begun.
-use Rattle.std.proofs.Common.{◌≡◌, ℕ, Bool, true, false, cond, List, [], ◌∷◌, refl, sym, ap, ◌∙◌, ◌==◌, ◌||◌}
+use Rattle.std.proofs.Common.{◌≡◌, ℕ, Bool, true, false, cond, List, [], ◌∷◌, refl, sym, ap, ◌∙◌, ◌==◌, ◌||◌, Option}
 use Rattle.dali_bank.specs.Order.{Contents}
 use Rattle.dali_journal.specs.declared.record.Record.{Record}
 use Rattle.dali_journal.specs.declared.record.Record.TheVariants.{Began, Opened, Ended, Closed}
@@ -10,7 +10,7 @@ use Rattle.dali_journal.specs.declared.kept.Kept.TheVariants as kepts
 use Rattle.dali_journal.specs.declared.index.Place.{Place}
 use Rattle.dali_journal.specs.declared.index.Place.TheVariants as places
 use Rattle.dali_journal.specs.Sentence.{is_begun}
-use Rattle.dali_journal.specs.Orders.{come_to, orders_of, kept_at, kept_among, kept_of}
+use Rattle.dali_journal.specs.Orders.{come_to, orders_of, kept_at, kept_among, kept_of, moment_of}
 use Rattle.dali_journal.specs.Index.{is_begun_at, Agrees}
 
 abbrev pub is_kept : Kept → Bool
@@ -29,7 +29,7 @@ among_come id progress (newest ∷ older) = refl
 
 begun_among : (id : ℕ) (records : List Record) → is_begun id records ≡ is_among id (orders_of records)
 begun_among id [] = refl
-begun_among id (Began order ∷ older) = ap (λ b. order.id == id || b) (begun_among id older)
+begun_among id (Began order moment ∷ older) = ap (λ b. order.id == id || b) (begun_among id older)
 begun_among id (Opened unit ∷ older) = begun_among id older ∙ sym (among_come id reached.Open (orders_of older))
 begun_among id (Ended code ∷ older) = begun_among id older ∙ sym (among_come id (reached.Ended code) (orders_of older))
 begun_among id (Closed unit ∷ older) = begun_among id older
@@ -51,14 +51,14 @@ among_kept id (newest ∷ older) = by (newest.0.id == id) (among_kept id older)
 pub kept_where_begun : (id : ℕ) (records : List Record) → is_begun id records ≡ is_kept (kept_of id records)
 kept_where_begun id records = begun_among id records ∙ among_kept id (orders_of records)
 
-agrees_begun : (bytes : List ℕ) (place : Place) (kept : Kept) → Agrees bytes place kept
+agrees_begun : (bytes : List ℕ) (place : Place) (kept : Kept) (since : Option ℕ) → Agrees bytes place kept since
     → is_begun_at place ≡ is_kept kept
-agrees_begun bytes places.NotBegun kept a = sym (ap is_kept a)
-agrees_begun bytes (places.Begun at) kept a = sym (ap is_kept a.1)
-agrees_begun bytes (places.Ended at code) kept a = sym (ap is_kept a.1)
+agrees_begun bytes places.NotBegun kept since a = sym (ap is_kept a.0)
+agrees_begun bytes (places.Begun at) kept since a = sym (ap is_kept a.2)
+agrees_begun bytes (places.Ended at code) kept since a = sym (ap is_kept a.2)
 
 pub begun_told : (id : ℕ) (bytes : List ℕ) (place : Place) (records : List Record)
-    → Agrees bytes place (kept_of id records)
+    → Agrees bytes place (kept_of id records) (moment_of id records)
     → is_begun_at place ≡ is_begun id records
 begun_told id bytes place records a =
-    agrees_begun bytes place (kept_of id records) a ∙ sym (kept_where_begun id records)
+    agrees_begun bytes place (kept_of id records) (moment_of id records) a ∙ sym (kept_where_begun id records)

@@ -18,9 +18,10 @@ use Rattle.dali_journal.specs.declared.kept.Kept.TheVariants as kepts
 use Rattle.dali_journal.specs.declared.index.Place.{Place}
 use Rattle.dali_journal.specs.declared.index.Place.TheVariants as places
 use Rattle.dali_journal.specs.declared.fault.JournalFault.TheVariants as faults
+use Rattle.dali_journal.specs.declared.version.Version.TheVariants.{Two}
 use Rattle.dali_journal.specs.Sentence.{Allows, next_standing, standing_of, is_begun, IsSentence}
-use Rattle.dali_journal.specs.Orders.{orders_of, kept_among, kept_of}
-use Rattle.dali_journal.specs.Spelling.{spelling, journal_spelling, IsRecord}
+use Rattle.dali_journal.specs.Orders.{orders_of, kept_among, kept_of, moment_of}
+use Rattle.dali_journal.specs.Spelling.{spelling, records_spelling, header, IsRecord}
 use Rattle.dali_journal.specs.Decoding.{records_in}
 use Rattle.dali_journal.specs.JournalState.{bytes_due, IsLimit}
 use Rattle.dali_journal.specs.Loading.{IsLoadFault}
@@ -32,65 +33,65 @@ use Rattle.dali_journal.proofs.BegunLemmas.{begun_told}
 use Rattle.dali_journal.proofs.AheadLemmas.{spelling_append}
 
 -- the records of an order's group
-abbrev pub group_of : Contents → Code → List Record
-group_of order code = end_records order.unit code ++ Began order ∷ []
+abbrev pub group_of : Contents → ℕ → Code → List Record
+group_of order moment code = end_records order.unit code ++ Began order moment ∷ []
 
 -- behind a group nothing is left to be done
-group_idle : (order : Contents) (code : Code) (records : List Record) → standing_of records ≡ standings.Idle
-    → standing_of (group_of order code ++ records) ≡ standings.Idle
-group_idle order Short records idle =
-    ap (λ (st : Standing). next_standing (next_standing st (Began order)) (Ended Short)) idle
-group_idle order Format records idle =
-    ap (λ (st : Standing). next_standing (next_standing st (Began order)) (Ended Format)) idle
-group_idle order Silent records idle =
-    ap (λ (st : Standing). next_standing (next_standing st (Began order)) (Ended Silent)) idle
-group_idle order Done records idle =
+group_idle : (order : Contents) (moment : ℕ) (code : Code) (records : List Record) → standing_of records ≡ standings.Idle
+    → standing_of (group_of order moment code ++ records) ≡ standings.Idle
+group_idle order moment Short records idle =
+    ap (λ (st : Standing). next_standing (next_standing st (Began order moment)) (Ended Short)) idle
+group_idle order moment Format records idle =
+    ap (λ (st : Standing). next_standing (next_standing st (Began order moment)) (Ended Format)) idle
+group_idle order moment Silent records idle =
+    ap (λ (st : Standing). next_standing (next_standing st (Began order moment)) (Ended Silent)) idle
+group_idle order moment Done records idle =
     ap (λ (st : Standing).
-    next_standing (next_standing (next_standing st (Began order)) (Opened order.unit)) (Ended Done)) idle
-group_idle order Doubt records idle =
+    next_standing (next_standing (next_standing st (Began order moment)) (Opened order.unit)) (Ended Done)) idle
+group_idle order moment Doubt records idle =
     ap (λ (st : Standing).
-    next_standing (next_standing (next_standing st (Began order)) (Opened order.unit)) (Ended Doubt)) idle
-group_idle order DoubtOpen records idle =
+    next_standing (next_standing (next_standing st (Began order moment)) (Opened order.unit)) (Ended Doubt)) idle
+group_idle order moment DoubtOpen records idle =
     ap (λ (st : Standing).
-    next_standing (next_standing (next_standing (next_standing st (Began order)) (Opened order.unit)) (Ended DoubtOpen))
+    next_standing (next_standing (next_standing (next_standing st (Began order moment)) (Opened order.unit)) (Ended DoubtOpen))
     (Closed order.unit)) idle
 
 -- each record of a group may come
-group_sentence : (order : Contents) (code : Code) (records : List Record) → IsSentence records
+group_sentence : (order : Contents) (moment : ℕ) (code : Code) (records : List Record) → IsSentence records
     → standing_of records ≡ standings.Idle → is_begun order.id records ≡ false
-    → IsSentence (group_of order code ++ records)
-group_sentence order code records s idle fresh = by code
+    → IsSentence (group_of order moment code ++ records)
+group_sentence order moment code records s idle fresh = by code
   where
-    began : IsSentence (Began order ∷ records)
-    began = (s, subst (λ (st : Standing). Allows st (Began order)) (sym idle) tt, fresh)
+    began : IsSentence (Began order moment ∷ records)
+    began = (s, subst (λ (st : Standing). Allows st (Began order moment)) (sym idle) tt, fresh)
 
-    opened : IsSentence (Opened order.unit ∷ Began order ∷ records)
+    opened : IsSentence (Opened order.unit ∷ Began order moment ∷ records)
     opened = (
       began,
-      subst (λ (st : Standing). Allows (next_standing st (Began order)) (Opened order.unit)) (sym idle) refl,
+      subst (λ (st : Standing). Allows (next_standing st (Began order moment)) (Opened order.unit)) (sym idle) refl,
       tt,
     )
 
     ended : (code : Code)
-        → Allows (next_standing standings.Idle (Began order)) (Ended code)
-        → IsSentence (Ended code ∷ Began order ∷ records)
+        → Allows (next_standing standings.Idle (Began order moment)) (Ended code)
+        → IsSentence (Ended code ∷ Began order moment ∷ records)
     ended code a = (
       began,
-      subst (λ (st : Standing). Allows (next_standing st (Began order)) (Ended code)) (sym idle) a,
+      subst (λ (st : Standing). Allows (next_standing st (Began order moment)) (Ended code)) (sym idle) a,
       tt,
     )
 
     done : (code : Code)
-        → Allows (next_standing (next_standing standings.Idle (Began order)) (Opened order.unit)) (Ended code)
-        → IsSentence (Ended code ∷ Opened order.unit ∷ Began order ∷ records)
+        → Allows (next_standing (next_standing standings.Idle (Began order moment)) (Opened order.unit)) (Ended code)
+        → IsSentence (Ended code ∷ Opened order.unit ∷ Began order moment ∷ records)
     done code a = (
       opened,
       subst (λ (st : Standing).
-          Allows (next_standing (next_standing st (Began order)) (Opened order.unit)) (Ended code)) (sym idle) a,
+          Allows (next_standing (next_standing st (Began order moment)) (Opened order.unit)) (Ended code)) (sym idle) a,
       tt,
     )
 
-    by : (code : Code) → IsSentence (group_of order code ++ records)
+    by : (code : Code) → IsSentence (group_of order moment code ++ records)
     by Short = ended Short tt
     by Format = ended Format tt
     by Silent = ended Silent tt
@@ -99,87 +100,102 @@ group_sentence order code records s idle fresh = by code
     by DoubtOpen = (
       done DoubtOpen tt,
       subst (λ (st : Standing).
-          Allows (next_standing (next_standing (next_standing st (Began order)) (Opened order.unit)) (Ended DoubtOpen))
+          Allows (next_standing (next_standing (next_standing st (Began order moment)) (Opened order.unit)) (Ended DoubtOpen))
           (Closed order.unit)) (sym idle) refl,
       tt,
     )
 
-group_orders : (order : Contents) (code : Code) (records : List Record)
-    → orders_of (group_of order code ++ records) ≡ (order, reached.Ended code) ∷ orders_of records
-group_orders order Short records = refl
-group_orders order Format records = refl
-group_orders order Silent records = refl
-group_orders order Done records = refl
-group_orders order Doubt records = refl
-group_orders order DoubtOpen records = refl
+group_orders : (order : Contents) (moment : ℕ) (code : Code) (records : List Record)
+    → orders_of (group_of order moment code ++ records) ≡ (order, reached.Ended code) ∷ orders_of records
+group_orders order moment Short records = refl
+group_orders order moment Format records = refl
+group_orders order moment Silent records = refl
+group_orders order moment Done records = refl
+group_orders order moment Doubt records = refl
+group_orders order moment DoubtOpen records = refl
 
-group_records : (order : Contents) (code : Code) (records : List Record) → IsRecord (Began order) → AreRecords records
-    → AreRecords (group_of order code ++ records)
-group_records order Short records is are = (tt, (is, are))
-group_records order Format records is are = (tt, (is, are))
-group_records order Silent records is are = (tt, (is, are))
-group_records order Done records is are = (tt, (is.1, (is, are)))
-group_records order Doubt records is are = (tt, (is.1, (is, are)))
-group_records order DoubtOpen records is are = (is.1, (tt, (is.1, (is, are))))
+group_moment : (order : Contents) (moment : ℕ) (code : Code) (records : List Record) (id : ℕ)
+    → moment_of id (group_of order moment code ++ records) ≡ cond (order.id == id) (Some moment) (moment_of id records)
+group_moment order moment Short records id = refl
+group_moment order moment Format records id = refl
+group_moment order moment Silent records id = refl
+group_moment order moment Done records id = refl
+group_moment order moment Doubt records id = refl
+group_moment order moment DoubtOpen records id = refl
+
+group_records : (order : Contents) (moment : ℕ) (code : Code) (records : List Record) → IsRecord Two (Began order moment) → AreRecords Two records
+    → AreRecords Two (group_of order moment code ++ records)
+group_records order moment Short records is are = (tt, (is, are))
+group_records order moment Format records is are = (tt, (is, are))
+group_records order moment Silent records is are = (tt, (is, are))
+group_records order moment Done records is are = (tt, (is.1, (is, are)))
+group_records order moment Doubt records is are = (tt, (is.1, (is, are)))
+group_records order moment DoubtOpen records is are = (is.1, (tt, (is.1, (is, are))))
 
 -- what the index tells of the order of a group, and of others
-group_known : (bytes : List ℕ) (order : Contents) (code : Code) (records : List Record) (id at : ℕ)
+group_known : (bytes : List ℕ) (order : Contents) (moment : ℕ) (code : Code) (records : List Record) (id at : ℕ)
     (found new_found : Option Place) (test : Bool)
-    → IsRecord (Began order) → at ≡ length bytes → (order.id == id) ≡ test
+    → IsRecord Two (Began order moment) → at ≡ length bytes → (order.id == id) ≡ test
     → new_found ≡ cond test (Some (places.Ended at code)) found
-    → Agrees bytes (place_of found) (kept_of id records)
-    → Agrees (bytes ++ journal_spelling (group_of order code)) (place_of new_found)
-    (kept_of id (group_of order code ++ records))
-group_known bytes order code records id at found new_found true is there t new a =
-    let ends : List ℕ = journal_spelling (end_records order.unit code) in
-    let whole : List ℕ = journal_spelling (group_of order code) in
-    let kept = ap (kept_among id) (group_orders order code records)
+    → Agrees bytes (place_of found) (kept_of id records) (moment_of id records)
+    → Agrees (bytes ++ records_spelling Two (group_of order moment code)) (place_of new_found)
+    (kept_of id (group_of order moment code ++ records)) (moment_of id (group_of order moment code ++ records))
+group_known bytes order moment code records id at found new_found true is there t new a =
+    let ends : List ℕ = records_spelling Two (end_records order.unit code) in
+    let whole : List ℕ = records_spelling Two (group_of order moment code) in
+    let kept = ap (kept_among id) (group_orders order moment code records)
     ∙ ap (λ b. cond b (kepts.Ended order code) (kept_of id records)) t in
-    let behind : drop at (bytes ++ whole) ≡ spelling (Began order) ++ ends =
+    let since = group_moment order moment code records id ∙ ap (λ b. cond b (Some moment) (moment_of id records)) t in
+    let behind : drop at (bytes ++ whole) ≡ spelling Two (Began order moment) ++ ends =
     ap (λ n. drop n (bytes ++ whole)) there ∙ drop-append_seam bytes whole
-    ∙ spelling_append (end_records order.unit code) (Began order ∷ []) in
-    subst (λ (p : Place). Agrees (bytes ++ whole) p (kept_of id (group_of order code ++ records)))
+    ∙ spelling_append (end_records order.unit code) (Began order moment ∷ []) in
+    subst (λ (p : Place). Agrees (bytes ++ whole) p (kept_of id (group_of order moment code ++ records))
+    (moment_of id (group_of order moment code ++ records)))
     (sym (ap place_of new))
-    (order, kept, (let n = length-append bytes whole in omega arith, (is, ends, behind)))
-group_known bytes order code records id at found new_found false is there t new a =
-    let whole : List ℕ = journal_spelling (group_of order code) in
-    let kept = ap (kept_among id) (group_orders order code records)
+    (order, moment, kept, since, (let n = length-append bytes whole in omega arith, (is, ends, behind)))
+group_known bytes order moment code records id at found new_found false is there t new a =
+    let whole : List ℕ = records_spelling Two (group_of order moment code) in
+    let kept = ap (kept_among id) (group_orders order moment code records)
     ∙ ap (λ b. cond b (kepts.Ended order code) (kept_of id records)) t in
-    subst (λ (p : Place). Agrees (bytes ++ whole) p (kept_of id (group_of order code ++ records)))
+    let since = group_moment order moment code records id ∙ ap (λ b. cond b (Some moment) (moment_of id records)) t in
+    subst (λ (p : Place). Agrees (bytes ++ whole) p (kept_of id (group_of order moment code ++ records))
+    (moment_of id (group_of order moment code ++ records)))
     (sym (ap place_of new))
-    (subst (λ (k : Kept). Agrees (bytes ++ whole) (place_of found) k) (sym kept)
-    (agrees_more bytes whole (place_of found) (kept_of id records) a))
+    (subst (λ (k : Kept). Agrees (bytes ++ whole) (place_of found) k
+    (moment_of id (group_of order moment code ++ records))) (sym kept)
+    (subst (λ (m : Option ℕ). Agrees (bytes ++ whole) (place_of found) (kept_of id records) m) (sym since)
+    (agrees_more bytes whole (place_of found) (kept_of id records) (moment_of id records) a)))
 
 group_sound : (bytes : List ℕ) (records : List Record) (orders limit at : ℕ) (index new_index : List (ℕ × Place))
-    (order : Contents) (code : Code)
-    → IsSound bytes records standings.Idle orders limit 0 index → orders < limit → IsRecord (Began order)
+    (order : Contents) (moment : ℕ) (code : Code)
+    → IsSound bytes records standings.Idle orders limit 0 index → orders < limit → IsRecord Two (Began order moment)
     → at ≡ length bytes → is_begun order.id records ≡ false
     → ((id : ℕ)
     → lookup (nat_eq id) new_index ≡ cond (order.id == id) (Some (places.Ended at code)) (lookup (nat_eq id) index))
-    → IsSound (bytes ++ journal_spelling (group_of order code)) (group_of order code ++ records) standings.Idle
+    → IsSound (bytes ++ records_spelling Two (group_of order moment code)) (group_of order moment code ++ records) standings.Idle
     (orders + 1) limit 0 new_index
-group_sound bytes records orders limit at index new_index order code sound more is there fresh found =
+group_sound bytes records orders limit at index new_index order moment code sound more is there fresh found =
     let kept = sound.journal.kept in
-    let idle = group_idle order code records (sym sound.standing_is) in
-    let count = ap length (group_orders order code records) in
+    let idle = group_idle order moment code records (sym sound.standing_is) in
+    let count = ap length (group_orders order moment code records) in
     let known = sound.count in
     record {
       spelled =
-          ap (λ front. front ++ journal_spelling (group_of order code)) sound.spelled
-          ∙ sym (spelling_append (group_of order code) records);
+          ap (λ front. front ++ records_spelling Two (group_of order moment code)) sound.spelled
+          ∙ sym (spelling_append (group_of order moment code) records);
       standing_is = sym idle;
       short = tt;
       count = omega arith;
       journal = record {
         kept = record {
-          in_range = group_records order code records is kept.in_range;
-          whole = (group_sentence order code records kept.whole.0 (sym sound.standing_is) fresh, omega arith);
+          in_range = group_records order moment code records is kept.in_range;
+          whole = (group_sentence order moment code records kept.whole.0 (sym sound.standing_is) fresh, omega arith);
         };
         limited = sound.journal.limited;
         due = (let none = ap bytes_due idle in omega arith);
       };
       known = λ id.
-          group_known bytes order code records id at (lookup (nat_eq id) index) (lookup (nat_eq id) new_index)
+          group_known bytes order moment code records id at (lookup (nat_eq id) index) (lookup (nat_eq id) new_index)
           (order.id == id) is there refl (found id) (sound.known id);
     }
 
@@ -194,9 +210,9 @@ take_group bytes front group rest at len a n whole behind =
 -- whether an order was begun, by the index
 front_begun : (limit : ℕ) (bytes : List ℕ) (at orders id : ℕ) (index : List (ℕ × Place)) (found : Option Place)
     → IsFront limit bytes at orders index → lookup (nat_eq id) index ≡ found
-    → is_begun id (records_in (take at bytes)) ≡ is_begun_at (place_of found)
+    → is_begun id (records_in Two (take at bytes)) ≡ is_begun_at (place_of found)
 front_begun limit bytes at orders id index found front same =
-    sym (begun_told id (take at bytes) (place_of (lookup (nat_eq id) index)) (records_in (take at bytes))
+    sym (begun_told id (take at bytes) (place_of (lookup (nat_eq id) index)) (records_in Two (take at bytes))
     (front.sound.known id))
     ∙ ap (λ f. is_begun_at (place_of f)) same
 
@@ -221,19 +237,20 @@ pub front_more : (limit : ℕ) (bytes : List ℕ) (at len orders id : ℕ) (code
     → IsFront limit bytes (at + len) (orders + 1) new_index
 front_more limit bytes at len orders id code index new_index front more has none found =
     let order = has.order in
-    let records : List Record = records_in (take at bytes) in
-    let group : List ℕ = journal_spelling (group_of order code) in
+    let moment = has.moment in
+    let records : List Record = records_in Two (take at bytes) in
+    let group : List ℕ = records_spelling Two (group_of order moment code) in
     let there : at ≡ length (take at bytes) = sym (length-take-le at bytes front.within) in
     let whole : bytes ≡ take at bytes ++ drop at bytes = sym (take-append-drop at bytes) in
     let fresh = ap (λ n. is_begun n records) has.named ∙ front_begun limit bytes at orders id index None front none in
-    let sound = group_sound (take at bytes) records orders limit at index new_index order code front.sound more
+    let sound = group_sound (take at bytes) records orders limit at index new_index order moment code front.sound more
     has.begins.0 there fresh
     (λ other. found other
     ∙ ap (λ n. cond (n == other) (Some (places.Ended at code)) (lookup (nat_eq other) index)) (sym has.named)) in
     let taken : take (at + len) bytes ≡ take at bytes ++ group =
     take_group bytes (take at bytes) group has.rest at len there has.counted whole has.spelled in
-    let read : records_in (take at bytes ++ group) ≡ group_of order code ++ records =
-    ap records_in sound.spelled ∙ spelling_read (group_of order code ++ records) sound.journal.kept.in_range in
+    let read : records_in Two (take at bytes ++ group) ≡ group_of order moment code ++ records =
+    ap (records_in Two) sound.spelled ∙ spelling_read Two (group_of order moment code ++ records) sound.journal.kept.in_range in
     record {
       within =
           (let all = ap length (whole ∙ ap (λ bs. take at bytes ++ bs) has.spelled) in
@@ -241,7 +258,7 @@ front_more limit bytes at len orders id code index new_index front more has none
           let rest = length-append group has.rest in
           let n = has.counted in omega arith);
       sound =
-          subst (λ (bs : List ℕ). IsSound bs (records_in bs) standings.Idle (orders + 1) limit 0 new_index) (sym taken)
+          subst (λ (bs : List ℕ). IsSound bs (records_in Two bs) standings.Idle (orders + 1) limit 0 new_index) (sym taken)
           (subst (λ (rs : List Record).
           IsSound (take at bytes ++ group) rs standings.Idle (orders + 1) limit 0 new_index) (sym read) sound);
       begun = begun_more index new_index at id code front.begun found;
@@ -251,23 +268,27 @@ front_more limit bytes at len orders id code index new_index front more has none
 pub front_repeated : (limit : ℕ) (bytes : List ℕ) (at len orders id : ℕ) (code : Code) (index : List (ℕ × Place))
     (place : Place)
     → IsLimit limit → IsFront limit bytes at orders index → HasGroup id code len (drop at bytes)
-    → lookup (nat_eq id) index ≡ Some place → IsLoadFault limit bytes (faults.Repeated at)
+    → lookup (nat_eq id) index ≡ Some place → IsLoadFault limit (header Two ++ bytes) (faults.Repeated (4 + at))
 front_repeated limit bytes at len orders id code index place is front has found =
-    let records : List Record = records_in (take at bytes) in
+    let records : List Record = records_in Two (take at bytes) in
     let sound = front.sound in
     let there = sym (length-take-le at bytes front.within) ∙ ap length sound.spelled in (
       is,
       record {
+        version = Two;
+        of_version = (bytes, refl);
         records = records;
         rest = drop at bytes;
-        spelled = sym (take-append-drop at bytes) ∙ ap (λ bs. bs ++ drop at bytes) sound.spelled;
+        spelled =
+            ap (λ bs. header Two ++ bs)
+            (sym (take-append-drop at bytes) ∙ ap (λ bs. bs ++ drop at bytes) sound.spelled);
         kept = sound.journal.kept;
         behind = (
-          Began has.order,
+          Began has.order has.moment,
           has.begins,
           (
-            there,
-            subst (λ (st : Standing). Allows st (Began has.order)) sound.standing_is tt,
+            (let e = there in let n = length-append (header Two) (records_spelling Two records) in omega arith),
+            subst (λ (st : Standing). Allows st (Began has.order has.moment)) sound.standing_is tt,
             ap (λ n. is_begun n records) has.named ∙ front_begun limit bytes at orders id index (Some place) front found
                 ∙ front.begun id place found,
           ),

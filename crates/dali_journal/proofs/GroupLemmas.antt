@@ -26,33 +26,33 @@ standing_after standing (entry ∷ rest) = standing_after (next_standing standin
 
 groups_allowed : (entries : List Record) → AreGroups entries → AllowedFrom standings.Idle entries
 groups_allowed [] h = tt
-groups_allowed (Began order ∷ []) h = (tt, tt)
-groups_allowed (Began order ∷ Ended Short ∷ rest) h = (tt, (tt, groups_allowed rest h))
-groups_allowed (Began order ∷ Ended Format ∷ rest) h = (tt, (tt, groups_allowed rest h))
-groups_allowed (Began order ∷ Ended Silent ∷ rest) h = (tt, (tt, groups_allowed rest h))
-groups_allowed (Began order ∷ Opened unit ∷ []) h = (tt, (h, tt))
-groups_allowed (Began order ∷ Opened unit ∷ Ended Done ∷ rest) h = (tt, (h.0, (tt, groups_allowed rest h.1)))
-groups_allowed (Began order ∷ Opened unit ∷ Ended Doubt ∷ rest) h = (tt, (h.0, (tt, groups_allowed rest h.1)))
-groups_allowed (Began order ∷ Opened unit ∷ Ended DoubtOpen ∷ []) h = (tt, (h, (tt, tt)))
-groups_allowed (Began order ∷ Opened unit ∷ Ended DoubtOpen ∷ Closed left ∷ rest) h =
+groups_allowed (Began order moment ∷ []) h = (tt, tt)
+groups_allowed (Began order moment ∷ Ended Short ∷ rest) h = (tt, (tt, groups_allowed rest h))
+groups_allowed (Began order moment ∷ Ended Format ∷ rest) h = (tt, (tt, groups_allowed rest h))
+groups_allowed (Began order moment ∷ Ended Silent ∷ rest) h = (tt, (tt, groups_allowed rest h))
+groups_allowed (Began order moment ∷ Opened unit ∷ []) h = (tt, (h, tt))
+groups_allowed (Began order moment ∷ Opened unit ∷ Ended Done ∷ rest) h = (tt, (h.0, (tt, groups_allowed rest h.1)))
+groups_allowed (Began order moment ∷ Opened unit ∷ Ended Doubt ∷ rest) h = (tt, (h.0, (tt, groups_allowed rest h.1)))
+groups_allowed (Began order moment ∷ Opened unit ∷ Ended DoubtOpen ∷ []) h = (tt, (h, (tt, tt)))
+groups_allowed (Began order moment ∷ Opened unit ∷ Ended DoubtOpen ∷ Closed left ∷ rest) h =
     (tt, (h.0, (tt, (h.1, groups_allowed rest h.2))))
 groups_allowed _ h = absurd h
 
 allowed_groups : (entries : List Record) → AllowedFrom standings.Idle entries → AreGroups entries
 allowed_groups [] h = tt
-allowed_groups (Began order ∷ []) h = tt
-allowed_groups (Began order ∷ Ended Short ∷ rest) h = allowed_groups rest h.1.1
-allowed_groups (Began order ∷ Ended Format ∷ rest) h = allowed_groups rest h.1.1
-allowed_groups (Began order ∷ Ended Silent ∷ rest) h = allowed_groups rest h.1.1
-allowed_groups (Began order ∷ Opened unit ∷ []) h = h.1.0
-allowed_groups (Began order ∷ Opened unit ∷ Ended Done ∷ rest) h = (h.1.0, allowed_groups rest h.1.1.1)
-allowed_groups (Began order ∷ Opened unit ∷ Ended Doubt ∷ rest) h = (h.1.0, allowed_groups rest h.1.1.1)
-allowed_groups (Began order ∷ Opened unit ∷ Ended DoubtOpen ∷ []) h = h.1.0
-allowed_groups (Began order ∷ Opened unit ∷ Ended DoubtOpen ∷ Closed left ∷ rest) h =
+allowed_groups (Began order moment ∷ []) h = tt
+allowed_groups (Began order moment ∷ Ended Short ∷ rest) h = allowed_groups rest h.1.1
+allowed_groups (Began order moment ∷ Ended Format ∷ rest) h = allowed_groups rest h.1.1
+allowed_groups (Began order moment ∷ Ended Silent ∷ rest) h = allowed_groups rest h.1.1
+allowed_groups (Began order moment ∷ Opened unit ∷ []) h = h.1.0
+allowed_groups (Began order moment ∷ Opened unit ∷ Ended Done ∷ rest) h = (h.1.0, allowed_groups rest h.1.1.1)
+allowed_groups (Began order moment ∷ Opened unit ∷ Ended Doubt ∷ rest) h = (h.1.0, allowed_groups rest h.1.1.1)
+allowed_groups (Began order moment ∷ Opened unit ∷ Ended DoubtOpen ∷ []) h = h.1.0
+allowed_groups (Began order moment ∷ Opened unit ∷ Ended DoubtOpen ∷ Closed left ∷ rest) h =
     (h.1.0, h.1.1.1.0, allowed_groups rest h.1.1.1.1)
-allowed_groups (Began order ∷ Opened unit ∷ Ended DoubtOpen ∷ _) h = absurd h.1.1.1.0
-allowed_groups (Began order ∷ Opened unit ∷ _ ∷ _) h = absurd h.1.1.0
-allowed_groups (Began order ∷ _ ∷ _) h = absurd h.1.0
+allowed_groups (Began order moment ∷ Opened unit ∷ Ended DoubtOpen ∷ _) h = absurd h.1.1.1.0
+allowed_groups (Began order moment ∷ Opened unit ∷ _ ∷ _) h = absurd h.1.1.0
+allowed_groups (Began order moment ∷ _ ∷ _) h = absurd h.1.0
 allowed_groups (_ ∷ _) h = absurd h.0
 
 -- one record more at the end
@@ -97,7 +97,7 @@ apart a b e = grind (arith, nat_tests)
 begun_push : (id : ℕ) (entries : List Record) (entry : Record) →
     is_begun id (entries ++ entry ∷ []) ≡ (is_begun id entries || is_begun id (entry ∷ []))
 begun_push id [] entry = refl
-begun_push id (Began order ∷ rest) entry =
+begun_push id (Began order moment ∷ rest) entry =
     ap (λ more. order.id == id || more) (begun_push id rest entry)
     ∙ sym (or_assoc (order.id == id) (is_begun id rest) (is_begun id (entry ∷ [])))
 begun_push id (Opened unit ∷ rest) entry = begun_push id rest entry
@@ -106,7 +106,7 @@ begun_push id (Closed unit ∷ rest) entry = begun_push id rest entry
 
 one_more : (id : ℕ) (entry : Record) (older : List Record)
     → (is_begun id older || is_begun id (entry ∷ [])) ≡ is_begun id (entry ∷ older)
-one_more id (Began order) older = or_swap (order.id == id) (is_begun id older)
+one_more id (Began order moment) older = or_swap (order.id == id) (is_begun id older)
 one_more id (Opened unit) older = or-false (is_begun id older)
 one_more id (Ended code) older = or-false (is_begun id older)
 one_more id (Closed unit) older = or-false (is_begun id older)
@@ -119,57 +119,57 @@ begun_reverse id (entry ∷ older) =
 
 new_same : (entry : Record) (some same : List Record) → ((id : ℕ) → is_begun id same ≡ is_begun id some)
     → IsNew entry some → IsNew entry same
-new_same (Began order) some same f new = f order.id ∙ new
+new_same (Began order moment) some same f new = f order.id ∙ new
 new_same (Opened unit) some same f new = tt
 new_same (Ended code) some same f new = tt
 new_same (Closed unit) some same f new = tt
 
 alone : (entry : Record) → HaveDistinctNumbers (entry ∷ [])
-alone (Began order) = (refl, tt)
+alone (Began order moment) = (refl, tt)
 alone (Opened unit) = tt
 alone (Ended code) = tt
 alone (Closed unit) = tt
 
 new_alone : (entry : Record) → IsNew entry []
-new_alone (Began order) = refl
+new_alone (Began order moment) = refl
 new_alone (Opened unit) = tt
 new_alone (Ended code) = tt
 new_alone (Closed unit) = tt
 
 -- a new number is another than the first
-new_first : (first : Contents) (rest : List Record) (entry : Record) → IsNew entry (Began first ∷ rest)
+new_first : (first : Contents) (moment : ℕ) (rest : List Record) (entry : Record) → IsNew entry (Began first moment ∷ rest)
     → is_begun first.id (entry ∷ []) ≡ false
-new_first first rest (Began order) new =
+new_first first moment rest (Began order at) new =
     or_from (order.id == first.id) false
     (apart first.id order.id (or_parts (first.id == order.id) (is_begun order.id rest) new).0) refl
-new_first first rest (Opened unit) new = refl
-new_first first rest (Ended code) new = refl
-new_first first rest (Closed unit) new = refl
+new_first first moment rest (Opened unit) new = refl
+new_first first moment rest (Ended code) new = refl
+new_first first moment rest (Closed unit) new = refl
 
-new_rest : (first : Contents) (rest : List Record) (entry : Record) → IsNew entry (Began first ∷ rest)
+new_rest : (first : Contents) (moment : ℕ) (rest : List Record) (entry : Record) → IsNew entry (Began first moment ∷ rest)
     → IsNew entry rest
-new_rest first rest (Began order) new = (or_parts (first.id == order.id) (is_begun order.id rest) new).1
-new_rest first rest (Opened unit) new = tt
-new_rest first rest (Ended code) new = tt
-new_rest first rest (Closed unit) new = tt
+new_rest first moment rest (Began order at) new = (or_parts (first.id == order.id) (is_begun order.id rest) new).1
+new_rest first moment rest (Opened unit) new = tt
+new_rest first moment rest (Ended code) new = tt
+new_rest first moment rest (Closed unit) new = tt
 
-new_both : (first : Contents) (rest : List Record) (entry : Record) → is_begun first.id (entry ∷ []) ≡ false
+new_both : (first : Contents) (moment : ℕ) (rest : List Record) (entry : Record) → is_begun first.id (entry ∷ []) ≡ false
     → IsNew entry rest
-    → IsNew entry (Began first ∷ rest)
-new_both first rest (Began order) other new =
+    → IsNew entry (Began first moment ∷ rest)
+new_both first moment rest (Began order at) other new =
     or_from (first.id == order.id) (is_begun order.id rest)
     (apart order.id first.id (or_parts (order.id == first.id) false other).0) new
-new_both first rest (Opened unit) other new = tt
-new_both first rest (Ended code) other new = tt
-new_both first rest (Closed unit) other new = tt
+new_both first moment rest (Opened unit) other new = tt
+new_both first moment rest (Ended code) other new = tt
+new_both first moment rest (Closed unit) other new = tt
 
 distinct_push : (entries : List Record) (entry : Record) → HaveDistinctNumbers entries → IsNew entry entries
     → HaveDistinctNumbers (entries ++ entry ∷ [])
 distinct_push [] entry h new = alone entry
-distinct_push (Began first ∷ rest) entry h new = (
+distinct_push (Began first moment ∷ rest) entry h new = (
   begun_push first.id rest entry
-      ∙ or_from (is_begun first.id rest) (is_begun first.id (entry ∷ [])) h.0 (new_first first rest entry new),
-  distinct_push rest entry h.1 (new_rest first rest entry new),
+      ∙ or_from (is_begun first.id rest) (is_begun first.id (entry ∷ [])) h.0 (new_first first moment rest entry new),
+  distinct_push rest entry h.1 (new_rest first moment rest entry new),
 )
 distinct_push (Opened unit ∷ rest) entry h new =
     distinct_push rest entry h (new_same entry (Opened unit ∷ rest) rest (λ id. refl) new)
@@ -181,11 +181,11 @@ distinct_push (Closed unit ∷ rest) entry h new =
 distinct_pop : (entries : List Record) (entry : Record) → HaveDistinctNumbers (entries ++ entry ∷ [])
     → HaveDistinctNumbers entries × IsNew entry entries
 distinct_pop [] entry h = (tt, new_alone entry)
-distinct_pop (Began first ∷ rest) entry h =
+distinct_pop (Began first moment ∷ rest) entry h =
     let more = distinct_pop rest entry h.1 in
     let both =
     or_parts (is_begun first.id rest) (is_begun first.id (entry ∷ [])) (sym (begun_push first.id rest entry) ∙ h.0) in
-    ((both.0, more.0), new_both first rest entry both.1 more.1)
+    ((both.0, more.0), new_both first moment rest entry both.1 more.1)
 distinct_pop (Opened unit ∷ rest) entry h =
     let more = distinct_pop rest entry h in (more.0, new_same entry rest (Opened unit ∷ rest) (λ id. refl) more.1)
 distinct_pop (Ended code ∷ rest) entry h =

@@ -22,14 +22,16 @@ use Rattle.dali_journal.proofs.IndexLemmas.{IsNewest, newest, opened_same}
 
 -- what stands at the end of a sentence, by its standing
 abbrev Shape : Standing → List Record → Type 0
-Shape (standings.Began order) records = (older : List Record) × (records ≡ Began order ∷ older)
-Shape (standings.Opened order) records = (older : List Record) × (records ≡ Opened order.unit ∷ Began order ∷ older)
+Shape (standings.Began order) records =
+    (older : List Record) × (moment : ℕ) × (records ≡ Began order moment ∷ older)
+Shape (standings.Opened order) records =
+    (older : List Record) × (moment : ℕ) × (records ≡ Opened order.unit ∷ Began order moment ∷ older)
 Shape other records = ⊤
 
 shape_next : (standing : Standing) (entry : Record) (older : List Record) → Allows standing entry → Shape standing older
     → Shape (next_standing standing entry) (entry ∷ older)
-shape_next standings.Idle (Began order) older a s = (older, refl)
-shape_next (standings.Began order) (Opened unit) older a s = (s.0, let is = s.1 in cc)
+shape_next standings.Idle (Began order moment) older a s = (older, moment, refl)
+shape_next (standings.Began order) (Opened unit) older a s = (s.0, s.1, let is = s.2 in cc)
 shape_next (standings.Began order) (Ended Short) older a s = tt
 shape_next (standings.Began order) (Ended Format) older a s = tt
 shape_next (standings.Began order) (Ended Silent) older a s = tt
@@ -46,13 +48,14 @@ shape (entry ∷ older) s = shape_next (standing_of older) entry older s.1 (shap
 -- an end ends the newest order, which wasn't ended
 record EndsOne (older : List Record) : Type 0 where
   pub order : Contents
+  pub moment : ℕ
   pub progress : Progress
   pub before : List Record
   pub rest : List (Contents × Progress)
   pub unfinished : kept_at order progress ≡ kepts.Unfinished order
   pub orders : orders_of older ≡ (order, progress) ∷ rest
-  pub stands : ((standing_of older ≡ standings.Began order) × (older ≡ Began order ∷ before))
-      ⊎ ((standing_of older ≡ standings.Opened order) × (older ≡ Opened order.unit ∷ Began order ∷ before))
+  pub stands : ((standing_of older ≡ standings.Began order) × (older ≡ Began order moment ∷ before))
+      ⊎ ((standing_of older ≡ standings.Opened order) × (older ≡ Opened order.unit ∷ Began order moment ∷ before))
 
 ends_one : (standing : Standing) (code : Code) (older : List Record) → standing_of older ≡ standing
     → Allows standing (Ended code)
@@ -60,22 +63,24 @@ ends_one : (standing : Standing) (code : Code) (older : List Record) → standin
 ends_one (standings.Began order) code older e a n s =
     record {
       order = order;
+      moment = s.1;
       progress = reached.Begun;
       before = s.0;
       rest = n.0;
       unfinished = refl;
       orders = n.1;
-      stands = inl (e, s.1);
+      stands = inl (e, s.2);
     }
 ends_one (standings.Opened order) code older e a n s =
     record {
       order = order;
+      moment = s.1;
       progress = reached.Open;
       before = s.0;
       rest = n.0;
       unfinished = refl;
       orders = n.1;
-      stands = inr (e, s.1);
+      stands = inr (e, s.2);
     }
 ends_one _ code older e a n s = absurd a
 
@@ -114,10 +119,10 @@ Found records id order code = (order.id ≡ id) × HasEnded order code records
 found_more : (entry : Record) (older : List Record) (id : ℕ) (order : Contents) (code : Code)
     → Found older id order code
     → Found (entry ∷ older) id order code
-found_more entry older id order code (e, (newer, before, inl is)) =
-    (e, (entry ∷ newer, before, inl (ap (λ rs. entry ∷ rs) is)))
-found_more entry older id order code (e, (newer, before, inr is)) =
-    (e, (entry ∷ newer, before, inr (ap (λ rs. entry ∷ rs) is)))
+found_more entry older id order code (e, (moment, newer, before, inl is)) =
+    (e, (moment, entry ∷ newer, before, inl (ap (λ rs. entry ∷ rs) is)))
+found_more entry older id order code (e, (moment, newer, before, inr is)) =
+    (e, (moment, entry ∷ newer, before, inr (ap (λ rs. entry ∷ rs) is)))
 
 found_here : (last : Code) (older : List Record) (id : ℕ) (order : Contents) (code : Code) (one : EndsOne older)
     → (one.order.id == id) ≡ true
@@ -129,13 +134,14 @@ found_here last older id order code one t k =
     (ap (λ (o : Contents). o.id) (sym same) ∙ number, by same so one.stands)
   where
     by : one.order ≡ order → last ≡ code
-        → ((standing_of older ≡ standings.Began one.order) × (older ≡ Began one.order ∷ one.before))
+        → ((standing_of older ≡ standings.Began one.order) × (older ≡ Began one.order one.moment ∷ one.before))
         ⊎ ((standing_of older ≡ standings.Opened one.order)
-        × (older ≡ Opened one.order.unit ∷ Began one.order ∷ one.before))
+        × (older ≡ Opened one.order.unit ∷ Began one.order one.moment ∷ one.before))
         → HasEnded order code (Ended last ∷ older)
-    by same so (inl is) = let at = is.1 in ([], one.before, inl cc)
+    by same so (inl is) = let at = is.1 in (one.moment, [], one.before, inl cc)
     by same so (inr is) =
-        let at : older ≡ Opened order.unit ∷ Began order ∷ one.before = rw same at is.1 in ([], one.before, inr cc)
+        let at : older ≡ Opened order.unit ∷ Began order one.moment ∷ one.before = rw same at is.1 in
+        (one.moment, [], one.before, inr cc)
 
 found_end : (last : Code) (older : List Record) (id : ℕ) (order : Contents) (code : Code) (one : EndsOne older)
     → kept_of id (Ended last ∷ older) ≡ kepts.Ended order code
@@ -152,8 +158,8 @@ found : (records : List Record) (id : ℕ) (order : Contents) (code : Code) → 
     → kept_of id records ≡ kepts.Ended order code
     → Found records id order code
 found [] id order code s k = absurd (absent_or_ended order code k)
-found (Began first ∷ older) id order code s k =
-    found_more (Began first) older id order code (found older id order code s.0 (by (first.id == id) k))
+found (Began first moment ∷ older) id order code s k =
+    found_more (Began first moment) older id order code (found older id order code s.0 (by (first.id == id) k))
   where
     by : (test : Bool) → cond test (kepts.Unfinished first) (kept_of id older) ≡ kepts.Ended order code
         → kept_of id older ≡ kepts.Ended order code
@@ -172,7 +178,7 @@ found (Closed unit ∷ older) id order code s k =
 still_kept : (entry : Record) (older : List Record) (id : ℕ) (order : Contents) (code : Code)
     → IsSentence (entry ∷ older)
     → kept_of id older ≡ kepts.Ended order code → kept_of id (entry ∷ older) ≡ kepts.Ended order code
-still_kept (Began first) older id order code s k = by (first.id == id) refl where
+still_kept (Began first moment) older id order code s k = by (first.id == id) refl where
   by : (test : Bool) → (first.id == id) ≡ test
       → cond test (kepts.Unfinished first) (kept_of id older) ≡ kepts.Ended order code
   by true t =
@@ -192,67 +198,67 @@ still_kept (Ended last) older id order code s k = by (one.order.id == id) refl w
   by false t = kept_after last older one id false t ∙ sym (kept_before older one id false t) ∙ k
 still_kept (Closed unit) older id order code s k = k
 
-kept_there : (newer older records : List Record) (order : Contents) (code : Code) → IsSentence records
-    → (records ≡ newer ++ Ended code ∷ Began order ∷ older)
-    ⊎ (records ≡ newer ++ Ended code ∷ Opened order.unit ∷ Began order ∷ older)
+kept_there : (moment : ℕ) (newer older records : List Record) (order : Contents) (code : Code) → IsSentence records
+    → (records ≡ newer ++ Ended code ∷ Began order moment ∷ older)
+    ⊎ (records ≡ newer ++ Ended code ∷ Opened order.unit ∷ Began order moment ∷ older)
     → kept_of order.id records ≡ kepts.Ended order code
-kept_there [] older records order code s (inl is) =
+kept_there moment [] older records order code s (inl is) =
     ap (kept_of order.id) is
     ∙ ap (λ b. cond b (kepts.Ended order code) (kept_of order.id older)) (eq-eqb order.id order.id refl)
-kept_there [] older records order code s (inr is) =
+kept_there moment [] older records order code s (inr is) =
     ap (kept_of order.id) is
     ∙ ap (λ b. cond b (kepts.Ended order code) (kept_of order.id older)) (eq-eqb order.id order.id refl)
-kept_there (entry ∷ more) older records order code s (inl is) =
-    let sentence : IsSentence (entry ∷ (more ++ Ended code ∷ Began order ∷ older)) = subst IsSentence is s in
+kept_there moment (entry ∷ more) older records order code s (inl is) =
+    let sentence : IsSentence (entry ∷ (more ++ Ended code ∷ Began order moment ∷ older)) = subst IsSentence is s in
     ap (kept_of order.id) is
-    ∙ still_kept entry (more ++ Ended code ∷ Began order ∷ older) order.id order code sentence
-    (kept_there more older (more ++ Ended code ∷ Began order ∷ older) order code sentence.0 (inl refl))
-kept_there (entry ∷ more) older records order code s (inr is) =
-    let sentence : IsSentence (entry ∷ (more ++ Ended code ∷ Opened order.unit ∷ Began order ∷ older)) =
+    ∙ still_kept entry (more ++ Ended code ∷ Began order moment ∷ older) order.id order code sentence
+    (kept_there moment more older (more ++ Ended code ∷ Began order moment ∷ older) order code sentence.0 (inl refl))
+kept_there moment (entry ∷ more) older records order code s (inr is) =
+    let sentence : IsSentence (entry ∷ (more ++ Ended code ∷ Opened order.unit ∷ Began order moment ∷ older)) =
     subst IsSentence is s in
     ap (kept_of order.id) is
-    ∙ still_kept entry (more ++ Ended code ∷ Opened order.unit ∷ Began order ∷ older) order.id order code sentence
-    (kept_there more older (more ++ Ended code ∷ Opened order.unit ∷ Began order ∷ older) order code sentence.0
+    ∙ still_kept entry (more ++ Ended code ∷ Opened order.unit ∷ Began order moment ∷ older) order.id order code sentence
+    (kept_there moment more older (more ++ Ended code ∷ Opened order.unit ∷ Began order moment ∷ older) order code sentence.0
     (inr refl))
 
 -- An order that hasn't ended
 
 unended_stands : (order : Contents) (records : List Record) → IsUnended order records
     → (standing_of records ≡ standings.Began order) ⊎ (standing_of records ≡ standings.Opened order)
-unended_stands order records (older, inl is) = inl (ap standing_of is)
-unended_stands order records (older, inr is) = inr (ap standing_of is)
+unended_stands order records (moment, older, inl is) = inl (ap standing_of is)
+unended_stands order records (moment, older, inr is) = inr (ap standing_of is)
 
 -- the order is at work, and the number is its own
 abbrev Unended : List Record → ℕ → Contents → Type 0
 Unended records id order = (order.id ≡ id) × IsUnended order records
 
 -- nothing else may be behind such records than what the table allows
-unended_began : (first : Contents) (older : List Record) (id : ℕ) (order : Contents)
-    → Allows (standing_of older) (Began first)
-    → kept_of id (Began first ∷ older) ≡ kepts.Unfinished order
+unended_began : (first : Contents) (moment : ℕ) (older : List Record) (id : ℕ) (order : Contents)
+    → Allows (standing_of older) (Began first moment)
+    → kept_of id (Began first moment ∷ older) ≡ kepts.Unfinished order
     → (kept_of id older ≡ kepts.Unfinished order → Unended older id order)
-    → Unended (Began first ∷ older) id order
-unended_began first older id order a k below = by (first.id == id) refl k where
+    → Unended (Began first moment ∷ older) id order
+unended_began first moment older id order a k below = by (first.id == id) refl k where
   none : (standing_of older ≡ standings.Began order) ⊎ (standing_of older ≡ standings.Opened order) → ⊥
   none (inl stands) = rw stands at a
   none (inr stands) = rw stands at a
 
   by : (test : Bool) → (first.id == id) ≡ test
       → cond test (kepts.Unfinished first) (kept_of id older) ≡ kepts.Unfinished order
-      → Unended (Began first ∷ older) id order
+      → Unended (Began first moment ∷ older) id order
   by true t k =
       let same : first ≡ order = cc in
-      (ap (λ (o : Contents). o.id) (sym same) ∙ eqb-true first.id id t, (older, inl (ap (λ o. Began o ∷ older) same)))
+      (ap (λ (o : Contents). o.id) (sym same) ∙ eqb-true first.id id t, (moment, older, inl (ap (λ o. Began o moment ∷ older) same)))
   by false t k = absurd (none (unended_stands order older (below k).1))
 
 unended_opened : (unit : ℕ) (older : List Record) (order : Contents) → Allows (standing_of older) (Opened unit)
     → IsUnended order older
     → IsUnended order (Opened unit ∷ older)
-unended_opened unit older order a (rest, inl is) =
+unended_opened unit older order a (moment, rest, inl is) =
     let stands : standing_of older ≡ standings.Began order = ap standing_of is in
     let same : unit ≡ order.unit = rw stands at a in
-    (rest, inr cc)
-unended_opened unit older order a (rest, inr is) =
+    (moment, rest, inr cc)
+unended_opened unit older order a (moment, rest, inr is) =
     let stands : standing_of older ≡ standings.Opened order = ap standing_of is in
     absurd (rw stands at a)
 
@@ -261,9 +267,9 @@ not_ended : (last : Code) (older : List Record) (id : ℕ) (order : Contents) (o
     → (kept_of id older ≡ kepts.Unfinished order → Unended older id order) → ⊥
 not_ended last older id order one k below = by (one.order.id == id) refl where
   same : (standing_of older ≡ standings.Began order) ⊎ (standing_of older ≡ standings.Opened order)
-      → ((standing_of older ≡ standings.Began one.order) × (older ≡ Began one.order ∷ one.before))
+      → ((standing_of older ≡ standings.Began one.order) × (older ≡ Began one.order one.moment ∷ one.before))
       ⊎ ((standing_of older ≡ standings.Opened one.order)
-      × (older ≡ Opened one.order.unit ∷ Began one.order ∷ one.before))
+      × (older ≡ Opened one.order.unit ∷ Began one.order one.moment ∷ one.before))
       → one.order ≡ order
   same (inl stands) (inl is) = let e = is.0 in cc
   same (inl stands) (inr is) = let e = is.0 in cc
@@ -286,8 +292,8 @@ unended : (records : List Record) (id : ℕ) (order : Contents) → IsSentence r
     → kept_of id records ≡ kepts.Unfinished order
     → Unended records id order
 unended [] id order s k = absurd (absent_or_unfinished order k)
-unended (Began first ∷ older) id order s k =
-    unended_began first older id order s.1 k (λ before. unended older id order s.0 before)
+unended (Began first moment ∷ older) id order s k =
+    unended_began first moment older id order s.1 k (λ before. unended older id order s.0 before)
 unended (Opened unit ∷ older) id order s k =
     let before =
     unended older id order s.0 (opened_same (standing_of older) unit older id s.1 (newest older s.0) ∙ k) in
@@ -299,10 +305,10 @@ unended (Closed unit ∷ older) id order s k =
 
 unended_kept : (records : List Record) (order : Contents) → IsUnended order records
     → kept_of order.id records ≡ kepts.Unfinished order
-unended_kept records order (older, inl is) =
+unended_kept records order (moment, older, inl is) =
     ap (kept_of order.id) is
     ∙ ap (λ b. cond b (kepts.Unfinished order) (kept_of order.id older)) (eq-eqb order.id order.id refl)
-unended_kept records order (older, inr is) =
+unended_kept records order (moment, older, inr is) =
     ap (kept_of order.id) is
     ∙ ap (λ b. cond b (kepts.Unfinished order) (kept_of order.id older)) (eq-eqb order.id order.id refl)
 
@@ -326,6 +332,6 @@ in_the_groups records id s = (
   (λ order. (unended records id order s, λ is. rw (sym is.0) (unended_kept records order is.1))),
   (λ order code. (
     found records id order code s,
-    λ is. rw (sym is.0) (kept_there is.1.0 is.1.1 records order code s is.1.2),
+    λ is. rw (sym is.0) (kept_there is.1.0 is.1.1 is.1.2 records order code s is.1.3),
   )),
 )

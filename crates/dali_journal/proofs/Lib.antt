@@ -13,3 +13,4 @@ pub mod LoadLemmas
 pub mod TornLemmas
 pub mod FaultLemmas
 pub mod KeptLemmas
+pub mod MomentLemmas

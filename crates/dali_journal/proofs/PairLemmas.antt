@@ -11,7 +11,9 @@ use Rattle.dali_bank.specs.Order.{Contents, AreUpdates, IsWritable, RisesAbove}
 use Rattle.dali_journal.specs.declared.record.Record.TheVariants.{Began}
 use Rattle.dali_journal.specs.declared.read.Pairs.{Pairs}
 use Rattle.dali_journal.specs.declared.read.Pairs.TheVariants as lists
-use Rattle.dali_journal.specs.Spelling.{pairs_spelling, IsRecord}
+use Rattle.dali_journal.specs.declared.version.Version.{Version}
+use Rattle.dali_journal.specs.declared.version.Version.TheVariants.{One}
+use Rattle.dali_journal.specs.Spelling.{pairs_spelling, IsMoment, IsRecord}
 use Rattle.dali_journal.specs.Decoding.{places_above, fits, behind_pair, pairs_of}
 
 -- updates of an order, above a location
@@ -48,13 +50,14 @@ length-climb low [] c = omega arith
 length-climb low (u ∷ us) c = omega (arith, places_fall low u.0 c.0 c.1, length-climb u.0 us c.3)
 
 -- an order in these words, and back
-pub order-climbs : (order : Contents) → IsRecord (Began order) → Climb 0 order.updates
-order-climbs order is = climb 0 order.updates is.2.rising is.2.writable is.3
+pub order-climbs : (version : Version) (order : Contents) (moment : ℕ) → IsRecord version (Began order moment)
+    → Climb 0 order.updates
+order-climbs version order moment is = climb 0 order.updates is.2.rising is.2.writable is.3
 
-pub climbs-order : (id unit : ℕ) (updates : List (ℕ × ℕ)) → id < 2 ^ 64 → unit ≤ 63 → 1 ≤ length updates
-    → Climb 0 updates →
-    IsRecord (Began (record { id = id; unit = unit; updates = updates }))
-climbs-order id unit updates i u some c = (
+pub climbs-order : (version : Version) (id moment unit : ℕ) (updates : List (ℕ × ℕ)) → id < 2 ^ 64
+    → IsMoment version moment → unit ≤ 63 → 1 ≤ length updates → Climb 0 updates
+    → IsRecord version (Began (record { id = id; unit = unit; updates = updates }) moment)
+climbs-order version id moment unit updates i m u some c = (
   i,
   u,
   record {
@@ -64,6 +67,7 @@ climbs-order id unit updates i u some c = (
     writable = climb_writable 0 updates c;
   },
   climb_bytes 0 updates c,
+  m,
 )
 
 -- bytes are bytes
@@ -235,4 +239,4 @@ updates-read count rest pairs updates some few fit is same =
     let reads =
     subst (λ (p : Pairs). ReadsPairs count 0 rest p) (sym is) (reads-pairs_of count 0 rest (omega arith) fit) in
     let long = reads.0.length_is in
-    rw same (climbs-order 0 0 pairs.items (omega arith) (omega arith) (omega arith) reads.0.rises).2
+    rw same (climbs-order One 0 0 0 pairs.items (omega arith) refl (omega arith) (omega arith) reads.0.rises).2

@@ -1,5 +1,5 @@
 -- What is read of a record is exact, and no record's bytes begin another's.
-use Rattle.std.proofs.Common.{◌≡◌, ◌≢◌, ℕ, zero, suc, ◌*◌, ◌^◌, ◌-◌, ◌<◌, ◌≤◌, ◌&&◌, Bool, true, false, cond}
+use Rattle.std.proofs.Common.{◌≡◌, ◌≢◌, ℕ, zero, suc, ◌+◌, ◌*◌, ◌^◌, ◌-◌, ◌<◌, ◌≤◌, ◌&&◌, Bool, true, false, cond}
 use Rattle.std.proofs.Common.{List, [], ◌∷◌, ◌++◌, length, take, drop, get_or, refl, sym, ap, ◌∙◌, subst}
 use Rattle.std.proofs.Common.{arith, ◌==◌, length-append, inl, true≢false, replicate, append_assoc}
 use Rattle.std.specs.Prelude.{nat_le, nat_lt}
@@ -13,45 +13,47 @@ use Rattle.dali_journal.specs.declared.record.Code.{Code}
 use Rattle.dali_journal.specs.declared.record.Code.TheVariants.{Done, Short, Format, Silent, Doubt, DoubtOpen}
 use Rattle.dali_journal.specs.declared.record.Record.{Record}
 use Rattle.dali_journal.specs.declared.record.Record.TheVariants.{Began, Opened, Ended, Closed}
+use Rattle.dali_journal.specs.declared.version.Version.{Version}
+use Rattle.dali_journal.specs.declared.version.Version.TheVariants.{One, Two}
 use Rattle.dali_journal.specs.declared.read.Piece.TheVariants.{Whole, Cut, Bad}
 use Rattle.dali_journal.specs.declared.read.Pairs.{Pairs}
 use Rattle.dali_journal.specs.declared.read.Pairs.TheVariants as lists
-use Rattle.dali_journal.specs.Spelling.{spelling, pairs_spelling, IsRecord, code_number}
+use Rattle.dali_journal.specs.Spelling.{head_spelling, spelling, pairs_spelling, IsMoment, IsRecord, code_number}
 use Rattle.dali_journal.specs.Reading.{IsRead}
-use Rattle.dali_journal.specs.Decoding.{code_numbered, short_piece, began_piece, counted_piece, numbered_piece}
-use Rattle.dali_journal.specs.Decoding.{order_piece, piece_of, pairs_of}
+use Rattle.dali_journal.specs.Decoding.{code_numbered, short_piece, began_piece, counted_piece, timed_piece}
+use Rattle.dali_journal.specs.Decoding.{numbered_piece, order_piece, piece_of, pairs_of, head_length}
 use Rattle.dali_journal.proofs.SpellingLemmas.{letter_of, letter_at}
 use Rattle.dali_journal.proofs.PairLemmas.{AreBytes, ReadsPairs, reads-pairs_of, and-parts, order-climbs, climbs-order}
 
 -- no record agrees with the bytes as far as both go
-abbrev pub NoRecord : List ℕ → Type 0
-NoRecord bytes = (entry : Record) (rest more : List ℕ) → IsRecord entry → spelling entry ++ rest ≡ bytes ++ more → ⊥
+abbrev pub NoRecord : Version → List ℕ → Type 0
+NoRecord version bytes = (entry : Record) (rest more : List ℕ) → IsRecord version entry → spelling version entry ++ rest ≡ bytes ++ more → ⊥
 
-bad-reads : (bytes : List ℕ) → NoRecord bytes → IsRead bytes Bad
-bad-reads bytes none = λ entry. (
+bad-reads : (version : Version) (bytes : List ℕ) → NoRecord version bytes → IsRead version bytes Bad
+bad-reads version bytes none = λ entry. (
   λ begins. none entry begins.1 [] begins.0 (sym begins.2 ∙ sym (append-nil bytes)),
-  λ cut. none entry [] cut.1 cut.0 (append-nil (spelling entry) ∙ cut.3),
+  λ cut. none entry [] cut.1 cut.0 (append-nil (spelling version entry) ∙ cut.3),
 )
 
-letter-first : (entry : Record) (rest : List ℕ) (letter : ℕ) (more : List ℕ) → spelling entry ++ rest ≡ letter ∷ more
+letter-first : (version : Version) (entry : Record) (rest : List ℕ) (letter : ℕ) (more : List ℕ) → spelling version entry ++ rest ≡ letter ∷ more
     → letter ≡ letter_of entry
-letter-first entry rest letter more e = sym (ap (λ bytes. get_or bytes 0 0) e) ∙ letter_at entry rest
+letter-first version entry rest letter more e = sym (ap (λ bytes. get_or bytes 0 0) e) ∙ letter_at version entry rest
 
 -- another letter is another record
-other-letter : (entry : Record) (rest : List ℕ) (letter : ℕ) (more : List ℕ) → letter ≢ letter_of entry
-    → spelling entry ++ rest ≡ letter ∷ more → ⊥
-other-letter entry rest letter more other e = other (letter-first entry rest letter more e)
+other-letter : (version : Version) (entry : Record) (rest : List ℕ) (letter : ℕ) (more : List ℕ) → letter ≢ letter_of entry
+    → spelling version entry ++ rest ≡ letter ∷ more → ⊥
+other-letter version entry rest letter more other e = other (letter-first version entry rest letter more e)
 
 -- behind each letter of two bytes, a number that is too large
-no-opened : (unit : ℕ) (after : List ℕ) → 63 < unit → NoRecord (0x4F ∷ unit ∷ after)
-no-opened unit after large (Opened other) rest more is e =
+no-opened : (version : Version) (unit : ℕ) (after : List ℕ) → 63 < unit → NoRecord version (0x4F ∷ unit ∷ after)
+no-opened version unit after large (Opened other) rest more is e =
     let same : other ≡ unit = ap (λ bytes. get_or bytes 1 0) e in omega arith
-no-opened unit after large entry rest more is e = other-letter entry rest 0x4F (unit ∷ after ++ more) (omega arith) e
+no-opened version unit after large entry rest more is e = other-letter version entry rest 0x4F (unit ∷ after ++ more) (omega arith) e
 
-no-closed : (unit : ℕ) (after : List ℕ) → 63 < unit → NoRecord (0x43 ∷ unit ∷ after)
-no-closed unit after large (Closed other) rest more is e =
+no-closed : (version : Version) (unit : ℕ) (after : List ℕ) → 63 < unit → NoRecord version (0x43 ∷ unit ∷ after)
+no-closed version unit after large (Closed other) rest more is e =
     let same : other ≡ unit = ap (λ bytes. get_or bytes 1 0) e in omega arith
-no-closed unit after large entry rest more is e = other-letter entry rest 0x43 (unit ∷ after ++ more) (omega arith) e
+no-closed version unit after large entry rest more is e = other-letter version entry rest 0x43 (unit ∷ after ++ more) (omega arith) e
 
 pub code_number-small : (code : Code) → code_number code ≤ 5
 code_number-small Done = omega arith
@@ -61,25 +63,25 @@ code_number-small Silent = omega arith
 code_number-small Doubt = omega arith
 code_number-small DoubtOpen = omega arith
 
-no-ended : (number : ℕ) (after : List ℕ) → 5 < number → NoRecord (0x45 ∷ number ∷ after)
-no-ended number after large (Ended code) rest more is e =
+no-ended : (version : Version) (number : ℕ) (after : List ℕ) → 5 < number → NoRecord version (0x45 ∷ number ∷ after)
+no-ended version number after large (Ended code) rest more is e =
     let same : code_number code ≡ number = ap (λ bytes. get_or bytes 1 0) e in omega (arith, code_number-small code)
-no-ended number after large entry rest more is e = other-letter entry rest 0x45 (number ∷ after ++ more) (omega arith) e
+no-ended version number after large entry rest more is e = other-letter version entry rest 0x45 (number ∷ after ++ more) (omega arith) e
 
 -- a record of two bytes is read
-reads-short : (letter most : ℕ) (make : ℕ → Record) → ((n : ℕ) → n ≤ most → IsRecord (make n)) →
-    ((n : ℕ) → n ≤ most → spelling (make n) ≡ letter ∷ n ∷ [])
-    → ((n : ℕ) (after : List ℕ) → most < n → NoRecord (letter ∷ n ∷ after)) →
-    (bytes : List ℕ) → IsRead (letter ∷ bytes) (short_piece make most bytes)
-reads-short letter most make is spelled none [] =
+reads-short : (version : Version) (letter most : ℕ) (make : ℕ → Record) → ((n : ℕ) → n ≤ most → IsRecord version (make n)) →
+    ((n : ℕ) → n ≤ most → spelling version (make n) ≡ letter ∷ n ∷ [])
+    → ((n : ℕ) (after : List ℕ) → most < n → NoRecord version (letter ∷ n ∷ after)) →
+    (bytes : List ℕ) → IsRead version (letter ∷ bytes) (short_piece make most bytes)
+reads-short version letter most make is spelled none [] =
     (make 0, (is 0 (omega arith), 0 ∷ [], λ e. cc, spelled 0 (omega arith)))
-reads-short letter most make is spelled none (n ∷ rest) = by (nat_le n most) refl
+reads-short version letter most make is spelled none (n ∷ rest) = by (nat_le n most) refl
   where
-    by : (test : Bool) → nat_le n most ≡ test → IsRead (letter ∷ n ∷ rest) (cond test (Whole (make n) 2) Bad)
+    by : (test : Bool) → nat_le n most ≡ test → IsRead version (letter ∷ n ∷ rest) (cond test (Whole (make n) 2) Bad)
     by true e =
         let few = leb-true n most e in
         ((is n few, rest, ap (λ front. front ++ rest) (sym (spelled n few))), sym (ap length (spelled n few)))
-    by false e = bad-reads (letter ∷ n ∷ rest) (none n rest (leb-false n most e))
+    by false e = bad-reads version (letter ∷ n ∷ rest) (none n rest (leb-false n most e))
 
 code_number-code_of : (number : ℕ) → number ≤ 5 → code_number (code_numbered number) ≡ number
 code_number-code_of zero h = refl
@@ -96,113 +98,170 @@ code_number-code_of (suc (suc (suc (suc (suc (suc n)))))) h = absurd (omega arit
 abbrev smallest : ℕ → ℕ → Contents
 smallest id unit = record { id = id; unit = unit; updates = (3, 0) ∷ [] }
 
--- what stands behind the number, the unit and the count
-unit-of : (id unit : ℕ) (after : List ℕ) (o : Contents) (rest more : List ℕ) →
-    spelling (Began o) ++ rest ≡ (0x42 ∷ to_be_bytes w64 id ++ unit ∷ after) ++ more → o.unit ≡ unit
-unit-of id unit after o rest more e = ap (λ bytes. get_or bytes 9 0) e
+-- what stands behind the number and the moment
+abbrev behind-head : Contents → List ℕ
+behind-head o = o.unit ∷ length o.updates ∷ pairs_spelling o.updates
 
-count-of : (id unit count : ℕ) (after : List ℕ) (o : Contents) (rest more : List ℕ) →
-    spelling (Began o) ++ rest ≡ (0x42 ∷ to_be_bytes w64 id ++ unit ∷ count ∷ after) ++ more → length o.updates ≡ count
-count-of id unit count after o rest more e = ap (λ bytes. get_or bytes 10 0) e
+-- bytes behind the same head are the same
+same-behind : (version : Version) (id moment : ℕ) (after : List ℕ) (o : Contents) (at : ℕ) (rest more : List ℕ) →
+    spelling version (Began o at) ++ rest ≡ (0x42 ∷ head_spelling version id moment ++ after) ++ more
+    → behind-head o ++ rest ≡ after ++ more
+same-behind One id moment after o at rest more e = ap (drop 9) e
+same-behind Two id moment after o at rest more e = ap (drop 17) e
 
-pairs-behind : (id unit count : ℕ) (after : List ℕ) (o : Contents) (rest more : List ℕ) →
-    spelling (Began o) ++ rest ≡ (0x42 ∷ to_be_bytes w64 id ++ unit ∷ count ∷ after) ++ more →
-    pairs_spelling o.updates ++ rest ≡ after ++ more
-pairs-behind id unit count after o rest more e = ap (drop 11) e
+unit-of : (version : Version) (id moment unit : ℕ) (after : List ℕ) (o : Contents) (at : ℕ) (rest more : List ℕ) →
+    spelling version (Began o at) ++ rest ≡ (0x42 ∷ head_spelling version id moment ++ unit ∷ after) ++ more
+    → o.unit ≡ unit
+unit-of version id moment unit after o at rest more e =
+    ap (λ bytes. get_or bytes 0 0) (same-behind version id moment (unit ∷ after) o at rest more e)
+
+count-of : (version : Version) (id moment unit count : ℕ) (after : List ℕ) (o : Contents) (at : ℕ)
+    (rest more : List ℕ) →
+    spelling version (Began o at) ++ rest ≡ (0x42 ∷ head_spelling version id moment ++ unit ∷ count ∷ after) ++ more
+    → length o.updates ≡ count
+count-of version id moment unit count after o at rest more e =
+    ap (λ bytes. get_or bytes 1 0) (same-behind version id moment (unit ∷ count ∷ after) o at rest more e)
+
+pairs-behind : (version : Version) (id moment unit count : ℕ) (after : List ℕ) (o : Contents) (at : ℕ)
+    (rest more : List ℕ) →
+    spelling version (Began o at) ++ rest ≡ (0x42 ∷ head_spelling version id moment ++ unit ∷ count ∷ after) ++ more
+    → pairs_spelling o.updates ++ rest ≡ after ++ more
+pairs-behind version id moment unit count after o at rest more e =
+    ap (drop 2) (same-behind version id moment (unit ∷ count ∷ after) o at rest more e)
 
 -- the length of an order's bytes
 pub length-pairs_spelling : (ps : List (ℕ × ℕ)) → length (pairs_spelling ps) ≡ 2 * length ps
 length-pairs_spelling [] = refl
 length-pairs_spelling (p ∷ ps) = omega (arith, length-pairs_spelling ps)
 
+pub length-began : (version : Version) (o : Contents) (moment : ℕ)
+    → length (spelling version (Began o moment)) ≡ head_length version + 2 * length o.updates
+length-began One o moment = omega (arith, length-pairs_spelling o.updates)
+length-began Two o moment = omega (arith, length-pairs_spelling o.updates)
+
 -- no record but an order begins with its letter
-no-order : (bytes : List ℕ)
-    → ((o : Contents) (rest more : List ℕ) → IsRecord (Began o) → spelling (Began o) ++ rest ≡ (0x42 ∷ bytes) ++ more
-    → ⊥)
-    →
-    NoRecord (0x42 ∷ bytes)
-no-order bytes none (Began o) rest more is e = none o rest more is e
-no-order bytes none entry rest more is e = other-letter entry rest 0x42 (bytes ++ more) (omega arith) e
+no-order : (version : Version) (bytes : List ℕ)
+    → ((o : Contents) (at : ℕ) (rest more : List ℕ) → IsRecord version (Began o at)
+    → spelling version (Began o at) ++ rest ≡ (0x42 ∷ bytes) ++ more → ⊥)
+    → NoRecord version (0x42 ∷ bytes)
+no-order version bytes none (Began o at) rest more is e = none o at rest more is e
+no-order version bytes none entry rest more is e = other-letter version entry rest 0x42 (bytes ++ more) (omega arith) e
 
 -- behind a count that may be
-pub reads-began : (id unit count : ℕ) (bytes : List ℕ) (piece : Pairs) → id < 2 ^ 64 → unit ≤ 63
-    → 1 ≤ count → count ≤ 115 →
-    ReadsPairs count 0 bytes piece
-    → IsRead (0x42 ∷ to_be_bytes w64 id ++ unit ∷ count ∷ bytes) (began_piece id unit count piece)
-reads-began id unit count bytes (lists.Whole pairs) i u some few reads =
-    let n = reads.0.length_is in (
+pub reads-began : (version : Version) (id moment unit count : ℕ) (bytes : List ℕ) (piece : Pairs) → id < 2 ^ 64
+    → IsMoment version moment → unit ≤ 63 → 1 ≤ count → count ≤ 115 → ReadsPairs count 0 bytes piece
+    → IsRead version (0x42 ∷ head_spelling version id moment ++ unit ∷ count ∷ bytes)
+    (began_piece version id moment unit count piece)
+reads-began version id moment unit count bytes (lists.Whole pairs) i m u some few reads =
+    let n = reads.0.length_is in
+    let order : Contents = record { id = id; unit = unit; updates = pairs.items } in
+    let head : List ℕ = head_spelling version id moment in (
       (
-        climbs-order id unit pairs.items i u (omega arith) reads.0.rises,
+        climbs-order version id moment unit pairs.items i m u (omega arith) reads.0.rises,
         reads.1,
-        λ j. 0x42 ∷ to_be_bytes w64 id ++ unit ∷ sym n j ∷ reads.2 j,
+        (λ j. 0x42 ∷ head ++ unit ∷ sym n j ∷ reads.2 j)
+            ∙ ap (λ bs. 0x42 ∷ bs) (sym (append_assoc head (behind-head order) reads.1)),
       ),
-      omega (arith, length-pairs_spelling pairs.items),
+      (let long = length-began version order moment in omega arith),
     )
-reads-began id unit count bytes lists.Cut i u some few reads =
-    let n = reads.1.length_is in (
-      Began (record { id = id; unit = unit; updates = reads.0 }),
+reads-began version id moment unit count bytes lists.Cut i m u some few reads =
+    let n = reads.1.length_is in
+    let head : List ℕ = head_spelling version id moment in (
+      Began (record { id = id; unit = unit; updates = reads.0 }) moment,
       (
-        climbs-order id unit reads.0 i u (omega arith) reads.1.rises,
+        climbs-order version id moment unit reads.0 i m u (omega arith) reads.1.rises,
         reads.2,
         reads.3,
-        λ j. 0x42 ∷ to_be_bytes w64 id ++ unit ∷ n j ∷ reads.4 j,
+        (λ j. 0x42 ∷ head ++ unit ∷ n j ∷ reads.4 j)
+            ∙ ap (λ bs. 0x42 ∷ bs) (sym (append_assoc head (unit ∷ count ∷ bytes) reads.2)),
       ),
     )
-reads-began id unit count bytes lists.Bad i u some few reads =
-    bad-reads (0x42 ∷ to_be_bytes w64 id ++ unit ∷ count ∷ bytes)
-    (no-order (to_be_bytes w64 id ++ unit ∷ count ∷ bytes) (λ o rest more is e.
-    reads o.updates (record { length_is = count-of id unit count bytes o rest more e; rises = order-climbs o is })
+reads-began version id moment unit count bytes lists.Bad i m u some few reads =
+    bad-reads version (0x42 ∷ head_spelling version id moment ++ unit ∷ count ∷ bytes)
+    (no-order version (head_spelling version id moment ++ unit ∷ count ∷ bytes) (λ o at rest more is e.
+    reads o.updates
+    (record {
+      length_is = count-of version id moment unit count bytes o at rest more e;
+      rises = order-climbs version o at is;
+    })
     rest more
-    (pairs-behind id unit count bytes o rest more e)))
+    (pairs-behind version id moment unit count bytes o at rest more e)))
 
-smallest-order : (id unit : ℕ) → id < 2 ^ 64 → unit ≤ 63 → IsRecord (Began (smallest id unit))
-smallest-order id unit i u =
-    climbs-order id unit ((3, 0) ∷ []) i u (omega arith) (inl (omega arith, omega arith), omega arith, omega arith, tt)
+smallest-order : (version : Version) (id moment unit : ℕ) → id < 2 ^ 64 → IsMoment version moment → unit ≤ 63
+    → IsRecord version (Began (smallest id unit) moment)
+smallest-order version id moment unit i m u =
+    climbs-order version id moment unit ((3, 0) ∷ []) i m u (omega arith)
+    (inl (omega arith, omega arith), omega arith, omega arith, tt)
 
 -- the count of an order is one that may be
-count-fits : (o : Contents) → IsRecord (Began o) → (nat_le 1 (length o.updates) && nat_le (length o.updates) 115) ≡ true
-count-fits o is =
+count-fits : (version : Version) (o : Contents) (at : ℕ) → IsRecord version (Began o at)
+    → (nat_le 1 (length o.updates) && nat_le (length o.updates) 115) ≡ true
+count-fits version o at is =
     let some = is.2.some in
     let few = is.2.few in
     grind (arith, nat_tests)
 
+-- what completes a head that is there, and what is behind it
+cut-behind : (version : Version) (id moment unit : ℕ) (after fill : List ℕ) → id < 2 ^ 64 → IsMoment version moment
+    → unit ≤ 63 → fill ≢ [] → after ++ fill ≡ behind-head (smallest id unit)
+    → IsRead version (0x42 ∷ head_spelling version id moment ++ after) Cut
+cut-behind version id moment unit after fill i m u some e = (
+  Began (smallest id unit) moment,
+  (
+    smallest-order version id moment unit i m u,
+    fill,
+    some,
+    ap (λ bs. 0x42 ∷ head_spelling version id moment ++ bs) (sym e)
+        ∙ ap (λ bs. 0x42 ∷ bs) (sym (append_assoc (head_spelling version id moment) after fill)),
+  ),
+)
+
 -- behind a unit
-reads-counted : (id unit : ℕ) (bytes : List ℕ) → id < 2 ^ 64 → unit ≤ 63 → AreBytes bytes →
-    IsRead (0x42 ∷ to_be_bytes w64 id ++ unit ∷ bytes) (counted_piece id unit bytes)
-reads-counted id unit [] i u fit =
-    (Began (smallest id unit), (smallest-order id unit i u, 1 ∷ 3 ∷ 0 ∷ [], λ e. cc, refl))
-reads-counted id unit (count ∷ rest) i u fit = by (nat_le 1 count && nat_le count 115) refl
+reads-counted : (version : Version) (id moment unit : ℕ) (bytes : List ℕ) → id < 2 ^ 64 → IsMoment version moment
+    → unit ≤ 63 → AreBytes bytes
+    → IsRead version (0x42 ∷ head_spelling version id moment ++ unit ∷ bytes)
+    (counted_piece version id moment unit bytes)
+reads-counted version id moment unit [] i m u fit =
+    cut-behind version id moment unit (unit ∷ []) (1 ∷ 3 ∷ 0 ∷ []) i m u (λ e. cc) refl
+reads-counted version id moment unit (count ∷ rest) i m u fit = by (nat_le 1 count && nat_le count 115) refl
   where
+    head : List ℕ
+    head = head_spelling version id moment
+
     by : (test : Bool) → (nat_le 1 count && nat_le count 115) ≡ test →
-        IsRead (0x42 ∷ to_be_bytes w64 id ++ unit ∷ count ∷ rest)
-        (cond test (began_piece id unit count (pairs_of count 0 rest)) Bad)
+        IsRead version (0x42 ∷ head ++ unit ∷ count ∷ rest)
+        (cond test (began_piece version id moment unit count (pairs_of count 0 rest)) Bad)
     by true e =
         let both = and-parts (nat_le 1 count) (nat_le count 115) e in
         let few = leb-true count 115 both.1 in
-        reads-began id unit count rest (pairs_of count 0 rest) i u (leb-true 1 count both.0) few
+        reads-began version id moment unit count rest (pairs_of count 0 rest) i m u (leb-true 1 count both.0) few
         (reads-pairs_of count 0 rest (omega arith) fit.1)
     by false e =
-        bad-reads (0x42 ∷ to_be_bytes w64 id ++ unit ∷ count ∷ rest)
-        (no-order (to_be_bytes w64 id ++ unit ∷ count ∷ rest) (λ o after more is same.
+        bad-reads version (0x42 ∷ head ++ unit ∷ count ∷ rest)
+        (no-order version (head ++ unit ∷ count ∷ rest) (λ o at after more is same.
         let yes =
-        subst (λ n. (nat_le 1 n && nat_le n 115) ≡ true) (count-of id unit count rest o after more same)
-        (count-fits o is) in
+        subst (λ n. (nat_le 1 n && nat_le n 115) ≡ true)
+        (count-of version id moment unit count rest o at after more same) (count-fits version o at is) in
         true≢false (sym yes ∙ e)))
 
--- behind an order's number
-reads-numbered : (id : ℕ) (bytes : List ℕ) → id < 2 ^ 64 → AreBytes bytes
-    → IsRead (0x42 ∷ to_be_bytes w64 id ++ bytes) (numbered_piece id bytes)
-reads-numbered id [] i fit =
-    (Began (smallest id 0), (smallest-order id 0 i (omega arith), 0 ∷ 1 ∷ 3 ∷ 0 ∷ [], λ e. cc, refl))
-reads-numbered id (unit ∷ rest) i fit = by (nat_le unit 63) refl
+-- behind an order's number and moment
+reads-timed : (version : Version) (id moment : ℕ) (bytes : List ℕ) → id < 2 ^ 64 → IsMoment version moment
+    → AreBytes bytes
+    → IsRead version (0x42 ∷ head_spelling version id moment ++ bytes) (timed_piece version id moment bytes)
+reads-timed version id moment [] i m fit =
+    cut-behind version id moment 0 [] (0 ∷ 1 ∷ 3 ∷ 0 ∷ []) i m (omega arith) (λ e. cc) refl
+reads-timed version id moment (unit ∷ rest) i m fit = by (nat_le unit 63) refl
   where
+    head : List ℕ
+    head = head_spelling version id moment
+
     by : (test : Bool) → nat_le unit 63 ≡ test
-        → IsRead (0x42 ∷ to_be_bytes w64 id ++ unit ∷ rest) (cond test (counted_piece id unit rest) Bad)
-    by true e = reads-counted id unit rest i (leb-true unit 63 e) fit.1
+        → IsRead version (0x42 ∷ head ++ unit ∷ rest) (cond test (counted_piece version id moment unit rest) Bad)
+    by true e = reads-counted version id moment unit rest i m (leb-true unit 63 e) fit.1
     by false e =
-        bad-reads (0x42 ∷ to_be_bytes w64 id ++ unit ∷ rest)
-        (no-order (to_be_bytes w64 id ++ unit ∷ rest) (λ o after more is same.
-        let u = unit-of id unit rest o after more same in
+        bad-reads version (0x42 ∷ head ++ unit ∷ rest)
+        (no-order version (head ++ unit ∷ rest) (λ o at after more is same.
+        let u = unit-of version id moment unit rest o at after more same in
         let large = leb-false unit 63 e in
         let small = is.1 in omega arith))
 
@@ -238,83 +297,133 @@ number-of bytes n fit =
       be_bytes_8 bytes (from_be_bytes w64 bytes) n at refl,
     )
 
+-- fewer than eight bytes, filled up with zeros
+filled-number : (bytes : List ℕ) → AreBytes bytes → length bytes < 8
+    → (number : ℕ) × (number < 2 ^ 64) × (fill : List ℕ) × (to_be_bytes w64 number ≡ bytes ++ fill)
+filled-number bytes fit short =
+    let fill : List ℕ = replicate (8 - length bytes) 0 in
+    let number =
+    number-of (bytes ++ fill) (rw (length-append, length-replicate) (omega arith))
+    (bytes-append bytes fill fit (zeros (8 - length bytes))) in
+    (from_be_bytes w64 (bytes ++ fill), number.0, fill, number.1)
+
+-- eight bytes in front of others
+front-number : (bytes : List ℕ) → AreBytes bytes → 8 ≤ length bytes
+    → (from_be_bytes w64 (take 8 bytes) < 2 ^ 64) × (to_be_bytes w64 (from_be_bytes w64 (take 8 bytes)) ≡ take 8 bytes)
+front-number bytes fit long = number-of (take 8 bytes) (rw length-take (omega arith)) (bytes-take 8 bytes fit)
+
 not-empty : (front : List ℕ) (x : ℕ) (xs : List ℕ) → front ++ x ∷ xs ≢ []
 not-empty [] x xs e = cc
 not-empty (y ∷ front) x xs e = cc
 
--- a number cut short
-cut-number : (id : ℕ) (bytes fill : List ℕ) → id < 2 ^ 64 → to_be_bytes w64 id ≡ bytes ++ fill
-    → IsRead (0x42 ∷ bytes) Cut
-cut-number id bytes fill i e = (
-  Began (smallest id 0),
+-- a moment cut short
+cut-moment : (id moment : ℕ) (bytes fill : List ℕ) → id < 2 ^ 64 → moment < 2 ^ 64 → to_be_bytes w64 moment ≡ bytes ++ fill
+    → IsRead Two (0x42 ∷ to_be_bytes w64 id ++ bytes) Cut
+cut-moment id moment bytes fill i m e = (
+  Began (smallest id 0) moment,
   (
-    smallest-order id 0 i (omega arith),
+    smallest-order Two id moment 0 i m (omega arith),
+    fill ++ 0 ∷ 1 ∷ 3 ∷ 0 ∷ [],
+    not-empty fill 0 (1 ∷ 3 ∷ 0 ∷ []),
+    ap (λ bs. 0x42 ∷ to_be_bytes w64 id ++ bs ++ 0 ∷ 1 ∷ 3 ∷ 0 ∷ []) e
+        ∙ ap (λ bs. 0x42 ∷ to_be_bytes w64 id ++ bs) (append_assoc bytes fill (0 ∷ 1 ∷ 3 ∷ 0 ∷ [])),
+  ),
+)
+
+-- behind an order's number
+reads-numbered : (version : Version) (id : ℕ) (bytes : List ℕ) → id < 2 ^ 64 → AreBytes bytes
+    → IsRead version (0x42 ∷ to_be_bytes w64 id ++ bytes) (numbered_piece version id bytes)
+reads-numbered One id bytes i fit = reads-timed One id 0 bytes i refl fit
+reads-numbered Two id bytes i fit = by (nat_lt (length bytes) 8) refl
+  where
+    by : (test : Bool) → nat_lt (length bytes) 8 ≡ test →
+        IsRead Two (0x42 ∷ to_be_bytes w64 id ++ bytes)
+        (cond test Cut (timed_piece Two id (from_be_bytes w64 (take 8 bytes)) (drop 8 bytes)))
+    by true e =
+        let moment = filled-number bytes fit (ltb-true (length bytes) 8 e) in
+        cut-moment id moment.0 bytes moment.2 i moment.1 moment.3
+    by false e =
+        let moment = front-number bytes fit (ltb-false (length bytes) 8 e) in
+        subst (λ bs. IsRead Two (0x42 ∷ to_be_bytes w64 id ++ bs)
+        (timed_piece Two id (from_be_bytes w64 (take 8 bytes)) (drop 8 bytes)))
+        (ap (λ front. front ++ drop 8 bytes) moment.1 ∙ take-append-drop 8 bytes)
+        (reads-timed Two id (from_be_bytes w64 (take 8 bytes)) (drop 8 bytes) i moment.0 (bytes-drop 8 bytes fit))
+
+-- a number cut short
+cut-number : (version : Version) (id : ℕ) (bytes fill : List ℕ) → id < 2 ^ 64 → to_be_bytes w64 id ≡ bytes ++ fill
+    → IsRead version (0x42 ∷ bytes) Cut
+cut-number One id bytes fill i e = (
+  Began (smallest id 0) 0,
+  (
+    smallest-order One id 0 0 i refl (omega arith),
     fill ++ 0 ∷ 1 ∷ 3 ∷ 0 ∷ [],
     not-empty fill 0 (1 ∷ 3 ∷ 0 ∷ []),
     ap (λ ids. 0x42 ∷ ids ++ 0 ∷ 1 ∷ 3 ∷ 0 ∷ []) e
         ∙ ap (λ bs. 0x42 ∷ bs) (append_assoc bytes fill (0 ∷ 1 ∷ 3 ∷ 0 ∷ [])),
   ),
 )
+cut-number Two id bytes fill i e =
+    let more : List ℕ = to_be_bytes w64 0 ++ 0 ∷ 1 ∷ 3 ∷ 0 ∷ [] in (
+      Began (smallest id 0) 0,
+      (
+        smallest-order Two id 0 0 i (omega arith) (omega arith),
+        fill ++ more,
+        not-empty fill 0 (drop 1 more),
+        ap (λ ids. 0x42 ∷ ids ++ more) e ∙ ap (λ bs. 0x42 ∷ bs) (append_assoc bytes fill more),
+      ),
+    )
 
-whole-number : (id : ℕ) (ids rest bytes : List ℕ) → id < 2 ^ 64 → AreBytes rest → to_be_bytes w64 id ≡ ids
-    → ids ++ rest ≡ bytes →
-    IsRead (0x42 ∷ bytes) (numbered_piece id rest)
-whole-number id ids rest bytes i fit e all =
-    subst (λ bs. IsRead (0x42 ∷ bs) (numbered_piece id rest)) (ap (λ front. front ++ rest) e ∙ all)
-    (reads-numbered id rest i fit)
-
-reads-order : (bytes : List ℕ) → AreBytes bytes → IsRead (0x42 ∷ bytes) (order_piece bytes)
-reads-order bytes fit = by (nat_lt (length bytes) 8) refl
+reads-order : (version : Version) (bytes : List ℕ) → AreBytes bytes
+    → IsRead version (0x42 ∷ bytes) (order_piece version bytes)
+reads-order version bytes fit = by (nat_lt (length bytes) 8) refl
   where
     by : (test : Bool) → nat_lt (length bytes) 8 ≡ test →
-        IsRead (0x42 ∷ bytes) (cond test Cut (numbered_piece (from_be_bytes w64 (take 8 bytes)) (drop 8 bytes)))
+        IsRead version (0x42 ∷ bytes)
+        (cond test Cut (numbered_piece version (from_be_bytes w64 (take 8 bytes)) (drop 8 bytes)))
     by true e =
-        let fill = replicate (8 - length bytes) 0 in
-        let short = ltb-true (length bytes) 8 e in
-        let number =
-        number-of (bytes ++ fill) (rw (length-append, length-replicate) (omega arith))
-        (bytes-append bytes fill fit (zeros (8 - length bytes))) in
-        cut-number (from_be_bytes w64 (bytes ++ fill)) bytes fill number.0 number.1
+        let number = filled-number bytes fit (ltb-true (length bytes) 8 e) in
+        cut-number version number.0 bytes number.2 number.1 number.3
     by false e =
-        let long = ltb-false (length bytes) 8 e in
-        let number = number-of (take 8 bytes) (rw length-take (omega arith)) (bytes-take 8 bytes fit) in
-        whole-number (from_be_bytes w64 (take 8 bytes)) (take 8 bytes) (drop 8 bytes) bytes
-        number.0 (bytes-drop 8 bytes fit) number.1 (take-append-drop 8 bytes)
+        let number = front-number bytes fit (ltb-false (length bytes) 8 e) in
+        subst (λ bs. IsRead version (0x42 ∷ bs)
+        (numbered_piece version (from_be_bytes w64 (take 8 bytes)) (drop 8 bytes)))
+        (ap (λ front. front ++ drop 8 bytes) number.1 ∙ take-append-drop 8 bytes)
+        (reads-numbered version (from_be_bytes w64 (take 8 bytes)) (drop 8 bytes) number.0 (bytes-drop 8 bytes fit))
 
-no-letter : (letter : ℕ) (after : List ℕ) → (letter == 0x42) ≡ false → (letter == 0x4F) ≡ false
+no-letter : (version : Version) (letter : ℕ) (after : List ℕ) → (letter == 0x42) ≡ false → (letter == 0x4F) ≡ false
     → (letter == 0x45) ≡ false → (letter == 0x43) ≡ false →
-    NoRecord (letter ∷ after)
-no-letter letter after b o e c (Began order) rest more is same =
-    eqb-false letter 0x42 b (letter-first (Began order) rest letter (after ++ more) same)
-no-letter letter after b o e c (Opened unit) rest more is same =
-    eqb-false letter 0x4F o (letter-first (Opened unit) rest letter (after ++ more) same)
-no-letter letter after b o e c (Ended code) rest more is same =
-    eqb-false letter 0x45 e (letter-first (Ended code) rest letter (after ++ more) same)
-no-letter letter after b o e c (Closed unit) rest more is same =
-    eqb-false letter 0x43 c (letter-first (Closed unit) rest letter (after ++ more) same)
+    NoRecord version (letter ∷ after)
+no-letter version letter after b o e c (Began order moment) rest more is same =
+    eqb-false letter 0x42 b (letter-first version (Began order moment) rest letter (after ++ more) same)
+no-letter version letter after b o e c (Opened unit) rest more is same =
+    eqb-false letter 0x4F o (letter-first version (Opened unit) rest letter (after ++ more) same)
+no-letter version letter after b o e c (Ended code) rest more is same =
+    eqb-false letter 0x45 e (letter-first version (Ended code) rest letter (after ++ more) same)
+no-letter version letter after b o e c (Closed unit) rest more is same =
+    eqb-false letter 0x43 c (letter-first version (Closed unit) rest letter (after ++ more) same)
 
 -- What is read of a record is exact.
-pub reads-piece_of : (bytes : List ℕ) → AreBytes bytes → IsRead bytes (piece_of bytes)
-reads-piece_of [] fit = (Opened 0, (omega arith, 0x4F ∷ 0 ∷ [], λ e. cc, refl))
-reads-piece_of (letter ∷ rest) fit =
+pub reads-piece_of : (version : Version) (bytes : List ℕ) → AreBytes bytes → IsRead version bytes (piece_of version bytes)
+reads-piece_of version [] fit = (Opened 0, (omega arith, 0x4F ∷ 0 ∷ [], λ e. cc, refl))
+reads-piece_of version (letter ∷ rest) fit =
     by (letter == 0x42) (letter == 0x4F) (letter == 0x45) (letter == 0x43) refl refl refl refl
   where
     by : (b o e c : Bool) → (letter == 0x42) ≡ b → (letter == 0x4F) ≡ o → (letter == 0x45) ≡ e → (letter == 0x43) ≡ c →
-        IsRead (letter ∷ rest)
-        (cond b (order_piece rest) (cond o (short_piece Opened 63 rest)
+        IsRead version (letter ∷ rest)
+        (cond b (order_piece version rest) (cond o (short_piece Opened 63 rest)
         (cond e (short_piece (λ n. Ended (code_numbered n)) 5 rest) (cond c (short_piece Closed 63 rest) Bad))))
     by true o e c p q r s =
-        subst (λ l. IsRead (l ∷ rest) (order_piece rest)) (sym (eqb-true letter 0x42 p)) (reads-order rest fit.1)
+        subst (λ l. IsRead version (l ∷ rest) (order_piece version rest)) (sym (eqb-true letter 0x42 p)) (reads-order version rest fit.1)
     by false true e c p q r s =
-        subst (λ l. IsRead (l ∷ rest) (short_piece Opened 63 rest)) (sym (eqb-true letter 0x4F q))
-        (reads-short 0x4F 63 Opened (λ n few. few) (λ n few. refl) no-opened rest)
+        subst (λ l. IsRead version (l ∷ rest) (short_piece Opened 63 rest)) (sym (eqb-true letter 0x4F q))
+        (reads-short version 0x4F 63 Opened (λ n few. few) (λ n few. refl) (no-opened version) rest)
     by false false true c p q r s =
-        subst (λ l. IsRead (l ∷ rest) (short_piece (λ n. Ended (code_numbered n)) 5 rest))
+        subst (λ l. IsRead version (l ∷ rest) (short_piece (λ n. Ended (code_numbered n)) 5 rest))
         (sym (eqb-true letter 0x45 r))
-        (reads-short 0x45 5 (λ n. Ended (code_numbered n)) (λ n few. tt)
+        (reads-short version 0x45 5 (λ n. Ended (code_numbered n)) (λ n few. tt)
         (λ n few. ap (λ number. 0x45 ∷ number ∷ []) (code_number-code_of n few))
-        no-ended rest)
+        (no-ended version) rest)
     by false false false true p q r s =
-        subst (λ l. IsRead (l ∷ rest) (short_piece Closed 63 rest)) (sym (eqb-true letter 0x43 s))
-        (reads-short 0x43 63 Closed (λ n few. few) (λ n few. refl) no-closed rest)
-    by false false false false p q r s = bad-reads (letter ∷ rest) (no-letter letter rest p q r s)
+        subst (λ l. IsRead version (l ∷ rest) (short_piece Closed 63 rest)) (sym (eqb-true letter 0x43 s))
+        (reads-short version 0x43 63 Closed (λ n few. few) (λ n few. refl) (no-closed version) rest)
+    by false false false false p q r s = bad-reads version (letter ∷ rest) (no-letter version letter rest p q r s)

@@ -1,5 +1,6 @@
 -- Records are told apart by their bytes: two that agree as far as both go are one.
-use Rattle.std.proofs.Common.{◌≡◌, ℕ, List, [], ◌∷◌, ◌++◌, length, take, drop, get_or, refl, sym, ap, ◌∙◌, arith}
+use Rattle.std.proofs.Common.{◌≡◌, ℕ, ◌^◌, ◌<◌, List, [], ◌∷◌, ◌++◌, length, take, drop, get_or, refl, sym, ap}
+use Rattle.std.proofs.Common.{◌∙◌, arith, append_assoc}
 use Rattle.std.specs.Int.{w64, to_be_bytes, from_be_bytes}
 use Rattle.std.proofs.lemmas.List.{append-nil}
 use Rattle.std.proofs.lemmas.Nat.{from_be_bytes-to_be_bytes_8}
@@ -8,7 +9,9 @@ use Rattle.dali_journal.specs.declared.record.Code.{Code}
 use Rattle.dali_journal.specs.declared.record.Code.TheVariants.{Done, Short, Format, Silent, Doubt, DoubtOpen}
 use Rattle.dali_journal.specs.declared.record.Record.{Record}
 use Rattle.dali_journal.specs.declared.record.Record.TheVariants.{Began, Opened, Ended, Closed}
-use Rattle.dali_journal.specs.Spelling.{spelling, pairs_spelling, code_number, IsRecord}
+use Rattle.dali_journal.specs.declared.version.Version.{Version}
+use Rattle.dali_journal.specs.declared.version.Version.TheVariants.{One, Two}
+use Rattle.dali_journal.specs.Spelling.{head_spelling, spelling, pairs_spelling, code_number, IsMoment, IsRecord}
 use Rattle.dali_journal.specs.Decoding.{code_numbered}
 use Rattle.dali_journal.specs.Law.{NoSpellingBeginsAnother}
 
@@ -24,18 +27,40 @@ pairs_same (pair ∷ pairs) (other ∷ others) rest more count same =
     let rest_same = pairs_same pairs others rest more (omega arith) behind in
     λ i. (location i, byte i) ∷ rest_same i
 
-orders_same : (order other : Contents) (rest more : List ℕ) → IsRecord (Began order) → IsRecord (Began other)
-    → spelling (Began order) ++ rest ≡ spelling (Began other) ++ more → order ≡ other
-orders_same order other rest more is other_is same =
-    let ids : to_be_bytes w64 order.id ≡ to_be_bytes w64 other.id = ap (λ bytes. take 8 (drop 1 bytes)) same in
-    let id : order.id ≡ other.id =
-    sym (from_be_bytes-to_be_bytes_8 order.id is.0) ∙ ap (from_be_bytes w64) ids
-    ∙ from_be_bytes-to_be_bytes_8 other.id other_is.0 in
-    let unit : order.unit ≡ other.unit = ap (λ bytes. get_or bytes 9 0) same in
-    let count : length order.updates ≡ length other.updates = ap (λ bytes. get_or bytes 10 0) same in
-    let behind : pairs_spelling order.updates ++ rest ≡ pairs_spelling other.updates ++ more = ap (drop 11) same in
-    let updates = pairs_same order.updates other.updates rest more count behind in
-    λ i. record { id = id i; unit = unit i; updates = updates i }
+-- two numbers of eight bytes that agree are one
+numbers_same : (number other : ℕ) → number < 2 ^ 64 → other < 2 ^ 64 → to_be_bytes w64 number ≡ to_be_bytes w64 other
+    → number ≡ other
+numbers_same number other small other_small same =
+    sym (from_be_bytes-to_be_bytes_8 number small) ∙ ap (from_be_bytes w64) same
+    ∙ from_be_bytes-to_be_bytes_8 other other_small
+
+heads_same : (version : Version) (id other moment others : ℕ) (rest more : List ℕ) → id < 2 ^ 64 → other < 2 ^ 64
+    → IsMoment version moment → IsMoment version others
+    → head_spelling version id moment ++ rest ≡ head_spelling version other others ++ more
+    → (id ≡ other) × (moment ≡ others) × (rest ≡ more)
+heads_same One id other moment others rest more i o m n same =
+    (numbers_same id other i o (ap (take 8) same), m ∙ sym n, ap (drop 8) same)
+heads_same Two id other moment others rest more i o m n same = (
+  numbers_same id other i o (ap (take 8) same),
+  numbers_same moment others m n (ap (λ bytes. take 8 (drop 8 bytes)) same),
+  ap (drop 16) same,
+)
+
+orders_same : (version : Version) (order other : Contents) (moment others : ℕ) (rest more : List ℕ)
+    → IsRecord version (Began order moment) → IsRecord version (Began other others)
+    → spelling version (Began order moment) ++ rest ≡ spelling version (Began other others) ++ more
+    → Began order moment ≡ Began other others
+orders_same version order other moment others rest more is other_is same =
+    let behind : (o : Contents) → List ℕ = λ o. o.unit ∷ length o.updates ∷ pairs_spelling o.updates in
+    let heads = heads_same version order.id other.id moment others (behind order ++ rest) (behind other ++ more)
+    is.0 other_is.0 is.4 other_is.4
+    (sym (append_assoc (head_spelling version order.id moment) (behind order) rest) ∙ ap (drop 1) same
+    ∙ append_assoc (head_spelling version other.id others) (behind other) more) in
+    let unit : order.unit ≡ other.unit = ap (λ bytes. get_or bytes 0 0) heads.2 in
+    let count : length order.updates ≡ length other.updates = ap (λ bytes. get_or bytes 1 0) heads.2 in
+    let pairs : pairs_spelling order.updates ++ rest ≡ pairs_spelling other.updates ++ more = ap (drop 2) heads.2 in
+    let updates = pairs_same order.updates other.updates rest more count pairs in
+    λ i. Began (record { id = heads.0 i; unit = unit i; updates = updates i }) (heads.1 i)
 
 codes_same : (code other : Code) → code_number code ≡ code_number other → code ≡ other
 codes_same code other same = sym (of code) ∙ ap code_numbered same ∙ of other
@@ -50,32 +75,32 @@ codes_same code other same = sym (of code) ∙ ap code_numbered same ∙ of othe
 
 -- the first byte of a record
 abbrev pub letter_of : Record → ℕ
-letter_of (Began order) = 0x42
+letter_of (Began order moment) = 0x42
 letter_of (Opened unit) = 0x4F
 letter_of (Ended code) = 0x45
 letter_of (Closed unit) = 0x43
 
-pub letter_at : (entry : Record) (rest : List ℕ) → get_or (spelling entry ++ rest) 0 0 ≡ letter_of entry
-letter_at (Began order) rest = refl
-letter_at (Opened unit) rest = refl
-letter_at (Ended code) rest = refl
-letter_at (Closed unit) rest = refl
+pub letter_at : (version : Version) (entry : Record) (rest : List ℕ) → get_or (spelling version entry ++ rest) 0 0 ≡ letter_of entry
+letter_at version (Began order moment) rest = refl
+letter_at version (Opened unit) rest = refl
+letter_at version (Ended code) rest = refl
+letter_at version (Closed unit) rest = refl
 
-letters_same : (entry other : Record) (rest more : List ℕ) → spelling entry ++ rest ≡ spelling other ++ more
+letters_same : (version : Version) (entry other : Record) (rest more : List ℕ) → spelling version entry ++ rest ≡ spelling version other ++ more
     → letter_of entry ≡ letter_of other
-letters_same entry other rest more same =
-    sym (letter_at entry rest) ∙ ap (λ bytes. get_or bytes 0 0) same ∙ letter_at other more
+letters_same version entry other rest more same =
+    sym (letter_at version entry rest) ∙ ap (λ bytes. get_or bytes 0 0) same ∙ letter_at version other more
 
-pub records_same : (entry other : Record) (rest more : List ℕ) → IsRecord entry → IsRecord other
-    → spelling entry ++ rest ≡ spelling other ++ more → entry ≡ other
-records_same (Began order) (Began other) rest more is other_is same =
-    ap Began (orders_same order other rest more is other_is same)
-records_same (Opened unit) (Opened other) rest more is other_is same = ap Opened (ap (λ bytes. get_or bytes 1 0) same)
-records_same (Ended code) (Ended other) rest more is other_is same =
+pub records_same : (version : Version) (entry other : Record) (rest more : List ℕ) → IsRecord version entry → IsRecord version other
+    → spelling version entry ++ rest ≡ spelling version other ++ more → entry ≡ other
+records_same version (Began order moment) (Began other others) rest more is other_is same =
+    orders_same version order other moment others rest more is other_is same
+records_same version (Opened unit) (Opened other) rest more is other_is same = ap Opened (ap (λ bytes. get_or bytes 1 0) same)
+records_same version (Ended code) (Ended other) rest more is other_is same =
     ap Ended (codes_same code other (ap (λ bytes. get_or bytes 1 0) same))
-records_same (Closed unit) (Closed other) rest more is other_is same = ap Closed (ap (λ bytes. get_or bytes 1 0) same)
-records_same entry other rest more is other_is same =
-    absurd (let letters : letter_of entry ≡ letter_of other = letters_same entry other rest more same in omega arith)
+records_same version (Closed unit) (Closed other) rest more is other_is same = ap Closed (ap (λ bytes. get_or bytes 1 0) same)
+records_same version entry other rest more is other_is same =
+    absurd (let letters : letter_of entry ≡ letter_of other = letters_same version entry other rest more same in omega arith)
 
 pub none_begins_another : NoSpellingBeginsAnother
-none_begins_another a b more is b_is same = records_same a b more [] is b_is (sym same ∙ sym (append-nil (spelling b)))
+none_begins_another version a b more is b_is same = records_same version a b more [] is b_is (sym same ∙ sym (append-nil (spelling version b)))

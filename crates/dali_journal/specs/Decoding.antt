@@ -7,6 +7,8 @@ use Rattle.dali_journal.specs.declared.record.Code.{Code}
 use Rattle.dali_journal.specs.declared.record.Code.TheVariants.{Done, Short, Format, Silent, Doubt, DoubtOpen}
 use Rattle.dali_journal.specs.declared.record.Record.{Record}
 use Rattle.dali_journal.specs.declared.record.Record.TheVariants.{Began, Opened, Ended, Closed}
+use Rattle.dali_journal.specs.declared.version.Version.{Version}
+use Rattle.dali_journal.specs.declared.version.Version.TheVariants.{One, Two}
 use Rattle.dali_journal.specs.declared.read.Piece.{Piece}
 use Rattle.dali_journal.specs.declared.read.Piece.TheVariants.{Whole, Cut, Bad}
 use Rattle.dali_journal.specs.declared.read.Pairs.{Pairs}
@@ -53,34 +55,48 @@ abbrev pub short_piece : (ℕ → Record) → ℕ → List ℕ → Piece
 short_piece make most [] = Cut
 short_piece make most (number ∷ rest) = if nat_le number most then Whole (make number) 2 else Bad
 
--- an order of this number, unit and count, of these pairs
-abbrev pub began_piece : ℕ → ℕ → ℕ → Pairs → Piece
-began_piece id unit count (lists.Whole pairs) =
-    Whole (Began (record { id = id; unit = unit; updates = pairs.items })) (11 + 2 * count)
-began_piece id unit count lists.Cut = Cut
-began_piece id unit count lists.Bad = Bad
+-- how many bytes a Began has in front of its updates
+abbrev pub head_length : Version → ℕ
+head_length One = 11
+head_length Two = 19
+
+-- an order of this number, moment, unit and count, of these pairs
+abbrev pub began_piece : Version → ℕ → ℕ → ℕ → ℕ → Pairs → Piece
+began_piece version id moment unit count (lists.Whole pairs) =
+    Whole (Began (record { id = id; unit = unit; updates = pairs.items }) moment) (head_length version + 2 * count)
+began_piece version id moment unit count lists.Cut = Cut
+began_piece version id moment unit count lists.Bad = Bad
 
 -- behind a unit: a count, and pairs
-abbrev pub counted_piece : ℕ → ℕ → List ℕ → Piece
-counted_piece id unit [] = Cut
-counted_piece id unit (count ∷ rest) =
-    if nat_le 1 count && nat_le count 115 then began_piece id unit count (pairs_of count 0 rest) else Bad
+abbrev pub counted_piece : Version → ℕ → ℕ → ℕ → List ℕ → Piece
+counted_piece version id moment unit [] = Cut
+counted_piece version id moment unit (count ∷ rest) =
+    if nat_le 1 count && nat_le count 115 then began_piece version id moment unit count (pairs_of count 0 rest)
+    else Bad
 
--- behind an order's number: a unit, a count, and pairs
-abbrev pub numbered_piece : ℕ → List ℕ → Piece
-numbered_piece id [] = Cut
-numbered_piece id (unit ∷ rest) = if nat_le unit 63 then counted_piece id unit rest else Bad
+-- behind an order's number and moment: a unit, a count, and pairs
+abbrev pub timed_piece : Version → ℕ → ℕ → List ℕ → Piece
+timed_piece version id moment [] = Cut
+timed_piece version id moment (unit ∷ rest) =
+    if nat_le unit 63 then counted_piece version id moment unit rest else Bad
+
+-- behind an order's number: in version 2 its moment
+abbrev pub numbered_piece : Version → ℕ → List ℕ → Piece
+numbered_piece One id bytes = timed_piece One id 0 bytes
+numbered_piece Two id bytes =
+    if nat_lt (length bytes) 8 then Cut
+    else timed_piece Two id (from_be_bytes w64 (take 8 bytes)) (drop 8 bytes)
 
 -- behind the letter of an order
-abbrev pub order_piece : List ℕ → Piece
-order_piece bytes =
-    if nat_lt (length bytes) 8 then Cut else numbered_piece (from_be_bytes w64 (take 8 bytes)) (drop 8 bytes)
+abbrev pub order_piece : Version → List ℕ → Piece
+order_piece version bytes =
+    if nat_lt (length bytes) 8 then Cut else numbered_piece version (from_be_bytes w64 (take 8 bytes)) (drop 8 bytes)
 
 -- what bytes begin with, letter by letter
-abbrev pub piece_of : List ℕ → Piece
-piece_of [] = Cut
-piece_of (letter ∷ rest) =
-    if letter == 0x42 then order_piece rest
+abbrev pub piece_of : Version → List ℕ → Piece
+piece_of version [] = Cut
+piece_of version (letter ∷ rest) =
+    if letter == 0x42 then order_piece version rest
     else if letter == 0x4F then short_piece Opened 63 rest
     else if letter == 0x45 then short_piece (λ number. Ended (code_numbered number)) 5 rest
     else if letter == 0x43 then short_piece Closed 63 rest
@@ -93,11 +109,12 @@ read_further Cut older further = older
 read_further Bad older further = older
 
 -- these records, and in front of them those that bytes begin with, at most so many: the newest first
-abbrev pub records_from : ℕ → List Record → List ℕ → List Record
-records_from zero older bytes = older
-records_from (suc most) older bytes =
-    read_further (piece_of bytes) older (λ entry len. records_from most (entry ∷ older) (drop len bytes))
+abbrev pub records_from : Version → ℕ → List Record → List ℕ → List Record
+records_from version zero older bytes = older
+records_from version (suc most) older bytes =
+    read_further (piece_of version bytes) older
+    (λ entry len. records_from version most (entry ∷ older) (drop len bytes))
 
 -- the records that bytes begin with, the newest first
-abbrev pub records_in : List ℕ → List Record
-records_in bytes = records_from (length bytes) [] bytes
+abbrev pub records_in : Version → List ℕ → List Record
+records_in version bytes = records_from version (length bytes) [] bytes

@@ -2,7 +2,7 @@
 use Rattle.std.specs.Prelude.{ℕ, List, codes}
 use Rattle.dali_journal.specs.declared.fault.JournalFault.{JournalFault}
 use Rattle.dali_journal.specs.declared.fault.JournalFault.TheVariants.{Limit, NoMemory, Record as NoRecord}
-use Rattle.dali_journal.specs.declared.fault.JournalFault.TheVariants.{Sequence, Repeated, Full}
+use Rattle.dali_journal.specs.declared.fault.JournalFault.TheVariants.{Sequence, Repeated, Full, Header}
 use Rattle.dali_journal.specs.JournalState.{IsLimit}
 
 abbrev pub number_of : JournalFault → ℕ
@@ -12,6 +12,7 @@ number_of (NoRecord place) = 3
 number_of (Sequence place) = 4
 number_of (Repeated place) = 5
 number_of (Full place) = 6
+number_of Header = 7
 
 abbrev pub name_of : JournalFault → List ℕ
 name_of Limit = codes "Limit"
@@ -20,6 +21,7 @@ name_of (NoRecord place) = codes "Record"
 name_of (Sequence place) = codes "Sequence"
 name_of (Repeated place) = codes "Repeated"
 name_of (Full place) = codes "Full"
+name_of Header = codes "Header"
 
 -- why no journal is made for at most so many orders
 abbrev pub IsNewFault : ℕ → JournalFault → Type 0

@@ -6,11 +6,12 @@ use Rattle.std.specs.Map.{lookup}
 use Rattle.dali_bank.specs.Order.{Contents, IsWritable, RisesAbove}
 use Rattle.dali_journal.specs.declared.record.Code.{Code}
 use Rattle.dali_journal.specs.declared.record.Code.TheVariants.{Done, Short, Format, Silent, Doubt, DoubtOpen}
+use Rattle.dali_journal.specs.declared.version.Version.TheVariants.{Two}
 use Rattle.dali_journal.specs.declared.record.Record.{Record}
 use Rattle.dali_journal.specs.declared.record.Record.TheVariants.{Began, Opened, Ended, Closed}
 use Rattle.dali_journal.specs.declared.standing.Standing.TheVariants as standings
 use Rattle.dali_journal.specs.declared.index.Place.{Place}
-use Rattle.dali_journal.specs.Spelling.{spelling, pairs_spelling, journal_spelling}
+use Rattle.dali_journal.specs.Spelling.{spelling, pairs_spelling, records_spelling}
 use Rattle.dali_journal.specs.Reading.{BeginsWith}
 use Rattle.dali_journal.specs.Decoding.{records_in}
 use Rattle.dali_journal.specs.Index.{is_begun_at, IsSound}
@@ -39,13 +40,14 @@ pub record HasUpdates (count low : ℕ) (bytes : List ℕ) : Type 0 where
   pub rising : RisesAbove low updates
   pub writable : AllByRecursion (λ update. IsWritable update.0) updates
 
--- in front of the bytes stands the Began of an order of this number and unit, with so many bytes
+-- in front of the bytes stands the Began of an order of this number and unit, with so many bytes (all of version 2)
 pub record HasBegan (id unit len : ℕ) (bytes : List ℕ) : Type 0 where
   pub order : Contents
-  pub begins : BeginsWith bytes (Began order)
+  pub moment : ℕ
+  pub begins : BeginsWith Two bytes (Began order moment)
   pub named : order.id ≡ id
   pub unit_is : order.unit ≡ unit
-  pub counted : len ≡ length (spelling (Began order))
+  pub counted : len ≡ length (spelling Two (Began order moment))
 
 -- the records behind the Began of a unit's order that ended so, up to the last of its group: the newest first
 abbrev pub end_records : ℕ → Code → List Record
@@ -59,21 +61,22 @@ end_records unit DoubtOpen = Closed unit ∷ Ended DoubtOpen ∷ Opened unit ∷
 -- in front of the bytes stand these records, with so many bytes
 pub record HasEnd (unit : ℕ) (code : Code) (len : ℕ) (bytes : List ℕ) : Type 0 where
   pub rest : List ℕ
-  pub spelled : bytes ≡ journal_spelling (end_records unit code) ++ rest
-  pub counted : len ≡ length (journal_spelling (end_records unit code))
+  pub spelled : bytes ≡ records_spelling Two (end_records unit code) ++ rest
+  pub counted : len ≡ length (records_spelling Two (end_records unit code))
 
 -- in front of the bytes stands the whole group of an order of this number that ended so, with so many bytes
 pub record HasGroup (id : ℕ) (code : Code) (len : ℕ) (bytes : List ℕ) : Type 0 where
   pub order : Contents
-  pub begins : BeginsWith bytes (Began order)
+  pub moment : ℕ
+  pub begins : BeginsWith Two bytes (Began order moment)
   pub named : order.id ≡ id
   pub rest : List ℕ
-  pub spelled : bytes ≡ journal_spelling (end_records order.unit code ++ Began order ∷ []) ++ rest
-  pub counted : len ≡ length (journal_spelling (end_records order.unit code ++ Began order ∷ []))
+  pub spelled : bytes ≡ records_spelling Two (end_records order.unit code ++ Began order moment ∷ []) ++ rest
+  pub counted : len ≡ length (records_spelling Two (end_records order.unit code ++ Began order moment ∷ []))
 
 -- so many bytes in front are those of a journal that is idle, with so many orders; the index tells of each of these,
 -- and of no other
 pub record IsFront (limit : ℕ) (bytes : List ℕ) (len orders : ℕ) (index : List (ℕ × Place)) : Type 0 where
   pub within : len ≤ length bytes
-  pub sound : IsSound (take len bytes) (records_in (take len bytes)) standings.Idle orders limit 0 index
+  pub sound : IsSound (take len bytes) (records_in Two (take len bytes)) standings.Idle orders limit 0 index
   pub begun : (id : ℕ) (place : Place) → lookup (nat_eq id) index ≡ Some place → is_begun_at place ≡ true

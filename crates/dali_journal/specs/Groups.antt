@@ -8,20 +8,20 @@ use Rattle.dali_journal.specs.Sentence.{is_begun}
 -- the records are groups of these six kinds, of which the last may end early, each about one unit
 abbrev pub AreGroups : List Record → Type 0
 AreGroups [] = ⊤
-AreGroups (Began order ∷ []) = ⊤
-AreGroups (Began order ∷ Ended Short ∷ rest) = AreGroups rest
-AreGroups (Began order ∷ Ended Format ∷ rest) = AreGroups rest
-AreGroups (Began order ∷ Ended Silent ∷ rest) = AreGroups rest
-AreGroups (Began order ∷ Opened unit ∷ []) = unit ≡ order.unit
-AreGroups (Began order ∷ Opened unit ∷ Ended Done ∷ rest) = (unit ≡ order.unit) × AreGroups rest
-AreGroups (Began order ∷ Opened unit ∷ Ended Doubt ∷ rest) = (unit ≡ order.unit) × AreGroups rest
-AreGroups (Began order ∷ Opened unit ∷ Ended DoubtOpen ∷ []) = unit ≡ order.unit
-AreGroups (Began order ∷ Opened unit ∷ Ended DoubtOpen ∷ Closed closed ∷ rest) =
+AreGroups (Began order moment ∷ []) = ⊤
+AreGroups (Began order moment ∷ Ended Short ∷ rest) = AreGroups rest
+AreGroups (Began order moment ∷ Ended Format ∷ rest) = AreGroups rest
+AreGroups (Began order moment ∷ Ended Silent ∷ rest) = AreGroups rest
+AreGroups (Began order moment ∷ Opened unit ∷ []) = unit ≡ order.unit
+AreGroups (Began order moment ∷ Opened unit ∷ Ended Done ∷ rest) = (unit ≡ order.unit) × AreGroups rest
+AreGroups (Began order moment ∷ Opened unit ∷ Ended Doubt ∷ rest) = (unit ≡ order.unit) × AreGroups rest
+AreGroups (Began order moment ∷ Opened unit ∷ Ended DoubtOpen ∷ []) = unit ≡ order.unit
+AreGroups (Began order moment ∷ Opened unit ∷ Ended DoubtOpen ∷ Closed closed ∷ rest) =
     (unit ≡ order.unit) × (closed ≡ order.unit) × AreGroups rest
 AreGroups _ = ⊥
 
 -- no number stands twice
 abbrev pub HaveDistinctNumbers : List Record → Type 0
 HaveDistinctNumbers [] = ⊤
-HaveDistinctNumbers (Began order ∷ rest) = (is_begun order.id rest ≡ false) × HaveDistinctNumbers rest
+HaveDistinctNumbers (Began order moment ∷ rest) = (is_begun order.id rest ≡ false) × HaveDistinctNumbers rest
 HaveDistinctNumbers (other ∷ rest) = HaveDistinctNumbers rest

@@ -15,8 +15,9 @@ use Rattle.dali_journal.specs.declared.index.Place.TheVariants as places
 use Rattle.dali_journal.specs.declared.read.Piece.{Piece}
 use Rattle.dali_journal.specs.declared.read.Piece.TheVariants.{Whole}
 use Rattle.dali_journal.specs.Sentence.{standing_of, HasShortUnit}
-use Rattle.dali_journal.specs.Orders.{orders_of, kept_of}
-use Rattle.dali_journal.specs.Spelling.{journal_spelling, IsRecord}
+use Rattle.dali_journal.specs.Orders.{orders_of, kept_of, moment_of}
+use Rattle.dali_journal.specs.declared.version.Version.TheVariants.{Two}
+use Rattle.dali_journal.specs.Spelling.{records_spelling, IsRecord}
 use Rattle.dali_journal.specs.Reading.{BeginsWith}
 use Rattle.dali_journal.specs.JournalState.{IsJournal}
 
@@ -33,15 +34,17 @@ is_begun_at (places.Ended at code) = true
 
 -- a record's bytes stand there
 abbrev pub IsRecordAt : List ℕ → ℕ → Record → Type 0
-IsRecordAt bytes at entry = (at ≤ length bytes) × BeginsWith (drop at bytes) entry
+IsRecordAt bytes at entry = (at ≤ length bytes) × BeginsWith Two (drop at bytes) entry
 
--- what the index tells of a number is what the journal has kept of it
-abbrev pub Agrees : List ℕ → Place → Kept → Type 0
-Agrees bytes places.NotBegun kept = kept ≡ kepts.Absent
-Agrees bytes (places.Begun at) kept =
-    (order : Contents) × (kept ≡ kepts.Unfinished order) × IsRecordAt bytes at (Began order)
-Agrees bytes (places.Ended at code) kept =
-    (order : Contents) × (kept ≡ kepts.Ended order code) × IsRecordAt bytes at (Began order)
+-- what the index tells of a number is what the journal has kept of it, and its moment
+abbrev pub Agrees : List ℕ → Place → Kept → Option ℕ → Type 0
+Agrees bytes places.NotBegun kept since = (kept ≡ kepts.Absent) × (since ≡ None)
+Agrees bytes (places.Begun at) kept since =
+    (order : Contents) × (moment : ℕ) × (kept ≡ kepts.Unfinished order) × (since ≡ Some moment)
+    × IsRecordAt bytes at (Began order moment)
+Agrees bytes (places.Ended at code) kept since =
+    (order : Contents) × (moment : ℕ) × (kept ≡ kepts.Ended order code) × (since ≡ Some moment)
+    × IsRecordAt bytes at (Began order moment)
 
 -- what an end makes of an order's place
 abbrev pub ended_place : Code → Place → Place
@@ -56,36 +59,36 @@ works_on other id = false
 
 -- what a record that stands there makes of a number's place
 abbrev pub place_after : Standing → Record → ℕ → ℕ → Place → Place
-place_after standing (Began order) at id place = if order.id == id then places.Begun at else place
+place_after standing (Began order moment) at id place = if order.id == id then places.Begun at else place
 place_after standing (Ended code) at id place = if works_on standing id then ended_place code place else place
 place_after standing other at id place = place
 
 -- an order's number is in the index before it begins
 abbrev pub EntersNumber : List (ℕ × Place) → Record → Type 0
-EntersNumber index (Began order) = IsSome (lookup (nat_eq order.id) index)
+EntersNumber index (Began order moment) = IsSome (lookup (nat_eq order.id) index)
 EntersNumber index other = ⊤
 
--- the order that a piece begins
-abbrev pub order_in : Piece → Option Contents
-order_in (Whole (Began order) len) = Some order
+-- the order that a piece begins, and its moment
+abbrev pub order_in : Piece → Option (Contents × ℕ)
+order_in (Whole (Began order moment) len) = Some (order, moment)
 order_in other = None
 
 -- where the record begins an order, the order's numbers are in range
 abbrev pub BeginsInRange : Record → Type 0
-BeginsInRange (Began order) = IsRecord (Began order)
+BeginsInRange (Began order moment) = IsRecord Two (Began order moment)
 BeginsInRange other = ⊤
 
 -- how many orders a record begins
 abbrev pub orders_begun : Record → ℕ
-orders_begun (Began order) = 1
+orders_begun (Began order moment) = 1
 orders_begun other = 0
 
 -- what is so of a journal's parts: the bytes are those of the records, and the rest tells of the records
 pub record IsSound (bytes : List ℕ) (records : List Record) (standing : Standing) (orders limit room : ℕ)
     (index : List (ℕ × Place)) : Type 0 where
-  pub spelled : bytes ≡ journal_spelling records
+  pub spelled : bytes ≡ records_spelling Two records
   pub standing_is : standing ≡ standing_of records
   pub short : HasShortUnit standing
   pub count : orders ≡ length (orders_of records)
   pub journal : IsJournal (record { records = records; limit = limit; room = room; numbers = keys_of index })
-  pub known : (id : ℕ) → Agrees bytes (place_of (lookup (nat_eq id) index)) (kept_of id records)
+  pub known : (id : ℕ) → Agrees bytes (place_of (lookup (nat_eq id) index)) (kept_of id records) (moment_of id records)

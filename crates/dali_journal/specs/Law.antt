@@ -1,12 +1,13 @@
 -- The laws of records and of lists of them.
-use Rattle.std.specs.Prelude.{◌≡◌, ◌↔◌, ◌⊎◌, ℕ, false, List, ◌∷◌, ◌++◌, reverse}
+use Rattle.std.specs.Prelude.{◌≡◌, ◌↔◌, ◌⊎◌, ℕ, false, List, ◌∷◌, ◌++◌, reverse, None, Some}
 use Rattle.dali_bank.specs.Order.{Contents}
 use Rattle.dali_journal.specs.declared.record.Code.{Code}
 use Rattle.dali_journal.specs.declared.record.Record.{Record}
 use Rattle.dali_journal.specs.declared.record.Record.TheVariants.{Began, Opened, Ended}
+use Rattle.dali_journal.specs.declared.version.Version.{Version}
 use Rattle.dali_journal.specs.declared.kept.Kept.TheVariants as kepts
 use Rattle.dali_journal.specs.Sentence.{is_begun, IsSentence}
-use Rattle.dali_journal.specs.Orders.{kept_of}
+use Rattle.dali_journal.specs.Orders.{kept_of, moment_of}
 use Rattle.dali_journal.specs.Groups.{AreGroups, HaveDistinctNumbers}
 use Rattle.dali_journal.specs.Spelling.{spelling, IsRecord}
 use Rattle.dali_journal.specs.Reading.{IsRead}
@@ -21,14 +22,15 @@ SentencesAreGroups =
 -- the order is the last that was begun, and its group hasn't ended (the newest record first)
 abbrev pub IsUnended : Contents → List Record → Type 0
 IsUnended order records =
-    (older : List Record) × ((records ≡ Began order ∷ older) ⊎ (records ≡ Opened order.unit ∷ Began order ∷ older))
+    (moment : ℕ) × (older : List Record)
+    × ((records ≡ Began order moment ∷ older) ⊎ (records ≡ Opened order.unit ∷ Began order moment ∷ older))
 
 -- somewhere among the records the order's group ends with the code: straight behind its Began, or behind its Opened
 abbrev pub HasEnded : Contents → Code → List Record → Type 0
 HasEnded order code records =
-    (newer : List Record) × (older : List Record)
-    × ((records ≡ newer ++ Ended code ∷ Began order ∷ older)
-    ⊎ (records ≡ newer ++ Ended code ∷ Opened order.unit ∷ Began order ∷ older))
+    (moment : ℕ) × (newer : List Record) × (older : List Record)
+    × ((records ≡ newer ++ Ended code ∷ Began order moment ∷ older)
+    ⊎ (records ≡ newer ++ Ended code ∷ Opened order.unit ∷ Began order moment ∷ older))
 
 -- What is kept of a number is what the groups say: nothing where no order was begun under it, the order whose group
 -- hasn't ended, or an order and how its group ended.
@@ -39,11 +41,21 @@ KeptIsInTheGroups = (records : List Record) (id : ℕ) → IsSentence records
     × ((order : Contents) (code : Code)
     → (kept_of id records ≡ kepts.Ended order code) ↔ ((order.id ≡ id) × HasEnded order code records))
 
--- Where the bytes of one record begin those of another, the two are one record.
+-- Where the bytes of one record begin those of another of the same version, the two are one record.
 abbrev pub NoSpellingBeginsAnother : Type 0
 NoSpellingBeginsAnother =
-    (a b : Record) (more : List ℕ) → IsRecord a → IsRecord b → spelling b ≡ spelling a ++ more → a ≡ b
+    (version : Version) (a b : Record) (more : List ℕ) → IsRecord version a → IsRecord version b
+    → spelling version b ≡ spelling version a ++ more → a ≡ b
 
--- Bytes begin with one piece: the whole record, a cut one or neither.
+-- Bytes begin with one piece of a version: the whole record, a cut one or neither.
 abbrev pub BytesBeginWithOnePiece : Type 0
-BytesBeginWithOnePiece = (bytes : List ℕ) (a b : Piece) → IsRead bytes a → IsRead bytes b → a ≡ b
+BytesBeginWithOnePiece =
+    (version : Version) (bytes : List ℕ) (a b : Piece) → IsRead version bytes a → IsRead version bytes b → a ≡ b
+
+-- There is a moment just where something is kept: that of the one Began of the number.
+abbrev pub MomentsAreKept : Type 0
+MomentsAreKept = (records : List Record) (id : ℕ)
+    → ((moment_of id records ≡ None) ↔ (kept_of id records ≡ kepts.Absent))
+    × ((moment : ℕ) → IsSentence records → (moment_of id records ≡ Some moment)
+    ↔ ((newer : List Record) × (older : List Record) × (order : Contents)
+    × (order.id ≡ id) × (records ≡ newer ++ Began order moment ∷ older)))

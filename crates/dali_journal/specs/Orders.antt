@@ -1,5 +1,5 @@
 -- What a journal says of each order. The newest comes first.
-use Rattle.std.specs.Prelude.{ℕ, ◌==◌, List, [], ◌∷◌, if◌then◌else◌}
+use Rattle.std.specs.Prelude.{ℕ, ◌==◌, List, [], ◌∷◌, Option, None, Some, if◌then◌else◌}
 use Rattle.dali_bank.specs.Order.{Contents}
 use Rattle.dali_journal.specs.declared.record.Record.{Record}
 use Rattle.dali_journal.specs.declared.record.Record.TheVariants.{Began, Opened, Ended, Closed}
@@ -16,7 +16,7 @@ come_to progress (newest ∷ older) = (newest.0, progress) ∷ older
 -- the orders that were begun, each with how far it has come
 abbrev pub orders_of : List Record → List (Contents × Progress)
 orders_of [] = []
-orders_of (Began order ∷ older) = (order, reached.Begun) ∷ orders_of older
+orders_of (Began order moment ∷ older) = (order, reached.Begun) ∷ orders_of older
 orders_of (Opened unit ∷ older) = come_to reached.Open (orders_of older)
 orders_of (Ended code ∷ older) = come_to (reached.Ended code) (orders_of older)
 orders_of (Closed unit ∷ older) = orders_of older
@@ -34,3 +34,9 @@ kept_among id (newest ∷ older) = if newest.0.id == id then kept_at newest.0 ne
 -- what the journal has kept of the order of this number
 abbrev pub kept_of : ℕ → List Record → Kept
 kept_of id records = kept_among id (orders_of records)
+
+-- the moment at which the order of this number was submitted
+abbrev pub moment_of : ℕ → List Record → Option ℕ
+moment_of id [] = None
+moment_of id (Began order moment ∷ older) = if order.id == id then Some moment else moment_of id older
+moment_of id (other ∷ older) = moment_of id older

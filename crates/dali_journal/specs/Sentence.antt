@@ -9,7 +9,7 @@ use Rattle.dali_journal.specs.Orders.{orders_of}
 
 -- the table: which record may come next
 abbrev pub Allows : Standing → Record → Type 0
-Allows standings.Idle (Began order) = ⊤
+Allows standings.Idle (Began order moment) = ⊤
 Allows (standings.Began order) (Opened unit) = unit ≡ order.unit
 Allows (standings.Began order) (Ended Short) = ⊤
 Allows (standings.Began order) (Ended Format) = ⊤
@@ -22,7 +22,7 @@ Allows _ _ = ⊥
 
 -- the table: the standing after a record that may come
 abbrev pub next_standing : Standing → Record → Standing
-next_standing standing (Began order) = standings.Began order
+next_standing standing (Began order moment) = standings.Began order
 next_standing (standings.Began order) (Opened unit) = standings.Opened order
 next_standing (standings.Opened order) (Ended DoubtOpen) = standings.Left order.unit
 next_standing standing other = standings.Idle
@@ -47,12 +47,12 @@ HasShortUnit other = ⊤
 -- an order of this number was begun
 abbrev pub is_begun : ℕ → List Record → Bool
 is_begun id [] = false
-is_begun id (Began order ∷ older) = order.id == id || is_begun id older
+is_begun id (Began order moment ∷ older) = order.id == id || is_begun id older
 is_begun id (other ∷ older) = is_begun id older
 
 -- an order begins under a number that no order before it has
 abbrev pub IsNew : Record → List Record → Type 0
-IsNew (Began order) older = is_begun order.id older ≡ false
+IsNew (Began order moment) older = is_begun order.id older ≡ false
 IsNew other older = ⊤
 
 -- each record was one that the table allowed, and each order began under a new number

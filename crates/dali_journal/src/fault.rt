@@ -5,7 +5,8 @@ use std::error::Error;
 use std::fmt;
 
 /// Why there is no journal (profile). A place is that of a record's first byte. Of several faults the
-/// first record's is told, and of these the one with the lowest number; `Limit` comes before all.
+/// first record's is told, and of these the one with the lowest number; `Limit` comes before all, and
+/// then `Header`.
 #[derive(Clone, Copy, Debug, PartialEq, Eq, Hash)]
 pub enum JournalFault {
     /// The limit is 0 or over 100000.
@@ -20,6 +21,8 @@ pub enum JournalFault {
     Repeated(usize),
     /// Here an order begins past the limit.
     Full(usize),
+    /// The bytes begin as the header of version 2 does, and go on otherwise or end.
+    Header,
 }
 
 impl JournalFault {
@@ -36,6 +39,7 @@ impl JournalFault {
             JournalFault::Sequence(_) => 4,
             JournalFault::Repeated(_) => 5,
             JournalFault::Full(_) => 6,
+            JournalFault::Header => 7,
         }
     }
 }
@@ -53,6 +57,7 @@ impl fmt::Display for JournalFault {
             JournalFault::Sequence(_) => "Sequence",
             JournalFault::Repeated(_) => "Repeated",
             JournalFault::Full(_) => "Full",
+            JournalFault::Header => "Header",
         })
     }
 }

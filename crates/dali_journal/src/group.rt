@@ -1,5 +1,7 @@
-// Whole groups of a journal's bytes, each an order that began and ended: nearly all of a long journal.
-ghost use Rattle.std.specs.Prelude.{IsTrue, IfSome, IfOk, IfErr};
+// Whole groups of a journal's bytes of version 2, each an order that began and ended: nearly all of a long journal.
+ghost use Rattle.std.specs.Prelude.{◌++◌, IsTrue, IfSome, IfOk, IfErr};
+ghost use Rattle.dali_journal.specs.declared.version.Version.TheVariants.{Two};
+ghost use Rattle.dali_journal.specs.Spelling.{header};
 ghost use Rattle.dali_journal.specs.JournalState.{IsLimit};
 ghost use Rattle.dali_journal.specs.Loading.{IsLoadFault};
 ghost use Rattle.dali_journal.specs.GroupAhead.{AreUpdatesAbove, HasUpdates, HasBegan, HasEnd, HasGroup, IsFront};
@@ -7,11 +9,12 @@ ghost use Rattle.dali_journal.specs.GroupAhead.{AreUpdatesAbove, HasUpdates, Has
 use crate::fault::JournalFault;
 use crate::index::Place;
 use crate::record::Code;
+use crate::version::{HEADER, Version};
 use indexmap::IndexMap;
 use std::alloc::Global;
 
 // The least bytes of a group: a Began with one update, and an Ended.
-const LEAST_BYTES: usize = 15;
+const LEAST_BYTES: usize = 23;
 
 // What the whole groups in front of a journal's bytes tell: how many bytes they take, how many orders they are, and
 // the index of these.
@@ -38,13 +41,13 @@ struct Head {
     len: usize,
 }
 
-// The whole groups in front of the bytes, up to the limit.
+// The whole groups in front of the bytes behind a header, up to the limit.
 //
 // Repeated where a number stands twice; NoMemory.
 pub(crate) fn groups_ahead(alloc: Global, limit: u32, bytes: &[u8]) -> Result<Groups, JournalFault>
     requires { IsLimit limit }
     ensures ok { IfOk result (λ groups. IsFront limit bytes.now groups.len groups.orders groups.index.entries) }
-    ensures err { IfErr result (λ fault. IsLoadFault limit bytes.now fault) }
+    ensures err { IfErr result (λ fault. IsLoadFault limit (header Two ++ bytes.now) fault) }
 {
     let most = (bytes.len() / LEAST_BYTES).min(limit as usize);
     let Ok(mut index) = IndexMap::with_capacity(alloc, most) else {
@@ -58,7 +61,7 @@ pub(crate) fn groups_ahead(alloc: Global, limit: u32, bytes: &[u8]) -> Result<Gr
         };
         match index.insert(group.id, Place::Ended(at, group.code)) {
             Ok(None) => {}
-            Ok(Some(_)) => return Err(JournalFault::Repeated(at)),
+            Ok(Some(_)) => return Err(JournalFault::Repeated(HEADER.len() + at)),
             Err(_) => return Err(JournalFault::NoMemory),
         }
         orders += 1;
@@ -101,6 +104,9 @@ fn head_ahead(bytes: &[u8]) -> Option<Head>
     let Some((number, rest)) = rest.split_first_chunk::<8>() else {
         return None;
     };
+    let Some((_moment, rest)) = rest.split_first_chunk::<8>() else {
+        return None;
+    };
     let Some(([unit, count], rest)) = rest.split_first_chunk::<2>() else {
         return None;
     };
@@ -110,7 +116,7 @@ fn head_ahead(bytes: &[u8]) -> Option<Head>
     Some(Head {
         id: u64::from_be_bytes(*number),
         unit: *unit,
-        len: 11 + 2 * *count as usize,
+        len: Version::Two.began_head_len() + 2 * *count as usize,
     })
 }
 

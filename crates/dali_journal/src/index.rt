@@ -1,4 +1,4 @@
-ghost use Rattle.std.specs.Prelude.{◌≡◌, ℕ, ◌==◌, nat_eq, Some, IsOk, OnOk, if◌then◌else◌};
+ghost use Rattle.std.specs.Prelude.{◌≡◌, ℕ, ◌==◌, nat_eq, Option, Some, IsOk, OnOk, if◌then◌else◌};
 ghost use Rattle.indexmap.specs.IndexMap.{get, keys, ContainsKey};
 ghost use Rattle.dali_bank.specs.Order.{Contents};
 ghost use Rattle.dali_journal.specs.declared.kept.Kept.{Kept as KeptValue};
@@ -83,7 +83,7 @@ pub(crate) fn note(index: &mut IndexMap<u64, Place>, standing: &Standing, entry:
     ensures numbers { keys index.new ≡ keys index.old }
 {
     match entry {
-        Record::Began(order) => set_place(index, order.id(), Place::Begun(at)),
+        Record::Began(order, _) => set_place(index, order.id(), Place::Begun(at)),
         Record::Ended(code) => match standing {
             Standing::Began(order) => end_place(index, order.id(), *code),
             Standing::Opened(order) => end_place(index, order.id(), *code),
@@ -119,24 +119,42 @@ fn end_place(index: &mut IndexMap<u64, Place>, id: u64, code: Code)
 
 // What is kept of the order whose place this is.
 pub(crate) fn kept_at(bytes: &[u8], place: Place) -> Kept
-    ensures { (kept : KeptValue) → Agrees bytes.now place kept → result ≡ kept }
+    ensures { (kept : KeptValue) (since : Option ℕ) → Agrees bytes.now place kept since → result ≡ kept }
 {
     match place {
         Place::NotBegun => Kept::Absent,
         Place::Begun(at) => match order_at(bytes, at) {
-            Some(order) => Kept::Unfinished(order),
+            Some((order, _)) => Kept::Unfinished(order),
             None => Kept::Absent,
         },
         Place::Ended(at, code) => match order_at(bytes, at) {
-            Some(order) => Kept::Ended(order, code),
+            Some((order, _)) => Kept::Ended(order, code),
             None => Kept::Absent,
         },
     }
 }
 
-// The order that begins there.
-fn order_at(bytes: &[u8], at: usize) -> Option<Order>
-    ensures { (order : Contents) → IsRecordAt bytes.now at (Began order) → result ≡ Some order }
+// The moment of the order whose place this is.
+pub(crate) fn moment_at(bytes: &[u8], place: Place) -> Option<u64>
+    ensures { (kept : KeptValue) (since : Option ℕ) → Agrees bytes.now place kept since → result ≡ since }
+{
+    match place {
+        Place::NotBegun => None,
+        Place::Begun(at) => match order_at(bytes, at) {
+            Some((_, moment)) => Some(moment),
+            None => None,
+        },
+        Place::Ended(at, _) => match order_at(bytes, at) {
+            Some((_, moment)) => Some(moment),
+            None => None,
+        },
+    }
+}
+
+// The order that begins there, and its moment.
+fn order_at(bytes: &[u8], at: usize) -> Option<(Order, u64)>
+    ensures { (order : Contents) (moment : ℕ) → IsRecordAt bytes.now at (Began order moment)
+        → result ≡ Some (order, moment) }
 {
     if at > bytes.len() {
         return None;
@@ -144,12 +162,12 @@ fn order_at(bytes: &[u8], at: usize) -> Option<Order>
     order_in(Record::read(&bytes[at..]))
 }
 
-// The order that a piece begins.
-fn order_in(piece: Piece) -> Option<Order>
+// The order that a piece begins, and its moment.
+fn order_in(piece: Piece) -> Option<(Order, u64)>
     ensures { result ≡ order_in piece }
 {
     match piece {
-        Piece::Whole(Record::Began(order), _) => Some(order),
+        Piece::Whole(Record::Began(order, moment), _) => Some((order, moment)),
         _ => None,
     }
 }

@@ -1,23 +1,26 @@
-ghost use Rattle.std.specs.Prelude.{◌≡◌, ◌+◌, ◌≤◌, ◌↔◌, ◌++◌, ◌∷◌, [], length};
-ghost use Rattle.std.specs.Prelude.{IsTrue, IsOk, OnOk, IfOk, IfErr, vec_len, vec_capacity};
+ghost use Rattle.std.specs.Prelude.{◌≡◌, ◌≢◌, ◌+◌, ◌^◌, ◌<◌, ◌≤◌, ◌↔◌, ◌++◌, ◌∷◌, [], length};
+ghost use Rattle.std.specs.Prelude.{IsTrue, IsOk, OnOk, IfOk, IfErr, IfSome, IsNone, vec_len, vec_capacity};
 ghost use Rattle.dali_bank.specs.Order.{Contents};
 ghost use Rattle.dali_journal.specs.declared.record.Record.TheVariants.{Began};
 ghost use Rattle.dali_journal.specs.Sentence.{standing_of, Allows, HasShortUnit, is_begun};
-ghost use Rattle.dali_journal.specs.Orders.{kept_of};
+ghost use Rattle.dali_journal.specs.declared.version.Version.TheVariants.{One, Two};
+ghost use Rattle.dali_journal.specs.Orders.{kept_of, moment_of};
 ghost use Rattle.dali_journal.specs.Index.{orders_begun};
-ghost use Rattle.dali_journal.specs.Spelling.{spelling, journal_spelling};
-ghost use Rattle.dali_journal.specs.JournalState.{HasRoom, MayBegin, KeepsRoom, IsLimit, IsJournal};
+ghost use Rattle.dali_journal.specs.Spelling.{spelling, records_spelling, header, journal_spelling};
+ghost use Rattle.dali_journal.specs.JournalState.{HasRoom, MayBegin, KeepsRoom, IsLimit, AreKept, IsJournal};
 ghost use Rattle.dali_journal.specs.JournalState.{order_count, bytes_due};
 ghost use Rattle.dali_journal.specs.Faults.{IsNewFault};
-ghost use Rattle.dali_journal.specs.Loading.{IsLoaded, IsLoadFault, IsRecordRefused, IsTornWithin};
+ghost use Rattle.dali_journal.specs.Loading.{HasVersion, HasBrokenHeader, IsTorn, IsLoaded, IsLoadableWithin};
+ghost use Rattle.dali_journal.specs.Loading.{IsLoadFault, IsRecordRefused};
 
 use crate::fault::{JournalFault, NoMemory};
 use crate::group::groups_ahead;
-use crate::index::{Place, enter, kept_at, note, place_of};
+use crate::index::{Place, enter, kept_at, moment_at, note, place_of};
 use crate::kept::Kept;
 use crate::read::Piece;
 use crate::record::Record;
 use crate::standing::Standing;
+use crate::version::{HEADER, Version};
 use dali_bank::Order;
 use indexmap::IndexMap;
 use std::alloc::{AllocError, Global};
@@ -26,9 +29,6 @@ use std::mem;
 
 // The most orders that a journal can be made for.
 const MOST_ORDERS: u32 = 100_000;
-
-// A letter, the order's number, its unit and how many updates it has.
-const BEGAN_BYTES: usize = 11;
 
 // An `Opened`, an `Ended` and a `Closed`.
 const BYTES_BEHIND_BEGAN: usize = 6;
@@ -43,7 +43,7 @@ pub struct Journal {
     limit: u32,
     orders: u32,
     standing: Standing,
-    // the records' bytes, the oldest first
+    // the records' bytes in version 2, the oldest first, without the header
     bytes: Vec<u8>,
     // where the order of each number began, and how it ended; a number is here before its order begins
     index: IndexMap<u64, Place>,
@@ -52,6 +52,7 @@ pub struct Journal {
 impl Model for Journal {
     ghost use Rattle.std.specs.Prelude.{◌-◌, vec_len, vec_capacity};
     ghost use Rattle.std.specs.Map.{keys_of};
+    ghost use Rattle.dali_journal.specs.declared.version.Version.TheVariants.{Two};
     ghost use Rattle.dali_journal.specs.Decoding.{records_in};
     ghost use Rattle.dali_journal.specs.JournalState.{JournalState};
     ghost use Rattle.dali_journal.specs.Index.{IsSound};
@@ -59,14 +60,14 @@ impl Model for Journal {
     ghost Value = { JournalState };
 
     ghost view = { λ j. record {
-      records = records_in j.bytes.items;
+      records = records_in Two j.bytes.items;
       limit = j.limit;
       room = vec_capacity j.bytes - vec_len j.bytes;
       numbers = keys_of j.index.entries;
     } };
 
     ghost invariant = { λ j.
-        IsSound j.bytes.items (records_in j.bytes.items) j.standing j.orders j.limit
+        IsSound j.bytes.items (records_in Two j.bytes.items) j.standing j.orders j.limit
         (vec_capacity j.bytes - vec_len j.bytes) j.index.entries };
 }
 
@@ -93,59 +94,102 @@ impl Journal {
         })
     }
 
-    /// The journal of these bytes, and how many of them count: those of the whole records (profile).
+    /// The journal of these bytes, how many of them count, those of the header and the whole records, and their
+    /// version (profile). No bytes at all are a journal of version 2 without records, of which 0 count.
     ///
     /// The bytes may end in a proper prefix of some record's, which doesn't count. Fault 1 Limit where
-    /// the limit is 0 or over 100000, before all else. Then the records are tested in their order, each
+    /// the limit is 0 or over 100000, before all else; then 7 Header, where the bytes begin with 44h and not with
+    /// the whole header. Then the records are tested in their order, each
     /// for 3 Record, where neither a record stands nor, at the end, a proper prefix of one; 4 Sequence,
     /// where the standing doesn't allow it; 5 Repeated, where it begins an order whose number was there;
     /// 6 Full, where it begins one past the limit. Each of these four has the place of the record's
-    /// first byte. 2 NoMemory, where there is no memory, may come in place of these and of success.
-    pub fn load(alloc: Global, limit: u32, bytes: &[u8]) -> Result<(Journal, usize), JournalFault>
+    /// first byte. 2 NoMemory, where there is no memory, may come in place of these five and of success.
+    pub fn load(
+        alloc: Global,
+        limit: u32,
+        bytes: &[u8],
+    ) -> Result<(Journal, usize, Version), JournalFault>
         ensures accepted { OnOk result (IsLimit limit) }
-        ensures ok { IfOk result (λ loaded. IsLoaded limit bytes.now loaded.0 loaded.1) }
+        ensures ok { IfOk result (λ loaded. IsLoaded limit bytes.now loaded.0 loaded.1 loaded.2) }
         ensures err { IfErr result (λ fault. IsLoadFault limit bytes.now fault) }
-        ensures torn { IfErr result (λ fault. IsTornWithin limit bytes.now → fault ≡ JournalFault.NoMemory) }
+        ensures torn { IfErr result (λ fault. IsLoadableWithin limit bytes.now → fault ≡ JournalFault.NoMemory) }
     {
         let journal = match Journal::new(alloc, limit) {
             Ok(journal) => journal,
             Err(fault) => return Err(fault),
         };
-        match copy_in_room(alloc, bytes) {
-            Ok(copy) => journal.filled(alloc, copy),
-            Err(_) => Err(JournalFault::NoMemory),
+        if bytes.is_empty() {
+            return Ok((journal, 0, Version::Two));
+        }
+        match version_of(bytes) {
+            None => Err(JournalFault::Header),
+            Some(Version::One) => journal.upgraded(bytes),
+            Some(Version::Two) => match copy_in_room(alloc, &bytes[HEADER.len()..]) {
+                Ok(copy) => journal.filled(alloc, copy),
+                Err(_) => Err(JournalFault::NoMemory),
+            },
         }
     }
 
-    /// The same as `load`, of bytes that become the journal's own, so that there is no second copy of them.
+    /// The same as `load`, of bytes that become the journal's own where they are of version 2, so that there is no
+    /// second copy of them.
     pub fn load_vec(
         alloc: Global,
         limit: u32,
         bytes: Vec<u8>,
-    ) -> Result<(Journal, usize), JournalFault>
+    ) -> Result<(Journal, usize, Version), JournalFault>
         ensures accepted { OnOk result (IsLimit limit) }
-        ensures ok { IfOk result (λ loaded. IsLoaded limit bytes.items loaded.0 loaded.1) }
+        ensures ok { IfOk result (λ loaded. IsLoaded limit bytes.items loaded.0 loaded.1 loaded.2) }
         ensures err { IfErr result (λ fault. IsLoadFault limit bytes.items fault) }
-        ensures torn { IfErr result (λ fault. IsTornWithin limit bytes.items → fault ≡ JournalFault.NoMemory) }
+        ensures torn { IfErr result (λ fault. IsLoadableWithin limit bytes.items → fault ≡ JournalFault.NoMemory) }
     {
-        match Journal::new(alloc, limit) {
-            Ok(journal) => journal.filled(alloc, bytes),
+        let journal = match Journal::new(alloc, limit) {
+            Ok(journal) => journal,
+            Err(fault) => return Err(fault),
+        };
+        if bytes.is_empty() {
+            return Ok((journal, 0, Version::Two));
+        }
+        match version_of(&bytes) {
+            None => Err(JournalFault::Header),
+            Some(Version::One) => journal.upgraded(&bytes),
+            Some(Version::Two) => journal.filled(alloc, behind_header(bytes)),
+        }
+    }
+
+    // The journal of these bytes of version 1 in place of this one, which has no records, and how many of them count.
+    fn upgraded(mut self, bytes: &[u8]) -> Result<(Journal, usize, Version), JournalFault>
+        requires empty { self.records ≡ [] }
+        requires version { HasVersion One bytes.now }
+        ensures ok { IfOk result (λ loaded. IsLoaded self.limit bytes.now loaded.0 loaded.1 loaded.2) }
+        ensures err { IfErr result (λ fault. IsLoadFault self.limit bytes.now fault) }
+        ensures torn { IfErr result (λ fault. IsLoadableWithin self.limit bytes.now → fault ≡ JournalFault.NoMemory) }
+    {
+        match self.take_rest(Version::One, 0, bytes) {
+            Ok(len) => Ok((self, len, Version::One)),
             Err(fault) => Err(fault),
         }
     }
 
-    // The journal of these bytes in place of this one, for as many orders, and how many of them count.
-    fn filled(mut self, alloc: Global, bytes: Vec<u8>) -> Result<(Journal, usize), JournalFault>
-        ensures ok { IfOk result (λ loaded. IsLoaded self.limit bytes.items loaded.0 loaded.1) }
-        ensures err { IfErr result (λ fault. IsLoadFault self.limit bytes.items fault) }
-        ensures torn { IfErr result (λ fault. IsTornWithin self.limit bytes.items → fault ≡ JournalFault.NoMemory) }
+    // The journal of these bytes behind the header in place of this one, for as many orders, and how many count.
+    fn filled(
+        mut self,
+        alloc: Global,
+        bytes: Vec<u8>,
+    ) -> Result<(Journal, usize, Version), JournalFault>
+        ensures ok { IfOk result (λ loaded. IsLoaded self.limit (header Two ++ bytes.items) loaded.0 loaded.1 loaded.2) }
+        ensures err { IfErr result (λ fault. IsLoadFault self.limit (header Two ++ bytes.items) fault) }
+        ensures torn { IfErr result (λ fault. IsLoadableWithin self.limit (header Two ++ bytes.items)
+            → fault ≡ JournalFault.NoMemory) }
     {
+        let whole = HEADER.len() + bytes.len();
         let rest = match self.take_groups(alloc, bytes) {
             Ok(rest) => rest,
             Err(fault) => return Err(fault),
         };
-        match self.take_rest(&rest) {
-            Ok(len) => Ok((self, len)),
+        let front = whole - rest.len();
+        match self.take_rest(Version::Two, front, &rest) {
+            Ok(len) => Ok((self, len, Version::Two)),
             Err(fault) => Err(fault),
         }
     }
@@ -154,8 +198,8 @@ impl Journal {
     fn take_groups(&mut self, alloc: Global, mut bytes: Vec<u8>) -> Result<Vec<u8>, JournalFault>
         ensures journal { OnOk result (IsJournal self.new) }
         ensures limit { OnOk result (self.new.limit ≡ self.old.limit) }
-        ensures spelled { IfOk result (λ rest. bytes.items ≡ journal_spelling self.new.records ++ rest.items) }
-        ensures err { IfErr result (λ fault. IsLoadFault self.old.limit bytes.items fault) }
+        ensures spelled { IfOk result (λ rest. bytes.items ≡ records_spelling Two self.new.records ++ rest.items) }
+        ensures err { IfErr result (λ fault. IsLoadFault self.old.limit (header Two ++ bytes.items) fault) }
     {
         // it tells the groups what is so of every limit
         let limit = self.limit();
@@ -174,18 +218,29 @@ impl Journal {
         Ok(rest)
     }
 
-    // Adds the records that the bytes behind its own begin with, up to a cut one. How many bytes count then.
-    fn take_rest(&mut self, rest: &[u8]) -> Result<usize, JournalFault>
-        requires { IsJournal self.old }
+    // Adds the records of a version that the bytes behind its own, this many, begin with, up to a cut one. How many
+    // bytes count then.
+    fn take_rest(
+        &mut self,
+        version: Version,
+        front: usize,
+        rest: &[u8],
+    ) -> Result<usize, JournalFault>
+        requires journal { IsJournal self.old }
+        requires kept { AreKept version self.old.limit self.old.records }
+        requires front { front ≡ length (journal_spelling version self.old.records) }
+        requires long { front + length rest.now < 2 ^ 64 }
+        requires version { HasVersion version (journal_spelling version self.old.records ++ rest.now) }
+        ensures limit { OnOk result (self.new.limit ≡ self.old.limit) }
+        ensures kept { OnOk result (AreKept version self.old.limit self.new.records) }
         ensures ok { IfOk result (λ len.
-            IsLoaded self.old.limit (journal_spelling self.old.records ++ rest.now) self.new len) }
+            IsTorn version (journal_spelling version self.old.records ++ rest.now) self.new.records len) }
         ensures err { IfErr result (λ fault.
-            IsLoadFault self.old.limit (journal_spelling self.old.records ++ rest.now) fault) }
+            IsLoadFault self.old.limit (journal_spelling version self.old.records ++ rest.now) fault) }
     {
-        let front = self.bytes().len();
         let mut at = 0;
         'records: loop {
-            match Record::read(&rest[at..]) {
+            match Record::read_in(version, &rest[at..]) {
                 Piece::Cut => return Ok(front + at),
                 Piece::Bad => return Err(JournalFault::Record(front + at)),
                 Piece::Whole(entry, len) => {
@@ -208,7 +263,7 @@ impl Journal {
         if !self.standing.allows(&entry) {
             return Err(JournalFault::Sequence(at));
         }
-        if let Record::Began(order) = &entry {
+        if let Record::Began(order, _) = &entry {
             if self.has_begun(order.id()) {
                 return Err(JournalFault::Repeated(at));
             }
@@ -270,6 +325,13 @@ impl Journal {
         kept_at(&self.bytes, place_of(&self.index, id))
     }
 
+    /// The moment at which the order of this number was submitted, where it was begun.
+    pub fn moment(&self, id: u64) -> Option<u64>
+        ensures { result ≡ moment_of id self.now.records }
+    {
+        moment_at(&self.bytes, place_of(&self.index, id))
+    }
+
     /// Whether there is room for a `Closed` of the unit that is left, for what else is due, and for
     /// all records of the order.
     pub fn has_room(&self, order: &Order) -> bool
@@ -305,7 +367,7 @@ impl Journal {
         ensures records { self.new.records ≡ entry ∷ self.old.records }
         ensures limit { self.new.limit ≡ self.old.limit }
         ensures kept_room { KeepsRoom entry self.old self.new }
-        ensures room { self.new.room + length (spelling entry) ≡ self.old.room }
+        ensures room { self.new.room + length (spelling Two entry) ≡ self.old.room }
     {
         let bytes = entry.bytes();
         note(&mut self.index, &self.standing, &entry, self.bytes.len());
@@ -315,28 +377,57 @@ impl Journal {
         put_in_room(&mut self.bytes, &bytes);
     }
 
-    /// The journal's bytes (profile): those of its records, the oldest first.
-    pub fn bytes(&self) -> &[u8]
-        ensures { result.now ≡ journal_spelling self.now.records }
+    /// The bytes of its records in version 2 (profile), the oldest first, without the header.
+    pub fn record_bytes(&self) -> &[u8]
+        ensures { result.now ≡ records_spelling Two self.now.records }
     {
         self.bytes.as_slice()
     }
 
-    /// A copy of the journal's bytes (profile): those of its records, the oldest first.
+    /// A copy of the journal's bytes (profile), always in version 2: the header, and those of its records, the
+    /// oldest first.
     ///
     /// `NoMemory` where there is no memory.
     pub fn to_bytes(&self, alloc: Global) -> Result<Vec<u8>, NoMemory>
-        ensures { IfOk result (λ bytes. bytes.items ≡ journal_spelling self.now.records) }
+        ensures { IfOk result (λ bytes. bytes.items ≡ journal_spelling Two self.now.records) }
     {
-        Ok(self.bytes.to_vec(alloc)?)
+        let mut bytes = Vec::with_capacity(alloc, HEADER.len() + self.bytes.len())?;
+        bytes.extend_from_slice(&HEADER)?;
+        bytes.extend_from_slice(&self.bytes)?;
+        Ok(bytes)
     }
+}
+
+// The version of bytes that aren't none. None where they begin as the header does, and go on otherwise or end.
+fn version_of(bytes: &[u8]) -> Option<Version>
+    requires { bytes.now ≢ [] }
+    ensures some { IfSome result (λ version. HasVersion version bytes.now) }
+    ensures none { IsNone result → HasBrokenHeader bytes.now }
+{
+    match bytes {
+        [0x44, 0x42, 0x31, 0x02, ..] => Some(Version::Two),
+        [0x44, ..] => None,
+        _ => Some(Version::One),
+    }
+}
+
+// The bytes without the header in front.
+fn behind_header(mut bytes: Vec<u8>) -> Vec<u8>
+    requires { HasVersion Two bytes.items }
+    ensures { header Two ++ result.items ≡ bytes.items }
+{
+    let len = bytes.len() - HEADER.len();
+    bytes.copy_within(HEADER.len().., 0);
+    bytes.truncate(len);
+    bytes
 }
 
 // The bytes of what is due and of all records of the order.
 fn bytes_wanted(standing: &Standing, order: &Order) -> usize
-    ensures { result ≡ bytes_due standing.now + length (spelling (Began order.now)) + 6 }
+    ensures { result ≡ bytes_due standing.now + length (spelling Two (Began order.now 0)) + 6 }
 {
-    standing.bytes_due() + BEGAN_BYTES + 2 * order.updates().len() + BYTES_BEHIND_BEGAN
+    let began_bytes = Version::Two.began_head_len() + 2 * order.updates().len();
+    standing.bytes_due() + began_bytes + BYTES_BEHIND_BEGAN
 }
 
 // A copy of the bytes, with room for what ends the last order.
@@ -353,7 +444,7 @@ fn orders_begun(entry: &Record) -> u32
     ensures { result ≡ orders_begun entry.now }
 {
     match entry {
-        Record::Began(_) => 1,
+        Record::Began(_, _) => 1,
         _ => 0,
     }
 }

@@ -1,7 +1,7 @@
 //! Laws of journals. Each is the contract of a function that does nothing.
 
 ghost use Rattle.dali_journal.specs.Law.{SentencesAreGroups, KeptIsInTheGroups, NoSpellingBeginsAnother};
-ghost use Rattle.dali_journal.specs.Law.{BytesBeginWithOnePiece};
+ghost use Rattle.dali_journal.specs.Law.{BytesBeginWithOnePiece, MomentsAreKept};
 ghost use Rattle.dali_journal.specs.Loading.{TornHasNoFault, BytesHaveOneFault, JournalsLoadAgain};
 
 /// What the table of standings allows, record by record, is a list of groups, one for each order.
@@ -16,7 +16,12 @@ pub fn kept_is_in_the_groups()
     ensures { KeptIsInTheGroups }
 {}
 
-/// No record's bytes are a prefix of another's.
+/// There is a moment just where something is kept of a number, and it is that of the one `Began` of the number.
+pub fn moments_are_kept()
+    ensures { MomentsAreKept }
+{}
+
+/// No record's bytes are a prefix of another's, in each version.
 pub fn no_record_begins_another()
     ensures { NoSpellingBeginsAnother }
 {}
@@ -26,12 +31,12 @@ pub fn bytes_begin_with_one_piece()
     ensures { BytesBeginWithOnePiece }
 {}
 
-/// Bytes that are a torn journal have no fault, and are the journal of no other records.
+/// Bytes that a journal is loaded from have no fault, and are the journal of no other records and in no other version.
 pub fn torn_journals_have_no_fault()
     ensures { TornHasNoFault }
 {}
 
-/// The bytes of a journal, whole or followed by a cut record, are a torn journal of its records.
+/// The bytes of a journal in version 2, whole or followed by a cut record, are a torn journal of its records.
 pub fn journals_load_again()
     ensures { JournalsLoadAgain }
 {}

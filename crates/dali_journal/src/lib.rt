@@ -1,7 +1,8 @@
 //! The journal of a writer (profile): which orders it began, and how far each has come.
 //!
 //! A journal is a list of records, held as their bytes. What it has begun it can always end without
-//! taking memory. Only `Journal::load`, `load_vec`, `reserve` and `to_bytes` take memory.
+//! taking memory. Only `Journal::load`, `load_vec`, `reserve` and `to_bytes` take memory. It is written in
+//! version 2 alone, and read in both.
 #![tactic(auto)]
 
 mod fault;
@@ -13,6 +14,7 @@ pub mod laws;
 mod read;
 mod record;
 mod standing;
+mod version;
 
 pub use fault::{JournalFault, NoMemory};
 pub use journal::Journal;
@@ -20,3 +22,4 @@ pub use kept::{Kept, Progress};
 pub use read::Piece;
 pub use record::{Code, Record};
 pub use standing::Standing;
+pub use version::Version;

@@ -1,9 +1,11 @@
 ghost use Rattle.std.specs.Prelude.{◌≡◌, ◌≤◌};
+ghost use Rattle.dali_journal.specs.declared.version.Version.TheVariants.{One, Two};
 ghost use Rattle.dali_journal.specs.Reading.{IsRead};
 ghost use Rattle.dali_journal.specs.Decoding.{piece_of, code_numbered, order_piece, numbered_piece};
-ghost use Rattle.dali_journal.specs.Decoding.{counted_piece, pairs_of, fits, places_above};
+ghost use Rattle.dali_journal.specs.Decoding.{timed_piece, counted_piece, pairs_of, fits, places_above};
 
 use crate::record::{Code, Record};
+use crate::version::Version;
 use arrayvec::ArrayVec;
 use dali_bank::{MOST_UPDATES, Order};
 
@@ -27,25 +29,39 @@ pub(crate) enum Pairs {
 }
 
 impl Record {
-    /// What the bytes begin with (profile): a whole record with its length, 2 to 241, or a cut one, or
-    /// neither.
+    /// What the bytes begin with in version 2 (profile): a whole record with its length, 2 to 249, or a cut
+    /// one, or neither.
     ///
     /// A cut record is all of the bytes, and can be filled up to a whole one: each location of a cut
     /// `Began` leaves as many writable locations above it as are still to come.
     pub fn read(bytes: &[u8]) -> Piece
-        ensures { IsRead bytes.now result }
+        ensures { IsRead Two bytes.now result }
     {
-        piece_of(bytes)
+        Record::read_in(Version::Two, bytes)
+    }
+
+    /// The same of version 1 (profile), in which a `Began` has no moment, and 2 to 241 bytes: it is 0.
+    pub fn read_old(bytes: &[u8]) -> Piece
+        ensures { IsRead One bytes.now result }
+    {
+        Record::read_in(Version::One, bytes)
+    }
+
+    // What the bytes begin with in a version.
+    pub(crate) fn read_in(version: Version, bytes: &[u8]) -> Piece
+        ensures { IsRead version bytes.now result }
+    {
+        piece_of(version, bytes)
     }
 }
 
 // What the bytes begin with, byte by byte.
-fn piece_of(bytes: &[u8]) -> Piece
-    ensures { result ≡ piece_of bytes.now }
+fn piece_of(version: Version, bytes: &[u8]) -> Piece
+    ensures { result ≡ piece_of version bytes.now }
 {
     match bytes {
         [] | [b'O' | b'E' | b'C'] => Piece::Cut,
-        [b'B', rest @ ..] => read_order(rest),
+        [b'B', rest @ ..] => read_order(version, rest),
         [b'O', unit, ..] if *unit <= 63 => Piece::Whole(Record::Opened(*unit), 2),
         [b'E', number, ..] if *number <= 5 => Piece::Whole(
             Record::Ended(code_numbered(*number)),
@@ -71,30 +87,43 @@ fn code_numbered(number: u8) -> Code
 }
 
 // What a `Began` is whose bytes behind the letter begin so.
-fn read_order(bytes: &[u8]) -> Piece
-    ensures { result ≡ order_piece bytes.now }
+fn read_order(version: Version, bytes: &[u8]) -> Piece
+    ensures { result ≡ order_piece version bytes.now }
 {
     match bytes.split_first_chunk::<8>() {
         None => Piece::Cut,
-        Some((number, rest)) => read_numbered(u64::from_be_bytes(*number), rest),
+        Some((number, rest)) => read_numbered(version, u64::from_be_bytes(*number), rest),
     }
 }
 
 // What a `Began` is whose bytes behind the order's number begin so.
-fn read_numbered(id: u64, bytes: &[u8]) -> Piece
-    ensures { result ≡ numbered_piece id bytes.now }
+fn read_numbered(version: Version, id: u64, bytes: &[u8]) -> Piece
+    ensures { result ≡ numbered_piece version id bytes.now }
+{
+    match version {
+        Version::One => read_timed(version, id, 0, bytes),
+        Version::Two => match bytes.split_first_chunk::<8>() {
+            None => Piece::Cut,
+            Some((moment, rest)) => read_timed(version, id, u64::from_be_bytes(*moment), rest),
+        },
+    }
+}
+
+// What a `Began` is whose bytes behind the order's number and moment begin so.
+fn read_timed(version: Version, id: u64, moment: u64, bytes: &[u8]) -> Piece
+    ensures { result ≡ timed_piece version id moment bytes.now }
 {
     match bytes {
         [] => Piece::Cut,
-        [unit, rest @ ..] if *unit <= 63 => read_counted(id, *unit, rest),
+        [unit, rest @ ..] if *unit <= 63 => read_counted(version, id, moment, *unit, rest),
         _ => Piece::Bad,
     }
 }
 
 // What a `Began` is whose bytes behind the unit begin so.
-fn read_counted(id: u64, unit: u8, bytes: &[u8]) -> Piece
+fn read_counted(version: Version, id: u64, moment: u64, unit: u8, bytes: &[u8]) -> Piece
     requires { unit ≤ 63 }
-    ensures { result ≡ counted_piece id unit bytes.now }
+    ensures { result ≡ counted_piece version id moment unit bytes.now }
 {
     let Some((count, rest)) = bytes.split_first() else {
         return Piece::Cut;
@@ -107,7 +136,10 @@ fn read_counted(id: u64, unit: u8, bytes: &[u8]) -> Piece
         Pairs::Cut => Piece::Cut,
         Pairs::Bad => Piece::Bad,
         Pairs::Whole(pairs) => match Order::from_pairs(id, unit, &pairs) {
-            Some(order) => Piece::Whole(Record::Began(order), 11 + 2 * count as usize),
+            Some(order) => {
+                let len = version.began_head_len() + 2 * count as usize;
+                Piece::Whole(Record::Began(order, moment), len)
+            }
             None => Piece::Bad,
         },
     }

@@ -1,6 +1,7 @@
 ghost use Rattle.std.specs.Prelude.{◌≡◌, ◌+◌, ◌*◌, ◌≤◌, ◌++◌, ◌∷◌, [], length};
 ghost use Rattle.arrayvec.specs.ArrayVec.{array_vec_len};
 ghost use Rattle.dali_journal.specs.declared.record.Record.TheVariants.{Began};
+ghost use Rattle.dali_journal.specs.declared.version.Version.TheVariants.{Two};
 ghost use Rattle.dali_journal.specs.Spelling.{spelling, order_spelling, pairs_spelling, code_number, code_name};
 ghost use Rattle.dali_journal.specs.Spelling.{NamesShortUnit, IsRecord};
 
@@ -9,7 +10,7 @@ use dali_bank::Order;
 use std::fmt;
 
 /// The most bytes of a record: those of an order with 115 updates.
-pub(crate) const MOST_BYTES: usize = 241;
+pub(crate) const MOST_BYTES: usize = 249;
 
 /// How an order ended (profile).
 #[derive(Clone, Copy, Debug, PartialEq, Eq, Hash)]
@@ -65,8 +66,8 @@ impl fmt::Display for Code {
 /// A record of the journal (profile). A unit is a short address, 0 to 63.
 #[derive(Drop)]
 pub enum Record {
-    /// The order was begun.
-    Began(Order),
+    /// The order was begun. It had been submitted at this moment, a number that the caller hands in.
+    Began(Order, u64),
     /// The order's unit may be write-enabled from here on.
     Opened(u8),
     /// The order ended so.
@@ -76,20 +77,20 @@ pub enum Record {
 }
 
 impl Record {
-    /// The record's bytes, 2 to 241 (profile): a letter, and then for `Began` (B, 42h) the order's
-    /// number in 8 bytes, the most significant first, its unit, the number of its updates and each
-    /// update's location and byte; for `Opened` (O, 4Fh) and `Closed` (C, 43h) the unit; for `Ended`
-    /// (E, 45h) the code's number.
+    /// The record's bytes in version 2, 2 to 249 (profile): a letter, and then for `Began` (B, 42h) the order's
+    /// number and the moment, each in 8 bytes, the most significant first, its unit, the number of its
+    /// updates and each update's location and byte; for `Opened` (O, 4Fh) and `Closed` (C, 43h) the unit;
+    /// for `Ended` (E, 45h) the code's number.
     ///
     /// A record that names no unit over 63 has its numbers in their ranges: the types tell the rest.
     pub fn bytes(&self) -> ArrayVec<u8, MOST_BYTES>
-        ensures spelled { result.items ≡ spelling self.now }
-        ensures in_range { NamesShortUnit self.now → IsRecord self.now }
+        ensures spelled { result.items ≡ spelling Two self.now }
+        ensures in_range { NamesShortUnit self.now → IsRecord Two self.now }
     {
         match self {
-            Record::Began(order) => {
-                let bytes = began_bytes(order);
-                tell_range(order, &bytes);
+            Record::Began(order, moment) => {
+                let bytes = began_bytes(order, *moment);
+                tell_range(order, *moment, &bytes);
                 bytes
             }
             Record::Opened(unit) => two_bytes(b'O', *unit),
@@ -110,13 +111,14 @@ fn two_bytes(letter: u8, byte: u8) -> ArrayVec<u8, MOST_BYTES>
 }
 
 // The bytes of a record that begins an order.
-fn began_bytes(order: &Order) -> ArrayVec<u8, MOST_BYTES>
-    ensures { result.items ≡ 0x42 ∷ order_spelling order.now }
+fn began_bytes(order: &Order, moment: u64) -> ArrayVec<u8, MOST_BYTES>
+    ensures { result.items ≡ 0x42 ∷ order_spelling Two order.now moment }
 {
     let updates = order.updates();
     let mut bytes = ArrayVec::new();
     bytes.push(b'B');
     let _ = bytes.try_extend_from_slice(&order.id().to_be_bytes());
+    let _ = bytes.try_extend_from_slice(&moment.to_be_bytes());
     bytes.push(order.unit());
     bytes.push(updates.len() as u8);
     push_pairs(&mut bytes, updates);
@@ -124,9 +126,9 @@ fn began_bytes(order: &Order) -> ArrayVec<u8, MOST_BYTES>
 }
 
 // The numbers of an order that these bytes spell are in their ranges. It does nothing.
-fn tell_range(order: &Order, bytes: &[u8])
-    requires { bytes.now ≡ spelling (Began order.now) }
-    ensures { IsRecord (Began order.now) }
+fn tell_range(order: &Order, moment: u64, bytes: &[u8])
+    requires { bytes.now ≡ spelling Two (Began order.now moment) }
+    ensures { IsRecord Two (Began order.now moment) }
 {
     let _id = order.id();
     let _unit = order.unit();
@@ -135,7 +137,7 @@ fn tell_range(order: &Order, bytes: &[u8])
 
 // Puts each location and its byte at the end.
 fn push_pairs(bytes: &mut ArrayVec<u8, MOST_BYTES>, pairs: &[(u8, u8)])
-    requires { array_vec_len bytes.old + 2 * length pairs.now ≤ 241 }
+    requires { array_vec_len bytes.old + 2 * length pairs.now ≤ 249 }
     ensures { bytes.new.items ≡ bytes.old.items ++ pairs_spelling pairs.now }
 {
     for &(location, byte) in pairs {

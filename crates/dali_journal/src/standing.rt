@@ -36,7 +36,7 @@ impl Standing {
         ensures { IsTrue result ↔ Allows self.now entry.now }
     {
         match (self, entry) {
-            (Standing::Idle, Record::Began(_)) => true,
+            (Standing::Idle, Record::Began(_, _)) => true,
             (Standing::Began(order), Record::Opened(unit)) => *unit == order.unit(),
             (Standing::Began(_), Record::Ended(Code::Short | Code::Format | Code::Silent)) => true,
             (Standing::Opened(_), Record::Ended(Code::Done | Code::Doubt | Code::DoubtOpen)) => {
@@ -53,7 +53,7 @@ impl Standing {
         ensures short { HasShortUnit result }
     {
         match (self, entry) {
-            (_, Record::Began(order)) => Standing::Began(order.copy()),
+            (_, Record::Began(order, _)) => Standing::Began(order.copy()),
             (Standing::Began(order), Record::Opened(_)) => Standing::Opened(order),
             (Standing::Opened(order), Record::Ended(Code::DoubtOpen)) => Standing::Left(
                 order.unit(),

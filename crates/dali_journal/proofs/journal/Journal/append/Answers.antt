@@ -1,4 +1,5 @@
 use Rattle.std.proofs.Common.{ℕ, ◌++◌, ◌∷◌, sym, ap, ◌∙◌, subst, arith, List, length}
+use Rattle.dali_journal.specs.declared.version.Version.TheVariants.{Two}
 use Rattle.dali_journal.specs.Sentence.{standing_of, Allows}
 use Rattle.dali_journal.specs.Decoding.{records_in}
 use Rattle.dali_journal.specs.JournalState.{JournalState, MayBegin}
@@ -38,7 +39,7 @@ invariant_of-self c =
 pub returns-clause-records : goal.returns-clause-records
 returns-clause-records c =
     let inside = c.self.inside in
-    ap records_in (c.put_in_room.ensures.items
+    ap (records_in Two) (c.put_in_room.ensures.items
     ∙ ap (λ (more : List ℕ). inside.bytes.items ++ more) (c.deref.ensures.0 ∙ c.bytes-bytes.ensures.spelled))
     ∙ records_more inside.bytes.items inside.standing inside.orders inside.limit _ inside.index.entries c.args.entry
     c.self.invariant

@@ -3,6 +3,7 @@ use Rattle.std.specs.List.{list_any}
 use Rattle.std.specs.Map.{keys_of}
 use Rattle.dali_journal.specs.declared.record.Record.TheVariants.{Began}
 use Rattle.dali_journal.specs.declared.standing.Standing.{Standing}
+use Rattle.dali_journal.specs.declared.version.Version.TheVariants.{Two}
 use Rattle.dali_journal.specs.Sentence.{standing_of}
 use Rattle.dali_journal.specs.Spelling.{spelling}
 use Rattle.dali_journal.specs.JournalState.{JournalState, bytes_due}
@@ -18,7 +19,7 @@ returns-then-capacity-len c =
     let standing = c.self.invariant.standing_is ∙ ap (λ (j : JournalState). standing_of j.records) c.self.view_is in
     let due =
     c.bytes_wanted.ensures
-    ∙ ap (λ (st : Standing). bytes_due st + length (spelling (Began c.args.order.now)) + 6) standing in
+    ∙ ap (λ (st : Standing). bytes_due st + length (spelling Two (Began c.args.order.now 0)) + 6) standing in
     let room = ap (λ (j : JournalState). j.room) c.self.view_is in
     let enough = c.if-capacity-len.true in
     let capacity = c.capacity.ensures in

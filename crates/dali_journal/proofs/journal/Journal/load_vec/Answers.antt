@@ -1,12 +1,9 @@
-use Rattle.std.proofs.Common.{◌≡◌, subst}
-use Rattle.std.specs.Prelude.{IfErr}
-use Rattle.dali_journal.specs.declared.fault.JournalFault.{JournalFault}
+use Rattle.std.proofs.Common.{refl, subst}
+use Rattle.dali_journal.specs.Loading.{HasBrokenHeader}
 use Rattle.dali_journal.specs.declared.fault.JournalFault.TheVariants as faults
-use Rattle.dali_journal.specs.Loading.{IsTornWithin}
+use Rattle.dali_journal.proofs.TornLemmas.{torn_memory}
 use Rattle.dali_journal.proofs.journal.Journal.load_vec.Goals as goal
 
-pub returns-in-Ok-clause-torn : goal.returns-in-Ok-clause-torn
-returns-in-Ok-clause-torn c =
-    subst (λ n.
-    IfErr c.filled.result (λ (fault : JournalFault). IsTornWithin n c.args.bytes.items → fault ≡ faults.NoMemory))
-    c.in-Ok.ensures.ok.1 c.filled.ensures.torn
+pub returns-in-None-clause-torn : goal.returns-in-None-clause-torn
+returns-in-None-clause-torn c =
+    torn_memory c.args.limit c.args.bytes.items faults.Header (c.in-Ok.ensures.accepted, subst HasBrokenHeader c.deref.ensures.value (c.in-None.ensures.none refl))

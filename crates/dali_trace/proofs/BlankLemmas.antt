@@ -125,8 +125,8 @@ write_comes past gear location byte old there chain =
 begun_comes : Comes begun blank_unit
 begun_comes =
     let first : Comes [] blank_unit = record { states = []; steps = refl } in
-    besides taken blank_unit (Kept (Began first_order))
-    (besides asked blank_unit (Answered 1 replies.Taken) (besides [] blank_unit (Asked first_order) first refl) refl)
+    besides taken blank_unit (Kept (Began first_order 7))
+    (besides asked blank_unit (Answered 1 replies.Taken) (besides [] blank_unit (Asked first_order 7) first refl) refl)
     refl
 
 abbrev unlocked_gear : Gear
@@ -193,8 +193,8 @@ whole_comes : Comes first_carried_out last_gear
 whole_comes =
     let ended_comes = besides all_read_back last_gear (Kept (Ended Done)) read_back_comes refl in
     let said_comes = besides ended last_gear (Answered 1 (replies.Kept Done)) ended_comes refl in
-    let asked_comes = besides said last_gear (Asked first_order) said_comes refl in
-    besides (Asked first_order ∷ said) last_gear (Answered 1 (replies.Kept Done)) asked_comes refl
+    let asked_comes = besides said last_gear (Asked first_order 12) said_comes refl in
+    besides (Asked first_order 12 ∷ said) last_gear (Answered 1 (replies.Kept Done)) asked_comes refl
 
 -- it begins with a world that fits, in which no unit is enabled
 fits : Fits (alone blank_unit) empty.records [] (alone blank_unit)

@@ -49,7 +49,7 @@ left_legal = (
 pub third_begun_legal : Legal empty third_begun
 third_begun_legal = (
   (((tt, omega arith), tt), (refl, (tt, refl, refl))),
-  record { whole = ((tt, tt, refl), omega arith); due = refl; grounds = tt },
+  record { whole = ((tt, tt, refl), omega arith); due = (refl, refl); grounds = tt },
 )
 
 pub format_legal : Legal empty format_ended

@@ -92,7 +92,7 @@ second_begun_legal = (
   ),
   record {
     whole = ((((((tt, tt, refl), refl, tt), tt, tt), refl, tt), tt, refl), omega arith);
-    due = refl;
+    due = (refl, refl);
     grounds = tt;
   },
 )

@@ -2,6 +2,7 @@
 use Rattle.std.proofs.Common.{◌≡◌, ℕ, ◌<◌, ◌≤◌, inl, inr, refl, sym, subst, ◌∙◌, true, false, List, [], ◌∷◌, length, arith}
 use Rattle.dali_journal.specs.declared.record.Record.{Record}
 use Rattle.dali_journal.specs.declared.record.Record.TheVariants.{Began}
+use Rattle.dali_journal.specs.declared.version.Version.TheVariants.{Two}
 use Rattle.dali_journal.specs.Spelling.{spelling}
 use Rattle.dali_trace.specs.declared.happening.Happening.{Happening}
 use Rattle.dali_trace.specs.declared.happening.Happening.TheVariants.{Asked, Answered, Kept, Stopped, Powered}
@@ -11,22 +12,22 @@ use Rattle.dali_write.proofs.NextLemmas.{none_ended}
 use Rattle.dali_trace.specs.Parts.{IsKeptNext, AreParts}
 use Rattle.dali_trace.specs.Worked.{empty, first_order, asked, taken, begun}
 
--- a record of 23 bytes isn't kept where 22 reach the journal
+-- a record of 31 bytes isn't kept where 30 reach the journal
 kept_is : (entry : Record) (before : List Happening) → Stopped ∷ begun ≡ Stopped ∷ Kept entry ∷ before
-    → Began first_order ≡ entry
+    → Began first_order 7 ≡ entry
 kept_is entry before e = cc
 
 stopped_is : (before : List Happening) → Stopped ∷ begun ≡ Stopped ∷ before → before ≡ begun
 stopped_is before e = cc
 
-pub not_cut : AreParts empty (Stop 22 ∷ Submit first_order ∷ []) (Stopped ∷ begun) → ⊥
+pub not_cut : AreParts empty (Stop 30 ∷ Submit first_order 7 ∷ []) (Stopped ∷ begun) → ⊥
 not_cut (before, inl (stopped, none), (first, (reply, after), start)) =
     let is : before ≡ begun = stopped_is before stopped in
-    let never : begun ≡ Answered 1 reply ∷ Asked first_order ∷ first = sym is ∙ after in cc
+    let never : begun ≡ Answered 1 reply ∷ Asked first_order 7 ∷ first = sym is ∙ after in cc
 not_cut (before, inr (entry, next, few, stopped), rest) =
-    let is : Began first_order ≡ entry = kept_is entry before stopped in
-    let long : length (spelling (Began first_order)) ≤ 22 =
-    subst (λ (r : Record). length (spelling r) ≤ 22) (sym is) few in
+    let is : Began first_order 7 ≡ entry = kept_is entry before stopped in
+    let long : length (spelling Two (Began first_order 7)) ≤ 30 =
+    subst (λ (r : Record). length (spelling Two r) ≤ 30) (sym is) few in
     omega (arith, long)
 
 -- where nothing is at work a step adds nothing
@@ -39,12 +40,12 @@ not_idle (before, inr (idle, same), none) = let never : asked ≡ [] = same ∙ 
 pub none_begun : (entry : Record) → IsKeptNext empty begun entry → ⊥
 none_begun entry (verdict, asked, ends) = none_ended 5 _ _ verdict asked
 
--- a record of 23 bytes is kept where 23 reach the journal
-pub not_lost : AreParts empty (Stop 23 ∷ Submit first_order ∷ []) (Stopped ∷ taken) → ⊥
+-- a record of 31 bytes is kept where 31 reach the journal
+pub not_lost : AreParts empty (Stop 31 ∷ Submit first_order 7 ∷ []) (Stopped ∷ taken) → ⊥
 not_lost (before, inl (stopped, none), rest) =
     let is : before ≡ taken = stopped_at before stopped in
-    let next : IsKeptNext empty before (Began first_order) = rw is refl in
-    let more : 23 < length (spelling (Began first_order)) = none (Began first_order) next in
+    let next : IsKeptNext empty before (Began first_order 7) = rw is refl in
+    let more : 31 < length (spelling Two (Began first_order 7)) = none (Began first_order 7) next in
     omega (arith, more)
   where
     stopped_at : (before : List Happening) → Stopped ∷ taken ≡ Stopped ∷ before → before ≡ taken

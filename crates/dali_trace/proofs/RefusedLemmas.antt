@@ -17,8 +17,9 @@ use Rattle.dali_trace.specs.declared.happening.Reply.TheVariants as replies
 use Rattle.dali_trace.specs.declared.happening.Happening.{Happening}
 use Rattle.dali_trace.specs.declared.happening.Happening.TheVariants.{Answered, Sent, Powered}
 use Rattle.dali_trace.specs.Trace.{sent_of, sent_since_taken, waiting, powered_of}
+use Rattle.dali_trace.specs.Replies.{IsReply}
 use Rattle.dali_trace.specs.Legal.{MayPut, MayKeep, Legal}
-use Rattle.dali_trace.specs.Worked.{read_at, write_at, second_taken, empty, left_open, first_order, locked, unguarded}
+use Rattle.dali_trace.specs.Worked.{read_at, write_at, taken, said, second_taken, empty, left_open, first_order, locked, unguarded}
 use Rattle.dali_trace.specs.Worked.{bank_not_asked, written_twice, another_byte, idle_frame, frame_to_another_unit}
 use Rattle.dali_trace.specs.Worked.{enabled_before_opened, opened_unread, done_unread, done_with_the_lock_unread}
 use Rattle.dali_trace.specs.Worked.{begun_twice, busy_at_once, reply_to_another, said_before_ended, begun_while_left}
@@ -335,11 +336,19 @@ not_elsewhere_in_a_left_unit legal =
 pub not_with_none_waiting : Legal left_open (Sent (Dtr1 1) None ∷ []) → ⊥
 not_with_none_waiting legal = let e = legal.1.1.1 in cc
 
-pub not_begun_past_the_limit : MayKeep one_done_of_one second_taken (Began second_order) → ⊥
+pub not_begun_past_the_limit : MayKeep one_done_of_one second_taken (Began second_order 9) → ⊥
 not_begun_past_the_limit may = omega (arith, may.whole.1)
 
-pub not_started_past_the_limit : Legal (record { records = Began first_order ∷ []; limit = 0 }) [] → ⊥
+pub not_started_past_the_limit : Legal (record { records = Began first_order 7 ∷ []; limit = 0 }) [] → ⊥
 not_started_past_the_limit legal = omega (arith, legal.1)
+
+-- moments
+
+pub not_begun_at_another_moment : MayKeep empty taken (Began first_order 8) → ⊥
+not_begun_at_another_moment may = omega (arith, may.due.1)
+
+pub not_reused_by_its_moment : IsReply empty said first_order replies.IdReused → ⊥
+not_reused_by_its_moment reply = reply refl
 
 -- what is still to be said
 

@@ -150,7 +150,7 @@ taken_legal : Legal empty taken
 taken_legal = (((tt, omega arith), tt), (refl, (tt, refl, refl)))
 
 pub begun_legal : Legal empty begun
-begun_legal = (taken_legal, record { whole = ((tt, tt, refl), omega arith); due = refl; grounds = tt })
+begun_legal = (taken_legal, record { whole = ((tt, tt, refl), omega arith); due = (refl, refl); grounds = tt })
 
 pub measured_legal : Legal empty measured
 measured_legal = read_legal empty begun 5 0x00 0x77 begun_legal (5, refl) refl

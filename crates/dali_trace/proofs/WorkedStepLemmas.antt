@@ -27,10 +27,10 @@ none_stops : (n : ℕ) → NoneStops (replicate n Step)
 none_stops zero = tt
 none_stops (suc n) = none_stops n
 
-pub steps_counted : steps_in (Step ∷ Submit second_order ∷ Stop 0 ∷ Step ∷ []) ≡ 2
+pub steps_counted : steps_in (Step ∷ Submit second_order 9 ∷ Stop 0 ∷ Step ∷ []) ≡ 2
 steps_counted = refl
 
-pub submits_are_none : NoneStops (Step ∷ Submit second_order ∷ Step ∷ [])
+pub submits_are_none : NoneStops (Step ∷ Submit second_order 9 ∷ Step ∷ [])
 submits_are_none = tt
 
 pub a_stop_is_one : NoneStops (Step ∷ Stop 0 ∷ Step ∷ []) → ⊥
@@ -104,19 +104,20 @@ pub not_said_yet : IsSaid empty first_order begun begun → ⊥
 not_said_yet is_said = not_added begun empty is_said
 
 -- no reply is due where it is said
-no_reply : (start : Start) (since before : List Happening) (order : Contents) → since ≡ Asked order ∷ []
+no_reply : (start : Start) (since before : List Happening) (order : Contents) (moment : ℕ)
+    → since ≡ Asked order moment ∷ []
     → IsFinished (since ++ before) → ⊥
-no_reply start since before order is finished = subst (λ (t : List Happening). IsFinished (t ++ before)) is finished
+no_reply start since before order moment is finished = subst (λ (t : List Happening). IsFinished (t ++ before)) is finished
 
 pub not_by_a_reply : IsSaid empty first_order begun repeated → ⊥
 not_by_a_reply is_said =
-    by (two_added is_said.later is_said.since begun (Answered 1 is_said.reply) (Asked first_order)
+    by (two_added is_said.later is_said.since begun (Answered 1 is_said.reply) (Asked first_order 7)
     (Answered 1 replies.Busy) is_said.parts)
   where
-    by : ((is_said.since ≡ Asked first_order ∷ []) × (Answered 1 replies.Busy ≡ Answered 1 is_said.reply))
-        ⊎ (Asked first_order ≡ Answered 1 is_said.reply)
+    by : ((is_said.since ≡ Asked first_order 7 ∷ []) × (Answered 1 replies.Busy ≡ Answered 1 is_said.reply))
+        ⊎ (Asked first_order 7 ≡ Answered 1 is_said.reply)
         → ⊥
-    by (inl at) = no_reply empty is_said.since begun first_order at.0 is_said.finished
+    by (inl at) = no_reply empty is_said.since begun first_order 7 at.0 is_said.finished
     by (inr never) = cc
 
 pub not_by_another : IsSaid empty first_order begun another_said → ⊥

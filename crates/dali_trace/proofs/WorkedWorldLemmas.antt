@@ -133,7 +133,7 @@ after = world_with false 0x77 0xFF 0x00 0xAB
 
 -- the order's records, the newest first
 abbrev records_begun : List Record
-records_begun = Began first_order ∷ []
+records_begun = Began first_order 7 ∷ []
 
 abbrev records_done : List Record
 records_done = Ended Done ∷ Opened 5 ∷ records_begun
@@ -209,7 +209,7 @@ pub not_enabled_when_done : OnlyNamed records_done enabled_world → ⊥
 not_enabled_when_done only = omega (arith, ap (λ (named : Option ℕ). or_none named) (only 5 refl))
 
 pub not_enabled_for_another_unit : OnlyNamed
-    (Opened 6 ∷ Began (record { id = 2; unit = 6; updates = [] }) ∷ []) enabled_world
+    (Opened 6 ∷ Began (record { id = 2; unit = 6; updates = [] }) 9 ∷ []) enabled_world
     → ⊥
 not_enabled_for_another_unit only = omega (arith, ap (λ (named : Option ℕ). or_none named) (only 5 refl))
 

@@ -41,7 +41,7 @@ Asks (standings.Left unit) told ask = Wants unit (close verdicts.Closed verdicts
 -- the happening is what the plan asks for. An order is begun, and an end is said, without any frame
 abbrev pub IsPlanned : Start → List Happening → Happening → Type 0
 IsPlanned start past (Sent frame answer) = Asks (standing_at start past) (told_in past) (asks.Send frame)
-IsPlanned start past (Kept (Began order)) = Unit {0}
+IsPlanned start past (Kept (Began order moment)) = Unit {0}
 IsPlanned start past (Kept entry) =
     (verdict : Verdict) × Asks (standing_at start past) (told_in past) (asks.Ended verdict)
     × EndsIn (standing_at start past) verdict entry

@@ -18,7 +18,8 @@ use Rattle.dali_trace.specs.declared.happening.Reply.{Reply}
 use Rattle.dali_trace.specs.declared.happening.Reply.TheVariants as replies
 use Rattle.dali_trace.specs.declared.happening.Happening.{Happening}
 use Rattle.dali_trace.specs.declared.happening.Happening.TheVariants.{Asked, Answered, Sent, Kept, Stopped, Powered}
-use Rattle.dali_trace.specs.Trace.{Start, records_of, standing_at, sent_of, sent_since_taken, waiting, has_ended}
+use Rattle.dali_trace.specs.Trace.{Start, records_of, standing_at, sent_of, sent_since_taken, waiting}
+use Rattle.dali_trace.specs.Trace.{waiting_since, has_ended}
 use Rattle.dali_trace.specs.Replies.{IsReply}
 use Rattle.dali_trace.specs.Grounds.{Grounds}
 
@@ -62,10 +63,10 @@ MaySend past stands other = ⊥
 
 -- Records
 
--- an order is begun that waits, and a left unit is closed for one that waits, after a checked read of it since that
+-- an order is begun that waits, with the moment at which it was submitted, and a left unit is closed for one that waits, after a checked read of it since that
 -- was taken
 abbrev pub IsDue : List Happening → Record → Type 0
-IsDue past (Began order) = waiting past ≡ Some order
+IsDue past (Began order moment) = (waiting past ≡ Some order) × (moment ≡ waiting_since past)
 IsDue past (Closed unit) = IsSome (waiting past) × HasRead unit (sent_since_taken past)
 IsDue past other = Unit {0}
 
@@ -101,7 +102,7 @@ MaySay start past id other = ⊥
 
 -- this may happen where no reply is due
 abbrev pub MayHappen : Start → List Happening → Happening → Type 0
-MayHappen start past (Asked order) = Unit {0}
+MayHappen start past (Asked order moment) = Unit {0}
 MayHappen start past (Answered id reply) = MaySay start past id reply
 MayHappen start past (Sent frame answer) = MaySend past (standing_at start past) frame
 MayHappen start past (Kept entry) = MayKeep start past entry
@@ -115,7 +116,7 @@ Replies start past order other = ⊥
 
 -- this may happen next
 abbrev pub MayFollow : Start → List Happening → Happening → Type 0
-MayFollow start (Asked order ∷ past) next = Replies start past order next
+MayFollow start (Asked order moment ∷ past) next = Replies start past order next
 MayFollow start past next = MayHappen start past next
 
 -- the start is a journal within its limit, and each happening was one that might follow those before it
@@ -125,5 +126,5 @@ Legal start (next ∷ past) = Legal start past × MayFollow start past next
 
 -- no reply is due
 abbrev pub IsFinished : List Happening → Type 0
-IsFinished (Asked order ∷ past) = ⊥
+IsFinished (Asked order moment ∷ past) = ⊥
 IsFinished past = Unit {0}

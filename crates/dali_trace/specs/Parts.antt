@@ -1,10 +1,11 @@
 -- A trace is the joined parts of its events, in their order. Events, as happenings, are listed newest first.
-use Rattle.std.specs.Prelude.{◌≡◌, ◌<◌, ◌≤◌, ◌⊎◌, true, false, List, [], ◌∷◌, length, Option, Some}
+use Rattle.std.specs.Prelude.{◌≡◌, ◌<◌, ◌≤◌, ◌⊎◌, true, false, List, [], ◌∷◌, length, Option, Some, ℕ}
 use Rattle.dali_bank.specs.Order.{Contents}
 use Rattle.dali_journal.specs.declared.record.Record.{Record}
 use Rattle.dali_journal.specs.declared.record.Record.TheVariants.{Began}
 use Rattle.dali_journal.specs.declared.standing.Standing.{Standing}
 use Rattle.dali_journal.specs.declared.standing.Standing.TheVariants as standings
+use Rattle.dali_journal.specs.declared.version.Version.TheVariants.{Two}
 use Rattle.dali_journal.specs.Spelling.{spelling}
 use Rattle.dali_write.specs.Exchanges.{Exchange}
 use Rattle.dali_write.specs.declared.ask.Ask.TheVariants as asks
@@ -14,7 +15,7 @@ use Rattle.dali_trace.specs.declared.happening.Event.TheVariants.{Submit, Step, 
 use Rattle.dali_trace.specs.declared.happening.Reply.{Reply}
 use Rattle.dali_trace.specs.declared.happening.Happening.{Happening}
 use Rattle.dali_trace.specs.declared.happening.Happening.TheVariants.{Asked, Answered, Sent, Kept, Stopped, Powered}
-use Rattle.dali_trace.specs.Trace.{Start, standing_at, waiting, is_busy}
+use Rattle.dali_trace.specs.Trace.{Start, standing_at, waiting, waiting_since, is_busy}
 use Rattle.dali_trace.specs.Grounds.{EndsIn}
 use Rattle.dali_trace.specs.ByPlan.{told_in, Asks}
 
@@ -25,35 +26,37 @@ IsWork (Sent frame answer) = Unit {0}
 IsWork (Kept entry) = Unit {0}
 IsWork other = ⊥
 
--- where the records stand so, this order waits and the session at hand was told these, this record is to be kept
--- next: the order is begun, or the session has ended, and it is the one that follows its end
-abbrev pub NextRecord : Standing → Option Contents → List Exchange → Record → Type 0
-NextRecord standings.Idle (Some order) told entry = entry ≡ Began order
-NextRecord (standings.Left unit) (Some order) told entry =
+-- where the records stand so, this order waits since that moment and the session at hand was told these, this record
+-- is to be kept next: the order is begun, or the session has ended, and it is the one that follows its end
+abbrev pub NextRecord : Standing → Option Contents → ℕ → List Exchange → Record → Type 0
+NextRecord standings.Idle (Some order) since told entry = entry ≡ Began order since
+NextRecord (standings.Left unit) (Some order) since told entry =
     (verdict : Verdict) × Asks (standings.Left unit) told (asks.Ended verdict)
     × EndsIn (standings.Left unit) verdict entry
-NextRecord (standings.Began order) waits told entry =
+NextRecord (standings.Began order) waits since told entry =
     (verdict : Verdict) × Asks (standings.Began order) told (asks.Ended verdict)
     × EndsIn (standings.Began order) verdict entry
-NextRecord (standings.Opened order) waits told entry =
+NextRecord (standings.Opened order) waits since told entry =
     (verdict : Verdict) × Asks (standings.Opened order) told (asks.Ended verdict)
     × EndsIn (standings.Opened order) verdict entry
-NextRecord stands waits told entry = ⊥
+NextRecord stands waits since told entry = ⊥
 
 abbrev pub IsKeptNext : Start → List Happening → Record → Type 0
-IsKeptNext start past entry = NextRecord (standing_at start past) (waiting past) (told_in past) entry
+IsKeptNext start past entry =
+    NextRecord (standing_at start past) (waiting past) (waiting_since past) (told_in past) entry
 
 -- The part of one event, from the trace before it to the trace after it. A Submit adds the order and its reply. A
 -- Step adds one piece of work where the trace is busy, else nothing. A Stop adds Stopped, and before it the record
 -- that is to be kept next exactly where there is one, and all its bytes reached the journal. A Power adds Powered.
 abbrev pub Part : Start → Event → List Happening → List Happening → Type 0
-Part start (Submit order) before after = (reply : Reply) × (after ≡ Answered order.id reply ∷ Asked order ∷ before)
+Part start (Submit order moment) before after =
+    (reply : Reply) × (after ≡ Answered order.id reply ∷ Asked order moment ∷ before)
 Part start Step before after =
     ((is_busy start before ≡ true) × ((work : Happening) × IsWork work × (after ≡ work ∷ before)))
     ⊎ ((is_busy start before ≡ false) × (after ≡ before))
 Part start (Stop bytes) before after =
-    ((after ≡ Stopped ∷ before) × ((entry : Record) → IsKeptNext start before entry → bytes < length (spelling entry)))
-    ⊎ ((entry : Record) × IsKeptNext start before entry × (length (spelling entry) ≤ bytes)
+    ((after ≡ Stopped ∷ before) × ((entry : Record) → IsKeptNext start before entry → bytes < length (spelling Two entry)))
+    ⊎ ((entry : Record) × IsKeptNext start before entry × (length (spelling Two entry) ≤ bytes)
     × (after ≡ Stopped ∷ Kept entry ∷ before))
 Part start (Power address) before after = after ≡ Powered address ∷ before
 

@@ -5,6 +5,7 @@ use Rattle.dali_bus.specs.World.{World}
 use Rattle.dali_bus.specs.Carry.{BusEvent}
 use Rattle.dali_bus.specs.Chain.{IsChain, AtEachMoment}
 use Rattle.dali_bus.specs.Unenabled.{NoneEnabled}
+use Rattle.dali_journal.specs.declared.version.Version.TheVariants.{Two}
 use Rattle.dali_journal.specs.Spelling.{journal_spelling}
 use Rattle.dali_trace.specs.declared.happening.Event.{Event}
 use Rattle.dali_trace.specs.declared.happening.Happening.{Happening}
@@ -49,7 +50,7 @@ SendsAllProper (newest ∷ past) = SendsProper newest × SendsAllProper past
 
 -- an order that was asked for holds what an order may hold
 abbrev pub AsksProper : Happening → Type 0
-AsksProper (Asked order) = AreUpdates order.updates
+AsksProper (Asked order moment) = AreUpdates order.updates
 AsksProper other = Unit {0}
 
 -- and so does each of a trace
@@ -76,7 +77,7 @@ pub record IsRun {S : Type 0} (world : S → World) (step : S → BusEvent → S
   pub parts : AreParts (fresh limit) (reverse all) (reverse trace)
   -- the journal's bytes are those of the records that were kept, and its orders are the taken ones (which follows from
   -- the trace being legal, by the law the_taken_orders_are_kept; it stands here for who reads of a run alone)
-  pub journal_is : journal ≡ journal_spelling (records_of (fresh limit) (reverse trace))
+  pub journal_is : journal ≡ journal_spelling Two (records_of (fresh limit) (reverse trace))
   pub taken : begun_orders (records_of (fresh limit) (reverse trace)) ≡ taken_orders (reverse trace)
   pub leads : LeadsRight world step limit first (reverse trace) last
 

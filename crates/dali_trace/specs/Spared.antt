@@ -89,7 +89,7 @@ NoneFixed bank (update ∷ updates) = (list_any (λ fixed. fixed == update.0) ba
 -- keep their power, no fate refuses and little is lost: how it is to end, if none of its locations is fixed where they
 -- are to be written; and the misses are no more than the losses.
 abbrev pub IsSpared : Start → List Happening → SimState → List SimState → Type 0
-IsSpared start (Answered id reply ∷ Asked order ∷ past) last states = Unit {0}
+IsSpared start (Answered id reply ∷ Asked order moment ∷ past) last states = Unit {0}
 IsSpared start (Answered id reply ∷ past) last (state ∷ states) =
     (order : Contents) (bank : BankState) → order_at_hand start past ≡ Some order
     → is_at_work (stood_at start past) ≡ false

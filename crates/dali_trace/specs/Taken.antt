@@ -18,7 +18,7 @@ without (Some waits) (newest ∷ older) = older
 -- one order for each reply Taken, without those that were said Blocked and those that a stop found waiting
 abbrev pub taken_or_waiting : List Happening → List Contents
 taken_or_waiting [] = []
-taken_or_waiting (Answered id replies.Taken ∷ Asked order ∷ past) = order ∷ taken_or_waiting past
+taken_or_waiting (Answered id replies.Taken ∷ Asked order moment ∷ past) = order ∷ taken_or_waiting past
 taken_or_waiting (Answered id (replies.Blocked unit) ∷ past) = without (waiting past) (taken_or_waiting past)
 taken_or_waiting (Stopped ∷ past) = without (waiting past) (taken_or_waiting past)
 taken_or_waiting (other ∷ past) = taken_or_waiting past

@@ -53,23 +53,23 @@ powered_of before (other ∷ past) = powered_of before past
 pub data Course : Type 0 where
   -- nothing
   Quiet : Course
-  -- how the order ends that was taken and hasn't begun
-  Waiting : (order : Contents) → Course
+  -- how the order ends that was taken at that moment and hasn't begun
+  Waiting : (order : Contents) → (moment : ℕ) → Course
   -- how the order ends that was taken and has begun
   Working : Course
   -- how the order ended whose end was just kept
   JustEnded : Course
 
 -- an order that gets the reply Taken waits; another reply changes nothing
-abbrev pub replied : Contents → Reply → Course → Course
-replied order replies.Taken before = Waiting order
-replied order reply before = before
+abbrev pub replied : Contents → ℕ → Reply → Course → Course
+replied order moment replies.Taken before = Waiting order moment
+replied order moment reply before = before
 
 -- the course after another happening; an answer that isn't a reply is a saying: it tells of an order that was taken
 -- before
 abbrev pub next_course : Course → Happening → Course
 next_course before (Answered id reply) = Quiet
-next_course before (Kept (Began order)) = Working
+next_course before (Kept (Began order moment)) = Working
 next_course before (Kept (Ended code)) = JustEnded
 next_course before Stopped = Quiet
 next_course before other = before
@@ -77,16 +77,24 @@ next_course before other = before
 -- the course of a trace; an answer straight after an order is its reply
 abbrev pub course_of : List Happening → Course
 course_of [] = Quiet
-course_of (Answered id reply ∷ Asked order ∷ past) = replied order reply (course_of past)
+course_of (Answered id reply ∷ Asked order moment ∷ past) = replied order moment reply (course_of past)
 course_of (newest ∷ past) = next_course (course_of past) newest
 
 -- the waiting order: it was taken and hasn't begun, with no saying and no stop since
 abbrev pub waits_in : Course → Option Contents
-waits_in (Waiting order) = Some order
+waits_in (Waiting order moment) = Some order
 waits_in other = None
 
 abbrev pub waiting : List Happening → Option Contents
 waiting past = waits_in (course_of past)
+
+-- the moment at which the waiting order was submitted
+abbrev pub since_in : Course → ℕ
+since_in (Waiting order moment) = moment
+since_in other = 0
+
+abbrev pub waiting_since : List Happening → ℕ
+waiting_since past = since_in (course_of past)
 
 -- since the last stop an order was taken or has ended, with no saying since
 abbrev pub unsaid_in : Course → Bool

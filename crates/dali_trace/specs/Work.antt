@@ -90,7 +90,7 @@ IsWithinLimit start past =
 -- What was said last of an order that was taken was earned by the frames from its start on: how it ended, or that the
 -- left unit's lock byte wasn't told.
 abbrev pub IsSaidSo : Start → List Happening → Type 0
-IsSaidSo start (Answered id reply ∷ Asked order ∷ past) = Unit {0}
+IsSaidSo start (Answered id reply ∷ Asked order moment ∷ past) = Unit {0}
 IsSaidSo start (Answered id (replies.Kept code) ∷ past) =
     (order : Contents) × (order.id ≡ id) × (order_at_hand start past ≡ Some order)
     × IsEarned (stood_at start past) order code (sent_since_taken past)

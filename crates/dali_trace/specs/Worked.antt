@@ -58,13 +58,13 @@ empty = record { records = []; limit = 10 }
 
 -- the trace, piece by piece
 abbrev pub asked : List Happening
-asked = Asked first_order ∷ []
+asked = Asked first_order 7 ∷ []
 
 abbrev pub taken : List Happening
 taken = Answered 1 replies.Taken ∷ asked
 
 abbrev pub begun : List Happening
-begun = Kept (Began first_order) ∷ taken
+begun = Kept (Began first_order 7) ∷ taken
 
 abbrev pub measured : List Happening
 measured = read_at 5 0x00 0x77 begun
@@ -95,7 +95,7 @@ said = Answered 1 (replies.Kept Done) ∷ ended
 
 -- with the order sent again
 abbrev pub first_carried_out : List Happening
-first_carried_out = Answered 1 (replies.Kept Done) ∷ Asked first_order ∷ said
+first_carried_out = Answered 1 (replies.Kept Done) ∷ Asked first_order 12 ∷ said
 
 -- A blank unit at address 5, alone, and what becomes of it
 
@@ -188,7 +188,7 @@ done_with_the_lock_unread = Kept (Ended Done) ∷ reads_of 5 first_order.updates
 
 -- the order begun once more
 abbrev pub begun_twice : List Happening
-begun_twice = Kept (Began first_order) ∷ first_carried_out
+begun_twice = Kept (Began first_order 7) ∷ first_carried_out
 
 -- a reply that isn't due, and one for another number
 abbrev pub busy_at_once : List Happening
@@ -228,21 +228,21 @@ first_elsewhere = record { id = 1; unit = 6; updates = first_order.updates }
 
 -- each of them where it is due
 abbrev pub busy_while_at_work : List Happening
-busy_while_at_work = Answered 2 replies.Busy ∷ Asked second_order ∷ begun
+busy_while_at_work = Answered 2 replies.Busy ∷ Asked second_order 9 ∷ begun
 
 abbrev pub number_used_again : List Happening
-number_used_again = Answered 1 replies.IdReused ∷ Asked first_elsewhere ∷ said
+number_used_again = Answered 1 replies.IdReused ∷ Asked first_elsewhere 8 ∷ said
 
 -- a journal that may hold one order, and holds one
 abbrev pub one_of_one : Start
-one_of_one = record { records = Ended DoubtOpen ∷ Opened 5 ∷ Began first_order ∷ []; limit = 1 }
+one_of_one = record { records = Ended DoubtOpen ∷ Opened 5 ∷ Began first_order 7 ∷ []; limit = 1 }
 
 -- the same where it is done
 abbrev pub one_done_of_one : Start
-one_done_of_one = record { records = Ended Done ∷ Opened 5 ∷ Began first_order ∷ []; limit = 1 }
+one_done_of_one = record { records = Ended Done ∷ Opened 5 ∷ Began first_order 7 ∷ []; limit = 1 }
 
 abbrev pub full : List Happening
-full = Answered 2 replies.Full ∷ Asked second_order ∷ []
+full = Answered 2 replies.Full ∷ Asked second_order 9 ∷ []
 
 -- The other ends of an order
 
@@ -264,7 +264,7 @@ abbrev pub third_order : Contents
 third_order = record { id = 3; unit = 5; updates = (0x13, 24) ∷ [] }
 
 abbrev pub third_begun : List Happening
-third_begun = Kept (Began third_order) ∷ Answered 3 replies.Taken ∷ Asked third_order ∷ []
+third_begun = Kept (Began third_order 11) ∷ Answered 3 replies.Taken ∷ Asked third_order 11 ∷ []
 
 abbrev pub format_ended : List Happening
 format_ended = Kept (Ended Format) ∷ read_at 5 0x12 0x04 (read_at 5 0x11 0x00 (read_at 5 0x00 0x77 third_begun))
@@ -290,10 +290,10 @@ done_anew =
 
 -- before Done is said: nothing is said any more, the order's repeat is answered, and another order is taken
 abbrev pub repeated_after_a_stop : List Happening
-repeated_after_a_stop = Answered 1 (replies.Kept Done) ∷ Asked first_order ∷ Stopped ∷ ended
+repeated_after_a_stop = Answered 1 (replies.Kept Done) ∷ Asked first_order 7 ∷ Stopped ∷ ended
 
 abbrev pub taken_after_a_stop : List Happening
-taken_after_a_stop = Answered 2 replies.Taken ∷ Asked second_order ∷ Stopped ∷ ended
+taken_after_a_stop = Answered 2 replies.Taken ∷ Asked second_order 9 ∷ Stopped ∷ ended
 
 -- what may not happen after them: Opened by the read from before the stop, a write by the frames from before it, a
 -- saying
@@ -310,10 +310,10 @@ said_after_a_stop = Answered 1 (replies.Kept Done) ∷ Stopped ∷ ended
 
 -- the first order ended with its unit left open
 abbrev pub left_open : Start
-left_open = record { records = Ended DoubtOpen ∷ Opened 5 ∷ Began first_order ∷ []; limit = 10 }
+left_open = record { records = Ended DoubtOpen ∷ Opened 5 ∷ Began first_order 7 ∷ []; limit = 10 }
 
 abbrev pub second_taken : List Happening
-second_taken = Answered 2 replies.Taken ∷ Asked second_order ∷ []
+second_taken = Answered 2 replies.Taken ∷ Asked second_order 9 ∷ []
 
 -- no answer comes in eight tries to lock the unit, nor in eight to read it
 abbrev pub lock_try : List Happening → List Happening
@@ -331,14 +331,14 @@ blocked = Answered 2 (replies.Blocked 5) ∷ unreached
 
 -- it is sent again, the unit answers and is closed, and it begins
 abbrev pub taken_again : List Happening
-taken_again = Answered 2 replies.Taken ∷ Asked second_order ∷ blocked
+taken_again = Answered 2 replies.Taken ∷ Asked second_order 9 ∷ blocked
 
 abbrev pub second_begun : List Happening
-second_begun = Kept (Began second_order) ∷ Kept (Closed 5) ∷ read_at 5 0x02 0xFF (write_at 5 0x02 0xFF taken_again)
+second_begun = Kept (Began second_order 9) ∷ Kept (Closed 5) ∷ read_at 5 0x02 0xFF (write_at 5 0x02 0xFF taken_again)
 
 -- and what may not happen there: begun while the unit is left, closed with no read, blocked after a read
 abbrev pub begun_while_left : List Happening
-begun_while_left = Kept (Began second_order) ∷ second_taken
+begun_while_left = Kept (Began second_order 9) ∷ second_taken
 
 abbrev pub closed_unread : List Happening
 closed_unread = Kept (Closed 5) ∷ write_at 5 0x02 0xFF second_taken
@@ -355,11 +355,11 @@ frame_past_the_left_unit = Sent (AskDtr1 6) (Some 1) ∷ second_taken
 
 -- closed by a read from before the second order was taken
 abbrev pub closed_by_an_old_read : List Happening
-closed_by_an_old_read = Kept (Closed 5) ∷ Answered 2 replies.Taken ∷ Asked second_order ∷ left_said
+closed_by_an_old_read = Kept (Closed 5) ∷ Answered 2 replies.Taken ∷ Asked second_order 9 ∷ left_said
 
 -- forgotten by a stop, and taken anew
 abbrev pub taken_anew : List Happening
-taken_anew = Answered 2 replies.Taken ∷ Asked second_order ∷ Stopped ∷ second_taken
+taken_anew = Answered 2 replies.Taken ∷ Asked second_order 9 ∷ Stopped ∷ second_taken
 
 -- a byte other than FFh to a left unit
 abbrev pub left_unit_unlocked : List Happening
@@ -367,4 +367,4 @@ left_unit_unlocked = write_at 5 0x02 0x55 second_taken
 
 -- forgotten by a stop
 abbrev pub begun_after_a_stop : List Happening
-begun_after_a_stop = Kept (Began first_order) ∷ Stopped ∷ taken
+begun_after_a_stop = Kept (Began first_order 7) ∷ Stopped ∷ taken

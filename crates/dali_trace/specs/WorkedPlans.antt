@@ -95,7 +95,7 @@ reads_more (suc reads) past = read_at 5 0x00 0x77 (reads_more reads past)
 
 abbrev pub records_more : ℕ → List Happening → List Happening
 records_more zero past = past
-records_more (suc records) past = Kept (Began first_order) ∷ records_more records past
+records_more (suc records) past = Kept (Began first_order 7) ∷ records_more records past
 
 -- how the first order ended that was begun, or opened
 abbrev pub begun_said : Code → List Happening → List Happening
@@ -110,16 +110,16 @@ blocked_said past = Answered 2 (replies.Blocked 5) ∷ past
 
 -- the second order is taken behind others
 abbrev pub second_taken_behind : List Happening → List Happening
-second_taken_behind past = Answered 2 replies.Taken ∷ Asked second_order ∷ past
+second_taken_behind past = Answered 2 replies.Taken ∷ Asked second_order 9 ∷ past
 
 -- a journal in which the first order was begun
 abbrev pub at_work : Start
-at_work = record { records = Began first_order ∷ []; limit = 10 }
+at_work = record { records = Began first_order 7 ∷ []; limit = 10 }
 
 -- What doesn't say the order that is begun: a reply to a repeat of it, a saying of another number, one behind a stop,
 -- and one where no order is at hand.
 abbrev pub repeated : List Happening
-repeated = Answered 1 replies.Busy ∷ Asked first_order ∷ begun
+repeated = Answered 1 replies.Busy ∷ Asked first_order 7 ∷ begun
 
 abbrev pub another_said : List Happening
 another_said = Answered 2 (replies.Kept Done) ∷ begun

@@ -48,8 +48,8 @@ impl fmt::Display for Reply {
 /// What happened (profile). A trace is a list of happenings.
 #[derive(Drop)]
 pub enum Happening {
-    /// The order was submitted.
-    Asked(Order),
+    /// The order was submitted, at this moment: a number that the caller hands in.
+    Asked(Order, u64),
     /// The order of this number was answered so.
     Answered(u64, Reply),
     /// The frame was sent, and this answer came back or none.
@@ -66,8 +66,8 @@ pub enum Happening {
 /// What is to be done (profile).
 #[derive(Drop)]
 pub enum Event {
-    /// Submit the order, and reply to it.
-    Submit(Order),
+    /// Submit the order at this moment, and reply to it.
+    Submit(Order, u64),
     /// Do the next thing that is to be done: keep one record, send one frame, or say how an order
     /// ended. Where nothing is at work nothing is done.
     Step,

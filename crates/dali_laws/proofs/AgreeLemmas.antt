@@ -12,6 +12,7 @@ use Rattle.dali_trace.specs.declared.happening.Reply.{Reply}
 use Rattle.dali_trace.specs.declared.happening.Reply.TheVariants as replies
 use Rattle.dali_trace.specs.declared.happening.Happening.{Happening}
 use Rattle.dali_trace.specs.declared.happening.Happening.TheVariants.{Asked, Answered, Sent, Kept, Stopped, Powered}
+use Rattle.dali_trace.specs.Trace.{waiting_since, since_in}
 use Rattle.dali_trace.specs.Trace.{Start, records_of, standing_at, sent_of, sent_since_taken, waiting, course_of}
 use Rattle.dali_trace.specs.Trace.{waits_in}
 use Rattle.dali_trace.specs.Legal.{Serves, IsGuardedWrite, MaySend, IsDue, MayKeep, MaySay, MayHappen, Replies}
@@ -61,18 +62,18 @@ sends_too whole more stands (Write byte) waits sent may = guarded_too whole more
 sends_too whole more stands other waits sent may = absurd may
 
 due_too : (whole more : List Happening) (entry : Record) → waiting whole ≡ waiting more
-    → sent_since_taken whole ≡ sent_since_taken more
+    → waiting_since whole ≡ waiting_since more → sent_since_taken whole ≡ sent_since_taken more
     → IsDue more entry → IsDue whole entry
-due_too whole more (Began order) waits since due = rw waits due
-due_too whole more (Closed unit) waits since due = rw (waits, since) due
-due_too whole more other waits since due = tt
+due_too whole more (Began order moment) waits moments since due = (rw waits due.0, rw moments due.1)
+due_too whole more (Closed unit) waits moments since due = rw (waits, since) due
+due_too whole more other waits moments since due = tt
 
 keeps_too : (start next : Start) (whole more : List Happening) (entry : Record) → Agree start next whole more
     → MayKeep next more entry
     → MayKeep start whole entry
 keeps_too start next whole more entry agree may = record {
   whole = rw (agree.records, agree.limit) may.whole;
-  due = due_too whole more entry (ap waits_in agree.course) agree.since may.due;
+  due = due_too whole more entry (ap waits_in agree.course) (ap since_in agree.course) agree.since may.due;
   grounds = rw (agree.records, agree.sent) may.grounds;
 }
 
@@ -86,7 +87,7 @@ says_too start next whole more id reply agree may = absurd may
 pub happens_too : (start next : Start) (whole more : List Happening) (newest : Happening) → Agree start next whole more
     → MayHappen next more newest
     → MayHappen start whole newest
-happens_too start next whole more (Asked order) agree may = tt
+happens_too start next whole more (Asked order moment) agree may = tt
 happens_too start next whole more (Answered id reply) agree may = says_too start next whole more id reply agree may
 happens_too start next whole more (Sent frame answer) agree may =
     rw agree.records (sends_too whole more (standing_at next more) frame (ap waits_in agree.course) agree.sent may)
@@ -99,7 +100,7 @@ pub replies_too : (start next : Start) (whole more : List Happening) (order : Co
     → Replies next more order newest → Replies start whole order newest
 replies_too start next whole more order (Answered id reply) agree due =
     (due.0, rw (agree.records, agree.course, agree.limit) due.1)
-replies_too start next whole more order (Asked other) agree due = absurd due
+replies_too start next whole more order (Asked other moment) agree due = absurd due
 replies_too start next whole more order (Sent frame answer) agree due = absurd due
 replies_too start next whole more order (Kept entry) agree due = absurd due
 replies_too start next whole more order Stopped agree due = absurd due
@@ -109,23 +110,23 @@ pub planned_too : (start next : Start) (whole more : List Happening) (newest : H
     → records_of start whole ≡ records_of next more
     → told_in whole ≡ told_in more → IsPlanned next more newest → IsPlanned start whole newest
 planned_too start next whole more (Sent frame answer) records told planned = rw (records, told) planned
-planned_too start next whole more (Kept (Began order)) records told planned = tt
+planned_too start next whole more (Kept (Began order moment)) records told planned = tt
 planned_too start next whole more (Kept entry) records told planned = rw (records, told) planned
 planned_too start next whole more (Answered id (replies.Blocked unit)) records told planned = rw (records, told) planned
 planned_too start next whole more other records told planned = tt
 
 -- An order that gets another reply than Taken changes nothing of what is next
 
-passed_over : (start : Start) (past : List Happening) (order : Contents) (reply : Reply) → reply ≢ replies.Taken
-    → Agree start start (Answered order.id reply ∷ Asked order ∷ past) past
-passed_over start past order replies.Taken other = absurd (other refl)
-passed_over start past order reply other =
+passed_over : (start : Start) (past : List Happening) (order : Contents) (moment : ℕ) (reply : Reply) → reply ≢ replies.Taken
+    → Agree start start (Answered order.id reply ∷ Asked order moment ∷ past) past
+passed_over start past order moment replies.Taken other = absurd (other refl)
+passed_over start past order moment reply other =
     record { limit = refl; records = refl; sent = refl; since = refl; course = refl }
 
-told_still : (past : List Happening) (order : Contents) (reply : Reply) → reply ≢ replies.Taken
-    → told_in (Answered order.id reply ∷ Asked order ∷ past) ≡ told_in past
-told_still past order replies.Taken other = absurd (other refl)
-told_still past order reply other = refl
+told_still : (past : List Happening) (order : Contents) (moment : ℕ) (reply : Reply) → reply ≢ replies.Taken
+    → told_in (Answered order.id reply ∷ Asked order moment ∷ past) ≡ told_in past
+told_still past order moment replies.Taken other = absurd (other refl)
+told_still past order moment reply other = refl
 
 turned : {start next : Start} {whole more : List Happening} → Agree start next whole more → Agree next start more whole
 turned agree = record {
@@ -140,20 +141,20 @@ turned agree = record {
 may_happen : (start : Start) (past : List Happening) (next : Happening) → IsFinished past → MayFollow start past next
     → MayHappen start past next
 may_happen start [] next finished may = may
-may_happen start (Asked order ∷ past) next finished may = absurd finished
+may_happen start (Asked order moment ∷ past) next finished may = absurd finished
 may_happen start (other ∷ past) next finished may = may
 
 may_follow : (start : Start) (past : List Happening) (next : Happening) → IsFinished past → MayHappen start past next
     → MayFollow start past next
 may_follow start [] next finished may = may
-may_follow start (Asked order ∷ past) next finished may = absurd finished
+may_follow start (Asked order moment ∷ past) next finished may = absurd finished
 may_follow start (other ∷ past) next finished may = may
 
 pub nothing_changed : RefusedOrdersChangeNothing
-nothing_changed start past order reply next finished other =
-    let whole : List Happening = Answered order.id reply ∷ Asked order ∷ past in
-    let agree : Agree start start whole past = passed_over start past order reply other in
-    let told : told_in whole ≡ told_in past = told_still past order reply other in (
+nothing_changed start past order moment reply next finished other =
+    let whole : List Happening = Answered order.id reply ∷ Asked order moment ∷ past in
+    let agree : Agree start start whole past = passed_over start past order moment reply other in
+    let told : told_in whole ≡ told_in past = told_still past order moment reply other in (
       (
         λ may. may_follow start past next finished (happens_too start start past whole next (turned agree) may),
         λ may. happens_too start start whole past next agree (may_happen start past next finished may),

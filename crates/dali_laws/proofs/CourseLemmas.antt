@@ -215,36 +215,36 @@ after_closed first (standings.Left left) unit (Some order) ended orders sent tol
     (sym come.1) wants in
     (refl, subst (λ (s : Standing). ClosedBy s sent) (sym come.0) closed, omega arith)
 
-after_began : (first stands : Standing) (order : Contents) (waiter next : Option Contents) (ended : Bool)
+after_began : (first stands : Standing) (order : Contents) (moment : ℕ) (waiter next : Option Contents) (ended : Bool)
     (orders others : List (Contents × Progress)) (sent told : List Exchange) (kept : ℕ)
-    → Allows stands (Began order) → waiter ≡ Some order → HasCome first stands waiter ended orders sent told kept
+    → Allows stands (Began order moment) → waiter ≡ Some order → HasCome first stands waiter ended orders sent told kept
     → HasCome first (standings.Began order) next false others sent [] (suc kept)
-after_began first (standings.Began other) order waiter next ended orders others sent told kept allowed waits come =
+after_began first (standings.Began other) order moment waiter next ended orders others sent told kept allowed waits come =
     absurd allowed
-after_began first (standings.Opened other) order waiter next ended orders others sent told kept allowed waits come =
+after_began first (standings.Opened other) order moment waiter next ended orders others sent told kept allowed waits come =
     absurd allowed
-after_began first (standings.Left left) order waiter next ended orders others sent told kept allowed waits come =
+after_began first (standings.Left left) order moment waiter next ended orders others sent told kept allowed waits come =
     absurd allowed
-after_began first standings.Idle order None next ended orders others sent told kept allowed waits come = cc
-after_began first standings.Idle order (Some other) next ended orders others sent told kept allowed waits come =
+after_began first standings.Idle order moment None next ended orders others sent told kept allowed waits come = cc
+after_began first standings.Idle order moment (Some other) next ended orders others sent told kept allowed waits come =
     let few = come.2 in (sent, refl, come.1, omega arith)
 
 pub on_course : (start : Start) (past : List Happening) → Legal start past → ByPlan start past → IsOnCourse start past
 on_course start [] legal planned = begins_anew (standing_of start.records) (orders_of start.records)
-on_course start (Asked order ∷ past) legal planned = on_course start past legal.0 planned.0
+on_course start (Asked order moment ∷ past) legal planned = on_course start past legal.0 planned.0
 on_course start (Powered address ∷ past) legal planned = on_course start past legal.0 planned.0
-on_course start (Answered id replies.Taken ∷ Asked order ∷ past) legal planned =
+on_course start (Answered id replies.Taken ∷ Asked order moment ∷ past) legal planned =
     let rest = neither (is_at_work (standing_at start past)) (is_unsaid past) legal.1.1.1 in
     begins_taken (standing_at start past) order false (orders_of (records_of start past)) rest.0
-on_course start (Answered id (replies.Kept code) ∷ Asked order ∷ past) legal planned =
+on_course start (Answered id (replies.Kept code) ∷ Asked order moment ∷ past) legal planned =
     on_course start past legal.0.0 planned.0.0
-on_course start (Answered id replies.IdReused ∷ Asked order ∷ past) legal planned =
+on_course start (Answered id replies.IdReused ∷ Asked order moment ∷ past) legal planned =
     on_course start past legal.0.0 planned.0.0
-on_course start (Answered id replies.Busy ∷ Asked order ∷ past) legal planned =
+on_course start (Answered id replies.Busy ∷ Asked order moment ∷ past) legal planned =
     on_course start past legal.0.0 planned.0.0
-on_course start (Answered id replies.Full ∷ Asked order ∷ past) legal planned =
+on_course start (Answered id replies.Full ∷ Asked order moment ∷ past) legal planned =
     on_course start past legal.0.0 planned.0.0
-on_course start (Answered id (replies.Blocked unit) ∷ Asked order ∷ past) legal planned = absurd legal.1.1
+on_course start (Answered id (replies.Blocked unit) ∷ Asked order moment ∷ past) legal planned = absurd legal.1.1
 on_course start (Answered id (replies.Kept code) ∷ past) legal planned =
     after_saying (stood_at start past) (standing_at start past) (waiting past) (has_ended past)
     (orders_of (records_of start past)) (sent_since_taken past) (told_in past) (kept_since past)
@@ -259,11 +259,11 @@ on_course start (Sent frame answer ∷ past) legal planned =
     (orders_of (records_of start past)) (sent_since_taken past) (told_in past) (kept_since past)
     (record { frame = frame; answer = answer }) refl (may_send start past frame answer legal.1) planned.1
     (on_course start past legal.0 planned.0)
-on_course start (Kept (Began order) ∷ past) legal planned =
-    let may = may_keep start past (Began order) legal.1 in
-    after_began (stood_at start past) (standing_at start past) order (waiting past) None (has_ended past)
-    (orders_of (records_of start past)) (orders_of (Began order ∷ records_of start past))
-    (sent_since_taken past) (told_in past) (kept_since past) may.whole.0.1 may.due
+on_course start (Kept (Began order moment) ∷ past) legal planned =
+    let may = may_keep start past (Began order moment) legal.1 in
+    after_began (stood_at start past) (standing_at start past) order moment (waiting past) None (has_ended past)
+    (orders_of (records_of start past)) (orders_of (Began order moment ∷ records_of start past))
+    (sent_since_taken past) (told_in past) (kept_since past) may.whole.0.1 may.due.0
     (on_course start past legal.0 planned.0)
 on_course start (Kept (Opened unit) ∷ past) legal planned =
     let may = may_keep start past (Opened unit) legal.1 in

@@ -47,7 +47,7 @@ joined_told past (other ∷ more) = joined_told past more
 
 joined_course : (past more : List Happening) → course_of (more ++ Stopped ∷ past) ≡ course_of more
 joined_course past [] = refl
-joined_course past (Answered id reply ∷ Asked order ∷ more) = ap (replied order reply) (joined_course past more)
+joined_course past (Answered id reply ∷ Asked order moment ∷ more) = ap (replied order moment reply) (joined_course past more)
 joined_course past (newest ∷ more) = ap (λ (before : Course). next_course before newest) (joined_course past more)
 
 joined_agree : (start next : Start) (past more : List Happening) → next.records ≡ records_of start past
@@ -64,7 +64,7 @@ joined_agree start next past more records limit = record {
 follows_too : (start next : Start) (past more : List Happening) (newest : Happening)
     → next.records ≡ records_of start past → next.limit ≡ start.limit
     → MayFollow next more newest → MayFollow start (more ++ Stopped ∷ past) newest
-follows_too start next past (Asked order ∷ more) newest records limit may =
+follows_too start next past (Asked order moment ∷ more) newest records limit may =
     replies_too start next (more ++ Stopped ∷ past) more order newest
     (joined_agree start next past more records limit) may
 follows_too start next past [] newest records limit may =
@@ -75,7 +75,7 @@ follows_too start next past (last ∷ more) newest records limit may =
 
 -- a program may be stopped where no reply is due
 may_stop : (start : Start) (past : List Happening) → IsFinished past → MayFollow start past Stopped
-may_stop start (Asked order ∷ past) finished = absurd finished
+may_stop start (Asked order moment ∷ past) finished = absurd finished
 may_stop start [] finished = tt
 may_stop start (other ∷ past) finished = tt
 
@@ -100,7 +100,7 @@ joined_planned start next past (newest ∷ more) planned same after = (
 
 pub joined_finished : (past more : List Happening) → IsFinished more → IsFinished (more ++ Stopped ∷ past)
 joined_finished past [] finished = tt
-joined_finished past (Asked order ∷ more) finished = absurd finished
+joined_finished past (Asked order moment ∷ more) finished = absurd finished
 joined_finished past (other ∷ more) finished = tt
 
 -- Sittings

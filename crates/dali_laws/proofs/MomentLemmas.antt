@@ -55,7 +55,7 @@ rests_so now start past entry told may =
 -- a record is kept, and a frame sent, only where one may be
 pub may_keep : (start : Start) (past : List Happening) (entry : Record) → MayFollow start past (Kept entry)
     → MayKeep start past entry
-may_keep start (Asked order ∷ past) entry may = absurd may
+may_keep start (Asked order moment ∷ past) entry may = absurd may
 may_keep start [] entry may = may
 may_keep start (Answered id reply ∷ past) entry may = may
 may_keep start (Sent frame answer ∷ past) entry may = may
@@ -66,7 +66,7 @@ may_keep start (Powered address ∷ past) entry may = may
 pub may_send : (start : Start) (past : List Happening) (frame : Frame) (answer : Option ℕ)
     → MayFollow start past (Sent frame answer)
     → MaySend past (standing_at start past) frame
-may_send start (Asked order ∷ past) frame answer may = absurd may
+may_send start (Asked order moment ∷ past) frame answer may = absurd may
 may_send start [] frame answer may = may
 may_send start (Answered id reply ∷ past) frame answer may = may
 may_send start (Sent last heard ∷ past) frame answer may = may
@@ -77,8 +77,8 @@ may_send start (Powered address ∷ past) frame answer may = may
 told_step : (old new : World) (start : Start) (past : List Happening) (next : Happening) → MayFollow start past next
     → Moves old next new
     → IsTold start past old → IsTold start (next ∷ past) new × WhenKept start (next ∷ past) new
-told_step old new start past (Asked order) may same told =
-    (told_quiet old new start past (Asked order) refl refl refl same told, tt)
+told_step old new start past (Asked order moment) may same told =
+    (told_quiet old new start past (Asked order moment) refl refl refl same told, tt)
 told_step old new start past (Answered id reply) may same told =
     (told_quiet old new start past (Answered id reply) refl refl refl same told, tt)
 told_step old new start past (Sent frame answer) may carry told =
@@ -119,7 +119,7 @@ among_all : (lost : List ℕ) (past : List Happening) (address : ℕ) → IsAmon
 among_all lost [] address among = absurd among
 among_all lost (Powered at ∷ past) address (inl is) = inl is
 among_all lost (Powered at ∷ past) address (inr before) = inr (among_all lost past address before)
-among_all lost (Asked order ∷ past) address among = among_all lost past address among
+among_all lost (Asked order moment ∷ past) address among = among_all lost past address among
 among_all lost (Answered id reply ∷ past) address among = among_all lost past address among
 among_all lost (Sent frame answer ∷ past) address among = among_all lost past address among
 among_all lost (Kept entry ∷ past) address among = among_all lost past address among
@@ -132,7 +132,7 @@ FineAt zero lost start past now = IsFine zero (records_of start past) (powered_o
 fine_step : (zero old new : World) (lost : List ℕ) (start : Start) (past : List Happening) (next : Happening)
     → IsLockedAbove zero → MayFollow start past next → Moves old next new
     → IsTold start past old → FineAt zero lost start past old → FineAt zero lost start (next ∷ past) new
-fine_step zero old new lost start past (Asked order) locked may same told fine =
+fine_step zero old new lost start past (Asked order moment) locked may same told fine =
     subst (FineAt zero lost start past) (sym same) fine
 fine_step zero old new lost start past (Answered id reply) locked may same told fine =
     subst (FineAt zero lost start past) (sym same) fine

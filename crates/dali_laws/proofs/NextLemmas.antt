@@ -23,6 +23,7 @@ use Rattle.dali_write.proofs.DeterminedLemmas.{wants_one}
 use Rattle.dali_trace.specs.declared.happening.Reply.TheVariants as replies
 use Rattle.dali_trace.specs.declared.happening.Happening.{Happening}
 use Rattle.dali_trace.specs.declared.happening.Happening.TheVariants.{Asked, Answered, Sent, Kept}
+use Rattle.dali_trace.specs.Trace.{waiting_since}
 use Rattle.dali_trace.specs.Trace.{Start, records_of, standing_at, waiting, has_ended, is_at_work, is_busy, is_full}
 use Rattle.dali_trace.specs.Trace.{course_of}
 use Rattle.dali_trace.specs.Legal.{EndsAs, HasNumber, IsDue, MaySend, MayHappen, Replies, Legal}
@@ -114,14 +115,14 @@ data Due (start : Start) (past : List Happening) (next : Happening) : Type 0 whe
       → next ≡ Answered id (replies.Kept code)
       → Due start past next
   Begins : (order : Contents) → standing_at start past ≡ standings.Idle → waiting past ≡ Some order
-      → next ≡ Kept (Began order) → Due start past next
+      → next ≡ Kept (Began order (waiting_since past)) → Due start past next
   GoesOn : (ask : Ask) → Asks (standing_at start past) (told_in past) ask
       → IsAtHand (standing_at start past) (waiting past)
       → Does (standing_at start past) (waiting past) ask next → Due start past next
 
-idle_began : (stands : Standing) (order : Contents) → Allows stands (Began order) → stands ≡ standings.Idle
-idle_began standings.Idle order allowed = refl
-idle_began stands order allowed = absurd allowed
+idle_began : (stands : Standing) (order : Contents) (moment : ℕ) → Allows stands (Began order moment) → stands ≡ standings.Idle
+idle_began standings.Idle order moment allowed = refl
+idle_began stands order moment allowed = absurd allowed
 
 sent_at_hand : (past : List Happening) (stands : Standing) (told : List Exchange) (frame : Frame)
     → MaySend past stands frame
@@ -168,8 +169,9 @@ due start past (Answered id reply) work may planned = absurd may
 due start past (Sent frame answer) work may planned =
     GoesOn (asks.Send frame) planned (sent_at_hand past (standing_at start past) (told_in past) frame may planned)
     (answer, refl)
-due start past (Kept (Began order)) work may planned =
-    Begins order (idle_began (standing_at start past) order may.whole.0.1) may.due refl
+due start past (Kept (Began order moment)) work may planned =
+    Begins order (idle_began (standing_at start past) order moment may.whole.0.1) may.due.0
+    (ap (λ m. Kept (Began order m)) may.due.1)
 due start past (Kept (Opened unit)) work may planned = kept_due start past (Opened unit) may.due planned
 due start past (Kept (Ended code)) work may planned = kept_due start past (Ended code) may.due planned
 due start past (Kept (Closed unit)) work may planned = kept_due start past (Closed unit) may.due planned
@@ -211,7 +213,7 @@ one_due : (start : Start) (past : List Happening) (one other : Happening) → Le
 one_due start past one other legal (Says id code ended ends is) (Says number last _ so same) =
     rw is (same ∙ ends_as_one id number code last (orders_of (records_of start past)) ends so)
 one_due start past one other legal (Begins order idle waits is) (Begins waiter _ so same) =
-    let begun : waiter ≡ order = cc in rw is (same ∙ ap (λ o. Kept (Began o)) begun)
+    let begun : waiter ≡ order = cc in rw is (same ∙ ap (λ o. Kept (Began o (waiting_since past))) begun)
 one_due start past one other legal (GoesOn ask asked hand does) (GoesOn wish wished _ did) =
     let same = asks_one (standing_at start past) (told_in past) wish ask wished asked in
     does_one (standing_at start past) (waiting past) ask one other does (rw same at did)
@@ -243,7 +245,7 @@ one_reply start past order one other first second = absurd first
 pub one_next : (start : Start) (past : List Happening) (one other : Happening) → Legal start past
     → IsNext start past one → IsNext start past other
     → IsSameBut one other
-one_next start (Asked order ∷ past) one other legal first second =
+one_next start (Asked order moment ∷ past) one other legal first second =
     one_reply start past order one other first.may second.may
 one_next start [] one other legal first second =
     one_due start [] one other legal (due start [] one first.work first.may first.planned)

@@ -250,12 +250,12 @@ said_spared : (start : Start) (zero : World) (first : SimState) (past : List Hap
     → IsChain (MovesBy SimStep) first past last states → AsksAllProper past → RightAlong zero start past last states
     → IsSpared start past last states
 said_spared start zero first [] last states none legal planned chain asks each = tt
-said_spared start zero first (Asked order ∷ past) last states none legal planned chain asks each = tt
+said_spared start zero first (Asked order moment ∷ past) last states none legal planned chain asks each = tt
 said_spared start zero first (Sent frame answer ∷ past) last states none legal planned chain asks each = tt
 said_spared start zero first (Kept entry ∷ past) last states none legal planned chain asks each = tt
 said_spared start zero first (Stopped ∷ past) last states none legal planned chain asks each = tt
 said_spared start zero first (Powered address ∷ past) last states none legal planned chain asks each = tt
-said_spared start zero first (Answered id reply ∷ Asked order ∷ past) last states none legal planned chain asks each =
+said_spared start zero first (Answered id reply ∷ Asked order moment ∷ past) last states none legal planned chain asks each =
     tt
 said_spared start zero first (Answered id reply ∷ past) last [] none legal planned chain asks each = absurd chain
 said_spared start zero first (Answered id (replies.Kept code) ∷ past) last (state ∷ states) none legal planned chain

@@ -18,7 +18,7 @@ same_records : (start : Start) (past : List Happening) → records_of start past
 same_records start [] = refl
 same_records start (Powered address ∷ past) = same_records start past
 same_records start (Kept entry ∷ past) = ap (◌∷◌ entry) (same_records start past)
-same_records start (Asked order ∷ past) = same_records start past
+same_records start (Asked order moment ∷ past) = same_records start past
 same_records start (Answered id reply ∷ past) = same_records start past
 same_records start (Sent frame answer ∷ past) = same_records start past
 same_records start (Stopped ∷ past) = same_records start past
@@ -29,7 +29,7 @@ same_sent (Powered address ∷ past) = same_sent past
 same_sent (Sent frame answer ∷ past) = ap (◌∷◌ (record { frame = frame; answer = answer })) (same_sent past)
 same_sent (Stopped ∷ past) = refl
 same_sent (Kept entry ∷ past) = same_sent past
-same_sent (Asked order ∷ past) = same_sent past
+same_sent (Asked order moment ∷ past) = same_sent past
 same_sent (Answered id reply ∷ past) = same_sent past
 
 same_since : (past : List Happening) → sent_since_taken past ≡ sent_since_taken (unpowered past)
@@ -39,7 +39,7 @@ same_since (Sent frame answer ∷ past) = ap (◌∷◌ (record { frame = frame;
 same_since (Answered id replies.Taken ∷ past) = refl
 same_since (Stopped ∷ past) = refl
 same_since (Kept entry ∷ past) = same_since past
-same_since (Asked order ∷ past) = same_since past
+same_since (Asked order moment ∷ past) = same_since past
 same_since (Answered id other ∷ past) = same_since past
 
 same_told : (past : List Happening) → told_in past ≡ told_in (unpowered past)
@@ -49,17 +49,17 @@ same_told (Sent frame answer ∷ past) = ap (◌∷◌ (record { frame = frame; 
 same_told (Answered id replies.Taken ∷ past) = refl
 same_told (Kept entry ∷ past) = refl
 same_told (Stopped ∷ past) = refl
-same_told (Asked order ∷ past) = same_told past
+same_told (Asked order moment ∷ past) = same_told past
 same_told (Answered id other ∷ past) = same_told past
 
 -- no order is the newest
 abbrev NotAsked : List Happening → Type 0
-NotAsked (Asked order ∷ past) = ⊥
+NotAsked (Asked order moment ∷ past) = ⊥
 NotAsked past = Unit {0}
 
 not_asked : (address : ℕ) (past : List Happening) → IsPowerApart (Powered address ∷ past) → NotAsked (unpowered past)
 not_asked address [] apart = tt
-not_asked address (Asked order ∷ past) apart = absurd apart
+not_asked address (Asked order moment ∷ past) apart = absurd apart
 not_asked address (Powered other ∷ past) apart = not_asked other past apart
 not_asked address (Answered id reply ∷ past) apart = tt
 not_asked address (Sent frame answer ∷ past) apart = tt
@@ -70,7 +70,7 @@ not_asked address (Stopped ∷ past) apart = tt
 said_quiet : (id : ℕ) (reply : Reply) (past : List Happening) → NotAsked past
     → Quiet ≡ course_of (Answered id reply ∷ past)
 said_quiet id reply [] none = refl
-said_quiet id reply (Asked order ∷ past) none = absurd none
+said_quiet id reply (Asked order moment ∷ past) none = absurd none
 said_quiet id reply (Answered other last ∷ past) none = refl
 said_quiet id reply (Sent frame answer ∷ past) none = refl
 said_quiet id reply (Kept entry ∷ past) none = refl
@@ -81,7 +81,7 @@ said_quiet id reply (Powered address ∷ past) none = refl
 happens_next : (start : Start) (past : List Happening) (next : Happening) → NotAsked past → MayFollow start past next
     → MayHappen start past next
 happens_next start [] next none may = may
-happens_next start (Asked order ∷ past) next none may = absurd none
+happens_next start (Asked order moment ∷ past) next none may = absurd none
 happens_next start (Answered id reply ∷ past) next none may = may
 happens_next start (Sent frame answer ∷ past) next none may = may
 happens_next start (Kept entry ∷ past) next none may = may
@@ -91,13 +91,13 @@ happens_next start (Powered address ∷ past) next none may = may
 -- a part of the trace
 older_apart : (next : Happening) (past : List Happening) → IsPowerApart (next ∷ past) → IsPowerApart past
 older_apart (Powered address) [] apart = tt
-older_apart (Powered address) (Asked order ∷ past) apart = absurd apart
+older_apart (Powered address) (Asked order moment ∷ past) apart = absurd apart
 older_apart (Powered address) (Answered id reply ∷ past) apart = apart
 older_apart (Powered address) (Sent frame answer ∷ past) apart = apart
 older_apart (Powered address) (Kept entry ∷ past) apart = apart
 older_apart (Powered address) (Stopped ∷ past) apart = apart
 older_apart (Powered address) (Powered other ∷ past) apart = apart
-older_apart (Asked order) past apart = apart
+older_apart (Asked order moment) past apart = apart
 older_apart (Answered id reply) past apart = apart
 older_apart (Sent frame answer) past apart = apart
 older_apart (Kept entry) past apart = apart
@@ -106,7 +106,7 @@ older_apart Stopped past apart = apart
 same_course : (past : List Happening) → IsPowerApart past → course_of past ≡ course_of (unpowered past)
 same_course [] apart = refl
 same_course (Powered address ∷ past) apart = same_course past (older_apart (Powered address) past apart)
-same_course (Answered id reply ∷ Asked order ∷ past) apart = ap (replied order reply) (same_course past apart)
+same_course (Answered id reply ∷ Asked order moment ∷ past) apart = ap (replied order moment reply) (same_course past apart)
 same_course (Answered id reply ∷ Powered address ∷ past) apart =
     said_quiet id reply (unpowered past) (not_asked address past apart)
 same_course (Answered id reply ∷ []) apart = refl
@@ -114,8 +114,8 @@ same_course (Answered id reply ∷ Answered other last ∷ past) apart = refl
 same_course (Answered id reply ∷ Sent frame answer ∷ past) apart = refl
 same_course (Answered id reply ∷ Kept entry ∷ past) apart = refl
 same_course (Answered id reply ∷ Stopped ∷ past) apart = refl
-same_course (Asked order ∷ past) apart =
-    ap (λ (before : Course). next_course before (Asked order)) (same_course past apart)
+same_course (Asked order moment ∷ past) apart =
+    ap (λ (before : Course). next_course before (Asked order moment)) (same_course past apart)
 same_course (Sent frame answer ∷ past) apart =
     ap (λ (before : Course). next_course before (Sent frame answer)) (same_course past apart)
 same_course (Kept entry ∷ past) apart =
@@ -134,7 +134,7 @@ agrees start past apart = record {
 follows : (start : Start) (past : List Happening) (next : Happening) → IsPowerApart past
     → MayFollow start (unpowered past) next → MayFollow start past next
 follows start [] next apart may = may
-follows start (Asked order ∷ past) next apart may =
+follows start (Asked order moment ∷ past) next apart may =
     replies_too start start past (unpowered past) order next (agrees start past apart) may
 follows start (Powered address ∷ past) next apart may =
     happens_too start start (Powered address ∷ past) (unpowered past) next
@@ -157,7 +157,7 @@ follows start (Stopped ∷ past) next apart may =
 may_lose : (start : Start) (address : ℕ) (past : List Happening) → IsPowerApart (Powered address ∷ past)
     → MayFollow start past (Powered address)
 may_lose start address [] apart = tt
-may_lose start address (Asked order ∷ past) apart = absurd apart
+may_lose start address (Asked order moment ∷ past) apart = absurd apart
 may_lose start address (Answered id reply ∷ past) apart = tt
 may_lose start address (Sent frame answer ∷ past) apart = tt
 may_lose start address (Kept entry ∷ past) apart = tt
@@ -169,8 +169,8 @@ pub powered_legal : (start : Start) (past : List Happening) → IsPowerApart pas
 powered_legal start [] apart legal = legal
 powered_legal start (Powered address ∷ past) apart legal =
     (powered_legal start past (older_apart (Powered address) past apart) legal, may_lose start address past apart)
-powered_legal start (Asked order ∷ past) apart legal =
-    (powered_legal start past apart legal.0, follows start past (Asked order) apart legal.1)
+powered_legal start (Asked order moment ∷ past) apart legal =
+    (powered_legal start past apart legal.0, follows start past (Asked order moment) apart legal.1)
 powered_legal start (Answered id reply ∷ past) apart legal =
     (powered_legal start past apart legal.0, follows start past (Answered id reply) apart legal.1)
 powered_legal start (Sent frame answer ∷ past) apart legal =
@@ -188,8 +188,8 @@ planned_next start past next planned =
 pub powered_planned : (start : Start) (past : List Happening) → ByPlan start (unpowered past) → ByPlan start past
 powered_planned start [] planned = tt
 powered_planned start (Powered address ∷ past) planned = (powered_planned start past planned, tt)
-powered_planned start (Asked order ∷ past) planned =
-    (powered_planned start past planned.0, planned_next start past (Asked order) planned.1)
+powered_planned start (Asked order moment ∷ past) planned =
+    (powered_planned start past planned.0, planned_next start past (Asked order moment) planned.1)
 powered_planned start (Answered id reply ∷ past) planned =
     (powered_planned start past planned.0, planned_next start past (Answered id reply) planned.1)
 powered_planned start (Sent frame answer ∷ past) planned =
@@ -201,14 +201,15 @@ powered_planned start (Stopped ∷ past) planned =
 
 -- They may stand before an order, behind its reply and one behind another, but not between the two.
 
-pub apart_elsewhere : (order : Contents)
-    → IsPowerApart (Powered 6 ∷ Powered 5 ∷ Answered order.id replies.Busy ∷ Asked order ∷ Powered 5 ∷ [])
-apart_elsewhere order = tt
+pub apart_elsewhere : (order : Contents) (moment : ℕ)
+    → IsPowerApart (Powered 6 ∷ Powered 5 ∷ Answered order.id replies.Busy ∷ Asked order moment ∷ Powered 5 ∷ [])
+apart_elsewhere order moment = tt
 
-pub not_apart_before_the_reply : (order : Contents)
-    → IsPowerApart (Answered order.id replies.Busy ∷ Powered 6 ∷ Powered 5 ∷ Asked order ∷ []) → ⊥
-not_apart_before_the_reply order apart = apart
+pub not_apart_before_the_reply : (order : Contents) (moment : ℕ)
+    → IsPowerApart (Answered order.id replies.Busy ∷ Powered 6 ∷ Powered 5 ∷ Asked order moment ∷ []) → ⊥
+not_apart_before_the_reply order moment apart = apart
 
-pub none_are_left : (order : Contents)
-    → unpowered (Powered 6 ∷ Stopped ∷ Powered 5 ∷ Asked order ∷ Powered 5 ∷ []) ≡ Stopped ∷ Asked order ∷ []
-none_are_left order = refl
+pub none_are_left : (order : Contents) (moment : ℕ)
+    → unpowered (Powered 6 ∷ Stopped ∷ Powered 5 ∷ Asked order moment ∷ Powered 5 ∷ [])
+    ≡ Stopped ∷ Asked order moment ∷ []
+none_are_left order moment = refl

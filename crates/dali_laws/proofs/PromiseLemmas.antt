@@ -16,7 +16,7 @@ use Rattle.dali_laws.proofs.RecordLemmas.{shown_byte, shown_off, grounds_too}
 let_go : (lost : List ℕ) (now : World) (stands : Standing) (entry : Record) → Allows stands entry
     → Grounds (Shows (IsAmong lost) now) stands entry
     → IsLetGo now stands entry
-let_go lost now standings.Idle (Began order) allowed grounds = λ unit named none. cc
+let_go lost now standings.Idle (Began order moment) allowed grounds = λ unit named none. cc
 let_go lost now (standings.Began order) (Opened unit) allowed grounds = λ unit named none. cc
 let_go lost now (standings.Began order) (Ended code) allowed grounds = λ unit named none. cc
 let_go lost now (standings.Opened order) (Ended Done) allowed grounds = λ unit named none.

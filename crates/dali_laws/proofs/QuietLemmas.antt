@@ -52,7 +52,7 @@ is_still start past legal e =
 
 keeps_none : {A : Type 0} (start : Start) (past : List Happening) (entry : Record) → IsStill start past
     → MayKeep start past entry → A
-keeps_none start past (Began order) still may = let due = may.due in let none = still.none in cc
+keeps_none start past (Began order moment) still may = let due = may.due in let none = still.none in cc
 keeps_none start past (Opened unit) still may = no_opened (standing_at start past) unit still.idle may.whole.0.1
 keeps_none start past (Ended code) still may = no_ended (standing_at start past) code still.idle may.whole.0.1
 keeps_none start past (Closed unit) still may = let some : false ≡ true = rw still.none at may.due.0 in cc
@@ -68,16 +68,16 @@ says_none start past id reply still may = absurd may
 after_answer : (start : Start) (past : List Happening) (id : ℕ) (reply : Reply) → Legal start (Answered id reply ∷ past)
     → IsStill start past
     → (reply ≡ replies.Taken → ⊥) → IsStill start (Answered id reply ∷ past)
-after_answer start (Asked order ∷ past) id replies.Taken legal still not = absurd (not refl)
-after_answer start (Asked order ∷ past) id (replies.Kept code) legal still not =
+after_answer start (Asked order moment ∷ past) id replies.Taken legal still not = absurd (not refl)
+after_answer start (Asked order moment ∷ past) id (replies.Kept code) legal still not =
     record { idle = still.idle; said = still.said; none = still.none }
-after_answer start (Asked order ∷ past) id replies.IdReused legal still not =
+after_answer start (Asked order moment ∷ past) id replies.IdReused legal still not =
     record { idle = still.idle; said = still.said; none = still.none }
-after_answer start (Asked order ∷ past) id replies.Busy legal still not =
+after_answer start (Asked order moment ∷ past) id replies.Busy legal still not =
     record { idle = still.idle; said = still.said; none = still.none }
-after_answer start (Asked order ∷ past) id replies.Full legal still not =
+after_answer start (Asked order moment ∷ past) id replies.Full legal still not =
     record { idle = still.idle; said = still.said; none = still.none }
-after_answer start (Asked order ∷ past) id (replies.Blocked unit) legal still not =
+after_answer start (Asked order moment ∷ past) id (replies.Blocked unit) legal still not =
     record { idle = still.idle; said = still.said; none = still.none }
 after_answer start past id reply legal still not = says_none start past id reply still legal.1
 
@@ -86,7 +86,7 @@ pub stays_still : (start : Start) (past more : List Happening) → Legal start (
     → NoneTaken more
     → IsStill start (more ++ past) × NoneSent more × (records_of start (more ++ past) ≡ records_of start past)
 stays_still start past [] legal e none = (is_still start past legal e, tt, refl)
-stays_still start past (Asked order ∷ more) legal e none =
+stays_still start past (Asked order moment ∷ more) legal e none =
     let before = stays_still start past more legal.0 e none in
     (record { idle = before.0.idle; said = before.0.said; none = before.0.none }, before.1, before.2)
 stays_still start past (Answered id replies.Taken ∷ more) legal e none = absurd none

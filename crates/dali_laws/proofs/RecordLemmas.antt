@@ -134,8 +134,8 @@ pub keeps_fitting : (zero now : World) (lost been : List ℕ) (records : List Re
     → standing_of records ≡ stands → Allows stands entry
     → Grounds (Shows (IsAmong lost) now) stands entry → Fits zero records been now
     → Fits zero (entry ∷ records) been now
-keeps_fitting zero now lost been records (Began order) stands at allowed grounds fits =
-    changed_fits zero now records (Began order ∷ records) been
+keeps_fitting zero now lost been records (Began order moment) stands at allowed grounds fits =
+    changed_fits zero now records (Began order moment ∷ records) been
     (λ address bank location first byte lock is possible. by (byte_for order address bank location)
     (IsPossible first address bank location (orders_of records)) byte possible)
     (λ address opened. opened) fits where
@@ -194,7 +194,7 @@ pub keeps_only : (lost : List ℕ) (now : World) (stands : Standing) (entry : Re
     → Grounds (Shows (IsAmong lost) now) stands entry
     → ((address : ℕ) → is_enabled now address ≡ true → named_unit stands ≡ Some address)
     → (address : ℕ) → is_enabled now address ≡ true → named_unit (next_standing stands entry) ≡ Some address
-keeps_only lost now standings.Idle (Began order) allowed grounds only address on = let none = only address on in cc
+keeps_only lost now standings.Idle (Began order moment) allowed grounds only address on = let none = only address on in cc
 keeps_only lost now (standings.Began order) (Opened unit) allowed grounds only address on =
     let none : None ≡ Some address = only address on in cc
 keeps_only lost now (standings.Began order) (Ended code) allowed grounds only address on = only address on

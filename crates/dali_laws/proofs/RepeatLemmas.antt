@@ -46,7 +46,7 @@ none_come id progress (newest ∷ older) e = by (newest.0.id == id) refl where
 
 absent : (id : ℕ) (records : List Record) → is_begun id records ≡ false → kept_of id records ≡ kepts.Absent
 absent id [] e = refl
-absent id (Began order ∷ older) e =
+absent id (Began order moment ∷ older) e =
     let both = neither (order.id == id) (is_begun id older) e in rw both.0 (absent id older both.1)
 absent id (Opened unit ∷ older) e = none_come id reached.Open (orders_of older) (absent id older e)
 absent id (Ended code ∷ older) e = none_come id (reached.Ended code) (orders_of older) (absent id older e)
@@ -59,7 +59,7 @@ distinct_come progress (newest ∷ older) distinct = distinct
 
 distinct_orders : (records : List Record) → IsSentence records → AreDistinct (orders_of records)
 distinct_orders [] sentence = tt
-distinct_orders (Began order ∷ older) sentence = (absent order.id older sentence.2, distinct_orders older sentence.0)
+distinct_orders (Began order moment ∷ older) sentence = (absent order.id older sentence.2, distinct_orders older sentence.0)
 distinct_orders (Opened unit ∷ older) sentence =
     distinct_come reached.Open (orders_of older) (distinct_orders older sentence.0)
 distinct_orders (Ended code ∷ older) sentence =
@@ -101,7 +101,7 @@ ended_kept records order code sentence among =
 pub legal_sentence : (start : Start) (past : List Happening) → Legal start past
     → IsSentence (records_of start past) × (length (orders_of (records_of start past)) ≤ start.limit)
 legal_sentence start [] legal = legal
-legal_sentence start (Asked order ∷ past) legal = legal_sentence start past legal.0
+legal_sentence start (Asked order moment ∷ past) legal = legal_sentence start past legal.0
 legal_sentence start (Answered id reply ∷ past) legal = legal_sentence start past legal.0
 legal_sentence start (Sent frame answer ∷ past) legal = legal_sentence start past legal.0
 legal_sentence start (Keeps entry ∷ past) legal = let may = may_keep start past entry legal.1 in may.whole
@@ -117,16 +117,17 @@ answered start past order code (Answered id reply) ended (same, due) =
     only_due order (kept_of order.id (records_of start past)) (is_busy start past) (is_full start past)
     (replies.Kept code) reply ended due in
     λ i. Answered (same i) (is i)
-answered start past order code (Asked other) ended due = absurd due
+answered start past order code (Asked other moment) ended due = absurd due
 answered start past order code (Sent frame answer) ended due = absurd due
 answered start past order code (Keeps entry) ended due = absurd due
 answered start past order code Stopped ended due = absurd due
 answered start past order code (Powered address) ended due = absurd due
 
-pub repeat_answered : (start : Start) (past : List Happening) (order : Contents) (code : Code) (next : Happening)
-    → Contains (orders_of (records_of start past)) (order, reached.Ended code) → Legal start (next ∷ Asked order ∷ past)
+pub repeat_answered : (start : Start) (past : List Happening) (order : Contents) (moment : ℕ) (code : Code)
+    (next : Happening)
+    → Contains (orders_of (records_of start past)) (order, reached.Ended code) → Legal start (next ∷ Asked order moment ∷ past)
     → next ≡ Answered order.id (replies.Kept code)
-repeat_answered start past order code next among legal =
+repeat_answered start past order moment code next among legal =
     answered start past order code next
     (ended_kept (records_of start past) order code (legal_sentence start past legal.0.0).0 among) legal.1
 
@@ -138,7 +139,7 @@ legal_before start past (next ∷ more) legal = legal_before start past more leg
 -- a kept reply takes no order
 none_more : (more older : List Happening) → NoneTaken more → NoneTaken older → NoneTaken (more ++ older)
 none_more [] older none before = before
-none_more (Asked order ∷ more) older none before = none_more more older none before
+none_more (Asked order moment ∷ more) older none before = none_more more older none before
 none_more (Answered id replies.Taken ∷ more) older none before = absurd none
 none_more (Answered id (replies.Kept code) ∷ more) older none before = none_more more older none before
 none_more (Answered id replies.IdReused ∷ more) older none before = none_more more older none before
@@ -150,17 +151,18 @@ none_more (Keeps entry ∷ more) older none before = none_more more older none b
 none_more (Stopped ∷ more) older none before = none_more more older none before
 none_more (Powered address ∷ more) older none before = none_more more older none before
 
-pub repeat_quiet : (start : Start) (past more : List Happening) (order : Contents) (code : Code) (next : Happening)
+pub repeat_quiet : (start : Start) (past more : List Happening) (order : Contents) (moment : ℕ) (code : Code)
+    (next : Happening)
     → Contains (orders_of (records_of start past)) (order, reached.Ended code) → is_busy start past ≡ false
-    → Legal start (more ++ next ∷ Asked order ∷ past) → NoneTaken more
-    → NothingIsDone start (more ++ next ∷ Asked order ∷ []) past
-repeat_quiet start past more order code next among busy legal none =
+    → Legal start (more ++ next ∷ Asked order moment ∷ past) → NoneTaken more
+    → NothingIsDone start (more ++ next ∷ Asked order moment ∷ []) past
+repeat_quiet start past more order moment code next among busy legal none =
     let is =
-    repeat_answered start past order code next among (legal_before start (next ∷ Asked order ∷ past) more legal) in
-    let part : List Happening = more ++ next ∷ Asked order ∷ [] in
+    repeat_answered start past order moment code next among (legal_before start (next ∷ Asked order moment ∷ past) more legal) in
+    let part : List Happening = more ++ next ∷ Asked order moment ∷ [] in
     let so : Legal start (part ++ past) =
-    subst (Legal start) (sym (append_assoc more (next ∷ Asked order ∷ []) past)) legal in
-    let reply : NoneTaken (next ∷ Asked order ∷ []) =
-    subst (λ (h : Happening). NoneTaken (h ∷ Asked order ∷ [])) (sym is) tt in
-    let still = stays_still start past part so busy (none_more more (next ∷ Asked order ∷ []) none reply) in
+    subst (Legal start) (sym (append_assoc more (next ∷ Asked order moment ∷ []) past)) legal in
+    let reply : NoneTaken (next ∷ Asked order moment ∷ []) =
+    subst (λ (h : Happening). NoneTaken (h ∷ Asked order moment ∷ [])) (sym is) tt in
+    let still = stays_still start past part so busy (none_more more (next ∷ Asked order moment ∷ []) none reply) in
     (still.1, still.2)

@@ -84,7 +84,7 @@ since_start unit left first (Sent frame answer ∷ past) last (state ∷ states)
       losses = ap (λ (n : ℕ). (if is_lost_to unit left state frame then 1 else 0) + n) before.losses;
       kind = λ kind. (kind.0, before.kind kind.1);
     }
-since_start unit left first (Asked order ∷ past) last (state ∷ states) chain kept =
+since_start unit left first (Asked order moment ∷ past) last (state ∷ states) chain kept =
     stays unit left _ _ last state _ _ chain.0 (since_start unit left first past state states chain.1 kept)
 since_start unit left first (Kept entry ∷ past) last (state ∷ states) chain kept =
     stays unit left _ _ last state _ _ chain.0 (since_start unit left first past state states chain.1 kept)

@@ -17,8 +17,8 @@ use Rattle.dali_trace.specs.Fits.{HasBeenOpened}
 
 -- which record leads to a standing
 no_begun : (before : Standing) (entry : Record) (o : Contents) → next_standing before entry ≡ standings.Began o
-    → entry ≡ Began o
-no_begun before (Began p) o e = let same : p ≡ o = cc in ap Began same
+    → (moment : ℕ) × (entry ≡ Began o moment)
+no_begun before (Began p moment) o e = let same : p ≡ o = cc in (moment, ap (λ x. Began x moment) same)
 no_begun (standings.Began p) (Opened u) o e = cc
 no_begun (standings.Opened p) (Ended DoubtOpen) o e = cc
 no_begun _ _ o e = cc
@@ -30,7 +30,7 @@ pub record WasOpened (before : Standing) (entry : Record) (o : Contents) : Type 
 
 opened_by : (before : Standing) (entry : Record) (o : Contents) → next_standing before entry ≡ standings.Opened o
     → WasOpened before entry o
-opened_by before (Began p) o e = cc
+opened_by before (Began p moment) o e = cc
 opened_by (standings.Began p) (Opened u) o e =
     let same : p ≡ o = cc in record { unit = u; was = ap standings.Began same; is = refl }
 opened_by (standings.Opened p) (Ended DoubtOpen) o e = cc
@@ -43,7 +43,7 @@ begun_order [] o e = cc
 begun_order (entry ∷ rest) o e =
     let P : Record → Type 0 =
     λ r. (older : List (Contents × Progress)) × orders_of (r ∷ rest) ≡ (o, reached.Begun) ∷ older in
-    subst P (sym (no_begun (standing_of rest) entry o e)) (orders_of rest, refl)
+    let is = no_begun (standing_of rest) entry o e in subst P (sym is.1) (orders_of rest, refl)
 
 pub open_order : (records : List Record) (o : Contents) → standing_of records ≡ standings.Opened o
     → (older : List (Contents × Progress)) × orders_of records ≡ (o, reached.Open) ∷ older
@@ -65,7 +65,7 @@ named_opened (entry ∷ rest) unit sentence e =
           → standing_of rest ≡ before → (entry : Record) → Allows (standing_of rest) entry
           → named_unit (next_standing (standing_of rest) entry) ≡ Some unit
           → HasBeenOpened unit (entry ∷ rest)
-      by more before at (Began p) allowed e = cc
+      by more before at (Began p moment) allowed e = cc
       by more standings.Idle at (Opened u) allowed e = absurd (rw at at allowed)
       by more (standings.Began p) at (Opened u) allowed e =
           let is : u ≡ p.unit = rw at at allowed in let names : Some p.unit ≡ Some unit = rw at at e in inl cc

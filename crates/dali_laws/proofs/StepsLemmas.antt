@@ -74,15 +74,15 @@ still_closed standings.Idle unit waiter ended orders order allowed some hand = a
 still_closed (standings.Began other) unit waiter ended orders order allowed some hand = absurd allowed
 still_closed (standings.Opened other) unit waiter ended orders order allowed some hand = absurd allowed
 
-still_began : (now : Standing) (begun : Contents) (waiter : Option Contents) (ended : Bool)
+still_began : (now : Standing) (begun : Contents) (moment : ℕ) (waiter : Option Contents) (ended : Bool)
     (orders : List (Contents × Progress)) (order : Contents)
-    → Allows now (Began begun) → waiter ≡ Some begun
+    → Allows now (Began begun moment) → waiter ≡ Some begun
     → order_at now waiter ended orders ≡ Some order → Some begun ≡ Some order
-still_began standings.Idle begun (Some other) ended orders order allowed is hand = sym is ∙ hand
-still_began standings.Idle begun None ended orders order allowed is hand = cc
-still_began (standings.Began other) begun waiter ended orders order allowed is hand = absurd allowed
-still_began (standings.Opened other) begun waiter ended orders order allowed is hand = absurd allowed
-still_began (standings.Left left) begun waiter ended orders order allowed is hand = absurd allowed
+still_began standings.Idle begun moment (Some other) ended orders order allowed is hand = sym is ∙ hand
+still_began standings.Idle begun moment None ended orders order allowed is hand = cc
+still_began (standings.Began other) begun moment waiter ended orders order allowed is hand = absurd allowed
+still_began (standings.Opened other) begun moment waiter ended orders order allowed is hand = absurd allowed
+still_began (standings.Left left) begun moment waiter ended orders order allowed is hand = absurd allowed
 
 newest_is : (next : Standing) (order : Contents) (progress : Progress) (older : List (Contents × Progress))
     → is_at_work next ≡ false → order_at next None true ((order, progress) ∷ older) ≡ Some order
@@ -113,10 +113,10 @@ still_ended (standings.Opened opened) records code waiter ended order at allowed
 still_kept : (start : Start) (past : List Happening) (entry : Record) (order : Contents)
     → Legal start (Kept entry ∷ past) → order_at_hand start past ≡ Some order
     → order_at_hand start (Kept entry ∷ past) ≡ Some order
-still_kept start past (Began begun) order legal hand =
-    let may = may_keep start past (Began begun) legal.1 in
-    still_began (standing_at start past) begun (waiting past) (has_ended past) (orders_of (records_of start past)) order
-    may.whole.0.1 may.due hand
+still_kept start past (Began begun moment) order legal hand =
+    let may = may_keep start past (Began begun moment) legal.1 in
+    still_began (standing_at start past) begun moment (waiting past) (has_ended past) (orders_of (records_of start past)) order
+    may.whole.0.1 may.due.0 hand
 still_kept start past (Opened unit) order legal hand =
     let may = may_keep start past (Opened unit) legal.1 in
     still_opened (standing_at start past) unit (waiting past) (has_ended past) (orders_of (records_of start past))
@@ -189,7 +189,7 @@ said_more start order before after next said =
 may_say : (start : Start) (past : List Happening) (id : ℕ) (reply : Reply) → IsFinished past
     → Legal start (Answered id reply ∷ past) → MaySay start past id reply
 may_say start [] id reply finished legal = legal.1
-may_say start (Asked order ∷ past) id reply finished legal = absurd finished
+may_say start (Asked order moment ∷ past) id reply finished legal = absurd finished
 may_say start (Answered other last ∷ past) id reply finished legal = legal.1
 may_say start (Sent frame answer ∷ past) id reply finished legal = legal.1
 may_say start (Kept entry ∷ past) id reply finished legal = legal.1
@@ -233,7 +233,7 @@ one_step start before mid order steps (Answered id reply) is legal planned at =
       hand = subst (λ (t : List Happening). order_at_hand start t ≡ Some order) at.parts at.hand;
       start_is = subst (λ (t : List Happening). stood_at start t ≡ stood_at start before) at.parts at.start_is;
     })
-one_step start before mid order steps (Asked other) is legal planned at = absurd is
+one_step start before mid order steps (Asked other moment) is legal planned at = absurd is
 one_step start before mid order steps Stopped is legal planned at = absurd is
 one_step start before mid order steps (Powered address) is legal planned at = absurd is
 
@@ -263,36 +263,36 @@ after_step start before mid after order steps (inr (none_due, same)) legal plann
     by legal (inl said) = inl said
     by legal (inr at) = not_idle (is_busy start mid) (busy start mid order legal at.hand) none_due
 
-reply_on : (start : Start) (before mid : List Happening) (order asked : Contents) (steps : ℕ) (reply : Reply)
-    → Legal start (Answered asked.id reply ∷ Asked asked ∷ mid)
+reply_on : (start : Start) (before mid : List Happening) (order asked : Contents) (moment steps : ℕ) (reply : Reply)
+    → Legal start (Answered asked.id reply ∷ Asked asked moment ∷ mid)
     → IsAtHand start before mid order steps
-    → IsAtHand start before (Answered asked.id reply ∷ Asked asked ∷ mid) order steps
-reply_on start before mid order asked steps replies.Taken legal at =
+    → IsAtHand start before (Answered asked.id reply ∷ Asked asked moment ∷ mid) order steps
+reply_on start before mid order asked moment steps replies.Taken legal at =
     not_idle (is_busy start mid) (busy start mid order legal.0.0 at.hand) legal.1.1.1
-reply_on start before mid order asked steps reply legal at = record {
-  more = Answered asked.id reply ∷ Asked asked ∷ at.more;
-  parts = ap (λ (t : List Happening). Answered asked.id reply ∷ Asked asked ∷ t) at.parts;
+reply_on start before mid order asked moment steps reply legal at = record {
+  more = Answered asked.id reply ∷ Asked asked moment ∷ at.more;
+  parts = ap (λ (t : List Happening). Answered asked.id reply ∷ Asked asked moment ∷ t) at.parts;
   finished = tt;
   hand = at.hand;
   start_is = at.start_is;
   work = at.work;
 }
 
-after_submit : (start : Start) (before mid after : List Happening) (order asked : Contents) (steps : ℕ)
-    → Part start (Submit asked) mid after → Legal start after → ByPlan start after
+after_submit : (start : Start) (before mid after : List Happening) (order asked : Contents) (moment steps : ℕ)
+    → Part start (Submit asked moment) mid after → Legal start after → ByPlan start after
     → (Legal start mid → ByPlan start mid → GoesOn start before mid order steps) → GoesOn start before after order steps
-after_submit start before mid after order asked steps (reply, same) legal planned rest =
-    let legal_now : Legal start (Answered asked.id reply ∷ Asked asked ∷ mid) = subst (Legal start) same legal in
-    let planned_now : ByPlan start (Answered asked.id reply ∷ Asked asked ∷ mid) = subst (ByPlan start) same planned in
+after_submit start before mid after order asked moment steps (reply, same) legal planned rest =
+    let legal_now : Legal start (Answered asked.id reply ∷ Asked asked moment ∷ mid) = subst (Legal start) same legal in
+    let planned_now : ByPlan start (Answered asked.id reply ∷ Asked asked moment ∷ mid) = subst (ByPlan start) same planned in
     subst (λ (t : List Happening). GoesOn start before t order steps) (sym same)
     (by legal_now (rest legal_now.0.0 planned_now.0.0))
   where
-    by : Legal start (Answered asked.id reply ∷ Asked asked ∷ mid) → GoesOn start before mid order steps
-        → GoesOn start before (Answered asked.id reply ∷ Asked asked ∷ mid) order steps
+    by : Legal start (Answered asked.id reply ∷ Asked asked moment ∷ mid) → GoesOn start before mid order steps
+        → GoesOn start before (Answered asked.id reply ∷ Asked asked moment ∷ mid) order steps
     by legal (inl said) =
-        inl (said_more start order before (Asked asked ∷ mid) (Answered asked.id reply)
-        (said_more start order before mid (Asked asked) said))
-    by legal (inr at) = inr (reply_on start before mid order asked steps reply legal at)
+        inl (said_more start order before (Asked asked moment ∷ mid) (Answered asked.id reply)
+        (said_more start order before mid (Asked asked moment) said))
+    by legal (inr at) = inr (reply_on start before mid order asked moment steps reply legal at)
 
 -- a loss of power changes nothing of what is at hand
 after_loss : (start : Start) (before mid : List Happening) (order : Contents) (steps address : ℕ)
@@ -325,8 +325,8 @@ goes_on start before order [] after finished hand same none legal planned =
 goes_on start before order (Step ∷ events) after finished hand (mid, part, rest) none legal planned =
     after_step start before mid after order (steps_in events) part legal planned
     (λ legal planned. goes_on start before order events mid finished hand rest none legal planned)
-goes_on start before order (Submit asked ∷ events) after finished hand (mid, part, rest) none legal planned =
-    after_submit start before mid after order asked (steps_in events) part legal planned
+goes_on start before order (Submit asked moment ∷ events) after finished hand (mid, part, rest) none legal planned =
+    after_submit start before mid after order asked moment (steps_in events) part legal planned
     (λ legal planned. goes_on start before order events mid finished hand rest none legal planned)
 goes_on start before order (Stop bytes ∷ events) after finished hand parts none legal planned = absurd none
 goes_on start before order (Power address ∷ events) after finished hand (mid, same, rest) none legal planned =
@@ -378,14 +378,14 @@ split_parts start (event ∷ newer) older trace (mid, part, rest) =
 
 part_finished : (start : Start) (event : Event) (before after : List Happening) → Part start event before after
     → IsFinished before → IsFinished after
-part_finished start (Submit order) before after (reply, same) finished = subst IsFinished (sym same) tt
+part_finished start (Submit order moment) before after (reply, same) finished = subst IsFinished (sym same) tt
 part_finished start Step before after (inl (due, (work, is, same))) finished = subst IsFinished (sym same) (by work is)
   where
     by : (work : Happening) → IsWork work → IsFinished (work ∷ before)
     by (Sent frame answer) is = tt
     by (Kept entry) is = tt
     by (Answered id reply) is = tt
-    by (Asked other) is = absurd is
+    by (Asked other moment) is = absurd is
     by Stopped is = absurd is
     by (Powered address) is = absurd is
 part_finished start Step before after (inr (due, same)) finished = subst IsFinished (sym same) finished

@@ -27,27 +27,27 @@ neither false b e = (refl, e)
 -- where an order has ended, that is unsaid
 pub ended_unsaid : (course : Course) → ended_in course ≡ true → unsaid_in course ≡ true
 ended_unsaid Quiet e = cc
-ended_unsaid (Waiting order) e = refl
+ended_unsaid (Waiting order moment) e = refl
 ended_unsaid Working e = refl
 ended_unsaid JustEnded e = refl
 
 pub waits_unsaid : (course : Course) (order : Contents) → waits_in course ≡ Some order → unsaid_in course ≡ true
 waits_unsaid Quiet order e = cc
-waits_unsaid (Waiting other) order e = refl
+waits_unsaid (Waiting other moment) order e = refl
 waits_unsaid Working order e = cc
 waits_unsaid JustEnded order e = cc
 
 -- where all is said, no order waits
 pub none_waits : (course : Course) → unsaid_in course ≡ false → waits_in course ≡ None
 none_waits Quiet e = refl
-none_waits (Waiting order) e = cc
+none_waits (Waiting order moment) e = cc
 none_waits Working e = cc
 none_waits JustEnded e = cc
 
 -- nor where an order has ended
 pub none_waits_ended : (course : Course) → ended_in course ≡ true → waits_in course ≡ None
 none_waits_ended Quiet e = cc
-none_waits_ended (Waiting order) e = cc
+none_waits_ended (Waiting order moment) e = cc
 none_waits_ended Working e = cc
 none_waits_ended JustEnded e = refl
 
@@ -57,9 +57,9 @@ pub record Waits (start : Start) (past : List Happening) (order : Contents) : Ty
   pub taken : taken_or_waiting past ≡ order ∷ older
   pub idle : is_at_work (standing_at start past) ≡ false
 
-newly : (start : Start) (past : List Happening) (id : ℕ) (order : Contents) → is_busy start past ≡ false
-    → Waits start (Answered id replies.Taken ∷ Asked order ∷ past) order
-newly start past id order e =
+newly : (start : Start) (past : List Happening) (id : ℕ) (order : Contents) (moment : ℕ) → is_busy start past ≡ false
+    → Waits start (Answered id replies.Taken ∷ Asked order moment ∷ past) order
+newly start past id order moment e =
     let both = neither (is_at_work (standing_at start past)) (is_unsaid past) e in record {
       older = taken_or_waiting past;
       taken = refl;
@@ -84,23 +84,23 @@ no_ended (standings.Left left) code idle allowed = absurd allowed
 pub waits : (start : Start) (past : List Happening) (order : Contents) → Legal start past → waiting past ≡ Some order
     → Waits start past order
 waits start [] order legal e = cc
-waits start (Asked other ∷ past) order legal e =
+waits start (Asked other moment ∷ past) order legal e =
     let w = waits start past order legal.0 e in record { older = w.older; taken = w.taken; idle = w.idle }
-waits start (Answered id replies.Taken ∷ Asked other ∷ past) order legal e =
-    let same : other ≡ order = cc in rw (← same) (newly start past id other legal.1.1.1)
-waits start (Answered id (replies.Kept code) ∷ Asked other ∷ past) order legal e =
+waits start (Answered id replies.Taken ∷ Asked other moment ∷ past) order legal e =
+    let same : other ≡ order = cc in rw (← same) (newly start past id other moment legal.1.1.1)
+waits start (Answered id (replies.Kept code) ∷ Asked other moment ∷ past) order legal e =
     let w = waits start past order legal.0.0 e in record { older = w.older; taken = w.taken; idle = w.idle }
-waits start (Answered id replies.IdReused ∷ Asked other ∷ past) order legal e =
+waits start (Answered id replies.IdReused ∷ Asked other moment ∷ past) order legal e =
     let w = waits start past order legal.0.0 e in record { older = w.older; taken = w.taken; idle = w.idle }
-waits start (Answered id replies.Busy ∷ Asked other ∷ past) order legal e =
+waits start (Answered id replies.Busy ∷ Asked other moment ∷ past) order legal e =
     let w = waits start past order legal.0.0 e in record { older = w.older; taken = w.taken; idle = w.idle }
-waits start (Answered id replies.Full ∷ Asked other ∷ past) order legal e =
+waits start (Answered id replies.Full ∷ Asked other moment ∷ past) order legal e =
     let w = waits start past order legal.0.0 e in record { older = w.older; taken = w.taken; idle = w.idle }
-waits start (Answered id (replies.Blocked unit) ∷ Asked other ∷ past) order legal e = absurd legal.1.1
+waits start (Answered id (replies.Blocked unit) ∷ Asked other moment ∷ past) order legal e = absurd legal.1.1
 waits start (Answered id reply ∷ past) order legal e = cc
 waits start (Sent frame answer ∷ past) order legal e =
     let w = waits start past order legal.0 e in record { older = w.older; taken = w.taken; idle = w.idle }
-waits start (Kept (Began other) ∷ past) order legal e = cc
+waits start (Kept (Began other moment) ∷ past) order legal e = cc
 waits start (Kept (Opened unit) ∷ past) order legal e =
     no_opened (standing_at start past) unit (waits start past order legal.0 e).idle
     (may_keep start past (Opened unit) legal.1).whole.0.1
@@ -141,26 +141,26 @@ stays waiter taken begun first none e = rw none at e
 pub kept_are_taken : (start : Start) (past : List Happening) → Legal start past
     → begun_orders (records_of start past) ≡ taken_orders past ++ begun_orders start.records
 kept_are_taken start [] legal = refl
-kept_are_taken start (Asked order ∷ past) legal = kept_are_taken start past legal.0
-kept_are_taken start (Answered id replies.Taken ∷ Asked order ∷ past) legal =
+kept_are_taken start (Asked order moment ∷ past) legal = kept_are_taken start past legal.0
+kept_are_taken start (Answered id replies.Taken ∷ Asked order moment ∷ past) legal =
     let both = neither (is_at_work (standing_at start past)) (is_unsaid past) legal.1.1.1 in
     let none = none_waits (course_of past) both.1 in
     stays (waiting past) (taken_or_waiting past) (begun_orders (records_of start past))
     (begun_orders start.records) none
     (kept_are_taken start past legal.0.0)
-kept_are_taken start (Answered id (replies.Kept code) ∷ Asked order ∷ past) legal = kept_are_taken start past legal.0.0
-kept_are_taken start (Answered id replies.IdReused ∷ Asked order ∷ past) legal = kept_are_taken start past legal.0.0
-kept_are_taken start (Answered id replies.Busy ∷ Asked order ∷ past) legal = kept_are_taken start past legal.0.0
-kept_are_taken start (Answered id replies.Full ∷ Asked order ∷ past) legal = kept_are_taken start past legal.0.0
-kept_are_taken start (Answered id (replies.Blocked unit) ∷ Asked order ∷ past) legal = absurd legal.1.1
+kept_are_taken start (Answered id (replies.Kept code) ∷ Asked order moment ∷ past) legal = kept_are_taken start past legal.0.0
+kept_are_taken start (Answered id replies.IdReused ∷ Asked order moment ∷ past) legal = kept_are_taken start past legal.0.0
+kept_are_taken start (Answered id replies.Busy ∷ Asked order moment ∷ past) legal = kept_are_taken start past legal.0.0
+kept_are_taken start (Answered id replies.Full ∷ Asked order moment ∷ past) legal = kept_are_taken start past legal.0.0
+kept_are_taken start (Answered id (replies.Blocked unit) ∷ Asked order moment ∷ past) legal = absurd legal.1.1
 kept_are_taken start (Answered id (replies.Kept code) ∷ past) legal =
     stays (waiting past) (taken_or_waiting past) (begun_orders (records_of start past)) (begun_orders start.records)
     (none_waits_ended (course_of past) legal.1.0) (kept_are_taken start past legal.0)
 kept_are_taken start (Answered id (replies.Blocked unit) ∷ past) legal = kept_are_taken start past legal.0
 kept_are_taken start (Answered id reply ∷ past) legal = absurd legal.1
 kept_are_taken start (Sent frame answer ∷ past) legal = kept_are_taken start past legal.0
-kept_are_taken start (Kept (Began order) ∷ past) legal =
-    let due = (may_keep start past (Began order) legal.1).due in
+kept_are_taken start (Kept (Began order moment) ∷ past) legal =
+    let due = (may_keep start past (Began order moment) legal.1).due.0 in
     let w = waits start past order legal.0 due in
     begins order (waiting past) (taken_or_waiting past) w.older (begun_orders (records_of start past))
     (begun_orders start.records) due w.taken

@@ -74,7 +74,7 @@ next_in (standings.Left unit) told frame answer asked =
 in_session : (start : Start) (past : List Happening) → ByPlan start past
     → InSession (standing_at start past) (told_in past)
 in_session start [] planned = begins_session (standing_of start.records)
-in_session start (Asked order ∷ past) planned = in_session start past planned.0
+in_session start (Asked order moment ∷ past) planned = in_session start past planned.0
 in_session start (Answered id replies.Taken ∷ past) planned = begins_session (standing_at start past)
 in_session start (Answered id (replies.Kept code) ∷ past) planned = in_session start past planned.0
 in_session start (Answered id replies.IdReused ∷ past) planned = in_session start past planned.0
@@ -291,14 +291,14 @@ ended_earned first order code sent (verdict, told, older, parts, inr (ends, want
 pub ended_idle : (start : Start) (past : List Happening) → Legal start past → has_ended past ≡ true
     → is_at_work (standing_at start past) ≡ false
 ended_idle start [] legal e = cc
-ended_idle start (Asked order ∷ past) legal e = ended_idle start past legal.0 e
-ended_idle start (Answered id replies.Taken ∷ Asked order ∷ past) legal e = cc
-ended_idle start (Answered id reply ∷ Asked order ∷ past) legal e = ended_idle start past legal.0.0 e
+ended_idle start (Asked order moment ∷ past) legal e = ended_idle start past legal.0 e
+ended_idle start (Answered id replies.Taken ∷ Asked order moment ∷ past) legal e = cc
+ended_idle start (Answered id reply ∷ Asked order moment ∷ past) legal e = ended_idle start past legal.0.0 e
 ended_idle start (Answered id reply ∷ past) legal e = cc
 ended_idle start (Sent frame answer ∷ past) legal e = ended_idle start past legal.0 e
 ended_idle start (Kept (Ended code) ∷ past) legal e =
     idle_next (standing_at start past) code (may_keep start past (Ended code) legal.1).whole.0.1
-ended_idle start (Kept (Began order) ∷ past) legal e = cc
+ended_idle start (Kept (Began order moment) ∷ past) legal e = cc
 ended_idle start (Kept (Opened unit) ∷ past) legal e =
     no_opened (standing_at start past) unit (ended_idle start past legal.0 e)
     (may_keep start past (Opened unit) legal.1).whole.0.1
@@ -368,8 +368,8 @@ blocked_by first (standings.Opened order) waiter ended orders sent told kept id 
 
 said_so : (start : Start) (past : List Happening) → Legal start past → ByPlan start past → IsSaidSo start past
 said_so start [] legal planned = tt
-said_so start (Asked order ∷ past) legal planned = tt
-said_so start (Answered id reply ∷ Asked order ∷ past) legal planned = tt
+said_so start (Asked order moment ∷ past) legal planned = tt
+said_so start (Answered id reply ∷ Asked order moment ∷ past) legal planned = tt
 said_so start (Answered id (replies.Kept code) ∷ past) legal planned =
     let said = said_end start past id code legal.0 planned.0 legal.1 in
     (said.0, said.1, said.2, ended_earned (stood_at start past) said.0 code (sent_since_taken past) said.3)

@@ -1,5 +1,5 @@
 -- The laws of a writer. They speak of traces and worlds alone.
-use Rattle.std.specs.Prelude.{◌≡◌, ◌≢◌, ◌↔◌, false, List, [], ◌∷◌, ◌++◌}
+use Rattle.std.specs.Prelude.{◌≡◌, ◌≢◌, ◌↔◌, false, List, [], ◌∷◌, ◌++◌, ℕ}
 use Rattle.std.specs.List.{Contains}
 use Rattle.dali_bank.specs.Order.{Contents}
 use Rattle.dali_bus.specs.World.{World}
@@ -43,8 +43,10 @@ OneReplyIsDue = (start : Start) (past : List Happening) (order : Contents)
 
 -- straight after an order that has ended comes its kept reply
 abbrev pub RepeatsAreAnswered : Type 0
-RepeatsAreAnswered = (start : Start) (past : List Happening) (order : Contents) (code : Code) (next : Happening)
-    → Contains (orders_of (records_of start past)) (order, reached.Ended code) → Legal start (next ∷ Asked order ∷ past)
+RepeatsAreAnswered =
+    (start : Start) (past : List Happening) (order : Contents) (moment : ℕ) (code : Code) (next : Happening)
+    → Contains (orders_of (records_of start past)) (order, reached.Ended code)
+    → Legal start (next ∷ Asked order moment ∷ past)
     → next ≡ Answered order.id (replies.Kept code)
 
 -- no frame is sent and no record is kept by this part of a trace
@@ -60,15 +62,16 @@ QuietUntilTaken = (start : Start) (past more : List Happening)
 -- and the plan asks for just that. Anything may be at work.
 abbrev pub RefusedOrdersChangeNothing : Type 0
 RefusedOrdersChangeNothing =
-    (start : Start) (past : List Happening) (order : Contents) (reply : Reply) (next : Happening)
+    (start : Start) (past : List Happening) (order : Contents) (moment : ℕ) (reply : Reply) (next : Happening)
     → IsFinished past → reply ≢ replies.Taken
-    → (MayFollow start (Answered order.id reply ∷ Asked order ∷ past) next ↔ MayFollow start past next)
-    × (IsPlanned start (Answered order.id reply ∷ Asked order ∷ past) next ↔ IsPlanned start past next)
+    → (MayFollow start (Answered order.id reply ∷ Asked order moment ∷ past) next ↔ MayFollow start past next)
+    × (IsPlanned start (Answered order.id reply ∷ Asked order moment ∷ past) next ↔ IsPlanned start past next)
 
 -- where a trace isn't busy, nothing is done by the repeat of an order that has ended, nor from there until an order
 -- is taken
 abbrev pub RepeatsAreQuiet : Type 0
-RepeatsAreQuiet = (start : Start) (past more : List Happening) (order : Contents) (code : Code) (next : Happening)
+RepeatsAreQuiet =
+    (start : Start) (past more : List Happening) (order : Contents) (moment : ℕ) (code : Code) (next : Happening)
     → Contains (orders_of (records_of start past)) (order, reached.Ended code) → is_busy start past ≡ false
-    → Legal start (more ++ next ∷ Asked order ∷ past) → NoneTaken more
-    → NothingIsDone start (more ++ next ∷ Asked order ∷ []) past
+    → Legal start (more ++ next ∷ Asked order moment ∷ past) → NoneTaken more
+    → NothingIsDone start (more ++ next ∷ Asked order moment ∷ []) past

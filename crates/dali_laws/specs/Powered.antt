@@ -12,5 +12,5 @@ unpowered (other ∷ past) = other ∷ unpowered past
 -- none of them stands straight after an order, before its reply
 abbrev pub IsPowerApart : List Happening → Type 0
 IsPowerApart [] = Unit {0}
-IsPowerApart (Powered address ∷ Asked order ∷ past) = ⊥
+IsPowerApart (Powered address ∷ Asked order moment ∷ past) = ⊥
 IsPowerApart (newest ∷ past) = IsPowerApart past

@@ -11,6 +11,8 @@ alone take is measured with a command that does nothing but send and read.
 2. By where the journal is: in a folder on disk, in /dev/shm, and on disk
    with nothing synced.
 3. Sent again: 1000 orders that the journal knows, which send no frame.
+4. The start alone, over a journal of 100000 orders with all fields: of
+   version 2, and of version 1, which is written anew.
 
 Status 0: every order was done. Status 1: one wasn't, or the frames were too
 many or too few. Status 2: a program couldn't be built or run.
@@ -24,6 +26,7 @@ import sys
 import tempfile
 from typing import NamedTuple
 
+from journal import FULL, HEADER, MOST_ORDERS, write_journal
 from measuring import (
     KIBIBYTE,
     MEBIBYTE,
@@ -57,9 +60,12 @@ class Bench:
     def __init__(self, program, folder, runs):
         self.program = program
         self.folder = folder
+        self.memory = MEMORY_FOLDER if os.access(MEMORY_FOLDER, os.W_OK) else folder
         self.runs = runs
         self.link = folder / "null_link"
         self.shim = folder / "drive_shim.so"
+        # The variables with which nothing is synced.
+        self.unsynced = [f"LD_PRELOAD={self.shim}", "DRIVE_SHIM_ACT=sync any 0 skip 0"]
         source = REPOSITORY / "benchmarks" / "null_link.c"
         subprocess.run(["cc", "-O2", "-o", self.link, source], check=True)
         source = REPOSITORY / "scripts" / "drive_shim.c"
@@ -110,17 +116,32 @@ class Bench:
         with tempfile.TemporaryDirectory(dir=place) as folder:
             journal = pathlib.Path(folder) / "bench.journal"
             words = [self.program, "drive", orders, journal]
-            shim = [f"LD_PRELOAD={self.shim}", "DRIVE_SHIM_ACT=sync any 0 skip 0"]
             if is_sent_again:
-                self.run(words, shim)
+                self.run(words, self.unsynced)
             for _ in range(self.runs):
                 if not is_sent_again:
                     journal.unlink(missing_ok=True)
-                driven, told = self.run(words, None if is_synced else shim)
+                driven, told = self.run(words, None if is_synced else self.unsynced)
                 frames = 0 if is_sent_again else FRAMES_OF_ORDER * count
                 done = told.count(" kept 0 Done\n")
                 if (driven.status, driven.frames, done) != (0, frames, count):
                     raise ValueError(f"{driven}, {done} orders of {count} done")
+                found.append(driven)
+        return least(found)
+
+    def start(self, version, place, is_synced=True):
+        """Measure the start over the longest journal of a version."""
+        found = []
+        with tempfile.TemporaryDirectory(dir=place) as folder:
+            journal = pathlib.Path(folder) / "bench.journal"
+            words = [self.program, "drive", self.orders(0), journal]
+            for _ in range(self.runs):
+                write_journal(journal, range(MOST_ORDERS), FULL, b"", version)
+                driven, told = self.run(words, None if is_synced else self.unsynced)
+                with open(journal, "rb") as file:
+                    header = file.read(len(HEADER))
+                if (driven.status, driven.frames, told, header) != (0, 0, "", HEADER):
+                    raise ValueError(f"{driven}, told {told!r}, header {header!r}")
                 found.append(driven)
         return least(found)
 
@@ -154,9 +175,8 @@ def print_run(name, driven, pipes, count, start=0.0):
 
 
 def measure(bench):
-    """Measure and print everything."""
-    disk = bench.folder
-    memory = MEMORY_FOLDER if os.access(MEMORY_FOLDER, os.W_OK) else disk
+    """Measure and print what frames and orders take."""
+    disk, memory = bench.folder, bench.memory
     pipes = {
         count: bench.pipes(FRAMES_OF_ORDER * count) for count in (10, 100, 1000)
     }
@@ -191,6 +211,21 @@ def measure(bench):
     )
 
 
+def measure_starts(bench):
+    """Measure and print what a start over the longest journals takes."""
+    for version in (2, 1):
+        for where, place, is_synced in (
+            ("in memory, not synced", bench.memory, False),
+            ("on disk, synced", bench.folder, True),
+        ):
+            started = bench.start(version, place, is_synced)
+            print(
+                f"the start over {MOST_ORDERS} orders of version {version},"
+                f" {where}: {started.seconds * 1e3:.1f} ms,"
+                f" memory {started.peak_memory / MEBIBYTE:.1f} MiB"
+            )
+
+
 def main():
     """Measure, and tell whether each order was done."""
     parser = argument_parser(__doc__.splitlines()[0], PROGRAM, 3)
@@ -199,7 +234,9 @@ def main():
     try:
         with working_folder(arguments.keep) as folder:
             folder = pathlib.Path(folder).resolve()
-            measure(Bench(arguments.program.resolve(), folder, arguments.runs))
+            bench = Bench(arguments.program.resolve(), folder, arguments.runs)
+            measure(bench)
+            measure_starts(bench)
     except (OSError, subprocess.CalledProcessError) as error:
         print(f"a program couldn't be built or run: {error}", file=sys.stderr)
         return 2

@@ -1,10 +1,10 @@
 #!/usr/bin/env python3
 """Measure `dali_bench journal` and the calls of a journal.
 
-1. `journal FILE` on 100000 orders with all fields, and with a GTIN, beside a
-   plain Python program (journal_baseline.py), and loading alone: the same
-   file with a byte behind it that is no record, so that nothing but the fault
-   is printed.
+1. `journal FILE` on 100000 orders with all fields, and with a GTIN, in both
+   versions, beside a plain Python program (journal_baseline.py), and loading
+   alone: the same file with a byte behind it that is no record, so that
+   nothing but the fault is printed.
 2. With --calls: `load`, `kept` and a whole order of a writer (submit, two
    records, sixteen frames without an answer, the saying) over journals of 10,
    1000 and 99000 orders, by a program (journal_speed.txt) that is proved and
@@ -16,6 +16,7 @@ Status 0: both programs gave the same output. Status 1: an output differs.
 Status 2: a program couldn't be built or run.
 """
 
+import itertools
 import pathlib
 import shutil
 import struct
@@ -38,27 +39,33 @@ PROGRAM = REPOSITORY / "crates" / "dali_bench" / "out" / "dali_bench"
 BASELINE = REPOSITORY / "benchmarks" / "journal_baseline.py"
 GTIN = list(zip(range(0x03, 0x09), bytes.fromhex("03A4CEEFADAB")))
 FULL = [(place, 0xA5) for place in [*range(0x03, 0x11), *range(0x13, 0x78)]]
+FIELDS = [("all fields", FULL), ("a GTIN", GTIN)]
 MOST_ORDERS = 100000
+HEADER = bytes.fromhex("44423102")
+MOMENT = struct.pack(">Q", 1700000000)
 
 
-def write_journal(path, numbers, pairs, behind=b""):
+def write_journal(path, numbers, pairs, behind=b"", version=2):
     """Write a journal in which each order is done."""
-    tail = b"".join(bytes(pair) for pair in pairs)
+    tail = bytes([5, len(pairs)]) + b"".join(bytes(pair) for pair in pairs)
+    if version == 2:
+        tail = MOMENT + tail
     with open(path, "wb") as file:
+        if version == 2:
+            file.write(HEADER)
         for number in numbers:
-            head = struct.pack(">QBB", number, 5, len(pairs))
-            file.write(b"B" + head + tail + b"O\x05E\x00")
+            file.write(b"B" + struct.pack(">Q", number) + tail + b"O\x05E\x00")
         file.write(behind)
 
 
 def compare(program, runs, folder):
-    """Run the program and the baseline on both files; whether they agree."""
+    """Run the program and the baseline on all files; whether they agree."""
     agree = True
     least = least_measurable_memory(folder)
-    for name, pairs in [("all fields", FULL), ("a GTIN", GTIN)]:
+    for (name, pairs), version in itertools.product(FIELDS, (2, 1)):
         whole, ended = folder / "journal.bin", folder / "ended.bin"
-        write_journal(whole, range(MOST_ORDERS), pairs)
-        write_journal(ended, range(MOST_ORDERS), pairs, b"A")
+        write_journal(whole, range(MOST_ORDERS), pairs, b"", version)
+        write_journal(ended, range(MOST_ORDERS), pairs, b"A", version)
         size = whole.stat().st_size
         ours, theirs = folder / "program.txt", folder / "baseline.txt"
         told = best_of([run([program, "journal", whole], ours) for _ in range(runs)])
@@ -71,7 +78,8 @@ def compare(program, runs, folder):
         )
         memory = max(told.peak_memory, least)
         print(
-            f"{MOST_ORDERS} orders with {name}, {size / MEBIBYTE:.1f} MiB:"
+            f"{MOST_ORDERS} orders with {name}, version {version},"
+            f" {size / MEBIBYTE:.1f} MiB:"
             f" journal {told.seconds:.3f} s, loading alone {loaded.seconds:.3f} s,"
             f" memory {memory / MEBIBYTE:.1f} MiB ({memory / size:.1f} x file),"
             f" baseline {plain.seconds:.2f} s ({plain.seconds / told.seconds:.0f} x,"

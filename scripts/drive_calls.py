@@ -1,7 +1,6 @@
 """Tests of `drive` by the calls that it makes: in which order, and each of them failing, cut short or the last one."""
 
 import errno
-import os
 import signal
 
 from drive_desk import (
@@ -9,6 +8,7 @@ from drive_desk import (
     ABSENT_BEGAN,
     ABSENT_FRAMES,
     ABSENT_JOURNAL,
+    OLD_ABSENT_BEGAN,
     OUT_LINES,
     PRESENT,
     SILENCE,
@@ -16,11 +16,12 @@ from drive_desk import (
     goes_on,
     last_line,
     parts,
+    put_journal,
     settings,
     want,
 )
 from drive_units import BLANK, CHANGED_BY_KILLS, DOUBTFUL, LOSSY, SCENES, Scene, finish
-from driven import judge, kept_lines, records_of
+from driven import groups_of, judge, kept_lines, records_of
 
 
 class Call:
@@ -62,39 +63,49 @@ def calls_of(desk, run):
     return calls_in(log), ended
 
 
-def check_order(calls, journal):
-    """Raise unless each record was synced before what stands on it, and each frame was answered before the next."""
-    unsynced = is_folder_due = is_answer_due = False
-    written = b""
+def check_order(calls, journal, start=b""):
+    """Raise unless all was synced before what stands on it, and each frame was answered before the next."""
+    unsynced, locked, is_answer_due = {"journal", "folder"} if start else {"folder"}, set(), False
+    written = {"journal": start, "new": b""}
     for call in calls:
-        if call.kind in ("write", "cut") and call.target == "journal":
-            unsynced = True
-            written += bytes.fromhex(call.detail) if call.kind == "write" else b""
+        if call.kind in ("write", "cut"):
+            assert call.target != "old", call
+        if call.kind in ("write", "cut") and call.target in written:
+            unsynced.add(call.target)
+            written[call.target] = changed(written[call.target], call)
         elif call.kind == "sync":
             assert call.result == 0, call
-            unsynced = unsynced and call.target != "journal"
-            is_folder_due = is_folder_due and call.target != "folder"
-        elif call.kind == "open" and call.target == "journal" and call.result >= 0:
-            is_folder_due = is_folder_due or int(call.detail, 16) & os.O_CREAT > 0
+            unsynced.discard(call.target)
+        elif call.kind == "lock" and call.result == 0:
+            locked.add(call.target)
+        elif call.kind == "rename":
+            want((call.result, call.target, call.detail), (0, "new", "journal"))
+            assert "new" not in unsynced and {"new", "journal"} <= locked, (call, unsynced, locked)
+            written["journal"] = written["new"]
+            unsynced = {"folder"}
         elif call.kind == "write" and call.target == "out":
-            assert not unsynced and not is_folder_due and not is_answer_due, call
-            assert len(bytes.fromhex(call.detail)) == 5, call
-            check_ground(bytes.fromhex(call.detail), written)
+            assert not unsynced and not is_answer_due and "journal" in locked, (call, unsynced)
+            check_ground(bytes.fromhex(call.detail), written["journal"])
             is_answer_due = True
         elif call.kind == "write" and call.target == "err":
-            told = bytes.fromhex(call.detail).decode()
-            assert " kept " not in told or not unsynced and told.strip() in kept_lines(written), (told, written)
+            told, kept = bytes.fromhex(call.detail).decode(), kept_lines(written["journal"])
+            assert " kept " not in told or not unsynced and told.strip() in kept, (told, written)
         elif call.kind == "read" and call.target == "in":
             is_answer_due = False
-    want((unsynced, is_folder_due, written), (False, False, journal))
+    want((unsynced, written["journal"]), (set(), journal))
+
+
+def changed(data, call):
+    """Give what stands in a file after a write at its end or a cut."""
+    return data + bytes.fromhex(call.detail) if call.kind == "write" else data[:int(call.detail, 16)]
 
 
 def check_ground(line, written):
-    """Raise unless the record that a frame stands on is there: Began for each, Opened for enabling and for writes."""
-    kinds = [kind for kind, _ in records_of(written)[0]]
-    assert kinds.count("B") > kinds.count("E"), line
-    if line.endswith(b"81\n") or line.startswith(b"C7"):
-        assert kinds[-1] == "O", line
+    """Raise unless an order is begun or a unit left where a frame is sent, and opened or left where it may write."""
+    assert len(line) == 5, line
+    last = groups_of(written)[-1]
+    may_write = line.endswith(b"81\n") or line.startswith(b"C7")
+    assert last.may_leave_enabled() or last.code is None and not may_write, (line, last)
 
 
 def test_records_are_synced_before_frames(folder):
@@ -108,9 +119,10 @@ def test_records_are_synced_before_frames(folder):
 
 
 def test_a_cut_is_synced_before_frames(folder):
-    for length in (24, 10):
-        desk = desk_of(folder, ABSENT, ABSENT_JOURNAL[:length])
+    for start in (ABSENT_BEGAN + b"E", ABSENT_BEGAN[:14]):
+        desk = desk_of(folder, ABSENT, start)
         calls, _ = calls_of(desk, lambda variables: desk.give(SILENCE, variables))
+        check_order(calls, ABSENT_JOURNAL, start)
         kinds = [call.kind for call in calls if call.target == "journal"]
         assert "sync" in kinds[kinds.index("cut"):kinds.index("write")], kinds
 
@@ -119,7 +131,10 @@ def test_what_was_loaded_is_synced_before_frames(folder):
     desk = desk_of(folder, ABSENT, ABSENT_BEGAN)
     calls, _ = calls_of(desk, lambda variables: desk.give(SILENCE, variables))
     first = next(place for place, call in enumerate(calls) if (call.kind, call.target) == ("write", "out"))
-    assert any((call.kind, call.target) == ("sync", "journal") for call in calls[:first]), calls[:first]
+    for target in ("journal", "folder"):
+        assert any((call.kind, call.target) == ("sync", target) for call in calls[:first]), calls[:first]
+    assert not any(call.target == "new" for call in calls), calls
+    check_order(calls, ABSENT_JOURNAL, ABSENT_BEGAN)
 
 
 def faults_of(call):
@@ -134,28 +149,31 @@ def faults_of(call):
 
 def absent_calls(desk, start):
     """Give the calls of the absent unit's run from a journal of these bytes, or from none."""
-    desk.journal.unlink(missing_ok=True)
-    if start is not None:
-        desk.journal.write_bytes(start)
+    put_journal(desk, start)
     calls, ended = calls_of(desk, lambda variables: desk.give(SILENCE, variables))
     want((ended.status, desk.held()), (0, ABSENT_JOURNAL))
     has_written = False
     for call in calls:
         has_written = has_written or (call.kind, call.target) == ("write", "journal")
         call.is_of_record = has_written
-    return [call for call in calls if call.kind in ("open", "read", "write", "sync", "cut", "lock", "seek")]
+    return [call for call in calls if call.kind != "close"]
+
+
+def may_be(call, effect, value):
+    """Whether a call may be so: only reads and writes are short, and no signal interrupts a rename or a stat."""
+    if effect == "short":
+        return call.kind in ("read", "write")
+    return value != errno.EINTR or call.kind not in ("rename", "stat")
 
 
 def each_call_spoiled(folder, effect, value):
     """Run the absent unit with each call spoiled in turn; give the desk, the call and how the run ended."""
     desk = desk_of(folder, ABSENT)
-    for start in (None, ABSENT_JOURNAL[:24]):
+    for start in (None, ABSENT_BEGAN + b"E"):
         for call in absent_calls(desk, start):
-            if effect == "short" and call.kind not in ("read", "write") or call.result < 0:
+            if call.result < 0 or not may_be(call, effect, value):
                 continue
-            desk.journal.unlink(missing_ok=True)
-            if start is not None:
-                desk.journal.write_bytes(start)
+            put_journal(desk, start)
             yield desk, call, desk.give(SILENCE, shim(desk, call.act(effect, value)))
 
 
@@ -180,8 +198,9 @@ def test_short_calls_change_nothing(folder):
     for desk, call, ended in each_call_spoiled(folder, "short", 0):
         want((call, ended.status, ended.sent), (call, 0, ABSENT_FRAMES))
         want(desk.held(), ABSENT_JOURNAL)
-    for kind, target in [("write", "journal"), ("write", "out"), ("write", "err"), ("write", "any"), ("read", "any")]:
-        for start in (b"", ABSENT_JOURNAL[:24]):
+    for kind, target in [("write", "journal"), ("write", "new"), ("write", "out"), ("write", "err"), ("write", "any"),
+                         ("read", "any")]:
+        for start in (b"", ABSENT_BEGAN + b"E", OLD_ABSENT_BEGAN + b"E"):
             desk = desk_of(folder, ABSENT, start)
             ended = desk.give(SILENCE, shim(desk, f"{kind} {target} 0 short"))
             want((kind, target, ended.status, ended.sent), (kind, target, 0, ABSENT_FRAMES))
@@ -197,12 +216,12 @@ def test_kills_at_each_call(folder, part, _):
 
 
 def acts_on(calls):
-    """Give the acts that kill before, after and in the midst of each call on the journal and of each reply."""
+    """Give the acts that kill before, after and in the midst of each call on the journal's files and of each reply."""
     for call in calls:
-        if call.target in ("journal", "folder", "orders", "err"):
+        if call.target in ("journal", "new", "old", "folder", "orders", "err"):
             yield call.act("kill")
             yield call.act("killed")
-        if (call.kind, call.target) == ("write", "journal"):
+        if call.kind == "write" and call.target in ("journal", "new"):
             yield from (call.act("torn", length) for length in range(1, len(call.detail) // 2))
         if (call.kind, call.target) == ("write", "out") and call.number % 20 == 1:
             yield from (call.act("torn", length) for length in range(1, 5))
@@ -226,11 +245,11 @@ def test_kills_at_each_record_and_reply(folder, part, count):
                 raise AssertionError(f"{name}, with the act {act}") from fault
 
 
-@parts(2)
-def test_each_allocation_refused(folder, part, count):
+def refuse_each_allocation(desk, start, numbers):
+    """Run the absent unit with one of its allocations refused, each in turn; tell how many ended as want of memory."""
     ran_out = 0
-    for number in range(1 + part, 100000, count):
-        desk = desk_of(folder, ABSENT, b"")
+    for number in numbers:
+        put_journal(desk, start)
         preload = {"LD_PRELOAD": str(settings["shims"] / "refuse_alloc.so"), "REFUSED_ALLOCATION": str(number)}
         ended = desk.give(SILENCE, preload)
         told = ended.told.replace("an allocation was refused\n", "")
@@ -243,6 +262,14 @@ def test_each_allocation_refused(folder, part, count):
             line = ended.sent.decode() if number <= 8 and ended.sent else told
             want((number, ended.status, line.splitlines()[-1]), (number, 2, "fault 20 Memory"))
             assert number <= 8 or not ended.sent, (number, ended.sent)
+            assert groups_of(desk.held()) == groups_of(start), (number, desk.held())
             ran_out += 1
         goes_on(desk)
+    return ran_out
+
+
+@parts(4)
+def test_each_allocation_refused(folder, part, _):
+    start = (b"", OLD_ABSENT_BEGAN)[part // 2]
+    ran_out = refuse_each_allocation(desk_of(folder, ABSENT), start, range(1 + part % 2, 100000, 2))
     assert ran_out, "no refused allocation ended as want of memory"

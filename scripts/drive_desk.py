@@ -1,17 +1,23 @@
 """What the tests of `drive` share: its worked example, a unit that isn't there, and how a test is judged."""
 
-from driven import Desk
+from driven import HEADER, Desk
 
 GTIN = "4006381333931"
 GTIN_BYTES = bytes.fromhex("03A4CEEFADAB")
 ABSENT = [{"order": 1, "unit": 9, "gtin": GTIN}]
-ABSENT_BEGAN = bytes.fromhex("42 0000000000000001 09 06 0303 04A4 05CE 06EF 07AD 08AB")
-ABSENT_JOURNAL = ABSENT_BEGAN + bytes.fromhex("45 03")
+ABSENT_RECORDS = bytes.fromhex("42 0000000000000001 0000000000000000 09 06 0303 04A4 05CE 06EF 07AD 08AB 45 03")
+ABSENT_JOURNAL = HEADER + ABSENT_RECORDS
+ABSENT_BEGAN = ABSENT_JOURNAL[:-2]
 ABSENT_FRAMES = b"C301\n139C\n" * 8
 SILENCE = b"--\n" * 16
 KEPT_SILENT = "reply 1 kept 3 Silent\n"
 PRESENT = [{"order": 1, "unit": 5, "gtin": GTIN}]
-DONE_JOURNAL = bytes.fromhex("42 0000000000000001 05 06 0303 04A4 05CE 06EF 07AD 08AB 4F05 4500")
+DONE_RECORDS = bytes.fromhex("42 0000000000000001 0000000000000000 05 06 0303 04A4 05CE 06EF 07AD 08AB 4F05 4500")
+DONE_JOURNAL = HEADER + DONE_RECORDS
+# The same in version 1.
+OLD_ABSENT_JOURNAL = bytes.fromhex("42 0000000000000001 09 06 0303 04A4 05CE 06EF 07AD 08AB 45 03")
+OLD_ABSENT_BEGAN = OLD_ABSENT_JOURNAL[:-2]
+OLD_DONE_JOURNAL = bytes.fromhex("42 0000000000000001 05 06 0303 04A4 05CE 06EF 07AD 08AB 4F05 4500")
 DONE_TOLD = "reply 1 taken\nreply 1 kept 0 Done\n"
 MOST_JOURNAL = 33554432
 FAULT_21 = (2, b"", "fault 21 File")
@@ -50,6 +56,24 @@ def desk_of(folder, orders, journal=None):
     return desk
 
 
+def new_of(desk):
+    """Give the path of the file that is to take the journal's place."""
+    return desk.journal.with_name(desk.journal.name + ".new")
+
+
+def put_journal(desk, journal):
+    """Put a journal of these bytes in its place, or none, and take away what a run left beside it."""
+    new_of(desk).unlink(missing_ok=True)
+    desk.journal.unlink(missing_ok=True)
+    if journal is not None:
+        desk.journal.write_bytes(journal)
+
+
+def absent_records(number, moment=0):
+    """Give the records of an order with this number and moment for the absent unit."""
+    return b"B" + number.to_bytes(8, "big") + moment.to_bytes(8, "big") + ABSENT_RECORDS[17:]
+
+
 def last_line(ended):
     """Give the status, what was sent, and the last line that was told."""
     return ended.status, ended.sent, ended.told.rstrip("\n").rpartition("\n")[2]
@@ -59,4 +83,4 @@ def goes_on(desk, wanted=ABSENT_JOURNAL):
     """Run the absent unit's orders once more, with nothing in the way: they come to their right end."""
     ended = desk.give(SILENCE)
     assert ended.status == 0 and ended.told.endswith(KEPT_SILENT), ended
-    want(desk.held(), wanted)
+    want((desk.held(), new_of(desk).exists()), (wanted, False))

@@ -13,19 +13,23 @@ from drive_desk import (
     ABSENT_BEGAN,
     ABSENT_FRAMES,
     ABSENT_JOURNAL,
+    ABSENT_RECORDS,
     FAULT_21,
     KEPT_SILENT,
     MOST_JOURNAL,
     NOBODY,
+    OLD_ABSENT_BEGAN,
+    OLD_ABSENT_JOURNAL,
     SILENCE,
     Skipped,
     desk_of,
     goes_on,
     last_line,
+    new_of,
     settings,
     want,
 )
-from driven import Ended
+from driven import HEADER, Ended
 
 
 def test_journal_that_is_a_folder(folder):
@@ -83,14 +87,58 @@ def test_journal_that_is_too_big(folder):
     assert sent == b"" and (status, line) in [(1, "fault 13 TooBig"), FAULT_21[::2]], (status, line)
 
 
-def test_files_that_are_no_journal(folder):
-    files = {"41": "3 Record at 0", "4500": "4 Sequence at 0", (ABSENT_BEGAN * 2).hex(): "4 Sequence at 23",
-             (ABSENT_JOURNAL * 2).hex(): "5 Repeated at 25", ABSENT_JOURNAL.hex() + "4F09": "4 Sequence at 25",
-             ABSENT_BEGAN.hex() + "4F08": "4 Sequence at 23", "42000000000000000140": "3 Record at 0"}
+def check_refused(folder, files):
+    """Raise unless each of the files, by its digits, is refused by its fault and stays as it is."""
     for digits, fault in files.items():
         desk = desk_of(folder, ABSENT, bytes.fromhex(digits))
         want((digits, last_line(desk.give(SILENCE))), (digits, (1, b"", "journal fault " + fault)))
-        want(desk.held(), bytes.fromhex(digits))
+        want((desk.held(), new_of(desk).exists()), (bytes.fromhex(digits), False))
+
+
+def test_files_that_are_no_journal(folder):
+    began, head = ABSENT_RECORDS[:-2].hex(), HEADER.hex()
+    before_unit = ABSENT_RECORDS[:17].hex()
+    check_refused(folder, {
+        head + "41": "3 Record at 4", head + "4500": "4 Sequence at 4", head + began * 2: "4 Sequence at 35",
+        head + ABSENT_RECORDS.hex() * 2: "5 Repeated at 37", head + ABSENT_RECORDS.hex() + "4F09": "4 Sequence at 37",
+        head + began + "4F08": "4 Sequence at 35", head + before_unit + "40": "3 Record at 4",
+        head + before_unit + "0900": "3 Record at 4", head + began + head: "3 Record at 35", head * 2: "3 Record at 4",
+        head + OLD_ABSENT_BEGAN.hex(): "3 Record at 4"})
+
+
+def test_files_of_version_1_that_are_no_journal(folder):
+    began, records = OLD_ABSENT_BEGAN.hex(), OLD_ABSENT_JOURNAL.hex()
+    check_refused(folder, {
+        "41": "3 Record at 0", "4500": "4 Sequence at 0", began * 2: "4 Sequence at 23",
+        records * 2: "5 Repeated at 25", records + "4F09": "4 Sequence at 25", began + "4F08": "4 Sequence at 23",
+        "42000000000000000140": "3 Record at 0", began + HEADER.hex(): "3 Record at 23",
+        ABSENT_RECORDS.hex(): "3 Record at 0"})
+
+
+def test_files_with_another_header(folder):
+    digits = ["44", "4442", "444231", "44423103", "44423101", "44423100", "44000000", "444231FF" + ABSENT_RECORDS.hex(),
+              "4442" + ABSENT_RECORDS.hex(), "44" * 40]
+    check_refused(folder, {these: "7 Header" for these in digits})
+
+
+def full_page():
+    """Give a journal of 4096 bytes, in which 176 orders of a byte or two were silent."""
+    pairs = [b"\1\x13\x18"] * 154 + [b"\2\x13\x18\x14\x35"] * 22
+    groups = [b"B" + number.to_bytes(8, "big") + bytes(8) + b"\x09" + those + b"E\3"
+              for number, those in enumerate(pairs, 1000)]
+    journal = HEADER + b"".join(groups)
+    want(len(journal), 4096)
+    return journal
+
+
+def fill(path):
+    """Fill up the file system that a file is on."""
+    with open(path, "wb", buffering=0) as filler:
+        try:
+            while filler.write(bytes(1024)):
+                pass
+        except OSError:
+            pass
 
 
 def test_journal_on_a_full_file_system(folder):
@@ -100,18 +148,15 @@ def test_journal_on_a_full_file_system(folder):
         raise Skipped("a small file system can't be mounted")
     try:
         desk.journal = room / "bench.journal"
-        desk.journal.touch()
-        with open(room / "filler", "wb", buffering=0) as filler:
-            try:
-                while filler.write(bytes(1024)):
-                    pass
-            except OSError:
-                pass
-        want(desk.give(SILENCE), Ended(2, b"", "reply 1 taken\ndrive fault 1 Journal\n"))
-        want(desk.held(), b"")
-        (room / "filler").unlink()
-        want(desk.give(SILENCE), Ended(0, ABSENT_FRAMES, "reply 1 taken\n" + KEPT_SILENT))
-        want(desk.held(), ABSENT_JOURNAL)
+        for start, told, end in [(b"", "fault 21 File", ABSENT_JOURNAL),
+                                 (OLD_ABSENT_BEGAN, "fault 21 File", ABSENT_JOURNAL),
+                                 (full_page(), "drive fault 1 Journal", full_page() + ABSENT_RECORDS)]:
+            desk.journal.write_bytes(start)
+            fill(room / "filler")
+            want(last_line(desk.give(SILENCE)), (2, b"", told))
+            want(desk.held(), start)
+            (room / "filler").unlink()
+            goes_on(desk, end)
     finally:
         subprocess.run(["umount", room], check=True)
 
@@ -136,7 +181,7 @@ def test_a_second_drive_is_kept_out(folder):
 
 
 def test_a_limit_of_file_sizes(folder):
-    for size in (0, 1, 10, 22, 23, 24):
+    for size in (0, 1, 3, 4, 5, 14, 34, 35, 36):
         for is_restored in (True, False):
             desk = desk_of(folder, ABSENT, b"")
 
@@ -144,12 +189,14 @@ def test_a_limit_of_file_sizes(folder):
                 resource.setrlimit(resource.RLIMIT_FSIZE, (size, size))
 
             ended = desk.give(SILENCE, preexec_fn=limit, restore_signals=is_restored)
-            sent = b"" if size < len(ABSENT_BEGAN) else ABSENT_FRAMES
             # The launcher has the signal ignored. A parent that restores it has the program killed, as by any other.
-            told, status = ("", -signal.SIGXFSZ) if is_restored else ("drive fault 1 Journal\n", 2)
-            want((size, ended), (size, Ended(status, sent, "reply 1 taken\n" + told)))
+            line = "reply 1 taken" if size >= len(HEADER) else ""
+            if not is_restored:
+                line = "drive fault 1 Journal" if line else "fault 21 File"
+            sent = b"" if size < len(ABSENT_BEGAN) else ABSENT_FRAMES
+            want((size, last_line(ended)), (size, (-signal.SIGXFSZ if is_restored else 2, sent, line)))
             held = desk.held()
-            assert len(held) <= size and (held + ABSENT_JOURNAL[len(held):]) == ABSENT_JOURNAL, (size, held)
+            assert len(held) in (0, *range(len(HEADER), size + 1)) and ABSENT_JOURNAL.startswith(held), (size, held)
             goes_on(desk)
 
 
@@ -212,13 +259,14 @@ def test_standard_error_that_fails(folder):
             writing = os.open("/dev/full", os.O_WRONLY)
         want((how, desk.give(SILENCE, stderr=writing)[:2]), (how, (2, b"")))
         os.close(writing)
-        want(desk.held(), b"")
+        want(desk.held(), HEADER)
         goes_on(desk)
 
 
 def test_streams_that_are_closed_at_the_start(folder):
     for closed in [{0}, {1}, {2}, {0, 1}, {0, 2}, {1, 2}, {0, 1, 2}]:
-        for orders, start in [(ABSENT, None), (ABSENT, b""), ([], ABSENT_BEGAN), (ABSENT, ABSENT_JOURNAL[:10])]:
+        for orders, start in [(ABSENT, None), (ABSENT, b""), ([], ABSENT_BEGAN), (ABSENT, ABSENT_JOURNAL[:10]),
+                              (ABSENT, OLD_ABSENT_BEGAN)]:
             desk = desk_of(folder, orders, start)
             ended = desk.give(SILENCE, preexec_fn=lambda: [os.close(stream) for stream in closed])
             case = closed, orders, start
@@ -238,7 +286,7 @@ def test_a_path_that_is_a_link(folder):
     desk.journal = folder / "link.journal"
     desk.journal.symlink_to(real)
     want(desk.give(SILENCE).status, 0)
-    want(real.read_bytes(), ABSENT_JOURNAL)
+    want((real.read_bytes(), desk.journal.is_symlink()), (ABSENT_JOURNAL, True))
 
 
 def test_a_journal_in_the_working_folder(folder):

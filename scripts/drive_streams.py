@@ -9,12 +9,13 @@ from drive_desk import (
     GTIN,
     KEPT_SILENT,
     SILENCE,
+    absent_records,
     desk_of,
     goes_on,
     last_line,
     want,
 )
-from driven import Ended
+from driven import HEADER, Ended
 
 
 def test_absent_unit(folder):
@@ -70,7 +71,7 @@ def test_other_orders_after_a_stopped_run(folder):
     desk = desk_of(folder, [{**ABSENT[0], "unit": 10}, second, *ABSENT], ABSENT_BEGAN)
     told = KEPT_SILENT + "reply 1 reused\nreply 2 taken\nreply 2 kept 3 Silent\n" + KEPT_SILENT
     want(desk.give(SILENCE * 2), Ended(0, ABSENT_FRAMES * 2, told))
-    want(desk.held(), ABSENT_JOURNAL + ABSENT_BEGAN[:8] + b"\2" + ABSENT_BEGAN[9:] + b"E\3")
+    want(desk.held(), ABSENT_JOURNAL + absent_records(2))
 
 
 def test_journal_of_a_run_that_was_stopped_at_its_writes(folder):
@@ -86,7 +87,7 @@ def test_journal_of_a_run_that_was_stopped_at_its_writes(folder):
 
 
 def test_journal_cut_anywhere(folder):
-    for length in range(len(ABSENT_JOURNAL)):
+    for length in (0, *range(len(HEADER), len(ABSENT_JOURNAL))):
         desk = desk_of(folder, ABSENT, ABSENT_JOURNAL[:length])
         told = "reply 1 taken\n" if length < len(ABSENT_BEGAN) else KEPT_SILENT
         want((length, desk.give(SILENCE)), (length, Ended(0, ABSENT_FRAMES, told + KEPT_SILENT)))
@@ -94,10 +95,45 @@ def test_journal_cut_anywhere(folder):
 
 
 def test_cut_journal_of_no_orders(folder):
-    for length in range(len(ABSENT_BEGAN)):
+    for length in (0, *range(len(HEADER), len(ABSENT_BEGAN))):
         desk = desk_of(folder, [], ABSENT_BEGAN[:length])
         want(desk.give(b""), Ended(0, b"", ""))
-        want(desk.held(), b"")
+        want(desk.held(), HEADER)
+
+
+def test_moments(folder):
+    told = "reply 1 taken\n" + KEPT_SILENT
+    for moment, digits in {"1700000000": "000000006553F100", "0": "0000000000000000",
+                           "18446744073709551615": "FFFFFFFFFFFFFFFF"}.items():
+        desk = desk_of(folder, ABSENT, b"")
+        desk.options = ["--moment", moment]
+        want((moment, desk.give(SILENCE)), (moment, Ended(0, ABSENT_FRAMES, told)))
+        journal = ABSENT_JOURNAL[:13] + bytes.fromhex(digits) + ABSENT_JOURNAL[21:]
+        want(desk.held(), journal)
+        for options in (["--moment", "1700000009"], []):
+            desk.options = options
+            want((moment, desk.give(b"")), (moment, Ended(0, b"", KEPT_SILENT)))
+            want(desk.held(), journal)
+
+
+def test_a_moment_is_that_of_the_orders_that_begin(folder):
+    desk = desk_of(folder, [{**ABSENT[0], "order": number} for number in (1, 3, 1, 2)], ABSENT_BEGAN)
+    desk.options = ["--moment", "1700000000"]
+    later = [f"reply {number} taken\nreply {number} kept 3 Silent\n" for number in (3, 2)]
+    told = KEPT_SILENT + KEPT_SILENT + later[0] + KEPT_SILENT + later[1]
+    want(desk.give(SILENCE * 3), Ended(0, ABSENT_FRAMES * 3, told))
+    want(desk.held(), ABSENT_JOURNAL + absent_records(3, 1700000000) + absent_records(2, 1700000000))
+    desk.write_orders([{**ABSENT[0], "order": 3, "unit": 10}])
+    want(desk.give(b""), Ended(0, b"", "reply 3 reused\n"))
+
+
+def test_moments_that_are_none(folder):
+    for moment in ("-1", "18446744073709551616", "1.0", "1e9", "x", "", " 1", "0x10"):
+        desk = desk_of(folder, ABSENT)
+        desk.options = [f"--moment={moment}"]
+        ended = desk.give(SILENCE)
+        want((moment, ended.status, ended.sent), (moment, 1, b""))
+        assert "reply" not in ended.told and not desk.journal.exists(), (moment, ended)
 
 
 def test_orders_that_are_refused(folder):

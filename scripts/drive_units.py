@@ -10,7 +10,7 @@ from drive_desk import (
     ABSENT,
     ABSENT_BEGAN,
     ABSENT_FRAMES,
-    ABSENT_JOURNAL,
+    ABSENT_RECORDS,
     DONE_JOURNAL,
     DONE_TOLD,
     GTIN,
@@ -24,7 +24,7 @@ from drive_desk import (
     parts,
     want,
 )
-from driven import Ended, groups_of, judge, kept_lines, records_of, simulated_link
+from driven import HEADER, Ended, groups_of, judge, kept_lines, records_of, simulated_link
 
 
 class Scene:
@@ -133,28 +133,31 @@ def test_the_journal_command_reads_what_drive_wrote(folder):
         desk.over(scene.bus())
         told = subprocess.run([desk.program, "journal", desk.journal], capture_output=True, text=True).stdout
         size, count = len(desk.held()), len(scene.orders)
-        want((name, told.splitlines()[-1]), (name, f"counts {size} of {size} orders {count} standing idle"))
+        lines = told.splitlines()
+        want((name, lines[0]), (name, "version 2"))
+        want((name, lines[-1]), (name, f"counts {size} of {size} orders {count} standing idle"))
 
 
-def many_orders(count):
-    """Give the journal of so many orders that a unit didn't answer."""
-    return b"".join(b"B" + number.to_bytes(8, "big") + bytes.fromhex("09 01 1318 4503") for number in range(count))
+def many_orders(*numbers):
+    """Give the records of orders with these numbers that a unit didn't answer."""
+    behind = bytes(8) + bytes.fromhex("09 01 1318 4503")
+    return b"".join(b"B" + number.to_bytes(8, "big") + behind for number in numbers)
 
 
 def test_a_full_journal(folder):
     again, more = {"order": 7, "unit": 9, "year": 24}, {"order": 100000, "unit": 9, "year": 24}
-    desk = desk_of(folder, [again, more, again], many_orders(100000))
+    desk = desk_of(folder, [again, more, again], HEADER + many_orders(*range(100000)))
     ended = desk.give(SILENCE)
     want(ended, Ended(0, b"", "reply 7 kept 3 Silent\nreply 100000 full\nreply 7 kept 3 Silent\n"))
-    want(len(desk.held()), 1500000)
-    desk.journal.write_bytes(many_orders(100001))
-    want(last_line(desk.give(SILENCE)), (1, b"", "journal fault 6 Full at 1500000"))
+    want(len(desk.held()), 2300004)
+    desk.journal.write_bytes(HEADER + many_orders(*range(100001)))
+    want(last_line(desk.give(SILENCE)), (1, b"", "journal fault 6 Full at 2300004"))
 
 
 def test_the_last_order_of_a_journal(folder):
-    desk = desk_of(folder, ABSENT, many_orders(1) + many_orders(100000)[30:])
+    desk = desk_of(folder, ABSENT, HEADER + many_orders(0, *range(2, 100000)))
     want(desk.give(SILENCE), Ended(0, ABSENT_FRAMES, "reply 1 taken\n" + KEPT_SILENT))
-    want(desk.held()[-25:], ABSENT_JOURNAL)
+    want(desk.held()[-len(ABSENT_RECORDS):], ABSENT_RECORDS)
 
 
 def test_the_same_number_for_another_order(folder):

@@ -1,4 +1,4 @@
-"""Runs of `dali_bench drive` over pipes, and the judge of what they leave: used by scripts/test_drive.py and scripts/fuzz.
+"""Runs of `dali_bench drive` over pipes, and the judge of what they leave: for scripts/test_drive.py and scripts/fuzz.
 
 The journal is read and judged here by docs/JOURNAL.md and docs/WRITER.md alone, with nothing of the program's own.
 """
@@ -13,6 +13,7 @@ import sys
 from typing import NamedTuple
 
 ROOT = pathlib.Path(__file__).resolve().parent.parent
+HEADER = bytes.fromhex("44423102")
 LOCK_BYTE = 0x02
 SHUT = 0xFF
 DONE, DOUBT_OPEN = 0, 5
@@ -50,6 +51,7 @@ class Desk:
         self.folder = pathlib.Path(folder)
         self.orders = self.folder / "orders.json"
         self.journal = self.folder / "bench.journal"
+        self.options = []
         self.write_orders(orders)
 
     def write_orders(self, orders):
@@ -58,7 +60,7 @@ class Desk:
 
     def words(self):
         """Give the command line."""
-        return [self.program, "drive", self.orders, self.journal]
+        return [self.program, "drive", *self.options, self.orders, self.journal]
 
     def start(self, environment=None, **options):
         """Start the program with pipes, which `options` of Popen may replace."""
@@ -128,9 +130,10 @@ def line_from(pipe):
 
 
 class Group(NamedTuple):
-    """What a journal says of one order: how far it has come, and its code once it has ended."""
+    """What a journal says of one order: when it came, how far it has come, and its code once it has ended."""
 
     number: int
+    moment: int
     unit: int
     updates: list
     is_opened: bool
@@ -150,33 +153,56 @@ class Group(NamedTuple):
         return self.is_opened and (self.code is None or self.code == DOUBT_OPEN and not self.is_closed)
 
 
-def began_length(data, at):
+def version_of(data):
+    """Give the version of a journal's bytes: 2 where there are none or they begin with the header, and else 1."""
+    has_header = data.startswith(HEADER)
+    assert has_header or data[:1] != HEADER[:1], f"the header is another, or cut: {data[:4].hex()}"
+    return 2 if has_header or not data else 1
+
+
+def began_length(data, at, version):
     """Give how long the Began at this place is, or None where its head is cut."""
-    return 11 + 2 * data[at + 10] if at + 10 < len(data) else None
+    head = 19 if version == 2 else 11
+    return head + 2 * data[at + head - 1] if at + head <= len(data) else None
 
 
 def records_of(data):
-    """Read the whole records of a journal's bytes; return their places with them, and how many bytes count."""
-    at, records = 0, []
+    """Read the whole records of a journal's bytes, each as its kind and its body in version 2; give how many count."""
+    version = version_of(data)
+    at, records = len(HEADER) if data and version == 2 else 0, []
     while at < len(data):
         kind = chr(data[at])
         assert kind in "BOEC", f"at {at} stands no record: {data[at:at + 20].hex()}"
-        length = began_length(data, at) if kind == "B" else 2
+        length = began_length(data, at, version) if kind == "B" else 2
         if length is None or at + length > len(data):
             break
-        records.append((kind, data[at + 1:at + length]))
+        body = data[at + 1:at + length]
+        is_old = kind == "B" and version == 1
+        records.append((kind, body[:8] + bytes(8) + body[8:] if is_old else body))
         at += length
     return records, at
 
 
+def in_version_2(data):
+    """Spell the whole records of a journal's bytes in version 2."""
+    return HEADER + b"".join(kind.encode() + body for kind, body in records_of(data)[0])
+
+
+def in_version_1(data):
+    """Spell the whole records of a journal's bytes in version 1, which has no moments."""
+    records = records_of(data)[0]
+    return b"".join(kind.encode() + (body[:8] + body[16:] if kind == "B" else body) for kind, body in records)
+
+
 def begun(body):
     """Read a Began's body as a group that has come no further, and test what an order may be."""
-    number, unit, count = int.from_bytes(body[:8], "big"), body[8], body[9]
-    updates = list(zip(body[10::2], body[11::2]))
+    number, moment = (int.from_bytes(body[at:at + 8], "big") for at in (0, 8))
+    unit, count = body[16], body[17]
+    updates = list(zip(body[18::2], body[19::2]))
     locations = [location for location, _ in updates]
     assert unit <= 63 and 1 <= count <= 115 and locations == sorted(set(locations)), body.hex()
     assert all(3 <= location <= 0x10 or 0x13 <= location <= 0x77 for location in locations), body.hex()
-    return Group(number, unit, updates, False, None, False)
+    return Group(number, moment, unit, updates, False, None, False)
 
 
 def groups_of(data):

@@ -6,6 +6,8 @@ Each function takes a `random.Random` first, so that a case is the same whenever
 import json
 
 TOP = 2 ** 64 - 1
+HEADER = b"DB1\x02"
+OTHER_HEADERS = [b"D", b"DB", b"DB1", b"DB1\x01", b"DB1\x03", b"DB2\x02", HEADER + HEADER, b"db1\x02"]
 RANGES = {
     "year": (0, 99), "week": (1, 53), "input_power": (0, 65534), "min_dim_power": (0, 65534), "min_voltage": (0, 65534),
     "max_voltage": (0, 65534), "light_output": (0, 16777214), "cri": (0, 100), "cct": (0, 65533),
@@ -124,11 +126,18 @@ def fate(rng):
     return made
 
 
+def moment(rng):
+    """Give the moment of a submission."""
+    return rng.choice([0, 1, 1700000000, TOP, rng.randint(0, TOP)])
+
+
 def event(rng):
     """Give an event of a scenario."""
     kind = rng.choice(["submit", "submit", "steps", "steps", "steps", "stop", "power"])
     if kind == "submit":
         made = {"submit": good_order(rng, rng.randint(1, 4)) if rng.random() < 0.97 else order(rng)}
+        if rng.random() < 0.5:
+            made["moment"] = moment(rng)
     elif kind == "steps":
         made = {"steps": rng.choice([1, 2, 5, 17, 60, 120, 300, 2000])}
     else:
@@ -137,6 +146,8 @@ def event(rng):
         made = {kind: rng.choice([64, 255, 65536] if odd else among)}
     if rng.random() < 0.005:
         made[rng.choice(["stop", "power", "steps", "submit", "step"])] = rng.choice(ODD_VALUES)
+    if rng.random() < 0.005:
+        made["moment"] = rng.choice(ODD_VALUES)
     return made
 
 
@@ -169,27 +180,30 @@ def hex_text(rng):
     return "".join(digit + rng.choice(["", "", "", " ", "\n", "\t\r"]) for digit in digits).encode()
 
 
-def began(rng, number):
-    """Give the bytes of a Began, most often of one that may be."""
+def began(rng, number, unit, version):
+    """Give the bytes of a Began in a version, most often of one that may be."""
     places = [*range(0x03, 0x11), *range(0x13, 0x78)]
     count = rng.choice([1, 2, 6, 115, rng.randint(1, 115)])
     chosen = sorted(rng.sample(places, count))
     if rng.random() < 0.03:
         chosen[rng.randrange(count)] = rng.choice([0x00, 0x02, 0x11, 0x78, 0xFF])
     pairs = bytes(byte for place in chosen for byte in (place, rng.randint(0, 255)))
-    unit = rng.choice([5, 6, 63, 64] if rng.random() < 0.03 else [5, 6])
-    return b"B" + number.to_bytes(8, "big") + bytes([unit, count]) + pairs
+    came = moment(rng).to_bytes(8, "big") if version == 2 else b""
+    return b"B" + number.to_bytes(8, "big") + came + bytes([unit, count]) + pairs
 
 
 def journal(rng):
-    """Give the bytes of a journal, most often of one that may be, and often with its last record cut."""
-    data, number = b"", 0
+    """Give the bytes of a journal of either version, most often of one that may be, and often with a cut record."""
+    version, data, number = rng.choice([1, 2, 2]), b"", 0
+    if version == 2:
+        data = HEADER if rng.random() < 0.95 else rng.choice(OTHER_HEADERS)
     for _ in range(rng.choice([0, 1, 2, 3, 6])):
         number = min(number + 1, TOP) if rng.random() < 0.97 else rng.choice([0, 1, TOP])
-        head = began(rng, number)
-        opened, closed = b"O" + head[9:10], b"C" + head[9:10]
-        data += head + rng.choice([b"E\x01", b"E\x02", b"E\x03", opened + b"E\x00", opened + b"E\x04",
-                                   opened + b"E\x05" + closed])
+        unit = rng.choice([5, 6, 63, 64] if rng.random() < 0.03 else [5, 6])
+        opened, closed = b"O" + bytes([unit]), b"C" + bytes([unit])
+        data += began(rng, number, unit, version)
+        data += rng.choice([b"E\x01", b"E\x02", b"E\x03", opened + b"E\x00", opened + b"E\x04",
+                            opened + b"E\x05" + closed])
     if rng.random() < 0.5:
         data = data[:len(data) - rng.randint(0, min(len(data), 40))]
     return data

@@ -12,8 +12,9 @@ CODES = ("Done", "Short", "Format", "Silent", "Doubt", "DoubtOpen")
 CODE = "|".join(f"{number} {name}" for number, name in enumerate(CODES))
 NUMBER = "(?:0|[1-9][0-9]*)"
 REPLY = re.compile(f"reply ({NUMBER}) (?:taken|reused|busy|full|blocked {NUMBER}|kept (?:{CODE}))")
-RECORD = re.compile(f"B order ({NUMBER}) unit ({NUMBER}) bytes ({NUMBER})|O unit ({NUMBER})|E ({CODE})|"
+RECORD = re.compile(f"B order ({NUMBER}) unit ({NUMBER}) at ({NUMBER}) bytes ({NUMBER})|O unit ({NUMBER})|E ({CODE})|"
                     f"C unit ({NUMBER})")
+HEADER_LENGTH = 4
 BANK_WORDS = ("last indicator lock gtin identification format year week input_power min_dim_power min_voltage "
               "max_voltage light_output cri cct distribution colour luminaire").split()
 BANK_TEXT = re.compile("absent|unknown|[0-9]+|[0-9A-F]{2,16}|text [ -~]{1,60}|raw [0-9A-F]{2,120}")
@@ -21,7 +22,7 @@ FRAME = re.compile("[0-9A-F]{4} (?:(?:DTR[012]|WRITE MEMORY LOCATION(?: - NO REP
                    "(?:ENABLE WRITE MEMORY|QUERY CONTENT DTR[012]|READ MEMORY LOCATION) "
                    "unit (?:[0-9]|[1-5][0-9]|6[0-3])|OTHER)")
 UNIT = re.compile("unit [0-9]+ dtr(?: [0-9A-F]{2}){3} enabled (?:yes|no)|bank [0-9]+ [0-9A-F]0 (?:[0-9A-F]{2}){1,16}")
-JOURNAL_FAULT = re.compile(f"journal fault (?:3 Record|4 Sequence|5 Repeated|6 Full) at {NUMBER}")
+JOURNAL_FAULT = re.compile(f"journal fault (?:(?:3 Record|4 Sequence|5 Repeated|6 Full) at {NUMBER}|7 Header)")
 DRIVE_FAULTS = {"1 Journal": 2, "2 Link": 2, "3 Line": 1, "4 End": 1, "6 TooLong": 1}
 
 
@@ -95,16 +96,16 @@ def judge_frame(status, stdout, stderr):
     check_status(status, 1 if lines[0] == "fault 14 Hex" else 0)
 
 
-def record_length(found):
-    """Give how many bytes a record of this line has."""
-    return 11 + 2 * int(found[3]) if found[3] else 2
+def record_length(found, version=2):
+    """Give how many bytes a record of this line has in a version."""
+    return (19 if version == 2 else 11) + 2 * int(found[4]) if found[4] else 2
 
 
 def standing_after(found):
     """Give where a journal stands after a record of this line, where it tells that alone."""
-    if found[5]:
-        return "left" if found[5].startswith("5") else "idle"
-    return "began" if found[1] else "opened" if found[4] else "idle"
+    if found[6]:
+        return "left" if found[6].startswith("5") else "idle"
+    return "began" if found[1] else "opened" if found[5] else "idle"
 
 
 def judge_journal(status, stdout, stderr):
@@ -113,12 +114,17 @@ def judge_journal(status, stdout, stderr):
     assert stderr == b"" and lines, (lines, stderr)
     if len(lines) == 1 and (lines[0] == "fault 13 TooBig" or JOURNAL_FAULT.fullmatch(lines[0])):
         return check_status(status, 1)
-    found = [RECORD.fullmatch(line) for line in lines[:-1]]
+    assert lines[0] in ("version 1", "version 2"), lines[0]
+    version, found = int(lines[0][-1]), [RECORD.fullmatch(line) for line in lines[1:-1]]
     assert all(found), lines
-    length, orders = sum(map(record_length, found)), sum(bool(it[1]) for it in found)
-    standing = standing_after(found[-1]) if found else "idle"
-    last = re.fullmatch(f"counts {length} of ({NUMBER}) orders {orders} standing {standing}(?: {NUMBER})?", lines[-1])
-    assert last and int(last[1]) >= length, lines[-1]
+    orders, standing = sum(bool(it[1]) for it in found), standing_after(found[-1]) if found else "idle"
+    last = re.fullmatch(f"counts ({NUMBER}) of ({NUMBER}) orders {orders} standing {standing}(?: {NUMBER})?", lines[-1])
+    assert last, lines[-1]
+    length, total = sum(record_length(it, version) for it in found), int(last[2])
+    if version == 2 and total > 0:
+        length += HEADER_LENGTH
+    assert int(last[1]) == length <= total, lines[-1]
+    assert version == 2 or total > 0 and all(it[3] in (None, "0") for it in found), lines
     check_status(status, 0)
 
 
@@ -138,7 +144,7 @@ def judge_run(status, stdout, stderr):
     assert stderr == b"" and lines, (lines, stderr)
     if len(lines) == 1 and is_setup_fault(lines[0]):
         return check_status(status, 1)
-    frames, journal, at = 0, 0, 0
+    frames, journal, at = 0, HEADER_LENGTH, 0
     while not lines[at].startswith("total "):
         line = lines[at]
         run, record = re.fullmatch("frames ([1-9][0-9]*)", line), RECORD.fullmatch(line.removeprefix("keep "))

@@ -22,12 +22,13 @@ import drive_calls  # noqa: E402
 import drive_places  # noqa: E402
 import drive_streams  # noqa: E402
 import drive_units  # noqa: E402
+import drive_upgrade  # noqa: E402
 import driven  # noqa: E402
 from drive_desk import Skipped, parts_of, settings  # noqa: E402
 
 TESTS = {
     name: test
-    for module in (drive_streams, drive_units, drive_calls, drive_places)
+    for module in (drive_streams, drive_units, drive_calls, drive_places, drive_upgrade)
     for name, test in vars(module).items()
     if name.startswith("test_")
 }

@@ -42,10 +42,10 @@ onto_power start w trace new address is d = onto start w trace new (Powered addr
 }) where
   place : (phase : Phase) → IsAt phase (reverse trace) → IsAt phase (Powered address ∷ reverse trace)
   place Idle at = at
-  place (Begins order) at = at
+  place (Begins order moment) at = at
   place (Checks order s) at = at
   place (Writes order s) at = at
-  place (Closes order s) at = at
+  place (Closes order moment s) at = at
   place (Says id code) at = at
 
 pub follows_power : (start : Start) (w : Held) (trace new : List Happening) (address : ℕ)
@@ -94,7 +94,7 @@ module _ {S : Type 0} (world : S → World) (step : S → BusEvent → S → Typ
   module _ (allowed : (old : S) (event : BusEvent) (new : S) → step old event new
       → WorldStep (world old) event (world new)) where
     moves : (old : S) (next : Happening) (new : S) → MovesBy step old next new → Moves (world old) next (world new)
-    moves old (Asked order) new same = ap world same
+    moves old (Asked order moment) new same = ap world same
     moves old (Answered id reply) new same = ap world same
     moves old (Sent frame answer) new moved = allowed old (Carried frame answer) new moved
     moves old (Kept entry) new same = ap world same

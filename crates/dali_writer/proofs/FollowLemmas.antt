@@ -46,29 +46,29 @@ resumed_told standings.Idle phase is = subst (λ (p : Phase). WasTold p []) (sym
 resumed_told (standings.Left unit) phase is = subst (λ (p : Phase). WasTold p []) (sym is) tt
 
 -- an order that is taken
-pub first_told : (stands : Standing) (order : Contents) (phase : Phase) → IsFirst stands order phase → WasTold phase []
-first_told (standings.Left unit) order phase (s, is, same, closing, is_told) =
+pub first_told : (stands : Standing) (order : Contents) (moment : ℕ) (phase : Phase) → IsFirst stands order moment phase → WasTold phase []
+first_told (standings.Left unit) order moment phase (s, is, same, closing, is_told) =
     subst (λ (p : Phase). WasTold p []) (sym is) is_told
-first_told standings.Idle order phase is = subst (λ (p : Phase). WasTold p []) (sym is) tt
-first_told (standings.Began other) order phase is = subst (λ (p : Phase). WasTold p []) (sym is) tt
-first_told (standings.Opened other) order phase is = subst (λ (p : Phase). WasTold p []) (sym is) tt
+first_told standings.Idle order moment phase is = subst (λ (p : Phase). WasTold p []) (sym is) tt
+first_told (standings.Began other) order moment phase is = subst (λ (p : Phase). WasTold p []) (sym is) tt
+first_told (standings.Opened other) order moment phase is = subst (λ (p : Phase). WasTold p []) (sym is) tt
 
-pub taken_follows : (start : Start) (past : List Happening) (old new : Held) (order : Contents) (stands : Standing)
-    → Follows start past old → IsFirst stands order new.phase
-    → Follows start (Answered order.id replies.Taken ∷ Asked order ∷ past) new
-taken_follows start past old new order stands f first =
-    record { planned = ((f.planned, tt), tt); told = first_told stands order new.phase first }
+pub taken_follows : (start : Start) (past : List Happening) (old new : Held) (order : Contents) (moment : ℕ) (stands : Standing)
+    → Follows start past old → IsFirst stands order moment new.phase
+    → Follows start (Answered order.id replies.Taken ∷ Asked order moment ∷ past) new
+taken_follows start past old new order moment stands f first =
+    record { planned = ((f.planned, tt), tt); told = first_told stands order moment new.phase first }
 
 -- other replies
-pub known_follows : (start : Start) (past : List Happening) (w : Held) (order : Contents) (kept : KeptOf)
+pub known_follows : (start : Start) (past : List Happening) (w : Held) (order : Contents) (moment : ℕ) (kept : KeptOf)
     (reply : Reply)
     → Follows start past w → IsKnownReply order kept reply
-    → Follows start (Answered order.id reply ∷ Asked order ∷ past) w
-known_follows start past w order kept (replies.Kept code) f known =
+    → Follows start (Answered order.id reply ∷ Asked order moment ∷ past) w
+known_follows start past w order moment kept (replies.Kept code) f known =
     record { planned = ((f.planned, tt), tt); told = f.told }
-known_follows start past w order kept replies.IdReused f known =
+known_follows start past w order moment kept replies.IdReused f known =
     record { planned = ((f.planned, tt), tt); told = f.told }
-known_follows start past w order kept _ f known = absurd known
+known_follows start past w order moment kept _ f known = absurd known
 
 -- a session is told the answer to the frame that it wanted
 follows_on : (start : Start) (past : List Happening) (journal : JournalState) (old next : Phase) (stands : Standing)
@@ -104,28 +104,28 @@ writes_follow start past journal order s next frame answer d f ready aim on =
     (stands_so start past _ _ d ready.0)
     (opened_wants order (told_in past) s (asks.Send frame) ready.1 f.told aim) (on (told_in past) f.told)
 
-pub closes_follow : (start : Start) (past : List Happening) (journal : JournalState) (order : Contents)
+pub closes_follow : (start : Start) (past : List Happening) (journal : JournalState) (order : Contents) (moment : ℕ)
     (s next : Session) (frame : Frame) (answer : Option ℕ)
-    → Describes start past (record { journal = journal; phase = Closes order s })
-    → Follows start past (record { journal = journal; phase = Closes order s })
-    → IsReady (Closes order s) journal → aim_of s ≡ asks.Send frame
+    → Describes start past (record { journal = journal; phase = Closes order moment s })
+    → Follows start past (record { journal = journal; phase = Closes order moment s })
+    → IsReady (Closes order moment s) journal → aim_of s ≡ asks.Send frame
     → ((told : List Exchange) → Told told s → Told (record { frame = frame; answer = answer } ∷ told) next)
-    → Follows start (Sent frame answer ∷ past) (record { journal = journal; phase = Closes order next })
-closes_follow start past journal order s next frame answer d f ready aim on =
-    follows_on start past journal (Closes order s) (Closes order next) (standings.Left (unit_of s)) frame answer f
+    → Follows start (Sent frame answer ∷ past) (record { journal = journal; phase = Closes order moment next })
+closes_follow start past journal order moment s next frame answer d f ready aim on =
+    follows_on start past journal (Closes order moment s) (Closes order moment next) (standings.Left (unit_of s)) frame answer f
     (stands_so start past _ _ d ready.0)
     (closing_wants (unit_of s) (told_in past) s (asks.Send frame) ready.1 f.told aim) (on (told_in past) f.told)
 
 -- records
 
 pub begun_follows : (start : Start) (past : List Happening) (journal new : JournalState) (old : Phase)
-    (order : Contents) (s : Session) (entry : Record)
-    → Begins order ≡ old → Follows start past (record { journal = journal; phase = old }) → want_of old ≡ Keep entry
+    (order : Contents) (moment : ℕ) (s : Session) (entry : Record)
+    → Begins order moment ≡ old → Follows start past (record { journal = journal; phase = old }) → want_of old ≡ Keep entry
     → Told [] s
     → Follows start (Kept entry ∷ past) (record { journal = new; phase = Checks order s })
-begun_follows start past journal new old order s entry at f want is_told =
-    let wanted : want_of (Begins order) ≡ Keep entry = rw (← at) at want in
-    rw (← same_entry (Began order) entry wanted) (record { planned = (f.planned, tt); told = is_told })
+begun_follows start past journal new old order moment s entry at f want is_told =
+    let wanted : want_of (Begins order moment) ≡ Keep entry = rw (← at) at want in
+    rw (← same_entry (Began order moment) entry wanted) (record { planned = (f.planned, tt); told = is_told })
 
 after_told : (order : Contents) (verdict : Verdict) (next : Phase) → IsAfterCheck order verdict next → WasTold next []
 after_told order verdicts.MayOpen next (s, is, opened, is_told, valid, left) =
@@ -136,7 +136,7 @@ after_told order _ next is = subst (λ (p : Phase). WasTold p []) (sym is) tt
 ended_planned : (start : Start) (past : List Happening) (stands : Standing) (verdict : Verdict) (entry : Record)
     → standing_at start past ≡ stands
     → Asks stands (told_in past) (asks.Ended verdict) → EndsIn stands verdict entry → IsPlanned start past (Kept entry)
-ended_planned start past stands verdict (Began order) at asked ends = tt
+ended_planned start past stands verdict (Began order moment) at asked ends = tt
 ended_planned start past stands verdict (Opened unit) at asked ends = rw at (verdict, asked, ends)
 ended_planned start past stands verdict (Ended code) at asked ends = rw at (verdict, asked, ends)
 ended_planned start past stands verdict (Closed unit) at asked ends = rw at (verdict, asked, ends)
@@ -213,16 +213,16 @@ written_follows start past journal new old order s verdict entry at d f ready wa
     }
 
 pub closed_follows : (start : Start) (past : List Happening) (journal new : JournalState) (old : Phase)
-    (order : Contents) (s : Session) (entry : Record)
-    → Closes order s ≡ old → Describes start past (record { journal = journal; phase = old })
+    (order : Contents) (moment : ℕ) (s : Session) (entry : Record)
+    → Closes order moment s ≡ old → Describes start past (record { journal = journal; phase = old })
     → Follows start past (record { journal = journal; phase = old }) → IsReady old journal
-    → want_of old ≡ Keep entry → Follows start (Kept entry ∷ past) (record { journal = new; phase = Begins order })
-closed_follows start past journal new old order s entry at d f ready want =
-    let asked : want_of (Closes order s) ≡ Keep entry = rw (← at) at want in
+    → want_of old ≡ Keep entry → Follows start (Kept entry ∷ past) (record { journal = new; phase = Begins order moment })
+closed_follows start past journal new old order moment s entry at d f ready want =
+    let asked : want_of (Closes order moment s) ≡ Keep entry = rw (← at) at want in
     let is = closing_keeps order.id (unit_of s) (aim_of s) entry asked in
-    let follows : Follows start past (record { journal = journal; phase = Closes order s }) = rw (← at) at f in
-    let before : Describes start past (record { journal = journal; phase = Closes order s }) = rw (← at) at d in
-    let stood : IsReady (Closes order s) journal = rw (← at) at ready in
+    let follows : Follows start past (record { journal = journal; phase = Closes order moment s }) = rw (← at) at f in
+    let before : Describes start past (record { journal = journal; phase = Closes order moment s }) = rw (← at) at d in
+    let stood : IsReady (Closes order moment s) journal = rw (← at) at ready in
     let wants : Asks (standings.Left (unit_of s)) (told_in past) (asks.Ended verdicts.Closed) =
     closing_wants (unit_of s) (told_in past) s (asks.Ended verdicts.Closed) stood.1 follows.told is.0 in
     record {
@@ -249,14 +249,14 @@ pub said_follows : (start : Start) (past : List Happening) (journal : JournalSta
     → want_of phase ≡ Say id reply
     → Follows start (Answered id reply ∷ past) (record { journal = journal; phase = Idle })
 said_follows start past journal Idle id reply d f ready e = cc
-said_follows start past journal (Begins order) id reply d f ready e = cc
+said_follows start past journal (Begins order moment) id reply d f ready e = cc
 said_follows start past journal (Checks order s) id reply d f ready e = no_check order.unit id (aim_of s) reply e
 said_follows start past journal (Writes order s) id reply d f ready e = no_write id (aim_of s) reply e
 said_follows start past journal (Says last code) id reply d f ready e =
     let is : replies.Kept code ≡ reply = cc in
     subst (λ (r : Reply). Follows start (Answered id r ∷ past) (record { journal = journal; phase = Idle })) is
     (record { planned = (f.planned, tt); told = tt })
-said_follows start past journal (Closes order s) id reply d f ready e =
+said_follows start past journal (Closes order moment s) id reply d f ready e =
     let b = blocks order.id (unit_of s) id (aim_of s) reply e in
     let ends = (closing_over (unit_of s) (told_in past) s b.verdict ready.1 f.told b.ended).0 in
     let aim : aim_of s ≡ asks.Ended verdicts.NotClosed = b.ended ∙ ap asks.Ended (not_closed b.verdict ends b.other) in

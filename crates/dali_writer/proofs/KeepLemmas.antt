@@ -75,27 +75,27 @@ goes_on start past w entry stands d at allowed is_new none due grounds =
     }
 
 -- an order that was taken may begin
-pub begun_may : (start : Start) (past : List Happening) (journal : JournalState) (order : Contents)
-    → Describes start past (record { journal = journal; phase = Begins order }) → IsReady (Begins order) journal
-    → MayKeep start past (Began order)
-begun_may start past journal order d ready =
+pub begun_may : (start : Start) (past : List Happening) (journal : JournalState) (order : Contents) (moment : ℕ)
+    → Describes start past (record { journal = journal; phase = Begins order moment }) → IsReady (Begins order moment) journal
+    → MayKeep start past (Began order moment)
+begun_may start past journal order moment d ready =
     let before = legal_sentence start past d.legal in
     let stood = stands_so start past _ standings.Idle d ready.0 in
     let few : length (orders_of (records_of start past)) < start.limit = rw (d.same, d.limit) ready.1.1 in record {
       whole = ((before.0, rw stood tt, rw d.same ready.1.2), omega (arith, few));
-      due = d.place;
+      due = (d.place.0, sym d.place.1);
       grounds = rw stood tt;
     }
 
 -- an order that was taken is begun
-pub begun_on : (start : Start) (past : List Happening) (journal new : JournalState) (order : Contents) (s : Session)
-    → Describes start past (record { journal = journal; phase = Begins order }) → IsReady (Begins order) journal
+pub begun_on : (start : Start) (past : List Happening) (journal new : JournalState) (order : Contents) (moment : ℕ) (s : Session)
+    → Describes start past (record { journal = journal; phase = Begins order moment }) → IsReady (Begins order moment) journal
     → Told [] s
-    → new.records ≡ Began order ∷ journal.records → new.limit ≡ journal.limit
-    → Describes start (Kept (Began order) ∷ past) (record { journal = new; phase = Checks order s })
-begun_on start past journal new order s d ready is_told records limit =
-    let may = begun_may start past journal order d ready in
-    kept_on start past journal new (Begins order) (Checks order s) (Began order) d may records limit
+    → new.records ≡ Began order moment ∷ journal.records → new.limit ≡ journal.limit
+    → Describes start (Kept (Began order moment) ∷ past) (record { journal = new; phase = Checks order s })
+begun_on start past journal new order moment s d ready is_told records limit =
+    let may = begun_may start past journal order moment d ready in
+    kept_on start past journal new (Begins order moment) (Checks order s) (Began order moment) d may records limit
     ([], sent_of past, refl, is_told)
 
 -- what the reads of a session show, the frames since the last stop show
@@ -217,27 +217,28 @@ stands_read (x ∷ told) unit location byte (inl ends) = inl (location, byte, en
 stands_read (x ∷ told) unit location byte (inr (passive, stands)) = inr (stands_read told unit location byte stands)
 
 -- a closing session has ended as Closed
-pub closed_on : (start : Start) (past : List Happening) (journal new : JournalState) (order : Contents) (s : Session)
-    → Describes start past (record { journal = journal; phase = Closes order s }) → IsReady (Closes order s) journal
+pub closed_on : (start : Start) (past : List Happening) (journal new : JournalState) (order : Contents) (moment : ℕ) (s : Session)
+    → Describes start past (record { journal = journal; phase = Closes order moment s }) → IsReady (Closes order moment s) journal
     → aim_of s ≡ asks.Ended verdicts.Closed
     → new.records ≡ Closed (unit_of s) ∷ journal.records → new.limit ≡ journal.limit
-    → Describes start (Kept (Closed (unit_of s)) ∷ past) (record { journal = new; phase = Begins order })
-closed_on start past journal new order s d ready aim records limit =
+    → Describes start (Kept (Closed (unit_of s)) ∷ past) (record { journal = new; phase = Begins order moment })
+closed_on start past journal new order moment s d ready aim records limit =
     let place = d.place in
     let unit = unit_of s in
     let since = since_part past in
-    let over = closing_over unit (sent_since_taken past) s verdicts.Closed ready.1 place.1 aim in
+    let over = closing_over unit (sent_since_taken past) s verdicts.Closed ready.1 place.2 aim in
     let all = newest_rests (sent_of past) (sent_since_taken past) since.0 unit [] verdicts.Closed since.1 over.1 in
     let waits : IsSome (waiting past) = rw place.0 refl in
     let may = goes_on start past _ (Closed unit) (standings.Left unit) d ready.0 refl tt refl
     (waits, stands_read (sent_since_taken past) unit 2 over.1.0 over.1.1) (2, all.0, all.1) in
-    kept_on start past journal new (Closes order s) (Begins order) (Closed unit) d may records limit place.0
+    kept_on start past journal new (Closes order moment s) (Begins order moment) (Closed unit) d may records limit
+    (place.0, place.1)
 
 -- the journal is ready for what comes next
-pub ready_begun : (new : JournalState) (records : List Record) (order : Contents) (s : Session) → IsFresh order s
+pub ready_begun : (new : JournalState) (records : List Record) (order : Contents) (moment : ℕ) (s : Session) → IsFresh order s
     → AreUpdates order.updates
-    → new.records ≡ Began order ∷ records → IsReady (Checks order s) new
-ready_begun new records order s fresh valid is = (rw is refl, fresh, valid)
+    → new.records ≡ Began order moment ∷ records → IsReady (Checks order s) new
+ready_begun new records order moment s fresh valid is = (rw is refl, fresh, valid)
 
 said_ready : (journal new : JournalState) (order : Contents) (code : Code) (progress : Progress)
     → (older : List (Contents × Progress)) × orders_of journal.records ≡ (order, progress) ∷ older
@@ -273,10 +274,10 @@ ready_written journal new order s verdict ready records =
     said_ready journal new order (write_code verdict) reached.Open (open_order journal.records order ready.0)
     (idle_written order verdict (standing_of journal.records) ready.0) records
 
-pub ready_closed : (journal new : JournalState) (order : Contents) (s : Session) → IsReady (Closes order s) journal
+pub ready_closed : (journal new : JournalState) (order : Contents) (moment : ℕ) (s : Session) → IsReady (Closes order moment s) journal
     → new.records ≡ Closed (unit_of s) ∷ journal.records → new.limit ≡ journal.limit
-    → KeepsRoom (Closed (unit_of s)) journal new → IsReady (Begins order) new
-ready_closed journal new order s ready records limit room = (
+    → KeepsRoom (Closed (unit_of s)) journal new → IsReady (Begins order moment) new
+ready_closed journal new order moment s ready records limit room = (
   rw records refl,
   (room order ready.2.0, rw (records, limit) ready.2.1, rw records ready.2.2),
 )
@@ -285,18 +286,18 @@ ready_closed journal new order s ready records limit room = (
 pub same_entry : (entry wanted : Record) → Keep entry ≡ Keep wanted → entry ≡ wanted
 same_entry entry wanted e = cc
 
-pub keeps_begun : (start : Start) (past : List Happening) (journal new : JournalState) (old : Phase) (order : Contents)
+pub keeps_begun : (start : Start) (past : List Happening) (journal new : JournalState) (old : Phase) (order : Contents) (moment : ℕ)
     (s : Session) (entry : Record)
-    → Begins order ≡ old → Describes start past (record { journal = journal; phase = old }) → IsReady old journal
+    → Begins order moment ≡ old → Describes start past (record { journal = journal; phase = old }) → IsReady old journal
     → want_of old ≡ Keep entry → Told [] s
-    → new.records ≡ Began order ∷ journal.records → new.limit ≡ journal.limit
+    → new.records ≡ Began order moment ∷ journal.records → new.limit ≡ journal.limit
     → Describes start (Kept entry ∷ past) (record { journal = new; phase = Checks order s })
-keeps_begun start past journal new old order s entry at d ready want is_told records limit =
-    let wanted : want_of (Begins order) ≡ Keep entry = rw (← at) at want in
-    let before : Describes start past (record { journal = journal; phase = Begins order }) = rw (← at) at d in
-    let stood : IsReady (Begins order) journal = rw (← at) at ready in
-    rw (← same_entry (Began order) entry wanted)
-    (begun_on start past journal new order s before stood is_told records limit)
+keeps_begun start past journal new old order moment s entry at d ready want is_told records limit =
+    let wanted : want_of (Begins order moment) ≡ Keep entry = rw (← at) at want in
+    let before : Describes start past (record { journal = journal; phase = Begins order moment }) = rw (← at) at d in
+    let stood : IsReady (Begins order moment) journal = rw (← at) at ready in
+    rw (← same_entry (Began order moment) entry wanted)
+    (begun_on start past journal new order moment s before stood is_told records limit)
 
 pub keeps_checked : (start : Start) (past : List Happening) (journal new : JournalState) (old : Phase)
     (order : Contents) (s : Session) (verdict : Verdict) (next : Phase) (entry : Record)
@@ -334,18 +335,18 @@ closing_keeps id unit (asks.Send frame) entry e = cc
 closing_keeps id unit (asks.Ended verdicts.Closed) entry e = (refl, same_entry (Closed unit) entry e)
 closing_keeps id unit (asks.Ended _) entry e = cc
 
-pub keeps_closed : (start : Start) (past : List Happening) (journal new : JournalState) (old : Phase) (order : Contents)
+pub keeps_closed : (start : Start) (past : List Happening) (journal new : JournalState) (old : Phase) (order : Contents) (moment : ℕ)
     (s : Session) (entry : Record)
-    → Closes order s ≡ old → Describes start past (record { journal = journal; phase = old }) → IsReady old journal
+    → Closes order moment s ≡ old → Describes start past (record { journal = journal; phase = old }) → IsReady old journal
     → want_of old ≡ Keep entry
     → new.records ≡ Closed (unit_of s) ∷ journal.records → new.limit ≡ journal.limit
-    → Describes start (Kept entry ∷ past) (record { journal = new; phase = Begins order })
-keeps_closed start past journal new old order s entry at d ready want records limit =
-    let asked : want_of (Closes order s) ≡ Keep entry = rw (← at) at want in
+    → Describes start (Kept entry ∷ past) (record { journal = new; phase = Begins order moment })
+keeps_closed start past journal new old order moment s entry at d ready want records limit =
+    let asked : want_of (Closes order moment s) ≡ Keep entry = rw (← at) at want in
     let is = closing_keeps order.id (unit_of s) (aim_of s) entry asked in
-    let before : Describes start past (record { journal = journal; phase = Closes order s }) = rw (← at) at d in
-    let stood : IsReady (Closes order s) journal = rw (← at) at ready in
-    rw (← is.1) (closed_on start past journal new order s before stood is.0 records limit)
+    let before : Describes start past (record { journal = journal; phase = Closes order moment s }) = rw (← at) at d in
+    let stood : IsReady (Closes order moment s) journal = rw (← at) at ready in
+    rw (← is.1) (closed_on start past journal new order moment s before stood is.0 records limit)
 
 -- after a fresh session there is less to be done
 pub check_falls : (order : Contents) (s : Session) (verdict : Verdict) (old next : Phase) → Checks order s ≡ old

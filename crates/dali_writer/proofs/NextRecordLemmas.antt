@@ -1,5 +1,5 @@
 -- A writer wants a record kept exactly where that is the one that is to be kept next.
-use Rattle.std.proofs.Common.{subst, ◌≡◌, ◌↔◌, refl, sym, ap, ◌∙◌, false, List, Option, Some, None}
+use Rattle.std.proofs.Common.{subst, ◌≡◌, ◌↔◌, refl, sym, ap, ◌∙◌, false, List, Option, Some, None, ℕ}
 use Rattle.dali_bank.specs.Order.{Contents}
 use Rattle.dali_journal.specs.declared.record.Code.TheVariants as codes
 use Rattle.dali_journal.specs.declared.record.Record.{Record}
@@ -21,6 +21,7 @@ use Rattle.dali_trace.specs.declared.happening.Happening.{Happening}
 use Rattle.dali_trace.specs.declared.happening.Want.TheVariants.{Keep}
 use Rattle.dali_writer.specs.declared.phase.Phase.{Phase}
 use Rattle.dali_writer.specs.declared.phase.Phase.TheVariants.{Idle, Begins, Checks, Writes, Closes, Says}
+use Rattle.dali_trace.specs.Trace.{waiting_since}
 use Rattle.dali_trace.specs.Trace.{Start, standing_at, waiting, is_at_work, course_of}
 use Rattle.dali_writer.specs.Phases.{want_of, check_of, write_of, check_record, write_code}
 use Rattle.dali_writer.specs.Held.{IsReady}
@@ -37,22 +38,22 @@ use Rattle.dali_writer.proofs.FollowLemmas.{check_ends, write_ends}
 
 -- what is wanted is next
 
-check_next : (order : Contents) (told : List Exchange) (waits : Option Contents) (entry : Record) (ask : Ask)
+check_next : (order : Contents) (told : List Exchange) (waits : Option Contents) (since : ℕ) (entry : Record) (ask : Ask)
     → Asks (standings.Began order) told ask
-    → check_of order.unit ask ≡ Keep entry → NextRecord (standings.Began order) waits told entry
-check_next order told waits entry (asks.Send frame) asked want = cc
-check_next order told waits entry (asks.Ended verdict) asked want = (
+    → check_of order.unit ask ≡ Keep entry → NextRecord (standings.Began order) waits since told entry
+check_next order told waits since entry (asks.Send frame) asked want = cc
+check_next order told waits since entry (asks.Ended verdict) asked want = (
   verdict,
   asked,
   check_ends order verdict entry (fresh_ends told order.unit order.updates verdict asked)
       (sym (same_entry (check_record order.unit verdict) entry want)),
 )
 
-write_next : (order : Contents) (told : List Exchange) (waits : Option Contents) (entry : Record) (ask : Ask)
+write_next : (order : Contents) (told : List Exchange) (waits : Option Contents) (since : ℕ) (entry : Record) (ask : Ask)
     → Asks (standings.Opened order) told ask
-    → write_of ask ≡ Keep entry → NextRecord (standings.Opened order) waits told entry
-write_next order told waits entry (asks.Send frame) asked want = cc
-write_next order told waits entry (asks.Ended verdict) asked want = (
+    → write_of ask ≡ Keep entry → NextRecord (standings.Opened order) waits since told entry
+write_next order told waits since entry (asks.Send frame) asked want = cc
+write_next order told waits since entry (asks.Ended verdict) asked want = (
   verdict,
   asked,
   write_ends order verdict entry (opened_ends told order.unit order.updates verdict asked)
@@ -65,15 +66,15 @@ wanted_next : (start : Start) (past : List Happening) (journal : JournalState) (
     → want_of phase ≡ Keep entry → IsKeptNext start past entry
 wanted_next start past journal Idle entry d f ready want = cc
 wanted_next start past journal (Says id code) entry d f ready want = cc
-wanted_next start past journal (Begins order) entry d f ready want =
-    rw (stands_so start past _ _ d ready.0, d.place) (sym (same_entry (Began order) entry want))
+wanted_next start past journal (Begins order moment) entry d f ready want =
+    rw (stands_so start past _ _ d ready.0, d.place.0, d.place.1) (sym (same_entry (Began order moment) entry want))
 wanted_next start past journal (Checks order s) entry d f ready want =
-    rw (stands_so start past _ _ d ready.0) (check_next order (told_in past) (waiting past) entry (aim_of s)
+    rw (stands_so start past _ _ d ready.0) (check_next order (told_in past) (waiting past) (waiting_since past) entry (aim_of s)
     (fresh_wants order (told_in past) s (aim_of s) ready.1 f.told refl) want)
 wanted_next start past journal (Writes order s) entry d f ready want =
-    rw (stands_so start past _ _ d ready.0) (write_next order (told_in past) (waiting past) entry (aim_of s)
+    rw (stands_so start past _ _ d ready.0) (write_next order (told_in past) (waiting past) (waiting_since past) entry (aim_of s)
     (opened_wants order (told_in past) s (aim_of s) ready.1 f.told refl) want)
-wanted_next start past journal (Closes order s) entry d f ready want =
+wanted_next start past journal (Closes order moment s) entry d f ready want =
     let is = closing_keeps order.id (unit_of s) (aim_of s) entry want in
     let asked : Asks (standings.Left (unit_of s)) (told_in past) (asks.Ended verdicts.Closed) =
     closing_wants (unit_of s) (told_in past) s (asks.Ended verdicts.Closed) ready.1 f.told is.0 in
@@ -85,14 +86,14 @@ wanted_next start past journal (Closes order s) entry d f ready want =
 
 -- what is next is wanted
 
-none_next : (stands : Standing) (waits : Option Contents) (told : List Exchange) (entry : Record)
-    → is_at_work stands ≡ false → waits ≡ None → NextRecord stands waits told entry → ⊥
-none_next standings.Idle None told entry idle none next = next
-none_next standings.Idle (Some order) told entry idle none next = cc
-none_next (standings.Left unit) None told entry idle none next = next
-none_next (standings.Left unit) (Some order) told entry idle none next = cc
-none_next (standings.Began order) waits told entry idle none next = cc
-none_next (standings.Opened order) waits told entry idle none next = cc
+none_next : (stands : Standing) (waits : Option Contents) (since : ℕ) (told : List Exchange) (entry : Record)
+    → is_at_work stands ≡ false → waits ≡ None → NextRecord stands waits since told entry → ⊥
+none_next standings.Idle None since told entry idle none next = next
+none_next standings.Idle (Some order) since told entry idle none next = cc
+none_next (standings.Left unit) None since told entry idle none next = next
+none_next (standings.Left unit) (Some order) since told entry idle none next = cc
+none_next (standings.Began order) waits since told entry idle none next = cc
+none_next (standings.Opened order) waits since told entry idle none next = cc
 
 pub ends_check : (order : Contents) (verdict : Verdict) (entry : Record) → EndsIn (standings.Began order) verdict entry
     → Keep (check_record order.unit verdict) ≡ Keep entry
@@ -121,31 +122,31 @@ next_wanted : (start : Start) (past : List Happening) (journal : JournalState) (
     → Follows start past (record { journal = journal; phase = phase }) → IsReady phase journal
     → IsKeptNext start past entry → want_of phase ≡ Keep entry
 next_wanted start past journal Idle entry d f ready next =
-    absurd (none_next (standing_at start past) (waiting past) (told_in past) entry
+    absurd (none_next (standing_at start past) (waiting past) (waiting_since past) (told_in past) entry
     (ap is_at_work (stands_so start past _ _ d refl) ∙ ready) (none_waits (course_of past) d.place) next)
 next_wanted start past journal (Says id code) entry d f ready next =
-    absurd (none_next (standing_at start past) (waiting past) (told_in past) entry
+    absurd (none_next (standing_at start past) (waiting past) (waiting_since past) (told_in past) entry
     (ap is_at_work (stands_so start past _ _ d refl) ∙ ready.0) (none_waits_ended (course_of past) d.place) next)
-next_wanted start past journal (Begins order) entry d f ready next =
-    let is : NextRecord standings.Idle (Some order) (told_in past) entry =
-    rw (stands_so start past _ _ d ready.0, d.place) at next in
+next_wanted start past journal (Begins order moment) entry d f ready next =
+    let is : NextRecord standings.Idle (Some order) moment (told_in past) entry =
+    rw (stands_so start past _ _ d ready.0, d.place.0, d.place.1) at next in
     ap Keep (sym is)
 next_wanted start past journal (Checks order s) entry d f ready next =
-    let is : NextRecord (standings.Began order) (waiting past) (told_in past) entry =
+    let is : NextRecord (standings.Began order) (waiting past) (waiting_since past) (told_in past) entry =
     rw (stands_so start past _ _ d ready.0) at next in
     let aim =
     wants_one (told_in past) order.unit (read_length order.updates) (aim_of s) (asks.Ended is.0)
     (fresh_wants order (told_in past) s (aim_of s) ready.1 f.told refl) is.1 in
     rw aim (ends_check order is.0 entry is.2)
 next_wanted start past journal (Writes order s) entry d f ready next =
-    let is : NextRecord (standings.Opened order) (waiting past) (told_in past) entry =
+    let is : NextRecord (standings.Opened order) (waiting past) (waiting_since past) (told_in past) entry =
     rw (stands_so start past _ _ d ready.0) at next in
     let aim =
     wants_one (told_in past) order.unit (unlock order.updates) (aim_of s) (asks.Ended is.0)
     (opened_wants order (told_in past) s (aim_of s) ready.1 f.told refl) is.1 in
     rw aim (ends_write order is.0 entry is.2)
-next_wanted start past journal (Closes order s) entry d f ready next =
-    let is : NextRecord (standings.Left (unit_of s)) (Some order) (told_in past) entry =
+next_wanted start past journal (Closes order moment s) entry d f ready next =
+    let is : NextRecord (standings.Left (unit_of s)) (Some order) (waiting_since past) (told_in past) entry =
     rw (stands_so start past _ _ d ready.0, d.place.0) at next in
     let closed = closed_verdict (unit_of s) is.0 entry is.2 in
     let aim =

@@ -6,6 +6,7 @@ use Rattle.dali_trace.specs.declared.happening.Event.{Event}
 use Rattle.dali_trace.specs.declared.happening.Happening.{Happening}
 use Rattle.dali_trace.specs.Trace.{Start}
 use Rattle.dali_journal.specs.declared.record.Record.{Record}
+use Rattle.dali_journal.specs.declared.version.Version.TheVariants.{Two}
 use Rattle.dali_journal.specs.Spelling.{spelling}
 use Rattle.dali_trace.specs.declared.happening.Event.TheVariants.{Stop, Power}
 use Rattle.dali_trace.specs.declared.happening.Happening.TheVariants.{Kept, Stopped, Powered}
@@ -35,7 +36,7 @@ all_parts start events i trace end parts =
 
 pub stop_kept : (start : Start) (event : Event) (bytes : ℕ) (trace mid new : List Happening) (entry : Record)
     → event ≡ Stop bytes → mid ≡ trace ++ Kept entry ∷ [] → new ≡ mid ++ Stopped ∷ []
-    → IsKeptNext start (reverse trace) entry → length (spelling entry) ≤ bytes
+    → IsKeptNext start (reverse trace) entry → length (spelling Two entry) ≤ bytes
     → Part start event (reverse trace) (reverse new)
 stop_kept start event bytes trace mid new entry is one two next few =
     subst (λ (e : Event). Part start e (reverse trace) (reverse new)) (sym is)
@@ -49,7 +50,7 @@ stop_kept start event bytes trace mid new entry is one two next few =
 
 pub stop_cut : (start : Start) (event : Event) (bytes : ℕ) (trace new : List Happening) → event ≡ Stop bytes
     → new ≡ trace ++ Stopped ∷ []
-    → ((entry : Record) → IsKeptNext start (reverse trace) entry → bytes < length (spelling entry))
+    → ((entry : Record) → IsKeptNext start (reverse trace) entry → bytes < length (spelling Two entry))
     → Part start event (reverse trace) (reverse new)
 stop_cut start event bytes trace new is one none =
     subst (λ (e : Event). Part start e (reverse trace) (reverse new)) (sym is)

@@ -36,14 +36,14 @@ IsSaying _ = ⊥
 all_said : (past : List Happening) (id : ℕ) (reply : Reply) → IsSaying reply → IsFinished past
     → is_unsaid (Answered id reply ∷ past) ≡ false
 all_said [] id (replies.Kept code) saying finished = refl
-all_said (Asked order ∷ past) id (replies.Kept code) saying finished = absurd finished
+all_said (Asked order moment ∷ past) id (replies.Kept code) saying finished = absurd finished
 all_said (Answered last other ∷ past) id (replies.Kept code) saying finished = refl
 all_said (Sent frame answer ∷ past) id (replies.Kept code) saying finished = refl
 all_said (Kept entry ∷ past) id (replies.Kept code) saying finished = refl
 all_said (Stopped ∷ past) id (replies.Kept code) saying finished = refl
 all_said (Powered address ∷ past) id (replies.Kept code) saying finished = refl
 all_said [] id (replies.Blocked unit) saying finished = refl
-all_said (Asked order ∷ past) id (replies.Blocked unit) saying finished = absurd finished
+all_said (Asked order moment ∷ past) id (replies.Blocked unit) saying finished = absurd finished
 all_said (Answered last other ∷ past) id (replies.Blocked unit) saying finished = refl
 all_said (Sent frame answer ∷ past) id (replies.Blocked unit) saying finished = refl
 all_said (Kept entry ∷ past) id (replies.Blocked unit) saying finished = refl
@@ -102,7 +102,7 @@ pub said_on : (start : Start) (past : List Happening) (journal : JournalState) (
     → want_of phase ≡ Say id reply
     → Describes start (Answered id reply ∷ past) (record { journal = journal; phase = Idle })
 said_on start past journal Idle id reply d ready e = cc
-said_on start past journal (Begins order) id reply d ready e = cc
+said_on start past journal (Begins order moment) id reply d ready e = cc
 said_on start past journal (Checks order s) id reply d ready e = no_check order.unit id (aim_of s) reply e
 said_on start past journal (Writes order s) id reply d ready e = no_write id (aim_of s) reply e
 said_on start past journal (Says last code) id reply d ready e =
@@ -115,17 +115,17 @@ said_on start past journal (Says last code) id reply d ready e =
     (λ (n : ℕ). Describes start (Answered n (replies.Kept code) ∷ past) (record { journal = journal; phase = Idle }))
     same
     (said start past journal (Says last code) last (replies.Kept code) d tt may))
-said_on start past journal (Closes order s) id reply d ready e =
+said_on start past journal (Closes order moment s) id reply d ready e =
     let b = blocks order.id (unit_of s) id (aim_of s) reply e in
-    let ends = (closing_over (unit_of s) (sent_since_taken past) s b.verdict ready.1 d.place.1 b.ended).0 in
+    let ends = (closing_over (unit_of s) (sent_since_taken past) s b.verdict ready.1 d.place.2 b.ended).0 in
     let aim : aim_of s ≡ asks.Ended verdicts.NotClosed = b.ended ∙ ap asks.Ended (not_closed b.verdict ends b.other) in
     let may : MaySay start past id (replies.Blocked (unit_of s)) = (
       stands_so start past _ (standings.Left (unit_of s)) d ready.0,
       numbered past order id d.place.0 b.number,
-      closing_unreached (unit_of s) (sent_since_taken past) s ready.1 d.place.1 aim,
+      closing_unreached (unit_of s) (sent_since_taken past) s ready.1 d.place.2 aim,
     ) in
     subst (λ (r : Reply). Describes start (Answered id r ∷ past) (record { journal = journal; phase = Idle })) b.blocked
-    (said start past journal (Closes order s) id (replies.Blocked (unit_of s)) d tt may)
+    (said start past journal (Closes order moment s) id (replies.Blocked (unit_of s)) d tt may)
 
 -- a wanted frame is the session's
 pub check_sends : (unit : ℕ) (ask : Ask) (frame : Frame) → check_of unit ask ≡ Send frame → ask ≡ asks.Send frame

@@ -38,7 +38,7 @@ use Rattle.dali_laws.proofs.TakenLemmas.{waits, ended_unsaid, waits_unsaid}
 pub may_next : (start : Start) (past : List Happening) (next : Happening) → IsFinished past → MayHappen start past next
     → MayFollow start past next
 may_next start [] next finished may = may
-may_next start (Asked order ∷ past) next finished may = absurd finished
+may_next start (Asked order moment ∷ past) next finished may = absurd finished
 may_next start (Answered id reply ∷ past) next finished may = may
 may_next start (Sent frame answer ∷ past) next finished may = may
 may_next start (Kept entry ∷ past) next finished may = may
@@ -79,13 +79,13 @@ pub busy_at : (start : Start) (past : List Happening) (journal : JournalState) (
     → Describes start past (record { journal = journal; phase = phase }) → IsReady phase journal
     → is_busy start past ≡ is_wanting (want_of phase)
 busy_at start past journal Idle d ready = rw (ap (λ r. is_at_work (standing_of r)) d.same ∙ ready, d.place) refl
-busy_at start past journal (Begins order) d ready = unsaid start past (waits_unsaid (course_of past) order d.place)
+busy_at start past journal (Begins order moment) d ready = unsaid start past (waits_unsaid (course_of past) order d.place.0)
 busy_at start past journal (Checks order s) d ready =
     at_work start past (standings.Began order) (stands_so start past _ _ d ready.0) refl
     ∙ sym (check_wants order.unit (aim_of s))
 busy_at start past journal (Writes order s) d ready =
     at_work start past (standings.Opened order) (stands_so start past _ _ d ready.0) refl ∙ sym (write_wants (aim_of s))
-busy_at start past journal (Closes order s) d ready =
+busy_at start past journal (Closes order moment s) d ready =
     unsaid start past (waits_unsaid (course_of past) order d.place.0)
     ∙ sym (closing_wants order.id (unit_of s) (aim_of s))
 busy_at start past journal (Says id code) d ready = unsaid start past (ended_unsaid (course_of past) d.place)
@@ -178,7 +178,7 @@ closing_may past unit (Other word) waits guarded = absurd guarded
 -- the frames since an order was taken are the newest of those since the last stop
 pub since_part : (past : List Happening) → (older : List Exchange) × (sent_of past ≡ sent_since_taken past ++ older)
 since_part [] = ([], refl)
-since_part (Asked order ∷ past) = since_part past
+since_part (Asked order moment ∷ past) = since_part past
 since_part (Answered id replies.Taken ∷ past) = (sent_of past, refl)
 since_part (Answered id (replies.Kept code) ∷ past) = since_part past
 since_part (Answered id replies.IdReused ∷ past) = since_part past
@@ -247,30 +247,30 @@ writes_on start past journal order s next frame answer d ready aim f =
     (rw (stands_so start past _ _ d ready.0) (opened_may past order frame ready.2.rising all))
     (told_on past s next frame answer place f)
 
-pub closes_on : (start : Start) (past : List Happening) (journal : JournalState) (order : Contents) (s next : Session)
+pub closes_on : (start : Start) (past : List Happening) (journal : JournalState) (order : Contents) (moment : ℕ) (s next : Session)
     (frame : Frame) (answer : Option ℕ)
-    → Describes start past (record { journal = journal; phase = Closes order s }) → IsReady (Closes order s) journal
+    → Describes start past (record { journal = journal; phase = Closes order moment s }) → IsReady (Closes order moment s) journal
     → aim_of s ≡ asks.Send frame
     → ((told : List Exchange) → Told told s → Told (record { frame = frame; answer = answer } ∷ told) next)
-    → Describes start (Sent frame answer ∷ past) (record { journal = journal; phase = Closes order next })
-closes_on start past journal order s next frame answer d ready aim f =
+    → Describes start (Sent frame answer ∷ past) (record { journal = journal; phase = Closes order moment next })
+closes_on start past journal order moment s next frame answer d ready aim f =
     let place = d.place in
     let since = since_part past in
     let unit = unit_of s in
     let guarded =
     older_guarded ((2, 0xFF) ∷ []) unit (sent_since_taken past) since.0 frame
-    (closing_sends unit (sent_since_taken past) s frame ready.1 place.1 aim) in
+    (closing_sends unit (sent_since_taken past) s frame ready.1 place.2 aim) in
     let all : IsGuardedFrame ((2, 0xFF) ∷ []) unit (sent_of past) frame =
     subst (λ (t : List Exchange). IsGuardedFrame ((2, 0xFF) ∷ []) unit t frame) (sym since.1) guarded in
     let waits : IsSome (waiting past) = rw place.0 refl in
-    sent_on start past journal (Closes order s) (Closes order next) frame answer d
+    sent_on start past journal (Closes order moment s) (Closes order moment next) frame answer d
     (rw (stands_so start past _ _ d ready.0) (closing_may past unit frame waits all))
-    (place.0, f (sent_since_taken past) place.1)
+    (place.0, place.1, f (sent_since_taken past) place.2)
 
 -- only an idle phase wants nothing
 pub idle_wanted : (phase : Phase) → want_of phase ≡ wants.Idle → phase ≡ Idle
 idle_wanted Idle e = refl
-idle_wanted (Begins order) e = cc
+idle_wanted (Begins order moment) e = cc
 idle_wanted (Checks order s) e = no_check (aim_of s) e where
   no_check : {A : Type 0} (ask : Ask) → check_of order.unit ask ≡ wants.Idle → A
   no_check (asks.Send frame) e = cc
@@ -279,7 +279,7 @@ idle_wanted (Writes order s) e = no_write (aim_of s) e where
   no_write : {A : Type 0} (ask : Ask) → write_of ask ≡ wants.Idle → A
   no_write (asks.Send frame) e = cc
   no_write (asks.Ended verdict) e = cc
-idle_wanted (Closes order s) e =
+idle_wanted (Closes order moment s) e =
     let true_is = closing_wants order.id (unit_of s) (aim_of s) in
     let false_is = ap is_wanting e in absurd (neither_is true_is false_is) where
       neither_is : {x : Bool} → x ≡ true → x ≡ false → ⊥

@@ -42,33 +42,33 @@ IsRefusal replies.Full = Unit {0}
 IsRefusal _ = ⊥
 
 -- after them a writer is where it was
-stays : (phase : Phase) (past : List Happening) (order : Contents) (id : ℕ) (reply : Reply) → IsRefusal reply
+stays : (phase : Phase) (past : List Happening) (order : Contents) (moment : ℕ) (id : ℕ) (reply : Reply) → IsRefusal reply
     → IsAt phase past
-    → IsAt phase (Answered id reply ∷ Asked order ∷ past)
-stays phase past order id replies.Taken refused at = absurd refused
-stays phase past order id (replies.Blocked unit) refused at = absurd refused
-stays Idle past order id _ refused at = at
-stays _ past order id _ refused at = at
+    → IsAt phase (Answered id reply ∷ Asked order moment ∷ past)
+stays phase past order moment id replies.Taken refused at = absurd refused
+stays phase past order moment id (replies.Blocked unit) refused at = absurd refused
+stays Idle past order moment id _ refused at = at
+stays _ past order moment id _ refused at = at
 
--- an order and its reply
-asked : (start : Start) (past : List Happening) (old new : Held) (order : Contents) (reply : Reply)
+-- an order moment and its reply
+asked : (start : Start) (past : List Happening) (old new : Held) (order : Contents) (moment : ℕ) (reply : Reply)
     → Describes start past old → IsReply start past order reply
     → new.journal.records ≡ old.journal.records → new.journal.limit ≡ old.journal.limit
-    → IsAt new.phase (Answered order.id reply ∷ Asked order ∷ past)
-    → Describes start (Answered order.id reply ∷ Asked order ∷ past) new
-asked start past old new order reply d due records limit place = record {
-  legal = ((d.legal, may_next start past (Asked order) d.finished tt), (refl, due));
+    → IsAt new.phase (Answered order.id reply ∷ Asked order moment ∷ past)
+    → Describes start (Answered order.id reply ∷ Asked order moment ∷ past) new
+asked start past old new order moment reply d due records limit place = record {
+  legal = ((d.legal, may_next start past (Asked order moment) d.finished tt), (refl, due));
   finished = tt;
   same = d.same ∙ sym records;
   limit = d.limit ∙ sym limit;
   place = place;
 }
 
-pub refused : (start : Start) (past : List Happening) (w : Held) (order : Contents) (reply : Reply)
+pub refused : (start : Start) (past : List Happening) (w : Held) (order : Contents) (moment : ℕ) (reply : Reply)
     → Describes start past w → IsRefusal reply → IsReply start past order reply
-    → Describes start (Answered order.id reply ∷ Asked order ∷ past) w
-refused start past w order reply d refusal due =
-    asked start past w w order reply d due refl refl (stays w.phase past order order.id reply refusal d.place)
+    → Describes start (Answered order.id reply ∷ Asked order moment ∷ past) w
+refused start past w order moment reply d refusal due =
+    asked start past w w order moment reply d due refl refl (stays w.phase past order moment order.id reply refusal d.place)
 
 -- what the journal knows of the order
 known_due : (order : Contents) (kept : Kept) (busy full : Bool) (reply : Reply) → IsKnownReply order kept reply
@@ -82,42 +82,42 @@ known_refusal order kept (replies.Kept code) known = tt
 known_refusal order kept replies.IdReused known = tt
 known_refusal order kept _ known = absurd known
 
-pub known_on : (start : Start) (past : List Happening) (w : Held) (order : Contents) (reply : Reply)
+pub known_on : (start : Start) (past : List Happening) (w : Held) (order : Contents) (moment : ℕ) (reply : Reply)
     → Describes start past w
     → IsKnownReply order (kept_of order.id w.journal.records) reply
-    → Describes start (Answered order.id reply ∷ Asked order ∷ past) w
-known_on start past w order reply d known =
+    → Describes start (Answered order.id reply ∷ Asked order moment ∷ past) w
+known_on start past w order moment reply d known =
     let kept = kept_of order.id (records_of start past) in
     let so : IsKnownReply order kept reply = rw d.same known in
-    refused start past w order reply d (known_refusal order kept reply so)
+    refused start past w order moment reply d (known_refusal order kept reply so)
     (known_due order kept (is_busy start past) (is_full start past) reply so)
 
 -- a phase that isn't idle wants something, and an idle one nothing
 idle_wants : (phase : Phase) → is_idle phase ≡ true → is_wanting (want_of phase) ≡ false
 idle_wants Idle e = refl
-idle_wants (Begins order) e = cc
+idle_wants (Begins order moment) e = cc
 idle_wants (Checks order s) e = cc
 idle_wants (Writes order s) e = cc
-idle_wants (Closes order s) e = cc
+idle_wants (Closes order moment s) e = cc
 idle_wants (Says id code) e = cc
 
-pub busy_on : (start : Start) (past : List Happening) (journal : JournalState) (phase : Phase) (order : Contents)
+pub busy_on : (start : Start) (past : List Happening) (journal : JournalState) (phase : Phase) (order : Contents) (moment : ℕ)
     → Describes start past (record { journal = journal; phase = phase }) → IsReady phase journal
     → IsNotEnded order (kept_of order.id journal.records)
-    → is_idle phase ≡ false → Describes start (Answered order.id replies.Busy ∷ Asked order ∷ past)
+    → is_idle phase ≡ false → Describes start (Answered order.id replies.Busy ∷ Asked order moment ∷ past)
     (record { journal = journal; phase = phase })
-busy_on start past journal phase order d ready fresh idle =
+busy_on start past journal phase order moment d ready fresh idle =
     let due : IsReply start past order replies.Busy = (rw d.same fresh, is_so phase d ready idle) in
-    refused start past _ order replies.Busy d tt due where
+    refused start past _ order moment replies.Busy d tt due where
       is_so : (phase : Phase) → Describes start past (record { journal = journal; phase = phase })
           → IsReady phase journal → is_idle phase ≡ false → is_busy start past ≡ true
       is_so Idle d ready e = cc
-      is_so (Begins order) d ready e = busy_at start past journal (Begins order) d ready
+      is_so (Begins order moment) d ready e = busy_at start past journal (Begins order moment) d ready
       is_so (Checks order s) d ready e =
           busy_at start past journal (Checks order s) d ready ∙ check_wants order.unit (aim_of s)
       is_so (Writes order s) d ready e = busy_at start past journal (Writes order s) d ready ∙ write_wants (aim_of s)
-      is_so (Closes order s) d ready e =
-          busy_at start past journal (Closes order s) d ready ∙ closing_wants order.id (unit_of s) (aim_of s)
+      is_so (Closes order moment s) d ready e =
+          busy_at start past journal (Closes order moment s) d ready ∙ closing_wants order.id (unit_of s) (aim_of s)
       is_so (Says id code) d ready e = busy_at start past journal (Says id code) d ready
 
 full_is : (limit count : ℕ) → limit ≤ count → nat_le limit count ≡ true
@@ -131,28 +131,28 @@ idle_busy : (start : Start) (past : List Happening) (journal : JournalState) (ph
     → IsReady phase journal → is_idle phase ≡ true → is_busy start past ≡ false
 idle_busy start past journal phase d ready idle = busy_at start past journal phase d ready ∙ idle_wants phase idle
 
-pub full_on : (start : Start) (past : List Happening) (journal : JournalState) (phase : Phase) (order : Contents)
+pub full_on : (start : Start) (past : List Happening) (journal : JournalState) (phase : Phase) (order : Contents) (moment : ℕ)
     → Describes start past (record { journal = journal; phase = phase }) → IsReady phase journal
     → IsNotEnded order (kept_of order.id journal.records)
     → is_idle phase ≡ true → journal.limit ≤ order_count journal
-    → Describes start (Answered order.id replies.Full ∷ Asked order ∷ past)
+    → Describes start (Answered order.id replies.Full ∷ Asked order moment ∷ past)
     (record { journal = journal; phase = phase })
-full_on start past journal phase order d ready fresh idle le =
+full_on start past journal phase order moment d ready fresh idle le =
     let full : is_full start past ≡ true = rw (d.same, d.limit) (full_is journal.limit (order_count journal) le) in
-    refused start past _ order replies.Full d tt
+    refused start past _ order moment replies.Full d tt
     (rw d.same fresh, idle_busy start past journal phase d ready idle, full)
 
 -- the place of a writer that has taken an order
-first_place : (past : List Happening) (order : Contents) (stands : Standing) (next : Phase) → IsFirst stands order next
-    → IsAt next (Answered order.id replies.Taken ∷ Asked order ∷ past)
-first_place past order standings.Idle next is =
-    subst (λ (p : Phase). IsAt p (Answered order.id replies.Taken ∷ Asked order ∷ past)) (sym is) refl
-first_place past order (standings.Began other) next is =
-    subst (λ (p : Phase). IsAt p (Answered order.id replies.Taken ∷ Asked order ∷ past)) (sym is) refl
-first_place past order (standings.Opened other) next is =
-    subst (λ (p : Phase). IsAt p (Answered order.id replies.Taken ∷ Asked order ∷ past)) (sym is) refl
-first_place past order (standings.Left unit) next (s, is, at, closing, is_told) =
-    subst (λ (p : Phase). IsAt p (Answered order.id replies.Taken ∷ Asked order ∷ past)) (sym is) (refl, is_told)
+first_place : (past : List Happening) (order : Contents) (moment : ℕ) (stands : Standing) (next : Phase) → IsFirst stands order moment next
+    → IsAt next (Answered order.id replies.Taken ∷ Asked order moment ∷ past)
+first_place past order moment standings.Idle next is =
+    subst (λ (p : Phase). IsAt p (Answered order.id replies.Taken ∷ Asked order moment ∷ past)) (sym is) (refl, refl)
+first_place past order moment (standings.Began other) next is =
+    subst (λ (p : Phase). IsAt p (Answered order.id replies.Taken ∷ Asked order moment ∷ past)) (sym is) (refl, refl)
+first_place past order moment (standings.Opened other) next is =
+    subst (λ (p : Phase). IsAt p (Answered order.id replies.Taken ∷ Asked order moment ∷ past)) (sym is) (refl, refl)
+first_place past order moment (standings.Left unit) next (s, is, at, closing, is_told) =
+    subst (λ (p : Phase). IsAt p (Answered order.id replies.Taken ∷ Asked order moment ∷ past)) (sym is) (refl, refl, is_told)
 
 -- where the first four replies don't apply, Taken is due
 pub taken_due : (start : Start) (past : List Happening) (journal : JournalState) (phase : Phase) (order : Contents)
@@ -164,16 +164,16 @@ taken_due start past journal phase order d ready fresh idle less =
     (rw d.same fresh, idle_busy start past journal phase d ready idle, room)
 
 pub taken_on : (start : Start) (past : List Happening) (journal new : JournalState) (phase next : Phase)
-    (order : Contents) (stands : Standing)
+    (order : Contents) (moment : ℕ) (stands : Standing)
     → Describes start past (record { journal = journal; phase = phase }) → IsReady phase journal
     → IsNotEnded order (kept_of order.id journal.records)
     → is_idle phase ≡ true → order_count journal < journal.limit → new.records ≡ journal.records
-    → new.limit ≡ journal.limit → IsFirst stands order next
-    → Describes start (Answered order.id replies.Taken ∷ Asked order ∷ past) (record { journal = new; phase = next })
-taken_on start past journal new phase next order stands d ready fresh idle less records limit first =
-    asked start past _ _ order replies.Taken d (taken_due start past journal phase order d ready fresh idle less)
+    → new.limit ≡ journal.limit → IsFirst stands order moment next
+    → Describes start (Answered order.id replies.Taken ∷ Asked order moment ∷ past) (record { journal = new; phase = next })
+taken_on start past journal new phase next order moment stands d ready fresh idle less records limit first =
+    asked start past _ _ order moment replies.Taken d (taken_due start past journal phase order d ready fresh idle less)
     records limit
-    (first_place past order stands next first)
+    (first_place past order moment stands next first)
 
 -- all these orders have ended
 abbrev HaveEnded : List (Contents × Progress) → Type 0
@@ -201,7 +201,7 @@ leaves [] sentence = tt
 leaves (entry ∷ older) sentence = by (standing_of older) entry sentence.1 (leaves older sentence.0) where
   by : (stands : Standing) (entry : Record) → Allows stands entry → Leaves stands (orders_of older)
       → Leaves (next_standing stands entry) (orders_of (entry ∷ older))
-  by standings.Idle (Began order) allowed before = (orders_of older, refl, before)
+  by standings.Idle (Began order moment) allowed before = (orders_of older, refl, before)
   by (standings.Began order) (Opened unit) allowed before = (before.0, ap (come_to reached.Open) before.1, before.2)
   by (standings.Began order) (Ended codes.Short) allowed before =
       ended_now codes.Short (orders_of older) order reached.Begun before.0 before.1 before.2
@@ -250,7 +250,7 @@ come_absent id progress (newest ∷ older) e = by (newest.0.id == id) refl where
 
 not_begun : (id : ℕ) (records : List Record) → kept_of id records ≡ kepts.Absent → is_begun id records ≡ false
 not_begun id [] e = refl
-not_begun id (Began order ∷ older) e = by (λ none. not_begun id older none) (order.id == id) refl where
+not_begun id (Began order moment ∷ older) e = by (λ none. not_begun id older none) (order.id == id) refl where
   by : (kept_of id older ≡ kepts.Absent → is_begun id older ≡ false) → (x : Bool) → (order.id == id) ≡ x
       → (order.id == id || is_begun id older) ≡ false
   by more true p = let some : kepts.Unfinished order ≡ kepts.Absent = rw p at e in cc
@@ -271,33 +271,33 @@ new_number records order sentence idle fresh = by (kept_of order.id records) ref
   by (kepts.Ended old code) e is = absurd is
 
 -- the journal is ready for an order that is taken
-is_left_idle : (stands : Standing) (order : Contents) (next : Phase) (new : JournalState)
-    → standing_of new.records ≡ stands → is_at_work stands ≡ false → IsFirst stands order next
-    → MayBegin new (Began order) → IsReady next new
-is_left_idle standings.Idle order next new at idle is may = subst (λ (p : Phase). IsReady p new) (sym is) (at, may)
-is_left_idle (standings.Left unit) order next new at idle (s, is, same, closing, is_told) may =
+is_left_idle : (stands : Standing) (order : Contents) (moment : ℕ) (next : Phase) (new : JournalState)
+    → standing_of new.records ≡ stands → is_at_work stands ≡ false → IsFirst stands order moment next
+    → MayBegin new (Began order moment) → IsReady next new
+is_left_idle standings.Idle order moment next new at idle is may = subst (λ (p : Phase). IsReady p new) (sym is) (at, may)
+is_left_idle (standings.Left unit) order moment next new at idle (s, is, same, closing, is_told) may =
     subst (λ (p : Phase). IsReady p new) (sym is)
     (at ∙ ap standings.Left (sym same), subst (λ (u : ℕ). IsClosing u s) (sym same) closing, may)
-is_left_idle (standings.Began other) order next new at idle is may = cc
-is_left_idle (standings.Opened other) order next new at idle is may = cc
+is_left_idle (standings.Began other) order moment next new at idle is may = cc
+is_left_idle (standings.Opened other) order moment next new at idle is may = cc
 
-pub ready_taken : (journal new : JournalState) (phase next : Phase) (order : Contents) → IsSentence journal.records
+pub ready_taken : (journal new : JournalState) (phase next : Phase) (order : Contents) (moment : ℕ) → IsSentence journal.records
     → IsReady phase journal
     → IsNotEnded order (kept_of order.id journal.records) → is_idle phase ≡ true → order_count journal < journal.limit
     → new.records ≡ journal.records → new.limit ≡ journal.limit → HasRoom new order
-    → IsFirst (standing_of new.records) order next → IsReady next new
-ready_taken journal new phase next order sentence ready fresh idle less records limit room first =
+    → IsFirst (standing_of new.records) order moment next → IsReady next new
+ready_taken journal new phase next order moment sentence ready fresh idle less records limit room first =
     let rest : is_at_work (standing_of journal.records) ≡ false = at_rest phase ready idle in
     let number = new_number journal.records order sentence rest fresh in
-    is_left_idle (standing_of new.records) order next new refl (rw records rest) first
+    is_left_idle (standing_of new.records) order moment next new refl (rw records rest) first
     (room, rw (records, limit) less, rw records number) where
       at_rest : (phase : Phase) → IsReady phase journal → is_idle phase ≡ true
           → is_at_work (standing_of journal.records) ≡ false
       at_rest Idle ready e = ready
-      at_rest (Begins order) ready e = cc
+      at_rest (Begins order moment) ready e = cc
       at_rest (Checks order s) ready e = cc
       at_rest (Writes order s) ready e = cc
-      at_rest (Closes order s) ready e = cc
+      at_rest (Closes order moment s) ready e = cc
       at_rest (Says id code) ready e = cc
 
 -- a journal that isn't full has fewer orders than its limit

@@ -6,7 +6,7 @@ use Rattle.dali_write.specs.Told.{Told}
 use Rattle.dali_trace.specs.declared.happening.Happening.{Happening}
 use Rattle.dali_writer.specs.declared.phase.Phase.{Phase}
 use Rattle.dali_writer.specs.declared.phase.Phase.TheVariants.{Idle, Begins, Checks, Writes, Closes, Says}
-use Rattle.dali_trace.specs.Trace.{Start, records_of, sent_of, sent_since_taken, waiting, is_unsaid, has_ended}
+use Rattle.dali_trace.specs.Trace.{Start, records_of, sent_of, sent_since_taken, waiting, waiting_since, is_unsaid, has_ended}
 use Rattle.dali_trace.specs.Legal.{Legal, IsFinished}
 use Rattle.dali_writer.specs.Held.{Held}
 
@@ -17,10 +17,11 @@ ToldNewest sent s = (told : List Exchange) × (older : List Exchange) × (sent �
 -- what the trace shows of a phase, beside the records
 abbrev pub IsAt : Phase → List Happening → Type 0
 IsAt Idle past = is_unsaid past ≡ false
-IsAt (Begins order) past = waiting past ≡ Some order
+IsAt (Begins order moment) past = (waiting past ≡ Some order) × (waiting_since past ≡ moment)
 IsAt (Checks order s) past = ToldNewest (sent_of past) s
 IsAt (Writes order s) past = ToldNewest (sent_of past) s
-IsAt (Closes order s) past = (waiting past ≡ Some order) × Told (sent_since_taken past) s
+IsAt (Closes order moment s) past =
+    (waiting past ≡ Some order) × (waiting_since past ≡ moment) × Told (sent_since_taken past) s
 IsAt (Says id code) past = has_ended past ≡ true
 
 -- a legal trace from the start, with no reply due, describes the writer: its records and its limit are the journal's,

@@ -12,10 +12,10 @@ use Rattle.dali_writer.specs.Held.{Held}
 -- the session of the phase was told these
 abbrev pub WasTold : Phase → List Exchange → Type 0
 WasTold Idle told = Unit {0}
-WasTold (Begins order) told = Unit {0}
+WasTold (Begins order moment) told = Unit {0}
 WasTold (Checks order s) told = Told told s
 WasTold (Writes order s) told = Told told s
-WasTold (Closes order s) told = Told told s
+WasTold (Closes order moment s) told = Told told s
 WasTold (Says id code) told = Unit {0}
 
 -- the trace keeps to the plans, and its newest frames are those of the writer's session

@@ -1,5 +1,5 @@
 -- What contracts see of a writer.
-use Rattle.std.specs.Prelude.{◌≡◌, ◌⊎◌, false, [], length}
+use Rattle.std.specs.Prelude.{◌≡◌, ◌⊎◌, ℕ, false, [], length}
 use Rattle.dali_bank.specs.Order.{Contents, AreUpdates}
 use Rattle.dali_journal.specs.declared.record.Record.TheVariants.{Began}
 use Rattle.dali_journal.specs.declared.standing.Standing.{Standing}
@@ -31,14 +31,14 @@ start_of writer = record { records = writer.journal.records; limit = writer.jour
 -- session, the unit that is closed is the one that was left, and the order that ended is the newest
 abbrev pub IsReady : Phase → JournalState → Type 0
 IsReady Idle journal = is_at_work (standing_of journal.records) ≡ false
-IsReady (Begins order) journal = (standing_of journal.records ≡ standings.Idle) × MayBegin journal (Began order)
+IsReady (Begins order moment) journal = (standing_of journal.records ≡ standings.Idle) × MayBegin journal (Began order moment)
 IsReady (Checks order s) journal =
     (standing_of journal.records ≡ standings.Began order) × IsFresh order s × AreUpdates order.updates
 IsReady (Writes order s) journal =
     (standing_of journal.records ≡ standings.Opened order) × IsOpened order s × AreUpdates order.updates
-IsReady (Closes order s) journal =
+IsReady (Closes order moment s) journal =
     (standing_of journal.records ≡ standings.Left (unit_of s)) × IsClosing (unit_of s) s
-    × MayBegin journal (Began order)
+    × MayBegin journal (Began order moment)
 IsReady (Says id code) journal =
     (is_at_work (standing_of journal.records) ≡ false) × EndsAs id code (orders_of journal.records)
 
@@ -50,10 +50,10 @@ IsAfterCheck order verdicts.MayOpen phase =
 IsAfterCheck order verdict phase = phase ≡ Says order.id (check_code verdict)
 
 -- what comes first for an order that is taken: a unit that was left is closed
-abbrev pub IsFirst : Standing → Contents → Phase → Type 0
-IsFirst (standings.Left unit) order phase =
-    (s : Session) × (phase ≡ Closes order s) × (unit_of s ≡ unit) × IsClosing unit s × Told [] s
-IsFirst other order phase = phase ≡ Begins order
+abbrev pub IsFirst : Standing → Contents → ℕ → Phase → Type 0
+IsFirst (standings.Left unit) order moment phase =
+    (s : Session) × (phase ≡ Closes order moment s) × (unit_of s ≡ unit) × IsClosing unit s × Told [] s
+IsFirst other order moment phase = phase ≡ Begins order moment
 
 -- what comes first where the journal stands so: an order that was begun is looked at anew, one that was opened is
 -- carried out anew

@@ -51,10 +51,10 @@ closing_of id unit (asks.Ended other) = Say id (replies.Blocked unit)
 -- what a phase wants
 abbrev pub want_of : Phase → Want
 want_of Idle = wants.Idle
-want_of (Begins order) = Keep (Began order)
+want_of (Begins order moment) = Keep (Began order moment)
 want_of (Checks order s) = check_of order.unit (aim_of s)
 want_of (Writes order s) = write_of (aim_of s)
-want_of (Closes order s) = closing_of order.id (unit_of s) (aim_of s)
+want_of (Closes order moment s) = closing_of order.id (unit_of s) (aim_of s)
 want_of (Says id code) = Say id (replies.Kept code)
 
 abbrev pub is_idle : Phase → Bool

@@ -17,8 +17,8 @@ begun_work order = fresh_limit + 1 + opened_work order
 -- at most so many records, frames and sayings are still to come
 abbrev pub work_left : Phase → ℕ
 work_left Idle = 0
-work_left (Begins order) = 1 + begun_work order
+work_left (Begins order moment) = 1 + begun_work order
 work_left (Checks order s) = frames_left s + 1 + opened_work order
 work_left (Writes order s) = frames_left s + 2
-work_left (Closes order s) = frames_left s + 2 + begun_work order
+work_left (Closes order moment s) = frames_left s + 2 + begun_work order
 work_left (Says id code) = 1

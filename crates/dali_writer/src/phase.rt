@@ -17,14 +17,14 @@ use dali_write::{Ask, Session, Verdict};
 pub(crate) enum Phase {
     // nothing
     Idle,
-    // to begin an order that was taken
-    Begins(Order),
+    // to begin an order that was taken, submitted at this moment
+    Begins(Order, u64),
     // to look whether the unit of the order that was begun suits it
     Checks(Order, Session),
     // to carry the order out that was opened
     Writes(Order, Session),
-    // to close a unit that was left, for an order that was taken
-    Closes(Order, Session),
+    // to close a unit that was left, for an order that was taken, submitted at this moment
+    Closes(Order, u64, Session),
     // to say how the order of this number ended
     Says(u64, Code),
 }
@@ -44,7 +44,7 @@ impl Phase {
     {
         match self {
             Phase::Idle => Want::Idle,
-            Phase::Begins(order) => Want::Keep(Record::Began(order.copy())),
+            Phase::Begins(order, moment) => Want::Keep(Record::Began(order.copy(), *moment)),
             Phase::Checks(order, session) => match session.want() {
                 Ask::Send(frame) => Want::Send(frame),
                 Ask::Ended(verdict) => Want::Keep(check_record(order.unit(), verdict)),
@@ -53,7 +53,7 @@ impl Phase {
                 Ask::Send(frame) => Want::Send(frame),
                 Ask::Ended(verdict) => Want::Keep(Record::Ended(write_code(verdict))),
             },
-            Phase::Closes(order, session) => match session.want() {
+            Phase::Closes(order, _, session) => match session.want() {
                 Ask::Send(frame) => Want::Send(frame),
                 Ask::Ended(Verdict::Closed) => Want::Keep(Record::Closed(session.unit())),
                 Ask::Ended(_) => Want::Say(order.id(), Reply::Blocked(session.unit())),

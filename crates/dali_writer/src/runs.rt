@@ -80,9 +80,9 @@ fn serve<B: Bus>(
 {
     trace.reserve(2)?;
     match event {
-        Event::Submit(order) => {
-            let reply = writer.submit(order.copy())?;
-            trace.push_reserved(Happening::Asked(order.copy()));
+        Event::Submit(order, moment) => {
+            let reply = writer.submit(order.copy(), *moment)?;
+            trace.push_reserved(Happening::Asked(order.copy(), *moment));
             trace.push_reserved(Happening::Answered(order.id(), reply));
         }
         Event::Step => {
@@ -114,7 +114,7 @@ fn serve<B: Bus>(
 /// What a run over a bus gives (profile).
 #[derive(Drop)]
 pub struct Outcome {
-    /// The journal's bytes.
+    /// The journal's bytes, in version 2.
     pub journal: Vec<u8>,
     /// What happened, the oldest first.
     pub trace: Vec<Happening>,

@@ -1,5 +1,6 @@
 ghost use Rattle.std.specs.Prelude.{◌≡◌, ◌↔◌, ◌<◌, ◌≤◌, ◌∷◌, length, IfOk, IfSome, IsNone, List};
 ghost use Rattle.dali_journal.specs.declared.record.Record.{Record};
+ghost use Rattle.dali_journal.specs.declared.version.Version.TheVariants.{Two};
 ghost use Rattle.dali_journal.specs.Reading.{IsCutOf};
 ghost use Rattle.dali_journal.specs.Spelling.{spelling};
 ghost use Rattle.dali_trace.specs.declared.happening.Happening.{Happening};
@@ -24,10 +25,10 @@ pub(crate) fn keep_within(writer: &mut Writer, bytes: u16) -> Option<Record>
         → Describes start past writer.old → Describes start (happenings.Kept entry ∷ past) writer.new) }
     ensures follows { IfSome result (λ entry. (start : Start) (past : List Happening) → Describes start past writer.old
         → Follows start past writer.old → Follows start (happenings.Kept entry ∷ past) writer.new) }
-    ensures few { IfSome result (λ entry. length (spelling entry) ≤ bytes) }
+    ensures few { IfSome result (λ entry. length (spelling Two entry) ≤ bytes) }
     ensures same { IsNone result → writer.new ≡ writer.old }
     ensures cut { IsNone result → (entry : Record) → want_of writer.old.phase ≡ Want.Keep entry
-        → bytes < length (spelling entry) }
+        → bytes < length (spelling Two entry) }
     ensures next { (start : Start) (past : List Happening) → Describes start past writer.old
         → Follows start past writer.old
         → (entry : Record) → (want_of writer.old.phase ≡ Want.Keep entry) ↔ IsKeptNext start past entry }
@@ -48,7 +49,7 @@ pub(crate) fn keep_within(writer: &mut Writer, bytes: u16) -> Option<Record>
 // The journal that is loaded again after a stop that let through so many bytes of the record that is
 // wanted, where one is and it has more.
 pub(crate) fn left_by(alloc: Global, writer: &Writer, bytes: u16) -> Result<Journal, NoMemory>
-    requires { (entry : Record) → want_of writer.now.phase ≡ Want.Keep entry → bytes < length (spelling entry) }
+    requires { (entry : Record) → want_of writer.now.phase ≡ Want.Keep entry → bytes < length (spelling Two entry) }
     ensures { IfOk result
         (λ journal. (journal.records ≡ writer.now.journal.records) × (journal.limit ≡ writer.now.journal.limit)) }
 {
@@ -67,13 +68,13 @@ pub(crate) fn loaded_again(
     journal: &Journal,
     cut: &[u8],
 ) -> Result<Journal, NoMemory>
-    requires { (last : Record) × IsCutOf cut.now last }
+    requires { (last : Record) × IsCutOf Two cut.now last }
     ensures { IfOk result (λ again. (again.records ≡ journal.now.records) × (again.limit ≡ journal.now.limit)) }
 {
     let mut left = journal.to_bytes(alloc)?;
     left.extend_from_slice(cut)?;
     match Journal::load(alloc, journal.limit(), &left) {
-        Ok((again, _)) => Ok(again),
+        Ok((again, _, _)) => Ok(again),
         Err(JournalFault::NoMemory) => Err(NoMemory),
         Err(_) => unreachable!(),
     }

@@ -110,13 +110,13 @@ impl Writer {
     /// another unit or with other updates. 3 `Busy`: something is wanted. 4 `Full`: the journal holds
     /// as many orders as it may. 5 `Taken`. `Blocked` is never given at once. `NoMemory` comes where
     /// an order could be taken, but there is no memory for its records. Only `Taken` changes what the
-    /// writer wants.
-    pub fn submit(&mut self, order: Order) -> Result<Reply, NoMemory>
+    /// writer wants. The moment is a number of the caller's, kept in the order's `Began`; replies pass over it.
+    pub fn submit(&mut self, order: Order, moment: u64) -> Result<Reply, NoMemory>
         ensures described { IfOk result
             (λ reply. (start : Start) (past : List Happening) → Describes start past self.old
-            → Describes start (happenings.Answered order.id reply ∷ happenings.Asked order ∷ past) self.new) }
+            → Describes start (happenings.Answered order.id reply ∷ happenings.Asked order moment ∷ past) self.new) }
         ensures follows { IfOk result (λ reply. (start : Start) (past : List Happening) → Follows start past self.old
-            → Follows start (happenings.Answered order.id reply ∷ happenings.Asked order ∷ past) self.new) }
+            → Follows start (happenings.Answered order.id reply ∷ happenings.Asked order moment ∷ past) self.new) }
         ensures only_taken { IfOk result (λ reply. (reply ≡ replies.Taken) ⊎ (self.new ≡ self.old)) }
         ensures unchanged { OnErr result
             ((self.new.phase ≡ self.old.phase) × (self.new.journal.records ≡ self.old.journal.records)
@@ -135,7 +135,7 @@ impl Writer {
             return Ok(Reply::Full);
         }
         self.journal.reserve(&order)?;
-        self.phase = first_phase(self.journal.standing(), order);
+        self.phase = first_phase(self.journal.standing(), order, moment);
         Ok(Reply::Taken)
     }
 
@@ -154,8 +154,8 @@ impl Writer {
             → Follows start (happenings.Kept entry ∷ past) self.new }
     {
         match mem::replace(&mut self.phase, Phase::Idle) {
-            Phase::Begins(order) => {
-                self.journal.append(Record::Began(order.copy()));
+            Phase::Begins(order, moment) => {
+                self.journal.append(Record::Began(order.copy(), moment));
                 let session = Session::fresh(order.copy());
                 self.phase = Phase::Checks(order, session);
             }
@@ -172,9 +172,9 @@ impl Writer {
                     self.phase = Phase::Says(order.id(), code);
                 }
             }
-            Phase::Closes(order, session) => {
+            Phase::Closes(order, moment, session) => {
                 self.journal.append(Record::Closed(session.unit()));
-                self.phase = Phase::Begins(order);
+                self.phase = Phase::Begins(order, moment);
             }
             Phase::Idle => {}
             Phase::Says(_, _) => {}
@@ -198,9 +198,9 @@ impl Writer {
         match &mut self.phase {
             Phase::Checks(_, session) => session.heard(answer),
             Phase::Writes(_, session) => session.heard(answer),
-            Phase::Closes(_, session) => session.heard(answer),
+            Phase::Closes(_, _, session) => session.heard(answer),
             Phase::Idle => {}
-            Phase::Begins(_) => {}
+            Phase::Begins(_, _) => {}
             Phase::Says(_, _) => {}
         }
     }
@@ -248,12 +248,12 @@ fn known_reply(journal: &Journal, order: &Order) -> Option<Reply>
 }
 
 // What comes first for an order that is taken: a unit that was left is closed.
-fn first_phase(standing: Standing, order: Order) -> Phase
+fn first_phase(standing: Standing, order: Order, moment: u64) -> Phase
     requires { HasShortUnit standing }
-    ensures { IsFirst standing order result }
+    ensures { IsFirst standing order moment result }
 {
     match standing {
-        Standing::Left(unit) => Phase::Closes(order, Session::closing(unit)),
-        _ => Phase::Begins(order),
+        Standing::Left(unit) => Phase::Closes(order, moment, Session::closing(unit)),
+        _ => Phase::Begins(order, moment),
     }
 }

@@ -1,6 +1,7 @@
 use Rattle.std.proofs.Common.{refl, sym, ap, ◌∙◌, reverse, [], arith}
 use Rattle.std.proofs.lemmas.List.{take_all}
 use Rattle.std.proofs.lemmas.Result.{err_from_is_err_and}
+use Rattle.dali_journal.specs.declared.version.Version.TheVariants.{Two}
 use Rattle.dali_journal.specs.Spelling.{journal_spelling}
 use Rattle.dali_bus.specs.Chain.{Chain}
 use Rattle.dali_trace.specs.Moves.{MovesBy}
@@ -98,7 +99,7 @@ returns-clause-ok g c =
       parts = rw all at at.parts;
       journal_is =
           c.in_ok-to_bytes.ensures
-          ∙ ap journal_spelling (ap (λ j. j.records) c.journal.ensures ∙ sym at.described.same);
+          ∙ ap (journal_spelling Two) (ap (λ j. j.records) c.journal.ensures ∙ sym at.described.same);
       taken = taken_from_none (fresh c.args.limit) (reverse c.loop-event.trace.items) refl at.described.legal;
       leads =
           right g.B.Bus.world g.B.Bus.step g.met.B.Bus.allowed c.args.limit c.args.bus.now c.loop-event.bus _

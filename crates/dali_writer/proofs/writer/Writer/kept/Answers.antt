@@ -24,7 +24,7 @@ invariant_of-self-in-Ended-want c = record {
 
 pub invariant_of-self-in-Closes : goal.invariant_of-self-in-Closes
 invariant_of-self-in-Closes c = record {
-  ready = ready_closed c.self.inside.journal c.append-in-Closes.new.self c.in-Closes.order c.in-Closes.session
+  ready = ready_closed c.self.inside.journal c.append-in-Closes.new.self c.in-Closes.order c.in-Closes.moment c.in-Closes.session
       (rw (← c.in-Closes.ensures.value) at c.self.invariant.ready)
       (rw c.unit-in-Closes.ensures.value at c.append-in-Closes.ensures.records)
       c.append-in-Closes.ensures.limit c.append-in-Closes.ensures.kept_room;
@@ -32,7 +32,7 @@ invariant_of-self-in-Closes c = record {
 
 pub returns-in-Begins-clause-described : goal.returns-in-Begins-clause-described
 returns-in-Begins-clause-described c = λ start past entry want d.
-    keeps_begun start past c.self.inside.journal c.append.new.self c.self.inside.phase c.in-Begins.order
+    keeps_begun start past c.self.inside.journal c.append.new.self c.self.inside.phase c.in-Begins.order c.in-Begins.moment
     c.fresh-session.result entry
     c.in-Begins.ensures.value (rw (← c.self.view_is) at d) c.self.invariant.ready (rw (← c.self.view_is) at want)
     c.fresh-session.ensures.told
@@ -59,7 +59,7 @@ returns-in-Ended-want-clause-described c = λ start past entry want d.
 
 pub returns-in-Closes-clause-described : goal.returns-in-Closes-clause-described
 returns-in-Closes-clause-described c = λ start past entry want d.
-    keeps_closed start past c.self.inside.journal c.append-in-Closes.new.self c.self.inside.phase c.in-Closes.order
+    keeps_closed start past c.self.inside.journal c.append-in-Closes.new.self c.self.inside.phase c.in-Closes.order c.in-Closes.moment
     c.in-Closes.session entry
     c.in-Closes.ensures.value (rw (← c.self.view_is) at d) c.self.invariant.ready (rw (← c.self.view_is) at want)
     (rw c.unit-in-Closes.ensures.value at c.append-in-Closes.ensures.records) c.append-in-Closes.ensures.limit
@@ -71,7 +71,7 @@ returns-in-Ended-clause-falls c = rw (← c.self.view_is)
 
 pub returns-in-Begins-clause-follows : goal.returns-in-Begins-clause-follows
 returns-in-Begins-clause-follows c = λ start past entry want d f.
-    begun_follows start past c.self.inside.journal c.append.new.self c.self.inside.phase c.in-Begins.order
+    begun_follows start past c.self.inside.journal c.append.new.self c.self.inside.phase c.in-Begins.order c.in-Begins.moment
     c.fresh-session.result entry
     c.in-Begins.ensures.value (rw (← c.self.view_is) at f) (rw (← c.self.view_is) at want) c.fresh-session.ensures.told
 
@@ -93,7 +93,7 @@ returns-in-Ended-want-clause-follows c = λ start past entry want d f.
 
 pub returns-in-Closes-clause-follows : goal.returns-in-Closes-clause-follows
 returns-in-Closes-clause-follows c = λ start past entry want d f.
-    closed_follows start past c.self.inside.journal c.append-in-Closes.new.self c.self.inside.phase c.in-Closes.order
+    closed_follows start past c.self.inside.journal c.append-in-Closes.new.self c.self.inside.phase c.in-Closes.order c.in-Closes.moment
     c.in-Closes.session entry
     c.in-Closes.ensures.value (rw (← c.self.view_is) at d) (rw (← c.self.view_is) at f) c.self.invariant.ready
     (rw (← c.self.view_is) at want)

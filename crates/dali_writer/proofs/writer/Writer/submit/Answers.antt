@@ -1,15 +1,15 @@
 use Rattle.std.proofs.Common.{◌∙◌, sym, refl}
 use Rattle.dali_journal.specs.JournalState.{order_count}
-use Rattle.dali_writer.proofs.SubmitLemmas.{known_on, busy_on, ready_taken, not_full}
+use Rattle.dali_writer.proofs.SubmitLemmas.{known_on, busy_on, taken_on, ready_taken, not_full}
 use Rattle.dali_writer.proofs.writer.Writer.submit.Goals as goal
 
 pub returns-in-Some-clause-described : goal.returns-in-Some-clause-described
 returns-in-Some-clause-described c = λ start past d.
-    known_on start past c.args.self.now c.args.order c.in-Some.reply d (rw (← c.self.view_is) c.in-Some.ensures.some)
+    known_on start past c.args.self.now c.args.order c.args.moment c.in-Some.reply d (rw (← c.self.view_is) c.in-Some.ensures.some)
 
 pub returns-then-not-is_idle-clause-described : goal.returns-then-not-is_idle-clause-described
 returns-then-not-is_idle-clause-described c = λ start past d.
-    rw (← c.self.view_is) (busy_on start past c.self.inside.journal c.self.inside.phase c.args.order
+    rw (← c.self.view_is) (busy_on start past c.self.inside.journal c.self.inside.phase c.args.order c.args.moment
     (rw (← c.self.view_is) at d) c.self.invariant.ready
     (c.in_default.ensures.none refl) (sym c.is_idle.ensures ∙ c.if-not-is_idle.true))
 
@@ -17,7 +17,7 @@ pub invariant_of-self-2 : goal.invariant_of-self-2
 invariant_of-self-2 c = record {
   ready =
       ready_taken c.self.inside.journal c.reserve.new.self c.self.inside.phase
-      c.first_phase-self-inside.result c.args.order
+      c.first_phase-self-inside.result c.args.order c.args.moment
       (rw c.in_ok-reserve.ensures.records at c.standing.ensures.journal.kept.whole.0) c.self.invariant.ready
       (c.in_default.ensures.none refl) (sym c.is_idle.ensures ∙ c.if-not-is_idle.false)
       (not_full c.is_full.result c.self.inside.journal.limit (order_count c.self.inside.journal) c.is_full.ensures
@@ -25,3 +25,13 @@ invariant_of-self-2 c = record {
       c.in_ok-reserve.ensures.records c.in_ok-reserve.ensures.limit c.in_ok-reserve.ensures.room
       (rw c.standing.ensures.value at c.first_phase-self-inside.ensures);
 }
+
+pub returns-clause-described : goal.returns-clause-described
+returns-clause-described c = λ start past d.
+    taken_on start past c.self.inside.journal c.reserve.new.self c.self.inside.phase
+    c.first_phase-self-inside.result c.args.order c.args.moment c.standing.result
+    (rw (← c.self.view_is) at d) c.self.invariant.ready
+    (c.in_default.ensures.none refl) (sym c.is_idle.ensures ∙ c.if-not-is_idle.false)
+    (not_full c.is_full.result c.self.inside.journal.limit (order_count c.self.inside.journal) c.is_full.ensures
+    c.if-is_full.false)
+    c.in_ok-reserve.ensures.records c.in_ok-reserve.ensures.limit c.first_phase-self-inside.ensures

@@ -7,6 +7,7 @@ use Rattle.std.proofs.KnownBytes.{Appends-trans, Appends-nil, Consumes-trans, Co
 use Rattle.dali_frame.specs.declared.forward.Frame.{Frame}
 use Rattle.dali_bank.specs.Order.{Contents}
 use Rattle.dali_journal.specs.declared.record.Record.{Record}
+use Rattle.dali_journal.specs.declared.version.Version.TheVariants.{Two}
 use Rattle.dali_journal.specs.Spelling.{spelling, IsRecord}
 use Rattle.dali_trace.specs.declared.happening.Reply.{Reply}
 use Rattle.dali_trace.specs.declared.happening.Reply.TheVariants as replies
@@ -25,7 +26,7 @@ use Rattle.dali_writer.specs.Follows.{Follows}
 use Rattle.dali_drive.specs.WorkedOn.{IsDrivenAt}
 use Rattle.dali_drive.specs.Lines.{link_line, reply_line, TakesLine}
 use Rattle.dali_drive.specs.Transcript.{Streams, Transcript, shown}
-use Rattle.dali_drive.specs.Driven.{IsInTurn, KeepsRecords, IsDriven, IsNextFrame, BrokenOff, AppendsPart}
+use Rattle.dali_drive.specs.Driven.{at_moment, IsInTurn, KeepsRecords, IsDriven, IsNextFrame, BrokenOff, AppendsPart}
 
 -- nothing has happened yet
 driven_nothing : (start : Start) (j l a o : Option (List ℕ)) → Legal start []
@@ -68,7 +69,7 @@ goes_on start past next first old new d is turn range text =
 pub keeps_on : (start : Start) (past : List Happening) (first : Streams) (j more l a o : Option (List ℕ))
     (entry : Record)
     → IsDriven start past first (shown j l a o)
-    → IsNext start past (Kept entry) → IsRecord entry → Appends j more (spelling entry)
+    → IsNext start past (Kept entry) → IsRecord Two entry → Appends j more (spelling Two entry)
     → IsDriven start (Kept entry ∷ past) first (shown more l a o)
 keeps_on start past first j more l a o entry d next range added =
     goes_on start past (Kept entry) first (shown j l a o) (shown more l a o) d next (λ t. t) (λ t. (range, t))
@@ -114,10 +115,10 @@ says_on start past first j l a o more id reply d next added =
     })
 
 -- an order was asked, and nothing written
-pub asks_on : (start : Start) (past : List Happening) (first now : Streams) (order : Contents)
-    → IsDriven start past first now → is_busy start past ≡ false → Legal start (Asked order ∷ past)
-    → IsDriven start (Asked order ∷ past) first now
-asks_on start past first now order d quiet legal = record {
+pub asks_on : (start : Start) (past : List Happening) (first now : Streams) (order : Contents) (moment : ℕ)
+    → IsDriven start past first now → is_busy start past ≡ false → Legal start (Asked order moment ∷ past)
+    → IsDriven start (Asked order moment ∷ past) first now
+asks_on start past first now order moment d quiet legal = record {
   legal = legal;
   planned = (d.planned, tt);
   in_turn = (quiet, d.in_turn);
@@ -133,49 +134,63 @@ asks_on start past first now order d quiet legal = record {
 }
 
 -- the reply to it is next
-pub reply_next : (start : Start) (past : List Happening) (order : Contents) (reply : Reply)
-    → Legal start (Answered order.id reply ∷ Asked order ∷ past)
-    → ByPlan start (Answered order.id reply ∷ Asked order ∷ past)
-    → IsNext start (Asked order ∷ past) (Answered order.id reply)
-reply_next start past order reply legal planned = record { work = tt; may = legal.1; planned = planned.1 }
+pub reply_next : (start : Start) (past : List Happening) (order : Contents) (moment : ℕ) (reply : Reply)
+    → Legal start (Answered order.id reply ∷ Asked order moment ∷ past)
+    → ByPlan start (Answered order.id reply ∷ Asked order moment ∷ past)
+    → IsNext start (Asked order moment ∷ past) (Answered order.id reply)
+reply_next start past order moment reply legal planned = record { work = tt; may = legal.1; planned = planned.1 }
 
 pub replied_at : (start : Start) (past : List Happening) (old new : Held) (first : Streams)
-    (j l a o more : Option (List ℕ)) (order : Contents) (reply : Reply)
+    (j l a o more : Option (List ℕ)) (order : Contents) (moment : ℕ) (reply : Reply)
     → IsDrivenAt start past old first (shown j l a o) → is_busy start past ≡ false
-    → Describes start (Answered order.id reply ∷ Asked order ∷ past) new
-    → Follows start (Answered order.id reply ∷ Asked order ∷ past) new → Appends o more (reply_line order.id reply)
-    → IsDrivenAt start (Answered order.id reply ∷ Asked order ∷ past) new first (shown j l a more)
-replied_at start past old new first j l a o more order reply d quiet described follows added = record {
+    → Describes start (Answered order.id reply ∷ Asked order moment ∷ past) new
+    → Follows start (Answered order.id reply ∷ Asked order moment ∷ past) new → Appends o more (reply_line order.id reply)
+    → IsDrivenAt start (Answered order.id reply ∷ Asked order moment ∷ past) new first (shown j l a more)
+replied_at start past old new first j l a o more order moment reply d quiet described follows added = record {
   driven =
-      says_on start (Asked order ∷ past) first j l a o more order.id reply
-      (asks_on start past first (shown j l a o) order d.driven quiet described.legal.0)
-      (reply_next start past order reply described.legal follows.planned) added;
+      says_on start (Asked order moment ∷ past) first j l a o more order.id reply
+      (asks_on start past first (shown j l a o) order moment d.driven quiet described.legal.0)
+      (reply_next start past order moment reply described.legal follows.planned) added;
   described = described;
   follows = follows;
 }
 
 -- The orders
 
+at_append : (moment : ℕ) (xs ys : List Contents)
+    → at_moment moment (xs ++ ys) ≡ at_moment moment xs ++ at_moment moment ys
+at_append moment [] ys = refl
+at_append moment (x ∷ xs) ys = ap (λ (rest : List (Contents × ℕ)). (x, moment) ∷ rest) (at_append moment xs ys)
+
 -- one more was asked
-pub asked_more : (xs asked : List Contents) (n : ℕ) (d order : Contents) → n < length xs → order ≡ get_or xs n d
-    → asked ≡ reverse (take n xs)
-    → order ∷ asked ≡ reverse (take (n + 1) xs)
-asked_more xs asked n d order h is e =
-    rw (is, e) (sym (ap reverse (take_more xs n d h) ∙ reverse-append (take n xs) (get_or xs n d ∷ [])))
+pub asked_more : (moment : ℕ) (xs : List Contents) (asked : List (Contents × ℕ)) (n : ℕ) (d order : Contents)
+    → n < length xs → order ≡ get_or xs n d → asked ≡ reverse (at_moment moment (take n xs))
+    → (order, moment) ∷ asked ≡ reverse (at_moment moment (take (n + 1) xs))
+asked_more moment xs asked n d order h is e =
+    rw (is, e) (sym (ap (λ (os : List Contents). reverse (at_moment moment os)) (take_more xs n d h)
+    ∙ ap reverse (at_append moment (take n xs) (get_or xs n d ∷ []))
+    ∙ reverse-append (at_moment moment (take n xs)) ((get_or xs n d, moment) ∷ [])))
 
 -- those that were asked and those that are still to be asked are all
-pub asked_so_far : (xs asked : List Contents) (n : ℕ) → asked ≡ reverse (take n xs) → reverse asked ++ drop n xs ≡ xs
-asked_so_far xs asked n e =
-    rw e (ap (λ (front : List Contents). front ++ drop n xs) (reverse-reverse (take n xs)) ∙ take-append-drop n xs)
+pub asked_so_far : (moment : ℕ) (xs : List Contents) (asked : List (Contents × ℕ)) (n : ℕ)
+    → asked ≡ reverse (at_moment moment (take n xs))
+    → reverse asked ++ at_moment moment (drop n xs) ≡ at_moment moment xs
+asked_so_far moment xs asked n e =
+    rw e (ap (λ (front : List (Contents × ℕ)). front ++ at_moment moment (drop n xs))
+    (reverse-reverse (at_moment moment (take n xs)))
+    ∙ sym (at_append moment (take n xs) (drop n xs)) ∙ ap (at_moment moment) (take-append-drop n xs))
 
-pub asked_then : (xs asked : List Contents) (n : ℕ) (d order : Contents) → n < length xs → order ≡ get_or xs n d
-    → asked ≡ reverse (take n xs)
-    → reverse asked ++ order ∷ drop (suc n) xs ≡ xs
-asked_then xs asked n d order h is e =
-    rw is (ap (λ (rest : List Contents). reverse asked ++ rest) (sym (drop-cons xs n d h)) ∙ asked_so_far xs asked n e)
+pub asked_then : (moment : ℕ) (xs : List Contents) (asked : List (Contents × ℕ)) (n : ℕ) (d order : Contents)
+    → n < length xs → order ≡ get_or xs n d → asked ≡ reverse (at_moment moment (take n xs))
+    → reverse asked ++ at_moment moment (order ∷ drop (suc n) xs) ≡ at_moment moment xs
+asked_then moment xs asked n d order h is e =
+    rw is (ap (λ (rest : List Contents). reverse asked ++ at_moment moment rest) (sym (drop-cons xs n d h))
+    ∙ asked_so_far moment xs asked n e)
 
-pub asked_all : (xs asked : List Contents) (n : ℕ) → length xs ≤ n → asked ≡ reverse (take n xs) → reverse asked ≡ xs
-asked_all xs asked n all e = ap reverse e ∙ reverse-reverse (take n xs) ∙ take_all n xs all
+pub asked_all : (moment : ℕ) (xs : List Contents) (asked : List (Contents × ℕ)) (n : ℕ) → length xs ≤ n
+    → asked ≡ reverse (at_moment moment (take n xs)) → reverse asked ≡ at_moment moment xs
+asked_all moment xs asked n all e =
+    ap reverse e ∙ reverse-reverse (at_moment moment (take n xs)) ∙ ap (at_moment moment) (take_all n xs all)
 
 -- A step that is broken off
 
@@ -189,14 +204,14 @@ part_of_it old new bytes cut = record { count = cut.0; within = cut.1; part = cu
 pub breaks_record : (start : Start) (past : List Happening) (rest : List Contents) (j more l a o : Option (List ℕ))
     (entry : Record)
     → IsNext start past (Kept entry)
-    → IsRecord entry → IsCut j more (spelling entry)
+    → IsRecord Two entry → IsCut j more (spelling Two entry)
     → BrokenOff start past rest Journal (shown j l a o) (shown more l a o)
 breaks_record start past rest j more l a o entry next range cut = (
   entry,
   next,
   record {
     in_range = range;
-    journal = part_of_it j more (spelling entry) cut;
+    journal = part_of_it j more (spelling Two entry) cut;
     link = Keeps-refl l;
     answers = Keeps-refl a;
     out = Keeps-refl o;

@@ -11,6 +11,8 @@ use Rattle.dali_frame.specs.declared.forward.Frame.{Frame}
 use Rattle.dali_bus.specs.World.{World}
 use Rattle.dali_bus.specs.Chain.{IsChain}
 use Rattle.dali_journal.specs.declared.record.Record.{Record}
+use Rattle.dali_journal.specs.declared.version.Version.TheVariants.{Two}
+use Rattle.dali_journal.specs.declared.version.Version.{Version}
 use Rattle.dali_journal.specs.Spelling.{spelling, journal_spelling, IsRecord}
 use Rattle.dali_journal.specs.JournalState.{AreKept}
 use Rattle.dali_journal.proofs.TornLemmas.{torn_no_fault}
@@ -44,59 +46,59 @@ happened start trace past legal planned (inr (next, is, same)) = rw same ((legal
 
 -- the journal's bytes are those of the start and the recorded ones
 journal_recorded : (start : Start) (past : List Happening)
-    → journal_spelling (records_of start past) ≡ journal_spelling start.records ++ recorded past
-journal_recorded start [] = sym (append-nil (journal_spelling start.records))
-journal_recorded start (Asked order ∷ past) = journal_recorded start past
+    → journal_spelling Two (records_of start past) ≡ journal_spelling Two start.records ++ recorded past
+journal_recorded start [] = sym (append-nil (journal_spelling Two start.records))
+journal_recorded start (Asked order moment ∷ past) = journal_recorded start past
 journal_recorded start (Answered id reply ∷ past) = journal_recorded start past
 journal_recorded start (Sent frame answer ∷ past) = journal_recorded start past
 journal_recorded start (Stopped ∷ past) = journal_recorded start past
 journal_recorded start (Powered address ∷ past) = journal_recorded start past
 journal_recorded start (Kept entry ∷ past) =
-    ap (λ (b : List ℕ). b ++ spelling entry) (journal_recorded start past)
-    ∙ append_assoc (journal_spelling start.records) (recorded past) (spelling entry)
+    ap (λ (b : List ℕ). b ++ spelling Two entry) (journal_recorded start past)
+    ∙ append_assoc (journal_spelling Two start.records) (recorded past) (spelling Two entry)
 
 -- the records of a driven trace are kept ones
-in_range : (start : Start) (past : List Happening) → AllByRecursion IsRecord start.records → KeepsRecords past
-    → AllByRecursion IsRecord (records_of start past)
+in_range : (start : Start) (past : List Happening) → AllByRecursion (IsRecord Two) start.records → KeepsRecords past
+    → AllByRecursion (IsRecord Two) (records_of start past)
 in_range start [] all keeps = all
-in_range start (Asked order ∷ past) all keeps = in_range start past all keeps
+in_range start (Asked order moment ∷ past) all keeps = in_range start past all keeps
 in_range start (Answered id reply ∷ past) all keeps = in_range start past all keeps
 in_range start (Sent frame answer ∷ past) all keeps = in_range start past all keeps
 in_range start (Stopped ∷ past) all keeps = in_range start past all keeps
 in_range start (Powered address ∷ past) all keeps = in_range start past all keeps
 in_range start (Kept entry ∷ past) all keeps = (keeps.0, in_range start past all keeps.1)
 
-kept_so : (start : Start) (past : List Happening) → AreKept start.limit start.records → Legal start past
-    → KeepsRecords past → AreKept start.limit (records_of start past)
+kept_so : (start : Start) (past : List Happening) → AreKept Two start.limit start.records → Legal start past
+    → KeepsRecords past → AreKept Two start.limit (records_of start past)
 kept_so start past kept legal keeps =
     record { in_range = in_range start past kept.in_range keeps; whole = legal_sentence start past legal }
 
 -- a file of just these records, or of them and a cut one behind them
-whole_file : (start : Start) (past : List Happening) → AreKept start.limit (records_of start past)
-    → IsFileOf (journal_spelling (records_of start past)) (after start past)
-    (length (journal_spelling (records_of start past)))
+whole_file : (start : Start) (past : List Happening) → AreKept Two start.limit (records_of start past)
+    → IsFileOf (journal_spelling Two (records_of start past)) (after start past) Two
+    (length (journal_spelling Two (records_of start past)))
 whole_file start past kept =
     record {
       kept = kept;
-      torn = record {
+      loadable = record {
         rest = [];
-        spelled = sym (append-nil (journal_spelling (records_of start past)));
+        spelled = sym (append-nil (journal_spelling Two (records_of start past)));
         cut = cut_of_none;
         counts = refl;
       };
     }
 
 cut_file : (start : Start) (past : List Happening) (entry : Record) (count : ℕ)
-    → AreKept start.limit (records_of start past) → IsRecord entry → count < length (spelling entry)
-    → IsFileOf (journal_spelling (records_of start past) ++ take count (spelling entry)) (after start past)
-    (length (journal_spelling (records_of start past)))
+    → AreKept Two start.limit (records_of start past) → IsRecord Two entry → count < length (spelling Two entry)
+    → IsFileOf (journal_spelling Two (records_of start past) ++ take count (spelling Two entry)) (after start past) Two
+    (length (journal_spelling Two (records_of start past)))
 cut_file start past entry count kept range less =
     record {
       kept = kept;
-      torn = record {
-        rest = take count (spelling entry);
+      loadable = record {
+        rest = take count (spelling Two entry);
         spelled = refl;
-        cut = cut_of_some entry (spelling entry) count refl range less;
+        cut = cut_of_some entry (spelling Two entry) count refl range less;
         counts = refl;
       };
     }
@@ -116,47 +118,47 @@ shows_still (Some bytes) None was is same = absurd same
 shows_still (Some bytes) (Some still) was is same = cc
 
 drive_holds : (start : Start) (past : List Happening) (first last : Streams) → IsDriven start past first last
-    → first.journal ≡ Some (journal_spelling start.records)
-    → last.journal ≡ Some (journal_spelling (records_of start past))
+    → first.journal ≡ Some (journal_spelling Two start.records)
+    → last.journal ≡ Some (journal_spelling Two (records_of start past))
 drive_holds start past first last d is =
-    shows_more first.journal last.journal (journal_spelling start.records) (recorded past) is d.text.journal
+    shows_more first.journal last.journal (journal_spelling Two start.records) (recorded past) is d.text.journal
     ∙ ap Some (sym (journal_recorded start past))
 
 -- nothing more stands in the journal, and this happened
 left_still : (start : Start) (trace past : List Happening) (old new : Streams)
-    → AreKept start.limit (records_of start past) → MayHaveHappened start trace past → IsFinished past
-    → old.journal ≡ Some (journal_spelling (records_of start past)) → Keeps old.journal new.journal
+    → AreKept Two start.limit (records_of start past) → MayHaveHappened start trace past → IsFinished past
+    → old.journal ≡ Some (journal_spelling Two (records_of start past)) → Keeps old.journal new.journal
     → LeavesFile start trace new
 left_still start trace past old new kept may finished is same = record {
   past = past;
   happened = may;
   finished = finished;
-  left = journal_spelling (records_of start past);
-  held = shows_still old.journal new.journal (journal_spelling (records_of start past)) is same;
-  count = length (journal_spelling (records_of start past));
+  left = journal_spelling Two (records_of start past);
+  held = shows_still old.journal new.journal (journal_spelling Two (records_of start past)) is same;
+  count = length (journal_spelling Two (records_of start past));
   file = whole_file start past kept;
 }
 
 -- a part of a record stands there, or all of it
 left_record : (start : Start) (trace : List Happening) (old new : Streams) (entry : Record)
-    → AreKept start.limit start.records → Legal start trace → KeepsRecords trace
-    → IsFinished trace → old.journal ≡ Some (journal_spelling (records_of start trace))
-    → IsNext start trace (Kept entry) → IsRecord entry
-    → AppendsPart old.journal new.journal (spelling entry) → LeavesFile start trace new
+    → AreKept Two start.limit start.records → Legal start trace → KeepsRecords trace
+    → IsFinished trace → old.journal ≡ Some (journal_spelling Two (records_of start trace))
+    → IsNext start trace (Kept entry) → IsRecord Two entry
+    → AppendsPart old.journal new.journal (spelling Two entry) → LeavesFile start trace new
 left_record start trace old new entry kept legal keeps finished is next range part =
     by (eq-or-lt_of_le part.within) where
       was : List ℕ
-      was = journal_spelling (records_of start trace)
+      was = journal_spelling Two (records_of start trace)
 
-      now : new.journal ≡ Some (was ++ take part.count (spelling entry))
-      now = shows_more old.journal new.journal was (take part.count (spelling entry)) is part.part
+      now : new.journal ≡ Some (was ++ take part.count (spelling Two entry))
+      now = shows_more old.journal new.journal was (take part.count (spelling Two entry)) is part.part
 
-      by : (part.count ≡ length (spelling entry)) ⊎ (part.count < length (spelling entry)) → LeavesFile start trace new
+      by : (part.count ≡ length (spelling Two entry)) ⊎ (part.count < length (spelling Two entry)) → LeavesFile start trace new
       by (inr less) = record {
         past = trace;
         happened = inl refl;
         finished = finished;
-        left = was ++ take part.count (spelling entry);
+        left = was ++ take part.count (spelling Two entry);
         held = now;
         count = length was;
         file = cut_file start trace entry part.count (kept_so start trace kept legal keeps) range less;
@@ -165,12 +167,12 @@ left_record start trace old new entry kept legal keeps finished is next range pa
         past = Kept entry ∷ trace;
         happened = inr (Kept entry, next, refl);
         finished = tt;
-        left = was ++ spelling entry;
+        left = was ++ spelling Two entry;
         held =
             now
             ∙ ap (λ (b : List ℕ). Some (was ++ b))
-            (ap (λ (k : ℕ). take k (spelling entry)) all ∙ take-length (spelling entry));
-        count = length (was ++ spelling entry);
+            (ap (λ (k : ℕ). take k (spelling Two entry)) all ∙ take-length (spelling Two entry));
+        count = length (was ++ spelling Two entry);
         file = whole_file start (Kept entry ∷ trace)
             (kept_so start (Kept entry ∷ trace) kept (legal, next.may) (range, keeps));
       }
@@ -179,7 +181,7 @@ left_record start trace old new entry kept legal keeps finished is next range pa
 frame_finished : (start : Start) (past : List Happening) (frame : Frame) (answer : Option ℕ)
     → IsNext start past (Sent frame answer) → IsFinished past
 frame_finished start [] frame answer next = tt
-frame_finished start (Asked order ∷ past) frame answer next = absurd next.may
+frame_finished start (Asked order moment ∷ past) frame answer next = absurd next.may
 frame_finished start (Answered id reply ∷ past) frame answer next = tt
 frame_finished start (Sent last heard ∷ past) frame answer next = tt
 frame_finished start (Kept entry ∷ past) frame answer next = tt
@@ -189,7 +191,7 @@ frame_finished start (Powered address ∷ past) frame answer next = tt
 record_finished : (start : Start) (past : List Happening) (entry : Record) → IsNext start past (Kept entry)
     → IsFinished past
 record_finished start [] entry next = tt
-record_finished start (Asked order ∷ past) entry next = absurd next.may
+record_finished start (Asked order moment ∷ past) entry next = absurd next.may
 record_finished start (Answered id reply ∷ past) entry next = tt
 record_finished start (Sent last heard ∷ past) entry next = tt
 record_finished start (Kept last ∷ past) entry next = tt
@@ -198,32 +200,32 @@ record_finished start (Powered address ∷ past) entry next = tt
 
 -- the file that a drive leaves
 
-pub drive_leaves : (start : Start) (orders : List Contents) (writer : Held) (first last : Streams)
-    (d : IsDrive start orders first writer last)
-    → AreKept start.limit start.records
-    → first.journal ≡ Some (journal_spelling start.records) → LeavesFile start d.past last
-drive_leaves start orders writer first last d kept is = record {
+pub drive_leaves : (start : Start) (orders : List Contents) (moment : ℕ) (writer : Held) (first last : Streams)
+    (d : IsDrive start orders moment first writer last)
+    → AreKept Two start.limit start.records
+    → first.journal ≡ Some (journal_spelling Two start.records) → LeavesFile start d.past last
+drive_leaves start orders moment writer first last d kept is = record {
   past = d.past;
   happened = inl refl;
   finished = d.described.finished;
-  left = journal_spelling (records_of start d.past);
+  left = journal_spelling Two (records_of start d.past);
   held = drive_holds start d.past first last d.driven is;
-  count = length (journal_spelling (records_of start d.past));
+  count = length (journal_spelling Two (records_of start d.past));
   file = whole_file start d.past (kept_so start d.past kept d.driven.legal d.driven.in_range);
 }
 
-pub broken_leaves : (start : Start) (orders : List Contents) (fault : DriveFault) (first last : Streams)
-    (b : IsBrokenDrive start orders fault first last)
-    → AreKept start.limit start.records
-    → first.journal ≡ Some (journal_spelling start.records) → LeavesFile start b.past last
-broken_leaves start orders fault first last b kept is = by fault b.rest b.broken where
+pub broken_leaves : (start : Start) (orders : List Contents) (moment : ℕ) (fault : DriveFault) (first last : Streams)
+    (b : IsBrokenDrive start orders moment fault first last)
+    → AreKept Two start.limit start.records
+    → first.journal ≡ Some (journal_spelling Two start.records) → LeavesFile start b.past last
+broken_leaves start orders moment fault first last b kept is = by fault b.rest b.broken where
   trace : List Happening
   trace = b.past
 
-  held : b.middle.journal ≡ Some (journal_spelling (records_of start trace))
+  held : b.middle.journal ≡ Some (journal_spelling Two (records_of start trace))
   held = drive_holds start trace first b.middle b.driven is
 
-  so : AreKept start.limit (records_of start trace)
+  so : AreKept Two start.limit (records_of start trace)
   so = kept_so start trace kept b.driven.legal b.driven.in_range
 
   still : IsFinished trace → Keeps b.middle.journal last.journal → LeavesFile start trace last
@@ -256,15 +258,16 @@ broken_leaves start orders fault first last b kept is = by fault b.rest b.broken
 driven_so : (start : Start) (past : List Happening) (first last : Streams) → WasDriven start past first last
     → Legal start past × ByPlan start past
 driven_so start past first last (inl driven) = (driven.legal, driven.planned)
-driven_so start past first last (inr (orders, fault, broken, may)) =
+driven_so start past first last (inr (orders, moment, fault, broken, may)) =
     happened start broken.past past broken.driven.legal broken.driven.planned may
 
 -- a file is that of no other records
-pub one_file : (bytes : List ℕ) (one other : Start) (len count : ℕ) → one.limit ≡ other.limit → IsFileOf bytes one len
-    → IsFileOf bytes other count → other.records ≡ one.records
-one_file bytes one other len count limit is also =
-    ((torn_no_fault one.limit bytes one.records len is.kept is.torn).1 other.records count
-    (rw limit also.kept) also.torn).0
+pub one_file : (bytes : List ℕ) (one other : Start) (version also_version : Version) (len count : ℕ)
+    → one.limit ≡ other.limit → IsFileOf bytes one version len → IsFileOf bytes other also_version count
+    → other.records ≡ one.records
+one_file bytes one other version also_version len count limit is also =
+    ((torn_no_fault one.limit bytes version one.records len is.kept is.loadable).2 also_version other.records count
+    (rw limit also.kept) also.loadable).1
 
 -- what sittings come to
 joined_after : (start : Start) (newest : Sitting) (older : List Sitting)
@@ -273,7 +276,7 @@ joined_after : (start : Start) (newest : Sitting) (older : List Sitting)
 joined_after start newest [] same = by newest.past where
   by : (past : List Happening) → records_of start past ≡ records_of newest.start past
   by [] = sym same
-  by (Asked order ∷ past) = by past
+  by (Asked order moment ∷ past) = by past
   by (Answered id reply ∷ past) = by past
   by (Sent frame answer ∷ past) = by past
   by (Kept entry ∷ past) = ap (λ (records : List Record). entry ∷ records) (by past)
@@ -282,36 +285,40 @@ joined_after start newest [] same = by newest.past where
 joined_after start newest (last ∷ older) same =
     joined_records start newest.start (joined (last ∷ older)) newest.past same
 
-pub sittings_follow : (start : Start) (first last : List ℕ) (len : ℕ) (sittings : List Sitting)
-    → IsFileOf first start len → AreSittings start.limit first sittings last
-    → FollowOn start sittings × (count : ℕ) × IsFileOf last (after start (joined sittings)) count
-sittings_follow start first last len [] is sat =
-    (is.kept.whole, len, subst (λ (b : List ℕ). IsFileOf b start len) (sym sat) is)
-sittings_follow start first last len (newest ∷ older) is (before, sat, limit, one) =
-    let old = sittings_follow start first before len older is sat in
+pub sittings_follow : (start : Start) (first last : List ℕ) (version : Version) (len : ℕ) (sittings : List Sitting)
+    → IsFileOf first start version len → AreSittings start.limit first sittings last
+    → FollowOn start sittings
+    × (now : Version) × (count : ℕ) × IsFileOf last (after start (joined sittings)) now count
+sittings_follow start first last version len [] is sat =
+    (is.kept.whole, version, len, subst (λ (b : List ℕ). IsFileOf b start version len) (sym sat) is)
+sittings_follow start first last version len (newest ∷ older) is (before, sat, limit, one) =
+    let old = sittings_follow start first before version len older is sat in
     let same : newest.start.records ≡ records_of start (joined older) =
-    one_file before (after start (joined older)) newest.start old.1 one.len (sym limit) old.2 one.loaded in
+    one_file before (after start (joined older)) newest.start old.1 one.version old.2 one.len (sym limit) old.3
+    one.loaded in
     let so = driven_so newest.start newest.past one.first one.last one.drove in
     let now : after newest.start newest.past ≡ after start (joined (newest ∷ older)) =
     rw (limit, joined_after start newest older same) refl in (
       (so.0, so.1, one.finished, same, limit, old.0),
+      Two,
       one.count,
-      subst (λ (s : Start). IsFileOf last s one.count) now one.file,
+      subst (λ (s : Start). IsFileOf last s Two one.count) now one.file,
     )
 
-pub act_once : (zero : World) (lost : List ℕ) (start : Start) (first left : List ℕ) (len : ℕ) (sittings : List Sitting)
-    (past : List Happening) (now last : World) (states : List World)
-    → IsFileOf first start len → AreSittings start.limit first sittings left
+pub act_once : (zero : World) (lost : List ℕ) (start : Start) (first left : List ℕ) (version : Version) (len : ℕ)
+    (sittings : List Sitting) (past : List Happening) (now last : World) (states : List World)
+    → IsFileOf first start version len → AreSittings start.limit first sittings left
     → unpowered past ≡ joined sittings → IsPowerApart past
     → IsLockedAbove zero → Fits zero start.records lost now → OnlyNamed start.records now
     → IsChain Moves now past last states
     → ActOnce zero lost start sittings left past last states
-act_once zero lost start first left len sittings past now last states is sat same apart locked fits only chain =
-    let all = sittings_follow start first left len sittings is sat in
+act_once zero lost start first left version len sittings past now last states is sat same apart locked fits only chain =
+    let all = sittings_follow start first left version len sittings is sat in
     let one = joined_sittings start sittings all.0 in record {
       trace = one;
-      count = all.1;
-      file = all.2;
+      version = all.1;
+      count = all.2;
+      file = all.3;
       once = kept_are_taken start (joined sittings) one.0;
       right = sittings_right zero lost start sittings past now last states all.0 same apart locked fits only chain;
     }

@@ -5,6 +5,7 @@ use Rattle.std.specs.Io.KnownBytes.{Appends, Keeps}
 use Rattle.dali_frame.specs.declared.forward.Frame.{Frame}
 use Rattle.dali_bank.specs.Order.{Contents}
 use Rattle.dali_journal.specs.declared.record.Record.{Record}
+use Rattle.dali_journal.specs.declared.version.Version.TheVariants.{Two}
 use Rattle.dali_journal.specs.Spelling.{spelling, IsRecord}
 use Rattle.dali_trace.specs.declared.happening.Reply.{Reply}
 use Rattle.dali_trace.specs.declared.happening.Reply.TheVariants as replies
@@ -23,16 +24,21 @@ use Rattle.dali_writer.specs.Follows.{Follows}
 use Rattle.dali_drive.specs.Lines.{link_line, reply_line, TakesLine}
 use Rattle.dali_drive.specs.Transcript.{Streams, Transcript}
 
--- the orders that were asked, the newest first
-abbrev pub orders_asked : List Happening → List Contents
+-- the orders that were asked, each with its moment, the newest first
+abbrev pub orders_asked : List Happening → List (Contents × ℕ)
 orders_asked [] = []
-orders_asked (Asked order ∷ past) = order ∷ orders_asked past
+orders_asked (Asked order moment ∷ past) = (order, moment) ∷ orders_asked past
 orders_asked (other ∷ past) = orders_asked past
+
+-- these orders, each at the same moment
+abbrev pub at_moment : ℕ → List Contents → List (Contents × ℕ)
+at_moment moment [] = []
+at_moment moment (order ∷ orders) = (order, moment) ∷ at_moment moment orders
 
 -- each order is asked where nothing is to be done, and the program isn't stopped, nor does it know of losses of power
 abbrev pub IsInTurn : Start → List Happening → Type 0
 IsInTurn start [] = Unit {0}
-IsInTurn start (Asked order ∷ past) = (is_busy start past ≡ false) × IsInTurn start past
+IsInTurn start (Asked order moment ∷ past) = (is_busy start past ≡ false) × IsInTurn start past
 IsInTurn start (Stopped ∷ past) = ⊥
 IsInTurn start (Powered address ∷ past) = ⊥
 IsInTurn start (other ∷ past) = IsInTurn start past
@@ -40,7 +46,7 @@ IsInTurn start (other ∷ past) = IsInTurn start past
 -- the numbers of each record that was kept are in their ranges
 abbrev pub KeepsRecords : List Happening → Type 0
 KeepsRecords [] = Unit {0}
-KeepsRecords (Kept entry ∷ past) = IsRecord entry × KeepsRecords past
+KeepsRecords (Kept entry ∷ past) = IsRecord Two entry × KeepsRecords past
 KeepsRecords (other ∷ past) = KeepsRecords past
 
 -- this trace was driven: each happening was one that might follow those before it and that the plan asked for, and
@@ -69,8 +75,8 @@ pub record NoMore (old new : Streams) : Type 0 where
 
 -- a part of a record was written
 pub record CutRecord (entry : Record) (old new : Streams) : Type 0 where
-  pub in_range : IsRecord entry
-  pub journal : AppendsPart old.journal new.journal (spelling entry)
+  pub in_range : IsRecord Two entry
+  pub journal : AppendsPart old.journal new.journal (spelling Two entry)
   pub link : Keeps old.link new.link
   pub answers : Keeps old.answers new.answers
   pub out : Keeps old.out new.out
@@ -115,26 +121,26 @@ BrokenOff start past rest fault old new =
 
 -- What a drive comes to
 
--- from this start all these orders were asked in their order and nothing more is to be done, and the trace describes
--- the writer
-pub record IsDrive (start : Start) (orders : List Contents) (first : Streams) (writer : Held) (last : Streams)
-    : Type 0 where
+-- from this start all these orders were asked in their order, each at this moment, and nothing more is to be done,
+-- and the trace describes the writer
+pub record IsDrive (start : Start) (orders : List Contents) (moment : ℕ) (first : Streams) (writer : Held)
+    (last : Streams) : Type 0 where
   pub past : List Happening
   pub driven : IsDriven start past first last
-  pub asked : reverse (orders_asked past) ≡ orders
+  pub asked : reverse (orders_asked past) ≡ at_moment moment orders
   pub quiet : is_busy start past ≡ false
   pub described : Describes start past writer
   pub follows : Follows start past writer
 
--- from this start the first of these orders were asked in their order, and after the trace at most one step was
--- broken off
-pub record IsBrokenDrive (start : Start) (orders : List Contents) (fault : DriveFault) (first last : Streams)
-    : Type 0 where
+-- from this start the first of these orders were asked in their order, each at this moment, and after the trace at
+-- most one step was broken off
+pub record IsBrokenDrive (start : Start) (orders : List Contents) (moment : ℕ) (fault : DriveFault)
+    (first last : Streams) : Type 0 where
   pub past : List Happening
   pub rest : List Contents
   pub middle : Streams
   pub driven : IsDriven start past first middle
-  pub asked : reverse (orders_asked past) ++ rest ≡ orders
+  pub asked : reverse (orders_asked past) ++ at_moment moment rest ≡ at_moment moment orders
   pub broken : BrokenOff start past rest fault middle last
 
 -- Which streams have failed

@@ -1,10 +1,13 @@
 -- Drives one after another, each from the journal that is loaded from what the one before it left in the file.
-use Rattle.std.specs.Prelude.{◌≡◌, ◌⊎◌, ◌++◌, ℕ, List, [], ◌∷◌, Some, take}
+use Rattle.std.specs.Prelude.{◌≡◌, ◌⊎◌, ◌++◌, ℕ, List, [], ◌∷◌, Some}
 use Rattle.dali_bank.specs.Order.{Contents}
 use Rattle.dali_bus.specs.World.{World}
 use Rattle.dali_bus.specs.Chain.{AtEachMoment}
+use Rattle.dali_journal.specs.declared.version.Version.TheVariants.{Two}
+use Rattle.dali_journal.specs.declared.version.Version.{Version}
+use Rattle.dali_journal.specs.Spelling.{journal_spelling}
 use Rattle.dali_journal.specs.JournalState.{AreKept}
-use Rattle.dali_journal.specs.Loading.{IsTorn}
+use Rattle.dali_journal.specs.Loading.{IsLoadable}
 use Rattle.dali_drive.specs.declared.fault.DriveFault.{DriveFault}
 use Rattle.dali_trace.specs.declared.happening.Happening.{Happening}
 use Rattle.dali_trace.specs.Trace.{Start, records_of}
@@ -16,11 +19,11 @@ use Rattle.dali_trace.specs.Taken.{taken_orders, begun_orders}
 use Rattle.dali_trace.specs.Moments.{IsRight}
 use Rattle.dali_laws.specs.Joined.{Sitting, joined, IsOneTrace}
 
--- a journal's file: the bytes of these records, so many, and behind them at most a cut one. That is what
--- `Journal::load` finds in them
-pub record IsFileOf (bytes : List ℕ) (start : Start) (len : ℕ) : Type 0 where
-  pub kept : AreKept start.limit start.records
-  pub torn : IsTorn bytes start.records len
+-- a journal's file of some version: the bytes of these records, so many, and behind them at most a cut one. That is
+-- what `Journal::load` finds in them
+pub record IsFileOf (bytes : List ℕ) (start : Start) (version : Version) (len : ℕ) : Type 0 where
+  pub kept : AreKept version start.limit start.records
+  pub loadable : IsLoadable version bytes start.records len
 
 -- what a trace comes to
 abbrev pub after : Start → List Happening → Start
@@ -36,22 +39,25 @@ MayHaveHappened start trace past =
 abbrev pub WasDriven : Start → List Happening → Streams → Streams → Type 0
 WasDriven start past first last =
     IsDriven start past first last
-    ⊎ ((orders : List Contents) × (fault : DriveFault) × (broken : IsBrokenDrive start orders fault first last)
+    ⊎ ((orders : List Contents) × (moment : ℕ) × (fault : DriveFault)
+    × (broken : IsBrokenDrive start orders moment fault first last)
     × MayHaveHappened start broken.past past)
 
 -- From the bytes that the journal's file had before a sitting to those after it: the journal was loaded from them,
--- the file cut to the bytes that count, and a drive appended to it. What happened is borne out by the file.
+-- the file cut to the bytes that count or written anew in version 2, and a drive appended to it. What happened is borne
+-- out by the file.
 pub record IsSitting (before : List ℕ) (sitting : Sitting) (left : List ℕ) : Type 0 where
+  pub version : Version
   pub len : ℕ
-  pub loaded : IsFileOf before sitting.start len
+  pub loaded : IsFileOf before sitting.start version len
   pub first : Streams
   pub last : Streams
-  pub cut : first.journal ≡ Some (take len before)
+  pub made : first.journal ≡ Some (journal_spelling Two sitting.start.records)
   pub drove : WasDriven sitting.start sitting.past first last
   pub finished : IsFinished sitting.past
   pub held : last.journal ≡ Some left
   pub count : ℕ
-  pub file : IsFileOf left (after sitting.start sitting.past) count
+  pub file : IsFileOf left (after sitting.start sitting.past) Two count
 
 -- so many sittings, the newest first, each from the file that the one before it left and with the same limit
 abbrev pub AreSittings : ℕ → List ℕ → List Sitting → List ℕ → Type 0
@@ -69,7 +75,7 @@ pub record LeavesFile (start : Start) (trace : List Happening) (last : Streams) 
   pub left : List ℕ
   pub held : last.journal ≡ Some left
   pub count : ℕ
-  pub file : IsFileOf left (after start past) count
+  pub file : IsFileOf left (after start past) Two count
 
 -- What a bench may rely on that is switched off and on again any number of times, while units lose their power: all
 -- that the program knows of is one legal trace that keeps to the plans, the file is again that of its records, the
@@ -77,8 +83,9 @@ pub record LeavesFile (start : Start) (trace : List Happening) (last : Streams) 
 pub record ActOnce (zero : World) (lost : List ℕ) (start : Start) (sittings : List Sitting) (left : List ℕ)
     (past : List Happening) (last : World) (states : List World) : Type 0 where
   pub trace : IsOneTrace start sittings
+  pub version : Version
   pub count : ℕ
-  pub file : IsFileOf left (after start (joined sittings)) count
+  pub file : IsFileOf left (after start (joined sittings)) version count
   pub once : begun_orders (records_of start (joined sittings))
       ≡ taken_orders (joined sittings) ++ begun_orders start.records
   pub right : AtEachMoment (IsRight zero lost start) past last states

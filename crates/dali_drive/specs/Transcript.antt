@@ -1,6 +1,7 @@
 -- What is written and read along a trace. A trace has the newest happening first.
 use Rattle.std.specs.Prelude.{◌≡◌, ℕ, List, [], ◌∷◌, ◌++◌, Option}
 use Rattle.std.specs.Io.KnownBytes.{Appends, Consumes}
+use Rattle.dali_journal.specs.declared.version.Version.TheVariants.{Two}
 use Rattle.dali_journal.specs.Spelling.{spelling}
 use Rattle.dali_trace.specs.declared.happening.Happening.{Happening}
 use Rattle.dali_trace.specs.declared.happening.Happening.TheVariants.{Answered, Sent, Kept}
@@ -9,7 +10,7 @@ use Rattle.dali_drive.specs.Lines.{link_line, reply_line, IsAnswerLine}
 -- the bytes of the records that were kept
 abbrev pub recorded : List Happening → List ℕ
 recorded [] = []
-recorded (Kept entry ∷ past) = recorded past ++ spelling entry
+recorded (Kept entry ∷ past) = recorded past ++ spelling Two entry
 recorded (other ∷ past) = recorded past
 
 -- the lines of the frames that were sent

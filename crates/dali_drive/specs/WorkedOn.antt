@@ -1,5 +1,5 @@
 -- What a drive has come to in its midst.
-use Rattle.std.specs.Prelude.{◌≡◌, List, Result, Ok, Err}
+use Rattle.std.specs.Prelude.{◌≡◌, ℕ, List, Result, Ok, Err}
 use Rattle.dali_bank.specs.Order.{Contents}
 use Rattle.dali_trace.specs.declared.happening.Happening.{Happening}
 use Rattle.dali_drive.specs.declared.fault.DriveFault.{DriveFault}
@@ -18,7 +18,7 @@ pub record IsDrivenAt (start : Start) (past : List Happening) (writer : Held) (f
 
 -- after work in which no order was asked, so that just these were: a trace that was driven, or a step that was broken
 -- off
-abbrev pub WorkedOn : {A : Type 0} → Start → List Contents → Streams → Result A DriveFault → Held → Streams → Type 0
+abbrev pub WorkedOn : {A : Type 0} → Start → List (Contents × ℕ) → Streams → Result A DriveFault → Held → Streams → Type 0
 WorkedOn start asked first (Ok done) writer last =
     (past : List Happening) × IsDrivenAt start past writer first last × (orders_asked past ≡ asked)
 WorkedOn start asked first (Err fault) writer last =

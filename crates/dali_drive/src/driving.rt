@@ -96,7 +96,7 @@ fn work<I: Source, L: Sink, J: Sink, O: Sink>(
 }
 
 /// Carries out what the writer still has to do, and then the orders one after the other: each is submitted, its reply
-/// written, and the work done that it makes (profile).
+/// written, and the work done that it makes (profile). The moment is that of each order that begins.
 ///
 /// A record's bytes are written to `journal_out` and flushed, and only then it counts. A frame's line is written to
 /// `link_out` and flushed, and then one line is read from `link_in`: the answer, `--` or two hexadecimal digits, ended
@@ -107,10 +107,12 @@ fn work<I: Source, L: Sink, J: Sink, O: Sink>(
 /// The writer has to be at rest: idle, or as `Writer::new` made it. No stream may have failed.
 ///
 /// Each `DriveFault` says what ended the drive. The writer is gone then, and what goes on is a new one, from the
-/// journal that is loaded from what `journal_out` holds: whole records, and at most one that is cut.
+/// journal that is loaded from what `journal_out` holds behind the header: whole records of version 2, and at most one
+/// that is cut. It writes no header.
 pub fn drive<I: Source, L: Sink, J: Sink, O: Sink>(
     writer: Writer,
     orders: &[Order],
+    moment: u64,
     link_in: &mut I,
     link_out: &mut L,
     journal_out: &mut J,
@@ -121,13 +123,13 @@ pub fn drive<I: Source, L: Sink, J: Sink, O: Sink>(
     requires link_out { L.failed link_out.old ≡ false }
     requires link_in { I.failed link_in.old ≡ false }
     requires out { O.failed out.old ≡ false }
-    ensures driven { IfOk result (λ driven. IsDrive (start_of writer) orders.now
+    ensures driven { IfOk result (λ driven. IsDrive (start_of writer) orders.now moment
         (shown (J.held journal_out.old) (L.held link_out.old) (I.left link_in.old) (O.held out.old))
         driven (shown (J.held journal_out.new) (L.held link_out.new) (I.left link_in.new) (O.held out.new))) }
     ensures rests { IfOk result IsAtRest }
     ensures ok { OnOk result
         (NoneFailed (J.failed journal_out.new) (L.failed link_out.new) (I.failed link_in.new) (O.failed out.new)) }
-    ensures broken { IfErr result (λ fault. IsBrokenDrive (start_of writer) orders.now fault
+    ensures broken { IfErr result (λ fault. IsBrokenDrive (start_of writer) orders.now moment fault
         (shown (J.held journal_out.old) (L.held link_out.old) (I.left link_in.old) (O.held out.old))
         (shown (J.held journal_out.new) (L.held link_out.new) (I.left link_in.new) (O.held out.new))) }
     ensures err { IfErr result (λ fault.
@@ -137,7 +139,7 @@ pub fn drive<I: Source, L: Sink, J: Sink, O: Sink>(
     writer.rest();
     work(&mut writer, link_in, link_out, journal_out, out)?;
     for order in orders {
-        let Ok(reply) = writer.submit(order.copy()) else {
+        let Ok(reply) = writer.submit(order.copy(), moment) else {
             return Err(DriveFault::NoMemory);
         };
         if !put_all(out, &reply_line(order.id(), reply)) {

@@ -4,6 +4,8 @@ ghost use Rattle.std.specs.Prelude.{◌≡◌, ℕ, List, Some};
 ghost use Rattle.dali_bank.specs.Order.{Contents};
 ghost use Rattle.dali_bus.specs.World.{World};
 ghost use Rattle.dali_bus.specs.Chain.{IsChain};
+ghost use Rattle.dali_journal.specs.declared.version.Version.{Version};
+ghost use Rattle.dali_journal.specs.declared.version.Version.TheVariants.{Two};
 ghost use Rattle.dali_journal.specs.Spelling.{journal_spelling};
 ghost use Rattle.dali_journal.specs.JournalState.{AreKept};
 ghost use Rattle.dali_trace.specs.Trace.{Start};
@@ -18,30 +20,30 @@ ghost use Rattle.dali_drive.specs.Transcript.{Streams};
 ghost use Rattle.dali_drive.specs.Driven.{IsDrive, IsBrokenDrive};
 ghost use Rattle.dali_drive.specs.Sittings.{IsFileOf, AreSittings, LeavesFile, ActOnce};
 
-/// A drive from the bytes of its start's records leaves the journal's file with whole records, and behind them at
+/// A drive from the bytes of its start's records in version 2 leaves the journal's file with whole records, and behind them at
 /// most a cut one: those of its trace where it came to its end, and else those of what may have happened.
 pub fn drives_leave_their_journal()
-    ensures driven { (start : Start) (orders : List Contents) (writer : Held) (first last : Streams)
-        (d : IsDrive start orders first writer last)
-        → AreKept start.limit start.records → first.journal ≡ Some (journal_spelling start.records)
+    ensures driven { (start : Start) (orders : List Contents) (moment : ℕ) (writer : Held)
+        (first last : Streams) (d : IsDrive start orders moment first writer last)
+        → AreKept Two start.limit start.records → first.journal ≡ Some (journal_spelling Two start.records)
         → LeavesFile start d.past last }
-    ensures broken { (start : Start) (orders : List Contents) (fault : DriveFault) (first last : Streams)
-        (b : IsBrokenDrive start orders fault first last)
-        → AreKept start.limit start.records → first.journal ≡ Some (journal_spelling start.records)
+    ensures broken { (start : Start) (orders : List Contents) (moment : ℕ) (fault : DriveFault)
+        (first last : Streams) (b : IsBrokenDrive start orders moment fault first last)
+        → AreKept Two start.limit start.records → first.journal ≡ Some (journal_spelling Two start.records)
         → LeavesFile start b.past last }
 {}
 
 /// Drives one after another, however many and however each ended, each from the journal that is loaded from the file
-/// that the one before it left, over one chain of worlds from a world that fits the start world and the start records
+/// that the one before it left, the first from a file of either version, over one chain of worlds from a world that fits the start world and the start records
 /// and in which no unit is write-enabled but the one that they name: together they act as one, and each order once.
 /// Units may lose their power anywhere but between an order and its reply; in the start world the lock bytes of the
 /// banks from 2 up are FFh.
 pub fn drives_act_once()
-    ensures follow { (start : Start) (first left : List ℕ) (len : ℕ) (sittings : List Sitting)
-        → IsFileOf first start len → AreSittings start.limit first sittings left → FollowOn start sittings }
-    ensures once { (zero : World) (lost : List ℕ) (start : Start) (first left : List ℕ) (len : ℕ)
+    ensures follow { (start : Start) (first left : List ℕ) (version : Version) (len : ℕ)
+        (sittings : List Sitting) → IsFileOf first start version len → AreSittings start.limit first sittings left → FollowOn start sittings }
+    ensures once { (zero : World) (lost : List ℕ) (start : Start) (first left : List ℕ) (version : Version) (len : ℕ)
         (sittings : List Sitting) (past : List Happening) (now last : World) (states : List World)
-        → IsFileOf first start len → AreSittings start.limit first sittings left
+        → IsFileOf first start version len → AreSittings start.limit first sittings left
         → unpowered past ≡ joined sittings → IsPowerApart past
         → IsLockedAbove zero → Fits zero start.records lost now → OnlyNamed start.records now
         → IsChain Moves now past last states

@@ -34,7 +34,7 @@ returns-clause-driven g c =
       past = i.past;
       driven = i.driven.driven;
       asked =
-          asked_all c.args.orders.now (orders_asked i.past) c.loop-order.order-index c.loop-order-test.false i.orders;
+          asked_all c.args.moment c.args.orders.now (orders_asked i.past) c.loop-order.order-index c.loop-order-test.false i.orders;
       quiet = i.quiet;
       described = i.driven.described;
       follows = i.driven.follows;
@@ -52,7 +52,7 @@ returns-in_err-work-clause-broken g c =
       rest = all;
       middle = w.1;
       driven = w.2;
-      asked = asked_so_far all (orders_asked w.0) 0 w.4;
+      asked = asked_so_far c.args.moment all (orders_asked w.0) 0 w.4;
       broken = w.3 all;
     })
 
@@ -70,7 +70,7 @@ returns-in_default-clause-broken g c =
       middle = _;
       driven = i.driven.driven;
       asked =
-          asked_then all (orders_asked i.past) c.loop-order.order-index _ order c.loop-order-test.true
+          asked_then c.args.moment all (orders_asked i.past) c.loop-order.order-index _ order c.loop-order-test.true
           c.order-item.is i.orders;
       broken = breaks_memory start i.past order rest _ _ _ _ i.driven.described.finished i.quiet due;
     }
@@ -86,16 +86,16 @@ returns-then-not-put_all-clause-broken g c =
     let all : List Contents = c.args.orders.now in
     let rest = drop (c.loop-order.order-index + 1) all in
     record {
-      past = Asked order ∷ i.past;
+      past = Asked order c.args.moment ∷ i.past;
       rest = rest;
       middle = _;
-      driven = asks_on start i.past _ _ order i.driven.driven i.quiet described.legal.0;
+      driven = asks_on start i.past _ _ order c.args.moment i.driven.driven i.quiet described.legal.0;
       asked =
-          asked_so_far all (order ∷ orders_asked i.past) (c.loop-order.order-index + 1) (asked_more all
+          asked_so_far c.args.moment all ((order, c.args.moment) ∷ orders_asked i.past) (c.loop-order.order-index + 1) (asked_more c.args.moment all
           (orders_asked i.past) c.loop-order.order-index _ order c.loop-order-test.true c.order-item.is i.orders);
       broken =
-          breaks_saying start (Asked order ∷ i.past) rest _ _ _ _ _ order.id c.in-Ok.reply
-          (reply_next start i.past order c.in-Ok.reply described.legal follows.planned)
+          breaks_saying start (Asked order c.args.moment ∷ i.past) rest _ _ _ _ _ order.id c.in-Ok.reply
+          (reply_next start i.past order c.args.moment c.in-Ok.reply described.legal follows.planned)
           (subst (IsCut _ _) line (c.if-not-put_all.ensures.cut refl));
     }
 
@@ -106,7 +106,7 @@ returns-in_err-work-2-clause-broken g c =
     let follows = rw c.copy.ensures.value at (c.in-Ok.ensures.follows _ i.past i.driven.follows) in
     let line = c.deref.ensures.0 ∙ c.reply_line.ensures ∙ ap (λ (n : ℕ). reply_line n c.in-Ok.reply) c.id.ensures in
     let w = c.in_err-work-2.ensures.worked _ _ _
-    (replied_at _ _ _ _ _ _ _ _ _ _ _ c.in-Ok.reply i.driven i.quiet described follows
+    (replied_at _ _ _ _ _ _ _ _ _ _ _ _ c.in-Ok.reply i.driven i.quiet described follows
     (subst (Appends _ _) line (c.if-not-put_all.ensures.whole refl))) in
     let rest = drop (c.loop-order.order-index + 1) c.args.orders.now in
     let p = err_from_is_err_and c.from_residual-in_err-work-2.result c.from_residual-in_err-work-2.ensures.1 in
@@ -116,8 +116,8 @@ returns-in_err-work-2-clause-broken g c =
       middle = w.1;
       driven = w.2;
       asked =
-          asked_so_far _ _ (c.loop-order.order-index + 1)
-          (w.4 ∙ asked_more _ _ _ _ _ c.loop-order-test.true c.order-item.is i.orders);
+          asked_so_far c.args.moment _ _ (c.loop-order.order-index + 1)
+          (w.4 ∙ asked_more c.args.moment _ _ _ _ _ c.loop-order-test.true c.order-item.is i.orders);
       broken = w.3 rest;
     })
 
@@ -128,12 +128,12 @@ loop-order-preserved g c =
     let follows = rw c.copy.ensures.value at (c.in-Ok.ensures.follows _ i.past i.driven.follows) in
     let line = c.deref.ensures.0 ∙ c.reply_line.ensures ∙ ap (λ (n : ℕ). reply_line n c.in-Ok.reply) c.id.ensures in
     let w = c.in_ok-work-2.ensures.worked _ _ _
-    (replied_at _ _ _ _ _ _ _ _ _ _ _ c.in-Ok.reply i.driven i.quiet described follows
+    (replied_at _ _ _ _ _ _ _ _ _ _ _ _ c.in-Ok.reply i.driven i.quiet described follows
     (subst (Appends _ _) line (c.if-not-put_all.ensures.whole refl))) in
     record {
       past = w.0;
       driven = w.1;
-      orders = w.2 ∙ asked_more _ _ _ _ _ c.loop-order-test.true c.order-item.is i.orders;
+      orders = w.2 ∙ asked_more c.args.moment _ _ _ _ _ c.loop-order-test.true c.order-item.is i.orders;
       rests = c.in_ok-work-2.ensures.rests;
       quiet = c.in_ok-work-2.ensures.quiet _ _ w.1.described;
       journal = c.in_ok-work-2.ensures.ok.0;

@@ -3,7 +3,7 @@ use Rattle.dali_trace.specs.declared.happening.Happening.{Happening}
 use Rattle.dali_trace.specs.Trace.{is_busy}
 use Rattle.dali_writer.specs.Held.{start_of, IsAtRest}
 use Rattle.dali_drive.specs.Transcript.{shown}
-use Rattle.dali_drive.specs.Driven.{orders_asked}
+use Rattle.dali_drive.specs.Driven.{orders_asked, at_moment}
 use Rattle.dali_drive.specs.WorkedOn.{IsDrivenAt}
 use Rattle.dali_drive.proofs.driving.drive.Given as goal
 
@@ -15,7 +15,7 @@ invariant-loop-order g l = record {
       (g.O.Sink.held l.fn.out))
       (shown (g.J.Sink.held l.journal_out) (g.L.Sink.held l.link_out) (g.I.Source.left l.link_in)
       (g.O.Sink.held l.out));
-  orders : orders_asked past ≡ reverse (take l.order-index l.orders);
+  orders : orders_asked past ≡ reverse (at_moment l.moment (take l.order-index l.orders));
   rests : IsAtRest l.writer;
   quiet : is_busy (start_of l.fn.writer) past ≡ false;
   journal : g.J.Sink.failed l.journal_out ≡ false;

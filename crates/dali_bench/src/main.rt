@@ -55,7 +55,13 @@ fn run(rt: &HostRuntime, words: &Vec<String>) -> Status {
         Ok(Job::Frame(digits)) => frame(digits, &mut Output::new(io::writer(rt))),
         Ok(Job::Show(dump)) => on_file(rt, dump, FileCommand::Show),
         Ok(Job::Journal(records)) => on_file(rt, records, FileCommand::Journal),
-        Ok(Job::Drive { orders, journal }) => on_link(rt, orders, journal),
+        Ok(
+            Job::Drive {
+                orders,
+                journal,
+                moment,
+            },
+        ) => on_link(rt, orders, journal, moment),
         Err(error) if error.kind() == ErrorKind::OutOfMemory => out_of_memory(rt, place),
         Err(error) => match error.print(rt) {
             Ok(()) if error.exit_code() == 0 => Status::Good,
@@ -90,14 +96,14 @@ fn on_file(rt: &HostRuntime, name: &str, command: FileCommand) -> Status {
 }
 
 // Carries out orders over standard input and output. Where standard error can't be written, nothing more is.
-fn on_link(rt: &HostRuntime, orders: &str, journal: &str) -> Status {
+fn on_link(rt: &HostRuntime, orders: &str, journal: &str, moment: u64) -> Status {
     let Ok(lines) = LineWriter::new(rt.alloc(), rt.stderr()) else {
         return out_of_memory(rt, Place::Lines);
     };
     // A file that is opened takes the number of a standard stream that is closed. These do so before the journal.
     match (fs::open(rt, "/"), fs::open(rt, "/"), fs::open(rt, "/")) {
         (Ok(_first), Ok(_second), Ok(_third)) => {
-            match drive_files(rt, orders, journal, rt.stdin(), rt.stdout(), lines) {
+            match drive_files(rt, orders, journal, moment, rt.stdin(), rt.stdout(), lines) {
                 Status::Unwritten => Status::Failed,
                 status => status,
             }

@@ -1,4 +1,4 @@
-use super::tried::{answers, answers_each, fails_to_read, fails_to_write, refuses_past};
+use crate::tried::{answers, answers_each, fails_to_read, fails_to_write, refuses_past};
 use dali_commands::{FileCommand, Status};
 
 const ONE_ORDER: &str = r#"[{"order":1,"unit":5,"gtin":"4006381333931"}]"#;

@@ -7,40 +7,128 @@ use std::{fs, io};
 
 const ORDER: &str = "[{\"order\":1,\"unit\":9,\"gtin\":\"4006381333931\"}]";
 
+const ORDER_FOR_UNIT_5: &str = "[{\"order\":1,\"unit\":5,\"gtin\":\"4006381333931\"}]";
+
 const REFUSED: &str =
     "[{\"order\":1,\"unit\":64,\"year\":1},{\"order\":2,\"unit\":9,\"year\":1},{}]";
 
-// Order 1 for unit 9 with a GTIN, which ended as 3 Silent.
-const SILENT: &[u8; 25] =
-    b"B\0\0\0\0\0\0\0\x01\x09\x06\x03\x03\x04\xA4\x05\xCE\x06\xEF\x07\xAD\x08\xABE\x03";
+// The header of a journal.
+const HEADER: [u8; 4] = [0x44, 0x42, 0x31, 0x02];
 
-// The same, and behind it a record that is cut off in its second byte.
-const CUT: &[u8; 27] =
-    b"B\0\0\0\0\0\0\0\x01\x09\x06\x03\x03\x04\xA4\x05\xCE\x06\xEF\x07\xAD\x08\xABE\x03B\0";
+// Order 1 for unit 9 with a GTIN, of the moment 0, which ended as 3 Silent.
+const SILENT: [u8; 37] = [
+    0x44, 0x42, 0x31, 0x02, 0x42, 0x00, 0x00, 0x00, 0x00, 0x00, 0x00, 0x00, 0x01, 0x00, 0x00, 0x00,
+    0x00, 0x00, 0x00, 0x00, 0x00, 0x09, 0x06, 0x03, 0x03, 0x04, 0xA4, 0x05, 0xCE, 0x06, 0xEF, 0x07,
+    0xAD, 0x08, 0xAB, 0x45, 0x03,
+];
 
-// Tests how a drive ends where none of so many frames is answered, how many pairs of frames it sends, and what it
-// tells.
-fn drives<R: Files<File = File> + AllocGlobal + Abort>(
-    rt: &R,
-    orders: &str,
-    journal: &str,
+// The same where it has begun.
+const BEGAN: [u8; 35] = [
+    0x44, 0x42, 0x31, 0x02, 0x42, 0x00, 0x00, 0x00, 0x00, 0x00, 0x00, 0x00, 0x01, 0x00, 0x00, 0x00,
+    0x00, 0x00, 0x00, 0x00, 0x00, 0x09, 0x06, 0x03, 0x03, 0x04, 0xA4, 0x05, 0xCE, 0x06, 0xEF, 0x07,
+    0xAD, 0x08, 0xAB,
+];
+
+// The same as the first, and behind it a record that is cut off in its second byte.
+const CUT: [u8; 39] = [
+    0x44, 0x42, 0x31, 0x02, 0x42, 0x00, 0x00, 0x00, 0x00, 0x00, 0x00, 0x00, 0x01, 0x00, 0x00, 0x00,
+    0x00, 0x00, 0x00, 0x00, 0x00, 0x09, 0x06, 0x03, 0x03, 0x04, 0xA4, 0x05, 0xCE, 0x06, 0xEF, 0x07,
+    0xAD, 0x08, 0xAB, 0x45, 0x03, 0x42, 0x00,
+];
+
+// The same order of the moment 1700000000, which ended, and where it has begun.
+const LATER: [u8; 37] = [
+    0x44, 0x42, 0x31, 0x02, 0x42, 0x00, 0x00, 0x00, 0x00, 0x00, 0x00, 0x00, 0x01, 0x00, 0x00, 0x00,
+    0x00, 0x65, 0x53, 0xF1, 0x00, 0x09, 0x06, 0x03, 0x03, 0x04, 0xA4, 0x05, 0xCE, 0x06, 0xEF, 0x07,
+    0xAD, 0x08, 0xAB, 0x45, 0x03,
+];
+
+const BEGAN_LATER: [u8; 35] = [
+    0x44, 0x42, 0x31, 0x02, 0x42, 0x00, 0x00, 0x00, 0x00, 0x00, 0x00, 0x00, 0x01, 0x00, 0x00, 0x00,
+    0x00, 0x65, 0x53, 0xF1, 0x00, 0x09, 0x06, 0x03, 0x03, 0x04, 0xA4, 0x05, 0xCE, 0x06, 0xEF, 0x07,
+    0xAD, 0x08, 0xAB,
+];
+
+// The order of the moment 0 in version 1, and cut off in the same place.
+const OLD_SILENT: [u8; 25] = [
+    0x42, 0x00, 0x00, 0x00, 0x00, 0x00, 0x00, 0x00, 0x01, 0x09, 0x06, 0x03, 0x03, 0x04, 0xA4, 0x05,
+    0xCE, 0x06, 0xEF, 0x07, 0xAD, 0x08, 0xAB, 0x45, 0x03,
+];
+
+const OLD_CUT: [u8; 27] = [
+    0x42, 0x00, 0x00, 0x00, 0x00, 0x00, 0x00, 0x00, 0x01, 0x09, 0x06, 0x03, 0x03, 0x04, 0xA4, 0x05,
+    0xCE, 0x06, 0xEF, 0x07, 0xAD, 0x08, 0xAB, 0x45, 0x03, 0x42, 0x00,
+];
+
+// Order 1 for unit 5 in version 1, which has begun, and in version 2, once it has ended as 3 Silent.
+const OLD_FOR_UNIT_5: [u8; 23] = [
+    0x42, 0x00, 0x00, 0x00, 0x00, 0x00, 0x00, 0x00, 0x01, 0x05, 0x06, 0x03, 0x03, 0x04, 0xA4, 0x05,
+    0xCE, 0x06, 0xEF, 0x07, 0xAD, 0x08, 0xAB,
+];
+
+const FOR_UNIT_5: [u8; 37] = [
+    0x44, 0x42, 0x31, 0x02, 0x42, 0x00, 0x00, 0x00, 0x00, 0x00, 0x00, 0x00, 0x01, 0x00, 0x00, 0x00,
+    0x00, 0x00, 0x00, 0x00, 0x00, 0x05, 0x06, 0x03, 0x03, 0x04, 0xA4, 0x05, 0xCE, 0x06, 0xEF, 0x07,
+    0xAD, 0x08, 0xAB, 0x45, 0x03,
+];
+
+// The frames that look for unit 9, and for unit 5.
+const PAIR: &str = "C301\n139C\n";
+
+const PAIR_FOR_UNIT_5: &str = "C301\n0B9C\n";
+
+const TAKEN: &str = "reply 1 taken\nreply 1 kept 3 Silent\n";
+
+const KEPT: &str = "reply 1 kept 3 Silent\n";
+
+const KEPT_TWICE: &str = "reply 1 kept 3 Silent\nreply 1 kept 3 Silent\n";
+
+// A drive over files, in which none of so many frames is answered.
+#[derive(Clone, Copy)]
+struct Drive<'a> {
+    // The name of the journal's file, and what it is to hold first.
+    journal: &'a str,
+    before: Option<&'a [u8]>,
+    orders: &'a str,
+    moment: u64,
     answers: usize,
     status: Status,
+    // So many pairs of frames are sent.
+    pair: &'a str,
     pairs: usize,
-    lines: &str,
-) -> io::Result<()> {
+    lines: &'a str,
+    // What the journal's file holds then, where it is there.
+    after: Option<&'a [u8]>,
+}
+
+// What a drive sent and told, and how it ended.
+#[derive(Drop)]
+struct Driven {
+    status: Status,
+    sent: Vec<u8>,
+    told: Vec<u8>,
+}
+
+fn driven<R: Files<File = File> + AllocGlobal>(rt: &R, drive: &Drive<'_>) -> io::Result<Driven> {
+    if let Some(bytes) = drive.before {
+        fs::write(rt, drive.journal, bytes)?;
+    }
     let name = "drive_files.json";
-    fs::write(rt, name, orders)?;
-    let answers = b"--\n".repeat(rt.alloc(), answers)?;
-    let frames = b"C301\n139C\n".repeat(rt.alloc(), pairs)?;
+    fs::write(rt, name, drive.orders)?;
+    let answers = b"--\n".repeat(rt.alloc(), drive.answers)?;
     let mut sent = Vec::new(rt.alloc());
     let mut told = Vec::new(rt.alloc());
-    let ended = drive_files(rt, name, journal, answers.as_slice(), &mut sent, &mut told);
+    let status = drive_files(
+        rt,
+        name,
+        drive.journal,
+        drive.moment,
+        answers.as_slice(),
+        &mut sent,
+        &mut told,
+    );
     fs::remove_file(rt, name)?;
-    assert_eq!(rt; ended, status, "{journal}");
-    assert_eq!(rt; sent.as_slice(), frames.as_slice(), "{journal}");
-    assert_eq!(rt; told.as_slice(), lines.as_bytes(), "{journal}");
-    Ok(())
+    Ok(Driven { status, sent, told })
 }
 
 // Tests what a file has, and removes it.
@@ -55,65 +143,271 @@ fn holds<R: Files<File = File> + AllocGlobal + Abort>(
     Ok(())
 }
 
-#[test]
-fn orders_are_driven(rt: HostRuntime) -> Result<(), Fail> {
-    let name = "drive_files_new.journal";
-    let lines = "reply 1 taken\nreply 1 kept 3 Silent\n";
-    drives(&rt, ORDER, name, 16, Status::Good, 8, lines)?;
-    holds(&rt, name, SILENT)?;
-    let name = "drive_files_ended.journal";
-    let lines = "reply 1 taken\ndrive fault 4 End\n";
-    drives(&rt, ORDER, name, 3, Status::Refused, 2, lines)?;
-    holds(&rt, name, &SILENT[..23])?;
-    let name = "drive_files_cut.journal";
-    fs::write(&rt, name, CUT.as_slice())?;
-    drives(
-        &rt,
-        ORDER,
-        name,
-        0,
-        Status::Good,
-        0,
-        "reply 1 kept 3 Silent\n",
-    )?;
-    holds(&rt, name, SILENT)?;
+// Tests that no file has this name, nor the same with `.new` behind it.
+fn is_absent<R: Files<File = File> + AllocGlobal>(rt: &R, name: &str) -> io::Result<bool> {
+    let new = format!(in rt.alloc(); "{name}.new")?;
+    Ok(!fs::exists(rt, name)? && !fs::exists(rt, new.as_str())?)
+}
+
+// Does a drive, and tests what it did.
+fn judge<R: Files<File = File> + AllocGlobal + Abort>(rt: &R, drive: &Drive<'_>) -> io::Result<()> {
+    let name = drive.journal;
+    let driven = driven(rt, drive)?;
+    let frames = drive.pair.as_bytes().repeat(rt.alloc(), drive.pairs)?;
+    assert_eq!(rt; driven.status, drive.status, "{name}");
+    assert_eq!(rt; driven.sent.as_slice(), frames.as_slice(), "{name}");
+    assert_eq!(rt; driven.told.as_slice(), drive.lines.as_bytes(), "{name}");
+    if let Some(bytes) = drive.after {
+        holds(rt, name, bytes)?;
+    }
+    assert!(rt; is_absent(rt, name)?, "{name}");
     Ok(())
 }
 
+const NEW: Drive<'static> = Drive {
+    journal: "drive_files_new.journal",
+    before: None,
+    orders: ORDER,
+    moment: 0,
+    answers: 16,
+    status: Status::Good,
+    pair: PAIR,
+    pairs: 8,
+    lines: TAKEN,
+    after: Some(&SILENT),
+};
+
+const ENDED: Drive<'static> = Drive {
+    journal: "drive_files_ended.journal",
+    answers: 3,
+    status: Status::Refused,
+    pairs: 2,
+    lines: "reply 1 taken\ndrive fault 4 End\n",
+    after: Some(&BEGAN),
+    ..NEW
+};
+
+// No frame is sent.
+const KNOWN: Drive<'static> = Drive {
+    journal: "drive_files_known.journal",
+    before: Some(&SILENT),
+    answers: 0,
+    pairs: 0,
+    lines: KEPT,
+    ..NEW
+};
+
+const KNOWN_AND_CUT: Drive<'static> = Drive {
+    journal: "drive_files_cut.journal",
+    before: Some(&CUT),
+    ..KNOWN
+};
+
+const GONE_ON: Drive<'static> = Drive {
+    journal: "drive_files_gone_on.journal",
+    before: Some(&BEGAN),
+    lines: KEPT_TWICE,
+    ..NEW
+};
+
+#[test]
+fn orders_are_driven(rt: HostRuntime) -> Result<(), Fail> {
+    for drive in [NEW, ENDED, KNOWN, KNOWN_AND_CUT, GONE_ON] {
+        judge(&rt, &drive)?;
+    }
+    Ok(())
+}
+
+// The moment is that of the orders that begin.
+const AT_A_MOMENT: Drive<'static> = Drive {
+    journal: "drive_files_moment.journal",
+    moment: 1_700_000_000,
+    after: Some(&LATER),
+    ..NEW
+};
+
+const KNOWN_LATER: Drive<'static> = Drive {
+    journal: "drive_files_known_later.journal",
+    before: Some(&LATER),
+    moment: 1_700_000_009,
+    after: Some(&LATER),
+    ..KNOWN
+};
+
+const GONE_ON_LATER: Drive<'static> = Drive {
+    journal: "drive_files_gone_on_later.journal",
+    before: Some(&BEGAN_LATER),
+    moment: 1_700_000_009,
+    after: Some(&LATER),
+    ..GONE_ON
+};
+
+#[test]
+fn moments(rt: HostRuntime) -> Result<(), Fail> {
+    for drive in [AT_A_MOMENT, KNOWN_LATER, GONE_ON_LATER] {
+        judge(&rt, &drive)?;
+    }
+    Ok(())
+}
+
+const EMPTY: Drive<'static> = Drive {
+    journal: "drive_files_empty.journal",
+    before: Some(&[]),
+    ..NEW
+};
+
+const HEADER_ALONE: Drive<'static> = Drive {
+    journal: "drive_files_header.journal",
+    before: Some(&HEADER),
+    ..NEW
+};
+
+const NO_ORDERS: Drive<'static> = Drive {
+    journal: "drive_files_no_orders.journal",
+    orders: "[]",
+    answers: 0,
+    pairs: 0,
+    lines: "",
+    after: Some(&HEADER),
+    ..NEW
+};
+
+const OLD: Drive<'static> = Drive {
+    journal: "drive_files_old.journal",
+    before: Some(&OLD_SILENT),
+    moment: 1_700_000_000,
+    ..KNOWN
+};
+
+const OLD_AND_CUT: Drive<'static> = Drive {
+    journal: "drive_files_old_cut.journal",
+    before: Some(&OLD_CUT),
+    ..OLD
+};
+
+const OLD_AND_NO_ORDERS: Drive<'static> = Drive {
+    journal: "drive_files_old_no_orders.journal",
+    before: Some(&OLD_SILENT),
+    after: Some(&SILENT),
+    ..NO_ORDERS
+};
+
+const OLD_AND_GONE_ON: Drive<'static> = Drive {
+    journal: "drive_files_old_gone_on.journal",
+    before: Some(&OLD_FOR_UNIT_5),
+    orders: ORDER_FOR_UNIT_5,
+    moment: 1_700_000_000,
+    pair: PAIR_FOR_UNIT_5,
+    after: Some(&FOR_UNIT_5),
+    ..GONE_ON
+};
+
+#[test]
+fn journals_that_are_written_anew(rt: HostRuntime) -> Result<(), Fail> {
+    for drive in [
+        EMPTY,
+        HEADER_ALONE,
+        NO_ORDERS,
+        OLD,
+        OLD_AND_CUT,
+        OLD_AND_NO_ORDERS,
+        OLD_AND_GONE_ON,
+    ] {
+        judge(&rt, &drive)?;
+    }
+    Ok(())
+}
+
+const OLD_WITH_NEW: Drive<'static> = Drive {
+    journal: "drive_files_left.journal",
+    ..OLD
+};
+
+// A drive that was stopped left a file beside the journal, and then a folder stands there.
+#[test]
+fn what_stands_where_a_journal_is_written_anew(rt: HostRuntime) -> Result<(), Fail> {
+    let new = "drive_files_left.journal.new";
+    fs::write(&rt, new, "what an earlier drive left")?;
+    judge(&rt, &OLD_WITH_NEW)?;
+    fs::create_dir(&rt, new)?;
+    let driven = driven(&rt, &OLD_WITH_NEW)?;
+    fs::remove_dir(&rt, new)?;
+    assert!(rt; driven.status == Status::Failed && driven.sent.is_empty());
+    assert!(rt; driven.told.ends_with(b"fault 21 File\n"));
+    holds(&rt, OLD_WITH_NEW.journal, &OLD_SILENT)?;
+    Ok(())
+}
+
+// Items that are refused.
+const NO_ITEMS: Drive<'static> = Drive {
+    journal: "drive_files_none.journal",
+    orders: REFUSED,
+    answers: 0,
+    status: Status::Refused,
+    pairs: 0,
+    lines: "item 1 fault 1 Unit\nitem 3 fault 9 Shape\n",
+    after: None,
+    ..NEW
+};
+
+const OLD_AND_NO_ITEMS: Drive<'static> = Drive {
+    before: Some(&OLD_SILENT),
+    after: Some(&OLD_SILENT),
+    ..NO_ITEMS
+};
+
+const NO_LIST: Drive<'static> = Drive {
+    orders: "{}",
+    lines: "fault 12 Document\n",
+    ..NO_ITEMS
+};
+
+const NO_JOURNAL: Drive<'static> = Drive {
+    journal: "drive_files_other.journal",
+    before: Some(&[0x78]),
+    orders: ORDER,
+    lines: "journal fault 3 Record at 0\n",
+    after: Some(&[0x78]),
+    ..NO_ITEMS
+};
+
+const HALF_A_HEADER: Drive<'static> = Drive {
+    before: Some(&[0x44, 0x42]),
+    lines: "journal fault 7 Header\n",
+    after: Some(&[0x44, 0x42]),
+    ..NO_JOURNAL
+};
+
+const NO_RECORD: Drive<'static> = Drive {
+    before: Some(&[0x44, 0x42, 0x31, 0x02, 0x45, 0x00]),
+    lines: "journal fault 4 Sequence at 4\n",
+    after: Some(&[0x44, 0x42, 0x31, 0x02, 0x45, 0x00]),
+    ..NO_JOURNAL
+};
+
+const LOCKED: Drive<'static> = Drive {
+    journal: "drive_files_locked.journal",
+    orders: ORDER,
+    status: Status::Failed,
+    lines: "error: the journal is in use by another drive: drive_files_locked.journal\nfault 21 File\n",
+    after: Some(&[]),
+    ..NO_ITEMS
+};
+
 #[test]
 fn nothing_is_sent(rt: HostRuntime) -> Result<(), Fail> {
-    let name = "drive_files_none.journal";
-    let lines = "item 1 fault 1 Unit\nitem 3 fault 9 Shape\n";
-    drives(&rt, REFUSED, name, 0, Status::Refused, 0, lines)?;
-    assert_eq!(rt; fs::exists(&rt, name)?, false);
-    drives(
-        &rt,
-        "{}",
-        name,
-        0,
-        Status::Refused,
-        0,
-        "fault 12 Document\n",
-    )?;
-    assert_eq!(rt; fs::exists(&rt, name)?, false);
-    let name = "drive_files_other.journal";
-    fs::write(&rt, name, "x")?;
-    drives(
-        &rt,
-        ORDER,
-        name,
-        0,
-        Status::Refused,
-        0,
-        "journal fault 3 Record at 0\n",
-    )?;
-    holds(&rt, name, b"x")?;
-    let name = "drive_files_locked.journal";
-    let held = fs::create(&rt, name)?;
+    for drive in [
+        NO_ITEMS,
+        OLD_AND_NO_ITEMS,
+        NO_LIST,
+        NO_JOURNAL,
+        HALF_A_HEADER,
+        NO_RECORD,
+    ] {
+        judge(&rt, &drive)?;
+    }
+    let held = fs::create(&rt, LOCKED.journal)?;
     assert_eq!(rt; held.try_lock().is_ok(), true);
-    let lines =
-        "error: the journal is in use by another drive: drive_files_locked.journal\nfault 21 File\n";
-    drives(&rt, ORDER, name, 0, Status::Failed, 0, lines)?;
-    holds(&rt, name, b"")?;
+    judge(&rt, &LOCKED)?;
     Ok(())
 }

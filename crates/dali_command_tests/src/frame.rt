@@ -1,4 +1,4 @@
-use super::streams::FullWriter;
+use crate::streams::FullWriter;
 use dali_commands::Status;
 use dali_commands::frame::frame;
 use dali_text::Output;

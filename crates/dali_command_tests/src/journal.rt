@@ -1,78 +1,209 @@
-use super::tried::{answers, fails_to_read, fails_to_write, refuses_past};
+use crate::tried::{answers, answers_lines, fails_to_read, fails_to_write, refuses_past};
 use dali_commands::{FileCommand, Status};
 use std::alloc::Global;
 use std::process::Abort;
 
-// Order 1 for unit 5 with a GTIN, which is done.
-const DONE: &[u8; 27] =
-    b"B\0\0\0\0\0\0\0\x01\x05\x06\x03\x03\x04\xA4\x05\xCE\x06\xEF\x07\xAD\x08\xABO\x05E\0";
+// Order 1 for unit 5 with a GTIN, which was submitted at 1700000000 and is done.
+const DONE: [u8; 39] = [
+    0x44, 0x42, 0x31, 0x02, 0x42, 0x00, 0x00, 0x00, 0x00, 0x00, 0x00, 0x00, 0x01, 0x00, 0x00, 0x00,
+    0x00, 0x65, 0x53, 0xF1, 0x00, 0x05, 0x06, 0x03, 0x03, 0x04, 0xA4, 0x05, 0xCE, 0x06, 0xEF, 0x07,
+    0xAD, 0x08, 0xAB, 0x4F, 0x05, 0x45, 0x00,
+];
 
 const DONE_TOLD: &str = "\
-B order 1 unit 5 bytes 6
+version 2
+B order 1 unit 5 at 1700000000 bytes 6
+O unit 5
+E 0 Done
+counts 39 of 39 orders 1 standing idle
+";
+
+const BEGAN_TOLD: &str = "\
+version 2
+B order 1 unit 5 at 1700000000 bytes 6
+counts 35 of 35 orders 1 standing began
+";
+
+const OPENED_TOLD: &str = "\
+version 2
+B order 1 unit 5 at 1700000000 bytes 6
+O unit 5
+counts 37 of 38 orders 1 standing opened
+";
+
+// The same order at the moment 0, whose unit was left and closed later, and then order 2 for unit 6.
+const LEFT: [u8; 76] = [
+    0x44, 0x42, 0x31, 0x02, 0x42, 0x00, 0x00, 0x00, 0x00, 0x00, 0x00, 0x00, 0x01, 0x00, 0x00, 0x00,
+    0x00, 0x00, 0x00, 0x00, 0x00, 0x05, 0x06, 0x03, 0x03, 0x04, 0xA4, 0x05, 0xCE, 0x06, 0xEF, 0x07,
+    0xAD, 0x08, 0xAB, 0x4F, 0x05, 0x45, 0x05, 0x43, 0x05, 0x42, 0x00, 0x00, 0x00, 0x00, 0x00, 0x00,
+    0x00, 0x02, 0x00, 0x00, 0x00, 0x00, 0x00, 0x00, 0x00, 0x00, 0x06, 0x06, 0x03, 0x03, 0x04, 0xA4,
+    0x05, 0xCE, 0x06, 0xEF, 0x07, 0xAD, 0x08, 0xAB, 0x4F, 0x06, 0x45, 0x00,
+];
+
+const LEFT_TOLD: &str = "\
+version 2
+B order 1 unit 5 at 0 bytes 6
+O unit 5
+E 5 DoubtOpen
+C unit 5
+B order 2 unit 6 at 0 bytes 6
+O unit 6
+E 0 Done
+counts 76 of 76 orders 2 standing idle
+";
+
+const STILL_LEFT_TOLD: &str = "\
+version 2
+B order 1 unit 5 at 0 bytes 6
+O unit 5
+E 5 DoubtOpen
+counts 39 of 39 orders 1 standing left 5
+";
+
+// A record cut off in its second byte behind a whole journal.
+const CUT: [u8; 41] = [
+    0x44, 0x42, 0x31, 0x02, 0x42, 0x00, 0x00, 0x00, 0x00, 0x00, 0x00, 0x00, 0x01, 0x00, 0x00, 0x00,
+    0x00, 0x65, 0x53, 0xF1, 0x00, 0x05, 0x06, 0x03, 0x03, 0x04, 0xA4, 0x05, 0xCE, 0x06, 0xEF, 0x07,
+    0xAD, 0x08, 0xAB, 0x4F, 0x05, 0x45, 0x00, 0x42, 0x00,
+];
+
+const CUT_TOLD: &str = "\
+version 2
+B order 1 unit 5 at 1700000000 bytes 6
+O unit 5
+E 0 Done
+counts 39 of 41 orders 1 standing idle
+";
+
+// The largest order number at the largest moment, of which three updates at the last location and before it are
+// unwritten yet.
+const LARGEST: [u8; 29] = [
+    0x44, 0x42, 0x31, 0x02, 0x42, 0xFF, 0xFF, 0xFF, 0xFF, 0xFF, 0xFF, 0xFF, 0xFF, 0xFF, 0xFF, 0xFF,
+    0xFF, 0xFF, 0xFF, 0xFF, 0xFF, 0x3F, 0x03, 0x75, 0x00, 0x76, 0x00, 0x77, 0x00,
+];
+
+const LARGEST_TOLD: &str = "\
+version 2
+B order 18446744073709551615 unit 63 at 18446744073709551615 bytes 3
+counts 29 of 29 orders 1 standing began
+";
+
+// An Opened of another unit than the order's.
+const OTHER_UNIT: [u8; 37] = [
+    0x44, 0x42, 0x31, 0x02, 0x42, 0x00, 0x00, 0x00, 0x00, 0x00, 0x00, 0x00, 0x01, 0x00, 0x00, 0x00,
+    0x00, 0x00, 0x00, 0x00, 0x00, 0x05, 0x06, 0x03, 0x03, 0x04, 0xA4, 0x05, 0xCE, 0x06, 0xEF, 0x07,
+    0xAD, 0x08, 0xAB, 0x4F, 0x06,
+];
+
+// One order twice, each silent, at two moments.
+const REPEATED: [u8; 70] = [
+    0x44, 0x42, 0x31, 0x02, 0x42, 0x00, 0x00, 0x00, 0x00, 0x00, 0x00, 0x00, 0x01, 0x00, 0x00, 0x00,
+    0x00, 0x00, 0x00, 0x00, 0x00, 0x05, 0x06, 0x03, 0x03, 0x04, 0xA4, 0x05, 0xCE, 0x06, 0xEF, 0x07,
+    0xAD, 0x08, 0xAB, 0x45, 0x03, 0x42, 0x00, 0x00, 0x00, 0x00, 0x00, 0x00, 0x00, 0x01, 0x00, 0x00,
+    0x00, 0x00, 0x65, 0x53, 0xF1, 0x00, 0x05, 0x06, 0x03, 0x03, 0x04, 0xA4, 0x05, 0xCE, 0x06, 0xEF,
+    0x07, 0xAD, 0x08, 0xAB, 0x45, 0x03,
+];
+
+// The same in version 1: the order that is done,
+const OLD_DONE: [u8; 27] = [
+    0x42, 0x00, 0x00, 0x00, 0x00, 0x00, 0x00, 0x00, 0x01, 0x05, 0x06, 0x03, 0x03, 0x04, 0xA4, 0x05,
+    0xCE, 0x06, 0xEF, 0x07, 0xAD, 0x08, 0xAB, 0x4F, 0x05, 0x45, 0x00,
+];
+
+const OLD_DONE_TOLD: &str = "\
+version 1
+B order 1 unit 5 at 0 bytes 6
 O unit 5
 E 0 Done
 counts 27 of 27 orders 1 standing idle
 ";
 
-const BEGAN_TOLD: &str = "\
-B order 1 unit 5 bytes 6
+const OLD_BEGAN_TOLD: &str = "\
+version 1
+B order 1 unit 5 at 0 bytes 6
 counts 23 of 23 orders 1 standing began
 ";
 
-const OPENED_TOLD: &str = "\
-B order 1 unit 5 bytes 6
+const OLD_OPENED_TOLD: &str = "\
+version 1
+B order 1 unit 5 at 0 bytes 6
 O unit 5
 counts 25 of 26 orders 1 standing opened
 ";
 
-// The same order, whose unit was left and closed later, and then order 2 for unit 6.
-const LEFT: &[u8; 56] =
-    b"B\0\0\0\0\0\0\0\x01\x05\x06\x03\x03\x04\xA4\x05\xCE\x06\xEF\x07\xAD\x08\xABO\x05E\x05C\x05B\0\0\0\0\0\0\0\x02\x06\x06\x03\x03\x04\xA4\x05\xCE\x06\xEF\x07\xAD\x08\xABO\x06E\0";
+// the unit that was left,
+const OLD_LEFT: [u8; 56] = [
+    0x42, 0x00, 0x00, 0x00, 0x00, 0x00, 0x00, 0x00, 0x01, 0x05, 0x06, 0x03, 0x03, 0x04, 0xA4, 0x05,
+    0xCE, 0x06, 0xEF, 0x07, 0xAD, 0x08, 0xAB, 0x4F, 0x05, 0x45, 0x05, 0x43, 0x05, 0x42, 0x00, 0x00,
+    0x00, 0x00, 0x00, 0x00, 0x00, 0x02, 0x06, 0x06, 0x03, 0x03, 0x04, 0xA4, 0x05, 0xCE, 0x06, 0xEF,
+    0x07, 0xAD, 0x08, 0xAB, 0x4F, 0x06, 0x45, 0x00,
+];
 
-const LEFT_TOLD: &str = "\
-B order 1 unit 5 bytes 6
+const OLD_LEFT_TOLD: &str = "\
+version 1
+B order 1 unit 5 at 0 bytes 6
 O unit 5
 E 5 DoubtOpen
 C unit 5
-B order 2 unit 6 bytes 6
+B order 2 unit 6 at 0 bytes 6
 O unit 6
 E 0 Done
 counts 56 of 56 orders 2 standing idle
 ";
 
-const STILL_LEFT_TOLD: &str = "\
-B order 1 unit 5 bytes 6
+const OLD_STILL_LEFT_TOLD: &str = "\
+version 1
+B order 1 unit 5 at 0 bytes 6
 O unit 5
 E 5 DoubtOpen
 counts 27 of 27 orders 1 standing left 5
 ";
 
-// A record cut off in its second byte behind a whole journal.
-const CUT: &[u8; 29] =
-    b"B\0\0\0\0\0\0\0\x01\x05\x06\x03\x03\x04\xA4\x05\xCE\x06\xEF\x07\xAD\x08\xABO\x05E\0B\0";
+// the record that is cut off,
+const OLD_CUT: [u8; 29] = [
+    0x42, 0x00, 0x00, 0x00, 0x00, 0x00, 0x00, 0x00, 0x01, 0x05, 0x06, 0x03, 0x03, 0x04, 0xA4, 0x05,
+    0xCE, 0x06, 0xEF, 0x07, 0xAD, 0x08, 0xAB, 0x4F, 0x05, 0x45, 0x00, 0x42, 0x00,
+];
 
-const CUT_TOLD: &str = "\
-B order 1 unit 5 bytes 6
+const OLD_CUT_TOLD: &str = "\
+version 1
+B order 1 unit 5 at 0 bytes 6
 O unit 5
 E 0 Done
 counts 27 of 29 orders 1 standing idle
 ";
 
-// The largest order number, of which three updates at the last location and before it are unwritten yet.
-const LARGEST: &[u8; 17] = b"B\xFF\xFF\xFF\xFF\xFF\xFF\xFF\xFF\x3F\x03\x75\0\x76\0\x77\0";
+// the largest order number,
+const OLD_LARGEST: [u8; 17] = [
+    0x42, 0xFF, 0xFF, 0xFF, 0xFF, 0xFF, 0xFF, 0xFF, 0xFF, 0x3F, 0x03, 0x75, 0x00, 0x76, 0x00, 0x77,
+    0x00,
+];
 
-const LARGEST_TOLD: &str = "\
-B order 18446744073709551615 unit 63 bytes 3
+const OLD_LARGEST_TOLD: &str = "\
+version 1
+B order 18446744073709551615 unit 63 at 0 bytes 3
 counts 17 of 17 orders 1 standing began
 ";
 
-// An Opened of another unit than the order's.
-const OTHER_UNIT: &[u8; 25] =
-    b"B\0\0\0\0\0\0\0\x01\x05\x06\x03\x03\x04\xA4\x05\xCE\x06\xEF\x07\xAD\x08\xABO\x06";
+// the Opened of another unit,
+const OLD_OTHER_UNIT: [u8; 25] = [
+    0x42, 0x00, 0x00, 0x00, 0x00, 0x00, 0x00, 0x00, 0x01, 0x05, 0x06, 0x03, 0x03, 0x04, 0xA4, 0x05,
+    0xCE, 0x06, 0xEF, 0x07, 0xAD, 0x08, 0xAB, 0x4F, 0x06,
+];
 
-// One order twice, each silent.
-const REPEATED: &[u8; 50] =
-    b"B\0\0\0\0\0\0\0\x01\x05\x06\x03\x03\x04\xA4\x05\xCE\x06\xEF\x07\xAD\x08\xABE\x03B\0\0\0\0\0\0\0\x01\x05\x06\x03\x03\x04\xA4\x05\xCE\x06\xEF\x07\xAD\x08\xABE\x03";
+// and the order twice.
+const OLD_REPEATED: [u8; 50] = [
+    0x42, 0x00, 0x00, 0x00, 0x00, 0x00, 0x00, 0x00, 0x01, 0x05, 0x06, 0x03, 0x03, 0x04, 0xA4, 0x05,
+    0xCE, 0x06, 0xEF, 0x07, 0xAD, 0x08, 0xAB, 0x45, 0x03, 0x42, 0x00, 0x00, 0x00, 0x00, 0x00, 0x00,
+    0x00, 0x01, 0x05, 0x06, 0x03, 0x03, 0x04, 0xA4, 0x05, 0xCE, 0x06, 0xEF, 0x07, 0xAD, 0x08, 0xAB,
+    0x45, 0x03,
+];
+
+const EMPTY_TOLD: &str = "version 2\ncounts 0 of 0 orders 0 standing idle\n";
+
+const HEADER_TOLD: &str = "version 2\ncounts 4 of 4 orders 0 standing idle\n";
+
+const OLD_FRONT_TOLD: &str = "version 1\ncounts 0 of 22 orders 0 standing idle\n";
 
 // Tests what a journal says.
 fn tells(rt: &impl Abort, alloc: Global, input: &[u8], text: &str) {
@@ -93,39 +224,71 @@ fn refuses(rt: &impl Abort, alloc: Global, input: &[u8], text: &str) {
 
 #[test]
 fn journals_and_what_they_say(rt: HostRuntime) {
-    tells(
-        &rt,
-        rt.alloc(),
-        b"",
-        "counts 0 of 0 orders 0 standing idle\n",
-    );
-    tells(&rt, rt.alloc(), DONE, DONE_TOLD);
-    tells(&rt, rt.alloc(), CUT, CUT_TOLD);
-    tells(&rt, rt.alloc(), LEFT, LEFT_TOLD);
+    tells(&rt, rt.alloc(), b"", EMPTY_TOLD);
+    tells(&rt, rt.alloc(), b"DB1\x02", HEADER_TOLD);
+    tells(&rt, rt.alloc(), &DONE, DONE_TOLD);
+    tells(&rt, rt.alloc(), &CUT, CUT_TOLD);
+    tells(&rt, rt.alloc(), &LEFT, LEFT_TOLD);
 }
 
 #[test]
 fn journals_that_end_within_an_order(rt: HostRuntime) {
-    tells(&rt, rt.alloc(), &DONE[..23], BEGAN_TOLD);
-    tells(&rt, rt.alloc(), &DONE[..26], OPENED_TOLD);
-    tells(&rt, rt.alloc(), &LEFT[..27], STILL_LEFT_TOLD);
-    tells(&rt, rt.alloc(), LARGEST, LARGEST_TOLD);
+    tells(&rt, rt.alloc(), &DONE[..35], BEGAN_TOLD);
+    tells(&rt, rt.alloc(), &DONE[..38], OPENED_TOLD);
+    tells(&rt, rt.alloc(), &LEFT[..39], STILL_LEFT_TOLD);
+    tells(&rt, rt.alloc(), &LARGEST, LARGEST_TOLD);
 }
 
 #[test]
+fn journals_of_version_1(rt: HostRuntime) {
+    tells(&rt, rt.alloc(), &OLD_DONE, OLD_DONE_TOLD);
+    tells(&rt, rt.alloc(), &OLD_CUT, OLD_CUT_TOLD);
+    tells(&rt, rt.alloc(), &OLD_LEFT, OLD_LEFT_TOLD);
+}
+
+#[test]
+fn journals_of_version_1_that_end_within_an_order(rt: HostRuntime) {
+    tells(&rt, rt.alloc(), &OLD_DONE[..22], OLD_FRONT_TOLD);
+    tells(&rt, rt.alloc(), &OLD_DONE[..23], OLD_BEGAN_TOLD);
+    tells(&rt, rt.alloc(), &OLD_DONE[..26], OLD_OPENED_TOLD);
+    tells(&rt, rt.alloc(), &OLD_LEFT[..27], OLD_STILL_LEFT_TOLD);
+    tells(&rt, rt.alloc(), &OLD_LARGEST, OLD_LARGEST_TOLD);
+}
+
+// Inputs that are no journal and the line that says why, with a bar between them.
+const REFUSED: &str = "\
+A|journal fault 3 Record at 0
+E\0|journal fault 4 Sequence at 0
+DB1\x02A|journal fault 3 Record at 4
+DB1\x02E\0|journal fault 4 Sequence at 4
+D|journal fault 7 Header
+DB1|journal fault 7 Header
+DB1\x03|journal fault 7 Header
+DB1\x01E\0|journal fault 7 Header
+DB2\x02|journal fault 7 Header
+";
+
+#[test]
 fn inputs_that_are_no_journal(rt: HostRuntime) {
-    refuses(&rt, rt.alloc(), b"A", "journal fault 3 Record at 0\n");
-    refuses(&rt, rt.alloc(), b"E\0", "journal fault 4 Sequence at 0\n");
+    let journal = FileCommand::Journal;
+    answers_lines(&rt, rt.alloc(), journal, Status::Refused, REFUSED);
+}
+
+#[test]
+fn journals_with_a_fault(rt: HostRuntime) {
+    let alloc = rt.alloc();
+    refuses(&rt, alloc, &OTHER_UNIT, "journal fault 4 Sequence at 35\n");
+    refuses(&rt, alloc, &REPEATED, "journal fault 5 Repeated at 37\n");
     refuses(
         &rt,
-        rt.alloc(),
-        OTHER_UNIT,
+        alloc,
+        &OLD_OTHER_UNIT,
         "journal fault 4 Sequence at 23\n",
     );
     refuses(
         &rt,
-        rt.alloc(),
-        REPEATED,
+        alloc,
+        &OLD_REPEATED,
         "journal fault 5 Repeated at 25\n",
     );
 }
@@ -137,13 +300,14 @@ fn a_journal_without_end(rt: HostRuntime) {
 
 #[test]
 fn a_journal_whose_reader_fails_in_mid_stream(rt: HostRuntime) {
-    fails_to_read(&rt, rt.alloc(), FileCommand::Journal, DONE);
+    fails_to_read(&rt, rt.alloc(), FileCommand::Journal, &DONE);
 }
 
 #[test]
 fn a_journal_whose_writer_fails_in_mid_line(rt: HostRuntime) {
     let journal = FileCommand::Journal;
-    fails_to_write(&rt, rt.alloc(), journal, DONE, DONE_TOLD);
+    fails_to_write(&rt, rt.alloc(), journal, &DONE, DONE_TOLD);
+    fails_to_write(&rt, rt.alloc(), journal, &OLD_DONE, OLD_DONE_TOLD);
     fails_to_write(
         &rt,
         rt.alloc(),
@@ -151,4 +315,5 @@ fn a_journal_whose_writer_fails_in_mid_line(rt: HostRuntime) {
         b"A",
         "journal fault 3 Record at 0\n",
     );
+    fails_to_write(&rt, rt.alloc(), journal, b"D", "journal fault 7 Header\n");
 }

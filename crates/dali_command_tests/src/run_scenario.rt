@@ -1,4 +1,4 @@
-use super::tried::{answers, answers_each, fails_to_read, fails_to_write};
+use crate::tried::{answers, answers_each, fails_to_read, fails_to_write};
 use dali_commands::{FileCommand, Status};
 
 /// The command, with a line for each run of frames.
@@ -17,14 +17,14 @@ const GTIN_ORDER: &str = r#"{"limit":10,"units":[{"address":5}],
 const GTIN_RUN: &str = "\
 ask 1
 reply 1 taken
-keep B order 1 unit 5 bytes 6
+keep B order 1 unit 5 at 0 bytes 6
 frames 7
 keep O unit 5
 frames 105
 keep E 0 Done
 reply 1 kept 0 Done
 total 112
-journal 27
+journal 39
 unit 5 dtr 09 01 00 enabled no
 bank 5 00 77FFFF03A4CEEFADABFFFFFFFFFFFFFF
 bank 5 10 FF0003FFFFFFFFFFFFFFFFFFFFFFFFFF
@@ -33,7 +33,7 @@ bank 5 10 FF0003FFFFFFFFFFFFFFFFFFFFFFFFFF
 const GTIN_FRAMES: &str = "\
 ask 1
 reply 1 taken
-keep B order 1 unit 5 bytes 6
+keep B order 1 unit 5 at 0 bytes 6
 send C301 --
 send 0B9C 01
 send A300 --
@@ -150,7 +150,7 @@ send 0B9C 01
 keep E 0 Done
 reply 1 kept 0 Done
 total 112
-journal 27
+journal 39
 unit 5 dtr 09 01 00 enabled no
 bank 5 00 77FFFF03A4CEEFADABFFFFFFFFFFFFFF
 bank 5 10 FF0003FFFFFFFFFFFFFFFFFFFFFFFFFF
@@ -159,21 +159,21 @@ bank 5 10 FF0003FFFFFFFFFFFFFFFFFFFFFFFFFF
 // In turn: unit 9 is absent; while order 1 is at work it is busy, its number with other bytes reused, and then the
 // journal is full; unit 5 is left open, which blocks the next order, and then closed; the run ends while unit 5 is
 // enabled; one write isn't answered, which takes a try of seven frames more: its answer is lost, or the unit refuses;
-// frames are lost to a unit with other registers; a location is fixed; the largest order number; many steps.
+// frames are lost to a unit with other registers; a location is fixed; the largest order number; moments; many steps.
 const RUNS: &str = r#"{"limit":10,"units":[],
 "events":[{"submit":{"order":1,"unit":9,"gtin":"4006381333931"}},{"steps":50},
 {"submit":{"order":1,"unit":9,"gtin":"4006381333931"}}]}
 ----
 ask 1
 reply 1 taken
-keep B order 1 unit 9 bytes 6
+keep B order 1 unit 9 at 0 bytes 6
 frames 16
 keep E 3 Silent
 reply 1 kept 3 Silent
 ask 1
 reply 1 kept 3 Silent
 total 16
-journal 25
+journal 37
 ====
 {"limit":1,"units":[{"address":5}],
 "events":[{"submit":{"order":1,"unit":5,"gtin":"4006381333931"}},
@@ -188,7 +188,7 @@ ask 1
 reply 1 taken
 ask 1
 reply 1 busy
-keep B order 1 unit 5 bytes 6
+keep B order 1 unit 5 at 0 bytes 6
 ask 1
 reply 1 reused
 ask 1
@@ -205,7 +205,7 @@ reply 2 full
 ask 1
 reply 1 kept 0 Done
 total 112
-journal 27
+journal 39
 unit 5 dtr 09 01 00 enabled no
 bank 5 00 77FFFF03A4CEEFADABFFFFFFFFFFFFFF
 bank 5 10 FF0003FFFFFFFFFFFFFFFFFFFFFFFFFF
@@ -219,7 +219,7 @@ bank 5 10 FF0003FFFFFFFFFFFFFFFFFFFFFFFFFF
 ----
 ask 1
 reply 1 taken
-keep B order 1 unit 5 bytes 6
+keep B order 1 unit 5 at 0 bytes 6
 frames 7
 keep O unit 5
 frames 80
@@ -233,14 +233,14 @@ ask 2
 reply 2 taken
 frames 14
 keep C unit 5
-keep B order 2 unit 6 bytes 6
+keep B order 2 unit 6 at 0 bytes 6
 frames 7
 keep O unit 6
 frames 105
 keep E 0 Done
 reply 2 kept 0 Done
 total 261
-journal 56
+journal 76
 unit 5 dtr 08 01 00 enabled no
 bank 5 00 10FFFFFFFFFFFFFFFFFFFFFFFFFFFFFF
 unit 6 dtr 09 01 00 enabled no
@@ -251,12 +251,12 @@ bank 6 00 10FFFF03A4CEEFADABFFFFFFFFFFFFFF
 ----
 ask 1
 reply 1 taken
-keep B order 1 unit 5 bytes 6
+keep B order 1 unit 5 at 0 bytes 6
 frames 7
 keep O unit 5
 frames 2
 total 9
-journal 25
+journal 37
 unit 5 dtr 01 01 00 enabled yes
 bank 5 00 10FFFFFFFFFFFFFFFFFFFFFFFFFFFFFF
 ====
@@ -266,14 +266,14 @@ bank 5 00 10FFFFFFFFFFFFFFFFFFFFFFFFFFFFFF
 ----
 ask 1
 reply 1 taken
-keep B order 1 unit 5 bytes 6
+keep B order 1 unit 5 at 0 bytes 6
 frames 7
 keep O unit 5
 frames 112
 keep E 0 Done
 reply 1 kept 0 Done
 total 119
-journal 27
+journal 39
 unit 5 dtr 09 01 00 enabled no
 bank 5 00 10FFFF03A4CEEFADABFFFFFFFFFFFFFF
 ====
@@ -283,14 +283,14 @@ bank 5 00 10FFFF03A4CEEFADABFFFFFFFFFFFFFF
 ----
 ask 1
 reply 1 taken
-keep B order 1 unit 5 bytes 6
+keep B order 1 unit 5 at 0 bytes 6
 frames 7
 keep O unit 5
 frames 112
 keep E 0 Done
 reply 1 kept 0 Done
 total 119
-journal 27
+journal 39
 unit 5 dtr 09 01 00 enabled no
 bank 5 00 10FFFF03A4CEEFADABFFFFFFFFFFFFFF
 ====
@@ -300,14 +300,14 @@ bank 5 00 10FFFF03A4CEEFADABFFFFFFFFFFFFFF
 ----
 ask 1
 reply 1 taken
-keep B order 1 unit 5 bytes 6
+keep B order 1 unit 5 at 0 bytes 6
 frames 9
 keep O unit 5
 frames 112
 keep E 0 Done
 reply 1 kept 0 Done
 total 121
-journal 27
+journal 39
 unit 5 dtr 09 01 00 enabled no
 bank 5 00 10FFFF03A4CEEFADABFFFFFFFFFFFFFF
 ====
@@ -316,14 +316,14 @@ bank 5 00 10FFFF03A4CEEFADABFFFFFFFFFFFFFF
 ----
 ask 1
 reply 1 taken
-keep B order 1 unit 5 bytes 6
+keep B order 1 unit 5 at 0 bytes 6
 frames 7
 keep O unit 5
 frames 91
 keep E 4 Doubt
 reply 1 kept 4 Doubt
 total 98
-journal 27
+journal 39
 unit 5 dtr 03 01 00 enabled no
 bank 5 00 10FFFF03A4FFFFFFFFFFFFFFFFFFFFFF
 ====
@@ -332,24 +332,50 @@ bank 5 00 10FFFF03A4FFFFFFFFFFFFFFFFFFFFFF
 ----
 ask 18446744073709551615
 reply 18446744073709551615 taken
-keep B order 18446744073709551615 unit 63 bytes 6
+keep B order 18446744073709551615 unit 63 at 0 bytes 6
 frames 16
 keep E 3 Silent
 reply 18446744073709551615 kept 3 Silent
 total 16
-journal 25
+journal 37
+====
+{"limit":10,"units":[],
+"events":[{"submit":{"order":1,"unit":9,"gtin":"4006381333931"},"moment":1700000000},{"steps":50},
+{"moment":1700000009,"submit":{"order":1,"unit":9,"gtin":"4006381333931"}},
+{"moment":18446744073709551615,"submit":{"order":2,"unit":9,"gtin":"4006381333931"}},{"steps":50},
+{"submit":{"order":3,"unit":9,"gtin":"4006381333931"},"moment":0},{"steps":1}]}
+----
+ask 1
+reply 1 taken
+keep B order 1 unit 9 at 1700000000 bytes 6
+frames 16
+keep E 3 Silent
+reply 1 kept 3 Silent
+ask 1
+reply 1 kept 3 Silent
+ask 2
+reply 2 taken
+keep B order 2 unit 9 at 18446744073709551615 bytes 6
+frames 16
+keep E 3 Silent
+reply 2 kept 3 Silent
+ask 3
+reply 3 taken
+keep B order 3 unit 9 at 0 bytes 6
+total 32
+journal 101
 ====
 {"limit":10,"units":[],
 "events":[{"submit":{"order":1,"unit":9,"gtin":"4006381333931"}},{"steps":19999}]}
 ----
 ask 1
 reply 1 taken
-keep B order 1 unit 9 bytes 6
+keep B order 1 unit 9 at 0 bytes 6
 frames 16
 keep E 3 Silent
 reply 1 kept 3 Silent
 total 16
-journal 25
+journal 37
 "#;
 
 // Units that nothing happens to.
@@ -358,7 +384,7 @@ const STILL: &str =
 "events":[]}
 ----
 total 0
-journal 0
+journal 4
 unit 6 dtr 00 00 00 enabled no
 bank 6 00 10FFFFFFFFFFFFFFFFFFFFFFFFFFFFFF
 unit 5 dtr 00 00 00 enabled no
@@ -368,7 +394,7 @@ bank 5 00 10FFFFFFFFFFFFFFFFFFFFFFFFFFFFFF
 "events":[]}
 ----
 total 0
-journal 0
+journal 4
 unit 5 dtr 00 00 00 enabled no
 bank 5 00 10FFFFABABABABABABABABABABABABAB
 bank 5 10 AB
@@ -376,7 +402,7 @@ bank 5 10 AB
 {"limit":10,"units":[{"address":5,"fixed":[3,4,119]}],"events":[]}
 ----
 total 0
-journal 0
+journal 4
 unit 5 dtr 00 00 00 enabled no
 bank 5 00 77FFFFFFFFFFFFFFFFFFFFFFFFFFFFFF
 bank 5 10 FF0003FFFFFFFFFFFFFFFFFFFFFFFFFF
@@ -385,7 +411,7 @@ bank 5 10 FF0003FFFFFFFFFFFFFFFFFFFFFFFFFF
 "events":[]}
 ----
 total 0
-journal 0
+journal 4
 unit 5 dtr 01 02 FF enabled no
 bank 5 00 10FFFFFFFFFFFFFFFFFFFFFFFFFFFFFF
 "#;

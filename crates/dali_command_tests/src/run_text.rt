@@ -1,7 +1,7 @@
 ghost use Rattle.std.specs.Prelude.{IfOk, reverse};
 ghost use Rattle.dali_trace.specs.Runs.{SendsAllProper, SendsProper};
 
-use super::streams::FullWriter;
+use crate::streams::FullWriter;
 use dali_bank::Order;
 use dali_frame::{Frame, frame_of};
 use dali_gear::{SimBus, Unit};
@@ -24,13 +24,14 @@ const GTIN: [(u8, u8); 6] = [
 
 const LARGEST: u64 = 18446744073709551615;
 
-// What happened. Orders have the updates of the GTIN, and frames are told by their words.
+// What happened. Orders have the updates of the GTIN, and frames are told by their words. The last number of a Began is
+// its moment.
 #[derive(Clone, Copy)]
 enum Told {
     Asked(u64),
     Answered(u64, Reply),
     Sent(u16, Option<u8>),
-    Began(u64, u8),
+    Began(u64, u8, u64),
     Opened(u8),
     Ended(Code),
     Closed(u8),
@@ -44,13 +45,13 @@ fn happening_of(told: Told) -> Happening
 {
     match told {
         Told::Asked(id) => match Order::from_pairs(id, 5, &GTIN) {
-            Some(order) => Happening::Asked(order),
+            Some(order) => Happening::Asked(order, LARGEST),
             None => Happening::Stopped,
         },
         Told::Answered(id, reply) => Happening::Answered(id, reply),
         Told::Sent(word, answer) => Happening::Sent(frame_of(word), answer),
-        Told::Began(id, unit) => match Order::from_pairs(id, unit, &GTIN) {
-            Some(order) => Happening::Kept(Record::Began(order)),
+        Told::Began(id, unit, moment) => match Order::from_pairs(id, unit, &GTIN) {
+            Some(order) => Happening::Kept(Record::Began(order, moment)),
             None => Happening::Stopped,
         },
         Told::Opened(unit) => Happening::Kept(Record::Opened(unit)),
@@ -85,7 +86,7 @@ fn outcome_of(alloc: Global, told: &[Told], journal: &[u8]) -> Result<Outcome, A
 const RUNS: [Told; 12] = [
     Told::Asked(1),
     Told::Answered(1, Reply::Taken),
-    Told::Began(1, 5),
+    Told::Began(1, 5, 1_700_000_000),
     Told::Sent(0x0B98, None),
     Told::Sent(0x00FE, None),
     Told::Sent(0x0BC5, Some(0x77)),
@@ -100,7 +101,7 @@ const RUNS: [Told; 12] = [
 const RUNS_TOLD: &str = "\
 ask 1
 reply 1 taken
-keep B order 1 unit 5 bytes 6
+keep B order 1 unit 5 at 1700000000 bytes 6
 frames 3
 keep O unit 5
 frames 1
@@ -109,13 +110,13 @@ frames 1
 power 5
 frames 1
 total 6
-journal 27
+journal 39
 ";
 
 const FRAMES_TOLD: &str = "\
 ask 1
 reply 1 taken
-keep B order 1 unit 5 bytes 6
+keep B order 1 unit 5 at 1700000000 bytes 6
 send 0B98 --
 send 00FE --
 send 0BC5 77
@@ -126,7 +127,7 @@ send C70F 0F
 power 5
 send C9FF --
 total 6
-journal 27
+journal 39
 ";
 
 // Each kind of reply, record, stop and loss of power, the same in both forms.
@@ -141,7 +142,7 @@ const KINDS: [Told; 18] = [
     Told::Answered(2, Reply::Blocked(63)),
     Told::Answered(3, Reply::Blocked(0)),
     Told::Answered(4, Reply::Kept(Code::Done)),
-    Told::Began(LARGEST, 63),
+    Told::Began(LARGEST, 63, LARGEST),
     Told::Ended(Code::Done),
     Told::Ended(Code::Short),
     Told::Ended(Code::Format),
@@ -162,7 +163,7 @@ reply 10 full
 reply 2 blocked 63
 reply 3 blocked 0
 reply 4 kept 0 Done
-keep B order 18446744073709551615 unit 63 bytes 6
+keep B order 18446744073709551615 unit 63 at 18446744073709551615 bytes 6
 keep E 0 Done
 keep E 1 Short
 keep E 2 Format
@@ -204,8 +205,8 @@ fn writes(
 
 #[test]
 fn happenings_and_their_lines(rt: HostRuntime) {
-    writes(&rt, rt.alloc(), false, &RUNS, &[0; 27], RUNS_TOLD);
-    writes(&rt, rt.alloc(), true, &RUNS, &[0; 27], FRAMES_TOLD);
+    writes(&rt, rt.alloc(), false, &RUNS, &[0; 39], RUNS_TOLD);
+    writes(&rt, rt.alloc(), true, &RUNS, &[0; 39], FRAMES_TOLD);
     writes(&rt, rt.alloc(), false, &KINDS, &[], KINDS_TOLD);
     writes(&rt, rt.alloc(), true, &KINDS, &[], KINDS_TOLD);
     writes(&rt, rt.alloc(), false, &[], &[0], "total 0\njournal 1\n");
@@ -214,8 +215,8 @@ fn happenings_and_their_lines(rt: HostRuntime) {
         rt.alloc(),
         true,
         &[],
-        &[0; 241],
-        "total 0\njournal 241\n",
+        &[0; 253],
+        "total 0\njournal 253\n",
     );
 }
 
@@ -308,7 +309,7 @@ fn fails_to_write(
 
 #[test]
 fn a_writer_that_fails_in_mid_text(rt: HostRuntime) -> Result<(), Fail> {
-    let outcome = outcome_of(rt.alloc(), &RUNS, &[0; 27])?;
+    let outcome = outcome_of(rt.alloc(), &RUNS, &[0; 39])?;
     let units = units(rt.alloc())?;
     for (single_frames, told) in [(false, RUNS_TOLD), (true, FRAMES_TOLD)] {
         let text = before_units(rt.alloc(), told)?;
@@ -321,14 +322,14 @@ fn a_writer_that_fails_in_mid_text(rt: HostRuntime) -> Result<(), Fail> {
 const GTIN_TOLD: &str = "\
 ask 1
 reply 1 taken
-keep B order 1 unit 5 bytes 6
+keep B order 1 unit 5 at 0 bytes 6
 frames 7
 keep O unit 5
 frames 105
 keep E 0 Done
 reply 1 kept 0 Done
 total 112
-journal 27
+journal 39
 unit 5 dtr 09 01 00 enabled no
 bank 5 00 77FFFF03A4CEEFADABFFFFFFFFFFFFFF
 bank 5 10 FF0003FFFFFFFFFFFFFFFFFFFFFFFFFF
@@ -337,7 +338,7 @@ bank 5 10 FF0003FFFFFFFFFFFFFFFFFFFFFFFFFF
 fn gtin_events(alloc: Global) -> Result<Vec<Event>, Fail> {
     let mut events = Vec::new(alloc);
     if let Some(order) = Order::from_pairs(1, 5, &GTIN) {
-        events.push(Event::Submit(order))?;
+        events.push(Event::Submit(order, 0))?;
     }
     for _ in 0..199 {
         events.push(Event::Step)?;

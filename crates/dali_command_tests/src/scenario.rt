@@ -1,7 +1,7 @@
 //! Which scenarios are refused, and by which line.
 
-use super::run_scenario::RUN;
-use super::tried::{answers, answers_lines, refuses_past};
+use crate::run_scenario::RUN;
+use crate::tried::{answers, answers_lines, refuses_past};
 use dali_commands::Status;
 use std::alloc::{AllocError, Global};
 use std::process::Abort;
@@ -74,6 +74,24 @@ const REFUSED: &str = r#"{"limit":0,"units":[],"events":[]}|run fault 1 Limit
 {"limit":10,"units":[],"events":[{"stop":0},{"stop":65535},{"submit":{}}]}|event 3 fault 9 Shape
 {"limit":10,"units":[],"events":[{"power":0},{"power":63},{"submit":{}}]}|event 3 fault 9 Shape
 {"limit":10,"units":[],"events":[{"steps":20000},{"power":0}]}|fault 13 TooBig
+{"limit":10,"units":[],"events":[{"moment":0}]}|fault 12 Document
+{"limit":10,"units":[],"events":[{"moment":0,"steps":1}]}|fault 12 Document
+{"limit":10,"units":[],"events":[{"moment":0,"stop":0}]}|fault 12 Document
+{"limit":10,"units":[],"events":[{"moment":0,"power":0}]}|fault 12 Document
+{"limit":10,"units":[],"events":[{"submit":{},"moment":-1}]}|fault 12 Document
+{"limit":10,"units":[],"events":[{"submit":{},"moment":18446744073709551616}]}|fault 12 Document
+{"limit":10,"units":[],"events":[{"submit":{},"moment":1.0}]}|fault 12 Document
+{"limit":10,"units":[],"events":[{"submit":{},"moment":1e9}]}|fault 12 Document
+{"limit":10,"units":[],"events":[{"submit":{},"moment":"1700000000"}]}|fault 12 Document
+{"limit":10,"units":[],"events":[{"submit":{},"moment":null}]}|fault 12 Document
+{"limit":10,"units":[],"events":[{"submit":{},"moment":true}]}|fault 12 Document
+{"limit":10,"units":[],"events":[{"submit":{},"moment":0,"steps":1}]}|fault 12 Document
+{"limit":10,"units":[],"events":[{"submit":{},"moment":0,"wait":1}]}|fault 12 Document
+{"limit":10,"units":[],"events":[{"submit":{},"at":0}]}|fault 12 Document
+{"limit":10,"units":[],"events":[{"submit":{},"moment":0}]}|event 1 fault 9 Shape
+{"limit":10,"units":[],"events":[{"moment":18446744073709551615,"submit":{"order":1}}]}|event 1 fault 9 Shape
+{"limit":10,"units":[],"events":[{"submit":{"order":1,"unit":5,"gtin":null,"moment":0}}]}|event 1 fault 10 Key
+{"limit":10,"units":[],"events":[{"submit":{"order":1,"unit":64,"gtin":null},"moment":1}]}|event 1 fault 1 Unit
 {"limit":10,"units":[],"events":[{"submit":{"order":1}}]}|event 1 fault 9 Shape
 {"limit":10,"units":[],"events":[{"submit":{}}]}|event 1 fault 9 Shape
 {"limit":10,"units":[],"events":[{"submit":5}]}|event 1 fault 9 Shape
@@ -112,7 +130,7 @@ const QUIET: &str = r#"{"limit":1,"units":[],"events":[]}
 // The longest bank that a unit can have.
 const LONGEST_TOLD: &str = "\
 total 0
-journal 0
+journal 4
 unit 5 dtr 00 00 00 enabled no
 bank 5 00 FEFFFFFFFFFFFFFFFFFFFFFFFFFFFFFF
 ";
@@ -131,7 +149,7 @@ fn scenarios_in_which_nothing_happens(rt: HostRuntime) {
             RUN,
             scenario.as_bytes(),
             Status::Good,
-            "total 0\njournal 0\n",
+            "total 0\njournal 4\n",
         );
     }
 }

@@ -1,4 +1,4 @@
-use super::tried::{answers, fails_to_read, fails_to_write, refuses_past};
+use crate::tried::{answers, fails_to_read, fails_to_write, refuses_past};
 use dali_commands::show::show;
 use dali_commands::{FileCommand, Status};
 use dali_input::Input;

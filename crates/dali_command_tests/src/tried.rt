@@ -1,6 +1,6 @@
 //! What is tried on each command over a file.
 
-use super::streams::{FailingReader, FullWriter, InterruptedReader, Spaces};
+use crate::streams::{FailingReader, FullWriter, InterruptedReader, Spaces};
 use dali_commands::{FileCommand, Status};
 use dali_input::Input;
 use dali_text::Output;

@@ -18,28 +18,28 @@ use Rattle.dali_commands.specs.Faults.{item_line}
 use Rattle.dali_text.proofs.StreamLemmas.{appends_both}
 
 -- the drive of a writer that was made from the journal came to its end
-pub ends_well : (journal : JournalState) (made : Held) (orders : List Contents) (first last : Streams) (writer : Held)
+pub ends_well : (journal : JournalState) (made : Held) (orders : List Contents) (moment : ℕ) (first last : Streams) (writer : Held)
     (status : Status)
     → made.journal ≡ journal
-    → IsDrive (start_of made) orders first writer last → status ≡ Good
-    → IsDriveAnswer (start_at journal) orders first status last
-ends_well journal made orders first last writer status is driven good = inl (record {
+    → IsDrive (start_of made) orders moment first writer last → status ≡ Good
+    → IsDriveAnswer (start_at journal) orders moment first status last
+ends_well journal made orders moment first last writer status is driven good = inl (record {
   writer = writer;
-  driven = subst (λ (start : Start). IsDrive start orders first writer last) (ap start_at is) driven;
+  driven = subst (λ (start : Start). IsDrive start orders moment first writer last) (ap start_at is) driven;
   status_is = good;
 })
 
 -- it broke off, and its fault was told
-pub ends_broken : (journal : JournalState) (made : Held) (orders : List Contents) (first last : Streams)
+pub ends_broken : (journal : JournalState) (made : Held) (orders : List Contents) (moment : ℕ) (first last : Streams)
     (replies : Option (List ℕ)) (fault : DriveFault) (status : Status)
     → made.journal ≡ journal
-    → IsBrokenDrive (start_of made) orders fault first (record last { out = replies })
-    → IsFaultTold fault status replies last.out → IsDriveAnswer (start_at journal) orders first status last
-ends_broken journal made orders first last replies fault status is broken told = inr (record {
+    → IsBrokenDrive (start_of made) orders moment fault first (record last { out = replies })
+    → IsFaultTold fault status replies last.out → IsDriveAnswer (start_at journal) orders moment first status last
+ends_broken journal made orders moment first last replies fault status is broken told = inr (record {
   fault = fault;
   replies = replies;
   broken =
-      subst (λ (start : Start). IsBrokenDrive start orders fault first (record last { out = replies }))
+      subst (λ (start : Start). IsBrokenDrive start orders moment fault first (record last { out = replies }))
       (ap start_at is) broken;
   told = told;
 })

@@ -3,6 +3,7 @@ use Rattle.std.specs.Prelude.{◌≡◌, ◌≢◌, ◌⊎◌, ℕ, List, Option
 use Rattle.std.specs.List.{flat_map}
 use Rattle.std.specs.Io.KnownBytes.{Appends}
 use Rattle.dali_bank.specs.Order.{Contents}
+use Rattle.dali_journal.specs.declared.version.Version.{Version}
 use Rattle.dali_journal.specs.JournalState.{JournalState}
 use Rattle.dali_input.specs.declared.fault.InputFault.{InputFault}
 use Rattle.dali_input.specs.declared.item.ItemFault.{ItemFault}
@@ -28,12 +29,13 @@ refused_lines refused = flat_map (λ item. item_line item.0 item.1) refused
 
 -- ---- the journal, by what its reader had before and has after it
 
--- it is that of all that the reader gave, so many bytes, of which these count
-pub record HasJournal (before after : InputState) (journal : JournalState) (counted all : ℕ) : Type 0 where
+-- it is that of all that the reader gave, so many bytes, of which these count, in this version
+pub record HasJournal (before after : InputState) (journal : JournalState) (version : Version) (counted total : ℕ)
+    : Type 0 where
   pub input : List ℕ
   pub read : ReadsInput journal_limit before after input
-  pub loaded : IsJournalIn input journal counted
-  pub all_is : all ≡ length input
+  pub loaded : IsJournalIn input journal counted version
+  pub total_is : total ≡ length input
 
 -- why there is none: the reader or the memory failed, or what it gave is no journal
 abbrev pub HasNoJournal : InputState → InputState → Fault → Type 0
@@ -53,22 +55,22 @@ IsFaultTold Out status before after = (status ≡ Unwritten) × (after ≡ befor
 IsFaultTold fault status before after =
     status ≢ Unwritten → (status ≡ status_of (Drive fault)) × Appends before after (told_line (Drive fault))
 
--- all the orders were asked, and nothing more is to be done
-pub record EndsWell (start : Start) (orders : List Contents) (first : Streams) (status : Status) (last : Streams)
-    : Type 0 where
+-- all the orders were asked at this moment, and nothing more is to be done
+pub record EndsWell (start : Start) (orders : List Contents) (moment : ℕ) (first : Streams) (status : Status)
+    (last : Streams) : Type 0 where
   pub writer : Held
-  pub driven : IsDrive start orders first writer last
+  pub driven : IsDrive start orders moment first writer last
   pub status_is : status ≡ Good
 
 -- the drive broke off, and its fault was told
-pub record EndsBroken (start : Start) (orders : List Contents) (first : Streams) (status : Status) (last : Streams)
-    : Type 0 where
+pub record EndsBroken (start : Start) (orders : List Contents) (moment : ℕ) (first : Streams) (status : Status)
+    (last : Streams) : Type 0 where
   pub fault : DriveFault
   pub replies : Option (List ℕ)
-  pub broken : IsBrokenDrive start orders fault first (record last { out = replies })
+  pub broken : IsBrokenDrive start orders moment fault first (record last { out = replies })
   pub told : IsFaultTold fault status replies last.out
 
 -- how a drive over these streams ended
-abbrev pub IsDriveAnswer : Start → List Contents → Streams → Status → Streams → Type 0
-IsDriveAnswer start orders first status last =
-    EndsWell start orders first status last ⊎ EndsBroken start orders first status last
+abbrev pub IsDriveAnswer : Start → List Contents → ℕ → Streams → Status → Streams → Type 0
+IsDriveAnswer start orders moment first status last =
+    EndsWell start orders moment first status last ⊎ EndsBroken start orders moment first status last

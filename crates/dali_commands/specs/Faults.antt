@@ -88,6 +88,7 @@ place_line fault place = lines.placed_line (codes "journal") (journal.number_of 
 abbrev pub journal_line : JournalFault → List ℕ
 journal_line journals.Limit = whole_line journals.Limit
 journal_line journals.NoMemory = input_line Memory
+journal_line journals.Header = whole_line journals.Header
 journal_line (journals.Record place) = place_line (journals.Record place) place
 journal_line (journals.Sequence place) = place_line (journals.Sequence place) place
 journal_line (journals.Repeated place) = place_line (journals.Repeated place) place

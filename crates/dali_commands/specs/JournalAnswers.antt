@@ -1,5 +1,6 @@
 -- What `journal` answers and writes.
 use Rattle.std.specs.Prelude.{◌≡◌, ◌⊎◌, ◌<◌, ◌≤◌, ℕ, List, length}
+use Rattle.dali_journal.specs.declared.version.Version.{Version}
 use Rattle.dali_journal.specs.JournalState.{JournalState}
 use Rattle.dali_journal.specs.Loading.{IsLoaded, IsLoadFault}
 use Rattle.dali_text.specs.JournalLines.{journal_text}
@@ -18,9 +19,10 @@ journal_limit = 33554432
 abbrev pub order_limit : ℕ
 order_limit = 100000
 
--- the input is that journal, of which so many bytes count
-abbrev pub IsJournalIn : List ℕ → JournalState → ℕ → Type 0
-IsJournalIn input journal counted = (length input ≤ journal_limit) × IsLoaded order_limit input journal counted
+-- the input is that journal, of which so many bytes count, in this version
+abbrev pub IsJournalIn : List ℕ → JournalState → ℕ → Version → Type 0
+IsJournalIn input journal counted version =
+    (length input ≤ journal_limit) × IsLoaded order_limit input journal counted version
 
 -- why an input is no journal; want of memory may come at any
 abbrev pub IsUnloaded : List ℕ → Fault → Type 0
@@ -32,9 +34,10 @@ IsUnloaded input other = ⊥
 pub record IsJournalReport (input : List ℕ) (status : Status) (text : List ℕ) : Type 0 where
   pub journal : JournalState
   pub counted : ℕ
-  pub loaded : IsJournalIn input journal counted
+  pub version : Version
+  pub loaded : IsJournalIn input journal counted version
   pub status_is : status ≡ Good
-  pub text_is : text ≡ journal_text journal.records counted (length input)
+  pub text_is : text ≡ journal_text version journal.records counted (length input)
 
 -- the status and the text of an input that is none
 pub record IsNoJournal (input : List ℕ) (status : Status) (text : List ℕ) : Type 0 where

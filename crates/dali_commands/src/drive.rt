@@ -15,12 +15,13 @@ use dali_text::{Output, Unwritten};
 use dali_writer::Writer;
 use std::io::Write;
 
-/// Carries out what a journal still asks for, and then the orders one after the other, over streams that haven't
-/// failed. Where that breaks off it writes the fault's line: 1 Journal, 2 Link, 3 Line, 4 End, 6 TooLong, or 20
+/// Carries out what a journal still asks for, and then the orders one after the other, each at this moment, over
+/// streams that haven't failed. Where that breaks off it writes the fault's line: 1 Journal, 2 Link, 3 Line, 4 End, 6 TooLong, or 20
 /// Memory. Where `lines` fails nothing more is written, and it is 7 Out.
 pub fn drive_over<I: Source, L: Sink, J: Sink, W: Write>(
     journal: Journal,
     orders: &[Order],
+    moment: u64,
     link_in: &mut I,
     link_out: &mut L,
     journal_out: &mut J,
@@ -30,14 +31,22 @@ pub fn drive_over<I: Source, L: Sink, J: Sink, W: Write>(
     requires link_out { L.failed link_out.old ≡ false }
     requires link_in { I.failed link_in.old ≡ false }
     requires lines { has_failed lines.old.output ≡ false }
-    ensures answer { IsDriveAnswer (start_at journal) orders.now
+    ensures answer { IsDriveAnswer (start_at journal) orders.now moment
         (shown (J.held journal_out.old) (L.held link_out.old) (I.left link_in.old) (held W.contents lines.old.output))
         result
         (shown (J.held journal_out.new) (L.held link_out.new) (I.left link_in.new) (held W.contents lines.new.output)) }
     ensures unwritten { result ≡ Status.Unwritten ↔ has_failed lines.new.output ≡ true }
 {
     let writer = Writer::new(journal);
-    match drive(writer, orders, link_in, link_out, journal_out, lines) {
+    match drive(
+        writer,
+        orders,
+        moment,
+        link_in,
+        link_out,
+        journal_out,
+        lines,
+    ) {
         Ok(_) => Status::Good,
         Err(fault) => tell_fault(&mut lines.output, fault),
     }

@@ -13,17 +13,26 @@ use std::io::{Read, Write};
 
 /// Carries out the orders of a file over a link, with the journal that another file holds.
 ///
-/// Nothing is sent where an item is refused, where the orders have a fault (11 Json, 12 Document, 13 TooBig), or where
-/// the journal does (13 TooBig, 3 Record, 4 Sequence, 5 Repeated, 6 Full), or at 20 Memory or 21 File. Each of
+/// The moment is kept with each order that begins. A journal that is absent, empty or of version 1 is written anew in
+/// version 2 before a frame is sent. Nothing is sent where an item is refused, where the orders have a fault (11 Json, 12 Document, 13 TooBig), or where
+/// the journal does (13 TooBig, 7 Header, 3 Record, 4 Sequence, 5 Repeated, 6 Full), or at 20 Memory or 21 File. Each of
 /// these, each reply, and the fault of a drive has its line in `lines`.
 pub fn drive_files<
     R: Files<File = File> + AllocGlobal,
     I: Read + Drop,
     L: Write + Drop,
     O: Write + Drop,
->(rt: &R, orders: &str, journal: &str, link_in: I, link_out: L, lines: O) -> Status {
+>(rt: &R, orders: &str, journal: &str, moment: u64, link_in: I, link_out: L, lines: O) -> Status {
     match orders_in(rt, orders) {
-        Ok(Ok(found)) => on_journal(rt, journal, found.as_slice(), link_in, link_out, lines),
+        Ok(Ok(found)) => on_journal(
+            rt,
+            journal,
+            found.as_slice(),
+            moment,
+            link_in,
+            link_out,
+            lines,
+        ),
         Ok(Err(refused)) => tell_refused(&mut Output::new(lines), refused.as_slice()),
         Err(hindrance) => told(write_hindrance(&mut Output::new(lines), orders, hindrance)),
     }
@@ -45,11 +54,12 @@ fn on_journal<
     I: Read + Drop,
     L: Write + Drop,
     O: Write + Drop,
->(rt: &R, name: &str, orders: &[Order], link_in: I, link_out: L, lines: O) -> Status {
+>(rt: &R, name: &str, orders: &[Order], moment: u64, link_in: I, link_out: L, lines: O) -> Status {
     match open_journal(rt, name) {
         Ok((file, journal)) => drive_over(
             journal,
             orders,
+            moment,
             &mut StdSource::new(link_in),
             &mut StdSink::new(link_out),
             &mut StdSink::new(file),

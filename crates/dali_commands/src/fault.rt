@@ -46,7 +46,7 @@ pub enum Fault {
     /// The run of a scenario: 1 Limit, 2 NoMemory.
     #[error("{0}")]
     Run(RunFault),
-    /// A journal: 2 NoMemory, or with the place of a record 3 Record, 4 Sequence, 5 Repeated, 6 Full.
+    /// A journal: 2 NoMemory, 7 Header, or with the place of a record 3 Record, 4 Sequence, 5 Repeated, 6 Full.
     #[error("{0}")]
     Journal(JournalFault),
     /// A drive: 1 Journal, 2 Link, 3 Line, 4 End, 5 NoMemory, 6 TooLong, 7 Out.

@@ -94,6 +94,7 @@ fn write_journal_fault<W: Write>(
             write_record_fault(output, JournalFault::Repeated(place), place)
         }
         JournalFault::Full(place) => write_record_fault(output, JournalFault::Full(place), place),
+        JournalFault::Header => write_whole_fault(output, JournalFault::Header),
     }
 }
 

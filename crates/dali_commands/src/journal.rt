@@ -9,7 +9,7 @@ ghost use Rattle.dali_commands.specs.JournalAnswers.{journal_limit};
 use crate::fault::{Fault, Status};
 use crate::fault_lines::write_failure;
 use dali_input::{Input, InputFault, read_input};
-use dali_journal::Journal;
+use dali_journal::{Journal, Version};
 use dali_text::{Output, Unwritten, write_journal};
 use std::alloc::Global;
 use std::io::{Read, Write};
@@ -20,11 +20,11 @@ pub const JOURNAL_LIMIT: u32 = 33_554_432;
 /// The most orders of a journal that a file holds.
 const MOST_ORDERS: u32 = 100_000;
 
-/// Reads a writer's journal, and writes a line for each whole record, the oldest first, then how many
-/// bytes count of all, how many orders were begun, and the standing. The journal may end in a cut
+/// Reads a writer's journal, and writes its version, a line for each whole record, the oldest first, then
+/// how many bytes count of all, how many orders were begun, and the standing. The journal may end in a cut
 /// record, which doesn't count.
 ///
-/// Where the input is no journal it writes the fault alone: 13 TooBig over 33554432 bytes; with the
+/// Where the input is no journal it writes the fault alone: 13 TooBig over 33554432 bytes; 7 Header; with the
 /// place of the record 3 Record, 4 Sequence, 5 Repeated, 6 Full (over 100000 orders); 20 Memory or 21
 /// File.
 ///
@@ -77,8 +77,8 @@ fn write_input<W: Write>(
 {
     let total = input.len();
     match journal_in(alloc, input) {
-        Ok((journal, _)) => {
-            write_journal(output, &journal, journal.bytes(), total)?;
+        Ok((journal, counted, version)) => {
+            write_journal(output, &journal, version, counted, total)?;
             output.flush()?;
             Ok(Status::Good)
         }
@@ -86,16 +86,22 @@ fn write_input<W: Write>(
     }
 }
 
-/// Reads a writer's journal: the journal, how many bytes count, and how many there are.
+/// A journal that was read: its version, how many bytes count, and how many there are.
+#[derive(Drop)]
+pub(crate) struct Found {
+    pub(crate) journal: Journal,
+    pub(crate) version: Version,
+    pub(crate) counted: usize,
+    pub(crate) total: usize,
+}
+
+/// Reads a writer's journal.
 ///
-/// The fault is 13 TooBig over 33554432 bytes; with the place of the record 3 Record, 4 Sequence, 5 Repeated, 6
-/// Full (over 100000 orders); 20 Memory, or 21 File where the reader failed.
-pub(crate) fn read_journal<R: Read>(
-    alloc: Global,
-    input: &mut Input<R>,
-) -> Result<(Journal, usize, usize), Fault>
-    ensures ok { IfOk result (λ found.
-        HasJournal (state_of R.remaining input.old) (state_of R.remaining input.new) found.0 found.1 found.2) }
+/// The fault is 13 TooBig over 33554432 bytes; 7 Header; with the place of the record 3 Record, 4 Sequence, 5
+/// Repeated, 6 Full (over 100000 orders); 20 Memory, or 21 File where the reader failed.
+pub(crate) fn read_journal<R: Read>(alloc: Global, input: &mut Input<R>) -> Result<Found, Fault>
+    ensures ok { IfOk result (λ found. HasJournal (state_of R.remaining input.old) (state_of R.remaining input.new)
+        found.journal found.version found.counted found.total) }
     ensures err { IfErr result (HasNoJournal (state_of R.remaining input.old) (state_of R.remaining input.new)) }
     ensures read { ReadsAtMost journal_limit (state_of R.remaining input.old) (state_of R.remaining input.new) }
 {
@@ -103,7 +109,12 @@ pub(crate) fn read_journal<R: Read>(
         Ok(bytes) => {
             let total = bytes.len();
             match journal_in(alloc, bytes) {
-                Ok((journal, counted)) => Ok((journal, counted, total)),
+                Ok((journal, counted, version)) => Ok(Found {
+                    journal,
+                    version,
+                    counted,
+                    total,
+                }),
                 Err(fault) => Err(fault),
             }
         }
@@ -111,9 +122,9 @@ pub(crate) fn read_journal<R: Read>(
     }
 }
 
-// The journal of an input, and how many bytes of it count.
-fn journal_in(alloc: Global, input: Vec<u8>) -> Result<(Journal, usize), Fault>
-    ensures ok { IfOk result (λ loaded. IsJournalIn input.items loaded.0 loaded.1) }
+// The journal of an input, how many bytes of it count, and its version.
+fn journal_in(alloc: Global, input: Vec<u8>) -> Result<(Journal, usize, Version), Fault>
+    ensures ok { IfOk result (λ loaded. IsJournalIn input.items loaded.0 loaded.1 loaded.2) }
     ensures err { IfErr result (IsUnloaded input.items) }
 {
     if input.len() > JOURNAL_LIMIT as usize {

@@ -1,11 +1,13 @@
 // The file of a journal: opened for one drive alone, read, cut to what counts, and appended to.
 ghost use Rattle.std.specs.Prelude.{ℕ, List, IfOk};
+ghost use Rattle.dali_journal.specs.declared.version.Version.{Version};
 ghost use Rattle.dali_commands.specs.JournalAnswers.{IsJournalIn};
 
 use crate::fault::Fault;
-use crate::journal::read_journal;
+use crate::journal::{Found, read_journal};
 use dali_input::{Input, InputFault};
-use dali_journal::Journal;
+use dali_journal::{Journal, NoMemory, Version};
+use std::alloc::AllocError;
 use std::fs::{File, Files, OpenOptions, TryLockError};
 use std::io::Write;
 use std::{fs, io};
@@ -34,6 +36,18 @@ impl From<io::Error> for Hindrance {
 impl From<InputFault> for Hindrance {
     fn from(cause: InputFault) -> Hindrance {
         Hindrance::Fault(Fault::Input(cause))
+    }
+}
+
+impl From<NoMemory> for Hindrance {
+    fn from(_: NoMemory) -> Hindrance {
+        Hindrance::Fault(Fault::Input(InputFault::Memory))
+    }
+}
+
+impl From<AllocError> for Hindrance {
+    fn from(_: AllocError) -> Hindrance {
+        Hindrance::Fault(Fault::Input(InputFault::Memory))
     }
 }
 
@@ -66,27 +80,33 @@ impl Write for JournalFile {
 }
 
 /// Opens the file of a journal, which is made where there is none, for one drive alone, and loads the journal
-/// that it holds. A record that is cut off at its end is cut away. What counts is on the disk then, also where the
-/// drive that wrote it was stopped before it came so far.
+/// that it holds. The file has it in version 2 then: one that is empty or of version 1 is written anew. A record
+/// that is cut off at its end is cut away. What counts is on the disk, and so is the file's name, also where the drive
+/// that wrote it was stopped before it came so far.
+///
+/// A file that is no regular one is never written anew: where it is empty it gets the header, and where it is of version
+/// 1 it is refused.
 pub fn open_journal<R: Files<File = File> + AllocGlobal>(
     rt: &R,
     name: &str,
 ) -> Result<(JournalFile, Journal), Hindrance>
-    ensures { IfOk result (λ opened. (input : List ℕ) × (counted : ℕ) × IsJournalIn input opened.1 counted) }
+    ensures { IfOk result (λ opened. (input : List ℕ) × (counted : ℕ) × (version : Version)
+        × IsJournalIn input opened.1 counted version) }
 {
     let mut file = locked(rt, name)?;
     let is_regular = file.metadata()?.is_file();
-    let (journal, counted, all) = read_journal(rt.alloc(), &mut Input::new(&mut file))?;
-    if is_regular {
-        if counted < all {
-            file.set_len(counted as u64)?;
-        }
-        file.sync_all()?;
-        if all == 0 {
-            sync_folder(rt, name)?;
-        }
+    if is_regular && !is_named(rt, name, &file)? {
+        return Err(Hindrance::InUse);
     }
-    Ok((JournalFile { file, is_regular }, journal))
+    let found = read_journal(rt.alloc(), &mut Input::new(&mut file))?;
+    if is_regular {
+        let file = in_version_2(rt, name, file, &found)?;
+        sync_folder(rt, name)?;
+        Ok((JournalFile { file, is_regular }, found.journal))
+    } else {
+        begin_stream(rt, &mut file, &found)?;
+        Ok((JournalFile { file, is_regular }, found.journal))
+    }
 }
 
 // Opens a file to read it and to append to it, and locks it for as long as it is open.
@@ -101,6 +121,60 @@ fn locked<R: Files<File = File>>(rt: &R, name: &str) -> Result<File, Hindrance> 
         Err(TryLockError::WouldBlock) => Err(Hindrance::InUse),
         Err(TryLockError::Error(cause)) => Err(Hindrance::System(cause)),
     }
+}
+
+// Whether the name means this file still: another drive may have written it anew between its opening and its lock.
+fn is_named<R: Files<File = File>>(rt: &R, name: &str, file: &File) -> io::Result<bool> {
+    let named = fs::metadata(rt, name)?;
+    let opened = file.metadata()?;
+    Ok(named.len() == opened.len() && named.modified()? == opened.modified()?)
+}
+
+// The file in version 2, on the disk, with no more than what counts.
+fn in_version_2<R: Files<File = File> + AllocGlobal>(
+    rt: &R,
+    name: &str,
+    file: File,
+    found: &Found,
+) -> Result<File, Hindrance> {
+    if found.total == 0 || found.version == Version::One {
+        return written_anew(rt, name, &file, &found.journal);
+    }
+    if found.counted < found.total {
+        file.set_len(found.counted as u64)?;
+    }
+    file.sync_all()?;
+    Ok(file)
+}
+
+// A new file with the journal, which takes the old one's name once it is on the disk. It is locked before that.
+fn written_anew<R: Files<File = File> + AllocGlobal>(
+    rt: &R,
+    name: &str,
+    old: &File,
+    journal: &Journal,
+) -> Result<File, Hindrance> {
+    let path = rt.canonicalize(rt.alloc(), name)?;
+    let shown = path.display();
+    let new_name = format!(in rt.alloc(); "{shown}.new")?;
+    let mut file = locked(rt, new_name.as_str())?;
+    file.set_len(0)?;
+    file.set_permissions(old.metadata()?.permissions())?;
+    file.write_all(&journal.to_bytes(rt.alloc())?)?;
+    file.sync_all()?;
+    fs::rename(rt, new_name.as_str(), &path)?;
+    Ok(file)
+}
+
+// Begins what can't be written anew, as a pipe or a terminal: with the header, where nothing was there.
+fn begin_stream<R: AllocGlobal>(rt: &R, file: &mut File, found: &Found) -> Result<(), Hindrance> {
+    if found.version == Version::One {
+        return Err(Hindrance::System(io::ErrorKind::InvalidInput.into()));
+    }
+    if found.total == 0 {
+        file.write_all(&found.journal.to_bytes(rt.alloc())?)?;
+    }
+    Ok(())
 }
 
 // Waits until the name of a file is on the disk.

@@ -1,4 +1,4 @@
--- Lemmas on objects with one key.
+-- Lemmas on objects with one key, or two.
 use Rattle.std.proofs.Common.{◌≡◌, refl, ◌∙◌, ℕ, Bool, true, false, List, [], ◌∷◌, Option, Some, None}
 use Rattle.std.specs.Prelude.{◌||◌, codes}
 use Rattle.std.specs.Cmp.{first_so, second_so}
@@ -11,8 +11,8 @@ use Rattle.serde_json.specs.Data.{Data, null, boolean, number, string, array, ob
 use Rattle.serde_json.specs.Find.{get, get_member}
 use Rattle.dali_input.specs.declared.fault.InputFault.{InputFault}
 use Rattle.dali_input.specs.Items.{keys_of}
-use Rattle.dali_input.specs.Scenario.{PlannedEvent, submit, steps, stop, power, IsEvent, most_events}
-use Rattle.dali_input.specs.Values.{IsWhole, IsNoReading, has_only_keys}
+use Rattle.dali_input.specs.Scenario.{PlannedEvent, submit, steps, stop, power, IsEvent, most_events, most_moment}
+use Rattle.dali_input.specs.Values.{IsWhole, IsOptional, IsNoReading, has_only_keys}
 use Rattle.dali_input.proofs.ValueLemmas.{needs}
 
 -- one key isn't found by the other
@@ -45,6 +45,30 @@ only_key key other (number n) value apart only there = cc
 only_key key other (string s) value apart only there = cc
 only_key key other (array items) value apart only there = cc
 
+-- nor has an object with two keys alone
+only_of_two : (key one two : List ℕ) (members : Members) → AreOther key one → AreOther key two
+    → list_all (λ k. list_any (bytes_eq k) (one ∷ two ∷ [])) (keys_of members) ≡ true → get_member key members ≡ None
+only_of_two key one two no_members apart also only = refl
+only_of_two key one two (member k value members) apart also only =
+    by (bytes_eq k one) refl (first_so (bytes_eq k one || (bytes_eq k two || false)) _ only)
+    (only_of_two key one two members apart also (second_so (bytes_eq k one || (bytes_eq k two || false)) _ only))
+  where
+    by : (b : Bool) → bytes_eq k one ≡ b → (b || (bytes_eq k two || false)) ≡ true → get_member key members ≡ None
+        → get_member key (member k value members) ≡ None
+    by true e is none =
+        rw ((bytes_eq-Decides k one).0 e) (apart (get_member key members) (Some value) ∙ none)
+    by false e is none = rw (same_key k two is) (also (get_member key members) (Some value) ∙ none)
+
+only_two : (key one two : List ℕ) (json value : Data) → AreOther key one → AreOther key two
+    → has_only_keys (one ∷ two ∷ []) json ≡ true → get key json ≡ Some value → ⊥
+only_two key one two (object members) value apart also only there =
+    let none = only_of_two key one two members apart also only in cc
+only_two key one two null value apart also only there = cc
+only_two key one two (boolean b) value apart also only there = cc
+only_two key one two (number n) value apart also only there = cc
+only_two key one two (string s) value apart also only there = cc
+only_two key one two (array items) value apart also only there = cc
+
 -- an event whose number of steps can't be read
 pub no_steps : (json value : Data) (fault : InputFault) → get (codes "steps") json ≡ Some value
     → IsNoReading (IsWhole 1 most_events value) fault
@@ -52,8 +76,9 @@ pub no_steps : (json value : Data) (fault : InputFault) → get (codes "steps") 
 no_steps json value fault there none = needs (IsWhole 1 most_events value) (IsEvent json) fault by none
   where
     by : (event : PlannedEvent) → IsEvent json event → (count : ℕ) × IsWhole 1 most_events value count
-    by (submit order) (only, is) =
-        absurd (only_key (codes "steps") (codes "submit") json value (λ found v. refl) only there)
+    by (submit order moment) (only, is, since) =
+        absurd (only_two (codes "steps") (codes "submit") (codes "moment") json value (λ found v. refl) (λ found v. refl)
+        only there)
     by (stop bytes) (only, is) =
         absurd (only_key (codes "steps") (codes "stop") json value (λ found v. refl) only there)
     by (power address) (only, is) =
@@ -67,8 +92,9 @@ pub no_bytes : (json value : Data) (fault : InputFault) → get (codes "stop") j
 no_bytes json value fault there none = needs (IsWhole 0 65535 value) (IsEvent json) fault by none
   where
     by : (event : PlannedEvent) → IsEvent json event → (bytes : ℕ) × IsWhole 0 65535 value bytes
-    by (submit order) (only, is) =
-        absurd (only_key (codes "stop") (codes "submit") json value (λ found v. refl) only there)
+    by (submit order moment) (only, is, since) =
+        absurd (only_two (codes "stop") (codes "submit") (codes "moment") json value (λ found v. refl) (λ found v. refl)
+        only there)
     by (steps count) (only, is) =
         absurd (only_key (codes "stop") (codes "steps") json value (λ found v. refl) only there)
     by (stop bytes) (only, is) = (bytes, rw there at is)
@@ -82,10 +108,28 @@ pub no_address : (json value : Data) (fault : InputFault) → get (codes "power"
 no_address json value fault there none = needs (IsWhole 0 63 value) (IsEvent json) fault by none
   where
     by : (event : PlannedEvent) → IsEvent json event → (address : ℕ) × IsWhole 0 63 value address
-    by (submit order) (only, is) =
-        absurd (only_key (codes "power") (codes "submit") json value (λ found v. refl) only there)
+    by (submit order moment) (only, is, since) =
+        absurd (only_two (codes "power") (codes "submit") (codes "moment") json value (λ found v. refl) (λ found v. refl)
+        only there)
     by (steps count) (only, is) =
         absurd (only_key (codes "power") (codes "steps") json value (λ found v. refl) only there)
     by (stop bytes) (only, is) =
         absurd (only_key (codes "power") (codes "stop") json value (λ found v. refl) only there)
     by (power address) (only, is) = (address, rw there at is)
+
+-- one whose moment can't be read
+pub no_moment : (json order : Data) (fault : InputFault) → get (codes "submit") json ≡ Some order
+    → IsNoReading (IsOptional (IsWhole 0 most_moment) 0 (get (codes "moment") json)) fault
+    → IsNoReading (IsEvent json) fault
+no_moment json order fault there none =
+    needs (IsOptional (IsWhole 0 most_moment) 0 (get (codes "moment") json)) (IsEvent json) fault by none
+  where
+    by : (event : PlannedEvent) → IsEvent json event
+        → (moment : ℕ) × IsOptional (IsWhole 0 most_moment) 0 (get (codes "moment") json) moment
+    by (submit source moment) (only, is, since) = (moment, since)
+    by (steps count) (only, is) =
+        absurd (only_key (codes "submit") (codes "steps") json order (λ found v. refl) only there)
+    by (stop bytes) (only, is) =
+        absurd (only_key (codes "submit") (codes "stop") json order (λ found v. refl) only there)
+    by (power address) (only, is) =
+        absurd (only_key (codes "submit") (codes "power") json order (λ found v. refl) only there)

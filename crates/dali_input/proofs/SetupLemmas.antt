@@ -86,7 +86,7 @@ first_unit_fault plans i number plan units fault within is counted made refused 
 events_more : (front : List PlannedEvent) (last : PlannedEvent) (all more : List Event) → AreEvents front all
     → AreEvents (last ∷ []) more → AreEvents (front ++ last ∷ []) (all ++ more)
 events_more [] last all more are is = rw are is
-events_more (submit source ∷ front) last all more are is =
+events_more (submit source moment ∷ front) last all more are is =
     (are.0, are.1 ++ more, are.2, events_more front last are.1 more are.3 is, ap (λ es. es ++ more) are.4)
 events_more (steps count ∷ front) last all more are is = (
   are.0 ++ more,
@@ -109,13 +109,14 @@ more_events plans i plan all more last within is plans_it are adds =
 
 -- an order is refused, and those before it aren't
 pub first_order_fault : (plans : List EventPlan) (i number : ℕ) (plan : EventPlan) (all : List Event) (source : Data)
-    (fault : ItemFault)
+    (moment : ℕ) (fault : ItemFault)
     → i < length plans → plan ≡ get_or plans i plan → number ≡ i
-    → event_of plan ≡ submit source → AreEvents (map event_of (take i plans)) all → IsFaultOf source fault
+    → event_of plan ≡ submit source moment → AreEvents (map event_of (take i plans)) all → IsFaultOf source fault
     → IsFirstOrderFault (map event_of plans) (number + 1) fault
-first_order_fault plans i number plan all source fault within is counted submits are refused = record {
+first_order_fault plans i number plan all source moment fault within is counted submits are refused = record {
   front = map event_of (take i plans);
   source = source;
+  moment = moment;
   behind = map event_of (drop (suc i) plans);
   split =
       subst (λ e. map event_of plans ≡ map event_of (take i plans) ++ e ∷ map event_of (drop (suc i) plans)) submits

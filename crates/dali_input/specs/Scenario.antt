@@ -70,18 +70,23 @@ pub record IsFate (json : Data) (plan : FatePlan) : Type 0 where
 
 -- ---- events
 
--- an order is submitted, whatever stands there; so many steps are made; the program stops, and so many bytes of a
+-- an order is submitted, whatever stands there, at a moment; so many steps are made; the program stops, and so many bytes of a
 -- record reach the journal; or the unit at an address loses its power
 pub data PlannedEvent : Type 0 where
-  submit : Data → PlannedEvent
+  submit : Data → ℕ → PlannedEvent
   steps : ℕ → PlannedEvent
   stop : ℕ → PlannedEvent
   power : ℕ → PlannedEvent
 
--- an object with one key
+-- the greatest moment
+abbrev pub most_moment : ℕ
+most_moment = 2 ^ 64 - 1
+
+-- an object with one key, or with an order and its moment
 abbrev pub IsEvent : Data → PlannedEvent → Type 0
-IsEvent json (submit order) =
-    (has_only_keys (codes "submit" ∷ []) json ≡ true) × (get (codes "submit") json ≡ Some order)
+IsEvent json (submit order moment) =
+    (has_only_keys (codes "submit" ∷ codes "moment" ∷ []) json ≡ true) × (get (codes "submit") json ≡ Some order)
+    × IsOptional (IsWhole 0 most_moment) 0 (get (codes "moment") json) moment
 IsEvent json (steps count) = (has_only_keys (codes "steps" ∷ []) json ≡ true)
     × IsRequired (IsWhole 1 most_events) (get (codes "steps") json) count
 IsEvent json (stop bytes) = (has_only_keys (codes "stop" ∷ []) json ≡ true)
@@ -106,7 +111,7 @@ pub record IsScenario (json : Data) (planned : Planned) : Type 0 where
 
 -- how many events an event stands for
 abbrev pub event_count : PlannedEvent → ℕ
-event_count (submit order) = 1
+event_count (submit order moment) = 1
 event_count (steps count) = count
 event_count (stop bytes) = 1
 event_count (power address) = 1
@@ -123,7 +128,7 @@ unit_planned plan =
     record { address = plan.address; bank = plan.bank.items; fixed = plan.fixed.items; dtrs = plan.dtrs }
 
 abbrev pub event_of : EventPlan → PlannedEvent
-event_of (Submit order) = submit (view order.now)
+event_of (Submit order moment) = submit (view order.now) moment
 event_of (Steps count) = steps count
 event_of (Stop bytes) = stop bytes
 event_of (Power address) = power address

@@ -65,8 +65,8 @@ fates_of plans = flat_map (λ plan. replicate plan.times plan.fate) plans
 -- the events: a submission for an order, as many steps as are made, a stop for a stop, a loss of power for one
 abbrev pub AreEvents : List PlannedEvent → List Event → Type 0
 AreEvents [] all = all ≡ []
-AreEvents (submit source ∷ planned) all = (order : Contents) × (rest : List Event)
-    × IsOrderOf source order × AreEvents planned rest × (all ≡ events.Submit order ∷ rest)
+AreEvents (submit source moment ∷ planned) all = (order : Contents) × (rest : List Event)
+    × IsOrderOf source order × AreEvents planned rest × (all ≡ events.Submit order moment ∷ rest)
 AreEvents (steps count ∷ planned) all =
     (rest : List Event) × AreEvents planned rest × (all ≡ replicate count events.Step ++ rest)
 AreEvents (stop bytes ∷ planned) all = (rest : List Event) × AreEvents planned rest × (all ≡ events.Stop bytes ∷ rest)
@@ -77,8 +77,9 @@ AreEvents (power address ∷ planned) all =
 pub record IsFirstOrderFault (planned : List PlannedEvent) (number : ℕ) (fault : ItemFault) : Type 0 where
   pub front : List PlannedEvent
   pub source : Data
+  pub moment : ℕ
   pub behind : List PlannedEvent
-  pub split : planned ≡ front ++ submit source ∷ behind
+  pub split : planned ≡ front ++ submit source moment ∷ behind
   pub counted : number ≡ length front + 1
   pub accepted : (all : List Event) × AreEvents front all
   pub refused : IsFaultOf source fault

@@ -4,6 +4,7 @@ ghost use Rattle.std.specs.List.{AllByRecursion, Contains, sum_by};
 ghost use Rattle.serde_json.specs.View.{view};
 ghost use Rattle.dali_bank.specs.Blank.{blank_bank};
 ghost use Rattle.dali_input.specs.Values.{IsWhole, IsArrayOf, IsRequired, IsOptional, IsNoReading, value_if_any};
+ghost use Rattle.dali_input.specs.Scenario.{most_moment};
 ghost use Rattle.dali_input.specs.Scenario.{AreBytes, AreDtrs, AreLost, IsBankText, IsBoolean, IsEvent, IsFate};
 ghost use Rattle.dali_input.specs.Scenario.{IsScenario, IsSmall, IsUnit, event_count, event_of, most_events};
 ghost use Rattle.dali_input.specs.Scenario.{planned_of, unit_planned};
@@ -47,8 +48,8 @@ pub struct FatePlan {
 /// An event of a scenario (profile).
 #[derive(Clone, Copy, Drop)]
 pub enum EventPlan<'a> {
-    /// An order is submitted: what stands there.
-    Submit(&'a Json),
+    /// An order is submitted, what stands there, at a moment.
+    Submit(&'a Json, u64),
     /// So many steps are made, 1 to 20000.
     Steps(u32),
     /// The program stops, and at most so many bytes of the record that was to be kept reach the journal.
@@ -63,7 +64,7 @@ impl EventPlan<'_> {
         ensures { result ≡ event_count (event_of self.now) }
     {
         match self {
-            EventPlan::Submit(_order) => 1,
+            EventPlan::Submit(_order, _moment) => 1,
             EventPlan::Steps(count) => u64::from(*count),
             EventPlan::Stop(_bytes) => 1,
             EventPlan::Power(_address) => 1,
@@ -223,15 +224,28 @@ fn boolean_in(json: Option<&Json>) -> Result<bool, InputFault>
     }
 }
 
+// The moment at which an order is submitted: 0 where nothing stands there.
+fn moment_in(json: Option<&Json>) -> Result<u64, InputFault>
+    ensures ok { IfOk result (IsOptional (IsWhole 0 most_moment) 0 (value_if_any json.entry)) }
+    ensures err { IfErr result (IsNoReading (IsOptional (IsWhole 0 most_moment) 0 (value_if_any json.entry))) }
+    ensures document { IfErr result (λ fault. fault ≡ InputFault.Document) }
+{
+    match json {
+        Some(json) => whole_within(json, 0, u64::MAX),
+        None => Ok(0),
+    }
+}
+
 // What an event's object says.
 fn event_plan(json: &Json) -> Result<EventPlan<'_>, InputFault>
     ensures ok { IfOk result (λ plan. IsEvent (view json.now) (event_of plan)) }
     ensures err { IfErr result (IsNoReading (IsEvent (view json.now))) }
     ensures document { IfErr result (λ fault. fault ≡ InputFault.Document) }
 {
-    if has_only_keys(json, &["submit"]) {
+    if has_only_keys(json, &["submit", "moment"]) {
         if let Some(order) = json.get("submit") {
-            return Ok(EventPlan::Submit(order));
+            let moment = moment_in(json.get("moment"))?;
+            return Ok(EventPlan::Submit(order, moment));
         }
     }
     if has_only_keys(json, &["steps"]) {

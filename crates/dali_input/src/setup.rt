@@ -147,7 +147,6 @@ fn push_fates(fates: &mut Vec<Fate>, fate: Fate, times: u32) -> Result<(), Alloc
 }
 
 // The events.
-#[tactic(auto, using(crate::proofs::SetupLemmas::first_order_fault))]
 fn events_of(alloc: Global, plans: &[EventPlan<'_>]) -> Result<Vec<Event>, SetupFault>
     ensures ok { IfOk result (λ events. AreEvents (map event_of plans.now) events.items) }
     ensures err { IfErr result (IsOrderRefusal (map event_of plans.now)) }
@@ -157,8 +156,8 @@ fn events_of(alloc: Global, plans: &[EventPlan<'_>]) -> Result<Vec<Event>, Setup
     for plan in plans {
         number += 1;
         match plan {
-            EventPlan::Submit(source) => match order_of(source) {
-                Ok(order) => events.push(Event::Submit(order))?,
+            EventPlan::Submit(source, moment) => match order_of(source) {
+                Ok(order) => events.push(Event::Submit(order, *moment))?,
                 Err(fault) => return Err(SetupFault::Order(number, fault)),
             },
             EventPlan::Steps(count) => push_steps(&mut events, *count)?,

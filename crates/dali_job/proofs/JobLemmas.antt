@@ -1,16 +1,16 @@
 -- Lemmas on what the command line names.
 use Rattle.std.proofs.Common.{◌≡◌, List, ℕ, Bool, Bor, Option, Some, None, IfSome, IfNone, true, false, option_map}
-use Rattle.std.proofs.Common.{codes, refl, ap, sym, ◌∙◌}
+use Rattle.std.proofs.Common.{Result, Ok, Err, codes, refl, ap, sym, subst, ◌∙◌}
 use mathlib.Core.Bool.{beq}
 use Rattle.std.specs.Bool.{Decides}
 use Rattle.std.specs.Option.{option_eq}
-use Rattle.std.specs.Str.Parse.{ParsesBool}
+use Rattle.std.specs.Str.Parse.{ParsesBool, ParsesUnsigned}
 use Rattle.std.proofs.lemmas.Bool.Decides.{Decides-like}
 use Rattle.clap.specs.Words.{App, HasMatchesOf, ReadsOne, Row, Text, first_of, is_simple, is_simple_and_free, one_of}
 use Rattle.clap.specs.Words.{subcommand_of, subcommand_rows_of}
 use Rattle.clap.specs.declared.parser.matches.ArgMatches.{ArgMatches}
 use Rattle.clap.proofs.OnLiterals.{clap_on_literals}
-use Rattle.dali_job.specs.Jobs.{HasFlag, HasValue, IsJob, IsNoJob, bench_app}
+use Rattle.dali_job.specs.Jobs.{HasFlag, HasNumber, HasValue, IsJob, IsNoJob, IsNumber, bench_app}
 use Rattle.dali_job.specs.declared.job.Job.{Job}
 use Rattle.dali_job.specs.declared.job.Job.TheVariants.{Check, Run, Frame, Show, Journal, Drive}
 
@@ -61,6 +61,63 @@ value_none entered command id rows None e first =
     λ value has. no_value (first_of id) command value entered rows has.0 e first has.1 has.2
 value_none entered command id rows (Some x) e first = tt
 
+-- ---- an option's number
+
+number_read : (E : Type 0) (G : Text → Result ℕ E → Type 0) (text : Text) (number : ℕ)
+    → ((t : Text) (r : Result ℕ E) → G t r → ParsesUnsigned 64 10 t r) → G text (Ok number) → IsNumber text number
+number_read E G text number only read =
+    let parsed = only text (Ok number) read in
+    record { numeral = parsed.0.0; value = sym parsed.1; fits = rw parsed.1 parsed.0.1 }
+
+no_number : (E : Type 0) (G : Text → Result ℕ E → Type 0) (text : Text) (error : E) (number : ℕ)
+    → ((t : Text) (r : Result ℕ E) → G t r → ParsesUnsigned 64 10 t r) → G text (Err error) → IsNumber text number → ⊥
+no_number E G text error number only read is = only text (Err error) read (is.numeral, rw is.value is.fits)
+
+same_text : (f : List Row → Option Text) (command text given : Text) (entered : Option (Text × List Row))
+    (rows other : List Row)
+    → entered ≡ Some (command, rows) → f rows ≡ Some text
+    → entered ≡ Some (command, other) → f other ≡ Some given → given ≡ text
+same_text f command text given entered rows other e is e' is' =
+    let second : Option (Text × List Row) → Option (List Row) = option_map (λ p. p.1) in
+    let same : Some rows ≡ Some other = ap second (sym e ∙ e') in
+    cc
+
+-- what `get_one` reads of an option's text as a `u64` is the option's number
+pub number_found : (E : Type 0) (G : Text → Result ℕ E → Type 0) (entered : Option (Text × List Row))
+    (command id : Text) (rows : List Row) (o : Option ℕ)
+    → ((t : Text) (r : Result ℕ E) → G t r → ParsesUnsigned 64 10 t r)
+    → entered ≡ Some (command, rows)
+    → (one_of id rows ≡ None → o ≡ None) → ((t : Text) → one_of id rows ≡ Some t → ReadsOne G t o)
+    → IfSome o (HasNumber entered command id)
+number_found E G entered command id rows o only e none value = found (one_of id rows) o refl none value
+  where
+    found : (text : Option Text) (o : Option ℕ) → one_of id rows ≡ text → (text ≡ None → o ≡ None)
+        → ((t : Text) → text ≡ Some t → ReadsOne G t o) → IfSome o (HasNumber entered command id)
+    found text None is none value = tt
+    found None (Some n) is none value = let clash : Some n ≡ None = none refl in cc
+    found (Some t) (Some n) is none value = (rows, t, e, is, number_read E G t n only (value t refl))
+
+pub number_none : (E : Type 0) (G : Text → Result ℕ E → Type 0) (entered : Option (Text × List Row))
+    (command id : Text) (rows : List Row) (o : Option ℕ)
+    → ((t : Text) (r : Result ℕ E) → G t r → ParsesUnsigned 64 10 t r)
+    → entered ≡ Some (command, rows)
+    → ((t : Text) → one_of id rows ≡ Some t → ReadsOne G t o)
+    → IfNone o ((number : ℕ) → ¬ HasNumber entered command id number)
+number_none E G entered command id rows o only e value = not_found (one_of id rows) o refl value
+  where
+    not_found : (text : Option Text) (o : Option ℕ) → one_of id rows ≡ text
+        → ((t : Text) → text ≡ Some t → ReadsOne G t o)
+        → IfNone o ((number : ℕ) → ¬ HasNumber entered command id number)
+    not_found text (Some n) is value = tt
+    not_found None None is value =
+        λ number has. no_value (one_of id) command has.1 entered rows has.0 e is has.2 has.3
+    not_found (Some t) None is value = λ number has.
+        let same = same_text (one_of id) command t has.1 entered rows has.0 e is has.2 has.3 in
+        let (error, read) = value t refl in
+        no_number E G t error number only read (subst (λ given. IsNumber given number) same has.4)
+
+-- ---- jobs
+
 -- where no command has its value, the parse entered no job's
 pub no_job : (entered : Option (Text × List Row))
     → ((value : Text) → ¬ HasValue entered (codes "check") (codes "ORDERS") value)
@@ -68,20 +125,20 @@ pub no_job : (entered : Option (Text × List Row))
     → ((value : Text) → ¬ HasValue entered (codes "frame") (codes "HEX") value)
     → ((value : Text) → ¬ HasValue entered (codes "show") (codes "HEXFILE") value)
     → ((value : Text) → ¬ HasValue entered (codes "journal") (codes "FILE") value)
-    → ((orders journal : Bor Text) → ¬ IsJob entered (Drive orders journal)) → IsNoJob entered
+    → ((orders journal : Bor Text) (moment : ℕ) → ¬ IsJob entered (Drive orders journal moment)) → IsNoJob entered
 no_job entered no_orders no_scenario no_digits no_dump no_records no_drive (Check orders) = no_orders orders.now
 no_job entered no_orders no_scenario no_digits no_dump no_records no_drive (Run scenario _) =
     λ named. no_scenario scenario.now named.0
 no_job entered no_orders no_scenario no_digits no_dump no_records no_drive (Frame digits) = no_digits digits.now
 no_job entered no_orders no_scenario no_digits no_dump no_records no_drive (Show dump) = no_dump dump.now
 no_job entered no_orders no_scenario no_digits no_dump no_records no_drive (Journal records) = no_records records.now
-no_job entered no_orders no_scenario no_digits no_dump no_records no_drive (Drive orders journal) =
-    no_drive orders journal
+no_job entered no_orders no_scenario no_digits no_dump no_records no_drive (Drive orders journal moment) =
+    no_drive orders journal moment
 
 -- the same of what may be no job
 pub no_job_in : (entered : Option (Text × List Row)) (found : Option Job)
-    → (((orders journal : Bor Text) → ¬ IsJob entered (Drive orders journal)) → IsNoJob entered)
-    → IfNone found ((orders journal : Bor Text) → ¬ IsJob entered (Drive orders journal))
+    → (((orders journal : Bor Text) (moment : ℕ) → ¬ IsJob entered (Drive orders journal moment)) → IsNoJob entered)
+    → IfNone found ((orders journal : Bor Text) (moment : ℕ) → ¬ IsJob entered (Drive orders journal moment))
     → IfNone found (IsNoJob entered)
 no_job_in entered None others none = others none
 no_job_in entered (Some job) others none = tt

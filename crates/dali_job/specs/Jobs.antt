@@ -1,9 +1,11 @@
 -- The command line, and what it asks for.
-use Rattle.std.specs.Prelude.{◌≡◌, List, Option, Some, codes, true}
+use Rattle.std.specs.Prelude.{◌≡◌, ◌<◌, ◌^◌, ℕ, List, [], ◌∷◌, Option, Some, codes, true}
 use Rattle.std.specs.Bool.{Decides}
+use Rattle.std.specs.Str.Parse.{IsNumeral, digits_value, without_leading_plus}
 use Rattle.clap.specs.Words.{App, Row, Rule, Text, first_of, new_app, new_rule, one_of, subcommand_of, with_rule}
 use Rattle.clap.specs.Words.{with_subcommand}
 use Rattle.clap.specs.declared.builder.ArgAction.TheVariants.{Set, SetTrue}
+use Rattle.clap.specs.declared.builder.ValueParser.TheVariants.{Unsigned}
 use Rattle.dali_job.specs.declared.job.Job.{Job}
 use Rattle.dali_job.specs.declared.job.Job.TheVariants.{Check, Run, Frame, Show, Journal, Drive}
 
@@ -14,6 +16,16 @@ value_rule id = record (new_rule id) { required = true; action = Some Set }
 -- a flag under its own name
 abbrev pub flag_rule : Text → Rule
 flag_rule id = record (new_rule id) { long = Some id; action = Some SetTrue }
+
+-- an option under its own name, which takes a number of a `u64`, and has this one where it isn't given
+abbrev pub number_rule : Text → Text → Rule
+number_rule id missing = record (new_rule id) {
+  long = Some id;
+  action = Some Set;
+  value_names = 1;
+  defaults = missing ∷ [];
+  parser = Some (Unsigned 0 18446744073709551615);
+}
 
 -- a command with one argument
 abbrev pub command_app : Text → Text → App
@@ -27,9 +39,10 @@ top_app = let app = new_app (codes "dali_bench") in record app { top = record ap
 abbrev pub run_app : App
 run_app = with_rule (command_app (codes "run") (codes "SCENARIO")) (flag_rule (codes "frames"))
 
--- the command that drives, with its two files
+-- the command that drives, with its two files, and the moment, which is 0 where it isn't given
 abbrev pub drive_app : App
-drive_app = with_rule (command_app (codes "drive") (codes "ORDERS")) (value_rule (codes "JOURNAL"))
+drive_app = let files = with_rule (command_app (codes "drive") (codes "ORDERS")) (value_rule (codes "JOURNAL")) in
+    with_rule files (number_rule (codes "moment") (codes "0"))
 
 -- the program's commands and their arguments, as `clap` sees them
 abbrev pub bench_app : App
@@ -50,7 +63,18 @@ abbrev pub HasFlag : Option (Text × List Row) → Text → Text → Type 0
 HasFlag entered command id =
     (rows : List Row) × (entered ≡ Some (command, rows)) × (one_of id rows ≡ Some (codes "true"))
 
--- the job is the command that a parse entered, with its values and flags
+-- the text is the number in decimal digits, as a `u64` is read: a plus may stand before them
+pub record IsNumber (text : Text) (number : ℕ) : Type 0 where
+  pub numeral : IsNumeral 10 (without_leading_plus text)
+  pub value : digits_value 10 (without_leading_plus text) ≡ number
+  pub fits : number < 2 ^ 64
+
+-- a parse entered the command, and its option has the number
+abbrev pub HasNumber : Option (Text × List Row) → Text → Text → ℕ → Type 0
+HasNumber entered command id number = (rows : List Row) × (text : Text) × (entered ≡ Some (command, rows))
+    × (one_of id rows ≡ Some text) × IsNumber text number
+
+-- the job is the command that a parse entered, with its values, flags and numbers
 abbrev pub IsJob : Option (Text × List Row) → Job → Type 0
 IsJob entered (Check orders) = HasValue entered (codes "check") (codes "ORDERS") orders.now
 IsJob entered (Run scenario single_frames) =
@@ -59,9 +83,10 @@ IsJob entered (Run scenario single_frames) =
 IsJob entered (Frame digits) = HasValue entered (codes "frame") (codes "HEX") digits.now
 IsJob entered (Show dump) = HasValue entered (codes "show") (codes "HEXFILE") dump.now
 IsJob entered (Journal records) = HasValue entered (codes "journal") (codes "FILE") records.now
-IsJob entered (Drive orders journal) =
+IsJob entered (Drive orders journal moment) =
     HasValue entered (codes "drive") (codes "ORDERS") orders.now
     × HasValue entered (codes "drive") (codes "JOURNAL") journal.now
+    × HasNumber entered (codes "drive") (codes "moment") moment
 
 -- no job is that of the command that a parse entered
 abbrev pub IsNoJob : Option (Text × List Row) → Type 0

@@ -2,13 +2,13 @@ ghost use Rattle.std.specs.Prelude.{◌≡◌, ◌⊎◌, List, ℕ, IfOk, IfErr
 ghost use Rattle.clap.specs.declared.builder.command.Command.TheViews.{out-Command as fields_of};
 ghost use Rattle.std.specs.Bool.{Decides};
 ghost use Rattle.clap.specs.Words.{HasKind, app_of, fault_of, subcommand_rows_of};
-ghost use Rattle.dali_job.specs.Jobs.{HasFlag, HasValue, IsJob, IsJobOf, IsNoJob, NamesNoJob, bench_app};
-ghost use Rattle.dali_job.specs.Jobs.{command_app, drive_app, run_app};
+ghost use Rattle.dali_job.specs.Jobs.{HasFlag, HasNumber, HasValue, IsJob, IsJobOf, IsNoJob, NamesNoJob};
+ghost use Rattle.dali_job.specs.Jobs.{bench_app, command_app, drive_app, run_app};
 ghost use Rattle.dali_job.specs.declared.job.Job.TheVariants.{Drive};
 ghost use Rattle.std.specs.Borrow.{Bor};
 
 use clap::error::ErrorKind;
-use clap::{Arg, ArgAction, ArgMatches, Command, Error};
+use clap::{Arg, ArgAction, ArgMatches, Command, Error, value_parser};
 use std::alloc::{AllocError, Global};
 
 /// What the command line asks for.
@@ -28,10 +28,12 @@ pub enum Job<'a> {
     Show(&'a str),
     /// To print the records of a journal.
     Journal(&'a str),
-    /// To carry out a file of orders over a link, with the journal of a file.
+    /// To carry out a file of orders over a link, with the journal of a file. `moment` is kept with
+    /// each order that begins.
     Drive {
         orders: &'a str,
         journal: &'a str,
+        moment: u64,
     },
 }
 
@@ -60,7 +62,7 @@ const FRAMES_HELP: &str = "Prints a line for each frame, with its answer";
 
 const RUN_FAULTS: &str = "\
 Keys of a unit: address, bank, fixed, dtr; of a fate: times, lost, answer_lost, refuse;
-of an event: submit, steps, stop or power.
+of an event: submit with or without moment, steps, stop or power.
 Faults of the file: 11 Json, 12 Document (an unknown key, or another form), 13 TooBig (over 16777216
 bytes, 20000 events or 20000 fates), 20 Memory, 21 File (can't be opened or read).
 Faults of a unit: 1 Address (over 63), 2 Size (not 17 to 255 bytes, or 00h isn't the last location),
@@ -94,7 +96,8 @@ const FILE_HELP: &str = "The journal's bytes; /dev/stdin for standard input";
 const JOURNAL_FAULTS: &str = "\
 Faults of the journal, with the place of the record, counted from 0: 3 Record (no record stands there),
 4 Sequence (the records before don't allow it), 5 Repeated (its order number was there),
-6 Full (over 100000 orders). A record that is cut off at the end doesn't count, and is no fault.
+6 Full (over 100000 orders); without a place 7 Header (the first byte is 44h, and no whole header stands there).
+A record that is cut off at the end doesn't count, and is no fault.
 Faults of the file: 13 TooBig (over 33554432 bytes), 20 Memory, 21 File (can't be opened or read).
 Exit status: 0 printed, 1 refused, 2 a file, the memory or the output failed.";
 
@@ -105,12 +108,16 @@ const DRIVE_ORDERS_HELP: &str = "A JSON array of orders, as for `check`";
 
 const DRIVE_JOURNAL_HELP: &str = "The writer's journal, which is made where there is none";
 
+const DRIVE_MOMENT_HELP: &str =
+    "A whole number that is kept with each order that begins, as the seconds since 1970";
+
 const DRIVE_FAULTS: &str = "\
 Standard output has a line for each frame, four hexadecimal digits. For each, one line is read from standard
 input: two hexadecimal digits, or -- for no answer. Replies and faults go to standard error.
 Nothing is sent where an item is refused, with the faults of `check`, or where a file has a fault:
 of ORDERS 11 Json, 12 Document, 13 TooBig (over 16777216 bytes), of JOURNAL 13 TooBig (over 33554432 bytes)
-and those of `journal`; 20 Memory, 21 File (can't be opened, read or synced, or another drive has the journal).
+and those of `journal`; 20 Memory, 21 File (can't be opened, read, written anew or synced, or another drive has
+the journal). A journal that is empty or of version 1 is written anew, in version 2, before anything is sent.
 Faults of a drive: 1 Journal (can't be written), 2 Link (can't be read or written), 3 Line (no answer),
 4 End (no more answers), 6 TooLong (over 8 bytes in a line), 7 Out (standard error can't be written).
 After a fault the same command goes on from the journal.
@@ -167,15 +174,17 @@ fn job_in<'a>(matches: &ArgMatches<'a>) -> Option<Job<'a>>
 fn drive_in<'a>(matches: &ArgMatches<'a>) -> Option<Job<'a>>
     ensures named { IfSome result (IsJob (subcommand_rows_of matches.now)) }
     ensures none { IfNone result
-        ((orders journal : Bor (List ℕ)) → ¬ IsJob (subcommand_rows_of matches.now) (Drive orders journal)) }
+        ((orders journal : Bor (List ℕ)) (moment : ℕ)
+        → ¬ IsJob (subcommand_rows_of matches.now) (Drive orders journal moment)) }
 {
-    let Some(orders) = value_of(matches, "drive", "ORDERS") else {
-        return None;
-    };
-    match value_of(matches, "drive", "JOURNAL") {
-        Some(journal) => Some(Job::Drive { orders, journal }),
-        None => None,
-    }
+    let orders = value_of(matches, "drive", "ORDERS")?;
+    let journal = value_of(matches, "drive", "JOURNAL")?;
+    let moment = number_of(matches, "drive", "moment")?;
+    Some(Job::Drive {
+        orders,
+        journal,
+        moment,
+    })
 }
 
 // The value of a command's argument, where a parse entered that command.
@@ -186,6 +195,18 @@ fn value_of<'a>(matches: &ArgMatches<'a>, command: &str, id: &str) -> Option<&'a
 {
     match matches.subcommand_matches(command) {
         Some(found) => found.get_str(id),
+        None => None,
+    }
+}
+
+// The number that a command's option has, where a parse entered that command.
+fn number_of(matches: &ArgMatches<'_>, command: &str, id: &str) -> Option<u64>
+    ensures found { IfSome result (HasNumber (subcommand_rows_of matches.now) command.now id.now) }
+    ensures none { IfNone result
+        ((number : ℕ) → ¬ HasNumber (subcommand_rows_of matches.now) command.now id.now number) }
+{
+    match matches.subcommand_matches(command) {
+        Some(found) => found.get_one(id),
         None => None,
     }
 }
@@ -273,7 +294,15 @@ fn drive_command<'a>(alloc: Global) -> Result<Command<'a>, AllocError>
         .help(DRIVE_JOURNAL_HELP)
         .required(true)
         .action(ArgAction::Set);
-    let command = command_with(alloc, "drive", "ORDERS", DRIVE_ORDERS_HELP)?.arg(journal)?;
+    let moment = Arg::new(alloc, "moment")
+        .long("moment")
+        .value_name("M")
+        .help(DRIVE_MOMENT_HELP)
+        .value_parser(value_parser!(u64))
+        .default_value("0")
+        .action(ArgAction::Set);
+    let files = command_with(alloc, "drive", "ORDERS", DRIVE_ORDERS_HELP)?.arg(journal)?;
+    let command = files.arg(moment)?;
     Ok(told(command, DRIVE_ABOUT, DRIVE_FAULTS))
 }
 

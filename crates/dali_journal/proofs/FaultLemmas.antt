@@ -141,7 +141,6 @@ one_of version limit bytes f g ones twos rest more are kept also spelled again (
     by (inr (inl before)) = absurd (stands_in version limit (place_behind version ones) twos before.0 ones a.0 f also before.1 a.2)
     by (inr (inr behind)) = absurd (stands_in version limit (place_behind version twos) ones behind.0 twos b.0 g kept behind.1 b.2)
 
-
 faults_same : (a b : Version) (limit : ℕ) (bytes : List ℕ) (f g : JournalFault) (ones twos : List Record)
     (rest more : List ℕ)
     → a ≡ b → AreBytes bytes → AreKept a limit ones → AreKept b limit twos

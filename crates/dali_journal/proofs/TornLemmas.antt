@@ -282,9 +282,13 @@ records_old (newest ∷ older) rest old =
 -- the version of bytes that a journal is loaded from
 torn_version : (version : Version) (first : ℕ) (bytes : List ℕ) (records : List Record) (len : ℕ)
     → IsTorn version (first ∷ bytes) records len → HasVersion version (first ∷ bytes)
-torn_version One first bytes records len torn =
-    (first, bytes, refl, records_old records torn.rest (cut_old torn.rest torn.cut.0 torn.cut.1) first bytes
-    (sym torn.spelled))
+torn_version One first bytes records len torn = (
+  first,
+  bytes,
+  refl,
+  records_old records torn.rest (cut_old torn.rest torn.cut.0 torn.cut.1) first bytes
+      (sym torn.spelled),
+)
 torn_version Two first bytes records len torn = (
   records_spelling Two records ++ torn.rest,
   torn.spelled ∙ append_assoc (header Two) (records_spelling Two records) torn.rest,
@@ -315,9 +319,11 @@ torn_same limit version first bytes records len kept torn other same others coun
     let kept_too = subst (λ (v : Version). AreKept v limit records) same kept in
     let records_is : others ≡ records =
     sym (torn_read other (behind_header other all) others before.in_range there)
-    ∙ torn_read other (behind_header other all) records kept_too.in_range here in
-    (sym same, records_is,
-    again.counts ∙ (λ j. length (journal_spelling (sym same j) (records_is j))) ∙ sym torn.counts)
+    ∙ torn_read other (behind_header other all) records kept_too.in_range here in (
+      sym same,
+      records_is,
+      again.counts ∙ (λ j. length (journal_spelling (sym same j) (records_is j))) ∙ sym torn.counts,
+    )
 
 empty_faultless : (limit : ℕ) (fault : JournalFault) → ¬ HasFault limit [] fault
 empty_faultless limit fault has = by has.version has.of_version

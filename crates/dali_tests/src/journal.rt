@@ -3,33 +3,71 @@ ghost use Rattle.dali_journal.specs.JournalState.{HasRoom, MayBegin};
 
 mod journals;
 mod large;
+mod left_unit;
 mod loading;
 mod reading;
 mod records;
+mod upgrading;
 
 use crate::gtin::GTIN;
 use dali_bank::Order;
-use dali_journal::{Code, Journal, JournalFault, Kept, NoMemory, Record, Standing, laws};
+use dali_journal::{Code, Journal, JournalFault, Kept, NoMemory, Record, Standing, Version, laws};
 use std::alloc::Global;
 use std::process::Abort;
 use std::test::Fail;
 
+// What a journal of version 2 begins with.
+const HEADER: [u8; 4] = [0x44, 0x42, 0x31, 0x02];
+
+// The moment of order 1, 65 53 F1 00 in hexadecimal digits, and that of order 2.
+const MOMENT: u64 = 1_700_000_000;
+
+const LATER: u64 = 1_700_000_009;
+
 // The bytes of order 1 for unit 5 with this GTIN.
-const BEGAN: [u8; 23] = [
+const BEGAN: [u8; 31] = [
+    0x42, 0, 0, 0, 0, 0, 0, 0, 1, 0, 0, 0, 0, 0x65, 0x53, 0xF1, 0x00, 5, 6, 0x03, 0x03, 0x04, 0xA4,
+    0x05, 0xCE, 0x06, 0xEF, 0x07, 0xAD, 0x08, 0xAB,
+];
+
+// The bytes of order 2 for unit 6 with this GTIN.
+const NEXT: [u8; 31] = [
+    0x42, 0, 0, 0, 0, 0, 0, 0, 2, 0, 0, 0, 0, 0x65, 0x53, 0xF1, 0x09, 6, 6, 0x03, 0x03, 0x04, 0xA4,
+    0x05, 0xCE, 0x06, 0xEF, 0x07, 0xAD, 0x08, 0xAB,
+];
+
+// The same in version 1, which has no moments.
+const OLD_BEGAN: [u8; 23] = [
     0x42, 0, 0, 0, 0, 0, 0, 0, 1, 5, 6, 0x03, 0x03, 0x04, 0xA4, 0x05, 0xCE, 0x06, 0xEF, 0x07, 0xAD,
     0x08, 0xAB,
 ];
 
-// The bytes of order 2 for unit 6 with this GTIN.
-const NEXT: [u8; 23] = [
+const OLD_NEXT: [u8; 23] = [
     0x42, 0, 0, 0, 0, 0, 0, 0, 2, 6, 6, 0x03, 0x03, 0x04, 0xA4, 0x05, 0xCE, 0x06, 0xEF, 0x07, 0xAD,
     0x08, 0xAB,
 ];
 
-// The bytes of order 1 for unit 5 with all 115 updates, each to FFh.
-fn longest(alloc: Global) -> Result<Vec<u8>, Fail> {
+// A journal of version 1 in which the first order is silent and the second one has begun.
+const OLD_BOTH: [u8; 48] = [
+    0x42, 0, 0, 0, 0, 0, 0, 0, 1, 5, 6, 0x03, 0x03, 0x04, 0xA4, 0x05, 0xCE, 0x06, 0xEF, 0x07, 0xAD,
+    0x08, 0xAB, 0x45, 0x03, 0x42, 0, 0, 0, 0, 0, 0, 0, 2, 6, 6, 0x03, 0x03, 0x04, 0xA4, 0x05, 0xCE,
+    0x06, 0xEF, 0x07, 0xAD, 0x08, 0xAB,
+];
+
+// What a `Began` of a version has in front of its unit: order 1, and its moment.
+fn front_of(alloc: Global, version: Version) -> Result<Vec<u8>, Fail> {
     let mut bytes = Vec::new(alloc);
-    bytes.extend_from_slice(&[0x42, 0, 0, 0, 0, 0, 0, 0, 1, 5, 115])?;
+    match version {
+        Version::One => bytes.extend_from_slice(&OLD_BEGAN[..9])?,
+        Version::Two => bytes.extend_from_slice(&BEGAN[..17])?,
+    }
+    Ok(bytes)
+}
+
+// The bytes of order 1 for unit 5 with all 115 updates, each to FFh.
+fn longest(alloc: Global, version: Version) -> Result<Vec<u8>, Fail> {
+    let mut bytes = front_of(alloc, version)?;
+    bytes.extend_from_slice(&[5, 115])?;
     for location in 0x03..=0x77u8 {
         if location != 0x11 && location != 0x12 {
             bytes.extend_from_slice(&[location, 0xFF])?;
@@ -64,18 +102,19 @@ fn letter_of(journal: &Journal, order: &Order) -> char {
     }
 }
 
-// Whether the order is kept under that number, and ended so or hasn't.
-fn is_kept(journal: &Journal, id: u64, order: &Order, end: Option<Code>) -> bool {
+// Whether the order is kept under that number since that moment, and ended so or hasn't.
+fn is_kept(journal: &Journal, id: u64, since: u64, order: &Order, end: Option<Code>) -> bool {
+    let is_since_then = journal.moment(id) == Some(since);
     match journal.kept(id) {
         Kept::Absent => false,
-        Kept::Unfinished(begun) => begun.same(order) && end.is_none(),
-        Kept::Ended(ended, code) => ended.same(order) && end == Some(code),
+        Kept::Unfinished(begun) => is_since_then && begun.same(order) && end.is_none(),
+        Kept::Ended(ended, code) => is_since_then && ended.same(order) && end == Some(code),
     }
 }
 
 // Whether nothing is kept under that number.
 fn is_absent(journal: &Journal, id: u64) -> bool {
-    matches!(journal.kept(id), Kept::Absent)
+    journal.moment(id).is_none() && matches!(journal.kept(id), Kept::Absent)
 }
 
 // Makes room, at the second call where the first is refused, and tells whether it was.
@@ -105,9 +144,9 @@ fn bytes_again(alloc: Global, journal: &Journal) -> Result<(Vec<u8>, bool), NoMe
 // and whether there was none.
 fn load_again(alloc: Global, bytes: &[u8]) -> Result<(Journal, usize, bool), JournalFault> {
     match Journal::load(alloc, 2, bytes) {
-        Ok((journal, len)) => Ok((journal, len, false)),
+        Ok((journal, len, _)) => Ok((journal, len, false)),
         Err(JournalFault::NoMemory) => {
-            let (journal, len) = Journal::load(alloc, 2, bytes)?;
+            let (journal, len, _) = Journal::load(alloc, 2, bytes)?;
             Ok((journal, len, true))
         }
         Err(fault) => Err(fault),
@@ -125,14 +164,21 @@ fn begin_both(
 {
     let first = reserve_again(journal, order)?;
     assert!(rt; journal.orders() == 0 && journal.has_room(order));
-    journal.append(Record::Began(order.copy()));
+    journal.append(Record::Began(order.copy(), MOMENT));
     journal.append(Record::Ended(Code::Silent));
     let second = reserve_again(journal, &next)?;
     assert!(rt; journal.orders() == 1 && journal.has_room(&next));
     assert!(rt; letter_of(journal, order) == 'I' && is_absent(journal, 2));
-    assert!(rt; is_kept(journal, 1, order, Some(Code::Silent)));
-    journal.append(Record::Began(next));
+    assert!(rt; is_kept(journal, 1, MOMENT, order, Some(Code::Silent)));
+    journal.append(Record::Began(next, LATER));
     Ok(first || second)
+}
+
+// Whether the journal has the first order, which is silent, and the next one, which has begun, since these moments.
+fn has_both(journal: &Journal, order: &Order, first: u64, second: u64) -> bool {
+    journal.orders() == 2
+        && is_kept(journal, 1, first, order, Some(Code::Silent))
+        && journal.moment(2) == Some(second)
 }
 
 // `./test` runs this one again and again, with each allocation refused in turn. What is refused changes
@@ -143,11 +189,12 @@ fn a_refused_growth_changes_nothing(rt: HostRuntime) -> Result<(), Fail> {
     let mut journal = Journal::new(rt.alloc(), 2)?;
     let in_growth = begin_both(&rt, &mut journal, &order, order_of(2, 6)?)?;
     let (bytes, in_bytes) = bytes_again(rt.alloc(), &journal)?;
-    assert_eq!(rt; bytes.len(), 48);
+    assert_eq!(rt; bytes.len(), 68);
     let (again, len, in_load) = load_again(rt.alloc(), &bytes)?;
-    assert_eq!(rt; (again.orders(), len), (2, 48));
-    assert!(rt; is_kept(&again, 1, &order, Some(Code::Silent)));
-    if in_growth || in_bytes || in_load {
+    assert!(rt; len == 68 && has_both(&again, &order, MOMENT, LATER));
+    let (old, len, in_old) = load_again(rt.alloc(), &OLD_BOTH)?;
+    assert!(rt; len == 48 && has_both(&old, &order, 0, 0));
+    if in_growth || in_bytes || in_load || in_old {
         return Err(NoMemory.into());
     }
     Ok(())
@@ -156,6 +203,8 @@ fn a_refused_growth_changes_nothing(rt: HostRuntime) -> Result<(), Fail> {
 #[test]
 fn laws_hold(_rt: HostRuntime) {
     laws::sentences_are_groups();
+    laws::kept_is_in_the_groups();
+    laws::moments_are_kept();
     laws::no_record_begins_another();
     laws::bytes_begin_with_one_piece();
     laws::torn_journals_have_no_fault();

@@ -1,12 +1,8 @@
-//! Tests of the libraries, the commands among them, through their public calls alone, as whoever uses them calls them.
+//! Tests of the libraries up to the journal through their public calls alone, as whoever uses them calls them.
 #![tactic(auto)]
 
 #[cfg(test)]
 mod bank;
-#[cfg(test)]
-mod commands;
-#[cfg(test)]
-mod drive;
 #[cfg(test)]
 mod frame;
 #[cfg(test)]
@@ -17,5 +13,3 @@ mod gtin;
 mod journal;
 #[cfg(test)]
 mod write;
-#[cfg(test)]
-mod writer;

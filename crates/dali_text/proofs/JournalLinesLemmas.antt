@@ -8,37 +8,38 @@ use Rattle.std.proofs.Math.Seq.{drop-append_seam}
 use Rattle.dali_journal.specs.declared.record.Record.{Record}
 use Rattle.dali_journal.specs.declared.read.Piece.{Piece}
 use Rattle.dali_journal.specs.declared.read.Piece.TheVariants.{Whole}
+use Rattle.dali_journal.specs.declared.version.Version.TheVariants.{Two}
 use Rattle.dali_journal.specs.Reading.{IsRead}
-use Rattle.dali_journal.specs.Spelling.{IsRecord, journal_spelling, spelling}
+use Rattle.dali_journal.specs.Spelling.{IsRecord, records_spelling, spelling}
 use Rattle.dali_journal.proofs.DecodeLemmas.{read_is, some_bytes}
 use Rattle.dali_text.specs.JournalLines.{record_line}
 use Rattle.dali_text.proofs.StreamLemmas.{appends_both}
 
 -- the bytes of a journal, the oldest record first
-pub journal_forward : (records : List Record) → journal_spelling records ≡ flat_map spelling (reverse records)
+pub journal_forward : (records : List Record) → records_spelling Two records ≡ flat_map (spelling Two) (reverse records)
 journal_forward [] = refl
 journal_forward (newest ∷ older) =
-    ap (λ bytes. bytes ++ spelling newest) (journal_forward older) ∙ flat_map_more spelling [] (reverse older) newest
-    ∙ ap (flat_map spelling) (sym (reverse-append (newest ∷ []) older))
+    ap (λ bytes. bytes ++ spelling Two newest) (journal_forward older) ∙ flat_map_more (spelling Two) [] (reverse older) newest
+    ∙ ap (flat_map (spelling Two)) (sym (reverse-append (newest ∷ []) older))
 
 all_apart : {X : Type 0} (P : X → Type 0) (xs : List X) (x : X) → AllByRecursion P xs → P x
     → AllByRecursion P (xs ++ x ∷ [])
 all_apart P [] x all holds = (holds, tt)
 all_apart P (y ∷ xs) x all holds = (all.0, all_apart P xs x all.1 holds)
 
-pub all_forward : (records : List Record) → AllByRecursion IsRecord records → AllByRecursion IsRecord (reverse records)
+pub all_forward : (records : List Record) → AllByRecursion (IsRecord Two) records → AllByRecursion (IsRecord Two) (reverse records)
 all_forward [] all = tt
 all_forward (newest ∷ older) all =
-    subst (AllByRecursion IsRecord) (sym (reverse-append (newest ∷ []) older))
-    (all_apart IsRecord (reverse older) newest (all_forward older all.1) all.0)
+    subst (AllByRecursion (IsRecord Two)) (sym (reverse-append (newest ∷ []) older))
+    (all_apart (IsRecord Two) (reverse older) newest (all_forward older all.1) all.0)
 
 -- so many of the records are told, and the rest of the bytes are those of the others
 pub record Told (records : List Record) (rest : List ℕ) (before now : Option (List ℕ)) : Type 0 where
   pub done : List Record
   pub left : List Record
   pub split : records ≡ done ++ left
-  pub in_range : AllByRecursion IsRecord left
-  pub bytes : rest ≡ flat_map spelling left
+  pub in_range : AllByRecursion (IsRecord Two) left
+  pub bytes : rest ≡ flat_map (spelling Two) left
   pub appended : Appends before now (flat_map record_line done)
 
 appends_nothing : (before : Option (List ℕ)) → Appends before before []
@@ -46,34 +47,34 @@ appends_nothing None = tt
 appends_nothing (Some bytes) = sym (append-nil bytes)
 
 -- before the first
-pub none_told : (records : List Record) (bytes : List ℕ) (before : Option (List ℕ)) → AllByRecursion IsRecord records
-    → bytes ≡ flat_map spelling records → Told records bytes before before
+pub none_told : (records : List Record) (bytes : List ℕ) (before : Option (List ℕ)) → AllByRecursion (IsRecord Two) records
+    → bytes ≡ flat_map (spelling Two) records → Told records bytes before before
 none_told records bytes before all are =
     record { done = []; left = records; split = refl; in_range = all; bytes = are; appended = appends_nothing before }
 
 -- a record is read off the rest, and told
 read_off : (records done left : List Record) (rest : List ℕ) (entry : Record) (len : ℕ)
     (before mid now : Option (List ℕ))
-    → IsRead rest (Whole entry len)
-    → records ≡ done ++ left → AllByRecursion IsRecord left → rest ≡ flat_map spelling left
+    → IsRead Two rest (Whole entry len)
+    → records ≡ done ++ left → AllByRecursion (IsRecord Two) left → rest ≡ flat_map (spelling Two) left
     → Appends before mid (flat_map record_line done)
     → Appends mid now (record_line entry) → Told records (drop len rest) before now
 read_off records done [] rest entry len before mid now reads split all bytes told line =
-    let long = ap length (sym bytes ∙ reads.0.2) ∙ length-append (spelling entry) reads.0.1 in
-    absurd (omega (arith, long, some_bytes entry))
+    let long = ap length (sym bytes ∙ reads.0.2) ∙ length-append (spelling Two entry) reads.0.1 in
+    absurd (omega (arith, long, some_bytes Two entry))
 read_off records done (first ∷ others) rest entry len before mid now reads split all bytes told line =
-    let same : Whole entry len ≡ Whole first (length (spelling first)) =
-    read_is rest first (Whole entry len) reads (all.0, flat_map spelling others, bytes) in
+    let same : Whole entry len ≡ Whole first (length (spelling Two first)) =
+    read_is Two rest first (Whole entry len) reads (all.0, flat_map (spelling Two) others, bytes) in
     let is : entry ≡ first = cc in
-    let long : len ≡ length (spelling first) = cc in
+    let long : len ≡ length (spelling Two first) = cc in
     record {
       done = done ++ first ∷ [];
       left = others;
       split = split ∙ sym (append_assoc done (first ∷ []) others);
       in_range = all.1;
       bytes =
-          ap (λ n. drop n rest) long ∙ ap (drop (length (spelling first))) bytes
-          ∙ drop-append_seam (spelling first) (flat_map spelling others);
+          ap (λ n. drop n rest) long ∙ ap (drop (length (spelling Two first))) bytes
+          ∙ drop-append_seam (spelling Two first) (flat_map (spelling Two) others);
       appended =
           subst (λ text. Appends before now text)
           (ap (λ r. flat_map record_line done ++ record_line r) is ∙ flat_map_more record_line [] done first)
@@ -81,7 +82,7 @@ read_off records done (first ∷ others) rest entry len before mid now reads spl
     }
 
 pub told_more : (records : List Record) (rest : List ℕ) (entry : Record) (len : ℕ) (before mid now : Option (List ℕ))
-    → IsRead rest (Whole entry len)
+    → IsRead Two rest (Whole entry len)
     → Told records rest before mid → Appends mid now (record_line entry) → Told records (drop len rest) before now
 told_more records rest entry len before mid now reads told line =
     read_off records told.done told.left rest entry len before mid now reads told.split told.in_range told.bytes
@@ -89,18 +90,18 @@ told_more records rest entry len before mid now reads told line =
 
 -- where the rest begins with no record, all are told
 none_left : (records done left : List Record) (rest : List ℕ) (piece : Piece) (before now : Option (List ℕ))
-    → IsRead rest piece → ((entry : Record) (len : ℕ) → ¬ (piece ≡ Whole entry len))
-    → records ≡ done ++ left → AllByRecursion IsRecord left → rest ≡ flat_map spelling left
+    → IsRead Two rest piece → ((entry : Record) (len : ℕ) → ¬ (piece ≡ Whole entry len))
+    → records ≡ done ++ left → AllByRecursion (IsRecord Two) left → rest ≡ flat_map (spelling Two) left
     → Appends before now (flat_map record_line done)
     → Appends before now (flat_map record_line records)
 none_left records done [] rest piece before now reads other split all bytes told =
     subst (λ those. Appends before now (flat_map record_line those)) (sym (split ∙ append-nil done)) told
 none_left records done (first ∷ others) rest piece before now reads other split all bytes told =
     absurd
-    (other first (length (spelling first)) (read_is rest first piece reads (all.0, flat_map spelling others, bytes)))
+    (other first (length (spelling Two first)) (read_is Two rest first piece reads (all.0, flat_map (spelling Two) others, bytes)))
 
 pub all_told : (records : List Record) (rest : List ℕ) (piece : Piece) (before now : Option (List ℕ))
-    → IsRead rest piece → ((entry : Record) (len : ℕ) → ¬ (piece ≡ Whole entry len))
+    → IsRead Two rest piece → ((entry : Record) (len : ℕ) → ¬ (piece ≡ Whole entry len))
     → Told records rest before now → Appends before now (flat_map record_line records)
 all_told records rest piece before now reads other told =
     none_left records told.done told.left rest piece before now reads other told.split told.in_range

@@ -69,13 +69,13 @@ told_before k line rest =
 
 left_other : (frames : ℕ) (happening : Happening) (rest : List Happening) → is_sent happening ≡ false
     → left_text frames (happening ∷ rest) ≡ (run_line frames ++ happening_line happening) ++ left_text 0 rest
-left_other zero (Asked order) rest other = refl
+left_other zero (Asked order moment) rest other = refl
 left_other zero (Answered id reply) rest other = refl
 left_other zero (Sent frame answer) rest other = cc
 left_other zero (Kept entry) rest other = refl
 left_other zero Stopped rest other = refl
 left_other zero (Powered address) rest other = refl
-left_other (suc k) (Asked order) rest other = told_before k (happening_line (Asked order)) (summary false rest)
+left_other (suc k) (Asked order moment) rest other = told_before k (happening_line (Asked order moment)) (summary false rest)
 left_other (suc k) (Answered id reply) rest other =
     told_before k (happening_line (Answered id reply)) (summary false rest)
 left_other (suc k) (Sent frame answer) rest other = cc
@@ -143,7 +143,7 @@ summed trace i frames before mid now all s run =
 
 pub not_sent : (happening : Happening) → ((frame : Frame) (answer : Option ℕ) → ¬ (happening ≡ Sent frame answer))
     → is_sent happening ≡ false
-not_sent (Asked order) other = refl
+not_sent (Asked order moment) other = refl
 not_sent (Answered id reply) other = refl
 not_sent (Sent frame answer) other = absurd (other frame answer refl)
 not_sent (Kept entry) other = refl

@@ -4,6 +4,8 @@ use Rattle.std.specs.List.{flat_map}
 use Rattle.dali_journal.specs.declared.record.Record.{Record}
 use Rattle.dali_journal.specs.declared.standing.Standing.{Standing}
 use Rattle.dali_journal.specs.declared.standing.Standing.TheVariants.{Idle, Began, Opened, Left}
+use Rattle.dali_journal.specs.declared.version.Version.{Version}
+use Rattle.dali_journal.specs.Spelling.{version_number}
 use Rattle.dali_journal.specs.Orders.{orders_of}
 use Rattle.dali_journal.specs.Sentence.{standing_of}
 use Rattle.dali_text.specs.RecordText.{record_text}
@@ -24,8 +26,16 @@ counts_line counted total orders standing =
     codes "counts " ++ decimal counted ++ codes " of " ++ decimal total ++ codes " orders " ++ decimal orders
     ++ codes " standing " ++ standing_text standing ++ codes "\n"
 
+-- the version of the bytes
+abbrev pub version_line : Version → List ℕ
+version_line version = codes "version " ++ decimal (version_number version) ++ codes "\n"
+
 -- the records, the oldest first, and what counts; records are listed newest first
-abbrev pub journal_text : List Record → ℕ → ℕ → List ℕ
-journal_text records counted total =
+abbrev pub records_text : List Record → ℕ → ℕ → List ℕ
+records_text records counted total =
     flat_map record_line (reverse records)
     ++ counts_line counted total (length (orders_of records)) (standing_of records)
+
+-- the version, and the records
+abbrev pub journal_text : Version → List Record → ℕ → ℕ → List ℕ
+journal_text version records counted total = version_line version ++ records_text records counted total

@@ -20,7 +20,7 @@ answer_text (Some byte) = byte_digits byte
 
 -- a happening by itself
 abbrev pub happening_line : Happening → List ℕ
-happening_line (Asked order) = codes "ask " ++ decimal order.id ++ codes "\n"
+happening_line (Asked order moment) = codes "ask " ++ decimal order.id ++ codes "\n"
 happening_line (Answered id reply) = codes "reply " ++ decimal id ++ codes " " ++ reply_text reply ++ codes "\n"
 happening_line (Sent frame answer) =
     codes "send " ++ word_digits (frame_word frame) ++ codes " " ++ answer_text answer ++ codes "\n"

@@ -1,13 +1,15 @@
 ghost use Rattle.std.specs.Prelude.{◌≡◌, ◌≤◌, List, OnOk, drop, length, reverse};
 ghost use Rattle.std.specs.List.{AllByRecursion, flat_map};
 ghost use Rattle.dali_journal.specs.declared.record.Record.{Record as Entry};
-ghost use Rattle.dali_journal.specs.Spelling.{IsRecord, journal_spelling, spelling};
-ghost use Rattle.dali_text.specs.JournalLines.{counts_line, journal_text, record_line, standing_text};
+ghost use Rattle.dali_journal.specs.declared.version.Version.TheVariants.{Two};
+ghost use Rattle.dali_journal.specs.Spelling.{IsRecord, spelling};
+ghost use Rattle.dali_text.specs.JournalLines.{counts_line, journal_text, record_line, records_text, standing_text};
+ghost use Rattle.dali_text.specs.JournalLines.{version_line};
 ghost use Rattle.dali_text.specs.Output.{TellsFailure, Takes};
 
 use crate::output::{Output, Unwritten};
 use crate::record_text::RecordText;
-use dali_journal::{Journal, Piece, Record, Standing};
+use dali_journal::{Journal, Piece, Record, Standing, Version};
 use std::fmt;
 use std::io::Write;
 
@@ -31,46 +33,65 @@ impl fmt::Display for StandingText<'_> {
     }
 }
 
-/// Writes a journal (profile): a line for each record, the oldest first, and then how many bytes
-/// count of all that its file has, how many orders were begun, and the standing.
-///
-/// `bytes` are the journal's, and `total` is how many the file has.
+/// Writes a journal (profile): the version of its file, a line for each record, the oldest first, and
+/// then how many bytes count of all that the file has, how many orders were begun, and the standing.
 #[tactic(auto, using(crate::proofs::StreamLemmas::appends_both))]
 pub fn write_journal<W: Write>(
     output: &mut Output<W>,
     journal: &Journal,
-    bytes: &[u8],
+    version: Version,
+    counted: usize,
     total: usize,
 ) -> Result<(), Unwritten>
-    requires { bytes.now ≡ journal_spelling journal.now.records }
     ensures text { OnOk result (Takes W.contents output.old output.new
-        (journal_text journal.now.records (length bytes.now) total)) }
+        (journal_text version journal.now.records counted total)) }
     ensures failed { TellsFailure result output.old output.new }
 {
-    write_records(output, journal, bytes)?;
+    write_version(output, version)?;
+    write_told(output, journal, counted, total)
+}
+
+// Writes a line for each record of a journal, and what counts.
+#[tactic(auto, using(crate::proofs::StreamLemmas::appends_both))]
+fn write_told<W: Write>(
+    output: &mut Output<W>,
+    journal: &Journal,
+    counted: usize,
+    total: usize,
+) -> Result<(), Unwritten>
+    ensures text { OnOk result (Takes W.contents output.old output.new
+        (records_text journal.now.records counted total)) }
+    ensures failed { TellsFailure result output.old output.new }
+{
+    write_records(output, journal)?;
     let orders = journal.orders();
-    write_counts(output, bytes.len(), total, orders, &journal.standing())
+    write_counts(output, counted, total, orders, &journal.standing())
+}
+
+// Writes the version of a journal's file.
+fn write_version<W: Write>(output: &mut Output<W>, version: Version) -> Result<(), Unwritten>
+    ensures text { OnOk result (Takes W.contents output.old output.new (version_line version)) }
+    ensures failed { TellsFailure result output.old output.new }
+{
+    let number = version.number();
+    writeln!(output, "version {number}")
 }
 
 // Writes a line for each record of a journal, the oldest first.
-fn write_records<W: Write>(
-    output: &mut Output<W>,
-    journal: &Journal,
-    bytes: &[u8],
-) -> Result<(), Unwritten>
-    requires { bytes.now ≡ journal_spelling journal.now.records }
+fn write_records<W: Write>(output: &mut Output<W>, journal: &Journal) -> Result<(), Unwritten>
     ensures text { OnOk result (Takes W.contents output.old output.new
         (flat_map record_line (reverse journal.now.records))) }
     ensures failed { TellsFailure result output.old output.new }
 {
     // it tells that the records' numbers are in range
     let _limit = journal.limit();
-    write_each(output, bytes)
+    write_each(output, journal.record_bytes())
 }
 
 // Writes a line for each record that the bytes are.
 fn write_each<W: Write>(output: &mut Output<W>, bytes: &[u8]) -> Result<(), Unwritten>
-    ensures text { (records : List Entry) → AllByRecursion IsRecord records → bytes.now ≡ flat_map spelling records
+    ensures text { (records : List Entry) → AllByRecursion (IsRecord Two) records
+        → bytes.now ≡ flat_map (spelling Two) records
         → OnOk result (Takes W.contents output.old output.new (flat_map record_line records)) }
     ensures failed { TellsFailure result output.old output.new }
 {

@@ -111,7 +111,7 @@ fn write_happening<W: Write>(output: &mut Output<W>, happening: &Happening) -> R
     ensures failed { TellsFailure result output.old output.new }
 {
     match happening {
-        Happening::Asked(order) => {
+        Happening::Asked(order, _) => {
             let id = order.id();
             writeln!(output, "ask {id}")
         }

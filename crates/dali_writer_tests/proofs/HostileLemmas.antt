@@ -9,7 +9,7 @@ use Rattle.dali_bus.specs.Hears.{Hears, MayEnd}
 use Rattle.dali_bus.specs.Carry.{Carry, MayHear, MayAnswer}
 use Rattle.dali_gear.specs.UnitState.{UnitState, after_frame, answer_to, gear_of}
 use Rattle.dali_gear.specs.SimSteps.{frame_keeps}
-use Rattle.dali_tests.specs.HostileBus.{DoesHear, MayBeDeaf, world_of_both}
+use Rattle.dali_writer_tests.specs.HostileBus.{DoesHear, MayBeDeaf, world_of_both}
 
 pub heard : (unit new : UnitState) (frame : Frame) (answer : Option ℕ) → new ≡ after_frame false unit frame
     → Hears unit.address (gear_of unit) frame answer (gear_of new) → DoesHear unit frame answer new

@@ -7,8 +7,8 @@ use dali_gear::{Bus, laws};
 use std::test::Fail;
 
 // A bus that owes nothing to the simulated one. Its unit, at 9, has a bank 0 and a bank 1, each with location 00h
-// alone; it hears DTR0 and DTR1, the queries of both and the read, and no other frame, and never answers where there is no
-// place. Its steps are all that a bus may do to that unit.
+// alone; it hears DTR0 and DTR1, the queries of both and the read, and no other frame, and never answers where there
+// is no place. Its steps are all that a bus may do to that unit.
 #[derive(Drop)]
 pub(crate) struct TestBus {
     pub(crate) dtr1: u8,

@@ -1,6 +1,6 @@
 ghost use Rattle.std.specs.Prelude.{◌≡◌, ◌≤◌, [], IfOk};
 
-use super::{BEGAN, add, is_absent, is_kept, letter_of, order_of};
+use super::{BEGAN, HEADER, MOMENT, add, is_absent, is_kept, letter_of, order_of};
 use dali_bank::Order;
 use dali_journal::{Code, Journal, JournalFault, Record};
 use std::alloc::Global;
@@ -12,7 +12,7 @@ fn begin(rt: &impl Abort, journal: &mut Journal, order: &Order) -> Result<(), Fa
     requires { (journal.old.records ≡ []) × (1 ≤ journal.old.limit) }
 {
     journal.reserve(order)?;
-    add(rt, journal, Record::Began(order.copy()));
+    add(rt, journal, Record::Began(order.copy(), MOMENT));
     Ok(())
 }
 
@@ -23,15 +23,18 @@ fn begun(rt: &impl Abort, alloc: Global, limit: u32, order: &Order) -> Result<Jo
     Ok(journal)
 }
 
-// Whether the journal's bytes are so many, begin with those of the first order and end so.
+// Whether the journal's bytes are so many, begin with the header and the first order, and end so, and those of its
+// records are the same without the header.
 fn has_bytes(alloc: Global, journal: &Journal, len: usize, end: &[u8]) -> Result<bool, Fail> {
     let bytes = journal.to_bytes(alloc)?;
-    Ok(bytes.len() == len && bytes.starts_with(&BEGAN) && bytes.ends_with(end))
+    let records = bytes.get(4..).unwrap_or_default();
+    let is_right = bytes.len() == len && bytes.starts_with(&HEADER) && bytes.ends_with(end);
+    Ok(is_right && records.starts_with(&BEGAN) && records == journal.record_bytes())
 }
 
 // Whether the journal stands so with its order 1.
 fn stands(journal: &Journal, order: &Order, letter: char, end: Option<Code>) -> bool {
-    letter_of(journal, order) == letter && is_kept(journal, 1, order, end)
+    letter_of(journal, order) == letter && is_kept(journal, 1, MOMENT, order, end)
 }
 
 #[test]
@@ -50,10 +53,19 @@ fn a_left_unit_is_closed(rt: HostRuntime) -> Result<(), Fail> {
         has_bytes(
             rt.alloc(),
             &journal,
-            29,
+            41,
             &[0x4F, 0x05, 0x45, 0x05, 0x43, 0x05]
         )?
     );
+    Ok(())
+}
+
+#[test]
+fn an_empty_journal(rt: HostRuntime) -> Result<(), Fail> {
+    let journal = Journal::new(rt.alloc(), 2)?;
+    let bytes = journal.to_bytes(rt.alloc())?;
+    assert_eq!(rt; bytes.as_slice(), HEADER.as_slice());
+    assert!(rt; journal.record_bytes().is_empty() && is_absent(&journal, 1));
     Ok(())
 }
 
@@ -63,9 +75,9 @@ fn a_full_journal(rt: HostRuntime) -> Result<(), Fail> {
     let mut journal = begun(&rt, rt.alloc(), 1, &order)?;
     add(&rt, &mut journal, Record::Ended(Code::Short));
     assert!(rt; journal.is_full());
-    assert!(rt; is_kept(&journal, 1, &order, Some(Code::Short)));
+    assert!(rt; is_kept(&journal, 1, MOMENT, &order, Some(Code::Short)));
     assert!(rt; is_absent(&journal, 2));
-    assert!(rt; has_bytes(rt.alloc(), &journal, 25, &[0x45, 0x01])?);
+    assert!(rt; has_bytes(rt.alloc(), &journal, 37, &[0x45, 0x01])?);
     Ok(())
 }
 
@@ -96,7 +108,7 @@ fn a_number_with_room_alone_is_not_begun(rt: HostRuntime) -> Result<(), Fail> {
     begin(&rt, &mut journal, &order)?;
     add(&rt, &mut journal, Record::Ended(Code::Format));
     assert!(rt; begun_without_next(&journal) == Some((1, true)));
-    assert!(rt; has_bytes(rt.alloc(), &journal, 25, &[0x45, 0x02])?);
+    assert!(rt; has_bytes(rt.alloc(), &journal, 37, &[0x45, 0x02])?);
     Ok(())
 }
 

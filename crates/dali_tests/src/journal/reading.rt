@@ -1,12 +1,13 @@
-use super::BEGAN;
+use super::{BEGAN, MOMENT, OLD_BEGAN, front_of};
 use crate::gtin::GTIN;
-use dali_journal::{Code, Piece, Record};
+use dali_journal::{Code, Piece, Record, Version};
 use std::alloc::Global;
 use std::process::Abort;
 use std::test::Fail;
 
-// A byte behind each front of that record, from its letter on: the least that may come, and the greatest.
-// A program that shares nothing with this one made both.
+// A byte behind each front of the longest record in version 1, from its letter on: the least that may come, and the
+// greatest. A program that shares nothing with this one made both. In version 2 the eight bytes of the number stand
+// before these, of which each may be any, and the first eight of these are the moment's.
 const LEAST: [u8; 240] = [
     0x00, 0x00, 0x00, 0x00, 0x00, 0x00, 0x00, 0x00, 0x00, 0x01, 0x03, 0x00, 0x04, 0x00, 0x05, 0x00,
     0x06, 0x00, 0x07, 0x00, 0x08, 0x00, 0x09, 0x00, 0x0A, 0x00, 0x0B, 0x00, 0x0C, 0x00, 0x0D, 0x00,
@@ -63,11 +64,25 @@ const ROOM: [(u8, u8, u8, u8); 15] = [
     (115, 0x03, 0x04, 0x04),
 ];
 
+// What the bytes begin with in a version.
+fn read(version: Version, bytes: &[u8]) -> Piece {
+    match version {
+        Version::One => Record::read_old(bytes),
+        Version::Two => Record::read(bytes),
+    }
+}
+
 // Whether the front with this byte behind it is a record of this length, or a cut one where that is longer, as
 // the byte may come or may not.
-fn is_right(front: &mut Vec<u8>, byte: u8, may_come: bool, len: usize) -> Result<bool, Fail> {
+fn is_right(
+    version: Version,
+    front: &mut Vec<u8>,
+    byte: u8,
+    may_come: bool,
+    len: usize,
+) -> Result<bool, Fail> {
     front.push(byte)?;
-    let right = match Record::read(front) {
+    let right = match read(version, front) {
         Piece::Whole(_, read) => may_come && read == len && front.len() == len,
         Piece::Cut => may_come && front.len() < len,
         Piece::Bad => !may_come,
@@ -76,77 +91,118 @@ fn is_right(front: &mut Vec<u8>, byte: u8, may_come: bool, len: usize) -> Result
     Ok(right)
 }
 
+// How long the longest record is.
+fn most_of(version: Version) -> usize {
+    match version {
+        Version::One => 241,
+        Version::Two => 249,
+    }
+}
+
 // Puts each byte behind the front of that record, of which those from the least to the greatest may come, and
 // then the one that is next.
 fn judge_front(
     rt: &impl Abort,
+    version: Version,
     front: &mut Vec<u8>,
     next: u8,
     least: u8,
     greatest: u8,
 ) -> Result<(), Fail> {
-    assert!(rt; matches!(Record::read(front), Piece::Cut));
+    assert!(rt; matches!(read(version, front), Piece::Cut));
     for byte in 0..=255u8 {
         let may_come = least <= byte && byte <= greatest;
-        let right = is_right(front, byte, may_come, 241)?;
+        let right = is_right(version, front, byte, may_come, most_of(version))?;
         assert!(rt; right, "{byte} behind {} bytes", front.len());
     }
     front.push(next)?;
     Ok(())
 }
 
-// Whether the bytes are that record, and are read as it with another byte behind them too.
-fn is_longest(bytes: &mut Vec<u8>) -> Result<bool, Fail> {
-    let alone = matches!(Record::read(bytes), Piece::Whole(Record::Began(_), 241));
-    bytes.push(0x00)?;
-    Ok(alone && matches!(Record::read(bytes), Piece::Whole(Record::Began(_), 241)))
+// Whether the bytes begin with that record.
+fn is_longest(version: Version, bytes: &[u8]) -> bool {
+    match read(version, bytes) {
+        Piece::Whole(Record::Began(_, _), len) => len == most_of(version),
+        _ => false,
+    }
 }
 
 // Puts each letter at the front of no byte.
-fn judge_letters(rt: &impl Abort, alloc: Global) -> Result<(), Fail> {
+fn judge_letters(rt: &impl Abort, alloc: Global, version: Version) -> Result<(), Fail> {
     let mut front = Vec::new(alloc);
     for letter in 0..=255u8 {
         let may_come = matches!(letter, 0x42 | 0x43 | 0x45 | 0x4F);
-        let right = is_right(&mut front, letter, may_come, 241)?;
+        let right = is_right(version, &mut front, letter, may_come, 241)?;
         assert!(rt; right, "letter {letter}");
     }
     Ok(())
 }
 
+// Cuts that record at each length, and reads it whole, also with another byte behind it.
+fn judge_longest(rt: &impl Abort, alloc: Global, version: Version) -> Result<(), Fail> {
+    judge_letters(rt, alloc, version)?;
+    let mut whole = super::longest(alloc, version)?;
+    assert_eq!(rt; whole.len(), most_of(version));
+    let before = most_of(version).saturating_sub(240);
+    let mut front = Vec::new(alloc);
+    front.push(0x42)?;
+    for &next in whole.iter().take(before).skip(1) {
+        judge_front(rt, version, &mut front, next, 0x00, 0xFF)?;
+    }
+    let rest = whole.iter().skip(before);
+    for ((&next, &least), &greatest) in rest.zip(&LEAST).zip(&GREATEST) {
+        judge_front(rt, version, &mut front, next, least, greatest)?;
+    }
+    assert!(rt; front == whole && is_longest(version, &whole));
+    whole.push(0x00)?;
+    assert!(rt; is_longest(version, &whole));
+    Ok(())
+}
+
 #[test]
 fn the_longest_record_at_each_length(rt: HostRuntime) -> Result<(), Fail> {
-    judge_letters(&rt, rt.alloc())?;
-    let whole = super::longest(rt.alloc())?;
-    assert_eq!(rt; whole.len(), 241);
-    let mut front = Vec::new(rt.alloc());
-    front.push(0x42)?;
-    for ((&next, &least), &greatest) in whole[1..].iter().zip(&LEAST).zip(&GREATEST) {
-        judge_front(&rt, &mut front, next, least, greatest)?;
+    judge_longest(&rt, rt.alloc(), Version::Two)
+}
+
+#[test]
+fn the_longest_record_of_version_1_at_each_length(rt: HostRuntime) -> Result<(), Fail> {
+    judge_longest(&rt, rt.alloc(), Version::One)
+}
+
+// Puts each byte where the location comes that is next.
+fn judge_room(
+    rt: &impl Abort,
+    alloc: Global,
+    version: Version,
+    room: (u8, u8, u8, u8),
+) -> Result<(), Fail> {
+    let (count, first, least, greatest) = room;
+    let mut front = front_of(alloc, version)?;
+    front.extend_from_slice(&[5, count])?;
+    let len = front.len() + 2 * usize::from(count);
+    if first > 0 {
+        front.extend_from_slice(&[first, 0xFF])?;
     }
-    assert!(rt; is_longest(&mut front)?);
+    for byte in 0..=255u8 {
+        let may_come = least <= byte && byte <= greatest && byte != 0x11 && byte != 0x12;
+        let right = is_right(version, &mut front, byte, may_come, len)?;
+        assert!(rt; right, "{byte} behind {first}, of {count}");
+    }
     Ok(())
 }
 
 #[test]
 fn locations_leave_room_for_those_to_come(rt: HostRuntime) -> Result<(), Fail> {
-    for (count, first, least, greatest) in ROOM {
-        let mut front = Vec::new(rt.alloc());
-        front.extend_from_slice(&[0x42, 0, 0, 0, 0, 0, 0, 0, 1, 5, count])?;
-        if first > 0 {
-            front.extend_from_slice(&[first, 0xFF])?;
-        }
-        for byte in 0..=255u8 {
-            let may_come = least <= byte && byte <= greatest && byte != 0x11 && byte != 0x12;
-            let right = is_right(&mut front, byte, may_come, 11 + 2 * usize::from(count))?;
-            assert!(rt; right, "{byte} behind {first}, of {count}");
-        }
+    for room in ROOM {
+        judge_room(&rt, rt.alloc(), Version::One, room)?;
+        judge_room(&rt, rt.alloc(), Version::Two, room)?;
     }
     Ok(())
 }
 
-// Whether two bytes are a whole record. They may not be the first two of a longer one.
-fn are_whole(letter: u8, byte: u8) -> Option<bool> {
-    match Record::read(&[letter, byte]) {
+// Whether two bytes are a whole record in a version. They may not be the first two of a longer one.
+fn are_whole(version: Version, letter: u8, byte: u8) -> Option<bool> {
+    match read(version, &[letter, byte]) {
         Piece::Whole(_, 2) => Some(true),
         Piece::Bad => Some(false),
         _ => None,
@@ -154,15 +210,15 @@ fn are_whole(letter: u8, byte: u8) -> Option<bool> {
 }
 
 // The code of an `Ended` of two bytes.
-fn code_of(bytes: &[u8]) -> Option<Code> {
-    match Record::read(bytes) {
+fn code_of(version: Version, bytes: &[u8]) -> Option<Code> {
+    match read(version, bytes) {
         Piece::Whole(Record::Ended(code), 2) => Some(code),
         _ => None,
     }
 }
 
-#[test]
-fn records_of_two_bytes(rt: HostRuntime) {
+// Tries records of two bytes in a version.
+fn judge_two_bytes(rt: &impl Abort, version: Version) {
     for (letter, byte, whole) in [
         (0x4F, 0, true),
         (0x4F, 63, true),
@@ -175,7 +231,10 @@ fn records_of_two_bytes(rt: HostRuntime) {
         (0x46, 0, false),
         (0x00, 0, false),
     ] {
-        assert!(rt; are_whole(letter, byte) == Some(whole), "{letter} {byte}");
+        assert!(rt;
+            are_whole(version, letter, byte) == Some(whole),
+            "{letter} {byte}"
+        );
     }
     for (number, code) in [
         (0, Code::Done),
@@ -185,24 +244,43 @@ fn records_of_two_bytes(rt: HostRuntime) {
         (4, Code::Doubt),
         (5, Code::DoubtOpen),
     ] {
-        assert!(rt; code_of(&[0x45, number]) == Some(code), "{number}");
+        assert!(rt; code_of(version, &[0x45, number]) == Some(code), "{number}");
     }
-    assert!(rt; matches!(Record::read(&[]), Piece::Cut));
+    assert!(rt; matches!(read(version, &[]), Piece::Cut));
+}
+
+#[test]
+fn records_of_two_bytes(rt: HostRuntime) {
+    judge_two_bytes(&rt, Version::One);
+    judge_two_bytes(&rt, Version::Two);
 }
 
 #[test]
 fn records_of_two_bytes_behind_which_another_byte_stands(rt: HostRuntime) {
-    let opened = Record::read(&[0x4F, 5, 0x41]);
-    assert!(rt; matches!(opened, Piece::Whole(Record::Opened(5), 2)));
-    let closed = Record::read(&[0x43, 6, 0x41]);
-    assert!(rt; matches!(closed, Piece::Whole(Record::Closed(6), 2)));
+    for version in [Version::One, Version::Two] {
+        let opened = read(version, &[0x4F, 5, 0x41]);
+        assert!(rt; matches!(opened, Piece::Whole(Record::Opened(5), 2)));
+        let closed = read(version, &[0x43, 6, 0x41]);
+        assert!(rt; matches!(closed, Piece::Whole(Record::Closed(6), 2)));
+    }
 }
 
+// The moment and the length of the `Began` that the bytes begin with, where it is order 1 for unit 5 with the GTIN.
+fn began(version: Version, bytes: &[u8]) -> Option<(u64, usize)> {
+    match &read(version, bytes) {
+        Piece::Whole(Record::Began(order, moment), len) => {
+            let is_it = order.id() == 1 && order.unit() == 5 && order.updates() == GTIN.as_slice();
+            is_it.then_some((*moment, *len))
+        }
+        _ => None,
+    }
+}
+
+// In the other version the bytes of an order have another unit, and more updates than there may be or none.
 #[test]
 fn an_order_is_read(rt: HostRuntime) {
-    let read = Record::read(&BEGAN);
-    assert!(rt;
-        matches!(read, Piece::Whole(Record::Began(order), 23)
-            if order.id() == 1 && order.unit() == 5 && order.updates() == GTIN.as_slice())
-    );
+    assert_eq!(rt; began(Version::Two, &BEGAN), Some((MOMENT, 31)));
+    assert_eq!(rt; began(Version::One, &OLD_BEGAN), Some((0, 23)));
+    assert!(rt; matches!(Record::read(&OLD_BEGAN), Piece::Bad));
+    assert!(rt; matches!(Record::read_old(&BEGAN), Piece::Bad));
 }

@@ -1,7 +1,7 @@
-use super::BEGAN;
+use super::{BEGAN, MOMENT};
 use crate::gtin::GTIN;
 use dali_bank::Order;
-use dali_journal::{Code, JournalFault, NoMemory, Record};
+use dali_journal::{Code, JournalFault, NoMemory, Record, Version};
 use std::alloc::Global;
 use std::test::Fail;
 
@@ -13,7 +13,7 @@ fn has_bytes(entry: Record, bytes: &[u8]) -> bool {
 #[test]
 fn bytes_of_records(rt: HostRuntime) -> Result<(), Fail> {
     let order = Order::from_pairs(1, 5, &GTIN).ok_or("an order")?;
-    assert!(rt; has_bytes(Record::Began(order), &BEGAN));
+    assert!(rt; has_bytes(Record::Began(order, MOMENT), &BEGAN));
     assert!(rt; has_bytes(Record::Opened(63), &[0x4F, 63]));
     assert!(rt; has_bytes(Record::Closed(6), &[0x43, 6]));
     for (code, number) in [
@@ -29,8 +29,8 @@ fn bytes_of_records(rt: HostRuntime) -> Result<(), Fail> {
     Ok(())
 }
 
-// The bytes of the order for this unit with all 115 updates, each to FFh.
-fn longest_of(alloc: Global, id: u64, unit: u8) -> Result<Vec<u8>, Fail> {
+// The bytes of the order for this unit with all 115 updates, each to FFh, since this moment.
+fn longest_of(alloc: Global, id: u64, moment: u64, unit: u8) -> Result<Vec<u8>, Fail> {
     let mut pairs = Vec::new(alloc);
     for location in 0x03..=0x77u8 {
         if location != 0x11 && location != 0x12 {
@@ -38,16 +38,25 @@ fn longest_of(alloc: Global, id: u64, unit: u8) -> Result<Vec<u8>, Fail> {
         }
     }
     let order = Order::from_pairs(id, unit, &pairs).ok_or("an order")?;
-    Ok(Record::Began(order).bytes().as_slice().to_vec(alloc)?)
+    let began = Record::Began(order, moment);
+    Ok(began.bytes().as_slice().to_vec(alloc)?)
 }
 
 #[test]
 fn the_longest_record(rt: HostRuntime) -> Result<(), Fail> {
-    let bytes = longest_of(rt.alloc(), 1, 5)?;
-    assert_eq!(rt; bytes.len(), 241);
-    assert!(rt; bytes == super::longest(rt.alloc())?);
-    let bytes = longest_of(rt.alloc(), u64::MAX, 63)?;
-    assert!(rt; bytes.starts_with(&[0x42, 255, 255, 255, 255, 255, 255, 255, 255, 63, 115]));
+    let bytes = longest_of(rt.alloc(), 1, MOMENT, 5)?;
+    assert_eq!(rt; bytes.len(), 249);
+    assert!(rt; bytes == super::longest(rt.alloc(), Version::Two)?);
+    let front = [
+        0x42, 255, 255, 255, 255, 255, 255, 255, 255, 0, 0, 0, 0, 0, 0, 0, 1, 63, 115,
+    ];
+    let bytes = longest_of(rt.alloc(), u64::MAX, 1, 63)?;
+    assert!(rt; bytes.starts_with(&front));
+    let front = [
+        0x42, 0, 0, 0, 0, 0, 0, 0, 0, 255, 255, 255, 255, 255, 255, 255, 255, 0, 115,
+    ];
+    let bytes = longest_of(rt.alloc(), 0, u64::MAX, 0)?;
+    assert!(rt; bytes.starts_with(&front));
     Ok(())
 }
 
@@ -66,10 +75,16 @@ fn faults_have_numbers_and_names(rt: HostRuntime) -> Result<(), Fail> {
         (JournalFault::Sequence(7), 4, "Sequence"),
         (JournalFault::Repeated(7), 5, "Repeated"),
         (JournalFault::Full(7), 6, "Full"),
+        (JournalFault::Header, 7, "Header"),
     ] {
         assert!(rt; is_told(rt.alloc(), fault, number, name)?, "{name}");
     }
     let text = NoMemory.to_string(rt.alloc())?;
     assert_eq!(rt; text.as_str(), "NoMemory");
     Ok(())
+}
+
+#[test]
+fn versions_have_numbers(rt: HostRuntime) {
+    assert_eq!(rt; (Version::One.number(), Version::Two.number()), (1, 2));
 }

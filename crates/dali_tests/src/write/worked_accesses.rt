@@ -11,8 +11,8 @@ ghost use Rattle.dali_write.specs.Losses.{SimRun, losses, Unrefused, IsAlone};
 ghost use Rattle.dali_write.specs.Worlds.{IsAmong};
 ghost use Rattle.dali_write.specs.Successes.{MayStoreAt, HasBank, Spared, MissesByLosses};
 ghost use Rattle.dali_write.specs.Doubts.{EndsUnread, EndsUnlooked, FoundAnother};
-ghost use Rattle.dali_write.specs.WorkedAccesses.{answer_01, any_answer, no_answer, missed_read, after_a_miss, small_bank};
-ghost use Rattle.dali_write.specs.WorkedAccesses.{two_units};
+ghost use Rattle.dali_write.specs.WorkedAccesses.{answer_01, any_answer, no_answer, missed_read, after_a_miss};
+ghost use Rattle.dali_write.specs.WorkedAccesses.{small_bank, two_units};
 
 // A miss is another answer than the wished one, or none.
 fn what_is_a_miss()

@@ -1,5 +1,5 @@
 // What drives leave, where each stream does as it should and where one fails.
-use crate::drive::streams::{ALL, Fickle, Good, Wanted, drive_on};
+use crate::drive::streams::{ALL, Fickle, Good, Wanted, drive_from, drive_on, file_of};
 use crate::gtin::GTIN;
 use dali_bank::Order;
 use dali_drive::{DriveFault, Got, Sink, Source, StdSink, StdSource, drive};
@@ -10,14 +10,21 @@ use std::alloc::Global;
 use std::io::ErrorKind;
 use std::test::Fail;
 
-// The journal of the GTIN as order 1 for unit 9, which isn't there.
-pub(crate) const SILENT_JOURNAL: [u8; 25] = [
-    0x42, 0x00, 0x00, 0x00, 0x00, 0x00, 0x00, 0x00, 0x01, 0x09, 0x06, 0x03, 0x03, 0x04, 0xA4, 0x05,
-    0xCE, 0x06, 0xEF, 0x07, 0xAD, 0x08, 0xAB, 0x45, 0x03,
+// The records of the GTIN as order 1 for unit 9, which isn't there, of the moment 0.
+pub(crate) const SILENT_RECORDS: [u8; 33] = [
+    0x42, 0x00, 0x00, 0x00, 0x00, 0x00, 0x00, 0x00, 0x01, 0x00, 0x00, 0x00, 0x00, 0x00, 0x00, 0x00,
+    0x00, 0x09, 0x06, 0x03, 0x03, 0x04, 0xA4, 0x05, 0xCE, 0x06, 0xEF, 0x07, 0xAD, 0x08, 0xAB, 0x45,
+    0x03,
 ];
 
-// Its first bytes are those of Began.
-const BEGAN: usize = 23;
+// Their first bytes are those of Began.
+const BEGAN: usize = 31;
+
+// Those of Began in version 1.
+const OLD_BEGAN: [u8; 23] = [
+    0x42, 0x00, 0x00, 0x00, 0x00, 0x00, 0x00, 0x00, 0x01, 0x09, 0x06, 0x03, 0x03, 0x04, 0xA4, 0x05,
+    0xCE, 0x06, 0xEF, 0x07, 0xAD, 0x08, 0xAB,
+];
 
 const TAKEN: &str = "reply 1 taken\n";
 
@@ -52,7 +59,7 @@ fn an_absent_unit(rt: HostRuntime) -> Result<(), Fail> {
         fault: None,
         taken: plain.len(),
         link: &link,
-        journal: &SILENT_JOURNAL,
+        journal: &SILENT_RECORDS,
         out: TAKEN_AND_SILENT.as_bytes(),
         failed: [false; 4],
     };
@@ -64,14 +71,61 @@ fn an_absent_unit(rt: HostRuntime) -> Result<(), Fail> {
         };
         assert!(rt; left.is(&wanted));
     }
-    let (begun, ended) = SILENT_JOURNAL.split_at(BEGAN);
-    let left = drive_on(alloc, begun, &[], &plain, ALL)?;
+    let (begun, ended) = SILENT_RECORDS.split_at(BEGAN);
     let wanted = Wanted {
         journal: ended,
         out: SILENT.as_bytes(),
         ..silent
     };
+    let left = drive_on(alloc, begun, &[], &plain, ALL)?;
     assert!(rt; left.is(&wanted));
+    let left = drive_from(alloc, &OLD_BEGAN, &[], 7, &plain, ALL)?;
+    assert!(rt; left.is(&wanted));
+    Ok(())
+}
+
+// The same records where the order was submitted at 1700000000.
+const SILENT_LATER: [u8; 33] = [
+    0x42, 0x00, 0x00, 0x00, 0x00, 0x00, 0x00, 0x00, 0x01, 0x00, 0x00, 0x00, 0x00, 0x65, 0x53, 0xF1,
+    0x00, 0x09, 0x06, 0x03, 0x03, 0x04, 0xA4, 0x05, 0xCE, 0x06, 0xEF, 0x07, 0xAD, 0x08, 0xAB, 0x45,
+    0x03,
+];
+
+// The moment stands in the journal, and a drive at another one goes on with the order, or has it done.
+#[test]
+fn moments(rt: HostRuntime) -> Result<(), Fail> {
+    let alloc = rt.alloc();
+    let orders = [gtin_order(9)?];
+    let link = silent_link(alloc)?;
+    let answers = silence(alloc)?;
+    let whole = file_of(alloc, &SILENT_LATER)?;
+    let begun = file_of(alloc, &SILENT_LATER[..BEGAN])?;
+    let left = drive_from(alloc, &[], &orders, 1_700_000_000, &answers, ALL)?;
+    let taken = Wanted {
+        fault: None,
+        taken: answers.len(),
+        link: &link,
+        journal: &SILENT_LATER,
+        out: TAKEN_AND_SILENT.as_bytes(),
+        failed: [false; 4],
+    };
+    assert!(rt; left.is(&taken));
+    let left = drive_from(alloc, &begun, &[], 1_700_000_009, &answers, ALL)?;
+    let went_on = Wanted {
+        journal: &SILENT_LATER[BEGAN..],
+        out: SILENT.as_bytes(),
+        ..taken
+    };
+    assert!(rt; left.is(&went_on));
+    let left = drive_from(alloc, &whole, &orders, 1_700_000_009, &answers, ALL)?;
+    let known = Wanted {
+        taken: 0,
+        link: &[],
+        journal: &[],
+        out: SILENT.as_bytes(),
+        ..taken
+    };
+    assert!(rt; left.is(&known));
     Ok(())
 }
 
@@ -104,7 +158,7 @@ fn lines_that_are_refused(rt: HostRuntime) -> Result<(), Fail> {
             fault: Some(fault),
             taken,
             link: link.get(..5 * frames).unwrap_or_default(),
-            journal: &SILENT_JOURNAL[..BEGAN],
+            journal: &SILENT_RECORDS[..BEGAN],
             out: TAKEN.as_bytes(),
             failed: [false; 4],
         };
@@ -113,7 +167,8 @@ fn lines_that_are_refused(rt: HostRuntime) -> Result<(), Fail> {
     Ok(())
 }
 
-// A stream of the run of 16 frames that fails: what the drive leaves then, and how many bytes of its journal count.
+// A stream of the run of 16 frames that fails: what the drive leaves then, and how many bytes count of its journal's
+// file, the header and what it leaves.
 struct Broken {
     name: &'static str,
     good: Good,
@@ -144,7 +199,7 @@ const BROKEN: [Broken; 7] = [
         link: 0,
         journal: 0,
         out: 0,
-        counted: 0,
+        counted: 4,
     },
     Broken {
         name: "ten bytes of the journal",
@@ -155,7 +210,7 @@ const BROKEN: [Broken; 7] = [
         link: 0,
         journal: 10,
         out: 14,
-        counted: 0,
+        counted: 4,
     },
     Broken {
         name: "seven bytes to the link",
@@ -164,9 +219,9 @@ const BROKEN: [Broken; 7] = [
         failed: LINK_OUT,
         taken: 3,
         link: 7,
-        journal: 23,
+        journal: 31,
         out: 14,
-        counted: 23,
+        counted: 35,
     },
     Broken {
         name: "no answer",
@@ -175,20 +230,20 @@ const BROKEN: [Broken; 7] = [
         failed: LINK_IN,
         taken: 0,
         link: 5,
-        journal: 23,
+        journal: 31,
         out: 14,
-        counted: 23,
+        counted: 35,
     },
     Broken {
         name: "one byte of Ended",
-        good: Good { journal: 24, ..ALL },
+        good: Good { journal: 32, ..ALL },
         fault: DriveFault::Journal,
         failed: JOURNAL_OUT,
         taken: 48,
         link: 80,
-        journal: 24,
+        journal: 32,
         out: 14,
-        counted: 23,
+        counted: 35,
     },
     Broken {
         name: "one reply",
@@ -197,9 +252,9 @@ const BROKEN: [Broken; 7] = [
         failed: OUT,
         taken: 48,
         link: 80,
-        journal: 25,
+        journal: 33,
         out: 14,
-        counted: 25,
+        counted: 37,
     },
     Broken {
         name: "no flush of the journal",
@@ -211,9 +266,9 @@ const BROKEN: [Broken; 7] = [
         failed: JOURNAL_OUT,
         taken: 0,
         link: 0,
-        journal: 23,
+        journal: 31,
         out: 14,
-        counted: 23,
+        counted: 35,
     },
 ];
 
@@ -224,19 +279,19 @@ impl Broken {
             fault: Some(self.fault),
             taken: self.taken,
             link: link.get(..self.link).unwrap_or_default(),
-            journal: SILENT_JOURNAL.get(..self.journal).unwrap_or_default(),
+            journal: SILENT_RECORDS.get(..self.journal).unwrap_or_default(),
             out: TAKEN.as_bytes().get(..self.out).unwrap_or_default(),
             failed: self.failed,
         }
     }
 }
 
-// How many bytes count, and how an order stands behind them.
-fn stands(alloc: Global, journal: &[u8], counted: usize) -> Result<bool, Fail> {
-    let (journal, count) = Journal::load(alloc, 10, journal)?;
+// How many bytes of the file count, and how an order stands behind them: begun behind the header and a Began.
+fn stands(alloc: Global, records: &[u8], counted: usize) -> Result<bool, Fail> {
+    let (journal, count, _) = Journal::load(alloc, 10, &file_of(alloc, records)?)?;
     let is_as_begun = match journal.standing() {
-        Standing::Began(_) => counted == BEGAN,
-        Standing::Idle => counted != BEGAN,
+        Standing::Began(_) => counted == 35,
+        Standing::Idle => counted != 35,
         _ => false,
     };
     Ok(is_as_begun && count == counted)
@@ -267,7 +322,7 @@ fn an_order_that_ended(rt: HostRuntime) -> Result<(), Fail> {
         journal: 0,
         ..ALL
     };
-    let left = drive_on(rt.alloc(), &SILENT_JOURNAL, &orders, b"--\n", good)?;
+    let left = drive_on(rt.alloc(), &SILENT_RECORDS, &orders, b"--\n", good)?;
     let wanted = Wanted {
         fault: None,
         taken: 0,
@@ -284,7 +339,7 @@ fn an_order_that_ended(rt: HostRuntime) -> Result<(), Fail> {
 fn streams_of_std(rt: HostRuntime) -> Result<(), Fail> {
     let alloc = rt.alloc();
     let answers = silence(alloc)?;
-    let (journal, _) = Journal::load(alloc, 10, &[])?;
+    let (journal, _, _) = Journal::load(alloc, 10, &[])?;
     let orders = [gtin_order(9)?];
     let mut link_in = StdSource::new(answers.as_slice());
     let mut link_out = StdSink::new(Vec::new(alloc));
@@ -293,6 +348,7 @@ fn streams_of_std(rt: HostRuntime) -> Result<(), Fail> {
     let driven = drive(
         Writer::new(journal),
         &orders,
+        0,
         &mut link_in,
         &mut link_out,
         &mut journal_out,
@@ -302,7 +358,7 @@ fn streams_of_std(rt: HostRuntime) -> Result<(), Fail> {
     assert!(rt; link_in.reader.is_empty());
     let link = silent_link(alloc)?;
     assert_eq!(rt; link_out.writer.as_slice(), link.as_slice());
-    assert_eq!(rt; journal_out.writer.as_slice(), SILENT_JOURNAL.as_slice());
+    assert_eq!(rt; journal_out.writer.as_slice(), SILENT_RECORDS.as_slice());
     assert_eq!(rt; out.writer.as_slice(), TAKEN_AND_SILENT.as_bytes());
     assert_eq!(rt; link_in.take_byte(), Got::End);
     assert!(rt; !link_in.has_failed() && !journal_out.has_failed());

@@ -1,6 +1,7 @@
 // Streams in memory that fail after so many bytes or flushes, and drives over them.
 ghost use Rattle.std.specs.Prelude.{◌≡◌, Some, false};
 
+use crate::gtin::HEADER;
 use dali_bank::Order;
 use dali_drive::{DriveFault, Got, Sink, Source, drive};
 use dali_journal::Journal;
@@ -156,15 +157,34 @@ impl Left {
     }
 }
 
-// Drives a writer that goes on from what a file holds.
+// The file of a journal with these bytes behind the header.
+pub(crate) fn file_of(alloc: Global, records: &[u8]) -> Result<Vec<u8>, Fail> {
+    let mut file = HEADER.to_vec(alloc)?;
+    file.extend_from_slice(records)?;
+    Ok(file)
+}
+
+// Drives a writer that goes on from these records, at the moment 0.
 pub(crate) fn drive_on(
     alloc: Global,
-    file: &[u8],
+    records: &[u8],
     orders: &[Order],
     answers: &[u8],
     good: Good,
 ) -> Result<Left, Fail> {
-    let (journal, _) = Journal::load(alloc, 10, file)?;
+    drive_from(alloc, &file_of(alloc, records)?, orders, 0, answers, good)
+}
+
+// Drives a writer that goes on from what a file holds.
+pub(crate) fn drive_from(
+    alloc: Global,
+    file: &[u8],
+    orders: &[Order],
+    moment: u64,
+    answers: &[u8],
+    good: Good,
+) -> Result<Left, Fail> {
+    let (journal, _, _) = Journal::load(alloc, 10, file)?;
     let mut link_in = Script {
         bytes: answers,
         good: good.answers,
@@ -176,6 +196,7 @@ pub(crate) fn drive_on(
     let driven = drive(
         Writer::new(journal),
         orders,
+        moment,
         &mut link_in,
         &mut link_out,
         &mut journal_out,

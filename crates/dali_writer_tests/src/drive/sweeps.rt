@@ -1,7 +1,7 @@
 // Drives of one order, with each stream failing at each place, and the drives that go on from what is left.
-use crate::drive::driving::{SILENT_JOURNAL, gtin_order};
-use crate::drive::streams::{ALL, Good, Left, Wanted, drive_on};
-use crate::gtin::GTIN_JOURNAL;
+use crate::drive::driving::{SILENT_RECORDS, gtin_order};
+use crate::drive::streams::{ALL, Good, Left, Wanted, drive_on, file_of};
+use crate::gtin::GTIN_RECORDS;
 use crate::writer::case::{ENOUGH, put};
 use dali_bank::Order;
 use dali_drive::DriveFault;
@@ -79,15 +79,15 @@ fn work_by_hand(
     Err("an idle writer".into())
 }
 
-// Goes on from what a file holds, and then submits the order.
+// Goes on from these records, and then submits the order.
 fn by_hand(
     alloc: Global,
     bus: &mut SimBus,
-    file: &[u8],
+    records: &[u8],
     order: &Order,
     lie: Option<Lie>,
 ) -> Result<Seen, Fail> {
-    let (journal, _) = Journal::load(alloc, 10, file)?;
+    let (journal, _, _) = Journal::load(alloc, 10, &file_of(alloc, records)?)?;
     let mut writer = Writer::new(journal);
     let mut seen = Seen {
         frames: Vec::new(alloc),
@@ -95,7 +95,7 @@ fn by_hand(
         answers: Vec::new(alloc),
     };
     work_by_hand(bus, &mut writer, &mut seen, lie)?;
-    let _reply = writer.submit(order.copy())?;
+    let _reply = writer.submit(order.copy(), 0)?;
     work_by_hand(bus, &mut writer, &mut seen, lie)?;
     Ok(seen)
 }
@@ -189,8 +189,9 @@ struct Run<'a> {
     frames: u8,
     // The first lines of the link, and of the answers.
     first: (&'a str, &'a str),
+    // Its journal's records.
     journal: &'a [u8],
-    // Where its records end.
+    // Where they end.
     ends: &'a [usize],
     // What is said where none, some and all of its records are there at first.
     said: [&'a str; 3],
@@ -200,8 +201,8 @@ const ABSENT: Run<'static> = Run {
     unit: 9,
     frames: 16,
     first: ("C301\n139C\nC301\n", "--\n--\n--\n"),
-    journal: &SILENT_JOURNAL,
-    ends: &[23, 25],
+    journal: &SILENT_RECORDS,
+    ends: &[31, 33],
     said: [
         "reply 1 taken\nreply 1 kept 3 Silent\n",
         "reply 1 kept 3 Silent\nreply 1 kept 3 Silent\n",
@@ -216,8 +217,8 @@ const WRITTEN: Run<'static> = Run {
         "C301\n0B9C\nA300\n0B98\n0BC5\n0B98\n0B9C\n0B81\n0B81\nC301\n0B9C\nA302\n0B98\nC755\n",
         "--\n01\n--\n00\n77\n01\n01\n--\n--\n--\n01\n--\n02\n55\n",
     ),
-    journal: &GTIN_JOURNAL,
-    ends: &[23, 25, 27],
+    journal: &GTIN_RECORDS,
+    ends: &[31, 33, 35],
     said: [
         "reply 1 taken\nreply 1 kept 0 Done\n",
         "reply 1 kept 0 Done\nreply 1 kept 0 Done\n",
@@ -226,7 +227,7 @@ const WRITTEN: Run<'static> = Run {
 };
 
 impl<'a> Run<'a> {
-    // How many of a journal's first bytes are whole records.
+    // How many of the first bytes of its records are whole ones.
     fn counted(&self, length: usize) -> usize {
         let mut counted = 0;
         for &end in self.ends {
@@ -264,8 +265,9 @@ fn judge_rest(
         assert!(rt; frame.is_proper());
         bus.carry(frame);
     }
-    let (_, counted) = Journal::load(alloc, 10, &left.journal)?;
-    assert_eq!(rt; counted, run.counted(left.journal.len()), "{place:?}");
+    let counted = run.counted(left.journal.len());
+    let (_, of_file, _) = Journal::load(alloc, 10, &file_of(alloc, &left.journal)?)?;
+    assert!(rt; of_file.checked_sub(4) == Some(counted), "{place:?}");
     let seen = by_hand(alloc, &mut bus, &left.journal, &orders[0], None)?;
     let rest = drive_on(alloc, &left.journal, &orders, &seen.answers, ALL)?;
     let wanted = Wanted {
@@ -393,8 +395,8 @@ const LIES: [(Lie, usize); 2] = [
 fn wrong_answers(rt: HostRuntime) -> Result<(), Fail> {
     let alloc = rt.alloc();
     let orders = [gtin_order(5)?];
-    let mut journal = GTIN_JOURNAL;
-    journal[26] = 0x04;
+    let mut journal = GTIN_RECORDS;
+    journal[34] = 0x04;
     for (lie, frames) in LIES {
         let seen = by_hand(alloc, &mut one_unit(alloc)?, &[], &orders[0], Some(lie))?;
         let left = drive_on(alloc, &[], &orders, &seen.answers, ALL)?;

@@ -4,6 +4,8 @@ ghost use Rattle.dali_frame.specs.declared.forward.Frame.TheVariants.{Dtr0, Dtr1
 ghost use Rattle.dali_frame.specs.declared.fault.LineFault.TheVariants.{Length};
 ghost use Rattle.dali_journal.specs.declared.record.Code.TheVariants.{DoubtOpen};
 ghost use Rattle.dali_journal.specs.declared.record.Record.TheVariants.{Opened};
+ghost use Rattle.dali_journal.specs.declared.version.Version.{Version};
+ghost use Rattle.dali_journal.specs.declared.version.Version.TheVariants.{Two};
 ghost use Rattle.dali_drive.specs.declared.fault.DriveFault.TheVariants as faults;
 ghost use Rattle.dali_trace.specs.declared.happening.Reply.TheVariants as replies;
 ghost use Rattle.dali_trace.specs.declared.happening.Happening.TheVariants.{Asked, Answered, Sent, Kept, Stopped};
@@ -16,14 +18,14 @@ ghost use Rattle.dali_drive.specs.Sittings.{IsFileOf, after, MayHaveHappened};
 ghost use Rattle.dali_trace.specs.Worked.{empty, second_order, asked, taken, begun};
 ghost use Rattle.dali_trace.specs.WorkedPlans.{half_tried};
 ghost use Rattle.dali_drive.specs.WorkedDrives.{before_two, after_two, frames_turned, one_line_read, record_left_out};
-ghost use Rattle.dali_drive.specs.WorkedDrives.{first_sitting, torn_file};
+ghost use Rattle.dali_drive.specs.WorkedDrives.{first_sitting, torn_file, old_file};
 
 // An order is begun, and two frames are sent and answered, the second with a carriage return.
 fn two_frames_are_driven()
     ensures driven { IsDriven empty half_tried before_two after_two }
     ensures reply { reply_line 7 (replies.Kept DoubtOpen) ≡ codes "reply 7 kept 5 DoubtOpen\n" }
     ensures next { IsNext empty begun (Sent (Dtr1 1) None) }
-    ensures file { IsFileOf torn_file (after empty begun) 23 }
+    ensures file { IsFileOf torn_file (after empty begun) Two 35 }
 {}
 
 // What isn't its text, nor an answer's line, nor what is read of one.
@@ -41,9 +43,9 @@ fn other_texts()
 // What doesn't come next, out of turn or out of range, and what a fault can't break off.
 fn other_steps()
     ensures another_frame { ¬ IsNext empty begun (Sent (Dtr0 0) None) }
-    ensures another_order { ¬ IsNext empty begun (Asked second_order) }
+    ensures another_order { ¬ IsNext empty begun (Asked second_order 9) }
     ensures another_reply { ¬ IsNext empty asked (Answered 1 replies.Busy) }
-    ensures asked_at_work { ¬ IsInTurn empty (Asked second_order ∷ taken) }
+    ensures asked_at_work { ¬ IsInTurn empty (Asked second_order 9 ∷ taken) }
     ensures stopped { ¬ IsInTurn empty (Stopped ∷ begun) }
     ensures out_of_range { ¬ KeepsRecords (Kept (Opened 64) ∷ begun) }
     ensures two_steps { ¬ MayHaveHappened empty begun half_tried }
@@ -53,8 +55,9 @@ fn other_steps()
         → ¬ BrokenOff empty begun rest faults.NoMemory old new }
 {}
 
-// A file is that of no other records, and no sitting forgets what stands in it.
+// A file is that of no other records, and of no other moments, in no version, and no sitting forgets what stands in it.
 fn other_sittings()
-    ensures file { (count : ℕ) → ¬ IsFileOf torn_file empty count }
+    ensures file { (version : Version) (count : ℕ) → ¬ IsFileOf torn_file empty version count }
+    ensures old { (version : Version) (count : ℕ) → ¬ IsFileOf old_file (after empty begun) version count }
     ensures forgotten { ¬ FollowOn empty (first_sitting ∷ first_sitting ∷ []) }
 {}

@@ -1,5 +1,5 @@
-use crate::gear::own_bus::TestBus;
 use crate::gtin::GTIN;
+use crate::own_bus::TestBus;
 use crate::writer::case::{Deed, ENOUGH, events_of, frames_of, sent};
 use dali_frame::Frame;
 use dali_journal::Code;

@@ -62,7 +62,7 @@ const YEAR_AND_WEEK_RUN: Case<'static> = Case {
     deeds: &[Deed::Submit(1, 5, &YEAR_AND_WEEK), Deed::Steps(ENOUGH)],
     answers: &[(1, TAKEN, 0), (1, DONE, 70)],
     frames: 70,
-    journal: 19,
+    journal: 31,
     held: &[(5, 0x13, &[0x18, 0x35])],
     ..PLAIN
 };
@@ -85,7 +85,7 @@ const TWO_YEARS: Case<'static> = Case {
         (1, DONE, 112),
     ],
     frames: 112,
-    journal: 34,
+    journal: 54,
     held: &[(5, 0x13, &[0x19])],
     ..PLAIN
 };
@@ -105,7 +105,7 @@ const YEAR_AND_VOLTAGE_RUN: Case<'static> = Case {
     deeds: &[Deed::Submit(1, 5, &YEAR_AND_VOLTAGE), Deed::Steps(ENOUGH)],
     answers: &[(1, TAKEN, 0), (1, DONE, 84)],
     frames: 84,
-    journal: 21,
+    journal: 33,
     held: &[(5, 0x13, &[0x18, 0xFF]), (5, 0x19, &[0x00, 0xDC])],
     ..PLAIN
 };
@@ -197,7 +197,7 @@ const NO_UNIT: Case<'static> = Case {
     deeds: &[Deed::Submit(1, 9, &GTIN), Deed::Steps(ENOUGH)],
     answers: &[(1, TAKEN, 0), (1, Reply::Kept(Code::Silent), 16)],
     frames: 16,
-    journal: 25,
+    journal: 37,
     held: &[(5, 0x00, &BLANK)],
     ending: &[0x08, 0xAB, 0x45, 0x03],
     ..PLAIN
@@ -219,7 +219,7 @@ const A_SHORT_BANK: Case<'static> = Case {
         (2, Reply::Kept(Code::Short), 119),
     ],
     frames: 119,
-    journal: 42,
+    journal: 62,
     ending: &[0x13, 0x18, 0x45, 0x01],
     ..PLAIN
 };
@@ -277,7 +277,7 @@ const AMID_THE_WRITES: Case<'static> = Case {
     ],
     answers: &[(1, TAKEN, 0), (2, Reply::Busy, 238), (1, DONE, 1_099)],
     frames: 1_099,
-    journal: 135,
+    journal: 147,
     held: &[(5, 0x3C, &[0x42; 60]), (6, 0x00, &BLANK)],
     ..PLAIN
 };
@@ -338,7 +338,7 @@ const TWO_ORDERS: Case<'static> = Case {
         (1, DONE, 1_764),
     ],
     frames: 1_764,
-    journal: 272,
+    journal: 292,
     held: &[
         (5, 0x03, &STORED),
         (5, 0x09, &[0xAA; 8]),
@@ -375,7 +375,7 @@ fn another_content_format(rt: HostRuntime) -> Result<(), Fail> {
             (2, DONE, 133),
         ],
         frames: 133,
-        journal: 42,
+        journal: 62,
         held: &[(5, 0x03, &STORED), (5, 0x13, &[0xFF])],
         ..PLAIN
     };
@@ -393,9 +393,10 @@ const LEFT: [Deed<'static>; 6] = [
 ];
 
 // What the journal of these ends with: DoubtOpen, Closed, and all of order 2.
-const LEFT_ENDING: [u8; 31] = [
-    0x45, 0x05, 0x43, 0x05, 0x42, 0x00, 0x00, 0x00, 0x00, 0x00, 0x00, 0x00, 0x02, 0x06, 0x06, 0x03,
-    0x03, 0x04, 0xA4, 0x05, 0xCE, 0x06, 0xEF, 0x07, 0xAD, 0x08, 0xAB, 0x4F, 0x06, 0x45, 0x00,
+const LEFT_ENDING: [u8; 39] = [
+    0x45, 0x05, 0x43, 0x05, 0x42, 0x00, 0x00, 0x00, 0x00, 0x00, 0x00, 0x00, 0x02, 0x00, 0x00, 0x00,
+    0x00, 0x00, 0x00, 0x00, 0x00, 0x06, 0x06, 0x03, 0x03, 0x04, 0xA4, 0x05, 0xCE, 0x06, 0xEF, 0x07,
+    0xAD, 0x08, 0xAB, 0x4F, 0x06, 0x45, 0x00,
 ];
 
 // `./test` runs this one again and again, with each allocation refused in turn.
@@ -413,7 +414,7 @@ fn a_run_with_a_left_unit(rt: HostRuntime) -> Result<(), Fail> {
             (2, DONE, 261),
         ],
         frames: 261,
-        journal: 56,
+        journal: 76,
         held: &[(5, 0x03, &[0xFF; 6]), (6, 0x03, &STORED)],
         ending: &LEFT_ENDING,
         ..PLAIN
@@ -435,7 +436,7 @@ fn a_left_unit_that_answers_late(rt: HostRuntime) -> Result<(), Fail> {
             (2, DONE, 297),
         ],
         frames: 297,
-        journal: 56,
+        journal: 76,
         ending: &LEFT_ENDING,
         held: &[
             (5, 0x02, &[0x55, 0xFF, 0xFF, 0xFF, 0xFF, 0xFF, 0xFF]),

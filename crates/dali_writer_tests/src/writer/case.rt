@@ -1,4 +1,4 @@
-use crate::gtin::GTIN;
+use crate::gtin::{GTIN, HEADER};
 use dali_bank::{BLANK, Order};
 use dali_frame::Frame;
 use dali_gear::{Fate, GearFault, SimBus, Unit};
@@ -22,8 +22,10 @@ pub(crate) const DONE: Reply = Reply::Kept(Code::Done);
 // What is done in a case, in turn.
 #[derive(Clone, Copy)]
 pub(crate) enum Deed<'a> {
-    // An order's number, unit and updates.
+    // An order's number, unit and updates. It is submitted at the moment 0.
     Submit(u64, u8, &'a [(u8, u8)]),
+    // The same of an order that is submitted at this moment.
+    SubmitAt(u64, u64, u8, &'a [(u8, u8)]),
     // An order for unit 5: its number, and a byte for all places between these locations.
     Fill(u64, u8, u8, u8),
     Steps(usize),
@@ -70,7 +72,7 @@ pub(crate) const PLAIN: Case<'static> = Case {
     deeds: &[Deed::Submit(1, 5, &GTIN), Deed::Steps(ENOUGH)],
     answers: &[(1, TAKEN, 0), (1, DONE, 112)],
     frames: 112,
-    journal: 27,
+    journal: 39,
     ending: &[0x4F, 0x05, 0x45, 0x00],
     held: &[(5, 0x03, &STORED)],
 };
@@ -93,21 +95,32 @@ fn filled(alloc: Global, first: u8, last: u8, byte: u8) -> Result<Vec<(u8, u8)>,
     Ok(updates)
 }
 
+// Puts the submission of an order at the end, where it is one.
+pub(crate) fn submit(
+    events: &mut Vec<Event>,
+    moment: u64,
+    id: u64,
+    unit: u8,
+    updates: &[(u8, u8)],
+) -> Result<(), AllocError> {
+    match Order::from_pairs(id, unit, updates) {
+        Some(order) => put(events, Event::Submit(order, moment)),
+        None => Ok(()),
+    }
+}
+
 // The events of the deeds. What makes no order is left out.
 pub(crate) fn events_of(alloc: Global, deeds: &[Deed<'_>]) -> Result<Vec<Event>, RunFault> {
     let mut events = Vec::new(alloc);
     for deed in deeds {
         match *deed {
-            Deed::Submit(id, unit, updates) => {
-                if let Some(order) = Order::from_pairs(id, unit, updates) {
-                    put(&mut events, Event::Submit(order))?;
-                }
+            Deed::Submit(id, unit, updates) => submit(&mut events, 0, id, unit, updates)?,
+            Deed::SubmitAt(moment, id, unit, updates) => {
+                submit(&mut events, moment, id, unit, updates)?;
             }
             Deed::Fill(id, first, last, byte) => {
                 let updates = filled(alloc, first, last, byte)?;
-                if let Some(order) = Order::from_pairs(id, 5, &updates) {
-                    put(&mut events, Event::Submit(order))?;
-                }
+                submit(&mut events, 0, id, 5, &updates)?;
             }
             Deed::Steps(count) => {
                 for _ in 0..count {
@@ -223,6 +236,7 @@ pub(crate) fn judge(rt: &impl Abort, alloc: Global, case: &Case<'_>) -> Result<(
     assert_eq!(rt; answers.as_slice(), case.answers, "{name}");
     assert_eq!(rt; frames_of(&outcome.trace), case.frames, "{name}");
     assert_eq!(rt; outcome.journal.len(), case.journal, "{name}");
+    assert!(rt; outcome.journal.starts_with(&HEADER), "{name}");
     assert!(rt; outcome.journal.ends_with(case.ending), "{name}");
     for &(address, location, bytes) in case.held {
         let unit = unit_at(&bus, address)?;

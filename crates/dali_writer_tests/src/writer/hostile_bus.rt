@@ -1,6 +1,6 @@
 ghost use Rattle.std.specs.Prelude.{◌≡◌};
 ghost use Rattle.dali_gear.specs.SimState.{unit_powered};
-ghost use Rattle.dali_tests.specs.HostileBus.{DoesHear, MayBeDeaf};
+ghost use Rattle.dali_writer_tests.specs.HostileBus.{DoesHear, MayBeDeaf};
 
 use crate::gtin::GTIN;
 use crate::writer::case::{Deed, ENOUGH, STORED, events_of};
@@ -62,7 +62,7 @@ struct HostileBus {
 
 impl Bus for HostileBus {
     ghost use Rattle.dali_bus.specs.Carry.{WorldStep};
-    ghost use Rattle.dali_tests.specs.HostileBus.{world_of_both};
+    ghost use Rattle.dali_writer_tests.specs.HostileBus.{world_of_both};
 
     ghost world = { λ bus. world_of_both bus.first bus.second };
 

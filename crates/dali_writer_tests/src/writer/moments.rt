@@ -90,7 +90,7 @@ pub(crate) fn judge_moments(
             }
             Happening::Powered(address) => bus.power(*address),
             Happening::Kept(entry) => {
-                if let Record::Began(order) = entry {
+                if let Record::Began(order, _) = entry {
                     at_work = order.unit();
                 }
                 for rule in allowed.iter_mut() {

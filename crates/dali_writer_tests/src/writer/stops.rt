@@ -1,19 +1,30 @@
-use crate::gtin::GTIN;
+use crate::gtin::{GTIN, HEADER};
 use crate::writer::case::{
-    Case, DONE, Deed, ENOUGH, PLAIN, TAKEN, bus_of, events_of, frames_of, judge, put,
+    Case, DONE, Deed, ENOUGH, PLAIN, TAKEN, bus_of, events_of, frames_of, judge, put, submit,
 };
 use crate::writer::moments::judge_moments;
-use dali_bank::Order;
 use dali_gear::SimBus;
 use dali_writer::{Event, RunFault, run_sim};
 use std::alloc::Global;
 use std::test::Fail;
 
+// Of the 31 bytes of Began so many don't reach the journal as a record: the order is forgotten.
 const BEGAN_CUT: Case<'static> = Case {
+    name: "Began is cut",
+    deeds: &[Deed::Submit(1, 5, &GTIN), Deed::Stop(22), Deed::Steps(200)],
+    answers: &[(1, TAKEN, 0)],
+    frames: 0,
+    journal: 4,
+    ending: &HEADER,
+    held: &[(5, 0x02, &[0xFF; 7])],
+    ..PLAIN
+};
+
+const BEGAN_CUT_AND_TAKEN: Case<'static> = Case {
     name: "Began is cut, and the order taken again",
     deeds: &[
         Deed::Submit(1, 5, &GTIN),
-        Deed::Stop(22),
+        Deed::Stop(30),
         Deed::Submit(1, 5, &GTIN),
         Deed::Steps(ENOUGH),
     ],
@@ -25,9 +36,40 @@ const BEGAN_WHOLE: Case<'static> = Case {
     name: "Began is whole",
     deeds: &[
         Deed::Submit(1, 5, &GTIN),
+        Deed::Stop(31),
+        Deed::Steps(ENOUGH),
+    ],
+    ..PLAIN
+};
+
+const BEGAN_WHOLE_AND_MORE: Case<'static> = Case {
+    name: "Began is whole, and more would reach the journal",
+    deeds: &[
+        Deed::Submit(1, 5, &GTIN),
         Deed::Stop(400),
         Deed::Steps(ENOUGH),
     ],
+    ..PLAIN
+};
+
+// One byte of Opened, which is cut away.
+const OPENED_CUT: Case<'static> = Case {
+    name: "Opened is cut, and no step comes",
+    deeds: &[Deed::Submit(1, 5, &GTIN), Deed::Steps(8), Deed::Stop(1)],
+    answers: &[(1, TAKEN, 0)],
+    frames: 7,
+    journal: 35,
+    ending: &[0x07, 0xAD, 0x08, 0xAB],
+    held: &[(5, 0x02, &[0xFF; 7])],
+    ..PLAIN
+};
+
+const ENDED_CUT_THERE: Case<'static> = Case {
+    name: "Ended is cut, and no step comes",
+    deeds: &[Deed::Submit(1, 5, &GTIN), Deed::Steps(114), Deed::Stop(1)],
+    answers: &[(1, TAKEN, 0)],
+    journal: 37,
+    ending: &[0x08, 0xAB, 0x4F, 0x05],
     ..PLAIN
 };
 
@@ -58,10 +100,19 @@ const ENDED_WHOLE: Case<'static> = Case {
 
 #[test]
 fn records_cut_and_whole(rt: HostRuntime) -> Result<(), Fail> {
-    judge(&rt, rt.alloc(), &BEGAN_CUT)?;
-    judge(&rt, rt.alloc(), &BEGAN_WHOLE)?;
-    judge(&rt, rt.alloc(), &ENDED_CUT)?;
-    judge(&rt, rt.alloc(), &ENDED_WHOLE)
+    for case in [
+        BEGAN_CUT,
+        BEGAN_CUT_AND_TAKEN,
+        BEGAN_WHOLE,
+        BEGAN_WHOLE_AND_MORE,
+        OPENED_CUT,
+        ENDED_CUT_THERE,
+        ENDED_CUT,
+        ENDED_WHOLE,
+    ] {
+        judge(&rt, rt.alloc(), &case)?;
+    }
+    Ok(())
 }
 
 // The units that the three submissions are for, each with the number of its order, and how many steps
@@ -85,9 +136,7 @@ fn events_with_a_stop(
 ) -> Result<Vec<Event>, RunFault> {
     let mut events = Vec::new(alloc);
     for (number, &(id, unit, _)) in SUBMISSIONS.iter().enumerate() {
-        if let Some(order) = Order::from_pairs(id, unit, &GTIN) {
-            put(&mut events, Event::Submit(order))?;
-        }
+        submit(&mut events, 0, id, unit, &GTIN)?;
         for made in 0..STEPS {
             if number == submission && made == step {
                 put(&mut events, Event::Stop(bytes))?;

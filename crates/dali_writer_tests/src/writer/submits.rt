@@ -1,9 +1,202 @@
-// Orders that are submitted where memory is refused.
+// Orders that are submitted at moments, and where memory is refused.
 use crate::gtin::GTIN;
+use crate::writer::case::{Case, DONE, Deed, ENOUGH, PLAIN, TAKEN, bus_of, judge, put, run_case};
 use dali_bank::Order;
-use dali_journal::{Journal, NoMemory};
-use dali_writer::{Reply, Writer};
+use dali_journal::{Code, Journal, NoMemory, Record};
+use dali_writer::{Happening, Reply, RunFault, Want, Writer};
+use std::alloc::Global;
+use std::process::Abort;
 use std::test::Fail;
+
+// 65 53 F1 00 in hexadecimal digits.
+const MOMENT: u64 = 1_700_000_000;
+
+const LATER: u64 = 1_700_000_009;
+
+// A case, the moments of its submissions, and the numbers of the orders that begin, with their moments.
+#[derive(Clone, Copy)]
+struct Submitted<'a> {
+    case: Case<'a>,
+    asked: &'a [u64],
+    begun: &'a [(u64, u64)],
+}
+
+const DONE_ALREADY: Submitted<'static> = Submitted {
+    case: Case {
+        name: "an order that is done, at another moment",
+        deeds: &[
+            Deed::SubmitAt(MOMENT, 1, 5, &GTIN),
+            Deed::Steps(ENOUGH),
+            Deed::SubmitAt(LATER, 1, 5, &GTIN),
+            Deed::Steps(ENOUGH),
+        ],
+        answers: &[(1, TAKEN, 0), (1, DONE, 112), (1, DONE, 112)],
+        ..PLAIN
+    },
+    asked: &[MOMENT, LATER],
+    begun: &[(1, MOMENT)],
+};
+
+const AT_WORK: Submitted<'static> = Submitted {
+    case: Case {
+        name: "an order that waits, and then one that is at work, at other moments",
+        deeds: &[
+            Deed::SubmitAt(u64::MAX, 1, 5, &GTIN),
+            Deed::SubmitAt(LATER, 1, 5, &GTIN),
+            Deed::Steps(20),
+            Deed::SubmitAt(MOMENT, 1, 5, &GTIN),
+            Deed::Steps(ENOUGH),
+        ],
+        answers: &[
+            (1, TAKEN, 0),
+            (1, Reply::Busy, 0),
+            (1, Reply::Busy, 18),
+            (1, DONE, 112),
+        ],
+        ..PLAIN
+    },
+    asked: &[u64::MAX, LATER, MOMENT],
+    begun: &[(1, u64::MAX)],
+};
+
+const FORGOTTEN: Submitted<'static> = Submitted {
+    case: Case {
+        name: "an order that a stop forgets, at another moment",
+        deeds: &[
+            Deed::SubmitAt(LATER, 1, 5, &GTIN),
+            Deed::Stop(30),
+            Deed::SubmitAt(MOMENT, 1, 5, &GTIN),
+            Deed::Steps(ENOUGH),
+        ],
+        answers: &[(1, TAKEN, 0), (1, TAKEN, 0), (1, DONE, 112)],
+        ..PLAIN
+    },
+    asked: &[LATER, MOMENT],
+    begun: &[(1, MOMENT)],
+};
+
+const STOPPED: Submitted<'static> = Submitted {
+    case: Case {
+        name: "an order that goes on after stops",
+        deeds: &[
+            Deed::SubmitAt(MOMENT, 1, 5, &GTIN),
+            Deed::Stop(31),
+            Deed::Steps(7),
+            Deed::Stop(2),
+            Deed::Steps(ENOUGH),
+        ],
+        ..PLAIN
+    },
+    asked: &[MOMENT],
+    begun: &[(1, MOMENT)],
+};
+
+// Order 2 is blocked by the unit that order 1 leaves, and begins when it is taken again.
+const BLOCKED: Submitted<'static> = Submitted {
+    case: Case {
+        name: "an order that is blocked, and then taken at another moment",
+        lost: &[(8, 135)],
+        deeds: &[
+            Deed::SubmitAt(3, 1, 5, &GTIN),
+            Deed::Steps(ENOUGH),
+            Deed::SubmitAt(MOMENT, 2, 6, &GTIN),
+            Deed::Steps(ENOUGH),
+            Deed::SubmitAt(LATER, 2, 6, &GTIN),
+            Deed::Steps(ENOUGH),
+        ],
+        answers: &[
+            (1, TAKEN, 0),
+            (1, Reply::Kept(Code::DoubtOpen), 87),
+            (2, TAKEN, 87),
+            (2, Reply::Blocked(5), 135),
+            (2, TAKEN, 135),
+            (2, DONE, 261),
+        ],
+        frames: 261,
+        journal: 76,
+        ending: &[0x4F, 0x06, 0x45, 0x00],
+        held: &[],
+        ..PLAIN
+    },
+    asked: &[3, MOMENT, LATER],
+    begun: &[(1, 3), (2, LATER)],
+};
+
+// The moments of the submissions.
+fn asked_in(alloc: Global, trace: &[Happening]) -> Result<Vec<u64>, RunFault> {
+    let mut asked = Vec::new(alloc);
+    for happening in trace {
+        if let Happening::Asked(_, moment) = happening {
+            put(&mut asked, *moment)?;
+        }
+    }
+    Ok(asked)
+}
+
+// The numbers of the orders that began, with their moments.
+fn begun_in(alloc: Global, trace: &[Happening]) -> Result<Vec<(u64, u64)>, RunFault> {
+    let mut begun = Vec::new(alloc);
+    for happening in trace {
+        if let Happening::Kept(Record::Began(order, moment)) = happening {
+            put(&mut begun, (order.id(), *moment))?;
+        }
+    }
+    Ok(begun)
+}
+
+// Whether the journal of these bytes has these orders with their moments, and no order 9.
+fn has_moments(alloc: Global, bytes: &[u8], begun: &[(u64, u64)]) -> Result<bool, Fail> {
+    let (journal, _, _) = Journal::load(alloc, 10, bytes)?;
+    let mut has = journal.moment(9).is_none();
+    for &(id, moment) in begun {
+        has &= journal.moment(id) == Some(moment);
+    }
+    Ok(has)
+}
+
+// Runs a case, and tells whether its moments are as they should be too.
+fn judge_submitted(rt: &impl Abort, alloc: Global, submitted: &Submitted<'_>) -> Result<(), Fail> {
+    let case = &submitted.case;
+    let name = case.name;
+    judge(rt, alloc, case)?;
+    let mut bus = bus_of(alloc, case)?;
+    let outcome = run_case(alloc, &mut bus, case)?;
+    let asked = asked_in(alloc, &outcome.trace)?;
+    let begun = begun_in(alloc, &outcome.trace)?;
+    assert!(rt; asked.as_slice() == submitted.asked, "{name}");
+    assert!(rt; begun.as_slice() == submitted.begun, "{name}");
+    assert!(rt;
+        has_moments(alloc, &outcome.journal, submitted.begun)?,
+        "{name}"
+    );
+    Ok(())
+}
+
+#[test]
+fn moments_of_submissions(rt: HostRuntime) -> Result<(), Fail> {
+    for submitted in [DONE_ALREADY, AT_WORK, FORGOTTEN, STOPPED, BLOCKED] {
+        judge_submitted(&rt, rt.alloc(), &submitted)?;
+    }
+    Ok(())
+}
+
+#[test]
+fn the_bytes_of_a_moment(rt: HostRuntime) -> Result<(), Fail> {
+    let alloc = rt.alloc();
+    let mut bus = bus_of(alloc, &DONE_ALREADY.case)?;
+    let outcome = run_case(alloc, &mut bus, &DONE_ALREADY.case)?;
+    let moment = outcome.journal.get(13..21).unwrap_or_default();
+    assert_eq!(rt;
+        moment,
+        [0x00, 0x00, 0x00, 0x00, 0x65, 0x53, 0xF1, 0x00].as_slice()
+    );
+    let (journal, _, _) = Journal::load(alloc, 10, &outcome.journal)?;
+    assert_eq!(rt;
+        (journal.moment(1), journal.moment(2)),
+        (Some(MOMENT), None)
+    );
+    Ok(())
+}
 
 // `./test` runs this one again and again, with each allocation refused in turn. An order that was refused is taken
 // when it comes again.
@@ -11,11 +204,12 @@ use std::test::Fail;
 fn a_refused_order_is_taken_when_it_comes_again(rt: HostRuntime) -> Result<(), Fail> {
     let mut writer = Writer::new(Journal::new(rt.alloc(), 2)?);
     let order = Order::from_pairs(1, 5, &GTIN).ok_or("an order")?;
-    let (reply, was_refused) = match writer.submit(order.copy()) {
+    let (reply, was_refused) = match writer.submit(order.copy(), LATER) {
         Ok(reply) => (reply, false),
-        Err(_) => (writer.submit(order.copy())?, true),
+        Err(_) => (writer.submit(order.copy(), LATER)?, true),
     };
     assert_eq!(rt; reply, Reply::Taken);
+    assert!(rt; matches!(writer.want(), Want::Keep(Record::Began(_, LATER))));
     if was_refused {
         return Err(NoMemory.into());
     }

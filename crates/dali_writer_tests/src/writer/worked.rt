@@ -1,11 +1,14 @@
 ghost use Rattle.std.specs.Prelude.{◌≡◌, ◌∷◌, [], length};
+ghost use Rattle.dali_journal.specs.declared.record.Record.TheVariants.{Began};
 ghost use Rattle.dali_trace.specs.declared.happening.Happening.TheVariants.{Stopped};
+ghost use Rattle.dali_trace.specs.declared.happening.Reply.TheVariants.{IdReused};
 ghost use Rattle.dali_trace.specs.declared.happening.Event.TheVariants.{Submit, Step, Stop};
 ghost use Rattle.dali_trace.specs.Trace.{sent_of};
 ghost use Rattle.dali_trace.specs.Taken.{taken_orders};
-ghost use Rattle.dali_trace.specs.Legal.{Legal, IsFinished};
+ghost use Rattle.dali_trace.specs.Replies.{IsReply};
+ghost use Rattle.dali_trace.specs.Legal.{Legal, IsFinished, MayKeep};
 ghost use Rattle.dali_trace.specs.Parts.{AreParts};
-ghost use Rattle.dali_trace.specs.Worked.{empty, left_open, first_order, second_order, asked, taken, begun};
+ghost use Rattle.dali_trace.specs.Worked.{empty, left_open, first_order, second_order, asked, taken, begun, said};
 ghost use Rattle.dali_trace.specs.Worked.{first_carried_out, unreached, blocked, second_begun, GoesAlong, unguarded};
 ghost use Rattle.dali_trace.specs.Worked.{bank_not_asked, written_twice, another_byte, idle_frame};
 ghost use Rattle.dali_trace.specs.Worked.{frame_to_another_unit, enabled_before_opened, opened_unread, done_unread};
@@ -21,7 +24,7 @@ ghost use Rattle.dali_trace.specs.Worked.{blocked_under_another_number, said_aft
 ghost use Rattle.dali_trace.specs.Worked.{reply_to_another, said_before_ended, begun_while_left, closed_unread};
 ghost use Rattle.dali_trace.specs.Worked.{blocked_after_a_read, left_unit_unlocked, begun_after_a_stop};
 
-// A GTIN order on a blank unit, 112 frames, and the same order sent again.
+// A GTIN order on a blank unit, 112 frames, and the same order sent again at another moment.
 fn the_worked_trace_is_legal()
     ensures legal { Legal empty first_carried_out }
     ensures finished { IsFinished first_carried_out }
@@ -69,14 +72,14 @@ fn traces_with_stops_are_legal()
     ensures once { taken_orders taken_after_a_stop ≡ first_order ∷ [] }
 {}
 
-// A step keeps the record of 23 bytes that begins the order, and so does a stop that lets 23 bytes through, whatever
-// comes, but not one that lets 22 through. An order alone is no finished trace.
+// A step keeps the record of 31 bytes that begins the order, and so does a stop that lets 31 bytes through, whatever
+// comes, but not one that lets 30 through. An order alone is no finished trace.
 fn traces_are_parts_of_events()
-    ensures stepped { AreParts empty (Step ∷ Submit first_order ∷ []) begun }
-    ensures stopped { AreParts empty (Stop 22 ∷ Step ∷ Submit first_order ∷ []) (Stopped ∷ begun) }
-    ensures kept { AreParts empty (Stop 23 ∷ Submit first_order ∷ []) (Stopped ∷ begun) }
-    ensures cut { ¬ AreParts empty (Stop 22 ∷ Submit first_order ∷ []) (Stopped ∷ begun) }
-    ensures lost { ¬ AreParts empty (Stop 23 ∷ Submit first_order ∷ []) (Stopped ∷ taken) }
+    ensures stepped { AreParts empty (Step ∷ Submit first_order 7 ∷ []) begun }
+    ensures stopped { AreParts empty (Stop 30 ∷ Step ∷ Submit first_order 7 ∷ []) (Stopped ∷ begun) }
+    ensures kept { AreParts empty (Stop 31 ∷ Submit first_order 7 ∷ []) (Stopped ∷ begun) }
+    ensures cut { ¬ AreParts empty (Stop 30 ∷ Submit first_order 7 ∷ []) (Stopped ∷ begun) }
+    ensures lost { ¬ AreParts empty (Stop 31 ∷ Submit first_order 7 ∷ []) (Stopped ∷ taken) }
     ensures idle { ¬ AreParts empty (Step ∷ []) asked }
     ensures unfinished { ¬ IsFinished asked }
 {}
@@ -104,6 +107,7 @@ fn records_that_are_not_legal()
     ensures done_unread { ¬ Legal empty done_unread }
     ensures done_with_the_lock_unread { ¬ Legal empty done_with_the_lock_unread }
     ensures begun_twice { ¬ Legal empty begun_twice }
+    ensures begun_at_another_moment { ¬ MayKeep empty taken (Began first_order 8) }
     ensures begun_while_left { ¬ Legal left_open begun_while_left }
     ensures begun_after_a_stop { ¬ Legal empty begun_after_a_stop }
     ensures closed_unread { ¬ Legal left_open closed_unread }
@@ -122,6 +126,7 @@ fn answers_that_are_not_legal()
     ensures another_number_said { ¬ Legal empty another_number_said }
     ensures blocked_under_another_number { ¬ Legal left_open blocked_under_another_number }
     ensures said_after_a_stop { ¬ Legal empty said_after_a_stop }
+    ensures reused_by_its_moment { ¬ IsReply empty said first_order IdReused }
 {}
 
 // All of it is proved: the test calls it, so that nothing is left out.

@@ -140,8 +140,8 @@ fn said_by_the_1237th_step()
     ensures parts { (start : Start) (newer older : List Event) (trace : List Happening)
         → SaysInTime start newer older trace
         → AreParts start (newer ++ older) trace }
-    ensures steps { steps_in (Step ∷ Submit second_order ∷ Stop 0 ∷ Step ∷ []) ≡ 2 }
-    ensures submits { NoneStops (Step ∷ Submit second_order ∷ Step ∷ []) }
+    ensures steps { steps_in (Step ∷ Submit second_order 9 ∷ Stop 0 ∷ Step ∷ []) ≡ 2 }
+    ensures submits { NoneStops (Step ∷ Submit second_order 9 ∷ Step ∷ []) }
     ensures stops { ¬ NoneStops (Step ∷ Stop 0 ∷ Step ∷ []) }
 {}
 

@@ -7,8 +7,8 @@ pub returns-clause-answer : goal.returns-clause-answer
 returns-clause-answer g c = elim c.match-drive.branch [
   | in-Ok w ↦
       rw (w.lines-is, w.result-is)
-      (ends_well _ c.new-writer.result _ _ _ _ _ c.new-writer.ensures.journal w.in-Ok.ensures.driven refl)
+      (ends_well _ c.new-writer.result _ _ _ _ _ _ c.new-writer.ensures.journal w.in-Ok.ensures.driven refl)
   | in-Err w ↦ rw (w.lines-is, w.result-is)
-      (ends_broken _ c.new-writer.result _ _ _ _ w.in-Err.fault _ c.new-writer.ensures.journal w.in-Err.ensures.broken
+      (ends_broken _ c.new-writer.result _ _ _ _ _ w.in-Err.fault _ c.new-writer.ensures.journal w.in-Err.ensures.broken
       w.tell_fault.ensures.told)
 ]

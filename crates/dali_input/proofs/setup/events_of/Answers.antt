@@ -1,6 +1,6 @@
 use Rattle.std.proofs.Common.{ap, sym, refl, [], append-nil, ◌+◌}
 use Rattle.dali_input.specs.Scenario.{event_of}
-use Rattle.dali_input.proofs.SetupLemmas.{more_events}
+use Rattle.dali_input.proofs.SetupLemmas.{more_events, first_order_fault}
 use Rattle.dali_input.proofs.setup.events_of.Goals as goal
 use Rattle.dali_input.proofs.setup.events_of.Goals.{in-Submit+in-Ok+in_ok-push-in-Ok}
 use Rattle.dali_input.proofs.setup.events_of.Goals.{in-Steps+in_ok-push_steps-in-Steps, in-Stop+in_ok-push-in-Stop}
@@ -28,3 +28,9 @@ loop-plan-preserved c = record {
   ];
   counted = ap (λ n. n + 1) c.loop-plan.invariant.counted;
 }
+
+pub returns-in-Err-clause-err : goal.returns-in-Err-clause-err
+returns-in-Err-clause-err c =
+    first_order_fault c.args.plans.now c.loop-plan.plan-index c.loop-plan.number c.plan-item.result
+    c.loop-plan.events.items _ c.in-Submit.moment c.in-Err.fault c.loop-plan-test.true c.plan-item.is
+    c.loop-plan.invariant.counted (ap event_of c.in-Submit.is) c.loop-plan.invariant.made c.in-Err.ensures.err

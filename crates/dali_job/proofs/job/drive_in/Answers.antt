@@ -1,7 +1,13 @@
 use Rattle.dali_job.proofs.job.drive_in.Goals as goal
 
-pub returns-in_default-clause-none : goal.returns-in_default-clause-none
-returns-in_default-clause-none c = λ orders journal named. c.in_default.ensures.none orders.now named.0
+pub returns-in_err-orders-clause-none : goal.returns-in_err-orders-clause-none
+returns-in_err-orders-clause-none c =
+    rw c.from_residual.ensures (λ orders journal moment named. c.in_err-orders.ensures.none orders.now named.0)
 
-pub returns-in-None-clause-none : goal.returns-in-None-clause-none
-returns-in-None-clause-none c = λ orders journal named. c.in-None.ensures.none journal.now named.1
+pub returns-in_err-journal-clause-none : goal.returns-in_err-journal-clause-none
+returns-in_err-journal-clause-none c = rw c.from_residual-in_err-journal.ensures
+    (λ orders journal moment named. c.in_err-journal.ensures.none journal.now named.1)
+
+pub returns-in_err-moment-clause-none : goal.returns-in_err-moment-clause-none
+returns-in_err-moment-clause-none c = rw c.from_residual-in_err-moment.ensures
+    (λ orders journal moment named. c.in_err-moment.ensures.none moment named.2)

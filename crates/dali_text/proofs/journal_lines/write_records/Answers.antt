@@ -6,4 +6,4 @@ pub returns-clause-text : goal.returns-clause-text
 returns-clause-text g c =
     let records = c.args.journal.now.records in
     c.write_each.ensures.text (reverse records) (all_forward records c.limit-limit.ensures.journal.kept.in_range)
-    (c.requires ∙ journal_forward records)
+    (c.record_bytes.ensures ∙ journal_forward records)

@@ -1,5 +1,5 @@
-use Rattle.dali_write.proofs.WorkedAccessLemmas.{first_taken, last_taken, lock_not_taken, next_not_taken, fixed_not_taken}
-use Rattle.dali_write.proofs.WorkedAccessLemmas.{second_has}
+use Rattle.dali_write.proofs.WorkedAccessLemmas.{first_taken, last_taken, lock_not_taken, next_not_taken}
+use Rattle.dali_write.proofs.WorkedAccessLemmas.{fixed_not_taken, second_has}
 use Rattle.dali_tests.proofs.write.worked_accesses.what_a_bank_takes.Goals as goal
 
 pub returns-clause-first : goal.returns-clause-first

@@ -1,5 +1,5 @@
 use Rattle.dali_drive.proofs.WorkedDriveLemmas.{not_another_frame, no_record_broken}
-use Rattle.dali_tests.proofs.drive.worked_drives.other_steps.Goals as goal
+use Rattle.dali_writer_tests.proofs.drive.worked_drives.other_steps.Goals as goal
 
 pub returns-clause-another_frame : goal.returns-clause-another_frame
 returns-clause-another_frame c = not_another_frame

@@ -1,5 +1,5 @@
 use Rattle.dali_drive.proofs.WorkedDriveLemmas.{two_driven, kept_line, first_next, torn_is}
-use Rattle.dali_tests.proofs.drive.worked_drives.two_frames_are_driven.Goals as goal
+use Rattle.dali_writer_tests.proofs.drive.worked_drives.two_frames_are_driven.Goals as goal
 
 pub returns-clause-driven : goal.returns-clause-driven
 returns-clause-driven c = two_driven

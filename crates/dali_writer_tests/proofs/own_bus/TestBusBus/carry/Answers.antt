@@ -1,5 +1,5 @@
 use Rattle.dali_write.proofs.LoneUnitLemmas.{hears_dtr0, hears_dtr1, tells_dtr0, tells_dtr1}
-use Rattle.dali_tests.proofs.gear.own_bus.TestBusBus.carry.Goals as goal
+use Rattle.dali_writer_tests.proofs.own_bus.TestBusBus.carry.Goals as goal
 
 pub returns-in-Dtr0 : goal.returns-in-Dtr0
 returns-in-Dtr0 c = rw c.in-Dtr0.is (hears_dtr0 _ _ _)

@@ -1,5 +1,5 @@
 use Rattle.dali_write.proofs.LoneUnitLemmas.{loses_power, keeps_power}
-use Rattle.dali_tests.proofs.gear.own_bus.TestBusBus.power.Goals as goal
+use Rattle.dali_writer_tests.proofs.own_bus.TestBusBus.power.Goals as goal
 
 pub returns-then-address-eq9 : goal.returns-then-address-eq9
 returns-then-address-eq9 c = rw c.if-address-eq9.true (loses_power _ _)

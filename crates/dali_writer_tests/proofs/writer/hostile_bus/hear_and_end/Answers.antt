@@ -1,5 +1,5 @@
-use Rattle.dali_tests.proofs.HostileLemmas.{ended}
-use Rattle.dali_tests.proofs.writer.hostile_bus.hear_and_end.Goals as goal
+use Rattle.dali_writer_tests.proofs.HostileLemmas.{ended}
+use Rattle.dali_writer_tests.proofs.writer.hostile_bus.hear_and_end.Goals as goal
 
 pub returns : goal.returns
 returns c =

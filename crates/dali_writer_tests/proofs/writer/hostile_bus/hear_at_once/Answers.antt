@@ -1,5 +1,5 @@
-use Rattle.dali_tests.proofs.HostileLemmas.{heard, one_is_enough}
-use Rattle.dali_tests.proofs.writer.hostile_bus.hear_at_once.Goals as goal
+use Rattle.dali_writer_tests.proofs.HostileLemmas.{heard, one_is_enough}
+use Rattle.dali_writer_tests.proofs.writer.hostile_bus.hear_at_once.Goals as goal
 
 pub returns-in-Enable : goal.returns-in-Enable
 returns-in-Enable c =

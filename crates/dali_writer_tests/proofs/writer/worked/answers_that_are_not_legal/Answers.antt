@@ -1,8 +1,8 @@
 use Rattle.dali_trace.proofs.RefusedLemmas.{not_another_number, not_blocked_under_another_number, not_said_after_a_stop}
 use Rattle.dali_trace.proofs.RefusedLemmas.{not_another_code, not_blocked_by_no_unit, not_taken_when_full}
 use Rattle.dali_trace.proofs.RefusedLemmas.{not_busy_at_once, not_to_another_number, not_said_before_ended}
-use Rattle.dali_trace.proofs.RefusedLemmas.{not_blocked_after_a_read}
-use Rattle.dali_tests.proofs.writer.worked.answers_that_are_not_legal.Goals as goal
+use Rattle.dali_trace.proofs.RefusedLemmas.{not_blocked_after_a_read, not_reused_by_its_moment}
+use Rattle.dali_writer_tests.proofs.writer.worked.answers_that_are_not_legal.Goals as goal
 
 pub returns-clause-busy_at_once : goal.returns-clause-busy_at_once
 returns-clause-busy_at_once c = not_busy_at_once
@@ -33,3 +33,6 @@ returns-clause-blocked_under_another_number c = not_blocked_under_another_number
 
 pub returns-clause-said_after_a_stop : goal.returns-clause-said_after_a_stop
 returns-clause-said_after_a_stop c = not_said_after_a_stop
+
+pub returns-clause-reused_by_its_moment : goal.returns-clause-reused_by_its_moment
+returns-clause-reused_by_its_moment c = not_reused_by_its_moment

@@ -3,7 +3,7 @@ use Rattle.dali_trace.proofs.RefusedLemmas.{not_another_lock_byte, not_written_a
 use Rattle.dali_trace.proofs.RefusedLemmas.{not_with_the_bank_not_asked, not_written_twice, not_another_byte}
 use Rattle.dali_trace.proofs.RefusedLemmas.{not_idle_frame, not_to_another_unit, not_enabled_before_opened}
 use Rattle.dali_trace.proofs.RefusedLemmas.{not_unlocked}
-use Rattle.dali_tests.proofs.writer.worked.frames_that_are_not_legal.Goals as goal
+use Rattle.dali_writer_tests.proofs.writer.worked.frames_that_are_not_legal.Goals as goal
 
 pub returns-clause-unguarded : goal.returns-clause-unguarded
 returns-clause-unguarded c = not_unguarded

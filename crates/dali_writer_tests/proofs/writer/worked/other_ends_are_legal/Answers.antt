@@ -1,6 +1,6 @@
 use Rattle.dali_trace.proofs.EndingLemmas.{short_legal, format_legal, silent_legal, doubt_legal, left_legal}
 use Rattle.dali_trace.proofs.EndingLemmas.{tried_legal}
-use Rattle.dali_tests.proofs.writer.worked.other_ends_are_legal.Goals as goal
+use Rattle.dali_writer_tests.proofs.writer.worked.other_ends_are_legal.Goals as goal
 
 pub returns-clause-short : goal.returns-clause-short
 returns-clause-short c = short_legal

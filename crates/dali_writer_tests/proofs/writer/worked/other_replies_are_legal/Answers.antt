@@ -1,5 +1,5 @@
 use Rattle.dali_trace.proofs.WorkedLemmas.{busy_legal, reused_legal, full_legal}
-use Rattle.dali_tests.proofs.writer.worked.other_replies_are_legal.Goals as goal
+use Rattle.dali_writer_tests.proofs.writer.worked.other_replies_are_legal.Goals as goal
 
 pub returns-clause-busy : goal.returns-clause-busy
 returns-clause-busy c = busy_legal

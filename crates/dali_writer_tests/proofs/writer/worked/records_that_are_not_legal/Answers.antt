@@ -1,8 +1,8 @@
 use Rattle.dali_trace.proofs.RefusedLemmas.{not_opened_after_a_stop, not_closed_by_an_old_read, not_opened_unread}
 use Rattle.dali_trace.proofs.RefusedLemmas.{not_done_unread, not_with_the_lock_unread, not_begun_twice}
-use Rattle.dali_trace.proofs.RefusedLemmas.{not_short_after_six_frames}
+use Rattle.dali_trace.proofs.RefusedLemmas.{not_short_after_six_frames, not_begun_at_another_moment}
 use Rattle.dali_trace.proofs.RefusedLemmas.{not_begun_while_left, not_begun_after_a_stop, not_closed_unread}
-use Rattle.dali_tests.proofs.writer.worked.records_that_are_not_legal.Goals as goal
+use Rattle.dali_writer_tests.proofs.writer.worked.records_that_are_not_legal.Goals as goal
 
 pub returns-clause-opened_unread : goal.returns-clause-opened_unread
 returns-clause-opened_unread c = not_opened_unread
@@ -18,6 +18,9 @@ returns-clause-done_with_the_lock_unread c = not_with_the_lock_unread
 
 pub returns-clause-begun_twice : goal.returns-clause-begun_twice
 returns-clause-begun_twice c = not_begun_twice
+
+pub returns-clause-begun_at_another_moment : goal.returns-clause-begun_at_another_moment
+returns-clause-begun_at_another_moment c = not_begun_at_another_moment
 
 pub returns-clause-begun_while_left : goal.returns-clause-begun_while_left
 returns-clause-begun_while_left c = not_begun_while_left

@@ -4,20 +4,24 @@ use Rattle.dali_trace.specs.declared.happening.Happening.TheVariants.{Kept}
 use Rattle.dali_trace.specs.declared.happening.Reply.TheVariants as replies
 use Rattle.dali_trace.specs.Worked.{first_order, taken, begun}
 use Rattle.dali_trace.proofs.PartLemmas.{not_cut, not_lost, none_begun, not_idle}
-use Rattle.dali_tests.proofs.writer.worked.traces_are_parts_of_events.Goals as goal
+use Rattle.dali_writer_tests.proofs.writer.worked.traces_are_parts_of_events.Goals as goal
 
 pub returns-clause-stepped : goal.returns-clause-stepped
-returns-clause-stepped c = (taken, inl (refl, (Kept (Began first_order), tt, refl)), ([], (replies.Taken, refl), refl))
+returns-clause-stepped c = (
+  taken,
+  inl (refl, (Kept (Began first_order 7), tt, refl)),
+  ([], (replies.Taken, refl), refl),
+)
 
 pub returns-clause-stopped : goal.returns-clause-stopped
 returns-clause-stopped c = (
   begun,
   inl (refl, λ entry next. absurd (none_begun entry next)),
-  (taken, inl (refl, (Kept (Began first_order), tt, refl)), ([], (replies.Taken, refl), refl)),
+  (taken, inl (refl, (Kept (Began first_order 7), tt, refl)), ([], (replies.Taken, refl), refl)),
 )
 
 pub returns-clause-kept : goal.returns-clause-kept
-returns-clause-kept c = (taken, inr (Began first_order, refl, omega arith, refl), ([], (replies.Taken, refl), refl))
+returns-clause-kept c = (taken, inr (Began first_order 7, refl, omega arith, refl), ([], (replies.Taken, refl), refl))
 
 pub returns-clause-cut : goal.returns-clause-cut
 returns-clause-cut c = not_cut

@@ -1,6 +1,6 @@
 use Rattle.dali_trace.proofs.EndingLemmas.{opened_anew_legal, done_anew_legal, repeated_legal, taken_after_legal}
 use Rattle.dali_trace.proofs.EndingLemmas.{taken_anew_legal}
-use Rattle.dali_tests.proofs.writer.worked.traces_with_stops_are_legal.Goals as goal
+use Rattle.dali_writer_tests.proofs.writer.worked.traces_with_stops_are_legal.Goals as goal
 
 pub returns-clause-opened : goal.returns-clause-opened
 returns-clause-opened c = opened_anew_legal

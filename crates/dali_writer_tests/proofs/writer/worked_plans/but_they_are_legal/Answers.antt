@@ -3,7 +3,7 @@ use Rattle.dali_trace.proofs.WorkedPlanLemmas.{another_first_legal, past_a_miss_
 use Rattle.dali_trace.proofs.WorkedPlanLemmas.{through_a_stop_legal, read_once_opened_legal, silent_after_seven_legal}
 use Rattle.dali_trace.proofs.WorkedPlanLemmas.{silent_where_short_legal, left_at_once_legal, blocked_at_once_legal}
 use Rattle.dali_trace.proofs.WorkedPlanLemmas.{past_the_end_legal}
-use Rattle.dali_tests.proofs.writer.worked_plans.but_they_are_legal.Goals as goal
+use Rattle.dali_writer_tests.proofs.writer.worked_plans.but_they_are_legal.Goals as goal
 
 pub returns-clause-another_first : goal.returns-clause-another_first
 returns-clause-another_first c = another_first_legal

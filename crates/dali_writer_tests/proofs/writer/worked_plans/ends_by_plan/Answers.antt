@@ -1,5 +1,5 @@
 use Rattle.dali_trace.proofs.WorkedPlanLemmas.{short_planned, silent_after_eight_planned, blocked_planned}
-use Rattle.dali_tests.proofs.writer.worked_plans.ends_by_plan.Goals as goal
+use Rattle.dali_writer_tests.proofs.writer.worked_plans.ends_by_plan.Goals as goal
 
 pub returns-clause-short : goal.returns-clause-short
 returns-clause-short c = short_planned

@@ -1,6 +1,6 @@
 use Rattle.dali_trace.proofs.WorkedPlanLemmas.{first_planned, next_try_planned, next_frame_planned, begun_anew_planned}
 use Rattle.dali_trace.proofs.WorkedPlanLemmas.{enabled_first_planned, closed_anew_planned}
-use Rattle.dali_tests.proofs.writer.worked_plans.frames_by_plan.Goals as goal
+use Rattle.dali_writer_tests.proofs.writer.worked_plans.frames_by_plan.Goals as goal
 
 pub returns-clause-first : goal.returns-clause-first
 returns-clause-first c = first_planned

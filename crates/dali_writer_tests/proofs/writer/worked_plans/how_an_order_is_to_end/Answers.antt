@@ -1,6 +1,6 @@
 use Rattle.dali_trace.proofs.WorkedLossLemmas.{long_enough, too_short, below_the_formats, another_low, another_high}
 use Rattle.dali_trace.proofs.WorkedLossLemmas.{of_the_format, another_fixed, one_fixed}
-use Rattle.dali_tests.proofs.writer.worked_plans.how_an_order_is_to_end.Goals as goal
+use Rattle.dali_writer_tests.proofs.writer.worked_plans.how_an_order_is_to_end.Goals as goal
 
 pub returns-clause-long : goal.returns-clause-long
 returns-clause-long c = long_enough

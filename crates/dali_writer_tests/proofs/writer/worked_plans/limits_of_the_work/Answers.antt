@@ -1,6 +1,6 @@
 use Rattle.dali_trace.proofs.WorkedWorkLemmas.{frames_within, frames_enough, records_within, records_enough, done_after}
 use Rattle.dali_trace.proofs.WorkedWorkLemmas.{done_so, worked_before, not_said_so_of_another, not_said_so_again}
-use Rattle.dali_tests.proofs.writer.worked_plans.limits_of_the_work.Goals as goal
+use Rattle.dali_writer_tests.proofs.writer.worked_plans.limits_of_the_work.Goals as goal
 
 pub returns-clause-frames : goal.returns-clause-frames
 returns-clause-frames c = λ n. (frames_within n, frames_enough n)

@@ -1,5 +1,5 @@
 use Rattle.dali_trace.proofs.WorkedLossLemmas.{seven_spared, spared_before, leads_spared, meets_all}
-use Rattle.dali_tests.proofs.writer.worked_plans.little_loss_is_spared.Goals as goal
+use Rattle.dali_writer_tests.proofs.writer.worked_plans.little_loss_is_spared.Goals as goal
 
 pub returns-clause-seven : goal.returns-clause-seven
 returns-clause-seven c = seven_spared

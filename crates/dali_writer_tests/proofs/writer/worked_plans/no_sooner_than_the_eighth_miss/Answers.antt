@@ -1,5 +1,5 @@
 use Rattle.dali_trace.proofs.WorkedWorkLemmas.{silent_after, doubt_after, left_after, blocked_after}
-use Rattle.dali_tests.proofs.writer.worked_plans.no_sooner_than_the_eighth_miss.Goals as goal
+use Rattle.dali_writer_tests.proofs.writer.worked_plans.no_sooner_than_the_eighth_miss.Goals as goal
 
 pub returns-clause-silent : goal.returns-clause-silent
 returns-clause-silent c = silent_after

@@ -1,6 +1,6 @@
 use Rattle.dali_trace.proofs.WorkedStepLemmas.{says_by_then, said_by_then, steps_counted, submits_are_none}
 use Rattle.dali_trace.proofs.WorkedStepLemmas.{a_stop_is_one, says_parts}
-use Rattle.dali_tests.proofs.writer.worked_plans.said_by_the_1237th_step.Goals as goal
+use Rattle.dali_writer_tests.proofs.writer.worked_plans.said_by_the_1237th_step.Goals as goal
 
 pub returns-clause-says : goal.returns-clause-says
 returns-clause-says c = says_by_then

@@ -2,7 +2,7 @@ use Rattle.dali_trace.proofs.WorkedPlanLemmas.{not_another_first, not_past_a_mis
 use Rattle.dali_trace.proofs.WorkedPlanLemmas.{not_through_a_stop, not_read_once_opened, not_silent_at_once}
 use Rattle.dali_trace.proofs.WorkedPlanLemmas.{not_silent_after_seven, not_silent_where_short, not_left_at_once}
 use Rattle.dali_trace.proofs.WorkedPlanLemmas.{not_blocked_at_once, not_past_the_end}
-use Rattle.dali_tests.proofs.writer.worked_plans.traces_that_are_not_by_plan.Goals as goal
+use Rattle.dali_writer_tests.proofs.writer.worked_plans.traces_that_are_not_by_plan.Goals as goal
 
 pub returns-clause-another_first : goal.returns-clause-another_first
 returns-clause-another_first c = not_another_first

@@ -1,8 +1,8 @@
 use Rattle.dali_trace.proofs.WorkedLossLemmas.{lost_to_both, lost_to_the_left, lost_to_its_unit, lost_to_another}
 use Rattle.dali_trace.proofs.WorkedLossLemmas.{unrefused_since, unrefused_since_a_stop, refused_since, state_then}
-use Rattle.dali_trace.proofs.WorkedLossLemmas.{keeps_power_since, keeps_power_since_a_stop, its_unit_powered, left_powered}
-use Rattle.dali_trace.proofs.WorkedLossLemmas.{another_powered}
-use Rattle.dali_tests.proofs.writer.worked_plans.what_counts_as_a_loss.Goals as goal
+use Rattle.dali_trace.proofs.WorkedLossLemmas.{keeps_power_since, keeps_power_since_a_stop, its_unit_powered}
+use Rattle.dali_trace.proofs.WorkedLossLemmas.{left_powered, another_powered}
+use Rattle.dali_writer_tests.proofs.writer.worked_plans.what_counts_as_a_loss.Goals as goal
 
 pub returns-clause-both : goal.returns-clause-both
 returns-clause-both c = lost_to_both

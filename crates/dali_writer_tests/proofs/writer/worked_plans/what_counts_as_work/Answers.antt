@@ -3,7 +3,7 @@ use Rattle.dali_trace.proofs.WorkedWorkLemmas.{records_counted_from_a_stop, reco
 use Rattle.dali_trace.proofs.WorkedWorkLemmas.{stood_at_a_stop, stood_left, waiting_at_hand, opened_at_hand}
 use Rattle.dali_trace.proofs.WorkedWorkLemmas.{ended_at_hand, none_once_said, none_behind_a_stop, frames_of_begun}
 use Rattle.dali_trace.proofs.WorkedWorkLemmas.{frames_of_opened}
-use Rattle.dali_tests.proofs.writer.worked_plans.what_counts_as_work.Goals as goal
+use Rattle.dali_writer_tests.proofs.writer.worked_plans.what_counts_as_work.Goals as goal
 
 pub returns-clause-frames : goal.returns-clause-frames
 returns-clause-frames c = frames_counted

@@ -1,6 +1,6 @@
 use Rattle.dali_trace.proofs.WorkedStepLemmas.{not_said_yet, not_by_a_reply, not_by_another, not_behind_a_stop}
 use Rattle.dali_trace.proofs.WorkedStepLemmas.{not_again}
-use Rattle.dali_tests.proofs.writer.worked_plans.what_does_not_say_it.Goals as goal
+use Rattle.dali_writer_tests.proofs.writer.worked_plans.what_does_not_say_it.Goals as goal
 
 pub returns-clause-not_yet : goal.returns-clause-not_yet
 returns-clause-not_yet c = not_said_yet

@@ -1,0 +1,26 @@
+//! Tests of the commands and of the command line through their public calls alone, as whoever uses them calls them;
+//! those of the texts and the inputs go through a command.
+#![tactic(auto)]
+
+#[cfg(test)]
+mod check;
+#[cfg(test)]
+mod drive_files;
+#[cfg(test)]
+mod frame;
+#[cfg(test)]
+mod job;
+#[cfg(test)]
+mod journal;
+#[cfg(test)]
+mod run_scenario;
+#[cfg(test)]
+mod run_text;
+#[cfg(test)]
+mod scenario;
+#[cfg(test)]
+mod show;
+#[cfg(test)]
+mod streams;
+#[cfg(test)]
+mod tried;

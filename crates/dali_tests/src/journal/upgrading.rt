@@ -1,0 +1,57 @@
+// Journals of version 1, and what is written of them.
+use super::{OLD_BEGAN, letter_of, order_of};
+use dali_journal::{Code, Journal, Record, Version};
+use std::alloc::Global;
+use std::test::Fail;
+
+// Order 1 for unit 5 with the GTIN, which is done, in version 1 and in version 2.
+const OLD_DONE: [u8; 27] = [
+    0x42, 0, 0, 0, 0, 0, 0, 0, 1, 5, 6, 0x03, 0x03, 0x04, 0xA4, 0x05, 0xCE, 0x06, 0xEF, 0x07, 0xAD,
+    0x08, 0xAB, 0x4F, 0x05, 0x45, 0x00,
+];
+
+const DONE: [u8; 39] = [
+    0x44, 0x42, 0x31, 0x02, 0x42, 0, 0, 0, 0, 0, 0, 0, 1, 0, 0, 0, 0, 0, 0, 0, 0, 5, 6, 0x03, 0x03,
+    0x04, 0xA4, 0x05, 0xCE, 0x06, 0xEF, 0x07, 0xAD, 0x08, 0xAB, 0x4F, 0x05, 0x45, 0x00,
+];
+
+// The journal of these bytes, which are of version 1 and of which so many count.
+fn old(alloc: Global, bytes: &[u8], counts: usize) -> Result<Journal, Fail> {
+    let (journal, found, version) = Journal::load(alloc, 10, bytes)?;
+    if found == counts && version == Version::One {
+        Ok(journal)
+    } else {
+        Err("a journal of version 1".into())
+    }
+}
+
+// Whether the journal is written so.
+fn is_written_as(alloc: Global, journal: &Journal, bytes: &[u8]) -> Result<bool, Fail> {
+    let written = journal.to_bytes(alloc)?;
+    Ok(written.as_slice() == bytes)
+}
+
+#[test]
+fn an_old_journal_is_written_anew(rt: HostRuntime) -> Result<(), Fail> {
+    let journal = old(rt.alloc(), &OLD_DONE, 27)?;
+    assert!(rt; is_written_as(rt.alloc(), &journal, &DONE)?);
+    assert_eq!(rt; (journal.moment(1), journal.moment(2)), (Some(0), None));
+    Ok(())
+}
+
+// An order that hasn't ended goes on, with a moment of its own for the next one.
+#[test]
+fn an_unfinished_order_stays(rt: HostRuntime) -> Result<(), Fail> {
+    let alloc = rt.alloc();
+    let mut bytes = OLD_BEGAN.to_vec(alloc)?;
+    bytes.push(0x4F)?;
+    let mut journal = old(alloc, &bytes, 23)?;
+    assert_eq!(rt; letter_of(&journal, &order_of(1, 5)?), 'B');
+    assert!(rt; is_written_as(alloc, &journal, &DONE[..35])?);
+    for entry in [Record::Opened(5), Record::Ended(Code::Done)] {
+        assert!(rt; journal.standing().allows(&entry));
+        journal.append(entry);
+    }
+    assert!(rt; is_written_as(alloc, &journal, &DONE)?);
+    Ok(())
+}

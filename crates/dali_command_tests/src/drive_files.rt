@@ -109,7 +109,10 @@ struct Driven {
     told: Vec<u8>,
 }
 
-fn driven<R: Files<File = File> + AllocGlobal>(rt: &R, drive: &Drive<'_>) -> io::Result<Driven> {
+fn driven_files<R: Files<File = File> + AllocGlobal>(
+    rt: &R,
+    drive: &Drive<'_>,
+) -> io::Result<Driven> {
     if let Some(bytes) = drive.before {
         fs::write(rt, drive.journal, bytes)?;
     }
@@ -152,7 +155,7 @@ fn is_absent<R: Files<File = File> + AllocGlobal>(rt: &R, name: &str) -> io::Res
 // Does a drive, and tests what it did.
 fn judge<R: Files<File = File> + AllocGlobal + Abort>(rt: &R, drive: &Drive<'_>) -> io::Result<()> {
     let name = drive.journal;
-    let driven = driven(rt, drive)?;
+    let driven = driven_files(rt, drive)?;
     let frames = drive.pair.as_bytes().repeat(rt.alloc(), drive.pairs)?;
     assert_eq!(rt; driven.status, drive.status, "{name}");
     assert_eq!(rt; driven.sent.as_slice(), frames.as_slice(), "{name}");
@@ -330,7 +333,7 @@ fn what_stands_where_a_journal_is_written_anew(rt: HostRuntime) -> Result<(), Fa
     fs::write(&rt, new, "what an earlier drive left")?;
     judge(&rt, &OLD_WITH_NEW)?;
     fs::create_dir(&rt, new)?;
-    let driven = driven(&rt, &OLD_WITH_NEW)?;
+    let driven = driven_files(&rt, &OLD_WITH_NEW)?;
     fs::remove_dir(&rt, new)?;
     assert!(rt; driven.status == Status::Failed && driven.sent.is_empty());
     assert!(rt; driven.told.ends_with(b"fault 21 File\n"));

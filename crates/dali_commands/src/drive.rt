@@ -16,8 +16,8 @@ use dali_writer::Writer;
 use std::io::Write;
 
 /// Carries out what a journal still asks for, and then the orders one after the other, each at this moment, over
-/// streams that haven't failed. Where that breaks off it writes the fault's line: 1 Journal, 2 Link, 3 Line, 4 End, 6 TooLong, or 20
-/// Memory. Where `lines` fails nothing more is written, and it is 7 Out.
+/// streams that haven't failed. Where that breaks off it writes the fault's line: 1 Journal, 2 Link, 3 Line, 4 End, 6
+/// TooLong, or 20 Memory. Where `lines` fails nothing more is written, and it is 7 Out.
 pub fn drive_over<I: Source, L: Sink, J: Sink, W: Write>(
     journal: Journal,
     orders: &[Order],

@@ -14,9 +14,9 @@ use std::io::{Read, Write};
 /// Carries out the orders of a file over a link, with the journal that another file holds.
 ///
 /// The moment is kept with each order that begins. A journal that is absent, empty or of version 1 is written anew in
-/// version 2 before a frame is sent. Nothing is sent where an item is refused, where the orders have a fault (11 Json, 12 Document, 13 TooBig), or where
-/// the journal does (13 TooBig, 7 Header, 3 Record, 4 Sequence, 5 Repeated, 6 Full), or at 20 Memory or 21 File. Each of
-/// these, each reply, and the fault of a drive has its line in `lines`.
+/// version 2 before a frame is sent. Nothing is sent where an item is refused, where the orders have a fault (11 Json,
+/// 12 Document, 13 TooBig), or where the journal does (13 TooBig, 7 Header, 3 Record, 4 Sequence, 5 Repeated, 6 Full),
+/// or at 20 Memory or 21 File. Each of these, each reply, and the fault of a drive has its line in `lines`.
 pub fn drive_files<
     R: Files<File = File> + AllocGlobal,
     I: Read + Drop,

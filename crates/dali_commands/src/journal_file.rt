@@ -84,8 +84,8 @@ impl Write for JournalFile {
 /// that is cut off at its end is cut away. What counts is on the disk, and so is the file's name, also where the drive
 /// that wrote it was stopped before it came so far.
 ///
-/// A file that is no regular one is never written anew: where it is empty it gets the header, and where it is of version
-/// 1 it is refused.
+/// A file that is no regular one is never written anew: where it is empty it gets the header, and where it is of
+/// version 1 it is refused.
 pub fn open_journal<R: Files<File = File> + AllocGlobal>(
     rt: &R,
     name: &str,

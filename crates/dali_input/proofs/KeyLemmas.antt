@@ -77,8 +77,8 @@ no_steps json value fault there none = needs (IsWhole 1 most_events value) (IsEv
   where
     by : (event : PlannedEvent) → IsEvent json event → (count : ℕ) × IsWhole 1 most_events value count
     by (submit order moment) (only, is, since) =
-        absurd (only_two (codes "steps") (codes "submit") (codes "moment") json value (λ found v. refl) (λ found v. refl)
-        only there)
+        absurd (only_two (codes "steps") (codes "submit") (codes "moment") json value (λ found v. refl)
+        (λ found v. refl) only there)
     by (stop bytes) (only, is) =
         absurd (only_key (codes "steps") (codes "stop") json value (λ found v. refl) only there)
     by (power address) (only, is) =
@@ -93,8 +93,8 @@ no_bytes json value fault there none = needs (IsWhole 0 65535 value) (IsEvent js
   where
     by : (event : PlannedEvent) → IsEvent json event → (bytes : ℕ) × IsWhole 0 65535 value bytes
     by (submit order moment) (only, is, since) =
-        absurd (only_two (codes "stop") (codes "submit") (codes "moment") json value (λ found v. refl) (λ found v. refl)
-        only there)
+        absurd (only_two (codes "stop") (codes "submit") (codes "moment") json value (λ found v. refl)
+        (λ found v. refl) only there)
     by (steps count) (only, is) =
         absurd (only_key (codes "stop") (codes "steps") json value (λ found v. refl) only there)
     by (stop bytes) (only, is) = (bytes, rw there at is)
@@ -109,8 +109,8 @@ no_address json value fault there none = needs (IsWhole 0 63 value) (IsEvent jso
   where
     by : (event : PlannedEvent) → IsEvent json event → (address : ℕ) × IsWhole 0 63 value address
     by (submit order moment) (only, is, since) =
-        absurd (only_two (codes "power") (codes "submit") (codes "moment") json value (λ found v. refl) (λ found v. refl)
-        only there)
+        absurd (only_two (codes "power") (codes "submit") (codes "moment") json value (λ found v. refl)
+        (λ found v. refl) only there)
     by (steps count) (only, is) =
         absurd (only_key (codes "power") (codes "steps") json value (λ found v. refl) only there)
     by (stop bytes) (only, is) =

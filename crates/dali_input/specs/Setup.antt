@@ -62,7 +62,8 @@ fates_of plans = flat_map (λ plan. replicate plan.times plan.fate) plans
 
 -- ---- events
 
--- the events: a submission for an order, as many steps as are made, a stop for a stop, a loss of power for one
+-- the events: a submission at its moment for an order, as many steps as are made, a stop for a stop, a loss of power
+-- for one
 abbrev pub AreEvents : List PlannedEvent → List Event → Type 0
 AreEvents [] all = all ≡ []
 AreEvents (submit source moment ∷ planned) all = (order : Contents) × (rest : List Event)

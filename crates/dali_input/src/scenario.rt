@@ -4,10 +4,9 @@ ghost use Rattle.std.specs.List.{AllByRecursion, Contains, sum_by};
 ghost use Rattle.serde_json.specs.View.{view};
 ghost use Rattle.dali_bank.specs.Blank.{blank_bank};
 ghost use Rattle.dali_input.specs.Values.{IsWhole, IsArrayOf, IsRequired, IsOptional, IsNoReading, value_if_any};
-ghost use Rattle.dali_input.specs.Scenario.{most_moment};
 ghost use Rattle.dali_input.specs.Scenario.{AreBytes, AreDtrs, AreLost, IsBankText, IsBoolean, IsEvent, IsFate};
 ghost use Rattle.dali_input.specs.Scenario.{IsScenario, IsSmall, IsUnit, event_count, event_of, most_events};
-ghost use Rattle.dali_input.specs.Scenario.{planned_of, unit_planned};
+ghost use Rattle.dali_input.specs.Scenario.{most_moment, planned_of, unit_planned};
 
 use crate::fault::InputFault;
 use crate::values::{has_only_keys, numbers_of, whole_within};

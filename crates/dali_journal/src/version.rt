@@ -1,5 +1,5 @@
-ghost use Rattle.std.specs.Prelude.{◌≡◌, length};
-ghost use Rattle.dali_journal.specs.Spelling.{version_number, header};
+ghost use Rattle.std.specs.Prelude.{◌≡◌};
+ghost use Rattle.dali_journal.specs.Spelling.{version_number};
 ghost use Rattle.dali_journal.specs.Decoding.{head_length};
 
 /// How a journal's bytes are written (profile).
@@ -22,16 +22,6 @@ impl Version {
         match self {
             Version::One => 1,
             Version::Two => 2,
-        }
-    }
-
-    // How many bytes stand in front of the records.
-    pub(crate) fn header_len(self) -> usize
-        ensures { result ≡ length (header self) }
-    {
-        match self {
-            Version::One => 0,
-            Version::Two => HEADER.len(),
         }
     }
 

@@ -342,7 +342,10 @@ not_begun_past_the_limit may = omega (arith, may.whole.1)
 pub not_started_past_the_limit : Legal (record { records = Began first_order 7 ∷ []; limit = 0 }) [] → ⊥
 not_started_past_the_limit legal = omega (arith, legal.1)
 
--- moments
+-- moments, and that an order waits
+
+pub not_begun_with_none_waiting : MayKeep empty [] (Began first_order 0) → ⊥
+not_begun_with_none_waiting may = let e = may.due.0 in cc
 
 pub not_begun_at_another_moment : MayKeep empty taken (Began first_order 8) → ⊥
 not_begun_at_another_moment may = omega (arith, may.due.1)

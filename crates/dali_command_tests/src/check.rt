@@ -15,7 +15,7 @@ accepted 1 refused 0
 ";
 
 // Lists of which all is accepted: equal voltages, an unknown one, and keys in another order than that of the
-// locations; then a list of nothing.
+// locations; of two equal keys the last one; then a list of nothing.
 const ACCEPTED: &str = r#"[
 {"order":1,"unit":5,"min_voltage":230,"max_voltage":230},
 {"order":2,"unit":5,"max_voltage":220,"min_voltage":null},
@@ -36,6 +36,12 @@ item 3 order 3 unit 0 bytes 3
 21 FF
 22 FD
 accepted 3 refused 0
+====
+[{"order":1,"unit":5,"year":100,"year":99}]
+----
+item 1 order 1 unit 5 bytes 1
+13 63
+accepted 1 refused 0
 ====
 []
 ----
@@ -110,7 +116,9 @@ accepted 1 refused 12
 {"order":1,"unit":5,"cri":101,"gtin":7},
 {"order":1,"unit":5,"min_voltage":277,"max_voltage":220,"luminaire":"\u00e9"},
 {"order":1,"unit":5,"year":"24"},
-{"order":1,"unit":5,"colour":24}]
+{"order":1,"unit":5,"colour":24},
+{"order":1,"unit":5,"year":-0},
+{"order":-0,"unit":5,"year":0}]
 ----
 item 1 fault 3 Range
 item 2 fault 3 Range
@@ -124,7 +132,9 @@ item 9 fault 2 Kind
 item 10 fault 5 Text
 item 11 fault 2 Kind
 item 12 fault 2 Kind
-accepted 0 refused 12
+item 13 fault 2 Kind
+item 14 fault 9 Shape
+accepted 0 refused 14
 ====
 
 ----
@@ -135,6 +145,18 @@ fault 11 Json
 fault 11 Json
 ====
 [] []
+----
+fault 11 Json
+====
+[1e999]
+----
+fault 11 Json
+====
+["\ud800"]
+----
+fault 11 Json
+====
+[{"order":1,"unit":5,"gtin":"\ud83d"}]
 ----
 fault 11 Json
 ====
@@ -162,11 +184,20 @@ fn inputs_and_what_becomes_of_them(rt: HostRuntime) {
     answers_each(&rt, rt.alloc(), check, Status::Refused, REFUSED);
 }
 
+// Arrays nest at most 127 deep.
 #[test]
 fn inputs_that_are_no_text_or_too_deep(rt: HostRuntime) {
     let mut brackets = [b'['; 400];
     brackets[200..].fill(b']');
-    for input in [b"\xff".as_slice(), &brackets] {
+    answers(
+        &rt,
+        rt.alloc(),
+        FileCommand::Check,
+        &brackets[73..327],
+        Status::Refused,
+        "item 1 fault 9 Shape\naccepted 0 refused 1\n",
+    );
+    for input in [b"\xff".as_slice(), &brackets, &brackets[72..328]] {
         answers(
             &rt,
             rt.alloc(),

@@ -6,8 +6,8 @@ use dali_bank::Order;
 use dali_frame::{Frame, frame_of};
 use dali_gear::{SimBus, Unit};
 use dali_journal::{Code, Record};
-use dali_text::{Output, write_outcome};
-use dali_writer::{Event, Happening, Outcome, Reply, run};
+use dali_text::{Output, write_run};
+use dali_writer::{Event, Happening, Reply, run};
 use std::alloc::{AllocError, Global};
 use std::process::Abort;
 use std::test::Fail;
@@ -71,15 +71,6 @@ fn trace_of(alloc: Global, told: &[Told]) -> Result<Vec<Happening>, AllocError>
         trace.push_reserved(happening_of(happening));
     }
     Ok(trace)
-}
-
-fn outcome_of(alloc: Global, told: &[Told], journal: &[u8]) -> Result<Outcome, AllocError>
-    ensures { IfOk result (λ outcome. SendsAllProper (reverse outcome.trace.items)) }
-{
-    Ok(Outcome {
-        journal: journal.to_vec(alloc)?,
-        trace: trace_of(alloc, told)?,
-    })
 }
 
 // Four runs of frames: a record ends the first, a reply the second, a loss of power the third, the trace the fourth.
@@ -175,16 +166,16 @@ total 0
 journal 0
 ";
 
-// What is written of happenings and a journal, with no units.
+// What is written of happenings and so many bytes of a journal, with no units.
 fn written_of(
     alloc: Global,
     single_frames: bool,
     told: &[Told],
-    journal: &[u8],
+    journal: usize,
 ) -> Result<Vec<u8>, Fail> {
-    let outcome = outcome_of(alloc, told, journal)?;
+    let trace = trace_of(alloc, told)?;
     let mut output = Output::new(Vec::new(alloc));
-    write_outcome(&mut output, single_frames, &outcome, &[])?;
+    write_run(&mut output, single_frames, &trace, journal, &[])?;
     Ok(output.into_writer())
 }
 
@@ -194,7 +185,7 @@ fn writes(
     alloc: Global,
     single_frames: bool,
     told: &[Told],
-    journal: &[u8],
+    journal: usize,
     text: &str,
 ) {
     match written_of(alloc, single_frames, told, journal) {
@@ -205,19 +196,12 @@ fn writes(
 
 #[test]
 fn happenings_and_their_lines(rt: HostRuntime) {
-    writes(&rt, rt.alloc(), false, &RUNS, &[0; 39], RUNS_TOLD);
-    writes(&rt, rt.alloc(), true, &RUNS, &[0; 39], FRAMES_TOLD);
-    writes(&rt, rt.alloc(), false, &KINDS, &[], KINDS_TOLD);
-    writes(&rt, rt.alloc(), true, &KINDS, &[], KINDS_TOLD);
-    writes(&rt, rt.alloc(), false, &[], &[0], "total 0\njournal 1\n");
-    writes(
-        &rt,
-        rt.alloc(),
-        true,
-        &[],
-        &[0; 253],
-        "total 0\njournal 253\n",
-    );
+    writes(&rt, rt.alloc(), false, &RUNS, 39, RUNS_TOLD);
+    writes(&rt, rt.alloc(), true, &RUNS, 39, FRAMES_TOLD);
+    writes(&rt, rt.alloc(), false, &KINDS, 0, KINDS_TOLD);
+    writes(&rt, rt.alloc(), true, &KINDS, 0, KINDS_TOLD);
+    writes(&rt, rt.alloc(), false, &[], 1, "total 0\njournal 1\n");
+    writes(&rt, rt.alloc(), true, &[], 253, "total 0\njournal 253\n");
 }
 
 // A unit with a whole group and a shorter one, and with registers.
@@ -279,10 +263,9 @@ fn before_units(alloc: Global, told: &str) -> Result<Vec<u8>, AllocError> {
 
 #[test]
 fn units_and_their_lines(rt: HostRuntime) -> Result<(), Fail> {
-    let outcome = outcome_of(rt.alloc(), &[], &[])?;
     let units = units(rt.alloc())?;
     let mut output = Output::new(Vec::new(rt.alloc()));
-    write_outcome(&mut output, false, &outcome, &units)?;
+    write_run(&mut output, false, &[], 0, &units)?;
     let text = before_units(rt.alloc(), "total 0\njournal 0\n")?;
     assert_eq!(rt; output.into_writer().as_slice(), text.as_slice());
     Ok(())
@@ -293,15 +276,15 @@ fn fails_to_write(
     rt: &impl Abort,
     alloc: Global,
     single_frames: bool,
-    outcome: &Outcome,
+    trace: &[Happening],
     units: &[Unit],
     text: &[u8],
 )
-    requires { SendsAllProper (reverse outcome.now.trace.items) }
+    requires { SendsAllProper (reverse trace.now) }
 {
     for room in 0..text.len() {
         let mut output = Output::new(FullWriter::new(alloc, room));
-        let written = write_outcome(&mut output, single_frames, outcome, units);
+        let written = write_run(&mut output, single_frames, trace, 39, units);
         assert!(rt; written.is_err(), "room for {room}");
         assert_eq!(rt; output.into_writer().held.as_slice(), &text[..room]);
     }
@@ -309,11 +292,11 @@ fn fails_to_write(
 
 #[test]
 fn a_writer_that_fails_in_mid_text(rt: HostRuntime) -> Result<(), Fail> {
-    let outcome = outcome_of(rt.alloc(), &RUNS, &[0; 39])?;
+    let trace = trace_of(rt.alloc(), &RUNS)?;
     let units = units(rt.alloc())?;
     for (single_frames, told) in [(false, RUNS_TOLD), (true, FRAMES_TOLD)] {
         let text = before_units(rt.alloc(), told)?;
-        fails_to_write(&rt, rt.alloc(), single_frames, &outcome, &units, &text);
+        fails_to_write(&rt, rt.alloc(), single_frames, &trace, &units, &text);
     }
     Ok(())
 }
@@ -358,7 +341,8 @@ fn a_whole_run(rt: HostRuntime) -> Result<(), Fail> {
     let events = gtin_events(rt.alloc())?;
     let outcome = run(rt.alloc(), &mut bus, 10, &events)?;
     let mut output = Output::new(Vec::new(rt.alloc()));
-    write_outcome(&mut output, false, &outcome, bus.units())?;
+    let journal = outcome.journal.len();
+    write_run(&mut output, false, &outcome.trace, journal, bus.units())?;
     assert_eq!(rt; output.into_writer().as_slice(), GTIN_TOLD.as_bytes());
     Ok(())
 }

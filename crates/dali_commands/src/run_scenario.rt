@@ -10,7 +10,7 @@ use crate::fault::{Fault, Status};
 use crate::fault_lines::write_failure;
 use dali_gear::SimBus;
 use dali_input::{Input, Setup, json_of, read_input, scenario_of, setup_of};
-use dali_text::{Output, Unwritten, write_outcome};
+use dali_text::{Output, Unwritten, write_run};
 use dali_writer::{Outcome, RunFault, run_sim};
 use std::alloc::Global;
 use std::io::{Read, Write};
@@ -87,6 +87,10 @@ fn ran_of<R: Read>(alloc: Global, input: &mut Input<R>) -> Result<Ran, Fault>
     let Ok(limit) = u32::try_from(scenario.limit) else {
         return Err(Fault::Run(RunFault::Limit));
     };
+    // The scenario's text takes many times what the run needs.
+    drop(scenario);
+    drop(json);
+    drop(bytes);
     let outcome = run_sim(alloc, &mut bus, limit, events.as_slice())?;
     Ok(Ran { outcome, bus })
 }
@@ -103,7 +107,8 @@ fn write_ran<W: Write>(
         (run_text single_frames ran.now.outcome.trace.items (length ran.now.outcome.journal.items) ran.now.bus.units)) }
     ensures end { TellsEnd result output.new }
 {
-    write_outcome(output, single_frames, &ran.outcome, ran.bus.units())?;
+    let Outcome { journal, trace } = &ran.outcome;
+    write_run(output, single_frames, trace, journal.len(), ran.bus.units())?;
     output.flush()?;
     Ok(Status::Good)
 }

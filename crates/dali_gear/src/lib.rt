@@ -13,5 +13,5 @@ mod unit;
 pub use dali_bus::{Bus, laws};
 pub use fate::Fate;
 pub use fault::GearFault;
-pub use sim_bus::SimBus;
+pub use sim_bus::{SimBus, is_free};
 pub use unit::Unit;

@@ -105,8 +105,8 @@ fn are_apart(units: &[Unit]) -> bool
     }
 }
 
-// Whether no unit is at an address.
-fn is_free(units: &[Unit], address: u8) -> bool
+/// Whether none of the units is at this short address, any number.
+pub fn is_free(units: &[Unit], address: u8) -> bool
     ensures { IsTrue result ↔ (world_of units.now address ≡ None) }
 {
     for unit in units {

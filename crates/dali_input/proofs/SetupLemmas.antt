@@ -1,14 +1,15 @@
 -- Lemmas on what a scenario sets up.
-use Rattle.std.proofs.Common.{◌≡◌, ◌≢◌, ◌<◌, ◌≤◌, ◌+◌, ℕ, suc, Bool, true, false, Option, Some, List, [], ◌∷◌, ◌++◌, length}
-use Rattle.std.proofs.Common.{get_or, map, take, drop, replicate, append_assoc, arith, refl, sym, subst, ap, ◌∙◌}
+use Rattle.std.proofs.Common.{◌≡◌, ◌≢◌, ◌<◌, ◌≤◌, ◌+◌, ℕ, suc, Bool, true, false, Option, Some, None, List, [], ◌∷◌, ◌++◌}
+use Rattle.std.proofs.Common.{length, get_or, map, take, drop, replicate, append_assoc, arith, refl, sym, subst, ap, ◌∙◌}
 use Rattle.std.specs.Prelude.{◌==◌, if◌then◌else◌}
 use Rattle.std.specs.List.{AllByRecursion}
+use Rattle.std.proofs.lemmas.Bool.{eqb-false, ne_eqb}
 use Rattle.std.proofs.Math.Seq.{split_at}
 use Rattle.std.proofs.lemmas.List.{take_more, map-append, length-map, length-take-le}
 use Rattle.dali_gear.specs.declared.fault.GearFault.{GearFault}
 use Rattle.dali_gear.specs.declared.fault.GearFault.TheVariants.{NoMemory}
 use Rattle.dali_gear.specs.Faults.{IsUnitFault}
-use Rattle.dali_gear.specs.SimState.{world_of}
+use Rattle.dali_gear.specs.SimState.{world_of, AreApart}
 use Rattle.dali_bus.specs.Unenabled.{NoneEnabled}
 use Rattle.dali_gear.specs.UnitState.{UnitState, gear_of}
 use Rattle.dali_bus.specs.World.{Gear, is_open, byte_in, byte_at}
@@ -28,7 +29,7 @@ use Rattle.dali_input.specs.Scenario.{PlannedUnit, PlannedEvent, submit, steps, 
 use Rattle.dali_input.specs.Scenario.{unit_planned}
 use Rattle.dali_input.specs.Scenario.{event_of}
 use Rattle.dali_input.specs.Setup.{IsMakeable, made_unit, AreUnits, IsFirstUnitFault, IsUnitRefusal, AreEvents}
-use Rattle.dali_input.specs.Setup.{IsFirstOrderFault, IsOrderRefusal, HasBus, IsSetupRefused}
+use Rattle.dali_input.specs.Setup.{IsFirstOrderFault, IsOrderRefusal, HasBus, IsSetupRefused, AreTogether}
 
 all_one_more : {X : Type 0} (P : X → Type 0) (xs : List X) (x : X) → AllByRecursion P xs → P x
     → AllByRecursion P (xs ++ x ∷ [])
@@ -64,19 +65,84 @@ units_more plans i plan units within is made makeable = rw (one_more unit_planne
       ∙ sym (map-append made_unit (map unit_planned (take i plans)) (unit_planned plan ∷ []));
 })
 
+-- units of which the last has an address that none before it has
+free_before : (units : List UnitState) (last : UnitState) (address : ℕ) → world_of (units ++ last ∷ []) address ≡ None
+    → (world_of units address ≡ None) × ((address == last.address) ≡ false)
+free_before [] last address free = (refl, elsewhere (address == last.address) free)
+  where
+    elsewhere : (here : Bool) → (if here then Some (gear_of last) else None) ≡ None → here ≡ false
+    elsewhere true free = cc
+    elsewhere false free = refl
+free_before (unit ∷ units) last address free =
+    at_first (address == unit.address) (free_before units last address) free
+  where
+    Tells : Option Gear → Type 0
+    Tells there = (there ≡ None) × ((address == last.address) ≡ false)
+
+    at_first : (here : Bool) → (world_of (units ++ last ∷ []) address ≡ None → Tells (world_of units address))
+        → (if here then Some (gear_of unit) else world_of (units ++ last ∷ []) address) ≡ None
+        → Tells (if here then Some (gear_of unit) else world_of units address)
+    at_first true rest free = cc
+    at_first false rest free = rest free
+
+apart_before : (units : List UnitState) (last : UnitState) → AreApart (units ++ last ∷ [])
+    → AreApart units × (world_of units last.address ≡ None)
+apart_before [] last apart = (tt, refl)
+apart_before (unit ∷ units) last apart =
+    let (before, free) = apart_before units last apart.1 in
+    let (alone, other) = free_before units last unit.address apart.0 in
+    let elsewhere : (last.address == unit.address) ≡ false =
+    ne_eqb last.address unit.address (λ e. eqb-false unit.address last.address other (sym e)) in
+    ((alone, before), rw elsewhere free)
+
+-- the units so far: each can be made, and they are held as long as they are apart
+abbrev pub SoFar : List PlannedUnit → Bool → List UnitState → Type 0
+SoFar planned true units = AreUnits planned units
+SoFar planned false units = AreTogether planned
+
+pub all_makeable : (planned : List PlannedUnit) (are_apart : Bool) (units : List UnitState)
+    → SoFar planned are_apart units → AllByRecursion IsMakeable planned
+all_makeable planned true units so_far = so_far.makeable
+all_makeable planned false units so_far = so_far.made.makeable
+
+-- one unit more, held only where all are apart
+pub one_held : (plans : List UnitPlan) (i : ℕ) (plan : UnitPlan) (are_apart held : Bool) (units after : List UnitState)
+    (unit : UnitState)
+    → i < length plans → plan ≡ get_or plans i plan
+    → SoFar (map unit_planned (take i plans)) are_apart units → IsMakeable (unit_planned plan)
+    → unit ≡ made_unit (unit_planned plan)
+    → (held ≡ true → (are_apart ≡ true) × (after ≡ units ++ unit ∷ []))
+    → (held ≡ false → are_apart ≡ true → world_of units unit.address ≢ None)
+    → SoFar (map unit_planned (take (i + 1) plans)) held after
+one_held plans i plan true true units after unit within is so_far makeable made apart together =
+    rw ((apart refl).1, made) (units_more plans i plan units within is so_far makeable)
+one_held plans i plan false true units after unit within is so_far makeable made apart together =
+    let clash : false ≡ true = (apart refl).0 in cc
+one_held plans i plan true false units after unit within is so_far makeable made apart together = record {
+  units = units ++ made_unit (unit_planned plan) ∷ [];
+  made = units_more plans i plan units within is so_far makeable;
+  together = λ all. subst (λ (u : UnitState). world_of units u.address ≢ None) made (together refl refl)
+      (apart_before units (made_unit (unit_planned plan)) all).1;
+}
+one_held plans i plan false false units after unit within is so_far makeable made apart together = record {
+  units = so_far.units ++ made_unit (unit_planned plan) ∷ [];
+  made = units_more plans i plan so_far.units within is so_far.made makeable;
+  together = λ all. so_far.together (apart_before so_far.units (made_unit (unit_planned plan)) all).0;
+}
+
 -- a unit can't be made, and those before it can
-pub first_unit_fault : (plans : List UnitPlan) (i number : ℕ) (plan : UnitPlan) (units : List UnitState)
-    (fault : GearFault)
+pub first_unit_fault : (plans : List UnitPlan) (i number : ℕ) (plan : UnitPlan) (fault : GearFault)
     → i < length plans → plan ≡ get_or plans i plan → number ≡ i
-    → AreUnits (map unit_planned (take i plans)) units → IsUnitFault plan.address plan.bank.items plan.fixed.items fault
+    → AllByRecursion IsMakeable (map unit_planned (take i plans))
+    → IsUnitFault plan.address plan.bank.items plan.fixed.items fault
     → fault ≢ NoMemory → IsFirstUnitFault (map unit_planned plans) (number + 1) fault
-first_unit_fault plans i number plan units fault within is counted made refused not_memory = record {
+first_unit_fault plans i number plan fault within is counted makeable refused not_memory = record {
   front = map unit_planned (take i plans);
   unit = unit_planned plan;
   behind = map unit_planned (drop (suc i) plans);
   split = around unit_planned plans i plan within is;
   counted = counted_at unit_planned plans i number within counted;
-  makeable = made.makeable;
+  makeable = makeable;
   refused = refused;
   not_memory = not_memory;
 }
@@ -137,7 +203,7 @@ units_refused planned (faults.Input Hex) small refused = absurd refused
 units_refused planned (faults.Input Memory) small refused = tt
 units_refused planned (faults.Input File) small refused = absurd refused
 units_refused planned (faults.Unit number fault) small refused = (small, refused)
-units_refused planned faults.SameAddress small refused = absurd refused
+units_refused planned faults.SameAddress small refused = (small, refused)
 units_refused planned (faults.Order number fault) small refused = absurd refused
 
 pub orders_refused : (planned : Planned) (fault : SetupFault) → HasBus planned → IsOrderRefusal planned.events fault

@@ -48,10 +48,17 @@ pub record IsFirstUnitFault (planned : List PlannedUnit) (number : ℕ) (fault :
   pub refused : IsUnitFault unit.address unit.bank unit.fixed fault
   pub not_memory : fault ≢ NoMemory
 
+-- each unit can be made, and two of them are at one address
+pub record AreTogether (planned : List PlannedUnit) : Type 0 where
+  pub units : List UnitState
+  pub made : AreUnits planned units
+  pub together : ¬ AreApart units
+
 -- why the units aren't made; want of memory may come at any
 abbrev pub IsUnitRefusal : List PlannedUnit → SetupFault → Type 0
 IsUnitRefusal planned (faults.Input Memory) = ⊤
 IsUnitRefusal planned (faults.Unit number fault) = IsFirstUnitFault planned number fault
+IsUnitRefusal planned faults.SameAddress = AreTogether planned
 IsUnitRefusal planned other = ⊥
 
 -- ---- fates
@@ -105,13 +112,6 @@ pub record IsSetUp (planned : Planned) (units : List UnitState) (fates : List Fa
   pub fates_are : fates ≡ fates_of planned.fates
   pub events : AreEvents planned.events all
 
--- the units aren't apart
-pub record AreTogether (planned : Planned) : Type 0 where
-  pub small : IsSmall planned
-  pub units : List UnitState
-  pub made : AreUnits planned.units units
-  pub together : ¬ AreApart units
-
 -- there is a bus of the units
 pub record HasBus (planned : Planned) : Type 0 where
   pub units : List UnitState
@@ -123,5 +123,5 @@ IsSetupRefused planned (faults.Input TooBig) = ¬ IsSmall planned
 IsSetupRefused planned (faults.Input Memory) = ⊤
 IsSetupRefused planned (faults.Input fault) = ⊥
 IsSetupRefused planned (faults.Unit number fault) = IsSmall planned × IsFirstUnitFault planned.units number fault
-IsSetupRefused planned faults.SameAddress = AreTogether planned
+IsSetupRefused planned faults.SameAddress = IsSmall planned × AreTogether planned.units
 IsSetupRefused planned (faults.Order number fault) = HasBus planned × IsFirstOrderFault planned.events number fault

@@ -1,5 +1,6 @@
-ghost use Rattle.std.specs.Prelude.{◌≡◌, ◌≢◌, ◌++◌, List, IfOk, IfErr, OnOk, map, replicate};
+ghost use Rattle.std.specs.Prelude.{◌≡◌, ◌≢◌, ◌++◌, List, [], ◌∷◌, None, true, false, IfOk, IfErr, OnOk, map, replicate};
 ghost use Rattle.dali_gear.specs.Faults.{IsUnitFault};
+ghost use Rattle.dali_gear.specs.SimState.{world_of};
 ghost use Rattle.dali_trace.specs.declared.happening.Event.TheVariants.{Step};
 ghost use Rattle.dali_input.specs.Scenario.{PlannedUnit, event_of, planned_of, unit_planned};
 ghost use Rattle.dali_input.specs.Setup.{AreEvents, AreUnits, IsFirstUnitFault, IsMakeable, IsOrderRefusal};
@@ -9,8 +10,8 @@ ghost use Rattle.dali_input.specs.Setup.{made_unit as made};
 use crate::fault::InputFault;
 use crate::item::{ItemFault, order_of};
 use crate::scenario::{EventPlan, FatePlan, Scenario, UnitPlan};
-use dali_gear::{Fate, GearFault, SimBus, Unit};
-use dali_writer::Event;
+use dali_gear::{Fate, GearFault, SimBus, Unit, is_free};
+use dali_trace::Event;
 use std::alloc::{AllocError, AllocFailed, Global};
 
 /// Why a scenario can't be set up (profile).
@@ -81,21 +82,40 @@ pub fn setup_of(alloc: Global, scenario: &Scenario<'_>) -> Result<Setup, SetupFa
     Ok(Setup { bus, events })
 }
 
-// The units, in their order.
+// The units, in their order. Once two are at one address each further one is made to test it, and let go, so that no
+// more are held than a bus has addresses.
 fn units_of(alloc: Global, plans: &[UnitPlan]) -> Result<Vec<Unit>, SetupFault>
     ensures ok { IfOk result (λ units. AreUnits (map unit_planned plans.now) units.items) }
     ensures err { IfErr result (IsUnitRefusal (map unit_planned plans.now)) }
 {
     let mut units = Vec::new(alloc);
+    let mut are_apart = true;
     let mut number: u64 = 0;
     for plan in plans {
         number += 1;
         match made_unit(alloc, plan) {
-            Ok(unit) => units.push(unit)?,
+            Ok(unit) => are_apart = hold_apart(&mut units, are_apart, unit)?,
             Err(fault) => return Err(unit_fault(number, fault)),
         }
     }
+    if !are_apart {
+        return Err(SetupFault::SameAddress);
+    }
     Ok(units)
+}
+
+// Holds a unit besides units that are apart, if it is apart from them; whether all are.
+fn hold_apart(units: &mut Vec<Unit>, are_apart: bool, unit: Unit) -> Result<bool, AllocError>
+    ensures apart { IfOk result (λ apart. apart ≡ true
+        → (are_apart ≡ true) × (units.new.items ≡ units.old.items ++ unit ∷ [])) }
+    ensures together { IfOk result (λ apart. apart ≡ false
+        → are_apart ≡ true → world_of units.old.items unit.address ≢ None) }
+{
+    if !are_apart || !is_free(units.as_slice(), unit.address()) {
+        return Ok(false);
+    }
+    units.push(unit)?;
+    Ok(true)
 }
 
 // Why no scenario is set up at the fault of a unit.

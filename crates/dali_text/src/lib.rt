@@ -24,4 +24,4 @@ pub use journal_lines::write_journal;
 pub use order_lines::{write_order, write_tally};
 pub use output::{Output, Unwritten};
 pub use record_text::RecordText;
-pub use run_lines::write_outcome;
+pub use run_lines::write_run;

@@ -1,4 +1,4 @@
-ghost use Rattle.std.specs.Prelude.{◌≡◌, false, OnOk, length, reverse};
+ghost use Rattle.std.specs.Prelude.{◌≡◌, false, OnOk, reverse};
 ghost use Rattle.std.specs.List.{AllByRecursion, flat_map};
 ghost use Rattle.dali_frame.specs.Frame.{IsProper};
 ghost use Rattle.dali_trace.specs.declared.happening.Happening.TheVariants.{Sent};
@@ -13,29 +13,28 @@ use crate::record_text::RecordText;
 use crate::unit_lines::write_unit;
 use dali_frame::{Frame, word_of};
 use dali_gear::Unit;
-use dali_writer::{Happening, Outcome};
+use dali_trace::Happening;
 use std::io::Write;
 
-/// Writes what a run gave (profile): its trace, how many frames were sent and how many bytes its
-/// journal has, and the units as they stand after it.
+/// Writes what a run gave (profile): its trace, how many frames were sent, so many bytes of its
+/// journal, and the units as they stand after it.
 ///
 /// Frames are told one by one, or of each run of them only how many there were. It doesn't flush.
 #[tactic(auto, using(crate::proofs::StreamLemmas::appends_both))]
-pub fn write_outcome<W: Write>(
+pub fn write_run<W: Write>(
     output: &mut Output<W>,
     single_frames: bool,
-    outcome: &Outcome,
+    trace: &[Happening],
+    journal: usize,
     units: &[Unit],
 ) -> Result<(), Unwritten>
-    requires { SendsAllProper (reverse outcome.now.trace.items) }
+    requires { SendsAllProper (reverse trace.now) }
     ensures text { OnOk result (Takes W.contents output.old output.new
-        (run_text single_frames outcome.now.trace.items (length outcome.now.journal.items) units.now)) }
+        (run_text single_frames trace.now journal units.now)) }
     ensures failed { TellsFailure result output.old output.new }
 {
-    let trace = outcome.trace.as_slice();
     write_trace(output, single_frames, trace)?;
     let total = total_of(trace);
-    let journal = outcome.journal.len();
     writeln!(output, "total {total}")?;
     writeln!(output, "journal {journal}")?;
     write_units(output, units)

@@ -2,6 +2,7 @@
 use crate::gtin::GTIN;
 use crate::writer::case::{Case, DONE, Deed, ENOUGH, PLAIN, TAKEN, bus_of, judge, put, run_case};
 use dali_bank::Order;
+use dali_gear::{Bus, SimBus};
 use dali_journal::{Code, Journal, NoMemory, Record};
 use dali_writer::{Happening, Reply, RunFault, Want, Writer};
 use std::alloc::Global;
@@ -213,5 +214,33 @@ fn a_refused_order_is_taken_when_it_comes_again(rt: HostRuntime) -> Result<(), F
     if was_refused {
         return Err(NoMemory.into());
     }
+    Ok(())
+}
+
+// Does what the writer wants until it says something.
+fn said_by_hand(bus: &mut SimBus, writer: &mut Writer) -> Option<(u64, Reply)> {
+    for _ in 0..ENOUGH {
+        match writer.want() {
+            Want::Idle => return None,
+            Want::Keep(_) => writer.kept(),
+            Want::Send(frame) => {
+                let answer = bus.carry(&frame);
+                writer.heard(answer);
+            }
+            Want::Say(id, reply) => return Some((id, reply)),
+        }
+    }
+    None
+}
+
+// `./test` runs this one again and again, with each allocation refused in turn. Once the order is taken no memory is
+// asked for up to its saying, so whichever is refused is one before that.
+#[test]
+fn a_taken_order_comes_to_its_saying(rt: HostRuntime) -> Result<(), Fail> {
+    let mut bus = bus_of(rt.alloc(), &PLAIN)?;
+    let mut writer = Writer::new(Journal::new(rt.alloc(), 2)?);
+    let order = Order::from_pairs(1, 5, &GTIN).ok_or("an order")?;
+    assert_eq!(rt; writer.submit(order, 0)?, Reply::Taken);
+    assert!(rt; said_by_hand(&mut bus, &mut writer) == Some((1, DONE)));
     Ok(())
 }

@@ -16,8 +16,8 @@ use dali_gear::Unit;
 use dali_trace::Happening;
 use std::io::Write;
 
-/// Writes what a run gave (profile): its trace, how many frames were sent, so many bytes of its
-/// journal, and the units as they stand after it.
+/// Writes what a run gave (profile): its trace, how many frames were sent, how many bytes its journal
+/// has, and the units as they stand after it.
 ///
 /// Frames are told one by one, or of each run of them only how many there were. It doesn't flush.
 #[tactic(auto, using(crate::proofs::StreamLemmas::appends_both))]

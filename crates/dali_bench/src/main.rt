@@ -7,9 +7,10 @@ use dali_commands::frame::frame;
 use dali_commands::{Fault, FileCommand, Status, write_fault};
 use dali_input::{Input, InputFault};
 use dali_job::{Job, job_of};
+use dali_notes::Escaped;
 use dali_text::Output;
 use std::alloc::{AllocError, Global};
-use std::io::{BufWriter, LineWriter};
+use std::io::{BufWriter, LineWriter, Read, Write};
 use std::process::ExitCode;
 use std::{fs, io};
 
@@ -79,20 +80,43 @@ fn texts_of<'a>(alloc: Global, words: &'a Vec<String>) -> Result<Vec<&'a str>, A
     Ok(texts)
 }
 
-// Carries out a command over a file. The name `/dev/stdin` is read through the runtime, since a process
-// may lack the right to open it by name.
+// Carries out a command over a file, or over standard input for `-`. The name `/dev/stdin` is read through the runtime
+// too, since a process may lack the right to open it by name.
 fn on_file(rt: &HostRuntime, name: &str, command: FileCommand) -> Status {
     let Ok(writer) = BufWriter::new(rt.alloc(), io::writer(rt)) else {
         return out_of_memory(rt, Place::Output);
     };
     let mut output = Output::new(writer);
-    if name == "/dev/stdin" {
-        return command.carry_out(rt.alloc(), &mut Input::new(rt.reader()), &mut output);
+    if name == "/dev/stdin" || name == "-" {
+        return on_input(rt, "standard input", command, Input::new(rt.reader()), &mut output);
     }
     match fs::open(rt, name) {
-        Ok(file) => command.carry_out(rt.alloc(), &mut Input::new(file), &mut output),
+        Ok(file) => on_input(rt, name, command, Input::new(file), &mut output),
         Err(cause) => unopened(rt, name, cause, Place::Output),
     }
+}
+
+// Carries out a command over an input. Standard error has where that is wrong, and why it can't be read.
+fn on_input<R: Read, W: Write>(
+    rt: &HostRuntime,
+    name: &str,
+    command: FileCommand,
+    mut input: Input<R>,
+    output: &mut Output<W>,
+) -> Status {
+    let Ok(writer) = BufWriter::new(rt.alloc(), rt.stderr()) else {
+        return out_of_memory(rt, Place::Output);
+    };
+    let mut notes = Output::new(writer);
+    let status = command.carry_out_noting(rt.alloc(), &mut input, output, &mut notes);
+    let name = Escaped(name);
+    let _ = match input.cause() {
+        Some(cause) => writeln!(notes, "error: the input can't be read: {name}: {cause}"),
+        None if status == Status::Failed => writeln!(notes, "error: memory ran out: {name}"),
+        None => Ok(()),
+    };
+    let _ = notes.flush();
+    status
 }
 
 // Carries out orders over standard input and output. Where standard error can't be written, nothing more is.
@@ -123,6 +147,7 @@ enum Place {
 
 // Prints that a file can't be opened, and why.
 fn unopened(rt: &HostRuntime, name: &str, cause: io::Error, place: Place) -> Status {
+    let name = Escaped(name);
     let _ = eprintln!(rt; "error: the input can't be opened or read: {name}: {cause}");
     print_fault(rt, Fault::Input(InputFault::File), place)
 }

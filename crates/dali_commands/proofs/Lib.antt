@@ -1,3 +1,4 @@
+pub mod FailureLemmas
 pub mod DriveLemmas
 pub mod FrameLemmas
 pub mod ReportLemmas

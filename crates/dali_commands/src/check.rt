@@ -10,9 +10,11 @@ ghost use Rattle.dali_commands.specs.Report.{item_lines, report, report_status, 
 use crate::fault::{Fault, Status};
 use crate::fault_lines::{write_failure, write_refused_item};
 use dali_input::{Input, ORDERS_LIMIT, items_of, order_of, read_input};
+use dali_notes::{Repeats, note_item, note_orders};
 use dali_text::{Output, Unwritten, write_order, write_tally};
 use serde_json::Value;
 use std::alloc::Global;
+use std::io;
 use std::io::{Read, Write};
 
 /// Reads a JSON list of orders, and writes what becomes of each: the updates of an accepted item,
@@ -34,17 +36,37 @@ pub fn check<R: Read, W: Write>(
     ensures unwritten { result ≡ Status.Unwritten ↔ has_failed output.new ≡ true }
     ensures flushed { result ≢ Status.Unwritten → is_flushed output.new ≡ true }
 {
-    match try_check(alloc, input, output) {
+    check_noting(alloc, input, output, &mut Output::new(io::sink()))
+}
+
+/// The same, and tells a person in `notes` where the input or an item is wrong and what its rule is, and which items
+/// have the number of an earlier one that is another order (the writer replies `reused`). Whatever becomes of the
+/// notes, the answer is the same.
+pub fn check_noting<R: Read, W: Write, N: Write>(
+    alloc: Global,
+    input: &mut Input<R>,
+    output: &mut Output<W>,
+    notes: &mut Output<N>,
+) -> Status
+    ensures checked { result ≢ Status.Unwritten → (text : List ℕ)
+        × IsChecked orders_limit (state_of R.remaining input.old) (state_of R.remaining input.new) result text
+        × Takes W.contents output.old output.new text }
+    ensures read { ReadsAtMost orders_limit (state_of R.remaining input.old) (state_of R.remaining input.new) }
+    ensures unwritten { result ≡ Status.Unwritten ↔ has_failed output.new ≡ true }
+    ensures flushed { result ≢ Status.Unwritten → is_flushed output.new ≡ true }
+{
+    match try_check(alloc, input, output, notes) {
         Ok(status) => status,
         Err(_) => Status::Unwritten,
     }
 }
 
 // The same, or that the output has failed.
-fn try_check<R: Read, W: Write>(
+fn try_check<R: Read, W: Write, N: Write>(
     alloc: Global,
     input: &mut Input<R>,
     output: &mut Output<W>,
+    notes: &mut Output<N>,
 ) -> Result<Status, Unwritten>
     ensures checked { IfOk result (λ status. (text : List ℕ)
         × IsChecked orders_limit (state_of R.remaining input.old) (state_of R.remaining input.new) status text
@@ -53,30 +75,39 @@ fn try_check<R: Read, W: Write>(
     ensures end { TellsEnd result output.new }
 {
     match read_input(alloc, input, ORDERS_LIMIT) {
-        Ok(bytes) => write_checked(alloc, bytes.as_slice(), output),
+        Ok(bytes) => write_checked(alloc, bytes.as_slice(), output, notes),
         Err(fault) => write_failure(output, Fault::Input(fault)),
     }
 }
 
 // Writes what becomes of an input.
-fn write_checked<W: Write>(
+fn write_checked<W: Write, N: Write>(
     alloc: Global,
     input: &[u8],
     output: &mut Output<W>,
+    notes: &mut Output<N>,
 ) -> Result<Status, Unwritten>
     ensures answered { IfOk result (λ status. (text : List ℕ) × IsAnswered orders_limit input.now status text
         × Takes W.contents output.old output.new text) }
     ensures end { TellsEnd result output.new }
 {
     match items_of(alloc, input, ORDERS_LIMIT) {
-        Ok(items) => write_report(output, items),
-        Err(fault) => write_failure(output, Fault::Input(fault)),
+        Ok(items) => write_report(alloc, items, output, notes),
+        Err(fault) => {
+            note_orders(alloc, notes, input, fault);
+            write_failure(output, Fault::Input(fault))
+        }
     }
 }
 
 // Writes what becomes of each item.
 #[tactic(auto, using(dali_text::proofs::StreamLemmas::appends_both, dali_text::proofs::StreamLemmas::appends_kept))]
-fn write_report<W: Write>(output: &mut Output<W>, items: Vec<Value>) -> Result<Status, Unwritten>
+fn write_report<W: Write, N: Write>(
+    alloc: Global,
+    items: Vec<Value>,
+    output: &mut Output<W>,
+    notes: &mut Output<N>,
+) -> Result<Status, Unwritten>
     ensures report { IfOk result (λ status. (outcomes : List Outcome) × JudgesEach (items_view items.items) outcomes
         × (status ≡ report_status outcomes)
         × Takes W.contents output.old output.new (report outcomes)) }
@@ -84,8 +115,9 @@ fn write_report<W: Write>(output: &mut Output<W>, items: Vec<Value>) -> Result<S
 {
     let mut accepted = 0u64;
     let mut refused = 0u64;
+    let mut repeats = Repeats::new(alloc);
     for item in items {
-        if write_item(output, accepted + refused + 1, item)? {
+        if write_item(output, accepted + refused + 1, item, notes, &mut repeats)? {
             accepted += 1;
         } else {
             refused += 1;
@@ -102,7 +134,13 @@ fn write_report<W: Write>(output: &mut Output<W>, items: Vec<Value>) -> Result<S
 
 // Writes what becomes of an item, and whether it was accepted. The item is let go here, while it
 // is in the processor's cache.
-fn write_item<W: Write>(output: &mut Output<W>, number: u64, item: Value) -> Result<bool, Unwritten>
+fn write_item<W: Write, N: Write>(
+    output: &mut Output<W>,
+    number: u64,
+    item: Value,
+    notes: &mut Output<N>,
+    repeats: &mut Repeats,
+) -> Result<bool, Unwritten>
     ensures lines { IfOk result (λ accepted. (outcome : Outcome) × Judges (view item) outcome
         × (is_ok outcome ≡ accepted)
         × Takes W.contents output.old output.new (item_lines number outcome)) }
@@ -110,10 +148,12 @@ fn write_item<W: Write>(output: &mut Output<W>, number: u64, item: Value) -> Res
 {
     match order_of(&item) {
         Ok(order) => {
+            repeats.note(notes, number, &order);
             write_order(output, number, &order)?;
             Ok(true)
         }
         Err(fault) => {
+            note_item(notes, "item", number, &item, fault);
             write_refused_item(output, number, fault)?;
             Ok(false)
         }

@@ -3,14 +3,15 @@ ghost use Rattle.dali_text.specs.Output.{Takes, has_failed, is_flushed};
 ghost use Rattle.dali_input.specs.Input.{ReadsAtMost, state_of};
 ghost use Rattle.dali_commands.specs.FileCommands.{IsCarriedOut, limit_of};
 
-use crate::check::check;
+use crate::check::check_noting;
 use crate::fault::Status;
 use crate::journal::journal;
-use crate::run_scenario::run_scenario;
+use crate::run_scenario::run_scenario_noting;
 use crate::show::show;
 use dali_input::Input;
 use dali_text::Output;
 use std::alloc::Global;
+use std::io;
 use std::io::{Read, Write};
 
 /// A command over what one file has (profile).
@@ -43,9 +44,31 @@ impl FileCommand {
         ensures unwritten { result ≡ Status.Unwritten ↔ has_failed output.new ≡ true }
         ensures flushed { result ≢ Status.Unwritten → is_flushed output.new ≡ true }
     {
+        self.carry_out_noting(alloc, input, output, &mut Output::new(io::sink()))
+    }
+
+    /// The same, and tells a person in `notes` where the input is wrong and what its rule is. Whatever becomes of the
+    /// notes, the answer is the same.
+    pub fn carry_out_noting<R: Read, W: Write, N: Write>(
+        &self,
+        alloc: Global,
+        input: &mut Input<R>,
+        output: &mut Output<W>,
+        notes: &mut Output<N>,
+    ) -> Status
+        ensures carried_out { result ≢ Status.Unwritten → (text : List ℕ)
+            × IsCarriedOut self.now (state_of R.remaining input.old) (state_of R.remaining input.new) result text
+            × Takes W.contents output.old output.new text }
+        ensures read { ReadsAtMost (limit_of self.now) (state_of R.remaining input.old)
+            (state_of R.remaining input.new) }
+        ensures unwritten { result ≡ Status.Unwritten ↔ has_failed output.new ≡ true }
+        ensures flushed { result ≢ Status.Unwritten → is_flushed output.new ≡ true }
+    {
         match *self {
-            FileCommand::Check => check(alloc, input, output),
-            FileCommand::Run { single_frames } => run_scenario(alloc, input, output, single_frames),
+            FileCommand::Check => check_noting(alloc, input, output, notes),
+            FileCommand::Run { single_frames } => {
+                run_scenario_noting(alloc, input, output, single_frames, notes)
+            }
             FileCommand::Show => show(alloc, input, output),
             FileCommand::Journal => journal(alloc, input, output),
         }

@@ -2,17 +2,26 @@ ghost use Rattle.std.specs.Prelude.{◌≡◌, ◌≢◌, ◌↔◌, List, ℕ, 
 ghost use Rattle.dali_trace.specs.Runs.{SendsAllProper};
 ghost use Rattle.dali_text.specs.RunText.{run_text};
 ghost use Rattle.dali_text.specs.Output.{Takes, has_failed, is_flushed};
-ghost use Rattle.dali_input.specs.Input.{ReadsAtMost, state_of};
+ghost use Rattle.serde_json.specs.View.{view};
+ghost use Rattle.dali_input.specs.Input.{IsJson, IsNoJson, ReadsAtMost, state_of};
+ghost use Rattle.dali_input.specs.Scenario.{IsScenario, planned_of};
+ghost use Rattle.dali_input.specs.Setup.{IsSetUp, IsSetupRefused};
+ghost use Rattle.dali_input.specs.Values.{IsNoReading};
 ghost use Rattle.dali_commands.specs.Ends.{TellsEnd};
 ghost use Rattle.dali_commands.specs.RunAnswers.{IsRan, IsRunAnswer, IsUnrun, scenario_limit};
 
 use crate::fault::{Fault, Status};
 use crate::fault_lines::write_failure;
 use dali_gear::SimBus;
-use dali_input::{Input, Setup, json_of, read_input, scenario_of, setup_of};
+use dali_input::{
+    Input, InputFault, Scenario, Setup, SetupFault, json_of, read_input, scenario_of, setup_of,
+};
+use dali_notes::{note_json, note_scenario, note_setup};
 use dali_text::{Output, Unwritten, write_run};
 use dali_writer::{Outcome, RunFault, run_sim};
+use serde_json::Value;
 use std::alloc::Global;
+use std::io;
 use std::io::{Read, Write};
 
 /// The most bytes of a scenario.
@@ -48,18 +57,44 @@ pub fn run_scenario<R: Read, W: Write>(
     ensures unwritten { result ≡ Status.Unwritten ↔ has_failed output.new ≡ true }
     ensures flushed { result ≢ Status.Unwritten → is_flushed output.new ≡ true }
 {
-    match try_run(alloc, input, output, single_frames) {
+    run_scenario_noting(
+        alloc,
+        input,
+        output,
+        single_frames,
+        &mut Output::new(io::sink()),
+    )
+}
+
+/// The same, and tells a person in `notes` where the scenario is wrong and what its rule is. Whatever becomes of the
+/// notes, the answer is the same.
+pub fn run_scenario_noting<R: Read, W: Write, N: Write>(
+    alloc: Global,
+    input: &mut Input<R>,
+    output: &mut Output<W>,
+    single_frames: bool,
+    notes: &mut Output<N>,
+) -> Status
+    ensures ran { result ≢ Status.Unwritten → (text : List ℕ)
+        × IsRunAnswer single_frames (state_of R.remaining input.old) (state_of R.remaining input.new) result text
+        × Takes W.contents output.old output.new text }
+    ensures read { ReadsAtMost scenario_limit (state_of R.remaining input.old) (state_of R.remaining input.new) }
+    ensures unwritten { result ≡ Status.Unwritten ↔ has_failed output.new ≡ true }
+    ensures flushed { result ≢ Status.Unwritten → is_flushed output.new ≡ true }
+{
+    match try_run(alloc, input, output, single_frames, notes) {
         Ok(status) => status,
         Err(_) => Status::Unwritten,
     }
 }
 
 // The same, or that the output has failed.
-fn try_run<R: Read, W: Write>(
+fn try_run<R: Read, W: Write, N: Write>(
     alloc: Global,
     input: &mut Input<R>,
     output: &mut Output<W>,
     single_frames: bool,
+    notes: &mut Output<N>,
 ) -> Result<Status, Unwritten>
     ensures ran { IfOk result (λ status. (text : List ℕ)
         × IsRunAnswer single_frames (state_of R.remaining input.old) (state_of R.remaining input.new) status text
@@ -67,23 +102,27 @@ fn try_run<R: Read, W: Write>(
     ensures read { ReadsAtMost scenario_limit (state_of R.remaining input.old) (state_of R.remaining input.new) }
     ensures end { TellsEnd result output.new }
 {
-    match ran_of(alloc, input) {
+    match ran_of(alloc, input, notes) {
         Ok(ran) => write_ran(output, single_frames, &ran),
         Err(fault) => write_failure(output, fault),
     }
 }
 
 // Reads, understands, sets up and runs a scenario.
-fn ran_of<R: Read>(alloc: Global, input: &mut Input<R>) -> Result<Ran, Fault>
+fn ran_of<R: Read, N: Write>(
+    alloc: Global,
+    input: &mut Input<R>,
+    notes: &mut Output<N>,
+) -> Result<Ran, Fault>
     ensures ok { IfOk result (λ ran. IsRan (state_of R.remaining input.old) (state_of R.remaining input.new)
         ran.outcome.trace.items ran.outcome.journal.items ran.bus) }
     ensures err { IfErr result (IsUnrun (state_of R.remaining input.old) (state_of R.remaining input.new)) }
     ensures read { ReadsAtMost scenario_limit (state_of R.remaining input.old) (state_of R.remaining input.new) }
 {
     let bytes = read_input(alloc, input, SCENARIO_LIMIT)?;
-    let json = json_of(alloc, bytes.as_slice(), SCENARIO_LIMIT)?;
-    let scenario = scenario_of(alloc, &json)?;
-    let Setup { mut bus, events } = setup_of(alloc, &scenario)?;
+    let json = json_noting(alloc, bytes.as_slice(), notes)?;
+    let scenario = scenario_noting(alloc, &json, notes)?;
+    let Setup { mut bus, events } = setup_noting(alloc, &scenario, notes)?;
     let Ok(limit) = u32::try_from(scenario.limit) else {
         return Err(Fault::Run(RunFault::Limit));
     };
@@ -93,6 +132,61 @@ fn ran_of<R: Read>(alloc: Global, input: &mut Input<R>) -> Result<Ran, Fault>
     drop(bytes);
     let outcome = run_sim(alloc, &mut bus, limit, events.as_slice())?;
     Ok(Ran { outcome, bus })
+}
+
+// The JSON value of a scenario's bytes. Where there is none, the notes tell why.
+fn json_noting<N: Write>(
+    alloc: Global,
+    input: &[u8],
+    notes: &mut Output<N>,
+) -> Result<Value, InputFault>
+    ensures ok { IfOk result (λ json. IsJson scenario_limit input.now (view json)) }
+    ensures err { IfErr result (IsNoJson scenario_limit input.now) }
+{
+    match json_of(alloc, input, SCENARIO_LIMIT) {
+        Ok(json) => Ok(json),
+        Err(fault) => {
+            note_json(alloc, notes, input, fault);
+            Err(fault)
+        }
+    }
+}
+
+// What a scenario says. Where it is none, the notes tell why.
+fn scenario_noting<'a, N: Write>(
+    alloc: Global,
+    json: &'a Value,
+    notes: &mut Output<N>,
+) -> Result<Scenario<'a>, InputFault>
+    ensures ok { IfOk result (λ scenario. IsScenario (view json.now) (planned_of scenario)) }
+    ensures err { IfErr result (IsNoReading (IsScenario (view json.now))) }
+{
+    match scenario_of(alloc, json) {
+        Ok(scenario) => Ok(scenario),
+        Err(fault) => {
+            note_scenario(notes, json, fault);
+            Err(fault)
+        }
+    }
+}
+
+// What a scenario sets up. Where it can't be set up, the notes tell why.
+fn setup_noting<N: Write>(
+    alloc: Global,
+    scenario: &Scenario<'_>,
+    notes: &mut Output<N>,
+) -> Result<Setup, SetupFault>
+    ensures ok { IfOk result
+        (λ setup. IsSetUp (planned_of scenario.now) setup.bus.units setup.bus.fates setup.events.items) }
+    ensures err { IfErr result (IsSetupRefused (planned_of scenario.now)) }
+{
+    match setup_of(alloc, scenario) {
+        Ok(setup) => Ok(setup),
+        Err(fault) => {
+            note_setup(notes, scenario, fault);
+            Err(fault)
+        }
+    }
 }
 
 // Tells a run.

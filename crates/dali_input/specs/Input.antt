@@ -1,5 +1,5 @@
 -- What is read of a reader, and the JSON in it.
-use Rattle.std.specs.Prelude.{◌≡◌, ◌+◌, ◌<◌, ◌≤◌, ℕ, Bool, true, List, ◌++◌, Option, Some, None, length, IsUtf8, ⊤}
+use Rattle.std.specs.Prelude.{◌≡◌, ◌+◌, ◌<◌, ◌≤◌, ℕ, Bool, true, List, ◌++◌, Option, Some, None, is_some, length, IsUtf8, ⊤}
 use Rattle.std.specs.Io.KnownBytes.{Consumes, IsAtEnd}
 use Rattle.serde_json.specs.Data.{Data}
 use Rattle.serde_json.specs.Read.{read}
@@ -16,7 +16,7 @@ abbrev pub reader_of : {R : Type 0} → Input R → R
 reader_of input = input.reader
 
 abbrev pub state_of : {R : Type 0} → (R → Option (List ℕ)) → Input R → InputState
-state_of remaining input = record { left = remaining (reader_of input); failed = input.failed }
+state_of remaining input = record { left = remaining (reader_of input); failed = is_some input.cause }
 
 -- at most one byte past the limit is read
 pub record ReadsAtMost (limit : ℕ) (before after : InputState) : Type 0 where

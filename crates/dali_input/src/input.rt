@@ -15,11 +15,12 @@ const CHUNK: usize = 65536;
 #[derive(Drop)]
 pub struct Input<R> {
     reader: R,
-    // Whether a read has failed.
-    failed: bool,
+    // Of what kind the read was that has failed, if one has.
+    cause: Option<ErrorKind>,
 }
 
 impl<R: Read> Input<R> {
+    ghost use Rattle.std.specs.Prelude.{is_some};
     ghost use Rattle.dali_input.specs.Input.{IsReadFailure, reader_of, state_of};
 
     /// An input from the reader, which hasn't failed.
@@ -29,8 +30,15 @@ impl<R: Read> Input<R> {
     {
         Input {
             reader,
-            failed: false,
+            cause: None,
         }
+    }
+
+    /// Of what kind the failure of its reader was, where it has failed.
+    pub fn cause(&self) -> Option<ErrorKind>
+        ensures { is_some result ≡ (state_of R.remaining self.now).failed }
+    {
+        self.cause
     }
 
     /// The reader, with what it has left.
@@ -45,11 +53,11 @@ impl<R: Read> Input<R> {
     fn read(&mut self, chunk: &mut [u8]) -> Result<usize, InputFault>
         ensures bound { IfOk result (λ count. count ≤ length chunk.new) }
         ensures bytes { ReadConsumes (R.remaining self.old.reader) (R.remaining self.new.reader) result chunk.new }
-        ensures unfailed { OnOk result (self.new.failed ≡ self.old.failed) }
+        ensures unfailed { OnOk result (self.new.cause ≡ self.old.cause) }
         ensures err { IfErr result (IsReadFailure (state_of R.remaining self.old) (state_of R.remaining self.new)) }
-        ensures failed_before { self.old.failed ≡ true → self.new ≡ self.old }
+        ensures failed_before { is_some self.old.cause ≡ true → self.new ≡ self.old }
     {
-        if self.failed {
+        if self.cause.is_some() {
             return Err(InputFault::File);
         }
         for _ in 0..u64::MAX {
@@ -58,11 +66,14 @@ impl<R: Read> Input<R> {
                 Err(error) => match error.kind() {
                     ErrorKind::Interrupted => {}
                     ErrorKind::OutOfMemory => return Err(InputFault::Memory),
-                    _ => break,
+                    kind => {
+                        self.cause = Some(kind);
+                        return Err(InputFault::File);
+                    }
                 },
             }
         }
-        self.failed = true;
+        self.cause = Some(ErrorKind::Interrupted);
         Err(InputFault::File)
     }
 }

@@ -1,9 +1,9 @@
-ghost use Rattle.std.specs.Prelude.{◌≡◌, Some, None, IfOk, IfErr, OnOk, option_map, option_and_then};
+ghost use Rattle.std.specs.Prelude.{◌≡◌, Some, None, IfOk, IfErr, IfSome, IfNone, OnOk, option_map, option_and_then};
 ghost use Rattle.serde_json.specs.Data.{Data};
 ghost use Rattle.serde_json.specs.Find.{as_number, as_u64};
 ghost use Rattle.serde_json.specs.View.{view};
 ghost use Rattle.dali_bank.specs.Spelling.{plain};
-ghost use Rattle.dali_bank.specs.Draft.{found_of, empty_draft};
+ghost use Rattle.dali_bank.specs.Draft.{Drafted, found_of, empty_draft};
 ghost use Rattle.dali_input.specs.Items.{given as given_value, text_given as given_text, HasNumbers, IsForUnit};
 ghost use Rattle.dali_input.specs.Items.{HasFieldsOf, IsFieldFault, IsOrderOf, IsFaultOf};
 ghost use Rattle.dali_input.specs.Members.{AreMembersOf, IsGivenBy, IsRefusedAs};
@@ -146,6 +146,21 @@ fn set_given(draft: &mut Draft, field: Field, json: &Json) -> Result<(), BankFau
         return Err(BankFault::Kind);
     };
     draft.set(field, value)
+}
+
+/// The fault of what a JSON value gives to a field, whatever else the item has (profile): 2 Kind, 3 Range, 4 Gtin or 5
+/// Text. None where the field takes it.
+pub fn field_fault(field: Field, json: &Json) -> Option<BankFault>
+    ensures fault { IfSome result (IsRefusedAs (view json.now) field) }
+    ensures none { IfNone result ((drafted : Drafted) × IsGivenBy (view json.now) field (empty_draft 0 0) drafted) }
+{
+    let Ok(mut draft) = Draft::new(0, 0) else {
+        unreachable!();
+    };
+    match set_given(&mut draft, field, json) {
+        Ok(()) => None,
+        Err(fault) => Some(fault),
+    }
 }
 
 // What a JSON value gives to a field, where it is of a kind that orders have.

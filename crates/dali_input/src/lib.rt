@@ -18,7 +18,7 @@ mod values;
 pub use bank_text::{TEXT_LIMIT, bank_of};
 pub use fault::InputFault;
 pub use input::{Input, json_of, read_input};
-pub use item::{ItemFault, order_of};
+pub use item::{ItemFault, field_fault, order_of};
 pub use orders::{ORDERS_LIMIT, items_of, orders_of, read_orders};
 pub use scenario::{EventPlan, FatePlan, Scenario, UnitPlan, scenario_of};
 pub use setup::{Setup, SetupFault, setup_of};

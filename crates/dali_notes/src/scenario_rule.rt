@@ -1,0 +1,184 @@
+use serde_json::Value as Json;
+use std::fmt;
+
+/// What a value of a scenario has to be.
+#[derive(Clone, Copy)]
+pub enum Rule {
+    /// A whole number from the least to the most.
+    Whole { least: u64, most: u64 },
+    /// An array of whole numbers from 0 to the most.
+    Wholes { most: u64 },
+    /// Three whole numbers from 0 to 255.
+    Registers,
+    /// An even number of hexadecimal digits, at most 512.
+    Digits,
+    /// True or false.
+    Truth,
+    /// An array.
+    List,
+    /// Whatever stands there.
+    Anything,
+}
+
+impl Rule {
+    /// Whether the value is so.
+    pub fn suits(&self, json: &Json) -> bool {
+        match *self {
+            Rule::Whole { least, most } => is_whole(json, least, most),
+            Rule::Wholes { most } => are_wholes(json, most),
+            Rule::Registers => are_wholes(json, 255) && count(json) == 3,
+            Rule::Digits => are_digits(json),
+            Rule::Truth => json.as_bool().is_some(),
+            Rule::List => json.as_array().is_some(),
+            Rule::Anything => true,
+        }
+    }
+}
+
+impl fmt::Display for Rule {
+    fn fmt<W: fmt::Write>(&self, f: &mut fmt::Formatter<W>) -> fmt::Result {
+        match *self {
+            Rule::Whole { least, most } => write!(f, "a whole number from {least} to {most}"),
+            Rule::Wholes { most } => write!(f, "an array of whole numbers from 0 to {most}"),
+            Rule::Registers => f.write_str("an array of three whole numbers from 0 to 255"),
+            Rule::Digits => f.write_str(
+                "a string of at most 512 hexadecimal digits, two for each byte",
+            ),
+            Rule::Truth => f.write_str("true or false"),
+            Rule::List => f.write_str("an array"),
+            Rule::Anything => f.write_str("an order"),
+        }
+    }
+}
+
+/// A key that an object of a scenario may have, or has to have.
+#[derive(Clone, Copy)]
+pub struct Member {
+    pub key: &'static str,
+    pub is_required: bool,
+    pub rule: Rule,
+}
+
+// A key that has to be there.
+fn required(key: &'static str, rule: Rule) -> Member {
+    Member {
+        key,
+        is_required: true,
+        rule,
+    }
+}
+
+// A key that may be missing.
+fn optional(key: &'static str, rule: Rule) -> Member {
+    Member {
+        key,
+        is_required: false,
+        rule,
+    }
+}
+
+/// The keys of a scenario.
+pub fn scenario_members() -> [Member; 4] {
+    let most = u64::MAX;
+    [
+        required("limit", Rule::Whole { least: 0, most }),
+        required("units", Rule::List),
+        optional("fates", Rule::List),
+        required("events", Rule::List),
+    ]
+}
+
+/// The keys of a unit.
+pub fn unit_members() -> [Member; 4] {
+    [
+        required(
+            "address",
+            Rule::Whole {
+                least: 0,
+                most: 255,
+            },
+        ),
+        optional("bank", Rule::Digits),
+        optional("fixed", Rule::Wholes { most: 255 }),
+        optional("dtr", Rule::Registers),
+    ]
+}
+
+/// The keys of a fate.
+pub fn fate_members() -> [Member; 4] {
+    [
+        optional(
+            "times",
+            Rule::Whole {
+                least: 1,
+                most: 20_000,
+            },
+        ),
+        optional("lost", Rule::Wholes { most: 63 }),
+        optional("answer_lost", Rule::Truth),
+        optional("refuse", Rule::Truth),
+    ]
+}
+
+/// The keys of events; each event has one of them, and a submission may have the moment beside it.
+pub fn event_members() -> [Member; 5] {
+    let most = u64::MAX;
+    [
+        optional("submit", Rule::Anything),
+        optional("moment", Rule::Whole { least: 0, most }),
+        optional(
+            "steps",
+            Rule::Whole {
+                least: 1,
+                most: 20_000,
+            },
+        ),
+        optional(
+            "stop",
+            Rule::Whole {
+                least: 0,
+                most: 65_535,
+            },
+        ),
+        optional("power", Rule::Whole { least: 0, most: 63 }),
+    ]
+}
+
+// Whether the value is a whole number from the least to the most.
+fn is_whole(json: &Json, least: u64, most: u64) -> bool {
+    match json.as_u64() {
+        Some(number) => least <= number && number <= most,
+        None => false,
+    }
+}
+
+// Whether the value is an array of whole numbers from 0 to the most.
+fn are_wholes(json: &Json, most: u64) -> bool {
+    let Some(items) = json.as_array() else {
+        return false;
+    };
+    for item in items {
+        if !is_whole(item, 0, most) {
+            return false;
+        }
+    }
+    true
+}
+
+// How many values an array has.
+fn count(json: &Json) -> usize {
+    match json.as_array() {
+        Some(items) => items.len(),
+        None => 0,
+    }
+}
+
+// Whether the value is a string of an even number of hexadecimal digits, at most 512.
+fn are_digits(json: &Json) -> bool {
+    match json.as_str() {
+        Some(text) if text.len() <= 512 && text.len() % 2 == 0 => {
+            text.as_bytes().iter().all(|byte| byte.is_ascii_hexdigit())
+        }
+        _ => false,
+    }
+}

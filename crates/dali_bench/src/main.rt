@@ -14,6 +14,9 @@ use std::io::{BufWriter, LineWriter, Read, Write};
 use std::process::ExitCode;
 use std::{fs, io};
 
+// What `--version` prints: `./test` compares the kit and its logic with those that the gate runs on.
+const VERSION: &str = "dali_bench 1.0, proved with rattle-kit-13f logic dac8208d650f15bf";
+
 fn main(rt: HostRuntime) -> ExitCode {
     let status = match std::env::args(&rt) {
         Ok(words) => match words.collect(rt.alloc()) {
@@ -42,6 +45,9 @@ fn run(rt: &HostRuntime, words: &Vec<String>) -> Status {
     } else {
         Place::Output
     };
+    if words.len() == 2 && words[1].as_str() == "--version" {
+        return print_version(rt);
+    }
     let Ok(words) = texts_of(rt.alloc(), words) else {
         return out_of_memory(rt, place);
     };
@@ -72,6 +78,13 @@ fn run(rt: &HostRuntime, words: &Vec<String>) -> Status {
     }
 }
 
+fn print_version(rt: &HostRuntime) -> Status {
+    match writeln!(Output::new(io::writer(rt)), "{VERSION}") {
+        Ok(()) => Status::Good,
+        Err(_) => Status::Unwritten,
+    }
+}
+
 fn texts_of<'a>(alloc: Global, words: &'a Vec<String>) -> Result<Vec<&'a str>, AllocError> {
     let mut texts = Vec::new(alloc);
     for word in words {
@@ -88,10 +101,16 @@ fn on_file(rt: &HostRuntime, name: &str, command: FileCommand) -> Status {
     };
     let mut output = Output::new(writer);
     if name == "/dev/stdin" || name == "-" {
-        return on_input(rt, "standard input", command, Input::new(rt.reader()), &mut output);
+        return on_input(
+            rt,
+            "standard input",
+            command,
+            &mut Input::new(rt.reader()),
+            &mut output,
+        );
     }
     match fs::open(rt, name) {
-        Ok(file) => on_input(rt, name, command, Input::new(file), &mut output),
+        Ok(file) => on_input(rt, name, command, &mut Input::new(file), &mut output),
         Err(cause) => unopened(rt, name, cause, Place::Output),
     }
 }
@@ -101,15 +120,15 @@ fn on_input<R: Read, W: Write>(
     rt: &HostRuntime,
     name: &str,
     command: FileCommand,
-    mut input: Input<R>,
+    input: &mut Input<R>,
     output: &mut Output<W>,
 ) -> Status {
     let Ok(writer) = BufWriter::new(rt.alloc(), rt.stderr()) else {
         return out_of_memory(rt, Place::Output);
     };
     let mut notes = Output::new(writer);
-    let status = command.carry_out_noting(rt.alloc(), &mut input, output, &mut notes);
-    let name = Escaped(name);
+    let status = command.carry_out_noting(rt.alloc(), input, output, &mut notes);
+    let name = Escaped::whole(name);
     let _ = match input.cause() {
         Some(cause) => writeln!(notes, "error: the input can't be read: {name}: {cause}"),
         None if status == Status::Failed => writeln!(notes, "error: memory ran out: {name}"),
@@ -147,7 +166,7 @@ enum Place {
 
 // Prints that a file can't be opened, and why.
 fn unopened(rt: &HostRuntime, name: &str, cause: io::Error, place: Place) -> Status {
-    let name = Escaped(name);
+    let name = Escaped::whole(name);
     let _ = eprintln!(rt; "error: the input can't be opened or read: {name}: {cause}");
     print_fault(rt, Fault::Input(InputFault::File), place)
 }

@@ -6,6 +6,7 @@ use crate::lines::Lines;
 use dali_bank::Order;
 use dali_drive::{StdSink, StdSource};
 use dali_input::{Input, InputFault, ItemFault, read_orders};
+use dali_notes::Escaped;
 use dali_text::{Output, Unwritten};
 use std::fs;
 use std::fs::{File, Files};
@@ -78,6 +79,7 @@ fn write_hindrance<W: Write>(
     hindrance: Hindrance,
 ) -> Result<Status, Unwritten> {
     let fault = Fault::Input(InputFault::File);
+    let name = Escaped::whole(name);
     match hindrance {
         Hindrance::Fault(fault) => write_failure(output, fault),
         Hindrance::System(cause) => {

@@ -104,7 +104,10 @@ fn try_run<R: Read, W: Write, N: Write>(
 {
     match ran_of(alloc, input, notes) {
         Ok(ran) => write_ran(output, single_frames, &ran),
-        Err(fault) => write_failure(output, fault),
+        Err(fault) => {
+            note_limit(notes, fault);
+            write_failure(output, fault)
+        }
     }
 }
 
@@ -186,6 +189,13 @@ fn setup_noting<N: Write>(
             note_setup(notes, scenario, fault);
             Err(fault)
         }
+    }
+}
+
+// Tells what a limit may be, where the fault is that it is none.
+fn note_limit<N: Write>(notes: &mut Output<N>, fault: Fault) {
+    if fault == Fault::Run(RunFault::Limit) {
+        let _ = writeln!(notes, "limit: a journal has from 1 to 100000 orders");
     }
 }
 

@@ -40,6 +40,10 @@ pub enum Job<'a> {
 const ABOUT: &str =
     "Luminaire data in memory bank 1 of DALI control gear: orders checked, and run on simulated units";
 
+const TOP_HELP: &str = "\
+A file named - is standard input; not for `drive`, which has the answers there.
+`dali_bench --version` alone prints the version, and the kit that it is proved with.";
+
 const CHECK_ABOUT: &str = "Checks a file of orders and prints the bytes that each would write";
 
 const ORDERS_HELP: &str = "A JSON array of orders; /dev/stdin for standard input";
@@ -225,9 +229,7 @@ fn has_flag(matches: &ArgMatches<'_>, command: &str, id: &str) -> bool
 fn bench_command<'a>(alloc: Global) -> Result<Command<'a>, AllocError>
     ensures { IfOk result (λ command. app_of command ≡ bench_app) }
 {
-    let top = Command::new(alloc, "dali_bench")
-        .about(ABOUT)
-        .subcommand_required(true);
+    let top = told(Command::new(alloc, "dali_bench"), ABOUT, TOP_HELP).subcommand_required(true);
     let checks = top.subcommand(check_command(alloc)?)?;
     let runs = checks.subcommand(run_command(alloc)?)?;
     let frames = runs.subcommand(frame_command(alloc)?)?;
@@ -323,12 +325,12 @@ fn command_with<'a>(
     Command::new(alloc, name).arg(argument)
 }
 
-// The command, with what it does and its faults in its help.
-fn told<'a>(command: Command<'a>, about: &'a str, faults: &'a str) -> Command<'a>
+// The command, with what it does and more, as its faults, in its help.
+fn told<'a>(command: Command<'a>, about: &'a str, more: &'a str) -> Command<'a>
     ensures app { app_of result ≡ app_of command.entry }
     ensures local { (fields_of result).has_globals ≡ (fields_of command.entry).has_globals }
 {
-    command.about(about).after_help(faults)
+    command.about(about).after_help(more)
 }
 
 // The error of a command line that names no job.

@@ -15,7 +15,7 @@ impl fmt::Display for Described<'_> {
             Some(Json::Bool(false)) => f.write_str("false"),
             Some(Json::Number(number)) => write!(f, "the number {number}"),
             Some(Json::String(text)) => {
-                let text = Escaped(text.as_str());
+                let text = Escaped::cut(text.as_str());
                 write!(f, "the text \"{text}\"")
             }
             Some(Json::Array(_)) => f.write_str("an array"),

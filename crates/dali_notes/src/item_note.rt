@@ -106,7 +106,7 @@ fn note_key<N: Write>(notes: &mut Output<N>, head: Head, key: &str) {
     if KEYS.contains(&key) {
         return;
     }
-    let told = Escaped(key);
+    let told = Escaped::cut(key);
     let _ = match near_key(key, &KEYS) {
         Some(meant) => writeln!(notes, "{head}: {told}: no such key ({meant}?)"),
         None => writeln!(notes, "{head}: {told}: no such key"),

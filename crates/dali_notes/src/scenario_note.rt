@@ -104,7 +104,7 @@ fn note_key<N: Write>(notes: &mut Output<N>, path: Path, key: &str, members: &[M
         }
         meant = meant.or(near_key(key, &[member.key]));
     }
-    let (before, told) = (Before(path), Escaped(key));
+    let (before, told) = (Before(path), Escaped::cut(key));
     let _ = match meant {
         Some(meant) => writeln!(notes, "{before}{told}: no such key ({meant}?)"),
         None => writeln!(notes, "{before}{told}: no such key"),

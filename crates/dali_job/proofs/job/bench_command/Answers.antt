@@ -31,7 +31,7 @@ returns c =
     let top : app_of c.subcommand_required-top.result ≡ top_app =
     ap app_of_fields c.subcommand_required-top.ensures
     ∙ ap (λ (app : App). record app { top = record app.top { subcommand_required = true } })
-    (ap app_of_fields c.about.ensures ∙ c.new.ensures.app) in
+    (c.told.ensures.app ∙ c.new.ensures.app) in
     let checks =
     with_next (app_of c.in_ok-checks.checks) top_app check_app _ _ (c.in_ok-checks.ensures.shape check.local)
     top check.app in

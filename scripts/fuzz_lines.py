@@ -43,10 +43,27 @@ def is_item_fault(line, kind, number):
     return line in [f"{kind} {number} fault {fault} {name}" for fault, name in ITEM_FAULTS.items()]
 
 
+def judge_notes(lines, stderr):
+    """Judge what is told beside an answer: nothing raw, a line at least for each fault that has a rule, none without."""
+    notes = lines_of(stderr)
+    assert all(re.fullmatch("[ -~]+", it) for it in notes), notes
+    refused = {re.match("(?:item|event|unit) [0-9]+ ", it)[0] for it in lines if re.match("(?:item|event|unit) [0-9]+ fault", it)}
+    for head in refused:
+        assert any(it.startswith(head) or it.startswith(f"{head[:-1]}:") for it in notes), (head, notes)
+    for note in notes:
+        head = re.match("(?:item|event) [0-9]+ |", note.replace(":", " ", 1))[0]
+        assert not head or head in refused or ": the number of item " in note, note
+    whole = lines[0] if len(lines) == 1 else ""
+    if whole in ("fault 11 Json", "fault 12 Document", "gear fault 5 SameAddress", "run fault 1 Limit"):
+        assert notes, whole
+    elif not refused:
+        assert all(": the number of item " in it for it in notes), notes
+
+
 def judge_check(status, stdout, stderr):
     """Judge what `check` printed."""
     lines = lines_of(stdout)
-    assert stderr == b"", stderr
+    judge_notes(lines, stderr)
     if len(lines) == 1 and is_file_fault(lines[0]):
         return check_status(status, 1)
     item, at, refused = 0, 0, 0
@@ -141,7 +158,8 @@ def is_setup_fault(line):
 def judge_run(status, stdout, stderr):
     """Judge what `run` printed, with a line for each frame or not."""
     lines = lines_of(stdout)
-    assert stderr == b"" and lines, (lines, stderr)
+    assert lines
+    judge_notes(lines, stderr)
     if len(lines) == 1 and is_setup_fault(lines[0]):
         return check_status(status, 1)
     frames, journal, at = 0, HEADER_LENGTH, 0

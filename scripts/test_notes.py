@@ -139,7 +139,7 @@ def fails_on_lines(program):
 
 
 def fails_on_streams(program):
-    """Give what differs where standard error is closed, full, or nobody reads it."""
+    """Give what differs where standard error is closed, full, unread, or read slowly."""
     given = b'[{"order": 1, "unit": 5, "yeer": 1}, {"order": 2, "unit": 5, "year": 1}]'
     whole = run(program, "check", given)
     closed = subprocess.run(["sh", "-c", 'exec "$0" check - 2>&-', program], input=given, stdout=subprocess.PIPE, timeout=60)
@@ -152,6 +152,10 @@ def fails_on_streams(program):
     for name, ended in (("closed", closed), ("full", filled), ("broken", broken)):
         same = (ended.returncode, ended.stdout) == (whole.returncode, whole.stdout)
         yield None if same else f"standard error {name}: {ended}"
+    many = f"[{','.join(20000 * ['7'])}]".encode()
+    slow = subprocess.run(["sh", "-c", '"$0" check - 2>&1 >"$1" | (sleep 1; wc -l)', program, os.devnull], input=many,
+                          stdout=subprocess.PIPE, timeout=60)
+    yield None if slow.stdout.split() == [b"20000"] else f"standard error read slowly: {slow}"
 
 
 def fails_on_causes(program):

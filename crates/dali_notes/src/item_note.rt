@@ -8,26 +8,6 @@ use serde_json::Value as Json;
 use std::fmt;
 use std::io::Write;
 
-// The keys of an order.
-const KEYS: [&str; 16] = [
-    "order",
-    "unit",
-    "gtin",
-    "identification",
-    "year",
-    "week",
-    "input_power",
-    "min_dim_power",
-    "min_voltage",
-    "max_voltage",
-    "light_output",
-    "cri",
-    "cct",
-    "distribution",
-    "colour",
-    "luminaire",
-];
-
 // What is told of an order object first: what it is and which, and its order's number, if it has one.
 #[derive(Clone, Copy)]
 struct Head {
@@ -103,11 +83,18 @@ fn note_keys<N: Write>(notes: &mut Output<N>, head: Head, json: &Json) {
 
 // Tells a key, where orders don't have it.
 fn note_key<N: Write>(notes: &mut Output<N>, head: Head, key: &str) {
-    if KEYS.contains(&key) {
+    if key == "order" || key == "unit" {
         return;
     }
+    let mut meant = near_key(key, &["order", "unit"]);
+    for field in Field::ALL {
+        if field.key() == key {
+            return;
+        }
+        meant = meant.or(near_key(key, &[field.key()]));
+    }
     let told = Escaped::cut(key);
-    let _ = match near_key(key, &KEYS) {
+    let _ = match meant {
         Some(meant) => writeln!(notes, "{head}: {told}: no such key ({meant}?)"),
         None => writeln!(notes, "{head}: {told}: no such key"),
     };

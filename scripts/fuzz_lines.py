@@ -44,10 +44,11 @@ def is_item_fault(line, kind, number):
 
 
 def judge_notes(lines, stderr):
-    """Judge what is told beside an answer: nothing raw, a line at least for each fault that has a rule, none without."""
+    """Judge what is told beside an answer: nothing raw, a line at least for each fault that has one, none without."""
     notes = lines_of(stderr)
     assert all(re.fullmatch("[ -~]+", it) for it in notes), notes
-    refused = {re.match("(?:item|event|unit) [0-9]+ ", it)[0] for it in lines if re.match("(?:item|event|unit) [0-9]+ fault", it)}
+    found = [re.match("((?:item|event|unit) [0-9]+ )fault ", it) for it in lines]
+    refused = {it[1] for it in found if it}
     for head in refused:
         assert any(it.startswith(head) or it.startswith(f"{head[:-1]}:") for it in notes), (head, notes)
     for note in notes:

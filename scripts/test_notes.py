@@ -17,10 +17,12 @@ IDENTIFICATION = "a string of 16 hexadecimal digits, or null"
 WATTS = "a whole number of watts from 0 to 65534, or null"
 VOLTS = "a whole number of volts from 0 to 65534, or null"
 COLOUR = "a string of 1 to 24 characters, each from space to ~ in ASCII, or null"
+LUMENS = "a whole number of lumens from 0 to 16777214, or null"
 LUMINAIRE = "a string of 1 to 60 characters, each from space to ~ in ASCII, or null"
+MISSING = "No such file or directory (os error 2)"
 JSON = "here the input is no JSON any more, or nests too deep"
 
-# Mistakes in one item, beside a number 6 and a unit 5: what stands behind these, and the lines behind `item 1 order 6: `.
+# Mistakes in one item: what stands behind its number 6 and its unit 5, and the lines behind `item 1 order 6: `.
 ITEMS = [
     ('"gtin": 4006381333931', [f"gtin: the number 4006381333931, and it is {GTIN}"]),
     ('"gtin": "4006381333932"', [f'gtin: the text "4006381333932", and it is {GTIN}']),
@@ -34,8 +36,8 @@ ITEMS = [
     ('"weeks": 5', ["weeks: no such key (week?)"]),
     ('"input_powe": 5', ["input_powe: no such key (input_power?)"]),
     ('"\\u001b[31m": 1', ["\\u{1b}[31m: no such key"]),
-    ('"identification": "001122334455667"', [f'identification: the text "001122334455667", and it is {IDENTIFICATION}']),
-    ('"identification": "0x11223344556677"', [f'identification: the text "0x11223344556677", and it is {IDENTIFICATION}']),
+    ('"identification": "0011223344556"', [f'identification: the text "0011223344556", and it is {IDENTIFICATION}']),
+    ('"identification": "0x112233445566"', [f'identification: the text "0x112233445566", and it is {IDENTIFICATION}']),
     ('"year": 2024', ["year: the number 2024, and it is a whole number from 0 to 99, or null"]),
     ('"year": "24"', ['year: the text "24", and it is a whole number from 0 to 99, or null']),
     ('"year": 24.5', ["year: the number 24.5, and it is a whole number from 0 to 99, or null"]),
@@ -45,8 +47,10 @@ ITEMS = [
     ('"min_dim_power": -1', [f"min_dim_power: the number -1, and it is {WATTS}"]),
     ('"min_voltage": [220]', [f"min_voltage: an array, and it is {VOLTS}"]),
     ('"max_voltage": {"volts": 240}', [f"max_voltage: an object, and it is {VOLTS}"]),
-    ('"min_voltage": 241, "max_voltage": 240', ["min_voltage: the number 241, which is over max_voltage: the number 240"]),
-    ('"light_output": 16777215', ["light_output: the number 16777215, and it is a whole number of lumens from 0 to 16777214, or null"]),
+    ('"min_voltage": 241, "max_voltage": 240', [
+        "min_voltage: the number 241, which is over max_voltage: the number 240",
+    ]),
+    ('"light_output": 16777215', [f"light_output: the number 16777215, and it is {LUMENS}"]),
     ('"cri": 101', ["cri: the number 101, and it is a whole number from 0 to 100, or null"]),
     ('"cct": 65534', ["cct: the number 65534, and it is a whole number of kelvins from 0 to 65533, or null"]),
     ('"distribution": 255', ["distribution: the number 255, and it is a whole number from 0 to 254, or null"]),
@@ -64,21 +68,27 @@ ITEMS = [
 
 # Other mistakes: a command, its input, and the lines on standard error.
 INPUTS = [
-    ("check", b'[{"order": 1, "unit": 5}]', ["item 1 order 1: no field is given, and an order has one at least, as gtin or year"]),
-    ("check", b'[{"order": 1, "unit": 64, "year": 1}]', ["item 1 order 1: unit: the number 64, and a short address is 0 to 63"]),
+    ("check", b'[{"order": 1, "unit": 5}]', [
+        "item 1 order 1: no field is given, and an order has one at least, as gtin or year",
+    ]),
+    ("check", b'[{"order": 1, "unit": 64, "year": 1}]', [
+        "item 1 order 1: unit: the number 64, and a short address is 0 to 63",
+    ]),
     ("check", b'[{"order": "1", "unit": 5, "year": 1}]', [f'item 1: order: the text "1", and it is {WHOLE}']),
     ("check", b'[{"unit": 5, "year": 1}, 7]', [
         f"item 1: order: missing, and it is {WHOLE}",
         "item 2: the number 7, and an order is an object with order, unit and fields",
     ]),
     ("check", b'{"order": 1, "unit": 5, "year": 1}', ["the input is an object, and orders are an array"]),
-    ("check", b'{"limit": 1, "units": [], "events": []}', ["the input is an object with events, which `run` takes, and orders are an array"]),
+    ("check", b'{"limit": 1, "units": [], "events": []}', [
+        "the input is an object with events, which `run` takes, and orders are an array",
+    ]),
     ("check", b'', ["the input is empty, and has to be JSON"]),
     ("check", b'[{"order": 1,}]', [f"line 1 column 14: {JSON}"]),
     ("check", b'[\n{"order": 1 "unit": 5}\n]', [f"line 2 column 13: {JSON}"]),
     ("check", b"\xef\xbb\xbf[]", ["the input begins with a byte order mark, and has to be UTF-8 without one"]),
     ("check", b"\xff\xfe[\0]\0", ["the input is in UTF-16, and has to be in UTF-8"]),
-    ("check", b'[{"order": 1, "unit": 5, "year": 1}, {"order": 1, "unit": 6, "year": 1}, {"order": 1, "unit": 5, "year": 1}]', [
+    ("check", b'[{"order": 1, "unit": 5, "year": 1}, {"order": 1, "unit": 6, "year": 1}]', [
         "item 2 order 1: the number of item 1, which is another order: it will be told as reused",
     ]),
     ("run", b"[]", ["the input is an array: orders are for `check` and `drive`, and a scenario is an object"]),
@@ -96,7 +106,9 @@ INPUTS = [
     ("run", b'{"limit": 1, "units": [], "events": [{"stop": 1, "steps": 1}]}', [
         "events[0]: an event has one of submit, steps, stop and power, and this one has 2",
     ]),
-    ("run", b'{"limit": 1, "units": [], "events": [{"power": 64}]}', ["events[0].power: the number 64, and it is a whole number from 0 to 63"]),
+    ("run", b'{"limit": 1, "units": [], "events": [{"power": 64}]}', [
+        "events[0].power: the number 64, and it is a whole number from 0 to 63",
+    ]),
     ("run", b'{"limit": 1, "units": [], "fates": [{"lost": [64], "refuse": 1}], "events": []}', [
         "fates[0].lost: an array, and it is an array of whole numbers from 0 to 63",
         "fates[0].refuse: the number 1, and it is true or false",
@@ -108,14 +120,18 @@ INPUTS = [
         "units[0].dtr: an array, and it is an array of three whole numbers from 0 to 255",
     ]),
     ("run", b'{"limit": 0, "units": [], "events": []}', ["limit: a journal has from 1 to 100000 orders"]),
-    ("run", b'{"limit": 1, "units": [{"address": 64}], "events": []}', ["unit 1: address: the number 64, and a short address is 0 to 63"]),
+    ("run", b'{"limit": 1, "units": [{"address": 64}], "events": []}', [
+        "unit 1: address: the number 64, and a short address is 0 to 63",
+    ]),
     ("run", b'{"limit": 1, "units": [{"address": 5, "bank": "77"}], "events": []}', [
         "unit 1: bank: 1 bytes, and it has 17 to 255, the first of which is the last location",
     ]),
     ("run", b'{"limit": 1, "units": [{"address": 5, "fixed": [5, 4]}], "events": []}', [
         "unit 1: fixed: the locations rise, from 03h to the last of the bank",
     ]),
-    ("run", b'{"limit": 1, "units": [{"address": 5}, {"address": 5}], "events": []}', ["units: two have the short address 5"]),
+    ("run", b'{"limit": 1, "units": [{"address": 5}, {"address": 5}], "events": []}', [
+        "units: two have the short address 5",
+    ]),
     ("run", b'{"limit": 1, "units": [], "events": [{"steps": 1}, {"submit": {"order": 1, "unit": 5, "yeer": 1}}]}', [
         "event 2 order 1: yeer: no such key (year?)",
     ]),
@@ -130,8 +146,10 @@ def run(program, command, given, stderr=subprocess.PIPE):
 
 def fails_on_lines(program):
     """Give what is wrong with the lines of each mistake, and how many mistakes there are."""
-    rows = [("check", f'[{{"order": 6, "unit": 5, {item}}}]'.encode(), [f"item 1 order 6: {it}" for it in lines]) for item, lines in ITEMS]
-    rows += INPUTS
+    rows = [*INPUTS]
+    for item, lines in ITEMS:
+        given = f'[{{"order": 6, "unit": 5, {item}}}]'.encode()
+        rows.append(("check", given, [f"item 1 order 6: {it}" for it in lines]))
     for command, given, lines in rows:
         wanted = "".join(f"{it}\n" for it in lines)
         said = run(program, command, given).stderr.decode()
@@ -142,7 +160,8 @@ def fails_on_streams(program):
     """Give what differs where standard error is closed, full, unread, or read slowly."""
     given = b'[{"order": 1, "unit": 5, "yeer": 1}, {"order": 2, "unit": 5, "year": 1}]'
     whole = run(program, "check", given)
-    closed = subprocess.run(["sh", "-c", 'exec "$0" check - 2>&-', program], input=given, stdout=subprocess.PIPE, timeout=60)
+    words = ["sh", "-c", 'exec "$0" check - 2>&-', program]
+    closed = subprocess.run(words, input=given, stdout=subprocess.PIPE, timeout=60)
     with open("/dev/full", "wb") as full:
         filled = run(program, "check", given, full)
     reads, writes = os.pipe()
@@ -167,7 +186,7 @@ def fails_on_causes(program):
         for words, wanted in (
             (["check", room], f"error: the input can't be read: {room}: is a directory\n"),
             (["show", odd], f"error: the input can't be read: {told}: is a directory\n"),
-            (["run", odd + "/none"], f"error: the input can't be opened or read: {told}/none: No such file or directory (os error 2)\n"),
+            (["run", odd + "/none"], f"error: the input can't be opened or read: {told}/none: {MISSING}\n"),
         ):
             ended = subprocess.run([program, *words], capture_output=True, timeout=60)
             good = (ended.returncode, ended.stdout, ended.stderr.decode()) == (2, b"fault 21 File\n", wanted)

@@ -1,16 +1,15 @@
 //! A bench for luminaire data in memory bank 1 of DALI control gear.
 #![tactic(auto)]
 
-use clap::error::ErrorKind;
 use dali_commands::drive_files::drive_files;
 use dali_commands::frame::frame;
 use dali_commands::{Fault, FileCommand, Status, write_fault};
 use dali_input::{Input, InputFault};
 use dali_job::{Job, job_of};
-use dali_notes::Escaped;
+use dali_notes::{Escaped, FirstLines};
 use dali_text::Output;
 use std::alloc::{AllocError, Global};
-use std::io::{BufWriter, LineWriter, Read, Write};
+use std::io::{BufWriter, ErrorKind, LineWriter, Read, Write};
 use std::process::ExitCode;
 use std::{fs, io};
 
@@ -23,7 +22,7 @@ fn main(rt: HostRuntime) -> ExitCode {
             Ok(words) => run(&rt, &words),
             Err(_) => out_of_memory(&rt, Place::Output),
         },
-        Err(error) if error.kind() == io::ErrorKind::OutOfMemory => out_of_memory(
+        Err(error) if error.kind() == ErrorKind::OutOfMemory => out_of_memory(
             &rt,
             Place::Output,
         ),
@@ -32,9 +31,6 @@ fn main(rt: HostRuntime) -> ExitCode {
             Status::Refused
         }
     };
-    if status == Status::Unwritten {
-        let _ = eprintln!(&rt; "error: the output can't be written");
-    }
     ExitCode::from(status.code())
 }
 
@@ -59,7 +55,11 @@ fn run(rt: &HostRuntime, words: &Vec<String>) -> Status {
                 single_frames,
             },
         ) => on_file(rt, scenario, FileCommand::Run { single_frames }),
-        Ok(Job::Frame(digits)) => frame(digits, &mut Output::new(io::writer(rt))),
+        Ok(Job::Frame(digits)) => {
+            let mut output = Output::new(io::writer(rt));
+            let status = frame(digits, &mut output);
+            told(rt, status, output.cause())
+        }
         Ok(Job::Show(dump)) => on_file(rt, dump, FileCommand::Show),
         Ok(Job::Journal(records)) => on_file(rt, records, FileCommand::Journal),
         Ok(
@@ -69,20 +69,33 @@ fn run(rt: &HostRuntime, words: &Vec<String>) -> Status {
                 moment,
             },
         ) => on_link(rt, orders, journal, moment),
-        Err(error) if error.kind() == ErrorKind::OutOfMemory => out_of_memory(rt, place),
+        Err(error) if error.kind() == clap::error::ErrorKind::OutOfMemory => out_of_memory(rt, place),
         Err(error) => match error.print(rt) {
             Ok(()) if error.exit_code() == 0 => Status::Good,
             Ok(()) => Status::Refused,
-            Err(_) => Status::Unwritten,
+            Err(cause) => told(rt, Status::Unwritten, Some(cause.kind())),
         },
     }
 }
 
 fn print_version(rt: &HostRuntime) -> Status {
-    match writeln!(Output::new(io::writer(rt)), "{VERSION}") {
+    let mut output = Output::new(io::writer(rt));
+    let status = match writeln!(output, "{VERSION}") {
         Ok(()) => Status::Good,
         Err(_) => Status::Unwritten,
+    };
+    told(rt, status, output.cause())
+}
+
+// The status, after telling why the output can't be written, if that is so. Where nobody reads it any more, as in
+// `check FILE | head`, nothing is told.
+fn told(rt: &HostRuntime, status: Status, cause: Option<ErrorKind>) -> Status {
+    if let Some(cause) = cause {
+        if cause != ErrorKind::BrokenPipe {
+            let _ = eprintln!(rt; "error: the output can't be written: {cause}");
+        }
     }
+    status
 }
 
 fn texts_of<'a>(alloc: Global, words: &'a Vec<String>) -> Result<Vec<&'a str>, AllocError> {
@@ -126,16 +139,16 @@ fn on_input<R: Read, W: Write>(
     let Ok(writer) = BufWriter::new(rt.alloc(), rt.stderr()) else {
         return out_of_memory(rt, Place::Output);
     };
-    let mut notes = Output::new(writer);
+    let mut notes = Output::new(FirstLines::new(writer));
     let status = command.carry_out_noting(rt.alloc(), input, output, &mut notes);
+    let _ = notes.flush();
     let name = Escaped::whole(name);
     let _ = match input.cause() {
-        Some(cause) => writeln!(notes, "error: the input can't be read: {name}: {cause}"),
-        None if status == Status::Failed => writeln!(notes, "error: memory ran out: {name}"),
+        Some(cause) => eprintln!(rt; "error: the input can't be read: {name}: {cause}"),
+        None if status == Status::Failed => eprintln!(rt; "error: memory ran out: {name}"),
         None => Ok(()),
     };
-    let _ = notes.flush();
-    status
+    told(rt, status, output.cause())
 }
 
 // Carries out orders over standard input and output. Where standard error can't be written, nothing more is.
@@ -179,12 +192,17 @@ fn out_of_memory(rt: &HostRuntime, place: Place) -> Status {
 
 // Prints a fault that comes before any command runs.
 fn print_fault(rt: &HostRuntime, fault: Fault, place: Place) -> Status {
-    let printed = match place {
-        Place::Output => write_fault(&mut Output::new(io::writer(rt)), fault),
-        Place::Lines => write_fault(&mut Output::new(rt.stderr()), fault),
-    };
-    match printed {
-        Ok(()) => fault.status(),
-        Err(_) => Status::Unwritten,
+    match place {
+        Place::Output => {
+            let mut output = Output::new(io::writer(rt));
+            match write_fault(&mut output, fault) {
+                Ok(()) => fault.status(),
+                Err(_) => told(rt, Status::Unwritten, output.cause()),
+            }
+        }
+        Place::Lines => match write_fault(&mut Output::new(rt.stderr()), fault) {
+            Ok(()) => fault.status(),
+            Err(_) => Status::Unwritten,
+        },
     }
 }

@@ -7,3 +7,4 @@ pub mod RunAnswers
 pub mod JournalAnswers
 pub mod DriveAnswers
 pub mod FileCommands
+pub mod Notes

@@ -1,16 +1,20 @@
-ghost use Rattle.std.specs.Prelude.{◌≡◌, ◌≢◌, ◌↔◌, ℕ, List, IfOk, true, is_ok};
+ghost use Rattle.std.specs.Prelude.{◌≡◌, ◌≢◌, ◌↔◌, ◌⊎◌, ℕ, List, [], IfOk, true, is_ok, codes};
 ghost use Rattle.serde_json.specs.View.{view, items_view};
 ghost use Rattle.dali_text.specs.Output.{TellsFailure, Takes, has_failed, is_flushed};
 ghost use Rattle.dali_input.specs.Input.{ReadsAtMost, state_of};
 ghost use Rattle.dali_input.specs.Items.{Judges};
 ghost use Rattle.dali_input.specs.Orders.{Outcome, JudgesEach, orders_limit};
 ghost use Rattle.dali_commands.specs.Ends.{TellsEnd};
+ghost use Rattle.dali_notes.specs.Notes.{SomeAbout, Tells};
 ghost use Rattle.dali_commands.specs.Report.{item_lines, report, report_status, IsChecked, IsAnswered};
+ghost use Rattle.dali_commands.specs.Notes.{AreItemNotes, IsItemNote, IsNotedCheck};
 
 use crate::fault::{Fault, Status};
-use crate::fault_lines::{write_failure, write_refused_item};
-use dali_input::{Input, ORDERS_LIMIT, items_of, order_of, read_input};
-use dali_notes::{Repeats, note_item, note_orders};
+use crate::fault_lines::write_refused_item;
+use crate::notes::write_noted_failure;
+use dali_bank::Order;
+use dali_input::{Input, ItemFault, ORDERS_LIMIT, items_of, order_of, read_input};
+use dali_notes::{Note, Repeats, note_of_item, note_of_orders};
 use dali_text::{Output, Unwritten, write_order, write_tally};
 use serde_json::Value;
 use std::alloc::Global;
@@ -54,6 +58,8 @@ pub fn check_noting<R: Read, W: Write, N: Write>(
     ensures read { ReadsAtMost orders_limit (state_of R.remaining input.old) (state_of R.remaining input.new) }
     ensures unwritten { result ≡ Status.Unwritten ↔ has_failed output.new ≡ true }
     ensures flushed { result ≢ Status.Unwritten → is_flushed output.new ≡ true }
+    ensures noted { result ≢ Status.Unwritten → (text : List ℕ) × Takes W.contents output.old output.new text
+        × Tells N.contents notes.old notes.new (IsNotedCheck text) }
 {
     match try_check(alloc, input, output, notes) {
         Ok(status) => status,
@@ -72,11 +78,13 @@ fn try_check<R: Read, W: Write, N: Write>(
         × IsChecked orders_limit (state_of R.remaining input.old) (state_of R.remaining input.new) status text
         × Takes W.contents output.old output.new text) }
     ensures read { ReadsAtMost orders_limit (state_of R.remaining input.old) (state_of R.remaining input.new) }
+    ensures noted { IfOk result (λ _. (text : List ℕ) × Takes W.contents output.old output.new text
+        × Tells N.contents notes.old notes.new (IsNotedCheck text)) }
     ensures end { TellsEnd result output.new }
 {
     match read_input(alloc, input, ORDERS_LIMIT) {
         Ok(bytes) => write_checked(alloc, bytes.as_slice(), output, notes),
-        Err(fault) => write_failure(output, Fault::Input(fault)),
+        Err(fault) => write_noted_failure(output, Fault::Input(fault), notes, &Note::new(alloc)),
     }
 }
 
@@ -89,13 +97,15 @@ fn write_checked<W: Write, N: Write>(
 ) -> Result<Status, Unwritten>
     ensures answered { IfOk result (λ status. (text : List ℕ) × IsAnswered orders_limit input.now status text
         × Takes W.contents output.old output.new text) }
+    ensures noted { IfOk result (λ _. (text : List ℕ) × Takes W.contents output.old output.new text
+        × Tells N.contents notes.old notes.new (IsNotedCheck text)) }
     ensures end { TellsEnd result output.new }
 {
     match items_of(alloc, input, ORDERS_LIMIT) {
         Ok(items) => write_report(alloc, items, output, notes),
         Err(fault) => {
-            note_orders(alloc, notes, input, fault);
-            write_failure(output, Fault::Input(fault))
+            let note = note_of_orders(alloc, input, fault);
+            write_noted_failure(output, Fault::Input(fault), notes, &note)
         }
     }
 }
@@ -110,14 +120,15 @@ fn write_report<W: Write, N: Write>(
 ) -> Result<Status, Unwritten>
     ensures report { IfOk result (λ status. (outcomes : List Outcome) × JudgesEach (items_view items.items) outcomes
         × (status ≡ report_status outcomes)
-        × Takes W.contents output.old output.new (report outcomes)) }
+        × Takes W.contents output.old output.new (report outcomes)
+        × Tells N.contents notes.old notes.new (AreItemNotes 1 outcomes)) }
     ensures end { TellsEnd result output.new }
 {
     let mut accepted = 0u64;
     let mut refused = 0u64;
     let mut repeats = Repeats::new(alloc);
     for item in items {
-        if write_item(output, accepted + refused + 1, item, notes, &mut repeats)? {
+        if write_item(alloc, output, accepted + refused + 1, item, notes, &mut repeats)? {
             accepted += 1;
         } else {
             refused += 1;
@@ -135,6 +146,7 @@ fn write_report<W: Write, N: Write>(
 // Writes what becomes of an item, and whether it was accepted. The item is let go here, while it
 // is in the processor's cache.
 fn write_item<W: Write, N: Write>(
+    alloc: Global,
     output: &mut Output<W>,
     number: u64,
     item: Value,
@@ -143,19 +155,49 @@ fn write_item<W: Write, N: Write>(
 ) -> Result<bool, Unwritten>
     ensures lines { IfOk result (λ accepted. (outcome : Outcome) × Judges (view item) outcome
         × (is_ok outcome ≡ accepted)
-        × Takes W.contents output.old output.new (item_lines number outcome)) }
+        × Takes W.contents output.old output.new (item_lines number outcome)
+        × Tells N.contents notes.old notes.new (IsItemNote number outcome)) }
     ensures failed { TellsFailure result output.old output.new }
 {
     match order_of(&item) {
         Ok(order) => {
-            repeats.note(notes, number, &order);
+            note_accepted(notes, number, &order, repeats);
             write_order(output, number, &order)?;
             Ok(true)
         }
         Err(fault) => {
-            note_item(notes, "item", number, &item, fault);
+            note_refused(alloc, notes, number, &item, fault);
             write_refused_item(output, number, fault)?;
             Ok(false)
         }
+    }
+}
+
+// Tells where an accepted item has the number of an earlier one.
+fn note_accepted<N: Write>(
+    notes: &mut Output<N>,
+    number: u64,
+    order: &Order,
+    repeats: &mut Repeats,
+)
+    ensures { Tells N.contents notes.old notes.new (λ note. (note ≡ []) ⊎ SomeAbout (codes "item") number note) }
+{
+    if let Some(note) = repeats.note_of(number, order) {
+        note.tell_about(notes, "item", number);
+    }
+}
+
+// Tells what is wrong with a refused item, while the notes are taken.
+fn note_refused<N: Write>(
+    alloc: Global,
+    notes: &mut Output<N>,
+    number: u64,
+    item: &Value,
+    fault: ItemFault,
+)
+    ensures { Tells N.contents notes.old notes.new (SomeAbout (codes "item") number) }
+{
+    if !notes.has_failed() {
+        note_of_item(alloc, item, fault).tell_about(notes, "item", number);
     }
 }

@@ -1,3 +1,4 @@
+use crate::check::check_noting;
 use crate::drive::{drive_over, tell_refused, told};
 use crate::fault::{Fault, Status};
 use crate::fault_lines::write_failure;
@@ -5,10 +6,11 @@ use crate::journal_file::{Hindrance, open_journal};
 use crate::lines::Lines;
 use dali_bank::Order;
 use dali_drive::{StdSink, StdSource};
-use dali_input::{Input, InputFault, ItemFault, read_orders};
-use dali_notes::Escaped;
+use dali_input::{Input, InputFault, ItemFault, ORDERS_LIMIT, read_input, read_orders};
+use dali_notes::{Escaped, FirstLines};
 use dali_text::{Output, Unwritten};
 use std::fs;
+use std::io;
 use std::fs::{File, Files};
 use std::io::{Read, Write};
 
@@ -23,8 +25,8 @@ pub fn drive_files<
     I: Read + Drop,
     L: Write + Drop,
     O: Write + Drop,
->(rt: &R, orders: &str, journal: &str, moment: u64, link_in: I, link_out: L, lines: O) -> Status {
-    match orders_in(rt, orders) {
+>(rt: &R, orders: &str, journal: &str, moment: u64, link_in: I, link_out: L, mut lines: O) -> Status {
+    match orders_in(rt, orders, &mut lines) {
         Ok(Ok(found)) => on_journal(
             rt,
             journal,
@@ -39,14 +41,26 @@ pub fn drive_files<
     }
 }
 
-// The orders of a file, or the items that are refused.
-fn orders_in<R: Files + AllocGlobal>(
+// The orders of a file, or the items that are refused. Where there are no orders, a person is told what is wrong first,
+// as by `check`.
+fn orders_in<R: Files + AllocGlobal, O: Write>(
     rt: &R,
     name: &str,
+    lines: &mut O,
 ) -> Result<Result<Vec<Order>, Vec<(u64, ItemFault)>>, Hindrance> {
-    let file = fs::open(rt, name)?;
-    let orders = read_orders(rt.alloc(), &mut Input::new(file))?;
-    Ok(orders)
+    let mut file = Input::new(fs::open(rt, name)?);
+    let bytes = match read_input(rt.alloc(), &mut file, ORDERS_LIMIT) {
+        Ok(bytes) => bytes,
+        Err(fault) => return Err(Hindrance::unread(Fault::Input(fault), file.cause())),
+    };
+    let orders = read_orders(rt.alloc(), &mut Input::new(bytes.as_slice()));
+    if !matches!(orders, Ok(Ok(_))) {
+        let (mut again, mut none) = (Input::new(bytes.as_slice()), Output::new(io::sink()));
+        let mut notes = Output::new(FirstLines::new(lines));
+        let _ = check_noting(rt.alloc(), &mut again, &mut none, &mut notes);
+        let _ = notes.flush();
+    }
+    Ok(orders?)
 }
 
 // Drives the orders with the journal of a file.

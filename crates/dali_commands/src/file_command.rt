@@ -1,7 +1,9 @@
 ghost use Rattle.std.specs.Prelude.{◌≡◌, ◌≢◌, ◌↔◌, ℕ, List, true};
 ghost use Rattle.dali_text.specs.Output.{Takes, has_failed, is_flushed};
 ghost use Rattle.dali_input.specs.Input.{ReadsAtMost, state_of};
+ghost use Rattle.dali_notes.specs.Notes.{Tells};
 ghost use Rattle.dali_commands.specs.FileCommands.{IsCarriedOut, limit_of};
+ghost use Rattle.dali_commands.specs.Notes.{IsNoted};
 
 use crate::check::check_noting;
 use crate::fault::Status;
@@ -63,6 +65,8 @@ impl FileCommand {
             (state_of R.remaining input.new) }
         ensures unwritten { result ≡ Status.Unwritten ↔ has_failed output.new ≡ true }
         ensures flushed { result ≢ Status.Unwritten → is_flushed output.new ≡ true }
+        ensures noted { result ≢ Status.Unwritten → (text : List ℕ) × Takes W.contents output.old output.new text
+            × Tells N.contents notes.old notes.new (IsNoted self.now result text) }
     {
         match *self {
             FileCommand::Check => check_noting(alloc, input, output, notes),

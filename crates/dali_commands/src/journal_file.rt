@@ -9,7 +9,7 @@ use dali_input::{Input, InputFault};
 use dali_journal::{Journal, NoMemory, Version};
 use std::alloc::AllocError;
 use std::fs::{File, Files, OpenOptions, TryLockError};
-use std::io::Write;
+use std::io::{ErrorKind, Write};
 use std::{fs, io};
 
 /// Why a file can't serve a drive.
@@ -23,9 +23,19 @@ pub enum Hindrance {
     InUse,
 }
 
+impl Hindrance {
+    /// Why a file can't be read that has given this fault, and of what kind the failure of its reader was, if any.
+    pub fn unread(fault: Fault, cause: Option<ErrorKind>) -> Hindrance {
+        match cause {
+            Some(kind) => Hindrance::System(io::Error::from(kind)),
+            None => Hindrance::Fault(fault),
+        }
+    }
+}
+
 impl From<io::Error> for Hindrance {
     fn from(cause: io::Error) -> Hindrance {
-        if cause.kind() == io::ErrorKind::OutOfMemory {
+        if cause.kind() == ErrorKind::OutOfMemory {
             Hindrance::Fault(Fault::Input(InputFault::Memory))
         } else {
             Hindrance::System(cause)
@@ -98,7 +108,11 @@ pub fn open_journal<R: Files<File = File> + AllocGlobal>(
     if is_regular && !is_named(rt, name, &file)? {
         return Err(Hindrance::InUse);
     }
-    let found = read_journal(rt.alloc(), &mut Input::new(&mut file))?;
+    let mut input = Input::new(&mut file);
+    let found = match read_journal(rt.alloc(), &mut input) {
+        Ok(found) => found,
+        Err(fault) => return Err(Hindrance::unread(fault, input.cause())),
+    };
     if is_regular {
         let file = in_version_2(rt, name, file, &found)?;
         sync_folder(rt, name)?;

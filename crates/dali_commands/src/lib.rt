@@ -12,6 +12,7 @@ pub mod frame;
 pub mod journal;
 mod journal_file;
 mod lines;
+mod notes;
 pub mod run_scenario;
 pub mod show;
 

@@ -7,16 +7,18 @@ ghost use Rattle.dali_input.specs.Input.{IsJson, IsNoJson, ReadsAtMost, state_of
 ghost use Rattle.dali_input.specs.Scenario.{IsScenario, planned_of};
 ghost use Rattle.dali_input.specs.Setup.{IsSetUp, IsSetupRefused};
 ghost use Rattle.dali_input.specs.Values.{IsNoReading};
+ghost use Rattle.dali_notes.specs.Notes.{Tells};
 ghost use Rattle.dali_commands.specs.Ends.{TellsEnd};
+ghost use Rattle.dali_commands.specs.Notes.{IsNotedRun};
 ghost use Rattle.dali_commands.specs.RunAnswers.{IsRan, IsRunAnswer, IsUnrun, scenario_limit};
 
 use crate::fault::{Fault, Status};
-use crate::fault_lines::write_failure;
+use crate::notes::write_noted_failure;
 use dali_gear::SimBus;
 use dali_input::{
     Input, InputFault, Scenario, Setup, SetupFault, json_of, read_input, scenario_of, setup_of,
 };
-use dali_notes::{note_json, note_scenario, note_setup};
+use dali_notes::{Note, note_of_json, note_of_scenario, note_of_setup};
 use dali_text::{Output, Unwritten, write_run};
 use dali_writer::{Outcome, RunFault, run_sim};
 use serde_json::Value;
@@ -81,6 +83,8 @@ pub fn run_scenario_noting<R: Read, W: Write, N: Write>(
     ensures read { ReadsAtMost scenario_limit (state_of R.remaining input.old) (state_of R.remaining input.new) }
     ensures unwritten { result ≡ Status.Unwritten ↔ has_failed output.new ≡ true }
     ensures flushed { result ≢ Status.Unwritten → is_flushed output.new ≡ true }
+    ensures noted { result ≢ Status.Unwritten → (text : List ℕ) × Takes W.contents output.old output.new text
+        × Tells N.contents notes.old notes.new (IsNotedRun result text) }
 {
     match try_run(alloc, input, output, single_frames, notes) {
         Ok(status) => status,
@@ -100,32 +104,31 @@ fn try_run<R: Read, W: Write, N: Write>(
         × IsRunAnswer single_frames (state_of R.remaining input.old) (state_of R.remaining input.new) status text
         × Takes W.contents output.old output.new text) }
     ensures read { ReadsAtMost scenario_limit (state_of R.remaining input.old) (state_of R.remaining input.new) }
+    ensures noted { IfOk result (λ status. (text : List ℕ) × Takes W.contents output.old output.new text
+        × Tells N.contents notes.old notes.new (IsNotedRun status text)) }
     ensures end { TellsEnd result output.new }
 {
-    match ran_of(alloc, input, notes) {
+    let mut note = Note::new(alloc);
+    match ran_of(alloc, input, &mut note) {
         Ok(ran) => write_ran(output, single_frames, &ran),
         Err(fault) => {
-            note_limit(notes, fault);
-            write_failure(output, fault)
+            note_limit(&mut note, fault);
+            write_noted_failure(output, fault, notes, &note)
         }
     }
 }
 
-// Reads, understands, sets up and runs a scenario.
-fn ran_of<R: Read, N: Write>(
-    alloc: Global,
-    input: &mut Input<R>,
-    notes: &mut Output<N>,
-) -> Result<Ran, Fault>
+// Reads, understands, sets up and runs a scenario. Where it comes to a fault, the note is what is wrong there.
+fn ran_of<R: Read>(alloc: Global, input: &mut Input<R>, note: &mut Note) -> Result<Ran, Fault>
     ensures ok { IfOk result (λ ran. IsRan (state_of R.remaining input.old) (state_of R.remaining input.new)
         ran.outcome.trace.items ran.outcome.journal.items ran.bus) }
     ensures err { IfErr result (IsUnrun (state_of R.remaining input.old) (state_of R.remaining input.new)) }
     ensures read { ReadsAtMost scenario_limit (state_of R.remaining input.old) (state_of R.remaining input.new) }
 {
     let bytes = read_input(alloc, input, SCENARIO_LIMIT)?;
-    let json = json_noting(alloc, bytes.as_slice(), notes)?;
-    let scenario = scenario_noting(alloc, &json, notes)?;
-    let Setup { mut bus, events } = setup_noting(alloc, &scenario, notes)?;
+    let json = json_noting(alloc, bytes.as_slice(), note)?;
+    let scenario = scenario_noting(alloc, &json, note)?;
+    let Setup { mut bus, events } = setup_noting(alloc, &scenario, note)?;
     let Ok(limit) = u32::try_from(scenario.limit) else {
         return Err(Fault::Run(RunFault::Limit));
     };
@@ -137,29 +140,25 @@ fn ran_of<R: Read, N: Write>(
     Ok(Ran { outcome, bus })
 }
 
-// The JSON value of a scenario's bytes. Where there is none, the notes tell why.
-fn json_noting<N: Write>(
-    alloc: Global,
-    input: &[u8],
-    notes: &mut Output<N>,
-) -> Result<Value, InputFault>
+// The JSON value of a scenario's bytes. Where there is none, the note is why.
+fn json_noting(alloc: Global, input: &[u8], note: &mut Note) -> Result<Value, InputFault>
     ensures ok { IfOk result (λ json. IsJson scenario_limit input.now (view json)) }
     ensures err { IfErr result (IsNoJson scenario_limit input.now) }
 {
     match json_of(alloc, input, SCENARIO_LIMIT) {
         Ok(json) => Ok(json),
         Err(fault) => {
-            note_json(alloc, notes, input, fault);
+            *note = note_of_json(alloc, input, fault);
             Err(fault)
         }
     }
 }
 
-// What a scenario says. Where it is none, the notes tell why.
-fn scenario_noting<'a, N: Write>(
+// What a scenario says. Where it is none, the note is why.
+fn scenario_noting<'a>(
     alloc: Global,
     json: &'a Value,
-    notes: &mut Output<N>,
+    note: &mut Note,
 ) -> Result<Scenario<'a>, InputFault>
     ensures ok { IfOk result (λ scenario. IsScenario (view json.now) (planned_of scenario)) }
     ensures err { IfErr result (IsNoReading (IsScenario (view json.now))) }
@@ -167,17 +166,17 @@ fn scenario_noting<'a, N: Write>(
     match scenario_of(alloc, json) {
         Ok(scenario) => Ok(scenario),
         Err(fault) => {
-            note_scenario(notes, json, fault);
+            *note = note_of_scenario(alloc, json);
             Err(fault)
         }
     }
 }
 
-// What a scenario sets up. Where it can't be set up, the notes tell why.
-fn setup_noting<N: Write>(
+// What a scenario sets up. Where it can't be set up, the note is why.
+fn setup_noting(
     alloc: Global,
     scenario: &Scenario<'_>,
-    notes: &mut Output<N>,
+    note: &mut Note,
 ) -> Result<Setup, SetupFault>
     ensures ok { IfOk result
         (λ setup. IsSetUp (planned_of scenario.now) setup.bus.units setup.bus.fates setup.events.items) }
@@ -186,16 +185,16 @@ fn setup_noting<N: Write>(
     match setup_of(alloc, scenario) {
         Ok(setup) => Ok(setup),
         Err(fault) => {
-            note_setup(notes, scenario, fault);
+            *note = note_of_setup(alloc, scenario, fault);
             Err(fault)
         }
     }
 }
 
-// Tells what a limit may be, where the fault is that it is none.
-fn note_limit<N: Write>(notes: &mut Output<N>, fault: Fault) {
+// Adds what a limit may be, where the fault is that it is none.
+fn note_limit(note: &mut Note, fault: Fault) {
     if fault == Fault::Run(RunFault::Limit) {
-        let _ = writeln!(notes, "limit: a journal has from 1 to 100000 orders");
+        note.add("limit: a journal has from 1 to 100000 orders");
     }
 }
 

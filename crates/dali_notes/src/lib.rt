@@ -1,22 +1,28 @@
 //! What a person is told beside an answer (profile): where in an input a fault is, what stands there, and what has to
 //! stand there. The lines are for standard error; an answer never hangs on them.
 //!
-//! Each call writes to an `Output`, and lets a failure of it be: from then on nothing more is written there.
+//! A `Note` is what is told of one fault. It is told on an `Output` whose failure is let be: from then on nothing more is
+//! written there.
 #![tactic(auto)]
 
 mod described;
 mod escaped;
+mod first_lines;
+mod front;
 mod item_note;
 mod json_note;
 mod near_key;
+mod note;
 mod repeats;
 mod scenario_note;
 mod scenario_rule;
 mod setup_note;
 
 pub use escaped::Escaped;
-pub use item_note::note_item;
-pub use json_note::{note_json, note_orders};
+pub use first_lines::FirstLines;
+pub use item_note::note_of_item;
+pub use json_note::{note_of_json, note_of_orders};
+pub use note::Note;
 pub use repeats::Repeats;
-pub use scenario_note::note_scenario;
-pub use setup_note::note_setup;
+pub use scenario_note::note_of_scenario;
+pub use setup_note::note_of_setup;

@@ -1,8 +1,7 @@
+use crate::note::Note;
 use dali_bank::Order;
-use dali_text::Output;
 use indexmap::IndexMap;
 use std::alloc::Global;
-use std::io::Write;
 
 // What is known of the first order under a number: which item it was, and a sum over its unit and its updates.
 #[derive(Clone, Copy)]
@@ -14,6 +13,7 @@ struct First {
 /// The numbers of the orders of a list as far as it was read, to tell those that are given again for another order.
 #[derive(Drop)]
 pub struct Repeats {
+    alloc: Global,
     firsts: IndexMap<u64, First>,
     // Whether there is no more memory to remember them.
     is_full: bool,
@@ -23,28 +23,34 @@ impl Repeats {
     /// No orders.
     pub fn new(alloc: Global) -> Repeats {
         Repeats {
+            alloc,
             firsts: IndexMap::new(alloc),
             is_full: false,
         }
     }
 
-    /// Tells where an earlier item of the list has the number of this one and is another order: the writer replies
-    /// `reused` to the later one. Where there is no memory to remember an order, no more are told.
-    pub fn note<N: Write>(&mut self, notes: &mut Output<N>, item: u64, order: &Order) {
+    /// What is told of an item where an earlier one of the list has its number and is another order: the writer
+    /// replies `reused` to the later one, once the earlier has begun. Where there is no memory to remember an order, no
+    /// more are told.
+    pub fn note_of(&mut self, item: u64, order: &Order) -> Option<Note> {
         if self.is_full {
-            return;
+            return None;
         }
         let (id, sum) = (order.id(), sum_of(order));
         match self.firsts.get(&id).copied() {
             Some(first) if first.sum != sum => {
+                let mut note = Note::of_order(self.alloc, Some(id));
                 let first = first.item;
-                let _ = writeln!(
-                    notes,
-                    "item {item} order {id}: the number of item {first}, which is another order: it will be told as reused"
-                );
+                note.add(format_args!(
+                    "the number of item {first}, which is another order: behind that one it is told as reused"
+                ));
+                Some(note)
             }
-            Some(_) => {}
-            None => self.is_full = self.firsts.insert(id, First { item, sum }).is_err(),
+            Some(_) => None,
+            None => {
+                self.is_full = self.firsts.insert(id, First { item, sum }).is_err();
+                None
+            }
         }
     }
 }

@@ -1,12 +1,11 @@
 use crate::described::Described;
 use crate::escaped::Escaped;
 use crate::near_key::near_key;
+use crate::note::Note;
 use crate::scenario_rule::{Member, event_members, fate_members, scenario_members, unit_members};
-use dali_input::InputFault;
-use dali_text::Output;
 use serde_json::Value as Json;
+use std::alloc::Global;
 use std::fmt;
-use std::io::Write;
 
 // Where an object of a scenario stands: the scenario itself, or a place of one of its lists, counted from 0.
 #[derive(Clone, Copy)]
@@ -37,66 +36,64 @@ impl fmt::Display for Before {
     }
 }
 
-/// Tells what in a JSON value that is refused for a fault isn't of the form of a scenario: a line for each key and each
-/// value that can't be so.
-pub fn note_scenario<N: Write>(notes: &mut Output<N>, json: &Json, fault: InputFault) {
-    if fault != InputFault::Document {
-        return;
-    }
+/// What in a JSON value isn't of the form of a scenario: a line for each key and each value that can't be so.
+pub fn note_of_scenario(alloc: Global, json: &Json) -> Note {
+    let mut note = Note::new(alloc);
     if json.as_array().is_some() {
-        let _ = writeln!(
-            notes,
-            "the input is an array: orders are for `check` and `drive`, and a scenario is an object"
+        note.add(
+            "the input is an array: orders are for `check` and `drive`, and a scenario is an object",
         );
-        return;
+        return note;
     }
-    note_object(notes, Path::Whole, json, &scenario_members());
-    note_each(notes, "units", json.get("units"), &unit_members());
-    note_each(notes, "fates", json.get("fates"), &fate_members());
-    note_each(notes, "events", json.get("events"), &event_members());
-    note_events(notes, json.get("events"));
+    note_object(&mut note, Path::Whole, json, &scenario_members());
+    note_each(&mut note, "units", json.get("units"), &unit_members());
+    note_each(&mut note, "fates", json.get("fates"), &fate_members());
+    note_each(&mut note, "events", json.get("events"), &event_members());
+    note_events(&mut note, json.get("events"));
+    note
 }
 
 // Tells what is wrong with each object of a list.
-fn note_each<N: Write>(
-    notes: &mut Output<N>,
-    list: &'static str,
-    json: Option<&Json>,
-    members: &[Member],
-) {
+fn note_each(note: &mut Note, list: &'static str, json: Option<&Json>, members: &[Member]) {
     let Some(items) = json.and_then(Json::as_array) else {
         return;
     };
     for (place, item) in items.iter().enumerate() {
-        note_object(notes, Path::At(list, place), item, members);
+        if note.is_full() {
+            return;
+        }
+        note_object(note, Path::At(list, place), item, members);
     }
 }
 
 // Tells what is wrong with an object: its keys, and then what stands at them.
-fn note_object<N: Write>(notes: &mut Output<N>, path: Path, json: &Json, members: &[Member]) {
+fn note_object(note: &mut Note, path: Path, json: &Json, members: &[Member]) {
     if json.as_object().is_none() {
         let found = Described(Some(json));
-        let _ = writeln!(notes, "{path}: {found}, and it is an object");
+        note.add(format_args!("{path}: {found}, and it is an object"));
         return;
     }
-    note_keys(notes, path, json, members);
+    note_keys(note, path, json, members);
     for &member in members {
-        note_member(notes, path, json, member);
+        note_member(note, path, json, member);
     }
 }
 
 // Tells each key of an object that such an object doesn't have, with the one that may be meant.
-fn note_keys<N: Write>(notes: &mut Output<N>, path: Path, json: &Json, members: &[Member]) {
+fn note_keys(note: &mut Note, path: Path, json: &Json, members: &[Member]) {
     let Some(object) = json.as_object() else {
         return;
     };
     for (key, _) in object.iter() {
-        note_key(notes, path, key.as_str(), members);
+        if note.is_full() {
+            return;
+        }
+        note_key(note, path, key.as_str(), members);
     }
 }
 
 // Tells a key, where none of the members has it.
-fn note_key<N: Write>(notes: &mut Output<N>, path: Path, key: &str, members: &[Member]) {
+fn note_key(note: &mut Note, path: Path, key: &str, members: &[Member]) {
     let mut meant = None;
     for member in members {
         if member.key == key {
@@ -105,14 +102,14 @@ fn note_key<N: Write>(notes: &mut Output<N>, path: Path, key: &str, members: &[M
         meant = meant.or(near_key(key, &[member.key]));
     }
     let (before, told) = (Before(path), Escaped::cut(key));
-    let _ = match meant {
-        Some(meant) => writeln!(notes, "{before}{told}: no such key ({meant}?)"),
-        None => writeln!(notes, "{before}{told}: no such key"),
-    };
+    match meant {
+        Some(meant) => note.add(format_args!("{before}{told}: no such key ({meant}?)")),
+        None => note.add(format_args!("{before}{told}: no such key")),
+    }
 }
 
 // Tells what is wrong with what stands at a key.
-fn note_member<N: Write>(notes: &mut Output<N>, path: Path, json: &Json, member: Member) {
+fn note_member(note: &mut Note, path: Path, json: &Json, member: Member) {
     let value = json.get(member.key);
     let suits = match value {
         Some(value) => member.rule.suits(value),
@@ -120,22 +117,22 @@ fn note_member<N: Write>(notes: &mut Output<N>, path: Path, json: &Json, member:
     };
     if !suits {
         let (before, key, found, rule) = (Before(path), member.key, Described(value), member.rule);
-        let _ = writeln!(notes, "{before}{key}: {found}, and it is {rule}");
+        note.add(format_args!("{before}{key}: {found}, and it is {rule}"));
     }
 }
 
 // Tells each event that doesn't say one thing.
-fn note_events<N: Write>(notes: &mut Output<N>, json: Option<&Json>) {
+fn note_events(note: &mut Note, json: Option<&Json>) {
     let Some(items) = json.and_then(Json::as_array) else {
         return;
     };
     for (place, item) in items.iter().enumerate() {
-        note_event(notes, place, item);
+        note_event(note, place, item);
     }
 }
 
 // Tells an event that doesn't say one thing.
-fn note_event<N: Write>(notes: &mut Output<N>, place: usize, json: &Json) {
+fn note_event(note: &mut Note, place: usize, json: &Json) {
     let mut count = 0u8;
     for key in ["submit", "steps", "stop", "power"] {
         if json.get(key).is_some() {
@@ -143,17 +140,15 @@ fn note_event<N: Write>(notes: &mut Output<N>, place: usize, json: &Json) {
         }
     }
     let moves = json.get("moment").is_some() && json.get("submit").is_none();
-    let _ = match json.as_object() {
+    match json.as_object() {
         Some(_) if count != 1 => {
-            writeln!(
-                notes,
+            note.add(format_args!(
                 "events[{place}]: an event has one of submit, steps, stop and power, and this one has {count}"
-            )
+            ))
         }
-        Some(_) if moves => writeln!(
-            notes,
+        Some(_) if moves => note.add(format_args!(
             "events[{place}].moment: only a submit has a moment beside it"
-        ),
-        _ => Ok(()),
-    };
+        )),
+        _ => {}
+    }
 }

@@ -1,5 +1,5 @@
 -- What a contract says of an output.
-use Rattle.std.specs.Prelude.{◌≡◌, ℕ, Bool, true, List, Option, Result, Ok, Err}
+use Rattle.std.specs.Prelude.{◌≡◌, ℕ, Bool, true, List, Option, Result, Ok, Err, is_some}
 use Rattle.std.specs.Io.KnownBytes.{Appends}
 use Rattle.dali_text.specs.declared.output.Output.{Output}
 
@@ -16,7 +16,7 @@ Takes contents old new bytes = Appends (held contents old) (held contents new) b
 
 -- a write or a flush of it has failed
 abbrev pub has_failed : {W : Type 0} → Output W → Bool
-has_failed output = output.failed
+has_failed output = is_some output.cause
 
 -- nothing was written to it since the last flush that succeeded
 abbrev pub is_flushed : {W : Type 0} → Output W → Bool

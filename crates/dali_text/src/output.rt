@@ -27,13 +27,14 @@ impl Error for Unwritten {}
 #[derive(Drop)]
 pub struct Output<W> {
     writer: W,
-    // Whether a write or a flush has failed.
-    failed: bool,
+    // Of what kind the write or the flush was that has failed, if one has.
+    cause: Option<ErrorKind>,
     // Whether nothing was written since the last flush that succeeded.
     flushed: bool,
 }
 
 impl<W: Write> Output<W> {
+    ghost use Rattle.std.specs.Prelude.{is_some};
     ghost use Rattle.dali_text.specs.Output.{TellsFailure, Takes, has_failed, held, is_flushed, writer_of};
 
     /// An output into the writer, which hasn't failed, and of which nothing is known to be flushed.
@@ -44,7 +45,7 @@ impl<W: Write> Output<W> {
     {
         Output {
             writer,
-            failed: false,
+            cause: None,
             flushed: false,
         }
     }
@@ -63,15 +64,18 @@ impl<W: Write> Output<W> {
     {
         self.unfailed()?;
         self.flushed = false;
+        let mut cause = ErrorKind::Interrupted;
         for _ in 0..u64::MAX {
-            match self.writer.write(bytes) {
-                Ok(0) => break,
+            cause = match self.writer.write(bytes) {
+                Ok(0) => ErrorKind::WriteZero,
                 Ok(count) => return Ok(count),
-                Err(error) if error.kind() == ErrorKind::Interrupted => {}
-                Err(_) => break,
+                Err(error) => error.kind(),
+            };
+            if cause != ErrorKind::Interrupted {
+                break;
             }
         }
-        self.failed = true;
+        self.cause = Some(cause);
         Err(Unwritten)
     }
 
@@ -132,7 +136,14 @@ impl<W: Write> Output<W> {
     pub fn has_failed(&self) -> bool
         ensures { result ≡ has_failed self.now }
     {
-        self.failed
+        self.cause.is_some()
+    }
+
+    /// Of what kind the failure of its writer was, where it has failed.
+    pub fn cause(&self) -> Option<ErrorKind>
+        ensures { is_some result ≡ has_failed self.now }
+    {
+        self.cause
     }
 
     /// The writer, with what it holds.
@@ -147,7 +158,7 @@ impl<W: Write> Output<W> {
         ensures ok { OnOk result (has_failed self.now ≡ false) }
         ensures err { OnErr result (has_failed self.now ≡ true) }
     {
-        if self.failed {
+        if self.cause.is_some() {
             return Err(Unwritten);
         }
         Ok(())
@@ -164,8 +175,8 @@ impl<W: Write> Output<W> {
         self.flushed = false;
         match ended {
             Ok(()) => Ok(()),
-            Err(_) => {
-                self.failed = true;
+            Err(error) => {
+                self.cause = Some(error.kind());
                 Err(Unwritten)
             }
         }

@@ -1,0 +1,58 @@
+-- What a person is told beside what a command writes: of each item and each fault, by the number that stands there too.
+use Rattle.std.specs.Prelude.{◌≡◌, ◌⊎◌, ◌+◌, ℕ, List, [], ◌∷◌, ◌++◌, Ok, Err, codes}
+use Rattle.dali_notes.specs.Notes.{SomeAbout, SomeLines}
+use Rattle.dali_input.specs.declared.fault.InputFault.TheVariants.{Json, Document}
+use Rattle.dali_input.specs.declared.setup.SetupFault.TheVariants as setup
+use Rattle.dali_input.specs.Orders.{Outcome}
+use Rattle.dali_writer.specs.declared.fault.RunFault.TheVariants.{Limit}
+use Rattle.dali_commands.specs.declared.fault.Fault.{Fault}
+use Rattle.dali_commands.specs.declared.fault.Fault.TheVariants.{Input, Setup, Run}
+use Rattle.dali_commands.specs.declared.fault.Status.{Status}
+use Rattle.dali_commands.specs.declared.fault.Status.TheVariants.{Good}
+use Rattle.dali_commands.specs.declared.file_command.FileCommand.{FileCommand}
+use Rattle.dali_commands.specs.declared.file_command.FileCommand.TheVariants as commands
+use Rattle.dali_commands.specs.Faults.{told_line}
+use Rattle.dali_commands.specs.Report.{report}
+
+-- of a refused item, lines with its number; of an accepted one none, or that an earlier one has its order's number
+abbrev pub IsItemNote : ℕ → Outcome → List ℕ → Type 0
+IsItemNote number (Ok order) note = (note ≡ []) ⊎ SomeAbout (codes "item") number note
+IsItemNote number (Err fault) note = SomeAbout (codes "item") number note
+
+-- of each item, counted from a number on
+abbrev pub AreItemNotes : ℕ → List Outcome → List ℕ → Type 0
+AreItemNotes number [] note = note ≡ []
+AreItemNotes number (outcome ∷ outcomes) note = (here : List ℕ) × (later : List ℕ)
+    × IsItemNote number outcome here × AreItemNotes (number + 1) outcomes later × (note ≡ here ++ later)
+
+-- of a fault that a command gave up at: of a unit or an order of a scenario, lines with the number that its line has
+-- too; of an input that is no JSON or no such document, of two units at one address and of the limit, lines that tell
+-- the place; of want of memory, of a failed reader and of what is too big, none
+abbrev pub IsFaultNote : Fault → List ℕ → Type 0
+IsFaultNote (Input Json) note = SomeLines [] note
+IsFaultNote (Input Document) note = SomeLines [] note
+IsFaultNote (Setup (setup.Unit number fault)) note = SomeAbout (codes "unit") number note
+IsFaultNote (Setup (setup.Order number fault)) note = SomeAbout (codes "event") number note
+IsFaultNote (Setup setup.SameAddress) note = SomeLines [] note
+IsFaultNote (Run Limit) note = SomeLines [] note
+IsFaultNote _ note = note ≡ []
+
+-- a command wrote a fault's line alone, and this note is of that fault
+abbrev pub IsNotedFault : List ℕ → List ℕ → Type 0
+IsNotedFault text note = (fault : Fault) × (text ≡ told_line fault) × IsFaultNote fault note
+
+-- what `check` wrote, and the note beside it
+abbrev pub IsNotedCheck : List ℕ → List ℕ → Type 0
+IsNotedCheck text note = ((outcomes : List Outcome) × (text ≡ report outcomes) × AreItemNotes 1 outcomes note)
+    ⊎ IsNotedFault text note
+
+-- how `run` ended and what it wrote, and the note beside it: none where it ran
+abbrev pub IsNotedRun : Status → List ℕ → List ℕ → Type 0
+IsNotedRun status text note = ((status ≡ Good) × (note ≡ [])) ⊎ IsNotedFault text note
+
+-- the note of a command over a file
+abbrev pub IsNoted : FileCommand → Status → List ℕ → List ℕ → Type 0
+IsNoted commands.Check status text note = IsNotedCheck text note
+IsNoted (commands.Run single_frames) status text note = IsNotedRun status text note
+IsNoted commands.Show status text note = note ≡ []
+IsNoted commands.Journal status text note = note ≡ []

@@ -1,0 +1,45 @@
+ghost use Rattle.std.specs.Prelude.{◌≡◌, ◌≢◌, IfOk, OnOk};
+ghost use Rattle.dali_text.specs.Output.{Takes};
+ghost use Rattle.dali_notes.specs.Notes.{Tells};
+ghost use Rattle.dali_commands.specs.Ends.{TellsEnd};
+ghost use Rattle.dali_commands.specs.Faults.{status_of, told_line};
+ghost use Rattle.dali_commands.specs.Notes.{IsFaultNote};
+
+use crate::fault::{Fault, Status};
+use crate::fault_lines::write_failure;
+use dali_drive::DriveFault;
+use dali_input::{InputFault, SetupFault};
+use dali_notes::Note;
+use dali_text::{Output, Unwritten};
+use dali_writer::RunFault;
+use std::io::Write;
+
+/// Writes why a command gave up, and nothing after it, and tells a person in `notes` what is wrong there.
+pub fn write_noted_failure<W: Write, N: Write>(
+    output: &mut Output<W>,
+    fault: Fault,
+    notes: &mut Output<N>,
+    note: &Note,
+) -> Result<Status, Unwritten>
+    ensures told { OnOk result (Takes W.contents output.old output.new (told_line fault)) }
+    ensures status { IfOk result (λ status. status ≡ status_of fault) }
+    ensures end { fault ≢ Fault.Drive DriveFault.Out → TellsEnd result output.new }
+    ensures noted { Tells N.contents notes.old notes.new (IsFaultNote fault) }
+{
+    note_fault(notes, fault, note);
+    write_failure(output, fault)
+}
+
+// Tells what is wrong where a fault has such a note.
+fn note_fault<N: Write>(notes: &mut Output<N>, fault: Fault, note: &Note)
+    ensures { Tells N.contents notes.old notes.new (IsFaultNote fault) }
+{
+    match fault {
+        Fault::Input(InputFault::Json | InputFault::Document)
+        | Fault::Setup(SetupFault::SameAddress)
+        | Fault::Run(RunFault::Limit) => note.tell(notes),
+        Fault::Setup(SetupFault::Unit(number, _)) => note.tell_about(notes, "unit", number),
+        Fault::Setup(SetupFault::Order(number, _)) => note.tell_about(notes, "event", number),
+        _ => {}
+    }
+}

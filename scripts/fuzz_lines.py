@@ -43,13 +43,22 @@ def is_item_fault(line, kind, number):
     return line in [f"{kind} {number} fault {fault} {name}" for fault, name in ITEM_FAULTS.items()]
 
 
+# What stands behind the lines for a person, where there are more.
+LEFT_OUT = "more is left out: these are the first 1000 lines"
+
+
 def judge_notes(lines, stderr):
-    """Judge what is told beside an answer: nothing raw, a line at least for each fault that has one, none without."""
+    """Judge what is told beside an answer: nothing raw, a line at least for each fault that has one, none without.
+    The first thousand lines are told."""
     notes = lines_of(stderr)
     assert all(re.fullmatch("[ -~]+", it) for it in notes), notes
     found = [re.match("((?:item|event|unit) [0-9]+ )fault ", it) for it in lines]
     refused = {it[1] for it in found if it}
-    for head in refused:
+    is_cut = LEFT_OUT in notes
+    if is_cut:
+        assert notes.index(LEFT_OUT) == len(notes) - 1 == 1000, notes
+        notes.pop()
+    for head in [] if is_cut else refused:
         assert any(it.startswith(head) or it.startswith(f"{head[:-1]}:") for it in notes), (head, notes)
     for note in notes:
         head = re.match("(?:item|event) [0-9]+ |", note.replace(":", " ", 1))[0]
@@ -200,12 +209,18 @@ def judge_drive(status, stdout, stderr):
     """Judge what `drive` printed: frames to standard output, and all else to standard error."""
     sent, told = lines_of(stdout), lines_of(stderr)
     assert all(re.fullmatch("[0-9A-F]{4}", line) for line in sent), sent
-    if told and (is_file_fault(told[-1]) or JOURNAL_FAULT.fullmatch(told[-1])):
+    if told and JOURNAL_FAULT.fullmatch(told[-1]):
         assert len(told) == 1 and not sent, (told, sent)
+        return check_status(status, 1)
+    if told and is_file_fault(told[-1]):
+        assert not sent, sent
+        judge_notes(told[-1:], "".join(f"{it}\n" for it in told[:-1]).encode())
         return check_status(status, 1)
     refused = [re.fullmatch(f"item ({NUMBER}) fault .*", line) for line in told]
     if any(refused):
-        assert not sent and all(found and is_item_fault(found[0], "item", found[1]) for found in refused), told
+        at = next(place for place, found in enumerate(refused) if found)
+        assert not sent and all(found and is_item_fault(found[0], "item", found[1]) for found in refused[at:]), told
+        judge_notes(told[at:], "".join(f"{it}\n" for it in told[:at]).encode())
         return check_status(status, 1)
     fault = re.fullmatch("drive fault (.*)", told[-1]) if told else None
     assert all(REPLY.fullmatch(line) for line in (told[:-1] if fault else told)), told

@@ -20,6 +20,9 @@ COLOUR = "a string of 1 to 24 characters, each from space to ~ in ASCII, or null
 LUMENS = "a whole number of lumens from 0 to 16777214, or null"
 LUMINAIRE = "a string of 1 to 60 characters, each from space to ~ in ASCII, or null"
 MISSING = "No such file or directory (os error 2)"
+LEFT_OUT = "more is left out: these are the first 1000 lines"
+# An item whose line on standard error is long.
+LONG = '{"order": 1, "unit": 5, "luminaire": "' + 61 * "x" + '"}'
 JSON = "here the input is no JSON any more, or nests too deep"
 
 # Mistakes in one item: what stands behind its number 6 and its unit 5, and the lines behind `item 1 order 6: `.
@@ -89,7 +92,7 @@ INPUTS = [
     ("check", b"\xef\xbb\xbf[]", ["the input begins with a byte order mark, and has to be UTF-8 without one"]),
     ("check", b"\xff\xfe[\0]\0", ["the input is in UTF-16, and has to be in UTF-8"]),
     ("check", b'[{"order": 1, "unit": 5, "year": 1}, {"order": 1, "unit": 6, "year": 1}]', [
-        "item 2 order 1: the number of item 1, which is another order: it will be told as reused",
+        "item 2 order 1: the number of item 1, which is another order: behind that one it is told as reused",
     ]),
     ("run", b"[]", ["the input is an array: orders are for `check` and `drive`, and a scenario is an object"]),
     ("run", b'{"limit": 1, "units": [{"adress": 5}], "events": []}', [
@@ -171,10 +174,62 @@ def fails_on_streams(program):
     for name, ended in (("closed", closed), ("full", filled), ("broken", broken)):
         same = (ended.returncode, ended.stdout) == (whole.returncode, whole.stdout)
         yield None if same else f"standard error {name}: {ended}"
-    many = f"[{','.join(20000 * ['7'])}]".encode()
-    slow = subprocess.run(["sh", "-c", '"$0" check - 2>&1 >"$1" | (sleep 1; wc -l)', program, os.devnull], input=many,
+    most = f"[{','.join(1000 * [LONG])}]".encode()
+    slow = subprocess.run(["sh", "-c", '"$0" check - 2>&1 >"$1" | (sleep 1; wc -l)', program, os.devnull], input=most,
                           stdout=subprocess.PIPE, timeout=60)
-    yield None if slow.stdout.split() == [b"20000"] else f"standard error read slowly: {slow}"
+    yield None if slow.stdout.split() == [b"1000"] else f"standard error read slowly: {slow}"
+
+
+def fails_on_many(program):
+    """Give what is wrong where more than a thousand lines could be told, of many items or of one."""
+    told = "item {0}: the number 7, and an order is an object with order, unit and fields"
+    items = run(program, "check", f"[{','.join(1002 * ['7'])}]".encode())
+    wanted = [told.format(it) for it in range(1, 1001)] + [LEFT_OUT]
+    yield None if items.stderr.decode().splitlines() == wanted else f"many items: {items.stderr[-200:]}"
+    yield None if len(items.stdout.splitlines()) == 1003 else f"many items: {items.stdout[-200:]}"
+    keys = ", ".join(f'"key{it}": 0' for it in range(1200))
+    one = run(program, "check", f'[{{"order": 1, "unit": 5, {keys}}}, 7]'.encode())
+    wanted = [f"item 1 order 1: key{it}: no such key" for it in range(1000)] + [LEFT_OUT]
+    yield None if one.stderr.decode().splitlines() == wanted else f"many keys: {one.stderr[-200:]}"
+
+
+def fails_on_readers(program):
+    """Give what is wrong where nobody reads the output any more, and where it can't be written."""
+    many = f"[{','.join(20000 * ['7'])}]".encode()
+    for command, given in (("check", many), ("--help", b"")):
+        reads, writes = os.pipe()
+        os.close(reads)
+        ended = subprocess.run([program, command, *(["-"] if given else [])], input=given, stdout=writes,
+                               stderr=subprocess.PIPE, timeout=60)
+        os.close(writes)
+        said = [it for it in ended.stderr.decode().splitlines() if not it.startswith(("item ", "more is left"))]
+        yield None if (ended.returncode, said) == (2, []) else f"{command} with no reader: {ended.returncode} {said}"
+    with open("/dev/full", "wb") as full:
+        ended = subprocess.run([program, "check", "-"], input=b"[]", stdout=full, stderr=subprocess.PIPE, timeout=60)
+    wanted = (2, "error: the output can't be written: no storage space\n")
+    yield None if (ended.returncode, ended.stderr.decode()) == wanted else f"a full output: {ended}"
+
+
+def fails_on_drives(program):
+    """Give what is wrong with what `drive` tells of orders that it can't drive."""
+    with tempfile.TemporaryDirectory() as room:
+        orders, journal = os.path.join(room, "orders.json"), os.path.join(room, "journal")
+        for given, wanted in (
+            (b'[{"order": 6, "unit": 5, "yeer": 1}]',
+             "item 1 order 6: yeer: no such key (year?)\nitem 1 fault 10 Key\n"),
+            (b'[{"order": 6,}]', f"line 1 column 14: {JSON}\nfault 11 Json\n"),
+            (b"{}", "the input is an object, and orders are an array\nfault 12 Document\n"),
+        ):
+            with open(orders, "wb") as file:
+                file.write(given)
+            ended = subprocess.run([program, "drive", orders, journal], stdin=subprocess.DEVNULL, capture_output=True,
+                                   timeout=60)
+            good = (ended.returncode, ended.stdout, ended.stderr.decode()) == (1, b"", wanted)
+            yield None if good and not os.path.exists(journal) else f"drive {given!r}: {ended}"
+        for words in (["drive", room, journal], ["drive", os.path.join(os.getcwd(), "examples/gtin.json"), room]):
+            ended = subprocess.run([program, *words], stdin=subprocess.DEVNULL, capture_output=True, timeout=60)
+            wanted = f"error: the file can't be used: {room}: is a directory\nfault 21 File\n"
+            yield None if (ended.returncode, ended.stderr.decode()) == (2, wanted) else f"{words}: {ended}"
 
 
 def fails_on_causes(program):
@@ -195,7 +250,8 @@ def fails_on_causes(program):
 
 def main(program):
     """Run all, tell what failed, and return the status."""
-    told = [*fails_on_lines(program), *fails_on_streams(program), *fails_on_causes(program)]
+    parts = (fails_on_lines, fails_on_streams, fails_on_many, fails_on_readers, fails_on_causes, fails_on_drives)
+    told = [it for part in parts for it in part(program)]
     failed = [it for it in told if it]
     for it in failed:
         print(f"FAILED: {it}")

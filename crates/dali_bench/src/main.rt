@@ -22,10 +22,7 @@ fn main(rt: HostRuntime) -> ExitCode {
             Ok(words) => run(&rt, &words),
             Err(_) => out_of_memory(&rt, Place::Output),
         },
-        Err(error) if error.kind() == ErrorKind::OutOfMemory => out_of_memory(
-            &rt,
-            Place::Output,
-        ),
+        Err(error) if error.kind() == ErrorKind::OutOfMemory => out_of_memory(&rt, Place::Output),
         Err(_) => {
             let _ = eprintln!(&rt; "error: an argument is no text in UTF-8");
             Status::Refused
@@ -69,7 +66,9 @@ fn run(rt: &HostRuntime, words: &Vec<String>) -> Status {
                 moment,
             },
         ) => on_link(rt, orders, journal, moment),
-        Err(error) if error.kind() == clap::error::ErrorKind::OutOfMemory => out_of_memory(rt, place),
+        Err(error) if error.kind() == clap::error::ErrorKind::OutOfMemory => out_of_memory(
+            rt, place,
+        ),
         Err(error) => match error.print(rt) {
             Ok(()) if error.exit_code() == 0 => Status::Good,
             Ok(()) => Status::Refused,

@@ -3,3 +3,4 @@ pub mod DriveLemmas
 pub mod FrameLemmas
 pub mod ReportLemmas
 pub mod RunLemmas
+pub mod NoteLemmas

@@ -1,11 +1,11 @@
 -- Lemmas on what is written of a list of items.
 use Rattle.std.proofs.Common.{◌≡◌, ℕ, suc, ◌+◌, List, [], ◌∷◌, ◌++◌, Bool, true, false, Option, length, count_by, is_ok}
 use Rattle.std.proofs.Common.{not, ap, sym, ◌∙◌, arith, append_assoc, append-nil, add-zero, zero-add, cond, subst}
-use Rattle.std.proofs.Common.{length-append}
+use Rattle.std.proofs.Common.{length-append, refl}
 use Rattle.std.proofs.lemmas.List.{map-append}
 use Rattle.std.proofs.lemmas.List.Sums.{sum_by-append}
 use Rattle.std.specs.Io.KnownBytes.{Appends}
-use Rattle.serde_json.specs.Data.{Items}
+use Rattle.serde_json.specs.Data.{Items, no_items}
 use Rattle.serde_json.specs.View.{view, items_view, items_of}
 use Rattle.serde_json.specs.declared.value.Value.{Value}
 use Rattle.dali_input.specs.Items.{Judges}
@@ -13,9 +13,11 @@ use Rattle.dali_input.specs.Orders.{Outcome, JudgesEach}
 use Rattle.dali_input.proofs.OrderLemmas.{judges_one_more}
 use Rattle.dali_commands.specs.Report.{item_lines, lines_from, refused_count}
 use Rattle.dali_text.proofs.StreamLemmas.{appends_both}
+use Rattle.dali_commands.proofs.NoteLemmas.{appends_nothing}
 
--- the items so far, what became of them, and what was written of them
-pub record SoFar (ds : Items) (n accepted refused : ℕ) (before now : Option (List ℕ)) : Type 0 where
+-- the items so far, what became of them, what was written of them, and what was told of them beside
+pub record SoFar (ds : Items) (n accepted refused : ℕ) (before now : Option (List ℕ)) (Told : List Outcome → Type 0)
+    : Type 0 where
   pub outcomes : List Outcome
   pub judged : JudgesEach ds outcomes
   pub many : length outcomes ≡ n
@@ -23,6 +25,21 @@ pub record SoFar (ds : Items) (n accepted refused : ℕ) (before now : Option (L
   pub good : count_by is_ok outcomes ≡ accepted
   pub bad : refused_count outcomes ≡ refused
   pub written : Appends before now (lines_from 1 outcomes)
+  pub told : Told outcomes
+
+-- before the first item
+pub none_yet : (before : Option (List ℕ)) (Told : List Outcome → Type 0)
+    → Told [] → SoFar no_items 0 0 0 before before Told
+none_yet before Told told = record {
+  outcomes = [];
+  judged = tt;
+  many = refl;
+  all = refl;
+  good = refl;
+  bad = refl;
+  written = appends_nothing before;
+  told = told;
+}
 
 lines_from_one_more : (i : ℕ) (xs : List Outcome) (x : Outcome)
     → lines_from i (xs ++ x ∷ []) ≡ lines_from i xs ++ item_lines (i + length xs) x
@@ -40,10 +57,12 @@ count_one_more p xs x =
 
 -- the step of the loop: one more item, its outcome, and its lines
 pub accepted_more : (done : List Value) (v : Value) (a r : ℕ) (before mid now : Option (List ℕ)) (x : Outcome)
-    → SoFar (items_view done) (length done) a r before mid
+    (Told ToldNow : List Outcome → Type 0)
+    → SoFar (items_view done) (length done) a r before mid Told
     → Judges (view v) x → is_ok x ≡ true → Appends mid now (item_lines (a + r + 1) x)
-    → SoFar (items_view (done ++ v ∷ [])) (length (done ++ v ∷ [])) (a + 1) r before now
-accepted_more done v a r before mid now x s judged good written =
+    → ((xs : List Outcome) → a + r + 1 ≡ 1 + length xs → Told xs → ToldNow (xs ++ x ∷ []))
+    → SoFar (items_view (done ++ v ∷ [])) (length (done ++ v ∷ [])) (a + 1) r before now ToldNow
+accepted_more done v a r before mid now x Told ToldNow s judged good written more =
     let size : length (done ++ v ∷ []) ≡ length done + 1 = length-append done (v ∷ []) in
     let number : a + r + 1 ≡ 1 + length s.outcomes = omega (arith, s.many, s.all) in
     record {
@@ -56,13 +75,16 @@ accepted_more done v a r before mid now x s judged good written =
       good = count_one_more is_ok s.outcomes x ∙ rw good (ap (λ n. n + 1) s.good);
       bad = count_one_more (λ y. not (is_ok y)) s.outcomes x ∙ rw good (add-zero _ ∙ s.bad);
       written = rw lines_from_one_more (appends_both before mid now _ _ s.written (rw number at written));
+      told = more s.outcomes number s.told;
     }
 
 pub refused_more : (done : List Value) (v : Value) (a r : ℕ) (before mid now : Option (List ℕ)) (x : Outcome)
-    → SoFar (items_view done) (length done) a r before mid
+    (Told ToldNow : List Outcome → Type 0)
+    → SoFar (items_view done) (length done) a r before mid Told
     → Judges (view v) x → is_ok x ≡ false → Appends mid now (item_lines (a + r + 1) x)
-    → SoFar (items_view (done ++ v ∷ [])) (length (done ++ v ∷ [])) a (r + 1) before now
-refused_more done v a r before mid now x s judged bad written =
+    → ((xs : List Outcome) → a + r + 1 ≡ 1 + length xs → Told xs → ToldNow (xs ++ x ∷ []))
+    → SoFar (items_view (done ++ v ∷ [])) (length (done ++ v ∷ [])) a (r + 1) before now ToldNow
+refused_more done v a r before mid now x Told ToldNow s judged bad written more =
     let size : length (done ++ v ∷ []) ≡ length done + 1 = length-append done (v ∷ []) in
     let number : a + r + 1 ≡ 1 + length s.outcomes = omega (arith, s.many, s.all) in
     record {
@@ -75,4 +97,5 @@ refused_more done v a r before mid now x s judged bad written =
       good = count_one_more is_ok s.outcomes x ∙ rw bad (add-zero _ ∙ s.good);
       bad = count_one_more (λ y. not (is_ok y)) s.outcomes x ∙ rw bad (ap (λ n. n + 1) s.bad);
       written = rw lines_from_one_more (appends_both before mid now _ _ s.written (rw number at written));
+      told = more s.outcomes number s.told;
     }

@@ -1,5 +1,5 @@
 -- Lemmas on what is answered where a scenario is run, and where it isn't.
-use Rattle.std.proofs.Common.{◌≡◌, List, ℕ, length, Bool, Option, Result, Ok, Err, IfOk, OnOk, inl, inr, refl}
+use Rattle.std.proofs.Common.{◌≡◌, List, [], ℕ, length, Bool, Option, Result, Ok, Err, IfOk, OnOk, inl, inr, refl}
 use Rattle.std.specs.Io.KnownBytes.{Appends}
 use Rattle.dali_gear.specs.SimState.{SimState}
 use Rattle.dali_journal.specs.JournalState.{IsLimit}
@@ -16,6 +16,11 @@ use Rattle.dali_commands.specs.declared.fault.Fault.{Fault}
 use Rattle.dali_commands.specs.declared.fault.Status.{Status}
 use Rattle.dali_commands.specs.declared.fault.Status.TheVariants.{Good}
 use Rattle.dali_commands.specs.Faults.{told_line, status_of}
+use Rattle.dali_text.specs.declared.output.Output.{Output}
+use Rattle.dali_text.specs.Output.{held}
+use Rattle.dali_notes.specs.Notes.{Tells}
+use Rattle.dali_commands.specs.Notes.{IsNotedRun}
+use Rattle.dali_commands.proofs.NoteLemmas.{appends_nothing}
 use Rattle.dali_commands.specs.RunAnswers.{IsRan, IsRunAnswer, IsUnderstood, IsUnrun}
 
 -- a fault of the run, which tells Limit only where the limit is none
@@ -55,3 +60,13 @@ run_told single_frames before after trace journal last old new (Ok status) ran t
   told.1,
 )
 run_told single_frames before after trace journal last old new (Err e) ran told = tt
+
+-- beside a run that was told, nothing is told to a person
+pub run_noted : {E N : Type 0} (text : List ℕ) (before now : Option (List ℕ)) (contents : N → Option (List ℕ))
+    (notes : Output N) (r : Result Status E)
+    → IfOk r (λ status. (status ≡ Good) × Appends before now text)
+    → IfOk r (λ status. (written : List ℕ) × Appends before now written
+    × Tells contents notes notes (IsNotedRun status written))
+run_noted text before now contents notes (Ok status) (good, told) =
+    (text, told, λ unfailed. (unfailed, ([], inl (good, refl), appends_nothing (held contents notes))))
+run_noted text before now contents notes (Err e) told = tt

@@ -128,7 +128,14 @@ fn write_report<W: Write, N: Write>(
     let mut refused = 0u64;
     let mut repeats = Repeats::new(alloc);
     for item in items {
-        if write_item(alloc, output, accepted + refused + 1, item, notes, &mut repeats)? {
+        if write_item(
+            alloc,
+            output,
+            accepted + refused + 1,
+            item,
+            notes,
+            &mut repeats,
+        )? {
             accepted += 1;
         } else {
             refused += 1;
@@ -174,12 +181,7 @@ fn write_item<W: Write, N: Write>(
 }
 
 // Tells where an accepted item has the number of an earlier one.
-fn note_accepted<N: Write>(
-    notes: &mut Output<N>,
-    number: u64,
-    order: &Order,
-    repeats: &mut Repeats,
-)
+fn note_accepted<N: Write>(notes: &mut Output<N>, number: u64, order: &Order, repeats: &mut Repeats)
     ensures { Tells N.contents notes.old notes.new (λ note. (note ≡ []) ⊎ SomeAbout (codes "item") number note) }
 {
     if let Some(note) = repeats.note_of(number, order) {

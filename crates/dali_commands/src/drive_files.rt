@@ -9,10 +9,9 @@ use dali_drive::{StdSink, StdSource};
 use dali_input::{Input, InputFault, ItemFault, ORDERS_LIMIT, read_input, read_orders};
 use dali_notes::{Escaped, FirstLines};
 use dali_text::{Output, Unwritten};
-use std::fs;
-use std::io;
 use std::fs::{File, Files};
-use std::io::{Read, Write};
+use std::io::{ErrorKind, Read, Write};
+use std::{fs, io};
 
 /// Carries out the orders of a file over a link, with the journal that another file holds.
 ///
@@ -25,7 +24,15 @@ pub fn drive_files<
     I: Read + Drop,
     L: Write + Drop,
     O: Write + Drop,
->(rt: &R, orders: &str, journal: &str, moment: u64, link_in: I, link_out: L, mut lines: O) -> Status {
+>(
+    rt: &R,
+    orders: &str,
+    journal: &str,
+    moment: u64,
+    link_in: I,
+    link_out: L,
+    mut lines: O,
+) -> Status {
     match orders_in(rt, orders, &mut lines) {
         Ok(Ok(found)) => on_journal(
             rt,
@@ -59,6 +66,9 @@ fn orders_in<R: Files + AllocGlobal, O: Write>(
         let mut notes = Output::new(FirstLines::new(lines));
         let _ = check_noting(rt.alloc(), &mut again, &mut none, &mut notes);
         let _ = notes.flush();
+        if !matches!(notes.cause(), None | Some(ErrorKind::QuotaExceeded)) {
+            return Err(Hindrance::Unwritten);
+        }
     }
     Ok(orders?)
 }
@@ -95,6 +105,7 @@ fn write_hindrance<W: Write>(
     let fault = Fault::Input(InputFault::File);
     let name = Escaped::whole(name);
     match hindrance {
+        Hindrance::Unwritten => Err(Unwritten),
         Hindrance::Fault(fault) => write_failure(output, fault),
         Hindrance::System(cause) => {
             writeln!(output, "error: the file can't be used: {name}: {cause}")?;

@@ -21,6 +21,8 @@ pub enum Hindrance {
     System(io::Error),
     /// Another drive has it.
     InUse,
+    /// What is wrong with it can't be told.
+    Unwritten,
 }
 
 impl Hindrance {

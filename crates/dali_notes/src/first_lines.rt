@@ -5,10 +5,10 @@ use std::io::{ErrorKind, Write};
 const MOST: u32 = 1000;
 
 // What stands behind them, where there are more.
-const LEFT_OUT: &[u8] = b"more is wrong, which is left out here\n";
+const LEFT_OUT: &[u8] = b"more is left out: these are the first 1000 lines\n";
 
-/// A writer that takes the first thousand lines. At more it tells that they are left out, and fails from then on
-/// (profile).
+/// A writer that takes the first thousand lines. At more it tells that they are left out, and fails from then on, as
+/// `QuotaExceeded` (profile).
 #[derive(Drop)]
 pub struct FirstLines<W> {
     writer: W,
@@ -37,7 +37,7 @@ impl<W: Write> Write for FirstLines<W> {
             self.writer.flush()?;
         }
         if self.is_closed {
-            return Err(io::Error::from(ErrorKind::StorageFull));
+            return Err(io::Error::from(ErrorKind::QuotaExceeded));
         }
         let count = self.writer.write(bytes)?;
         for &byte in &bytes[..count] {

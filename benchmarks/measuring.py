@@ -41,11 +41,11 @@ def start_by_fork():
 
 
 def run(command, output_path):
-    """Run a command with its output in a file."""
+    """Run a command with its output in a file; what it tells on standard error is dropped."""
     with open(output_path, "wb") as output:
         start = time.perf_counter()
         process = subprocess.Popen(
-            command, stdin=subprocess.DEVNULL, stdout=output
+            command, stdin=subprocess.DEVNULL, stdout=output, stderr=subprocess.DEVNULL
         )
         _, wait_status, usage = os.wait4(process.pid, 0)
         seconds = time.perf_counter() - start

@@ -132,9 +132,23 @@ SCENARIOS = [
 JOURNALS = [Input(f"version {version}, {MOST_ORDERS} orders with all fields", "journal", journal(version), 0)
             for version in (1, 2)]
 BANKS = [Input("spaces", "show", filled(b" "), 0)]
+# The journal is full, so that no frame is sent, and one of version 1, so that it is written anew.
+DRIVES = [
+    Input("orders with a GTIN", "drive", ORDERS[1].write, 0),
+    Input("objects in each other, with an empty key", "drive", ORDERS[-2].write, 1),
+]
 
 
 # Measuring
+
+
+def run_on(program, command, path, folder):
+    """Run a command on an input; a drive with the largest journal, which it writes anew."""
+    words = [program, command, path]
+    if command == "drive":
+        words.append(folder / "journal")
+        journal(1)(words[-1], JOURNAL_LIMIT)
+    return run(words, folder / "output")
 
 
 def measure(program, given, size, folder, run_count):
@@ -142,7 +156,7 @@ def measure(program, given, size, folder, run_count):
     path = folder / "input"
     given.write(path, size)
     written = path.stat().st_size
-    taken = best_of([run([program, given.command, path], folder / "output") for _ in range(run_count)])
+    taken = best_of([run_on(program, given.command, path, folder) for _ in range(run_count)])
     print(
         f"{given.command:8} {given.name:55} {written / MEBIBYTE:6.2f} MiB {taken.seconds:7.3f} s"
         f" {taken.peak_memory / MEBIBYTE:8.1f} MiB {taken.peak_memory / max(written, 1):7.1f} x status {taken.status}",
@@ -156,7 +170,7 @@ def benchmark(options, folder):
     print_machine()
     print(f"program   {options.program}")
     size = int(options.size * MEBIBYTE)
-    kinds = [(ORDERS, size), (SCENARIOS, size), (JOURNALS, JOURNAL_LIMIT), (BANKS, 4096)]
+    kinds = [(ORDERS, size), (SCENARIOS, size), (JOURNALS, JOURNAL_LIMIT), (BANKS, 4096), (DRIVES, size)]
     ended = [
         measure(options.program, given, limit, folder, options.runs) for inputs, limit in kinds for given in inputs
     ]

@@ -89,11 +89,11 @@ fn print_version(rt: &HostRuntime) -> Status {
 // The status, after telling why the output can't be written, if that is so. Where nobody reads it any more, as in
 // `check FILE | head`, nothing is told.
 fn told(rt: &HostRuntime, status: Status, cause: Option<ErrorKind>) -> Status {
-    if let Some(cause) = cause {
-        if cause != ErrorKind::BrokenPipe {
-            let _ = eprintln!(rt; "error: the output can't be written: {cause}");
-        }
-    }
+    let _ = match cause {
+        None | Some(ErrorKind::BrokenPipe) => Ok(()),
+        Some(ErrorKind::Uncategorized) => eprintln!(rt; "error: the output can't be written"),
+        Some(cause) => eprintln!(rt; "error: the output can't be written: {cause}"),
+    };
     status
 }
 

@@ -4,3 +4,4 @@ pub mod FrameLemmas
 pub mod ReportLemmas
 pub mod RunLemmas
 pub mod NoteLemmas
+mod WorkedNoteLemmas

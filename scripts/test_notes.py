@@ -210,6 +210,14 @@ def fails_on_readers(program):
     yield None if (ended.returncode, ended.stderr.decode()) == wanted else f"a full output: {ended}"
 
 
+def fails_on_words(program):
+    """Give what is wrong with what is told of words that the command line doesn't take."""
+    ended = subprocess.run([program, "frame", "C705", "a\x1b[31m\u00e4"], capture_output=True, timeout=60)
+    first = ended.stderr.decode().split("\n", 1)[0]
+    wanted = (1, b"", "error: unexpected argument 'a\\u{1b}[31m\\u{e4}' found")
+    yield None if (ended.returncode, ended.stdout, first) == wanted else f"a wrong word: {ended}"
+
+
 def fails_on_drives(program):
     """Give what is wrong with what `drive` tells of orders that it can't drive."""
     with tempfile.TemporaryDirectory() as room:
@@ -249,7 +257,8 @@ def fails_on_causes(program):
 
 def main(program):
     """Run all, tell what failed, and return the status."""
-    parts = (fails_on_lines, fails_on_streams, fails_on_many, fails_on_readers, fails_on_causes, fails_on_drives)
+    parts = (fails_on_lines, fails_on_streams, fails_on_many, fails_on_readers, fails_on_causes, fails_on_words,
+             fails_on_drives)
     told = [it for part in parts for it in part(program)]
     failed = [it for it in told if it]
     for it in failed:

@@ -69,12 +69,24 @@ fn run(rt: &HostRuntime, words: &Vec<String>) -> Status {
         Err(error) if error.kind() == clap::error::ErrorKind::OutOfMemory => out_of_memory(
             rt, place,
         ),
-        Err(error) => match error.print(rt) {
-            Ok(()) if error.exit_code() == 0 => Status::Good,
-            Ok(()) => Status::Refused,
+        Err(error) if error.use_stderr() => refused(rt, &error, place),
+        Err(help) => match help.print(rt) {
+            Ok(()) => Status::Good,
             Err(cause) => told(rt, Status::Unwritten, Some(cause.kind())),
         },
     }
+}
+
+// Prints what `clap` says of a wrong command line, in which it repeats words of that.
+fn refused(rt: &HostRuntime, error: &clap::Error, place: Place) -> Status {
+    let Ok(text) = format!(in rt.alloc(); "{error}") else {
+        return out_of_memory(rt, place);
+    };
+    for line in text.as_str().lines() {
+        let line = Escaped::whole(line);
+        let _ = eprintln!(rt; "{line}");
+    }
+    Status::Refused
 }
 
 fn print_version(rt: &HostRuntime) -> Status {

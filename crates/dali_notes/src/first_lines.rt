@@ -1,8 +1,8 @@
 use std::io;
 use std::io::{ErrorKind, Write};
 
-// The most lines that are taken.
-const MOST: u32 = 1000;
+/// The most lines that are taken.
+pub(crate) const MOST_LINES: usize = 1000;
 
 // What stands behind them, where there are more.
 const LEFT_OUT: &[u8] = b"more is left out: these are the first 1000 lines\n";
@@ -13,7 +13,7 @@ const LEFT_OUT: &[u8] = b"more is left out: these are the first 1000 lines\n";
 pub struct FirstLines<W> {
     writer: W,
     // How many lines more it takes.
-    left: u32,
+    left: usize,
     // Whether it was told that lines are left out.
     is_closed: bool,
 }
@@ -23,7 +23,7 @@ impl<W: Write> FirstLines<W> {
     pub fn new(writer: W) -> FirstLines<W> {
         FirstLines {
             writer,
-            left: MOST,
+            left: MOST_LINES,
             is_closed: false,
         }
     }

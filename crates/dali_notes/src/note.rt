@@ -2,14 +2,15 @@ ghost use Rattle.std.specs.Prelude.{◌↔◌, ℕ, List, [], IsTrue, OnOk, leng
 ghost use Rattle.dali_text.specs.Output.{TellsFailure, Takes};
 ghost use Rattle.dali_notes.specs.Notes.{ArePlain, AreLines, IsLine, SomeAbout, SomeLines, Tells, front_text};
 
+use crate::first_lines::MOST_LINES;
 use crate::front::Front;
 use dali_text::{Output, Unwritten};
 use std::alloc::Global;
 use std::fmt::Display;
 use std::io::Write;
 
-// The most lines that are kept of one note.
-const MOST: usize = 1000;
+// The most lines that are kept of one note: one more than are told, so that more are told of.
+const MOST: usize = MOST_LINES + 1;
 
 // What is told where there was no memory for a line.
 const NO_MEMORY: &str = "there is no memory to tell what is wrong";
@@ -17,8 +18,8 @@ const NO_MEMORY: &str = "there is no memory to tell what is wrong";
 // What is told in place of words that a terminal might not show as they are.
 const NOT_PLAIN: &str = "what is wrong can't be shown";
 
-/// What a person is told of one fault, line by line (profile). Lines behind the first thousand, and those for which
-/// there is no memory, are left out.
+/// What a person is told of one fault, line by line (profile). Lines behind the first 1001, and those for which there is
+/// no memory, are left out.
 #[derive(Drop)]
 pub struct Note {
     alloc: Global,

@@ -348,7 +348,12 @@ const NO_ITEMS: Drive<'static> = Drive {
     answers: 0,
     status: Status::Refused,
     pairs: 0,
-    lines: "item 1 fault 1 Unit\nitem 3 fault 9 Shape\n",
+    lines: concat!(
+        "item 1 order 1: unit: the number 64, and a short address is 0 to 63\n",
+        "item 3: order: missing, and it is a whole number from 0 to 18446744073709551615\n",
+        "item 3: unit: missing, and it is a whole number from 0 to 18446744073709551615\n",
+        "item 1 fault 1 Unit\nitem 3 fault 9 Shape\n",
+    ),
     after: None,
     ..NEW
 };
@@ -361,7 +366,7 @@ const OLD_AND_NO_ITEMS: Drive<'static> = Drive {
 
 const NO_LIST: Drive<'static> = Drive {
     orders: "{}",
-    lines: "fault 12 Document\n",
+    lines: "the input is an object, and orders are an array\nfault 12 Document\n",
     ..NO_ITEMS
 };
 

@@ -1,6 +1,7 @@
 -- What a person is told beside what a command writes: of each item and each fault, by the number that stands there too.
 use Rattle.std.specs.Prelude.{◌≡◌, ◌⊎◌, ◌+◌, ℕ, List, [], ◌∷◌, ◌++◌, Ok, Err, codes}
 use Rattle.dali_notes.specs.Notes.{SomeAbout, SomeLines}
+use Rattle.dali_input.specs.declared.fault.InputFault.{InputFault}
 use Rattle.dali_input.specs.declared.fault.InputFault.TheVariants.{Json, Document}
 use Rattle.dali_input.specs.declared.setup.SetupFault.TheVariants as setup
 use Rattle.dali_input.specs.Orders.{Outcome}
@@ -14,7 +15,7 @@ use Rattle.dali_commands.specs.declared.file_command.FileCommand.TheVariants as 
 use Rattle.dali_commands.specs.Faults.{told_line}
 use Rattle.dali_commands.specs.Report.{report}
 
--- of a refused item, lines with its number; of an accepted one none, or that an earlier one has its order's number
+-- of a refused item, lines with its number; of an accepted one none, or lines with its number too
 abbrev pub IsItemNote : ℕ → Outcome → List ℕ → Type 0
 IsItemNote number (Ok order) note = (note ≡ []) ⊎ SomeAbout (codes "item") number note
 IsItemNote number (Err fault) note = SomeAbout (codes "item") number note
@@ -25,12 +26,18 @@ AreItemNotes number [] note = note ≡ []
 AreItemNotes number (outcome ∷ outcomes) note = (here : List ℕ) × (later : List ℕ)
     × IsItemNote number outcome here × AreItemNotes (number + 1) outcomes later × (note ≡ here ++ later)
 
--- of a fault that a command gave up at: of a unit or an order of a scenario, lines with the number that its line has
--- too; of an input that is no JSON or no such document, of two units at one address and of the limit, lines that tell
--- the place; of want of memory, of a failed reader and of what is too big, none
+-- of a fault of a whole input: of one that is no JSON or no such document, lines; of what is too big, of want of memory
+-- and of a failed reader, none
+abbrev pub IsInputNote : InputFault → List ℕ → Type 0
+IsInputNote Json note = SomeLines [] note
+IsInputNote Document note = SomeLines [] note
+IsInputNote _ note = note ≡ []
+
+-- of a fault that a command gave up at, the same for the same line: of a unit or an order of a scenario, lines with the
+-- number that its line has too; of two units at one address and of the limit, lines
 abbrev pub IsFaultNote : Fault → List ℕ → Type 0
-IsFaultNote (Input Json) note = SomeLines [] note
-IsFaultNote (Input Document) note = SomeLines [] note
+IsFaultNote (Input fault) note = IsInputNote fault note
+IsFaultNote (Setup (setup.Input fault)) note = IsInputNote fault note
 IsFaultNote (Setup (setup.Unit number fault)) note = SomeAbout (codes "unit") number note
 IsFaultNote (Setup (setup.Order number fault)) note = SomeAbout (codes "event") number note
 IsFaultNote (Setup setup.SameAddress) note = SomeLines [] note

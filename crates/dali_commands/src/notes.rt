@@ -36,7 +36,9 @@ fn note_fault<N: Write>(notes: &mut Output<N>, fault: Fault, note: &Note)
 {
     match fault {
         Fault::Input(InputFault::Json | InputFault::Document)
-        | Fault::Setup(SetupFault::SameAddress)
+        | Fault::Setup(
+            SetupFault::Input(InputFault::Json | InputFault::Document) | SetupFault::SameAddress,
+        )
         | Fault::Run(RunFault::Limit) => note.tell(notes),
         Fault::Setup(SetupFault::Unit(number, _)) => note.tell_about(notes, "unit", number),
         Fault::Setup(SetupFault::Order(number, _)) => note.tell_about(notes, "event", number),

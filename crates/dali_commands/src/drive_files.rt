@@ -106,7 +106,12 @@ fn write_hindrance<W: Write>(
     let name = Escaped::whole(name);
     match hindrance {
         Hindrance::Unwritten => Err(Unwritten),
-        Hindrance::Fault(fault) => write_failure(output, fault),
+        Hindrance::Fault(fault) => {
+            if fault == Fault::Input(InputFault::Memory) {
+                writeln!(output, "error: memory ran out: {name}")?;
+            }
+            write_failure(output, fault)
+        }
         Hindrance::System(cause) => {
             writeln!(output, "error: the file can't be used: {name}: {cause}")?;
             write_failure(output, fault)

@@ -13,8 +13,8 @@ use std::io::{BufWriter, ErrorKind, LineWriter, Read, Write};
 use std::process::ExitCode;
 use std::{fs, io};
 
-// What `--version` prints: `./test` compares the kit and its logic with those that the gate runs on.
-const VERSION: &str = "dali_bench 1.0, proved with rattle-kit-13f logic dac8208d650f15bf";
+// What `--version` prints: `./test` compares the logic with that of the kit that the gate runs on.
+const VERSION: &str = "dali_bench 1.0, proved with the Rattle logic dac8208d650f15bf";
 
 fn main(rt: HostRuntime) -> ExitCode {
     let status = match std::env::args(&rt) {

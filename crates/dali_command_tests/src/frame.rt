@@ -1,4 +1,4 @@
-use crate::streams::FullWriter;
+use crate::streams::TestWriter;
 use dali_commands::Status;
 use dali_commands::frame::frame;
 use dali_text::Output;
@@ -27,10 +27,10 @@ const NO_WORDS: &str = "|A3|A303 |A30311|A3G3|+A30|-A30|éé";
 
 // Tests how the command ends over an argument, and what it writes.
 fn answers(rt: &impl Abort, alloc: Global, argument: &str, status: Status, text: &str) {
-    let mut output = Output::new(Vec::new(alloc));
+    let mut output = Output::new(TestWriter::new(alloc, None));
     assert_eq!(rt; frame(argument, &mut output), status, "{argument}");
     assert_eq!(rt;
-        output.into_writer().as_slice(),
+        output.into_writer().held.as_slice(),
         text.as_bytes(),
         "{argument}"
     );
@@ -56,7 +56,7 @@ fn arguments_that_are_no_word(rt: HostRuntime) {
 // Tests a writer that fails at each place of what is written of an argument, and at the flush behind it.
 fn fails_to_write(rt: &impl Abort, alloc: Global, argument: &str, text: &str) {
     for room in 0..=text.len() {
-        let mut output = Output::new(FullWriter::new(alloc, room));
+        let mut output = Output::new(TestWriter::new(alloc, Some(room)));
         assert_eq!(rt; frame(argument, &mut output), Status::Unwritten);
         assert_eq!(rt;
             output.into_writer().held.as_slice(),

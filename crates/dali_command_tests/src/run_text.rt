@@ -1,7 +1,7 @@
 ghost use Rattle.std.specs.Prelude.{IfOk, reverse};
 ghost use Rattle.dali_trace.specs.Runs.{SendsAllProper, SendsProper};
 
-use crate::streams::FullWriter;
+use crate::streams::TestWriter;
 use dali_bank::Order;
 use dali_frame::{Frame, frame_of};
 use dali_gear::{SimBus, Unit};
@@ -174,9 +174,9 @@ fn written_of(
     journal: usize,
 ) -> Result<Vec<u8>, Fail> {
     let trace = trace_of(alloc, told)?;
-    let mut output = Output::new(Vec::new(alloc));
+    let mut output = Output::new(TestWriter::new(alloc, None));
     write_run(&mut output, single_frames, &trace, journal, &[])?;
-    Ok(output.into_writer())
+    Ok(output.into_writer().held)
 }
 
 // Tests what is written of them.
@@ -264,10 +264,10 @@ fn before_units(alloc: Global, told: &str) -> Result<Vec<u8>, AllocError> {
 #[test]
 fn units_and_their_lines(rt: HostRuntime) -> Result<(), Fail> {
     let units = units(rt.alloc())?;
-    let mut output = Output::new(Vec::new(rt.alloc()));
+    let mut output = Output::new(TestWriter::new(rt.alloc(), None));
     write_run(&mut output, false, &[], 0, &units)?;
     let text = before_units(rt.alloc(), "total 0\njournal 0\n")?;
-    assert_eq!(rt; output.into_writer().as_slice(), text.as_slice());
+    assert_eq!(rt; output.into_writer().held.as_slice(), text.as_slice());
     Ok(())
 }
 
@@ -283,7 +283,7 @@ fn fails_to_write(
     requires { SendsAllProper (reverse trace.now) }
 {
     for room in 0..text.len() {
-        let mut output = Output::new(FullWriter::new(alloc, room));
+        let mut output = Output::new(TestWriter::new(alloc, Some(room)));
         let written = write_run(&mut output, single_frames, trace, 39, units);
         assert!(rt; written.is_err(), "room for {room}");
         assert_eq!(rt; output.into_writer().held.as_slice(), &text[..room]);
@@ -340,9 +340,9 @@ fn a_whole_run(rt: HostRuntime) -> Result<(), Fail> {
     let mut bus = blank_bus(rt.alloc())?;
     let events = gtin_events(rt.alloc())?;
     let outcome = run(rt.alloc(), &mut bus, 10, &events)?;
-    let mut output = Output::new(Vec::new(rt.alloc()));
+    let mut output = Output::new(TestWriter::new(rt.alloc(), None));
     let journal = outcome.journal.len();
     write_run(&mut output, false, &outcome.trace, journal, bus.units())?;
-    assert_eq!(rt; output.into_writer().as_slice(), GTIN_TOLD.as_bytes());
+    assert_eq!(rt; output.into_writer().held.as_slice(), GTIN_TOLD.as_bytes());
     Ok(())
 }

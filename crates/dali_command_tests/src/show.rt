@@ -1,3 +1,4 @@
+use crate::streams::{Behind, TestReader, TestWriter};
 use crate::tried::{answers, fails_to_read, fails_to_write, refuses_past};
 use dali_commands::show::show;
 use dali_commands::{FileCommand, Status};
@@ -130,9 +131,10 @@ fn texts_up_to_the_limits(rt: HostRuntime) {
     let spaces = [b' '; 4096];
     let digits = [b'0'; 510];
     for input in [spaces.as_slice(), &digits] {
-        let mut output = Output::new(Vec::new(rt.alloc()));
+        let mut reader = Input::new(TestReader::new(input, Behind::Nothing));
+        let mut output = Output::new(TestWriter::new(rt.alloc(), None));
         assert_eq!(rt;
-            show(rt.alloc(), &mut Input::new(input), &mut output),
+            show(rt.alloc(), &mut reader, &mut output),
             Status::Good
         );
     }

@@ -1,72 +1,73 @@
-//! Readers and writers that fail, or that count.
+//! A reader and a writer as tests want them. There is one of each, since a command is proved anew over each type.
 
 use std::alloc::Global;
 use std::io;
 use std::io::{ErrorKind, Read, Write};
 
-/// A reader that gives all its bytes, and is interrupted before each read.
-#[derive(Drop)]
-pub struct InterruptedReader<'a> {
-    pub rest: &'a [u8],
-    pub was_interrupted: bool,
+/// What comes behind the bytes of a reader.
+#[derive(Clone, Copy)]
+pub enum Behind {
+    Nothing,
+    Failures,
+    SpacesWithoutEnd,
 }
 
-impl Read for InterruptedReader<'_> {
+/// A reader that is interrupted before each read, and gives at most 7 of its bytes at a time. It counts the spaces that
+/// it gives behind them.
+#[derive(Drop)]
+pub struct TestReader<'a> {
+    rest: &'a [u8],
+    behind: Behind,
+    was_interrupted: bool,
+    pub spaces: u64,
+}
+
+impl<'a> TestReader<'a> {
+    pub fn new(bytes: &'a [u8], behind: Behind) -> TestReader<'a> {
+        TestReader {
+            rest: bytes,
+            behind,
+            was_interrupted: false,
+            spaces: 0,
+        }
+    }
+}
+
+impl Read for TestReader<'_> {
     fn read(&mut self, buf: &mut [u8]) -> io::Result<usize> {
         self.was_interrupted = !self.was_interrupted;
         if self.was_interrupted {
             return Err(io::Error::from(ErrorKind::Interrupted));
         }
-        self.rest.read(buf)
-    }
-}
-
-/// A reader that gives bytes, at most so many at a time, and then fails.
-#[derive(Drop)]
-pub struct FailingReader<'a> {
-    pub rest: &'a [u8],
-    pub at_a_time: usize,
-}
-
-impl Read for FailingReader<'_> {
-    fn read(&mut self, buf: &mut [u8]) -> io::Result<usize> {
-        if self.rest.is_empty() {
-            return Err(io::Error::from(ErrorKind::BrokenPipe));
+        match self.behind {
+            Behind::Failures if self.rest.is_empty() => {
+                Err(io::Error::from(ErrorKind::BrokenPipe))
+            }
+            Behind::SpacesWithoutEnd if self.rest.is_empty() => {
+                buf.fill(b' ');
+                self.spaces = self.spaces.saturating_add(buf.len() as u64);
+                Ok(buf.len())
+            }
+            _ => {
+                let most = buf.len().min(7);
+                self.rest.read(&mut buf[..most])
+            }
         }
-        let count = self.rest.len().min(buf.len()).min(self.at_a_time);
-        let (given, rest) = self.rest.split_at(count);
-        buf[..count].copy_from_slice(given);
-        self.rest = rest;
-        Ok(count)
     }
 }
 
-/// A reader of spaces without end, which counts what it gave.
+/// A writer that holds all, or with a `room` so many bytes, and then fails once: at the next byte, or where none comes at
+/// the flush. What is written after that it takes, so that it shows.
 #[derive(Drop)]
-pub struct Spaces {
-    pub given: u64,
-}
-
-impl Read for Spaces {
-    fn read(&mut self, buf: &mut [u8]) -> io::Result<usize> {
-        buf.fill(b' ');
-        self.given = self.given.saturating_add(buf.len() as u64);
-        Ok(buf.len())
-    }
-}
-
-/// A writer that holds so many bytes, and then fails once: at the next byte, or where none comes at the flush. What is
-/// written after that it takes, so that it shows.
-#[derive(Drop)]
-pub struct FullWriter {
+pub struct TestWriter {
     pub held: Vec<u8>,
-    room: usize,
+    room: Option<usize>,
     has_failed: bool,
 }
 
-impl FullWriter {
-    pub fn new(alloc: Global, room: usize) -> FullWriter {
-        FullWriter {
+impl TestWriter {
+    pub fn new(alloc: Global, room: Option<usize>) -> TestWriter {
+        TestWriter {
             held: Vec::new(alloc),
             room,
             has_failed: false,
@@ -74,15 +75,13 @@ impl FullWriter {
     }
 }
 
-impl Write for FullWriter {
+impl Write for TestWriter {
     fn write(&mut self, buf: &[u8]) -> io::Result<usize> {
-        let left = self.room.saturating_sub(self.held.len());
-        let count = if self.has_failed {
-            buf.len()
-        } else {
-            left.min(buf.len())
+        let count = match self.room {
+            Some(room) if !self.has_failed => room.saturating_sub(self.held.len()).min(buf.len()),
+            _ => buf.len(),
         };
-        if count == 0 {
+        if count == 0 && !buf.is_empty() {
             self.has_failed = true;
             return Err(io::Error::from(ErrorKind::StorageFull));
         }
@@ -91,7 +90,7 @@ impl Write for FullWriter {
     }
 
     fn flush(&mut self) -> io::Result<()> {
-        if self.has_failed {
+        if self.room.is_none() || self.has_failed {
             return Ok(());
         }
         self.has_failed = true;

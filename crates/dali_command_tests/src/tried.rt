@@ -1,6 +1,6 @@
 //! What is tried on each command over a file.
 
-use crate::streams::{FailingReader, FullWriter, InterruptedReader, Spaces};
+use crate::streams::{Behind, TestReader, TestWriter};
 use dali_commands::{FileCommand, Status};
 use dali_input::Input;
 use dali_text::Output;
@@ -16,16 +16,13 @@ pub fn answers(
     status: Status,
     text: &str,
 ) {
-    let mut reader = Input::new(InterruptedReader {
-        rest: input,
-        was_interrupted: false,
-    });
-    let mut output = Output::new(Vec::new(alloc));
+    let mut reader = Input::new(TestReader::new(input, Behind::Nothing));
+    let mut output = Output::new(TestWriter::new(alloc, None));
     let ended = command.carry_out(alloc, &mut reader, &mut output);
     let case = str::from_utf8(input);
     assert_eq!(rt; ended, status, "{case:?}");
     assert_eq!(rt;
-        output.into_writer().as_slice(),
+        output.into_writer().held.as_slice(),
         text.as_bytes(),
         "{case:?}"
     );
@@ -66,29 +63,26 @@ pub fn answers_lines(
 
 /// Tests that spaces without end are refused, once one more than the limit was read.
 pub fn refuses_past(rt: &impl Abort, alloc: Global, command: FileCommand, limit: u64) {
-    let mut input = Input::new(Spaces { given: 0 });
-    let mut output = Output::new(Vec::new(alloc));
+    let mut input = Input::new(TestReader::new(&[], Behind::SpacesWithoutEnd));
+    let mut output = Output::new(TestWriter::new(alloc, None));
     let ended = command.carry_out(alloc, &mut input, &mut output);
     assert_eq!(rt; ended, Status::Refused);
     assert_eq!(rt;
-        output.into_writer().as_slice(),
+        output.into_writer().held.as_slice(),
         b"fault 13 TooBig\n".as_slice()
     );
-    assert_eq!(rt; input.into_reader().given, limit);
+    assert_eq!(rt; input.into_reader().spaces, limit);
 }
 
 /// Tests a reader that fails at each place of an input.
 pub fn fails_to_read(rt: &impl Abort, alloc: Global, command: FileCommand, input: &[u8]) {
     for count in 0..=input.len() {
-        let mut input = Input::new(FailingReader {
-            rest: &input[..count],
-            at_a_time: 7,
-        });
-        let mut output = Output::new(Vec::new(alloc));
+        let mut input = Input::new(TestReader::new(&input[..count], Behind::Failures));
+        let mut output = Output::new(TestWriter::new(alloc, None));
         let ended = command.carry_out(alloc, &mut input, &mut output);
         assert_eq!(rt; ended, Status::Failed);
         assert_eq!(rt;
-            output.into_writer().as_slice(),
+            output.into_writer().held.as_slice(),
             b"fault 21 File\n".as_slice()
         );
     }
@@ -104,8 +98,9 @@ pub fn fails_to_write(
     text: &str,
 ) {
     for room in 0..=text.len() {
-        let mut output = Output::new(FullWriter::new(alloc, room));
-        let ended = command.carry_out(alloc, &mut Input::new(input), &mut output);
+        let mut output = Output::new(TestWriter::new(alloc, Some(room)));
+        let mut input = Input::new(TestReader::new(input, Behind::Nothing));
+        let ended = command.carry_out(alloc, &mut input, &mut output);
         assert_eq!(rt; ended, Status::Unwritten);
         assert_eq!(rt;
             output.into_writer().held.as_slice(),

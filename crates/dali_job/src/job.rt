@@ -42,7 +42,7 @@ const ABOUT: &str =
 
 const TOP_HELP: &str = "\
 A file named - is standard input; not for `drive`, which has the answers there.
-`dali_bench --version` alone prints the version, and the kit that it is proved with.";
+`dali_bench --version` alone prints the version, and the logic that it is proved with.";
 
 const CHECK_ABOUT: &str = "Checks a file of orders and prints the bytes that each would write";
 

@@ -1,7 +1,7 @@
+use crate::expected::expect_that;
 use dali_commands::Status;
 use dali_commands::drive_files::drive_files;
 use std::fs::{File, Files};
-use std::process::Abort;
 use std::test::Fail;
 use std::{fs, io};
 
@@ -134,16 +134,31 @@ fn driven_files<R: Files<File = File> + AllocGlobal>(
     Ok(Driven { status, sent, told })
 }
 
-// Tests what a file has, and removes it.
-fn holds<R: Files<File = File> + AllocGlobal + Abort>(
+impl Driven {
+    // Whether the drive ended, sent and told as it had to.
+    fn is(&self, drive: &Drive<'_>, sent: &[u8]) -> bool {
+        self.status == drive.status
+            && self.sent.as_slice() == sent
+            && self.told.as_slice() == drive.lines.as_bytes()
+    }
+
+    // Whether it ended with the last line of a file's fault, and sent nothing.
+    fn is_refused(&self) -> bool {
+        self.status == Status::Failed
+            && self.sent.is_empty()
+            && self.told.ends_with(b"fault 21 File\n")
+    }
+}
+
+// Removes a file, and tells whether it had these bytes.
+fn holds<R: Files<File = File> + AllocGlobal>(
     rt: &R,
     name: &str,
     bytes: &[u8],
-) -> io::Result<()> {
+) -> io::Result<bool> {
     let held = fs::read(rt, name)?;
     fs::remove_file(rt, name)?;
-    assert_eq!(rt; held.as_slice(), bytes, "{name}");
-    Ok(())
+    Ok(held.as_slice() == bytes)
 }
 
 // Tests that no file has this name, nor the same with `.new` behind it.
@@ -152,19 +167,25 @@ fn is_absent<R: Files<File = File> + AllocGlobal>(rt: &R, name: &str) -> io::Res
     Ok(!fs::exists(rt, name)? && !fs::exists(rt, new.as_str())?)
 }
 
+// Does a drive, and tells whether it did what it had to.
+fn does<R: Files<File = File> + AllocGlobal>(rt: &R, drive: &Drive<'_>) -> io::Result<bool> {
+    let sent = drive.pair.as_bytes().repeat(rt.alloc(), drive.pairs)?;
+    Ok(driven_files(rt, drive)?.is(drive, sent.as_slice()))
+}
+
+// Whether a drive left the journal's file with what it had to, or none, and nothing beside it. They are removed.
+fn leaves<R: Files<File = File> + AllocGlobal>(rt: &R, drive: &Drive<'_>) -> io::Result<bool> {
+    let is_held = match drive.after {
+        Some(bytes) => holds(rt, drive.journal, bytes)?,
+        None => true,
+    };
+    Ok(is_held && is_absent(rt, drive.journal)?)
+}
+
 // Does a drive, and tests what it did.
-fn judge<R: Files<File = File> + AllocGlobal + Abort>(rt: &R, drive: &Drive<'_>) -> io::Result<()> {
-    let name = drive.journal;
-    let driven = driven_files(rt, drive)?;
-    let frames = drive.pair.as_bytes().repeat(rt.alloc(), drive.pairs)?;
-    assert_eq!(rt; driven.status, drive.status, "{name}");
-    assert_eq!(rt; driven.sent.as_slice(), frames.as_slice(), "{name}");
-    assert_eq!(rt; driven.told.as_slice(), drive.lines.as_bytes(), "{name}");
-    if let Some(bytes) = drive.after {
-        holds(rt, name, bytes)?;
-    }
-    assert!(rt; is_absent(rt, name)?, "{name}");
-    Ok(())
+fn judge<R: Files<File = File> + AllocGlobal>(rt: &R, drive: &Drive<'_>) -> Result<(), Fail> {
+    expect_that(does(rt, drive)?, drive.journal)?;
+    expect_that(leaves(rt, drive)?, drive.journal)
 }
 
 const NEW: Drive<'static> = Drive {
@@ -215,10 +236,11 @@ const GONE_ON: Drive<'static> = Drive {
 
 #[test]
 fn orders_are_driven(rt: HostRuntime) -> Result<(), Fail> {
-    for drive in [NEW, ENDED, KNOWN, KNOWN_AND_CUT, GONE_ON] {
-        judge(&rt, &drive)?;
-    }
-    Ok(())
+    judge(&rt, &NEW)?;
+    judge(&rt, &ENDED)?;
+    judge(&rt, &KNOWN)?;
+    judge(&rt, &KNOWN_AND_CUT)?;
+    judge(&rt, &GONE_ON)
 }
 
 // The moment is that of the orders that begin.
@@ -247,10 +269,9 @@ const GONE_ON_LATER: Drive<'static> = Drive {
 
 #[test]
 fn moments(rt: HostRuntime) -> Result<(), Fail> {
-    for drive in [AT_A_MOMENT, KNOWN_LATER, GONE_ON_LATER] {
-        judge(&rt, &drive)?;
-    }
-    Ok(())
+    judge(&rt, &AT_A_MOMENT)?;
+    judge(&rt, &KNOWN_LATER)?;
+    judge(&rt, &GONE_ON_LATER)
 }
 
 const EMPTY: Drive<'static> = Drive {
@@ -307,18 +328,13 @@ const OLD_AND_GONE_ON: Drive<'static> = Drive {
 
 #[test]
 fn journals_that_are_written_anew(rt: HostRuntime) -> Result<(), Fail> {
-    for drive in [
-        EMPTY,
-        HEADER_ALONE,
-        NO_ORDERS,
-        OLD,
-        OLD_AND_CUT,
-        OLD_AND_NO_ORDERS,
-        OLD_AND_GONE_ON,
-    ] {
-        judge(&rt, &drive)?;
-    }
-    Ok(())
+    judge(&rt, &EMPTY)?;
+    judge(&rt, &HEADER_ALONE)?;
+    judge(&rt, &NO_ORDERS)?;
+    judge(&rt, &OLD)?;
+    judge(&rt, &OLD_AND_CUT)?;
+    judge(&rt, &OLD_AND_NO_ORDERS)?;
+    judge(&rt, &OLD_AND_GONE_ON)
 }
 
 const OLD_WITH_NEW: Drive<'static> = Drive {
@@ -326,19 +342,26 @@ const OLD_WITH_NEW: Drive<'static> = Drive {
     ..OLD
 };
 
+// Drives where a folder of this name stands, and tells whether that was refused.
+fn is_refused_over<R: Files<File = File> + AllocGlobal>(rt: &R, folder: &str) -> io::Result<bool> {
+    fs::create_dir(rt, folder)?;
+    let driven = driven_files(rt, &OLD_WITH_NEW)?;
+    fs::remove_dir(rt, folder)?;
+    Ok(driven.is_refused())
+}
+
 // A drive that was stopped left a file beside the journal, and then a folder stands there.
 #[test]
 fn what_stands_where_a_journal_is_written_anew(rt: HostRuntime) -> Result<(), Fail> {
     let new = "drive_files_left.journal.new";
     fs::write(&rt, new, "what an earlier drive left")?;
     judge(&rt, &OLD_WITH_NEW)?;
-    fs::create_dir(&rt, new)?;
-    let driven = driven_files(&rt, &OLD_WITH_NEW)?;
-    fs::remove_dir(&rt, new)?;
-    assert!(rt; driven.status == Status::Failed && driven.sent.is_empty());
-    assert!(rt; driven.told.ends_with(b"fault 21 File\n"));
-    holds(&rt, OLD_WITH_NEW.journal, &OLD_SILENT)?;
-    Ok(())
+    expect_that(
+        is_refused_over(&rt, new)?,
+        "fault 21 File where a folder stands",
+    )?;
+    let is_held = holds(&rt, OLD_WITH_NEW.journal, &OLD_SILENT)?;
+    expect_that(is_held, "the old journal")
 }
 
 // Items that are refused.
@@ -404,18 +427,22 @@ const LOCKED: Drive<'static> = Drive {
 
 #[test]
 fn nothing_is_sent(rt: HostRuntime) -> Result<(), Fail> {
-    for drive in [
-        NO_ITEMS,
-        OLD_AND_NO_ITEMS,
-        NO_LIST,
-        NO_JOURNAL,
-        HALF_A_HEADER,
-        NO_RECORD,
-    ] {
-        judge(&rt, &drive)?;
-    }
-    let held = fs::create(&rt, LOCKED.journal)?;
-    assert_eq!(rt; held.try_lock().is_ok(), true);
-    judge(&rt, &LOCKED)?;
-    Ok(())
+    judge(&rt, &NO_ITEMS)?;
+    judge(&rt, &OLD_AND_NO_ITEMS)?;
+    judge(&rt, &NO_LIST)?;
+    judge(&rt, &NO_JOURNAL)?;
+    judge(&rt, &HALF_A_HEADER)?;
+    judge(&rt, &NO_RECORD)
+}
+
+// Does a drive whose journal another has locked, and tells whether it did what it had to.
+fn does_locked<R: Files<File = File> + AllocGlobal>(rt: &R, drive: &Drive<'_>) -> io::Result<bool> {
+    let held = fs::create(rt, drive.journal)?;
+    Ok(held.try_lock().is_ok() && does(rt, drive)?)
+}
+
+#[test]
+fn a_journal_that_another_drive_has(rt: HostRuntime) -> Result<(), Fail> {
+    expect_that(does_locked(&rt, &LOCKED)?, "the journal is in use")?;
+    expect_that(leaves(&rt, &LOCKED)?, "an empty journal")
 }

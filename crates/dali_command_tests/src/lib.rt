@@ -7,6 +7,8 @@ mod check;
 #[cfg(test)]
 mod drive_files;
 #[cfg(test)]
+mod expected;
+#[cfg(test)]
 mod frame;
 #[cfg(test)]
 mod job;

@@ -133,10 +133,7 @@ fn texts_up_to_the_limits(rt: HostRuntime) {
     for input in [spaces.as_slice(), &digits] {
         let mut reader = Input::new(TestReader::new(input, Behind::Nothing));
         let mut output = Output::new(TestWriter::new(rt.alloc(), None));
-        assert_eq!(rt;
-            show(rt.alloc(), &mut reader, &mut output),
-            Status::Good
-        );
+        assert_eq!(rt; show(rt.alloc(), &mut reader, &mut output), Status::Good);
     }
 }
 

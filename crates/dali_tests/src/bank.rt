@@ -1,16 +1,36 @@
+use crate::expected::expect_that;
 use dali_bank::{BLANK, BankFault, Draft, Field, Order, Shown, Value, laws, read_field};
+use std::alloc::Global;
 use std::test::Fail;
 
 // The order of a draft that sets these fields.
 fn order_of(values: &[(Field, Value<'_>)]) -> Result<Order, BankFault> {
     let mut draft = Draft::new(7, 5)?;
-    for &(field, value) in values {
-        draft.set(field, value)?;
-    }
+    set_fields(&mut draft, values)?;
     match draft.finish() {
         Ok(order) => Ok(order),
         Err((_, fault)) => Err(fault),
     }
+}
+
+fn set_fields(draft: &mut Draft, values: &[(Field, Value<'_>)]) -> Result<(), BankFault> {
+    for &(field, value) in values {
+        draft.set(field, value)?;
+    }
+    Ok(())
+}
+
+// The fault of a draft that sets this field alone.
+fn fault_of(field: Field, value: Value<'_>) -> Option<BankFault> {
+    order_of(&[(field, value)]).err()
+}
+
+fn has_updates(order: &Order, updates: &[(u8, u8)]) -> bool {
+    order.updates() == updates
+}
+
+fn shows(bank: &[u8], field: Field, shown: Shown) -> bool {
+    read_field(bank, field) == shown
 }
 
 // A blank bank with the order's bytes.
@@ -36,56 +56,67 @@ const GTINS: [(&str, [u8; 6]); 8] = [
     ("00012345600012", [0x00, 0x02, 0xdf, 0xda, 0xe8, 0x0c]),
 ];
 
+fn judge_gtin(text: &str, bytes: &[u8; 6]) -> Result<(), Fail> {
+    let order = order_of(&[(Field::Gtin, Value::Digits(text))])?;
+    let [a, b, c, d, e, f] = *bytes;
+    let updates = [(3, a), (4, b), (5, c), (6, d), (7, e), (8, f)];
+    let is_right = order.id() == 7 && order.unit() == 5 && has_updates(&order, &updates);
+    expect_that(is_right, text)
+}
+
 #[test]
 fn gtins_make_six_updates(rt: HostRuntime) -> Result<(), Fail> {
-    for (text, bytes) in GTINS {
-        let order = order_of(&[(Field::Gtin, Value::Digits(text))])?;
-        assert_eq!(rt; (order.id(), order.unit()), (7, 5));
-        let [a, b, c, d, e, f] = bytes;
-        let updates = [(3, a), (4, b), (5, c), (6, d), (7, e), (8, f)];
-        assert_eq!(rt; order.updates(), updates.as_slice(), "at {text}");
+    for (text, bytes) in &GTINS {
+        judge_gtin(text, bytes)?;
+    }
+    Ok(())
+}
+
+fn judge_unknown(order: &Order, field: Field) -> Result<(), Fail> {
+    let updates = order.updates();
+    expect_that(
+        updates.len() == field.length() as usize,
+        "an update of each byte",
+    )?;
+    for (i, &(location, byte)) in updates.iter().enumerate() {
+        let is_next = location as usize == field.first() as usize + i;
+        expect_that(is_next, "the field's locations")?;
+        expect_that(byte == 0xff, "bytes of FFh alone")?;
     }
     Ok(())
 }
 
 #[test]
 fn an_unknown_field_is_ff_again_and_again(rt: HostRuntime) -> Result<(), Fail> {
-    for field in Field::ALL {
+    for &field in &Field::ALL {
         let order = order_of(&[(field, Value::Unknown)])?;
-        assert_eq!(rt; order.updates().len(), field.length() as usize);
-        for (i, &(location, byte)) in order.updates().iter().enumerate() {
-            assert_eq!(rt; location as usize, field.first() as usize + i);
-            assert_eq!(rt; byte, 0xff);
-        }
+        judge_unknown(&order, field)?;
     }
     Ok(())
 }
 
+const NO_GTINS: [&str; 5] = [
+    "4006381333932",
+    "400638133393l",
+    "+006381333931",
+    "4006381333931 ",
+    "４００６３８１３",
+];
+
 #[test]
-fn texts_that_are_no_gtin(rt: HostRuntime) {
+fn texts_that_are_no_gtin(rt: HostRuntime) -> Result<(), Fail> {
     // The zeros have a sum that is a multiple of ten at each length.
     let zeros = "00000000000000000000";
     for length in 0..zeros.len() {
         let is_length = matches!(length, 8 | 12 | 13 | 14);
-        assert_eq!(rt;
-            order_of(&[(Field::Gtin, Value::Digits(&zeros[..length]))]).is_ok(),
-            is_length,
-            "{length} zeros"
-        );
+        let fault = fault_of(Field::Gtin, Value::Digits(&zeros[..length]));
+        expect_that(fault.is_none() == is_length, "a length of GTINs")?;
     }
-    for text in [
-        "4006381333932",
-        "400638133393l",
-        "+006381333931",
-        "4006381333931 ",
-        "４００６３８１３",
-    ] {
-        assert_eq!(rt;
-            order_of(&[(Field::Gtin, Value::Digits(text))]).err(),
-            Some(BankFault::Gtin),
-            "at {text}"
-        );
+    for text in &NO_GTINS {
+        let fault = fault_of(Field::Gtin, Value::Digits(text));
+        expect_that(fault == Some(BankFault::Gtin), text)?;
     }
+    Ok(())
 }
 
 // Each number field's least and most, and the bytes of the most.
@@ -102,174 +133,236 @@ const RANGES: [(Field, u64, u64, &[u8]); 10] = [
     (Field::Distribution, 0, 254, &[0xfe]),
 ];
 
-#[test]
-fn numbers_end_where_their_range_does(rt: HostRuntime) -> Result<(), Fail> {
-    for (field, least, most, bytes) in RANGES {
-        assert!(rt;
-            order_of(&[(field, Value::Number(least))]).is_ok(),
-            "at {field:?}"
-        );
-        let order = order_of(&[(field, Value::Number(most))])?;
-        assert_eq!(rt; order.updates().len(), bytes.len(), "at {field:?}");
-        for (&(_, byte), &expected) in order.updates().iter().zip(bytes) {
-            assert_eq!(rt; byte, expected, "at {field:?}");
+fn has_bytes(updates: &[(u8, u8)], bytes: &[u8]) -> bool {
+    for (&(_, byte), &wanted) in updates.iter().zip(bytes) {
+        if byte != wanted {
+            return false;
         }
-        for number in [least.wrapping_sub(1), most + 1, u64::MAX] {
-            assert_eq!(rt;
-                order_of(&[(field, Value::Number(number))]).err(),
-                Some(BankFault::Range),
-                "{number} at {field:?}"
-            );
-        }
+    }
+    updates.len() == bytes.len()
+}
+
+fn judge_most(field: Field, most: u64, bytes: &[u8]) -> Result<(), Fail> {
+    let order = order_of(&[(field, Value::Number(most))])?;
+    expect_that(
+        has_bytes(order.updates(), bytes),
+        "the bytes of the most of each field",
+    )
+}
+
+fn judge_range(field: Field, least: u64, most: u64) -> Result<(), Fail> {
+    let fault = fault_of(field, Value::Number(least));
+    expect_that(fault.is_none(), "an order of the least of each field")?;
+    for number in [least.wrapping_sub(1), most.wrapping_add(1), u64::MAX] {
+        let fault = fault_of(field, Value::Number(number));
+        expect_that(
+            fault == Some(BankFault::Range),
+            "a fault past each end of a range",
+        )?;
     }
     Ok(())
 }
 
 #[test]
-fn refused_values(rt: HostRuntime) {
-    let letters = "AAAAAAAAAAAAAAAAAAAAAAAAAAAAAAAAAAAAAAAAAAAAAAAAAAAAAAAAAAAAA";
-    for (field, value, fault) in [
-        (Field::Gtin, Value::Number(4006381333931), BankFault::Kind),
-        (Field::Gtin, Value::Hex("00"), BankFault::Kind),
-        (Field::Identification, Value::Text("00"), BankFault::Kind),
-        (Field::Year, Value::Digits("24"), BankFault::Kind),
-        (Field::Colour, Value::Number(1), BankFault::Kind),
-        (Field::Week, Value::Number(54), BankFault::Range),
-        (Field::Year, Value::Number(100), BankFault::Range),
-        (Field::Cct, Value::Number(65534), BankFault::Range),
-        (Field::Gtin, Value::Digits("4006381333932"), BankFault::Gtin),
-        (Field::Colour, Value::Text(&letters[..25]), BankFault::Text),
-        (Field::Colour, Value::Text(""), BankFault::Text),
-        (Field::Colour, Value::Text("RAL\n9016"), BankFault::Text),
-        (Field::Colour, Value::Text("weiß"), BankFault::Text),
-        (Field::Luminaire, Value::Text(letters), BankFault::Text),
-        (
-            Field::Identification,
-            Value::Hex("001122334455667"),
-            BankFault::Text,
-        ),
-        (
-            Field::Identification,
-            Value::Hex("00112233445566778"),
-            BankFault::Text,
-        ),
-        (
-            Field::Identification,
-            Value::Hex("001122334455667g"),
-            BankFault::Text,
-        ),
-    ] {
-        assert_eq!(rt;
-            order_of(&[(field, value)]).err(),
-            Some(fault),
-            "{value:?} at {field:?}"
-        );
+fn numbers_end_where_their_range_does(rt: HostRuntime) -> Result<(), Fail> {
+    for &(field, least, most, bytes) in &RANGES {
+        judge_range(field, least, most)?;
+        judge_most(field, most, bytes)?;
+    }
+    Ok(())
+}
+
+// Values of 25 letters for the colour and 61 for the luminaire are too long by one.
+const REFUSED: [(Field, Value<'static>, BankFault); 17] = [
+    (Field::Gtin, Value::Number(4006381333931), BankFault::Kind),
+    (Field::Gtin, Value::Hex("00"), BankFault::Kind),
+    (Field::Identification, Value::Text("00"), BankFault::Kind),
+    (Field::Year, Value::Digits("24"), BankFault::Kind),
+    (Field::Colour, Value::Number(1), BankFault::Kind),
+    (Field::Week, Value::Number(54), BankFault::Range),
+    (Field::Year, Value::Number(100), BankFault::Range),
+    (Field::Cct, Value::Number(65534), BankFault::Range),
+    (Field::Gtin, Value::Digits("4006381333932"), BankFault::Gtin),
+    (
+        Field::Colour,
+        Value::Text("AAAAAAAAAAAAAAAAAAAAAAAAA"),
+        BankFault::Text,
+    ),
+    (Field::Colour, Value::Text(""), BankFault::Text),
+    (Field::Colour, Value::Text("RAL\n9016"), BankFault::Text),
+    (Field::Colour, Value::Text("weiß"), BankFault::Text),
+    (
+        Field::Luminaire,
+        Value::Text("AAAAAAAAAAAAAAAAAAAAAAAAAAAAAAAAAAAAAAAAAAAAAAAAAAAAAAAAAAAAA"),
+        BankFault::Text,
+    ),
+    (
+        Field::Identification,
+        Value::Hex("001122334455667"),
+        BankFault::Text,
+    ),
+    (
+        Field::Identification,
+        Value::Hex("00112233445566778"),
+        BankFault::Text,
+    ),
+    (
+        Field::Identification,
+        Value::Hex("001122334455667g"),
+        BankFault::Text,
+    ),
+];
+
+#[test]
+fn refused_values(rt: HostRuntime) -> Result<(), Fail> {
+    for &(field, value, fault) in &REFUSED {
+        let found = fault_of(field, value);
+        expect_that(found == Some(fault), "the fault of each value")?;
+    }
+    Ok(())
+}
+
+// The draft that is handed back where no field is set.
+fn draft_handed_back() -> Result<Draft, Fail> {
+    match Draft::new(1, 5)?.finish() {
+        Err((draft, BankFault::Empty)) => Ok(draft),
+        _ => Err(Fail::from("nothing is set")),
+    }
+}
+
+fn judge_years(draft: &mut Draft) -> Result<(), Fail> {
+    draft.set(Field::Year, Value::Number(24))?;
+    let again = draft.set(Field::Year, Value::Unknown);
+    expect_that(
+        matches!(again, Err(BankFault::Twice)),
+        "a fault of a year set twice",
+    )?;
+    let late = draft.set(Field::Year, Value::Number(100));
+    expect_that(
+        matches!(late, Err(BankFault::Range)),
+        "a fault of the year's range",
+    )
+}
+
+fn judge_year_alone(draft: Draft) -> Result<(), Fail> {
+    match draft.finish() {
+        Ok(order) => expect_that(has_updates(&order, &[(0x13, 24)]), "the year's update"),
+        Err(_) => Err(Fail::from("a year is set")),
     }
 }
 
 #[test]
 fn refused_drafts(rt: HostRuntime) -> Result<(), Fail> {
-    assert!(rt; Draft::new(1, 63).is_ok());
-    assert!(rt; matches!(Draft::new(1, 64), Err(BankFault::Unit)));
-    let draft = Draft::new(1, 5)?;
-    let Err((mut draft, BankFault::Empty)) = draft.finish() else {
-        return Err(Fail::from("nothing is set"));
-    };
-    draft.set(Field::Year, Value::Number(24))?;
-    assert_eq!(rt;
-        draft.set(Field::Year, Value::Unknown),
-        Err(BankFault::Twice)
-    );
-    assert_eq!(rt;
-        draft.set(Field::Year, Value::Number(100)),
-        Err(BankFault::Range)
-    );
-    let Ok(order) = draft.finish() else {
-        return Err(Fail::from("a year is set"));
-    };
-    assert_eq!(rt; order.updates(), [(0x13, 24)].as_slice());
-    Ok(())
+    expect_that(Draft::new(1, 63).is_ok(), "a draft for unit 63")?;
+    let past = Draft::new(1, 64);
+    expect_that(matches!(past, Err(BankFault::Unit)), "a fault of unit 64")?;
+    let mut draft = draft_handed_back()?;
+    judge_years(&mut draft)?;
+    judge_year_alone(draft)
+}
+
+const VOLTAGES: [(Value<'static>, Value<'static>, Option<BankFault>); 6] = [
+    (
+        Value::Number(277),
+        Value::Number(220),
+        Some(BankFault::Voltage),
+    ),
+    (
+        Value::Number(256),
+        Value::Number(255),
+        Some(BankFault::Voltage),
+    ),
+    (Value::Number(220), Value::Number(220), None),
+    (Value::Number(220), Value::Number(277), None),
+    (Value::Number(220), Value::Unknown, None),
+    (Value::Unknown, Value::Number(220), None),
+];
+
+// The draft that is handed back where the voltages cross.
+fn draft_of_crossed_voltages() -> Result<Draft, Fail> {
+    let mut draft = Draft::new(1, 5)?;
+    draft.set(Field::MinVoltage, Value::Number(277))?;
+    draft.set(Field::MaxVoltage, Value::Number(220))?;
+    match draft.finish() {
+        Err((draft, BankFault::Voltage)) => Ok(draft),
+        _ => Err(Fail::from("the voltages cross")),
+    }
 }
 
 #[test]
 fn the_minimum_voltage_is_at_most_the_maximum(rt: HostRuntime) -> Result<(), Fail> {
-    for (least, most, fault) in [
-        (
-            Value::Number(277),
-            Value::Number(220),
-            Some(BankFault::Voltage),
-        ),
-        (
-            Value::Number(256),
-            Value::Number(255),
-            Some(BankFault::Voltage),
-        ),
-        (Value::Number(220), Value::Number(220), None),
-        (Value::Number(220), Value::Number(277), None),
-        (Value::Number(220), Value::Unknown, None),
-        (Value::Unknown, Value::Number(220), None),
-    ] {
-        let values = [(Field::MinVoltage, least), (Field::MaxVoltage, most)];
-        assert_eq!(rt; order_of(&values).err(), fault, "{least:?} to {most:?}");
+    for &(least, most, fault) in &VOLTAGES {
+        let found = order_of(&[(Field::MinVoltage, least), (Field::MaxVoltage, most)]).err();
+        expect_that(found == fault, "the fault of each two voltages")?;
     }
-    let mut draft = Draft::new(1, 5)?;
-    draft.set(Field::MinVoltage, Value::Number(277))?;
-    draft.set(Field::MaxVoltage, Value::Number(220))?;
-    let Err((mut draft, BankFault::Voltage)) = draft.finish() else {
-        return Err(Fail::from("the voltages cross"));
-    };
-    assert_eq!(rt;
-        draft.set(Field::MinVoltage, Value::Number(1)),
-        Err(BankFault::Twice)
-    );
-    Ok(())
+    let mut draft = draft_of_crossed_voltages()?;
+    let again = draft.set(Field::MinVoltage, Value::Number(1));
+    expect_that(
+        matches!(again, Err(BankFault::Twice)),
+        "a fault of a voltage set twice",
+    )
+}
+
+const ALL_SET: [(Field, Value<'static>); 14] = [
+    (
+        Field::Luminaire,
+        Value::Text("BBBBBBBBBBBBBBBBBBBBBBBBBBBBBBBBBBBBBBBBBBBBBBBBBBBBBBBBBBBB"),
+    ),
+    (Field::Colour, Value::Text("AAAAAAAAAAAAAAAAAAAAAAAA")),
+    (Field::Gtin, Value::Digits("4006381333931")),
+    (Field::Identification, Value::Hex("0011223344556677")),
+    (Field::Year, Value::Number(24)),
+    (Field::Week, Value::Number(53)),
+    (Field::InputPower, Value::Number(40)),
+    (Field::MinDimPower, Value::Number(4)),
+    (Field::MinVoltage, Value::Number(220)),
+    (Field::MaxVoltage, Value::Number(240)),
+    (Field::LightOutput, Value::Number(5000)),
+    (Field::Cri, Value::Number(80)),
+    (Field::Cct, Value::Number(4000)),
+    (Field::Distribution, Value::Number(1)),
+];
+
+// The bytes of the GTIN and the identification, and of the numbers.
+const LOW: [u8; 14] = [
+    0x03, 0xa4, 0xce, 0xef, 0xad, 0xab, 0x00, 0x11, 0x22, 0x33, 0x44, 0x55, 0x66, 0x77,
+];
+
+const NUMBERS: [u8; 17] = [
+    0x18, 0x35, 0x00, 0x28, 0x00, 0x04, 0x00, 0xdc, 0x00, 0xf0, 0x00, 0x13, 0x88, 0x50, 0x0f, 0xa0,
+    0x01,
+];
+
+fn has_at(bank: &[u8; 120], first: usize, bytes: &[u8]) -> bool {
+    match bank.get(first..) {
+        Some(rest) => rest.starts_with(bytes),
+        None => false,
+    }
+}
+
+fn judge_all(bank: &[u8; 120]) -> Result<(), Fail> {
+    expect_that(has_at(bank, 0x00, &BLANK[..0x03]), "the bytes up to 02h")?;
+    expect_that(has_at(bank, 0x03, &LOW), "the bytes up to 10h")?;
+    expect_that(has_at(bank, 0x11, &BLANK[0x11..0x13]), "the content format")?;
+    expect_that(has_at(bank, 0x13, &NUMBERS), "the bytes of the numbers")?;
+    expect_that(has_at(bank, 0x24, &[0x41; 24]), "the bytes of the colour")?;
+    expect_that(has_at(bank, 0x3c, &[0x42; 60]), "the luminaire's bytes")
 }
 
 #[test]
 fn the_order_of_all_fields(rt: HostRuntime) -> Result<(), Fail> {
-    let order = order_of(&[
-        (
-            Field::Luminaire,
-            Value::Text("BBBBBBBBBBBBBBBBBBBBBBBBBBBBBBBBBBBBBBBBBBBBBBBBBBBBBBBBBBBB"),
-        ),
-        (Field::Colour, Value::Text("AAAAAAAAAAAAAAAAAAAAAAAA")),
-        (Field::Gtin, Value::Digits("4006381333931")),
-        (Field::Identification, Value::Hex("0011223344556677")),
-        (Field::Year, Value::Number(24)),
-        (Field::Week, Value::Number(53)),
-        (Field::InputPower, Value::Number(40)),
-        (Field::MinDimPower, Value::Number(4)),
-        (Field::MinVoltage, Value::Number(220)),
-        (Field::MaxVoltage, Value::Number(240)),
-        (Field::LightOutput, Value::Number(5000)),
-        (Field::Cri, Value::Number(80)),
-        (Field::Cct, Value::Number(4000)),
-        (Field::Distribution, Value::Number(1)),
-    ])?;
-    assert_eq!(rt; order.updates().len(), 115);
-    let bank = laid(&order);
-    let low = [
-        0x03, 0xa4, 0xce, 0xef, 0xad, 0xab, 0x00, 0x11, 0x22, 0x33, 0x44, 0x55, 0x66, 0x77,
-    ];
-    let numbers = [
-        0x18, 0x35, 0x00, 0x28, 0x00, 0x04, 0x00, 0xdc, 0x00, 0xf0, 0x00, 0x13, 0x88, 0x50, 0x0f,
-        0xa0, 0x01,
-    ];
-    assert_eq!(rt; &bank[..0x03], &BLANK[..0x03]);
-    assert_eq!(rt; &bank[0x03..0x11], low.as_slice());
-    assert_eq!(rt; &bank[0x11..0x13], &BLANK[0x11..0x13]);
-    assert_eq!(rt; &bank[0x13..0x24], numbers.as_slice());
-    assert_eq!(rt; &bank[0x24..0x3c], [0x41; 24].as_slice());
-    assert_eq!(rt; &bank[0x3c..], [0x42; 60].as_slice());
-    Ok(())
+    let order = order_of(&ALL_SET)?;
+    expect_that(order.updates().len() == 115, "115 updates")?;
+    judge_all(&laid(&order))
 }
+
+const IDENTIFICATION: [u8; 8] = [0x01, 0x23, 0x45, 0x67, 0x89, 0xab, 0xcd, 0xef];
 
 #[test]
 fn identification_digits_in_either_case(rt: HostRuntime) -> Result<(), Fail> {
-    for text in ["0123456789ABCDEF", "0123456789abcdef", "0123456789aBcDeF"] {
-        let bank = laid(&order_of(&[(Field::Identification, Value::Hex(text))])?);
-        let bytes = [0x01, 0x23, 0x45, 0x67, 0x89, 0xab, 0xcd, 0xef];
-        assert_eq!(rt; &bank[0x09..0x11], bytes.as_slice(), "at {text}");
+    for &text in &["0123456789ABCDEF", "0123456789abcdef", "0123456789aBcDeF"] {
+        let order = order_of(&[(Field::Identification, Value::Hex(text))])?;
+        expect_that(has_at(&laid(&order), 0x09, &IDENTIFICATION), text)?;
     }
     Ok(())
 }
@@ -281,8 +374,8 @@ const SHORT: [u8; 21] = [
 ];
 
 #[test]
-fn a_short_bank_is_shown(rt: HostRuntime) {
-    for field in Field::ALL {
+fn a_short_bank_is_shown(rt: HostRuntime) -> Result<(), Fail> {
+    for &field in &Field::ALL {
         let shown = match field {
             Field::Gtin => Shown::Number(4006381333931),
             Field::Identification => Shown::Hex,
@@ -290,127 +383,178 @@ fn a_short_bank_is_shown(rt: HostRuntime) {
             Field::Week => Shown::Number(53),
             _ => Shown::Absent,
         };
-        assert_eq!(rt; read_field(&SHORT, field), shown, "at {field:?}");
+        expect_that(shows(&SHORT, field, shown), "each field of a short bank")?;
     }
-    assert_eq!(rt; read_field(&SHORT[..20], Field::Week), Shown::Absent);
-    assert_eq!(rt; read_field(&SHORT[..20], Field::Year), Shown::Number(24));
+    let shorter = &SHORT[..20];
+    expect_that(shows(shorter, Field::Week, Shown::Absent), "no week")?;
+    expect_that(shows(shorter, Field::Year, Shown::Number(24)), "a year")
 }
 
 #[test]
-fn bytes_that_stand_for_no_value_are_raw(rt: HostRuntime) {
+fn bytes_that_stand_for_no_value_are_raw(rt: HostRuntime) -> Result<(), Fail> {
     let mut bank = SHORT;
     bank[0x13] = 0x64;
     bank[0x08] = 0xac;
-    assert_eq!(rt; read_field(&bank, Field::Year), Shown::Raw);
-    assert_eq!(rt; read_field(&bank, Field::Gtin), Shown::Raw);
+    expect_that(shows(&bank, Field::Year, Shown::Raw), "no year of 100")?;
+    expect_that(shows(&bank, Field::Gtin, Shown::Raw), "no GTIN")?;
     // 00000096385074, and a number of 15 digits.
     bank[0x03..0x09].copy_from_slice(&[0x00, 0x00, 0x05, 0xbe, 0xb8, 0x32]);
-    assert_eq!(rt; read_field(&bank, Field::Gtin), Shown::Number(96385074));
+    expect_that(
+        shows(&bank, Field::Gtin, Shown::Number(96385074)),
+        "a GTIN of 8 digits",
+    )?;
     bank[0x03..0x09].copy_from_slice(&[0xff, 0xff, 0xff, 0xff, 0xff, 0xfe]);
-    assert_eq!(rt; read_field(&bank, Field::Gtin), Shown::Raw);
+    expect_that(
+        shows(&bank, Field::Gtin, Shown::Raw),
+        "no GTIN of 15 digits",
+    )
 }
 
-#[test]
-fn texts_are_shown_up_to_their_zeros(rt: HostRuntime) {
+// Whether a bank with these bytes as its colour shows it so.
+fn shows_colour(bytes: &[u8; 24], shown: Shown) -> bool {
     let mut bank = BLANK;
-    bank[0x24..0x3c].copy_from_slice(b"RAL 9016\0\0\0\0\0\0\0\0\0\0\0\0\0\0\0\0");
-    assert_eq!(rt; read_field(&bank, Field::Colour), Shown::Text(8));
-    bank[0x3b] = b'!';
-    assert_eq!(rt; read_field(&bank, Field::Colour), Shown::Raw);
-    bank[0x24..0x3c].copy_from_slice(&[b'~'; 24]);
-    assert_eq!(rt; read_field(&bank, Field::Colour), Shown::Text(24));
-    bank[0x24..0x3c].copy_from_slice(&[0; 24]);
-    assert_eq!(rt; read_field(&bank, Field::Colour), Shown::Raw);
+    bank[0x24..0x3c].copy_from_slice(bytes);
+    shows(&bank, Field::Colour, shown)
 }
 
 #[test]
-fn orders_of_pairs(rt: HostRuntime) {
-    for (number, unit, pairs, is_order) in [
-        (0, 0, [(0x13, 24)].as_slice(), true),
-        (u64::MAX, 63, &[(0x13, 24)], true),
-        (1, 64, &[(0x13, 24)], false),
-        (1, 255, &[(0x13, 24)], false),
-        (1, 5, &[], false),
-        (1, 5, &[(0x00, 24)], false),
-        (1, 5, &[(0x02, 24)], false),
-        (1, 5, &[(0x03, 24)], true),
-        (1, 5, &[(0x10, 24)], true),
-        (1, 5, &[(0x11, 24)], false),
-        (1, 5, &[(0x12, 24)], false),
-        (1, 5, &[(0x13, 24)], true),
-        (1, 5, &[(0x77, 24)], true),
-        (1, 5, &[(0x78, 24)], false),
-        (1, 5, &[(0xFF, 24)], false),
-        (1, 5, &[(0x03, 0x00), (0x04, 0xFF)], true),
-        (1, 5, &[(0x10, 1), (0x13, 2)], true),
-        (1, 5, &[(0x10, 1), (0x11, 2)], false),
-        (1, 5, &[(0x12, 1), (0x13, 2)], false),
-        (1, 5, &[(0x77, 1), (0x78, 2)], false),
-        (1, 5, &[(0x13, 1), (0x13, 1)], false),
-        (1, 5, &[(0x13, 1), (0x13, 2)], false),
-        (1, 5, &[(0x14, 1), (0x13, 2)], false),
-        (1, 5, &[(0x13, 1), (0x15, 2), (0x14, 3)], false),
-    ] {
-        let made = Order::from_pairs(number, unit, pairs);
-        assert_eq!(rt; made.is_some(), is_order, "{unit} {pairs:?}");
-        if let Some(order) = made {
-            assert_eq!(rt; (order.id(), order.unit()), (number, unit));
-            assert_eq!(rt; order.updates(), pairs);
+fn texts_are_shown_up_to_their_zeros(rt: HostRuntime) -> Result<(), Fail> {
+    expect_that(
+        shows_colour(b"RAL 9016\0\0\0\0\0\0\0\0\0\0\0\0\0\0\0\0", Shown::Text(8)),
+        "a text up to its zeros",
+    )?;
+    expect_that(
+        shows_colour(b"RAL 9016\0\0\0\0\0\0\0\0\0\0\0\0\0\0\0!", Shown::Raw),
+        "no text with a letter behind a zero",
+    )?;
+    expect_that(
+        shows_colour(&[b'~'; 24], Shown::Text(24)),
+        "a text without zeros",
+    )?;
+    expect_that(shows_colour(&[0; 24], Shown::Raw), "no text of zeros alone")
+}
+
+// Numbers, units and pairs, and whether they make an order.
+const PAIRS: [(u64, u8, &[(u8, u8)], bool); 24] = [
+    (0, 0, &[(0x13, 24)], true),
+    (u64::MAX, 63, &[(0x13, 24)], true),
+    (1, 64, &[(0x13, 24)], false),
+    (1, 255, &[(0x13, 24)], false),
+    (1, 5, &[], false),
+    (1, 5, &[(0x00, 24)], false),
+    (1, 5, &[(0x02, 24)], false),
+    (1, 5, &[(0x03, 24)], true),
+    (1, 5, &[(0x10, 24)], true),
+    (1, 5, &[(0x11, 24)], false),
+    (1, 5, &[(0x12, 24)], false),
+    (1, 5, &[(0x13, 24)], true),
+    (1, 5, &[(0x77, 24)], true),
+    (1, 5, &[(0x78, 24)], false),
+    (1, 5, &[(0xFF, 24)], false),
+    (1, 5, &[(0x03, 0x00), (0x04, 0xFF)], true),
+    (1, 5, &[(0x10, 1), (0x13, 2)], true),
+    (1, 5, &[(0x10, 1), (0x11, 2)], false),
+    (1, 5, &[(0x12, 1), (0x13, 2)], false),
+    (1, 5, &[(0x77, 1), (0x78, 2)], false),
+    (1, 5, &[(0x13, 1), (0x13, 1)], false),
+    (1, 5, &[(0x13, 1), (0x13, 2)], false),
+    (1, 5, &[(0x14, 1), (0x13, 2)], false),
+    (1, 5, &[(0x13, 1), (0x15, 2), (0x14, 3)], false),
+];
+
+fn judge_pairs(number: u64, unit: u8, pairs: &[(u8, u8)], is_order: bool) -> Result<(), Fail> {
+    match Order::from_pairs(number, unit, pairs) {
+        Some(order) => {
+            expect_that(is_order, "no order of pairs out of place")?;
+            expect_that(order.id() == number && order.unit() == unit, "number, unit")?;
+            expect_that(has_updates(&order, pairs), "the pairs of each order")
         }
+        None => expect_that(!is_order, "an order of pairs in place"),
     }
 }
 
 #[test]
-fn an_order_of_all_places(rt: HostRuntime) -> Result<(), Fail> {
-    let mut pairs = Vec::new(rt.alloc());
+fn orders_of_pairs(rt: HostRuntime) -> Result<(), Fail> {
+    for &(number, unit, pairs, is_order) in &PAIRS {
+        judge_pairs(number, unit, pairs, is_order)?;
+    }
+    Ok(())
+}
+
+fn push_all_places(pairs: &mut Vec<(u8, u8)>) -> Result<(), Fail> {
     for location in 0x03..=0x77u8 {
         if location != 0x11 && location != 0x12 {
             pairs.push((location, 0xFF))?;
         }
     }
-    assert_eq!(rt; pairs.len(), 115);
-    let order = Order::from_pairs(1, 5, &pairs).ok_or("an order")?;
-    assert_eq!(rt; order.updates(), pairs.as_slice());
-    pairs.push((0x78, 0xFF))?;
-    assert!(rt; Order::from_pairs(1, 5, &pairs).is_none());
     Ok(())
+}
+
+fn judge_all_places(pairs: &[(u8, u8)]) -> Result<(), Fail> {
+    expect_that(pairs.len() == 115, "115 places")?;
+    let order = Order::from_pairs(1, 5, pairs).ok_or("an order")?;
+    expect_that(has_updates(&order, pairs), "an update of each place")
+}
+
+#[test]
+fn an_order_of_all_places(rt: HostRuntime) -> Result<(), Fail> {
+    let mut pairs = Vec::new(rt.alloc());
+    push_all_places(&mut pairs)?;
+    judge_all_places(&pairs)?;
+    pairs.push((0x78, 0xFF))?;
+    expect_that(
+        Order::from_pairs(1, 5, &pairs).is_none(),
+        "no order with a place past the last",
+    )
+}
+
+// Numbers, units and pairs, and whether their order is the same as order 7 for unit 5.
+const OTHERS: [(u64, u8, &[(u8, u8)], bool); 8] = [
+    (7, 5, &[(0x13, 24), (0x14, 53)], true),
+    (8, 5, &[(0x13, 24), (0x14, 53)], false),
+    (7, 6, &[(0x13, 24), (0x14, 53)], false),
+    (7, 5, &[(0x13, 25), (0x14, 53)], false),
+    (7, 5, &[(0x13, 24), (0x14, 52)], false),
+    (7, 5, &[(0x13, 24), (0x15, 53)], false),
+    (7, 5, &[(0x13, 24)], false),
+    (7, 5, &[(0x13, 24), (0x14, 53), (0x15, 0)], false),
+];
+
+fn judge_same(order: &Order, other: &Order, is_same: bool) -> Result<(), Fail> {
+    expect_that(order.same(other) == is_same, "the same order")?;
+    expect_that(
+        other.same(order) == is_same,
+        "the same order, asked the other",
+    )
 }
 
 #[test]
 fn orders_that_are_the_same(rt: HostRuntime) -> Result<(), Fail> {
     let order = Order::from_pairs(7, 5, &[(0x13, 24), (0x14, 53)]).ok_or("an order")?;
-    assert!(rt; order.same(&order.copy()));
-    for (number, unit, pairs, is_same) in [
-        (7, 5, [(0x13, 24), (0x14, 53)].as_slice(), true),
-        (8, 5, &[(0x13, 24), (0x14, 53)], false),
-        (7, 6, &[(0x13, 24), (0x14, 53)], false),
-        (7, 5, &[(0x13, 25), (0x14, 53)], false),
-        (7, 5, &[(0x13, 24), (0x14, 52)], false),
-        (7, 5, &[(0x13, 24), (0x15, 53)], false),
-        (7, 5, &[(0x13, 24)], false),
-        (7, 5, &[(0x13, 24), (0x14, 53), (0x15, 0)], false),
-    ] {
+    expect_that(order.same(&order.copy()), "a copy that is the same")?;
+    for &(number, unit, pairs, is_same) in &OTHERS {
         let other = Order::from_pairs(number, unit, pairs).ok_or("another order")?;
-        assert_eq!(rt; order.same(&other), is_same, "{number} {unit} {pairs:?}");
-        assert_eq!(rt; other.same(&order), is_same, "{number} {unit} {pairs:?}");
+        judge_same(&order, &other, is_same)?;
     }
     Ok(())
 }
 
 #[test]
-fn a_blank_bank(rt: HostRuntime) {
+fn a_blank_bank(rt: HostRuntime) -> Result<(), Fail> {
     for (location, &byte) in BLANK.iter().enumerate() {
-        let expected = match location {
+        let wanted = match location {
             0x00 => 0x77,
             0x11 => 0x00,
             0x12 => 0x03,
             _ => 0xff,
         };
-        assert_eq!(rt; byte, expected, "at {location}");
+        expect_that(byte == wanted, "the bytes of a blank bank")?;
     }
-    for field in Field::ALL {
-        assert_eq!(rt; read_field(&BLANK, field), Shown::Unknown);
+    for &field in &Field::ALL {
+        let is_unknown = matches!(read_field(&BLANK, field), Shown::Unknown);
+        expect_that(is_unknown, "unknown fields alone")?;
     }
+    Ok(())
 }
 
 #[test]
@@ -437,25 +581,30 @@ const LAYOUT: [(u8, u8); 14] = [
     (0x3c, 60),
 ];
 
+const FAULTS: [(BankFault, u8, &str); 8] = [
+    (BankFault::Unit, 1, "Unit"),
+    (BankFault::Kind, 2, "Kind"),
+    (BankFault::Range, 3, "Range"),
+    (BankFault::Gtin, 4, "Gtin"),
+    (BankFault::Text, 5, "Text"),
+    (BankFault::Twice, 6, "Twice"),
+    (BankFault::Voltage, 7, "Voltage"),
+    (BankFault::Empty, 8, "Empty"),
+];
+
+fn judge_fault(alloc: Global, fault: BankFault, number: u8, name: &str) -> Result<(), Fail> {
+    let told = fault.to_string(alloc)?;
+    expect_that(fault.number() == number && told.as_str() == name, name)
+}
+
 #[test]
 fn fields_and_faults(rt: HostRuntime) -> Result<(), Fail> {
-    for (field, place) in Field::ALL.into_iter().zip(LAYOUT) {
-        assert_eq!(rt; (field.first(), field.length()), place);
+    for (field, &(first, length)) in Field::ALL.iter().zip(&LAYOUT) {
+        let is_right = field.first() == first && field.length() == length;
+        expect_that(is_right, "the place of each field")?;
     }
-    let faults = [
-        (BankFault::Unit, "1 Unit"),
-        (BankFault::Kind, "2 Kind"),
-        (BankFault::Range, "3 Range"),
-        (BankFault::Gtin, "4 Gtin"),
-        (BankFault::Text, "5 Text"),
-        (BankFault::Twice, "6 Twice"),
-        (BankFault::Voltage, "7 Voltage"),
-        (BankFault::Empty, "8 Empty"),
-    ];
-    for (fault, text) in faults {
-        let number = fault.number();
-        let told = format!(in rt.alloc(); "{number} {fault}")?;
-        assert_eq!(rt; told.as_str(), text);
+    for &(fault, number, name) in &FAULTS {
+        judge_fault(rt.alloc(), fault, number, name)?;
     }
     Ok(())
 }

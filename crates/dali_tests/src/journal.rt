@@ -9,6 +9,7 @@ mod reading;
 mod records;
 mod upgrading;
 
+use crate::expected::expect_that;
 use crate::gtin::GTIN;
 use dali_bank::Order;
 use dali_journal::{Code, Journal, JournalFault, Kept, NoMemory, Record, Standing, Version, laws};
@@ -154,24 +155,32 @@ fn load_again(alloc: Global, bytes: &[u8]) -> Result<(Journal, usize, bool), Jou
 }
 
 // Begins and ends the first order, makes room for the next one and begins it. It tells whether memory was refused.
-fn begin_both(
-    rt: &impl Abort,
-    journal: &mut Journal,
-    order: &Order,
-    next: Order,
-) -> Result<bool, NoMemory>
+fn begin_both(journal: &mut Journal, order: &Order, next: Order) -> Result<bool, Fail>
     requires { (journal.old.records ≡ []) × (journal.old.limit ≡ 2) × (order.now.id ≡ 1) × (next.id ≡ 2) }
 {
     let first = reserve_again(journal, order)?;
-    assert!(rt; journal.orders() == 0 && journal.has_room(order));
+    expect_that(
+        journal.orders() == 0 && journal.has_room(order),
+        "room for order 1",
+    )?;
     journal.append(Record::Began(order.copy(), MOMENT));
     journal.append(Record::Ended(Code::Silent));
     let second = reserve_again(journal, &next)?;
-    assert!(rt; journal.orders() == 1 && journal.has_room(&next));
-    assert!(rt; letter_of(journal, order) == 'I' && is_absent(journal, 2));
-    assert!(rt; is_kept(journal, 1, MOMENT, order, Some(Code::Silent)));
+    expect_that(
+        has_first(journal, order, &next),
+        "order 1, and room for order 2",
+    )?;
     journal.append(Record::Began(next, LATER));
     Ok(first || second)
+}
+
+// Whether the journal has the first order alone, which is silent, and room for the next one.
+fn has_first(journal: &Journal, order: &Order, next: &Order) -> bool {
+    journal.orders() == 1
+        && journal.has_room(next)
+        && letter_of(journal, order) == 'I'
+        && is_absent(journal, 2)
+        && is_kept(journal, 1, MOMENT, order, Some(Code::Silent))
 }
 
 // Whether the journal has the first order, which is silent, and the next one, which has begun, since these moments.
@@ -181,20 +190,41 @@ fn has_both(journal: &Journal, order: &Order, first: u64, second: u64) -> bool {
         && journal.moment(2) == Some(second)
 }
 
+// Loads these bytes, which are so many and all count, as a journal of both orders since these moments. It tells
+// whether memory was refused.
+fn load_both(
+    alloc: Global,
+    bytes: &[u8],
+    len: usize,
+    order: &Order,
+    moments: (u64, u64),
+) -> Result<bool, Fail> {
+    let (journal, counted, is_refused) = load_again(alloc, bytes)?;
+    let is_right = bytes.len() == len
+        && counted == len
+        && has_both(&journal, order, moments.0, moments.1);
+    expect_that(is_right, "a journal of both orders")?;
+    Ok(is_refused)
+}
+
+// Writes the journal of both orders and loads it again. It tells whether memory was refused.
+fn write_both(alloc: Global, journal: &Journal, order: &Order) -> Result<bool, Fail> {
+    let (bytes, in_bytes) = bytes_again(alloc, journal)?;
+    let in_load = load_both(alloc, &bytes, 68, order, (MOMENT, LATER))?;
+    Ok(in_bytes || in_load)
+}
+
 // `./test` runs this one again and again, with each allocation refused in turn. What is refused changes
 // nothing, and is done when it is called again.
 #[test]
 fn a_refused_growth_changes_nothing(rt: HostRuntime) -> Result<(), Fail> {
     let order = order_of(1, 5)?;
+    let next = order_of(2, 6)?;
     let mut journal = Journal::new(rt.alloc(), 2)?;
-    let in_growth = begin_both(&rt, &mut journal, &order, order_of(2, 6)?)?;
-    let (bytes, in_bytes) = bytes_again(rt.alloc(), &journal)?;
-    assert_eq!(rt; bytes.len(), 68);
-    let (again, len, in_load) = load_again(rt.alloc(), &bytes)?;
-    assert!(rt; len == 68 && has_both(&again, &order, MOMENT, LATER));
-    let (old, len, in_old) = load_again(rt.alloc(), &OLD_BOTH)?;
-    assert!(rt; len == 48 && has_both(&old, &order, 0, 0));
-    if in_growth || in_bytes || in_load || in_old {
+    let in_growth = begin_both(&mut journal, &order, next)?;
+    let in_writing = write_both(rt.alloc(), &journal, &order)?;
+    let in_old = load_both(rt.alloc(), &OLD_BOTH, 48, &order, (0, 0))?;
+    if in_growth || in_writing || in_old {
         return Err(NoMemory.into());
     }
     Ok(())

@@ -4,6 +4,8 @@
 #[cfg(test)]
 mod bank;
 #[cfg(test)]
+mod expected;
+#[cfg(test)]
 mod frame;
 #[cfg(test)]
 mod gear;

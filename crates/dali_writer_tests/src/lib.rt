@@ -4,6 +4,8 @@
 #[cfg(test)]
 mod drive;
 #[cfg(test)]
+mod expected;
+#[cfg(test)]
 mod gtin;
 #[cfg(test)]
 mod own_bus;

@@ -2,6 +2,7 @@ ghost use Rattle.dali_frame.specs.declared.forward.Frame.{Frame};
 ghost use Rattle.dali_bus.specs.Carry.{Carry};
 ghost use Rattle.dali_write.specs.LoneUnit.{lone_unit};
 
+use crate::expected::expect_that;
 use dali_frame::Frame;
 use dali_gear::{Bus, laws};
 use std::test::Fail;
@@ -88,29 +89,35 @@ fn lose_power<B: Bus>(bus: &mut B, address: u8) {
     bus.power(address);
 }
 
+const ANSWERS: [([Frame; 2], Option<u8>); 10] = [
+    ([Frame::Dtr0(0x07), Frame::AskDtr0(9)], Some(0x07)),
+    ([Frame::Dtr0(0x08), Frame::AskDtr0(5)], None),
+    ([Frame::Dtr1(0x01), Frame::AskDtr0(9)], Some(0x08)),
+    ([Frame::AskDtr0(9), Frame::AskDtr1(9)], Some(0x01)),
+    ([Frame::AskDtr1(9), Frame::Read(9)], None),
+    ([Frame::Dtr0(0x00), Frame::Read(9)], Some(0x77)),
+    ([Frame::Dtr1(0x00), Frame::Read(9)], None),
+    ([Frame::Dtr0(0x00), Frame::Read(9)], Some(0x02)),
+    ([Frame::Dtr1(0x01), Frame::AskDtr0(9)], Some(0x01)),
+    ([Frame::Dtr0(0x08), Frame::AskDtr2(9)], None),
+];
+
 #[test]
-fn a_bus_of_ones_own(rt: HostRuntime) {
+fn a_bus_of_ones_own(_rt: HostRuntime) -> Result<(), Fail> {
     let mut bus = TestBus {
         dtr1: 0x00,
         dtr0: 0x00,
     };
-    for (frames, answer) in [
-        ([Frame::Dtr0(0x07), Frame::AskDtr0(9)], Some(0x07)),
-        ([Frame::Dtr0(0x08), Frame::AskDtr0(5)], None),
-        ([Frame::Dtr1(0x01), Frame::AskDtr0(9)], Some(0x08)),
-        ([Frame::AskDtr0(9), Frame::AskDtr1(9)], Some(0x01)),
-        ([Frame::AskDtr1(9), Frame::Read(9)], None),
-        ([Frame::Dtr0(0x00), Frame::Read(9)], Some(0x77)),
-        ([Frame::Dtr1(0x00), Frame::Read(9)], None),
-        ([Frame::Dtr0(0x00), Frame::Read(9)], Some(0x02)),
-        ([Frame::Dtr1(0x01), Frame::AskDtr0(9)], Some(0x01)),
-        ([Frame::Dtr0(0x08), Frame::AskDtr2(9)], None),
-    ] {
-        assert_eq!(rt; last_answer(&mut bus, &frames), answer);
+    for (frames, answer) in &ANSWERS {
+        expect_that(last_answer(&mut bus, frames) == *answer, "the answer")?;
     }
     lose_power(&mut bus, 8);
-    assert!(rt; bus.dtr1 == 0x01 && bus.dtr0 == 0x08);
+    expect_that(
+        bus.dtr1 == 0x01 && bus.dtr0 == 0x08,
+        "the registers as they were",
+    )?;
     lose_power(&mut bus, 9);
-    assert!(rt; bus.dtr1 == 0x00 && bus.dtr0 == 0x00);
+    expect_that(bus.dtr1 == 0x00 && bus.dtr0 == 0x00, "the registers at 00h")?;
     laws::chains_of_a_bus_are_chains_of_its_worlds::<TestBus>();
+    Ok(())
 }

@@ -1,6 +1,7 @@
 ghost use Rattle.std.specs.Prelude.{◌≡◌, ◌≤◌, [], IfOk};
 
 use super::{BEGAN, HEADER, MOMENT, add, is_absent, is_kept, letter_of, order_of};
+use crate::expected::expect_that;
 use dali_bank::Order;
 use dali_journal::{Code, Journal, JournalFault, Record};
 use std::alloc::Global;
@@ -37,36 +38,53 @@ fn stands(journal: &Journal, order: &Order, letter: char, end: Option<Code>) -> 
     letter_of(journal, order) == letter && is_kept(journal, 1, MOMENT, order, end)
 }
 
+// Opens the unit of the order that has begun, leaves it open and closes it.
+fn leave_and_close(rt: &impl Abort, journal: &mut Journal, order: &Order) -> Result<(), Fail> {
+    expect_that(stands(journal, order, 'B', None), "an order that has begun")?;
+    add(rt, journal, Record::Opened(5));
+    expect_that(stands(journal, order, 'O', None), "an opened unit")?;
+    add(rt, journal, Record::Ended(Code::DoubtOpen));
+    expect_that(
+        stands(journal, order, 'L', Some(Code::DoubtOpen)),
+        "a left unit",
+    )?;
+    add(rt, journal, Record::Closed(5));
+    expect_that(
+        stands(journal, order, 'I', Some(Code::DoubtOpen)),
+        "a closed unit",
+    )?;
+    let has_one = journal.orders() == 1 && journal.limit() == 2 && !journal.is_full();
+    expect_that(has_one, "one order of two")
+}
+
 #[test]
 fn a_left_unit_is_closed(rt: HostRuntime) -> Result<(), Fail> {
     let order = order_of(1, 5)?;
     let mut journal = begun(&rt, rt.alloc(), 2, &order)?;
-    assert!(rt; stands(&journal, &order, 'B', None));
-    add(&rt, &mut journal, Record::Opened(5));
-    assert!(rt; stands(&journal, &order, 'O', None));
-    add(&rt, &mut journal, Record::Ended(Code::DoubtOpen));
-    assert!(rt; stands(&journal, &order, 'L', Some(Code::DoubtOpen)));
-    add(&rt, &mut journal, Record::Closed(5));
-    assert!(rt; stands(&journal, &order, 'I', Some(Code::DoubtOpen)));
-    assert!(rt; journal.orders() == 1 && journal.limit() == 2 && !journal.is_full());
-    assert!(rt;
-        has_bytes(
-            rt.alloc(),
-            &journal,
-            41,
-            &[0x4F, 0x05, 0x45, 0x05, 0x43, 0x05]
-        )?
-    );
-    Ok(())
+    leave_and_close(&rt, &mut journal, &order)?;
+    let end = [0x4F, 0x05, 0x45, 0x05, 0x43, 0x05];
+    expect_that(
+        has_bytes(rt.alloc(), &journal, 41, &end)?,
+        "the bytes of its records",
+    )
 }
 
 #[test]
 fn an_empty_journal(rt: HostRuntime) -> Result<(), Fail> {
     let journal = Journal::new(rt.alloc(), 2)?;
     let bytes = journal.to_bytes(rt.alloc())?;
-    assert_eq!(rt; bytes.as_slice(), HEADER.as_slice());
-    assert!(rt; journal.record_bytes().is_empty() && is_absent(&journal, 1));
-    Ok(())
+    let is_empty = journal.record_bytes().is_empty() && is_absent(&journal, 1);
+    expect_that(
+        is_empty && bytes.as_slice() == HEADER.as_slice(),
+        "the header alone",
+    )
+}
+
+// Whether the journal is full with its order 1, which ended as short.
+fn is_full_of(journal: &Journal, order: &Order) -> bool {
+    journal.is_full()
+        && is_kept(journal, 1, MOMENT, order, Some(Code::Short))
+        && is_absent(journal, 2)
 }
 
 #[test]
@@ -74,53 +92,67 @@ fn a_full_journal(rt: HostRuntime) -> Result<(), Fail> {
     let order = order_of(1, 5)?;
     let mut journal = begun(&rt, rt.alloc(), 1, &order)?;
     add(&rt, &mut journal, Record::Ended(Code::Short));
-    assert!(rt; journal.is_full());
-    assert!(rt; is_kept(&journal, 1, MOMENT, &order, Some(Code::Short)));
-    assert!(rt; is_absent(&journal, 2));
-    assert!(rt; has_bytes(rt.alloc(), &journal, 37, &[0x45, 0x01])?);
-    Ok(())
+    let is_full = is_full_of(&journal, &order);
+    let is_written = has_bytes(rt.alloc(), &journal, 37, &[0x45, 0x01])?;
+    expect_that(is_full && is_written, "a full journal")
 }
 
 // A journal for one order, with room for an order 2 for unit 6 and none for this one.
-fn with_room_for_next(rt: &impl Abort, alloc: Global, order: &Order) -> Result<Journal, Fail>
+fn with_room_for_next(alloc: Global, order: &Order) -> Result<Journal, Fail>
     ensures { IfOk result (λ journal. (journal.records ≡ []) × (journal.limit ≡ 1)) }
 {
     let next = order_of(2, 6)?;
     let mut journal = Journal::new(alloc, 1)?;
-    assert!(rt; !journal.has_room(order));
+    let had_room = journal.has_room(order);
     journal.reserve(&next)?;
-    assert!(rt; journal.has_room(&next));
     // there are bytes enough, but the number isn't in the index
-    assert!(rt; !journal.has_room(order));
+    let has_room_for_next_alone = journal.has_room(&next) && !journal.has_room(order);
+    expect_that(
+        !had_room && has_room_for_next_alone,
+        "room for order 2 alone",
+    )?;
     Ok(journal)
 }
 
-// How many orders have begun, none of them order 2, and whether no further one may.
-fn begun_without_next(journal: &Journal) -> Option<(u32, bool)> {
-    is_absent(journal, 2).then_some((journal.orders(), journal.is_full()))
+// Whether so many orders have begun, none of them order 2, and whether a further one may.
+fn has_begun_without_next(journal: &Journal, orders: u32, is_full: bool) -> bool {
+    is_absent(journal, 2) && journal.orders() == orders && journal.is_full() == is_full
 }
 
 #[test]
 fn a_number_with_room_alone_is_not_begun(rt: HostRuntime) -> Result<(), Fail> {
     let order = order_of(1, 5)?;
-    let mut journal = with_room_for_next(&rt, rt.alloc(), &order)?;
-    assert!(rt; begun_without_next(&journal) == Some((0, false)));
+    let mut journal = with_room_for_next(rt.alloc(), &order)?;
+    let had_none = has_begun_without_next(&journal, 0, false);
     begin(&rt, &mut journal, &order)?;
     add(&rt, &mut journal, Record::Ended(Code::Format));
-    assert!(rt; begun_without_next(&journal) == Some((1, true)));
-    assert!(rt; has_bytes(rt.alloc(), &journal, 37, &[0x45, 0x02])?);
-    Ok(())
+    let has_one = has_begun_without_next(&journal, 1, true);
+    let is_written = has_bytes(rt.alloc(), &journal, 37, &[0x45, 0x02])?;
+    expect_that(had_none && has_one && is_written, "no order 2")
+}
+
+// Whether there is a journal for so many orders, or else the fault is that of the limit.
+fn is_limit(alloc: Global, limit: u32) -> Result<bool, Fail> {
+    match Journal::new(alloc, limit) {
+        Ok(_) => Ok(true),
+        Err(JournalFault::Limit) => Ok(false),
+        Err(fault) => Err(fault.into()),
+    }
 }
 
 #[test]
-fn limits(rt: HostRuntime) {
-    for (limit, fault) in [
-        (0, Some(JournalFault::Limit)),
-        (1, None),
-        (100_000, None),
-        (100_001, Some(JournalFault::Limit)),
-        (u32::MAX, Some(JournalFault::Limit)),
+fn limits(rt: HostRuntime) -> Result<(), Fail> {
+    for (limit, may_be) in [
+        (0, false),
+        (1, true),
+        (100_000, true),
+        (100_001, false),
+        (u32::MAX, false),
     ] {
-        assert_eq!(rt; Journal::new(rt.alloc(), limit).err(), fault, "at {limit}");
+        expect_that(
+            is_limit(rt.alloc(), limit)? == may_be,
+            "limits from 1 to 100000",
+        )?;
     }
+    Ok(())
 }

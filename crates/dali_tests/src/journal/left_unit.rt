@@ -1,8 +1,8 @@
 // An order that left its unit open, which was closed, and one that is done: their journal in both versions, each of its
 // fronts, and each of its bytes replaced.
+use crate::expected::expect_that;
 use dali_journal::{Code, Journal, JournalFault, Kept, Standing, Version};
 use std::alloc::Global;
-use std::process::Abort;
 use std::test::Fail;
 
 // The moments are 0.
@@ -49,42 +49,51 @@ fn right_of(version: Version, len: usize) -> (usize, usize, u32, char) {
 }
 
 // The first letter of the standing, and the number of its order or its unit.
-fn told(standing: Standing) -> (char, u64) {
+fn told(standing: &Standing) -> (char, u64) {
     match standing {
         Standing::Idle => ('I', 0),
         Standing::Began(order) => ('B', order.id()),
         Standing::Opened(order) => ('O', order.id()),
-        Standing::Left(unit) => ('L', u64::from(unit)),
+        Standing::Left(unit) => ('L', u64::from(*unit)),
     }
 }
 
-// Loads the first bytes of a version and judges the journal.
-fn judge_front(rt: &impl Abort, alloc: Global, version: Version, front: &[u8]) -> Result<(), Fail> {
-    let (journal, counts, found) = Journal::load(alloc, 10, front)?;
-    let (letter, _) = told(journal.standing());
+// Whether the journal of the first bytes of a version, of which so many count, stands as it should.
+fn stands_right(journal: &Journal, counted: usize, right: (usize, usize, u32, char)) -> bool {
+    let (counts, _, orders, letter) = right;
+    let (found, _) = told(&journal.standing());
+    counted == counts && journal.orders() == orders && found == letter
+}
+
+// Loads the first bytes of a version and judges the journal, and what is written of it.
+fn judge_front(alloc: Global, version: Version, front: &[u8]) -> Result<(), Fail> {
+    let right = right_of(version, front.len());
+    let (journal, counted, found) = Journal::load(alloc, 10, front)?;
+    let is_right = found == version && stands_right(&journal, counted, right);
     let again = journal.to_bytes(alloc)?;
-    assert_eq!(rt;
-        (counts, again.len(), journal.orders(), letter),
-        right_of(version, front.len()),
-        "of {} bytes",
-        front.len()
-    );
-    assert!(rt; found == version && LEFT.starts_with(&again));
-    Ok(())
+    let is_written = again.len() == right.1 && LEFT.starts_with(&again);
+    expect_that(is_right && is_written, "the records that are whole")
+}
+
+// Whether the bytes have no whole header.
+fn has_no_header(alloc: Global, bytes: &[u8]) -> bool {
+    match Journal::load(alloc, 10, bytes) {
+        Ok(_) => false,
+        Err(fault) => matches!(fault, JournalFault::Header),
+    }
 }
 
 #[test]
 fn each_front_loads(rt: HostRuntime) -> Result<(), Fail> {
-    judge_front(&rt, rt.alloc(), Version::Two, &[])?;
+    judge_front(rt.alloc(), Version::Two, &[])?;
     for len in 1..=56usize {
-        judge_front(&rt, rt.alloc(), Version::One, &OLD_LEFT[..len])?;
+        judge_front(rt.alloc(), Version::One, &OLD_LEFT[..len])?;
     }
     for len in 1..=3usize {
-        let fault = Journal::load(rt.alloc(), 10, &LEFT[..len]).err();
-        assert_eq!(rt; fault, Some(JournalFault::Header), "of {len} bytes");
+        expect_that(has_no_header(rt.alloc(), &LEFT[..len]), "the fault Header")?;
     }
     for len in 4..=76usize {
-        judge_front(&rt, rt.alloc(), Version::Two, &LEFT[..len])?;
+        judge_front(rt.alloc(), Version::Two, &LEFT[..len])?;
     }
     Ok(())
 }
@@ -98,20 +107,36 @@ fn kept(journal: &Journal, id: u64) -> Option<(u8, Option<Code>)> {
     }
 }
 
-// What is kept under the number once the bytes are loaded, and its moment.
-fn kept_in(
-    alloc: Global,
-    bytes: &[u8],
-    id: u64,
-) -> Result<(Option<(u8, Option<Code>)>, Option<u64>), Fail> {
-    let (journal, _, _) = Journal::load(alloc, 10, bytes)?;
-    Ok((kept(&journal, id), journal.moment(id)))
+// The journal of so many first bytes.
+fn load_front(alloc: Global, bytes: &[u8], len: usize) -> Result<Journal, Fail> {
+    let front = bytes.get(..len).ok_or("so many bytes")?;
+    let (journal, _, _) = Journal::load(alloc, 10, front)?;
+    Ok(journal)
 }
 
-// The standing once the bytes are loaded.
-fn standing_in(alloc: Global, bytes: &[u8]) -> Result<(char, u64), Fail> {
-    let (journal, _, _) = Journal::load(alloc, 10, bytes)?;
-    Ok(told(journal.standing()))
+// Loads so many first bytes. That is kept under the number, and where it is an order its moment is 0.
+fn judge_kept(
+    alloc: Global,
+    bytes: &[u8],
+    len: usize,
+    id: u64,
+    order: Option<(u8, Option<Code>)>,
+) -> Result<(), Fail> {
+    let journal = load_front(alloc, bytes, len)?;
+    let moment = if order.is_some() { Some(0) } else { None };
+    let is_right = kept(&journal, id) == order && journal.moment(id) == moment;
+    expect_that(is_right, "what is kept, and its moment")
+}
+
+// Loads so many first bytes, and this is the standing.
+fn judge_standing(
+    alloc: Global,
+    bytes: &[u8],
+    len: usize,
+    standing: (char, u64),
+) -> Result<(), Fail> {
+    let journal = load_front(alloc, bytes, len)?;
+    expect_that(told(&journal.standing()) == standing, "the standing")
 }
 
 #[test]
@@ -123,40 +148,37 @@ fn what_is_kept_once_loaded(rt: HostRuntime) -> Result<(), Fail> {
         (54, 74, 2, Some((6, None))),
         (51, 71, 2, None),
     ] {
-        let kept = (order, order.is_some().then_some(0));
-        assert_eq!(rt;
-            kept_in(rt.alloc(), &OLD_LEFT[..old], id)?,
-            kept,
-            "{id} of {old}"
-        );
-        assert_eq!(rt;
-            kept_in(rt.alloc(), &LEFT[..new], id)?,
-            kept,
-            "{id} of {new}"
-        );
+        judge_kept(rt.alloc(), &OLD_LEFT, old, id, order)?;
+        judge_kept(rt.alloc(), &LEFT, new, id, order)?;
     }
     for (old, new, standing) in [(54, 74, ('O', 2)), (28, 40, ('L', 5))] {
-        assert_eq!(rt; standing_in(rt.alloc(), &OLD_LEFT[..old])?, standing);
-        assert_eq!(rt; standing_in(rt.alloc(), &LEFT[..new])?, standing);
+        judge_standing(rt.alloc(), &OLD_LEFT, old, standing)?;
+        judge_standing(rt.alloc(), &LEFT, new, standing)?;
     }
     Ok(())
 }
 
-// How many bytes count in a journal for so many orders, the limit, and whether it is full.
-fn limited(alloc: Global, limit: u32, bytes: &[u8]) -> Result<(usize, u32, bool), Fail> {
-    let (journal, counts, _) = Journal::load(alloc, limit, bytes)?;
-    Ok((counts, journal.limit(), journal.is_full()))
+// Loads the bytes as a journal for so many orders, of which so many bytes count, and which is full or isn't.
+fn judge_limit(
+    alloc: Global,
+    limit: u32,
+    bytes: &[u8],
+    counts: usize,
+    is_full: bool,
+) -> Result<(), Fail> {
+    let (journal, counted, _) = Journal::load(alloc, limit, bytes)?;
+    let is_right = counted == counts && journal.limit() == limit && journal.is_full() == is_full;
+    expect_that(is_right, "a journal with this limit")
 }
 
 #[test]
 fn limits_of_loads(rt: HostRuntime) -> Result<(), Fail> {
     let alloc = rt.alloc();
-    assert_eq!(rt; limited(alloc, 1, &OLD_LEFT[..51])?, (29, 1, true));
-    assert_eq!(rt; limited(alloc, 2, &OLD_LEFT)?, (56, 2, true));
-    assert_eq!(rt; limited(alloc, 1, &LEFT[..71])?, (41, 1, true));
-    assert_eq!(rt; limited(alloc, 2, &LEFT)?, (76, 2, true));
-    assert_eq!(rt; limited(alloc, 3, &LEFT)?, (76, 3, false));
-    Ok(())
+    judge_limit(alloc, 1, &OLD_LEFT[..51], 29, true)?;
+    judge_limit(alloc, 2, &OLD_LEFT, 56, true)?;
+    judge_limit(alloc, 1, &LEFT[..71], 41, true)?;
+    judge_limit(alloc, 2, &LEFT, 76, true)?;
+    judge_limit(alloc, 3, &LEFT, 76, false)
 }
 
 // How many load of the journals with one byte replaced, for each byte and each value, and how many have each fault, by
@@ -168,7 +190,7 @@ const OLD_LOADS: [u32; 8] = [7_416, 0, 0, 6_577, 340, 2, 0, 1];
 // Whether two journals say the same of all that they are asked for.
 fn say_same(one: &Journal, other: &Journal) -> bool {
     one.orders() == other.orders()
-        && told(one.standing()) == told(other.standing())
+        && told(&one.standing()) == told(&other.standing())
         && kept(one, 1) == kept(other, 1)
         && kept(one, 2) == kept(other, 2)
         && one.moment(1) == other.moment(1)
@@ -232,7 +254,12 @@ fn loads_of(alloc: Global, bytes: &[u8]) -> Result<[u32; 8], Fail> {
 
 #[test]
 fn each_byte_replaced(rt: HostRuntime) -> Result<(), Fail> {
-    assert_eq!(rt; loads_of(rt.alloc(), &LEFT)?, LOADS);
-    assert_eq!(rt; loads_of(rt.alloc(), &OLD_LEFT)?, OLD_LOADS);
-    Ok(())
+    expect_that(
+        loads_of(rt.alloc(), &LEFT)? == LOADS,
+        "the counts of version 2",
+    )?;
+    expect_that(
+        loads_of(rt.alloc(), &OLD_LEFT)? == OLD_LOADS,
+        "the counts of version 1",
+    )
 }

@@ -1,7 +1,7 @@
 use super::{BEGAN, HEADER, NEXT, OLD_BEGAN, OLD_NEXT};
+use crate::expected::expect_that;
 use dali_journal::{Journal, JournalFault, Version};
 use std::alloc::Global;
-use std::process::Abort;
 use std::test::Fail;
 
 // In the cases below stand the most orders of a journal, its bytes in hexadecimal digits, with BEGAN and NEXT for
@@ -97,19 +97,32 @@ const LIMITS: &str = "0 HEADER 41: Limit
 100000: Two 0
 100001: Limit";
 
+// The bytes of the orders BEGAN and NEXT in a version.
+fn orders_of(version: Version) -> (&'static [u8], &'static [u8]) {
+    match version {
+        Version::One => (&OLD_BEGAN, &OLD_NEXT),
+        Version::Two => (&BEGAN, &NEXT),
+    }
+}
+
+// The bytes without the last one.
+fn cut(bytes: &[u8]) -> &[u8] {
+    match bytes {
+        [front @ .., _] => front,
+        [] => bytes,
+    }
+}
+
 // The bytes of a word, where a Began is of this version.
 fn add_word(bytes: &mut Vec<u8>, version: Version, word: &str) -> Result<(), Fail> {
-    match (word, version) {
-        ("HEADER", _) => bytes.extend_from_slice(&HEADER)?,
-        ("BEGAN", Version::One) => bytes.extend_from_slice(&OLD_BEGAN)?,
-        ("BEGAN", Version::Two) => bytes.extend_from_slice(&BEGAN)?,
-        ("BEGAN-", Version::One) => bytes.extend_from_slice(&OLD_BEGAN[..22])?,
-        ("BEGAN-", Version::Two) => bytes.extend_from_slice(&BEGAN[..30])?,
-        ("NEXT", Version::One) => bytes.extend_from_slice(&OLD_NEXT)?,
-        ("NEXT", Version::Two) => bytes.extend_from_slice(&NEXT)?,
-        ("NEXT-", Version::One) => bytes.extend_from_slice(&OLD_NEXT[..22])?,
-        ("NEXT-", Version::Two) => bytes.extend_from_slice(&NEXT[..30])?,
-        (digits, _) => bytes.push(u8::from_str_radix(digits, 16)?)?,
+    let (began, next) = orders_of(version);
+    match word {
+        "HEADER" => bytes.extend_from_slice(&HEADER)?,
+        "BEGAN" => bytes.extend_from_slice(began)?,
+        "BEGAN-" => bytes.extend_from_slice(cut(began))?,
+        "NEXT" => bytes.extend_from_slice(next)?,
+        "NEXT-" => bytes.extend_from_slice(cut(next))?,
+        digits => bytes.push(u8::from_str_radix(digits, 16)?)?,
     }
     Ok(())
 }
@@ -151,51 +164,47 @@ fn load(alloc: Global, limit: u32, text: &str) -> Result<String, Fail> {
     }
 }
 
+// Tries a case.
+fn load_case(alloc: Global, case: &str) -> Result<(), Fail> {
+    let (words, expected) = case.split_once(": ").ok_or("a case")?;
+    let (limit, text) = words.split_once(' ').unwrap_or((words, ""));
+    let loaded = load(alloc, limit.parse()?, text)?;
+    expect_that(loaded.as_str() == expected, case)
+}
+
 // Tries the cases, one to a line.
-fn load_each(rt: &impl Abort, alloc: Global, cases: &str) -> Result<(), Fail> {
+fn load_each(alloc: Global, cases: &str) -> Result<(), Fail> {
     for case in cases.split('\n') {
-        let (words, expected) = case.split_once(": ").ok_or("a case")?;
-        let (limit, text) = words.split_once(' ').unwrap_or((words, ""));
-        let loaded = load(alloc, limit.parse()?, text)?;
-        assert_eq!(rt; loaded.as_str(), expected, "{case}");
+        load_case(alloc, case)?;
     }
     Ok(())
 }
 
 #[test]
 fn headers_tell_the_version(rt: HostRuntime) -> Result<(), Fail> {
-    load_each(&rt, rt.alloc(), HEADERS)?;
-    load_each(&rt, rt.alloc(), OTHER_VERSIONS)
+    load_each(rt.alloc(), HEADERS)?;
+    load_each(rt.alloc(), OTHER_VERSIONS)
 }
 
 #[test]
 fn a_cut_record_does_not_count(rt: HostRuntime) -> Result<(), Fail> {
-    load_each(&rt, rt.alloc(), CUT)
+    load_each(rt.alloc(), CUT)
 }
 
 #[test]
 fn bytes_with_a_fault(rt: HostRuntime) -> Result<(), Fail> {
-    load_each(&rt, rt.alloc(), FAULTS)?;
-    load_each(&rt, rt.alloc(), OLD_FAULTS)
+    load_each(rt.alloc(), FAULTS)?;
+    load_each(rt.alloc(), OLD_FAULTS)
 }
 
 // Loads three of the wrong pieces behind an order that has ended, up to this place: the first one's fault is told.
-fn load_wrong(
-    rt: &impl Abort,
-    alloc: Global,
-    front: &str,
-    place: usize,
-    wrong: [&str; 3],
-) -> Result<(), Fail> {
+fn load_wrong(alloc: Global, front: &str, place: usize, wrong: [&str; 3]) -> Result<(), Fail> {
     let [first, second, third] = wrong;
     let (first, fault) = first.split_once(": ").ok_or("a case")?;
     let (second, _) = second.split_once(": ").ok_or("a case")?;
     let (third, _) = third.split_once(": ").ok_or("a case")?;
-    let text = format!(in alloc; "{front} {first} {second} {third}")?;
-    let expected = format!(in alloc; "{fault}({place})")?;
-    let loaded = load(alloc, 1, &text)?;
-    assert_eq!(rt; loaded.as_str(), expected.as_str(), "{text}");
-    Ok(())
+    let case = format!(in alloc; "1 {front} {first} {second} {third}: {fault}({place})")?;
+    load_case(alloc, &case)
 }
 
 #[test]
@@ -204,15 +213,15 @@ fn the_first_fault_is_told(rt: HostRuntime) -> Result<(), Fail> {
         for second in WRONG.split('\n') {
             for third in WRONG.split('\n') {
                 let wrong = [first, second, third];
-                load_wrong(&rt, rt.alloc(), "HEADER BEGAN 45 01", 37, wrong)?;
-                load_wrong(&rt, rt.alloc(), "BEGAN 45 01", 25, wrong)?;
+                load_wrong(rt.alloc(), "HEADER BEGAN 45 01", 37, wrong)?;
+                load_wrong(rt.alloc(), "BEGAN 45 01", 25, wrong)?;
             }
         }
     }
-    load_each(&rt, rt.alloc(), TWO_FAULTS)
+    load_each(rt.alloc(), TWO_FAULTS)
 }
 
 #[test]
 fn limits_of_loads(rt: HostRuntime) -> Result<(), Fail> {
-    load_each(&rt, rt.alloc(), LIMITS)
+    load_each(rt.alloc(), LIMITS)
 }

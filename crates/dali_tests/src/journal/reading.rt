@@ -1,8 +1,8 @@
 use super::{BEGAN, MOMENT, OLD_BEGAN, front_of};
+use crate::expected::expect_that;
 use crate::gtin::GTIN;
 use dali_journal::{Code, Piece, Record, Version};
 use std::alloc::Global;
-use std::process::Abort;
 use std::test::Fail;
 
 // A byte behind each front of the longest record in version 1, from its letter on: the least that may come, and the
@@ -102,18 +102,17 @@ fn most_of(version: Version) -> usize {
 // Puts each byte behind the front of that record, of which those from the least to the greatest may come, and
 // then the one that is next.
 fn judge_front(
-    rt: &impl Abort,
     version: Version,
     front: &mut Vec<u8>,
     next: u8,
     least: u8,
     greatest: u8,
 ) -> Result<(), Fail> {
-    assert!(rt; matches!(read(version, front), Piece::Cut));
+    expect_that(matches!(read(version, front), Piece::Cut), "a cut record")?;
     for byte in 0..=255u8 {
         let may_come = least <= byte && byte <= greatest;
         let right = is_right(version, front, byte, may_come, most_of(version))?;
-        assert!(rt; right, "{byte} behind {} bytes", front.len());
+        expect_that(right, "the bytes that may come")?;
     }
     front.push(next)?;
     Ok(())
@@ -128,76 +127,103 @@ fn is_longest(version: Version, bytes: &[u8]) -> bool {
 }
 
 // Puts each letter at the front of no byte.
-fn judge_letters(rt: &impl Abort, alloc: Global, version: Version) -> Result<(), Fail> {
-    let mut front = Vec::new(alloc);
+fn judge_letters(version: Version, front: &mut Vec<u8>) -> Result<(), Fail> {
     for letter in 0..=255u8 {
         let may_come = matches!(letter, 0x42 | 0x43 | 0x45 | 0x4F);
-        let right = is_right(version, &mut front, letter, may_come, 241)?;
-        assert!(rt; right, "letter {letter}");
+        let right = is_right(version, front, letter, may_come, 241)?;
+        expect_that(right, "the four letters")?;
     }
     Ok(())
 }
 
-// Cuts that record at each length, and reads it whole, also with another byte behind it.
-fn judge_longest(rt: &impl Abort, alloc: Global, version: Version) -> Result<(), Fail> {
-    judge_letters(rt, alloc, version)?;
-    let mut whole = super::longest(alloc, version)?;
-    assert_eq!(rt; whole.len(), most_of(version));
+// Cuts that record at each length behind its letter, which is the front.
+fn judge_fronts(version: Version, front: &mut Vec<u8>, whole: &[u8]) -> Result<(), Fail> {
     let before = most_of(version).saturating_sub(240);
-    let mut front = Vec::new(alloc);
-    front.push(0x42)?;
     for &next in whole.iter().take(before).skip(1) {
-        judge_front(rt, version, &mut front, next, 0x00, 0xFF)?;
+        judge_front(version, front, next, 0x00, 0xFF)?;
     }
     let rest = whole.iter().skip(before);
     for ((&next, &least), &greatest) in rest.zip(&LEAST).zip(&GREATEST) {
-        judge_front(rt, version, &mut front, next, least, greatest)?;
+        judge_front(version, front, next, least, greatest)?;
     }
-    assert!(rt; front == whole && is_longest(version, &whole));
+    expect_that(front.as_slice() == whole, "the longest record again")
+}
+
+// Reads that record whole, also with another byte behind it.
+fn judge_whole(version: Version, whole: &mut Vec<u8>) -> Result<(), Fail> {
+    let is_alone = whole.len() == most_of(version) && is_longest(version, whole);
     whole.push(0x00)?;
-    assert!(rt; is_longest(version, &whole));
-    Ok(())
+    expect_that(is_alone && is_longest(version, whole), "the longest record")
+}
+
+// Cuts that record at each length, and reads it whole.
+fn judge_longest(alloc: Global, version: Version) -> Result<(), Fail> {
+    let mut front = Vec::new(alloc);
+    judge_letters(version, &mut front)?;
+    front.push(0x42)?;
+    let mut whole = super::longest(alloc, version)?;
+    judge_fronts(version, &mut front, &whole)?;
+    judge_whole(version, &mut whole)
 }
 
 #[test]
 fn the_longest_record_at_each_length(rt: HostRuntime) -> Result<(), Fail> {
-    judge_longest(&rt, rt.alloc(), Version::Two)
+    judge_longest(rt.alloc(), Version::Two)
 }
 
 #[test]
 fn the_longest_record_of_version_1_at_each_length(rt: HostRuntime) -> Result<(), Fail> {
-    judge_longest(&rt, rt.alloc(), Version::One)
+    judge_longest(rt.alloc(), Version::One)
+}
+
+// The front of order 1 for unit 5 with so many updates, and the location of the first one, where that is there.
+fn front_with(alloc: Global, version: Version, count: u8, first: u8) -> Result<Vec<u8>, Fail> {
+    let mut front = front_of(alloc, version)?;
+    front.extend_from_slice(&[5, count])?;
+    if first > 0 {
+        front.extend_from_slice(&[first, 0xFF])?;
+    }
+    Ok(front)
+}
+
+// How long the record of so many updates is.
+fn len_of(version: Version, count: u8) -> usize {
+    let head = match version {
+        Version::One => 11,
+        Version::Two => 19,
+    };
+    head + 2 * usize::from(count)
 }
 
 // Puts each byte where the location comes that is next.
 fn judge_room(
-    rt: &impl Abort,
-    alloc: Global,
     version: Version,
-    room: (u8, u8, u8, u8),
+    front: &mut Vec<u8>,
+    len: usize,
+    least: u8,
+    greatest: u8,
 ) -> Result<(), Fail> {
-    let (count, first, least, greatest) = room;
-    let mut front = front_of(alloc, version)?;
-    front.extend_from_slice(&[5, count])?;
-    let len = front.len() + 2 * usize::from(count);
-    if first > 0 {
-        front.extend_from_slice(&[first, 0xFF])?;
-    }
     for byte in 0..=255u8 {
         let may_come = least <= byte && byte <= greatest && byte != 0x11 && byte != 0x12;
-        let right = is_right(version, &mut front, byte, may_come, len)?;
-        assert!(rt; right, "{byte} behind {first}, of {count}");
+        let right = is_right(version, front, byte, may_come, len)?;
+        expect_that(right, "the locations that leave room")?;
+    }
+    Ok(())
+}
+
+// Tries each row in a version.
+fn judge_rooms(alloc: Global, version: Version) -> Result<(), Fail> {
+    for (count, first, least, greatest) in ROOM {
+        let mut front = front_with(alloc, version, count, first)?;
+        judge_room(version, &mut front, len_of(version, count), least, greatest)?;
     }
     Ok(())
 }
 
 #[test]
 fn locations_leave_room_for_those_to_come(rt: HostRuntime) -> Result<(), Fail> {
-    for room in ROOM {
-        judge_room(&rt, rt.alloc(), Version::One, room)?;
-        judge_room(&rt, rt.alloc(), Version::Two, room)?;
-    }
-    Ok(())
+    judge_rooms(rt.alloc(), Version::One)?;
+    judge_rooms(rt.alloc(), Version::Two)
 }
 
 // Whether two bytes are a whole record in a version. They may not be the first two of a longer one.
@@ -218,7 +244,7 @@ fn code_of(version: Version, bytes: &[u8]) -> Option<Code> {
 }
 
 // Tries records of two bytes in a version.
-fn judge_two_bytes(rt: &impl Abort, version: Version) {
+fn judge_two_bytes(version: Version) -> Result<(), Fail> {
     for (letter, byte, whole) in [
         (0x4F, 0, true),
         (0x4F, 63, true),
@@ -231,11 +257,17 @@ fn judge_two_bytes(rt: &impl Abort, version: Version) {
         (0x46, 0, false),
         (0x00, 0, false),
     ] {
-        assert!(rt;
-            are_whole(version, letter, byte) == Some(whole),
-            "{letter} {byte}"
-        );
+        let is_right = are_whole(version, letter, byte) == Some(whole);
+        expect_that(is_right, "whole records alone")?;
     }
+    expect_that(
+        matches!(read(version, &[]), Piece::Cut),
+        "a cut record of no byte",
+    )
+}
+
+// Tries the code of each number in a version.
+fn judge_codes(version: Version) -> Result<(), Fail> {
     for (number, code) in [
         (0, Code::Done),
         (1, Code::Short),
@@ -244,25 +276,34 @@ fn judge_two_bytes(rt: &impl Abort, version: Version) {
         (4, Code::Doubt),
         (5, Code::DoubtOpen),
     ] {
-        assert!(rt; code_of(version, &[0x45, number]) == Some(code), "{number}");
+        expect_that(code_of(version, &[0x45, number]) == Some(code), code.name())?;
     }
-    assert!(rt; matches!(read(version, &[]), Piece::Cut));
+    Ok(())
 }
 
 #[test]
-fn records_of_two_bytes(rt: HostRuntime) {
-    judge_two_bytes(&rt, Version::One);
-    judge_two_bytes(&rt, Version::Two);
-}
-
-#[test]
-fn records_of_two_bytes_behind_which_another_byte_stands(rt: HostRuntime) {
+fn records_of_two_bytes(_rt: HostRuntime) -> Result<(), Fail> {
     for version in [Version::One, Version::Two] {
-        let opened = read(version, &[0x4F, 5, 0x41]);
-        assert!(rt; matches!(opened, Piece::Whole(Record::Opened(5), 2)));
-        let closed = read(version, &[0x43, 6, 0x41]);
-        assert!(rt; matches!(closed, Piece::Whole(Record::Closed(6), 2)));
+        judge_two_bytes(version)?;
+        judge_codes(version)?;
     }
+    Ok(())
+}
+
+#[test]
+fn records_of_two_bytes_behind_which_another_byte_stands(_rt: HostRuntime) -> Result<(), Fail> {
+    for version in [Version::One, Version::Two] {
+        let opened = matches!(
+            read(version, &[0x4F, 5, 0x41]),
+            Piece::Whole(Record::Opened(5), 2)
+        );
+        let closed = matches!(
+            read(version, &[0x43, 6, 0x41]),
+            Piece::Whole(Record::Closed(6), 2)
+        );
+        expect_that(opened && closed, "records of two bytes")?;
+    }
+    Ok(())
 }
 
 // The moment and the length of the `Began` that the bytes begin with, where it is order 1 for unit 5 with the GTIN.
@@ -278,9 +319,18 @@ fn began(version: Version, bytes: &[u8]) -> Option<(u64, usize)> {
 
 // In the other version the bytes of an order have another unit, and more updates than there may be or none.
 #[test]
-fn an_order_is_read(rt: HostRuntime) {
-    assert_eq!(rt; began(Version::Two, &BEGAN), Some((MOMENT, 31)));
-    assert_eq!(rt; began(Version::One, &OLD_BEGAN), Some((0, 23)));
-    assert!(rt; matches!(Record::read(&OLD_BEGAN), Piece::Bad));
-    assert!(rt; matches!(Record::read_old(&BEGAN), Piece::Bad));
+fn an_order_is_read(_rt: HostRuntime) -> Result<(), Fail> {
+    expect_that(began(Version::Two, &BEGAN) == Some((MOMENT, 31)), "order 1")?;
+    expect_that(
+        began(Version::One, &OLD_BEGAN) == Some((0, 23)),
+        "order 1 of version 1",
+    )?;
+    expect_that(
+        matches!(Record::read(&OLD_BEGAN), Piece::Bad),
+        "no order of version 2",
+    )?;
+    expect_that(
+        matches!(Record::read_old(&BEGAN), Piece::Bad),
+        "no order of version 1",
+    )
 }

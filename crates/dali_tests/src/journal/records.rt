@@ -1,4 +1,5 @@
 use super::{BEGAN, MOMENT};
+use crate::expected::expect_that;
 use crate::gtin::GTIN;
 use dali_bank::Order;
 use dali_journal::{Code, JournalFault, NoMemory, Record, Version};
@@ -11,11 +12,20 @@ fn has_bytes(entry: Record, bytes: &[u8]) -> bool {
 }
 
 #[test]
-fn bytes_of_records(rt: HostRuntime) -> Result<(), Fail> {
+fn bytes_of_records(_rt: HostRuntime) -> Result<(), Fail> {
     let order = Order::from_pairs(1, 5, &GTIN).ok_or("an order")?;
-    assert!(rt; has_bytes(Record::Began(order, MOMENT), &BEGAN));
-    assert!(rt; has_bytes(Record::Opened(63), &[0x4F, 63]));
-    assert!(rt; has_bytes(Record::Closed(6), &[0x43, 6]));
+    expect_that(
+        has_bytes(Record::Began(order, MOMENT), &BEGAN),
+        "the bytes of Began",
+    )?;
+    expect_that(
+        has_bytes(Record::Opened(63), &[0x4F, 63]),
+        "the bytes of Opened",
+    )?;
+    expect_that(
+        has_bytes(Record::Closed(6), &[0x43, 6]),
+        "the bytes of Closed",
+    )?;
     for (code, number) in [
         (Code::Done, 0),
         (Code::Short, 1),
@@ -24,7 +34,7 @@ fn bytes_of_records(rt: HostRuntime) -> Result<(), Fail> {
         (Code::Doubt, 4),
         (Code::DoubtOpen, 5),
     ] {
-        assert!(rt; has_bytes(Record::Ended(code), &[0x45, number]), "{code:?}");
+        expect_that(has_bytes(Record::Ended(code), &[0x45, number]), code.name())?;
     }
     Ok(())
 }
@@ -42,22 +52,36 @@ fn longest_of(alloc: Global, id: u64, moment: u64, unit: u8) -> Result<Vec<u8>, 
     Ok(began.bytes().as_slice().to_vec(alloc)?)
 }
 
+// Whether the bytes of that order are the longest record.
+fn is_longest(alloc: Global) -> Result<bool, Fail> {
+    let bytes = longest_of(alloc, 1, MOMENT, 5)?;
+    let expected = super::longest(alloc, Version::Two)?;
+    Ok(bytes.len() == 249 && bytes.as_slice() == expected.as_slice())
+}
+
+// Whether the bytes of that order begin so.
+fn begins_with(alloc: Global, id: u64, moment: u64, unit: u8, front: &[u8]) -> Result<bool, Fail> {
+    let bytes = longest_of(alloc, id, moment, unit)?;
+    Ok(bytes.starts_with(front))
+}
+
 #[test]
 fn the_longest_record(rt: HostRuntime) -> Result<(), Fail> {
-    let bytes = longest_of(rt.alloc(), 1, MOMENT, 5)?;
-    assert_eq!(rt; bytes.len(), 249);
-    assert!(rt; bytes == super::longest(rt.alloc(), Version::Two)?);
+    expect_that(is_longest(rt.alloc())?, "249 bytes")?;
     let front = [
         0x42, 255, 255, 255, 255, 255, 255, 255, 255, 0, 0, 0, 0, 0, 0, 0, 1, 63, 115,
     ];
-    let bytes = longest_of(rt.alloc(), u64::MAX, 1, 63)?;
-    assert!(rt; bytes.starts_with(&front));
+    expect_that(
+        begins_with(rt.alloc(), u64::MAX, 1, 63, &front)?,
+        "the greatest number",
+    )?;
     let front = [
         0x42, 0, 0, 0, 0, 0, 0, 0, 0, 255, 255, 255, 255, 255, 255, 255, 255, 0, 115,
     ];
-    let bytes = longest_of(rt.alloc(), 0, u64::MAX, 0)?;
-    assert!(rt; bytes.starts_with(&front));
-    Ok(())
+    expect_that(
+        begins_with(rt.alloc(), 0, u64::MAX, 0, &front)?,
+        "the greatest moment",
+    )
 }
 
 // Whether the fault has this number and is told so.
@@ -77,14 +101,14 @@ fn faults_have_numbers_and_names(rt: HostRuntime) -> Result<(), Fail> {
         (JournalFault::Full(7), 6, "Full"),
         (JournalFault::Header, 7, "Header"),
     ] {
-        assert!(rt; is_told(rt.alloc(), fault, number, name)?, "{name}");
+        expect_that(is_told(rt.alloc(), fault, number, name)?, name)?;
     }
     let text = NoMemory.to_string(rt.alloc())?;
-    assert_eq!(rt; text.as_str(), "NoMemory");
-    Ok(())
+    expect_that(text.as_str() == "NoMemory", "NoMemory alone")
 }
 
 #[test]
-fn versions_have_numbers(rt: HostRuntime) {
-    assert_eq!(rt; (Version::One.number(), Version::Two.number()), (1, 2));
+fn versions_have_numbers(_rt: HostRuntime) -> Result<(), Fail> {
+    let are_right = Version::One.number() == 1 && Version::Two.number() == 2;
+    expect_that(are_right, "the numbers 1 and 2")
 }

@@ -1,5 +1,6 @@
 // Journals of version 1, and what is written of them.
-use super::{OLD_BEGAN, letter_of, order_of};
+use super::{OLD_BEGAN, add, letter_of, order_of};
+use crate::expected::expect_that;
 use dali_journal::{Code, Journal, Record, Version};
 use std::alloc::Global;
 use std::test::Fail;
@@ -34,9 +35,15 @@ fn is_written_as(alloc: Global, journal: &Journal, bytes: &[u8]) -> Result<bool,
 #[test]
 fn an_old_journal_is_written_anew(rt: HostRuntime) -> Result<(), Fail> {
     let journal = old(rt.alloc(), &OLD_DONE, 27)?;
-    assert!(rt; is_written_as(rt.alloc(), &journal, &DONE)?);
-    assert_eq!(rt; (journal.moment(1), journal.moment(2)), (Some(0), None));
-    Ok(())
+    let has_moments = journal.moment(1) == Some(0) && journal.moment(2).is_none();
+    let is_written = is_written_as(rt.alloc(), &journal, &DONE)?;
+    expect_that(has_moments && is_written, "the moment 0")
+}
+
+// Whether the journal with order 1, which has begun, is written so.
+fn is_begun_as(alloc: Global, journal: &Journal, bytes: &[u8]) -> Result<bool, Fail> {
+    let order = order_of(1, 5)?;
+    Ok(letter_of(journal, &order) == 'B' && is_written_as(alloc, journal, bytes)?)
 }
 
 // An order that hasn't ended goes on, with a moment of its own for the next one.
@@ -46,12 +53,9 @@ fn an_unfinished_order_stays(rt: HostRuntime) -> Result<(), Fail> {
     let mut bytes = OLD_BEGAN.to_vec(alloc)?;
     bytes.push(0x4F)?;
     let mut journal = old(alloc, &bytes, 23)?;
-    assert_eq!(rt; letter_of(&journal, &order_of(1, 5)?), 'B');
-    assert!(rt; is_written_as(alloc, &journal, &DONE[..35])?);
-    for entry in [Record::Opened(5), Record::Ended(Code::Done)] {
-        assert!(rt; journal.standing().allows(&entry));
-        journal.append(entry);
-    }
-    assert!(rt; is_written_as(alloc, &journal, &DONE)?);
-    Ok(())
+    let was_begun = is_begun_as(alloc, &journal, &DONE[..35])?;
+    add(&rt, &mut journal, Record::Opened(5));
+    add(&rt, &mut journal, Record::Ended(Code::Done));
+    let is_done = is_written_as(alloc, &journal, &DONE)?;
+    expect_that(was_begun && is_done, "order 1, which goes on")
 }

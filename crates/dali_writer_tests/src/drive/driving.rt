@@ -1,5 +1,6 @@
 // What drives leave, where each stream does as it should and where one fails.
-use crate::drive::streams::{ALL, Fickle, Good, Wanted, drive_from, drive_on, file_of};
+use crate::drive::streams::{ALL, Fickle, Good, Left, Wanted, drive_from, drive_on, file_of};
+use crate::expected::expect_that;
 use crate::gtin::GTIN;
 use dali_bank::Order;
 use dali_drive::{DriveFault, Got, Sink, Source, StdSink, StdSource, drive};
@@ -43,45 +44,56 @@ fn silence(alloc: Global) -> Result<Vec<u8>, Fail> {
 }
 
 pub(crate) fn gtin_order(unit: u8) -> Result<Order, Fail> {
-    Ok(Order::from_pairs(1, unit, &GTIN).ok_or("an order")?)
+    match Order::from_pairs(1, unit, &GTIN) {
+        Some(order) => Ok(order),
+        None => Err("an order".into()),
+    }
+}
+
+// What the whole run leaves, of these answers.
+fn silent<'a>(link: &'a [u8], answers: &[u8]) -> Wanted<'a> {
+    Wanted {
+        fault: None,
+        taken: answers.len(),
+        link,
+        journal: &SILENT_RECORDS,
+        out: TAKEN_AND_SILENT.as_bytes(),
+        failed: [false; 4],
+    }
+}
+
+// A drive of the order from its begin to its end.
+fn judge_begun(alloc: Global, link: &[u8], answers: &[u8]) -> Result<(), Fail> {
+    let orders = [gtin_order(9)?];
+    let left = drive_on(alloc, &[], &orders, answers, ALL)?;
+    expect_that(left.is(&silent(link, answers)), "an order that begins")
+}
+
+// Drives that go on with it, of version 2 and of version 1.
+fn judge_resumed(alloc: Global, link: &[u8], answers: &[u8]) -> Result<(), Fail> {
+    let (begun, ended) = SILENT_RECORDS.split_at(BEGAN);
+    let wanted = Wanted {
+        journal: ended,
+        out: SILENT.as_bytes(),
+        ..silent(link, answers)
+    };
+    let left = drive_on(alloc, begun, &[], answers, ALL)?;
+    expect_that(left.is(&wanted), "an order that goes on")?;
+    let left = drive_from(alloc, &OLD_BEGAN, &[], 7, answers, ALL)?;
+    expect_that(left.is(&wanted), "an order of version 1 that goes on")
 }
 
 #[test]
 fn an_absent_unit(rt: HostRuntime) -> Result<(), Fail> {
     let alloc = rt.alloc();
-    let orders = [gtin_order(9)?];
     let link = silent_link(alloc)?;
     let plain = silence(alloc)?;
-    let returned = b"--\r\n".repeat(alloc, 16)?;
+    judge_begun(alloc, &link, &plain)?;
+    judge_begun(alloc, &link, &b"--\r\n".repeat(alloc, 16)?)?;
     let mut unasked = b"FF\n".to_vec(alloc)?;
     unasked.extend_from_slice(&b"--\n".repeat(alloc, 15)?)?;
-    let silent = Wanted {
-        fault: None,
-        taken: plain.len(),
-        link: &link,
-        journal: &SILENT_RECORDS,
-        out: TAKEN_AND_SILENT.as_bytes(),
-        failed: [false; 4],
-    };
-    for answers in [&plain, &returned, &unasked] {
-        let left = drive_on(alloc, &[], &orders, answers, ALL)?;
-        let wanted = Wanted {
-            taken: answers.len(),
-            ..silent
-        };
-        assert!(rt; left.is(&wanted));
-    }
-    let (begun, ended) = SILENT_RECORDS.split_at(BEGAN);
-    let wanted = Wanted {
-        journal: ended,
-        out: SILENT.as_bytes(),
-        ..silent
-    };
-    let left = drive_on(alloc, begun, &[], &plain, ALL)?;
-    assert!(rt; left.is(&wanted));
-    let left = drive_from(alloc, &OLD_BEGAN, &[], 7, &plain, ALL)?;
-    assert!(rt; left.is(&wanted));
-    Ok(())
+    judge_begun(alloc, &link, &unasked)?;
+    judge_resumed(alloc, &link, &plain)
 }
 
 // The same records where the order was submitted at 1700000000.
@@ -91,42 +103,51 @@ const SILENT_LATER: [u8; 33] = [
     0x03,
 ];
 
+// A drive at a moment, where the order begins.
+fn judge_taken(alloc: Global, link: &[u8], answers: &[u8]) -> Result<(), Fail> {
+    let orders = [gtin_order(9)?];
+    let wanted = Wanted {
+        journal: &SILENT_LATER,
+        ..silent(link, answers)
+    };
+    let left = drive_from(alloc, &[], &orders, 1_700_000_000, answers, ALL)?;
+    expect_that(left.is(&wanted), "an order that begins")
+}
+
+// A drive at another one, which goes on with it.
+fn judge_going_on(alloc: Global, link: &[u8], answers: &[u8]) -> Result<(), Fail> {
+    let begun = file_of(alloc, &SILENT_LATER[..BEGAN])?;
+    let wanted = Wanted {
+        journal: &SILENT_LATER[BEGAN..],
+        out: SILENT.as_bytes(),
+        ..silent(link, answers)
+    };
+    let left = drive_from(alloc, &begun, &[], 1_700_000_009, answers, ALL)?;
+    expect_that(left.is(&wanted), "an order that goes on")
+}
+
+// A drive at another one, which has it done.
+fn judge_known(alloc: Global, answers: &[u8]) -> Result<(), Fail> {
+    let whole = file_of(alloc, &SILENT_LATER)?;
+    let orders = [gtin_order(9)?];
+    let wanted = Wanted {
+        journal: &[],
+        out: SILENT.as_bytes(),
+        ..silent(&[], &[])
+    };
+    let left = drive_from(alloc, &whole, &orders, 1_700_000_009, answers, ALL)?;
+    expect_that(left.is(&wanted), "an order that has ended")
+}
+
 // The moment stands in the journal, and a drive at another one goes on with the order, or has it done.
 #[test]
 fn moments(rt: HostRuntime) -> Result<(), Fail> {
     let alloc = rt.alloc();
-    let orders = [gtin_order(9)?];
     let link = silent_link(alloc)?;
     let answers = silence(alloc)?;
-    let whole = file_of(alloc, &SILENT_LATER)?;
-    let begun = file_of(alloc, &SILENT_LATER[..BEGAN])?;
-    let left = drive_from(alloc, &[], &orders, 1_700_000_000, &answers, ALL)?;
-    let taken = Wanted {
-        fault: None,
-        taken: answers.len(),
-        link: &link,
-        journal: &SILENT_LATER,
-        out: TAKEN_AND_SILENT.as_bytes(),
-        failed: [false; 4],
-    };
-    assert!(rt; left.is(&taken));
-    let left = drive_from(alloc, &begun, &[], 1_700_000_009, &answers, ALL)?;
-    let went_on = Wanted {
-        journal: &SILENT_LATER[BEGAN..],
-        out: SILENT.as_bytes(),
-        ..taken
-    };
-    assert!(rt; left.is(&went_on));
-    let left = drive_from(alloc, &whole, &orders, 1_700_000_009, &answers, ALL)?;
-    let known = Wanted {
-        taken: 0,
-        link: &[],
-        journal: &[],
-        out: SILENT.as_bytes(),
-        ..taken
-    };
-    assert!(rt; left.is(&known));
-    Ok(())
+    judge_taken(alloc, &link, &answers)?;
+    judge_going_on(alloc, &link, &answers)?;
+    judge_known(alloc, &answers)
 }
 
 const LENGTH: DriveFault = DriveFault::Line(LineFault::Length);
@@ -149,11 +170,9 @@ const REFUSED: [(&str, DriveFault, usize, usize); 10] = [
 
 #[test]
 fn lines_that_are_refused(rt: HostRuntime) -> Result<(), Fail> {
-    let alloc = rt.alloc();
     let orders = [gtin_order(9)?];
-    let link = silent_link(alloc)?;
+    let link = silent_link(rt.alloc())?;
     for (line, fault, taken, frames) in REFUSED {
-        let left = drive_on(alloc, &[], &orders, line.as_bytes(), ALL)?;
         let wanted = Wanted {
             fault: Some(fault),
             taken,
@@ -162,7 +181,8 @@ fn lines_that_are_refused(rt: HostRuntime) -> Result<(), Fail> {
             out: TAKEN.as_bytes(),
             failed: [false; 4],
         };
-        assert!(rt; left.is(&wanted), "{line}");
+        let left = drive_on(rt.alloc(), &[], &orders, line.as_bytes(), ALL)?;
+        expect_that(left.is(&wanted), line)?;
     }
     Ok(())
 }
@@ -284,9 +304,18 @@ impl Broken {
             failed: self.failed,
         }
     }
+
+    // Drives with that stream, and tells whether that is what it leaves.
+    fn judge(&self, alloc: Global, link: &[u8], answers: &[u8]) -> Result<(), Fail> {
+        let orders = [gtin_order(9)?];
+        let left = drive_on(alloc, &[], &orders, answers, self.good)?;
+        expect_that(left.is(&self.wanted(link)), self.name)?;
+        let stands = stands(alloc, &left.journal, self.counted)?;
+        expect_that(stands, self.name)
+    }
 }
 
-// How many bytes of the file count, and how an order stands behind them: begun behind the header and a Began.
+// Whether so many bytes of the file count, and how an order stands behind them: begun behind the header and a Began.
 fn stands(alloc: Global, records: &[u8], counted: usize) -> Result<bool, Fail> {
     let (journal, count, _) = Journal::load(alloc, 10, &file_of(alloc, records)?)?;
     let is_as_begun = match journal.standing() {
@@ -300,14 +329,10 @@ fn stands(alloc: Global, records: &[u8], counted: usize) -> Result<bool, Fail> {
 #[test]
 fn streams_that_fail(rt: HostRuntime) -> Result<(), Fail> {
     let alloc = rt.alloc();
-    let orders = [gtin_order(9)?];
     let link = silent_link(alloc)?;
     let answers = silence(alloc)?;
     for row in &BROKEN {
-        let left = drive_on(alloc, &[], &orders, &answers, row.good)?;
-        let name = row.name;
-        assert!(rt; left.is(&row.wanted(&link)), "{name}");
-        assert!(rt; stands(alloc, &left.journal, row.counted)?, "{name}");
+        row.judge(alloc, &link, &answers)?;
     }
     Ok(())
 }
@@ -331,17 +356,14 @@ fn an_order_that_ended(rt: HostRuntime) -> Result<(), Fail> {
         out: SILENT.as_bytes(),
         failed: [false; 4],
     };
-    assert!(rt; left.is(&wanted));
-    Ok(())
+    expect_that(left.is(&wanted), "an order that has ended")
 }
 
-#[test]
-fn streams_of_std(rt: HostRuntime) -> Result<(), Fail> {
-    let alloc = rt.alloc();
-    let answers = silence(alloc)?;
+// Drives the order over a reader and writers of std.
+fn drive_std(alloc: Global, answers: &[u8]) -> Result<Left, Fail> {
     let (journal, _, _) = Journal::load(alloc, 10, &[])?;
     let orders = [gtin_order(9)?];
-    let mut link_in = StdSource::new(answers.as_slice());
+    let mut link_in = StdSource::new(answers);
     let mut link_out = StdSink::new(Vec::new(alloc));
     let mut journal_out = StdSink::new(Vec::new(alloc));
     let mut out = StdSink::new(Vec::new(alloc));
@@ -354,15 +376,32 @@ fn streams_of_std(rt: HostRuntime) -> Result<(), Fail> {
         &mut journal_out,
         &mut out,
     );
-    assert_eq!(rt; driven.err(), None);
-    assert!(rt; link_in.reader.is_empty());
+    let taken = answers.len().saturating_sub(link_in.reader.len());
+    let is_at_end = matches!(link_in.take_byte(), Got::End);
+    expect_that(is_at_end, "no more bytes of the reader")?;
+    let failed = [
+        link_in.has_failed(),
+        link_out.has_failed(),
+        journal_out.has_failed(),
+        out.has_failed(),
+    ];
+    Ok(Left {
+        fault: driven.err(),
+        taken,
+        link: link_out.writer,
+        journal: journal_out.writer,
+        out: out.writer,
+        failed,
+    })
+}
+
+#[test]
+fn streams_of_std(rt: HostRuntime) -> Result<(), Fail> {
+    let alloc = rt.alloc();
     let link = silent_link(alloc)?;
-    assert_eq!(rt; link_out.writer.as_slice(), link.as_slice());
-    assert_eq!(rt; journal_out.writer.as_slice(), SILENT_RECORDS.as_slice());
-    assert_eq!(rt; out.writer.as_slice(), TAKEN_AND_SILENT.as_bytes());
-    assert_eq!(rt; link_in.take_byte(), Got::End);
-    assert!(rt; !link_in.has_failed() && !journal_out.has_failed());
-    Ok(())
+    let answers = silence(alloc)?;
+    let left = drive_std(alloc, &answers)?;
+    expect_that(left.is(&silent(&link, &answers)), "what the drive leaves")
 }
 
 // What a call of a reader or writer fails with, again and again, and whether all goes well in the end.
@@ -374,32 +413,48 @@ const ERRORS: [(&[ErrorKind], bool); 5] = [
     (&[ErrorKind::Interrupted, ErrorKind::WouldBlock], false),
 ];
 
+fn judge_reader(errors: &[ErrorKind], well: bool) -> Result<(), Fail> {
+    let got = if well { Got::Byte(b'-') } else { Got::Failed };
+    let mut source = StdSource::new(Fickle { errors, most: 1 });
+    expect_that(source.take_byte() == got, "a byte where all goes well")?;
+    expect_that(source.has_failed() != well, "a source that has failed")?;
+    expect_that(source.reader.errors.is_empty(), "all reads")
+}
+
+fn judge_writer(errors: &[ErrorKind], well: bool) -> Result<(), Fail> {
+    let count = if well { Some(2) } else { None };
+    let mut sink = StdSink::new(Fickle { errors, most: 2 });
+    expect_that(sink.put(b"123") == count, "two bytes where all goes well")?;
+    expect_that(sink.has_failed() != well, "a sink that has failed")?;
+    expect_that(sink.writer.errors.is_empty(), "all writes")
+}
+
+fn judge_flushes(errors: &[ErrorKind], well: bool) -> Result<(), Fail> {
+    let mut sink = StdSink::new(Fickle { errors, most: 2 });
+    expect_that(sink.flush() == well, "a flush where all goes well")?;
+    expect_that(sink.has_failed() != well, "a sink that has failed")?;
+    expect_that(sink.writer.errors.is_empty(), "all flushes")
+}
+
 #[test]
-fn calls_of_std_that_fail(rt: HostRuntime) -> Result<(), Fail> {
+fn calls_of_std_that_fail(_rt: HostRuntime) -> Result<(), Fail> {
     for (errors, well) in ERRORS {
-        let got = if well { Got::Byte(b'-') } else { Got::Failed };
-        let mut source = StdSource::new(Fickle { errors, most: 1 });
-        assert_eq!(rt; source.take_byte(), got, "{errors:?}");
-        assert_eq!(rt; source.has_failed(), !well, "{errors:?}");
-        assert!(rt; source.reader.errors.is_empty(), "{errors:?}");
-        let count = if well { Some(2) } else { None };
-        let mut sink = StdSink::new(Fickle { errors, most: 2 });
-        assert_eq!(rt; sink.put(b"123"), count, "{errors:?}");
-        assert_eq!(rt; sink.has_failed(), !well, "{errors:?}");
-        assert!(rt; sink.writer.errors.is_empty(), "{errors:?}");
-        let mut sink = StdSink::new(Fickle { errors, most: 2 });
-        assert_eq!(rt; sink.flush(), well, "{errors:?}");
-        assert_eq!(rt; sink.has_failed(), !well, "{errors:?}");
-        assert!(rt; sink.writer.errors.is_empty(), "{errors:?}");
+        judge_reader(errors, well)?;
+        judge_writer(errors, well)?;
+        judge_flushes(errors, well)?;
     }
     let empty = Fickle {
         errors: &[],
         most: 0,
     };
     let mut full = StdSink::new(empty);
-    assert_eq!(rt; full.put(b"1"), Some(0));
-    assert!(rt; full.has_failed());
-    Ok(())
+    expect_that(full.put(b"1") == Some(0), "no byte of a full sink")?;
+    expect_that(full.has_failed(), "a full sink that has failed")
+}
+
+fn judge_fault(alloc: Global, fault: DriveFault, number: u8, name: &str) -> Result<(), Fail> {
+    let text = fault.to_string(alloc)?;
+    expect_that(fault.number() == number && text.as_str() == name, name)
 }
 
 #[test]
@@ -413,9 +468,7 @@ fn faults(rt: HostRuntime) -> Result<(), Fail> {
         (DriveFault::TooLong, 6, "TooLong"),
         (DriveFault::Out, 7, "Out"),
     ] {
-        assert_eq!(rt; fault.number(), number);
-        let text = fault.to_string(rt.alloc())?;
-        assert_eq!(rt; text.as_str(), name);
+        judge_fault(rt.alloc(), fault, number, name)?;
     }
     Ok(())
 }

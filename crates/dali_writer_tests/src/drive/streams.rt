@@ -227,13 +227,11 @@ pub(crate) struct Fickle<'a> {
 
 impl<'a> Fickle<'a> {
     fn turn(&mut self) -> io::Result<()> {
-        match self.errors.split_first() {
-            Some((&kind, rest)) => {
-                self.errors = rest;
-                Err(io::Error::from(kind))
-            }
-            None => Ok(()),
-        }
+        let Some((kind, rest)) = self.errors.split_first() else {
+            return Ok(());
+        };
+        self.errors = rest;
+        Err(io::Error::from(*kind))
     }
 }
 

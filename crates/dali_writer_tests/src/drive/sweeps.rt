@@ -1,16 +1,15 @@
 // Drives of one order, with each stream failing at each place, and the drives that go on from what is left.
 use crate::drive::driving::{SILENT_RECORDS, gtin_order};
 use crate::drive::streams::{ALL, Good, Left, Wanted, drive_on, file_of};
+use crate::expected::expect_that;
 use crate::gtin::GTIN_RECORDS;
 use crate::writer::case::{ENOUGH, put};
-use dali_bank::Order;
 use dali_drive::DriveFault;
 use dali_frame::{Frame, byte_digits, line_of};
 use dali_gear::{Bus, GearFault, SimBus, Unit};
 use dali_journal::Journal;
 use dali_writer::{Want, Writer};
 use std::alloc::Global;
-use std::process::Abort;
 use std::test::Fail;
 
 // A blank unit 5.
@@ -20,18 +19,22 @@ fn one_unit(alloc: Global) -> Result<SimBus, GearFault> {
     SimBus::new(units, Vec::new(alloc))
 }
 
-// What a unit answers to a frame, and what is told in its place.
+// What a unit answers to a frame of this line, and what is told in its place.
 #[derive(Clone, Copy)]
 struct Lie {
-    frame: Frame,
+    line: [u8; 5],
     answered: u8,
     told: u8,
 }
 
-fn told(lie: Option<Lie>, frame: Frame, answer: Option<u8>) -> Option<u8> {
-    match lie {
-        Some(lie) if frame == lie.frame && answer == Some(lie.answered) => Some(lie.told),
-        _ => answer,
+fn told(lie: Option<Lie>, line: [u8; 5], answer: Option<u8>) -> Option<u8> {
+    let Some(lie) = lie else {
+        return answer;
+    };
+    if line == lie.line && answer == Some(lie.answered) {
+        Some(lie.told)
+    } else {
+        answer
     }
 }
 
@@ -69,8 +72,9 @@ fn work_by_hand(
             Want::Idle => return Ok(()),
             Want::Keep(_) => writer.kept(),
             Want::Send(frame) => {
-                let answer = told(lie, frame, bus.carry(&frame));
-                seen.note(frame, line_of(&frame), answer)?;
+                let line = line_of(&frame);
+                let answer = told(lie, line, bus.carry(&frame));
+                seen.note(frame, line, answer)?;
                 writer.heard(answer);
             }
             Want::Say(_, _) => writer.said(),
@@ -79,12 +83,12 @@ fn work_by_hand(
     Err("an idle writer".into())
 }
 
-// Goes on from these records, and then submits the order.
+// Goes on from these records, and then submits the order for a unit.
 fn by_hand(
     alloc: Global,
     bus: &mut SimBus,
     records: &[u8],
-    order: &Order,
+    unit: u8,
     lie: Option<Lie>,
 ) -> Result<Seen, Fail> {
     let (journal, _, _) = Journal::load(alloc, 10, &file_of(alloc, records)?)?;
@@ -95,13 +99,13 @@ fn by_hand(
         answers: Vec::new(alloc),
     };
     work_by_hand(bus, &mut writer, &mut seen, lie)?;
-    let _reply = writer.submit(order.copy(), 0)?;
+    let _reply = writer.submit(gtin_order(unit)?, 0)?;
     work_by_hand(bus, &mut writer, &mut seen, lie)?;
     Ok(seen)
 }
 
 // A stream, and how its places are counted.
-#[derive(Clone, Copy, Debug)]
+#[derive(Clone, Copy)]
 enum Stream {
     Answers,
     Link,
@@ -131,7 +135,7 @@ impl Stream {
 }
 
 // After so many bytes or flushes the stream fails, a sink as `Some(0)` or as `None`.
-#[derive(Clone, Copy, Debug)]
+#[derive(Clone, Copy)]
 struct Place {
     stream: Stream,
     number: usize,
@@ -250,26 +254,33 @@ impl<'a> Run<'a> {
     }
 }
 
-// Goes on from what a drive left, where so many frames were carried.
-fn judge_rest(
-    rt: &impl Abort,
-    alloc: Global,
-    run: &Run<'_>,
-    frames: &[Frame],
-    left: &Left,
-    place: Place,
-) -> Result<(), Fail> {
-    let orders = [gtin_order(run.unit)?];
-    let mut bus = one_unit(alloc)?;
+// Carries the frames again. Whether all are proper ones.
+fn carry_again(bus: &mut SimBus, frames: &[Frame]) -> bool {
     for frame in frames {
-        assert!(rt; frame.is_proper());
+        if !frame.is_proper() {
+            return false;
+        }
         bus.carry(frame);
     }
-    let counted = run.counted(left.journal.len());
-    let (_, of_file, _) = Journal::load(alloc, 10, &file_of(alloc, &left.journal)?)?;
-    assert!(rt; of_file.checked_sub(4) == Some(counted), "{place:?}");
-    let seen = by_hand(alloc, &mut bus, &left.journal, &orders[0], None)?;
-    let rest = drive_on(alloc, &left.journal, &orders, &seen.answers, ALL)?;
+    true
+}
+
+// How many bytes count of the journal's file with these records.
+fn counted_of(alloc: Global, records: &[u8]) -> Result<usize, Fail> {
+    let (_, counted, _) = Journal::load(alloc, 10, &file_of(alloc, records)?)?;
+    Ok(counted)
+}
+
+// A drive with no stream failing that goes on from these records, so many of which count.
+fn judge_driven(
+    alloc: Global,
+    run: &Run<'_>,
+    records: &[u8],
+    counted: usize,
+    seen: &Seen,
+) -> Result<(), Fail> {
+    let orders = [gtin_order(run.unit)?];
+    let left = drive_on(alloc, records, &orders, &seen.answers, ALL)?;
     let wanted = Wanted {
         fault: None,
         taken: seen.answers.len(),
@@ -278,8 +289,15 @@ fn judge_rest(
         out: run.said_from(counted).as_bytes(),
         failed: [false; 4],
     };
-    assert!(rt; rest.is(&wanted), "{place:?}");
-    Ok(())
+    expect_that(left.is(&wanted), "a drive to its end")
+}
+
+// Goes on from the records that a drive left, where so many frames were carried.
+fn judge_rest(alloc: Global, run: &Run<'_>, frames: &[Frame], records: &[u8]) -> Result<(), Fail> {
+    let mut bus = one_unit(alloc)?;
+    expect_that(carry_again(&mut bus, frames), "proper frames")?;
+    let seen = by_hand(alloc, &mut bus, records, run.unit, None)?;
+    judge_driven(alloc, run, records, run.counted(records.len()), &seen)
 }
 
 // Whether the drive left the first bytes of what the whole run leaves, up to the place.
@@ -293,52 +311,43 @@ fn is_cut_there(run: &Run<'_>, whole: &Seen, place: Place, left: &Left) -> bool 
 }
 
 // One place of a run, and what goes on from there. A frame whose answer wasn't read may have been carried or not.
-fn judge_place(
-    rt: &impl Abort,
-    alloc: Global,
-    run: &Run<'_>,
-    whole: &Seen,
-    place: Place,
-) -> Result<(), Fail> {
+fn judge_place(alloc: Global, run: &Run<'_>, whole: &Seen, place: Place) -> Result<(), Fail> {
     let orders = [gtin_order(run.unit)?];
     let left = drive_on(alloc, &[], &orders, &whole.answers, place.good())?;
-    assert!(rt; is_cut_there(run, whole, place, &left), "{place:?}");
+    expect_that(is_cut_there(run, whole, place, &left), "a drive cut there")?;
+    let counted = counted_of(alloc, &left.journal)?;
+    let wanted = run.counted(left.journal.len());
+    expect_that(counted.checked_sub(4) == Some(wanted), "whole records")?;
     let answered = left.taken / 3;
     let written = left.link.len() / 5;
-    assert!(rt; answered <= written && written - answered <= 1, "{place:?}");
+    let is_so = answered <= written && written - answered <= 1;
+    expect_that(is_so, "one frame at most with no answer")?;
     for carried in answered..=written {
         let frames = whole.frames.get(..carried).unwrap_or_default();
-        judge_rest(rt, alloc, run, frames, &left, place)?;
+        judge_rest(alloc, run, frames, &left.journal)?;
     }
     Ok(())
 }
 
 // The run with no stream failing.
-fn judge_whole(rt: &impl Abort, alloc: Global, run: &Run<'_>, whole: &Seen) -> Result<(), Fail> {
-    let orders = [gtin_order(run.unit)?];
-    let left = drive_on(alloc, &[], &orders, &whole.answers, ALL)?;
-    let wanted = Wanted {
-        fault: None,
-        taken: whole.answers.len(),
-        link: &whole.link,
-        journal: run.journal,
-        out: run.said[0].as_bytes(),
-        failed: [false; 4],
-    };
-    assert!(rt; left.is(&wanted));
-    assert_eq!(rt; whole.frames.len(), usize::from(run.frames));
+fn judge_whole(alloc: Global, run: &Run<'_>, whole: &Seen) -> Result<(), Fail> {
     let (lines, answers) = run.first;
-    assert!(rt;
-        whole.link.starts_with(lines.as_bytes()) && whole.answers.starts_with(answers.as_bytes())
-    );
-    Ok(())
+    expect_that(
+        whole.frames.len() == usize::from(run.frames),
+        "so many frames",
+    )?;
+    expect_that(whole.link.starts_with(lines.as_bytes()), "the first lines")?;
+    expect_that(
+        whole.answers.starts_with(answers.as_bytes()),
+        "the first answers",
+    )?;
+    judge_driven(alloc, run, &[], 0, whole)
 }
 
 // The run, whole, and then with each stream failing at each place.
-fn sweep(rt: &impl Abort, alloc: Global, run: &Run<'_>) -> Result<(), Fail> {
-    let order = gtin_order(run.unit)?;
-    let whole = by_hand(alloc, &mut one_unit(alloc)?, &[], &order, None)?;
-    judge_whole(rt, alloc, run, &whole)?;
+fn sweep(alloc: Global, run: &Run<'_>) -> Result<(), Fail> {
+    let whole = by_hand(alloc, &mut one_unit(alloc)?, &[], run.unit, None)?;
+    judge_whole(alloc, run, &whole)?;
     for (stream, places) in [
         (Stream::Answers, whole.answers.len()),
         (Stream::Link, whole.link.len()),
@@ -354,7 +363,7 @@ fn sweep(rt: &impl Abort, alloc: Global, run: &Run<'_>) -> Result<(), Fail> {
                     number,
                     counts,
                 };
-                judge_place(rt, alloc, run, &whole, place)?;
+                judge_place(alloc, run, &whole, place)?;
             }
         }
     }
@@ -363,19 +372,19 @@ fn sweep(rt: &impl Abort, alloc: Global, run: &Run<'_>) -> Result<(), Fail> {
 
 #[test]
 fn an_absent_unit_with_each_stream_failing(rt: HostRuntime) -> Result<(), Fail> {
-    sweep(&rt, rt.alloc(), &ABSENT)
+    sweep(rt.alloc(), &ABSENT)
 }
 
 #[test]
 fn a_gtin_with_each_stream_failing(rt: HostRuntime) -> Result<(), Fail> {
-    sweep(&rt, rt.alloc(), &WRITTEN)
+    sweep(rt.alloc(), &WRITTEN)
 }
 
 // The write of 03h never comes back as it was sent, and then the byte that is read back.
 const LIES: [(Lie, usize); 2] = [
     (
         Lie {
-            frame: Frame::Write(0x03),
+            line: *b"C703\n",
             answered: 0x03,
             told: 0x04,
         },
@@ -383,7 +392,7 @@ const LIES: [(Lie, usize); 2] = [
     ),
     (
         Lie {
-            frame: Frame::Read(5),
+            line: *b"0BC5\n",
             answered: 0x03,
             told: 0x00,
         },
@@ -391,25 +400,28 @@ const LIES: [(Lie, usize); 2] = [
     ),
 ];
 
+fn judge_lie(alloc: Global, lie: Lie, frames: usize, journal: &[u8]) -> Result<(), Fail> {
+    let seen = by_hand(alloc, &mut one_unit(alloc)?, &[], 5, Some(lie))?;
+    let orders = [gtin_order(5)?];
+    let left = drive_on(alloc, &[], &orders, &seen.answers, ALL)?;
+    let wanted = Wanted {
+        fault: None,
+        taken: seen.answers.len(),
+        link: &seen.link,
+        journal,
+        out: b"reply 1 taken\nreply 1 kept 4 Doubt\n",
+        failed: [false; 4],
+    };
+    expect_that(left.is(&wanted), "a drive that ends in doubt")?;
+    expect_that(seen.frames.len() == frames, "so many frames")
+}
+
 #[test]
 fn wrong_answers(rt: HostRuntime) -> Result<(), Fail> {
-    let alloc = rt.alloc();
-    let orders = [gtin_order(5)?];
     let mut journal = GTIN_RECORDS;
     journal[34] = 0x04;
     for (lie, frames) in LIES {
-        let seen = by_hand(alloc, &mut one_unit(alloc)?, &[], &orders[0], Some(lie))?;
-        let left = drive_on(alloc, &[], &orders, &seen.answers, ALL)?;
-        let wanted = Wanted {
-            fault: None,
-            taken: seen.answers.len(),
-            link: &seen.link,
-            journal: &journal,
-            out: b"reply 1 taken\nreply 1 kept 4 Doubt\n",
-            failed: [false; 4],
-        };
-        assert!(rt; left.is(&wanted), "{frames}");
-        assert_eq!(rt; seen.frames.len(), frames);
+        judge_lie(rt.alloc(), lie, frames, &journal)?;
     }
     Ok(())
 }

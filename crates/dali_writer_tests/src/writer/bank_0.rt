@@ -1,3 +1,4 @@
+use crate::expected::expect_that;
 use crate::gtin::GTIN;
 use crate::own_bus::TestBus;
 use crate::writer::case::{Deed, ENOUGH, events_of, frames_of, sent};
@@ -28,6 +29,19 @@ const SECOND_TRY: [(Frame, Option<u8>); 7] = [
     (Frame::AskDtr1(9), Some(0x01)),
 ];
 
+fn judge_tries(trace: &[Happening], frames: &[(Frame, Option<u8>)]) -> Result<(), Fail> {
+    expect_that(frames.starts_with(&FIRST_TRY), "the first try")?;
+    let rest = frames.get(7..).unwrap_or_default();
+    expect_that(rest.starts_with(&SECOND_TRY), "the second try")?;
+    let count = 14 + 8 * 7 + 8 * 7 + 8 * 5;
+    expect_that(frames_of(trace) == count, "so many frames")?;
+    let is_in_doubt = matches!(
+        trace.last(),
+        Some(Happening::Answered(1, Reply::Kept(Code::DoubtOpen)))
+    );
+    expect_that(is_in_doubt, "an order that ends in doubt")
+}
+
 // Bank 0 of the unit ends at 02h, before the GTIN's last location, and bank 1 doesn't: a read of six frames would keep
 // a wrong Short. The unit hears no write, so that the order ends in doubt: 14 frames, eight tries of a checked write
 // twice, and eight reads of the lock byte, which it doesn't have.
@@ -46,13 +60,5 @@ fn power_lost_before_a_read_of_a_unit_with_bank_0(rt: HostRuntime) -> Result<(),
     };
     let outcome = run(rt.alloc(), &mut bus, 10, &events)?;
     let frames = sent(rt.alloc(), &outcome.trace)?;
-    assert!(rt; frames.starts_with(&FIRST_TRY));
-    assert!(rt; frames.get(7..).unwrap_or_default().starts_with(&SECOND_TRY));
-    assert_eq!(rt; frames_of(&outcome.trace), 14 + 8 * 7 + 8 * 7 + 8 * 5);
-    let is_in_doubt = matches!(
-        outcome.trace.last(),
-        Some(Happening::Answered(1, Reply::Kept(Code::DoubtOpen)))
-    );
-    assert!(rt; is_in_doubt);
-    Ok(())
+    judge_tries(&outcome.trace, &frames)
 }

@@ -1,3 +1,4 @@
+use crate::expected::expect_that;
 use crate::gtin::GTIN;
 use crate::writer::case::{
     Case, DONE, Deed, ENOUGH, PLAIN, STORED, TAKEN, bus_of, judge, run_case,
@@ -5,6 +6,7 @@ use crate::writer::case::{
 use dali_bank::BLANK;
 use dali_journal::Code;
 use dali_writer::{Reply, RunFault};
+use std::alloc::Global;
 use std::test::Fail;
 
 // The updates of the GTIN 96385074.
@@ -92,12 +94,11 @@ const TWO_YEARS: Case<'static> = Case {
 
 #[test]
 fn runs_without_losses(rt: HostRuntime) -> Result<(), Fail> {
-    judge(&rt, rt.alloc(), &PLAIN)?;
-    judge(&rt, rt.alloc(), &AGAIN)?;
-    judge(&rt, rt.alloc(), &USED_AGAIN)?;
-    judge(&rt, rt.alloc(), &YEAR_AND_WEEK_RUN)?;
-    judge(&rt, rt.alloc(), &TWO_YEARS)?;
-    Ok(())
+    judge(rt.alloc(), &PLAIN)?;
+    judge(rt.alloc(), &AGAIN)?;
+    judge(rt.alloc(), &USED_AGAIN)?;
+    judge(rt.alloc(), &YEAR_AND_WEEK_RUN)?;
+    judge(rt.alloc(), &TWO_YEARS)
 }
 
 const YEAR_AND_VOLTAGE_RUN: Case<'static> = Case {
@@ -180,16 +181,15 @@ const FRAMES_1_AND_10: Case<'static> = Case {
 
 #[test]
 fn runs_with_losses(rt: HostRuntime) -> Result<(), Fail> {
-    judge(&rt, rt.alloc(), &YEAR_AND_VOLTAGE_RUN)?;
-    judge(&rt, rt.alloc(), &FRAME_40)?;
-    judge(&rt, rt.alloc(), &FRAME_19)?;
-    judge(&rt, rt.alloc(), &SEVEN_ANSWERS)?;
-    judge(&rt, rt.alloc(), &ONE_ACCESS)?;
-    judge(&rt, rt.alloc(), &TWO_ACCESSES)?;
-    judge(&rt, rt.alloc(), &FRAME_1)?;
-    judge(&rt, rt.alloc(), &FRAMES_1_AND_8)?;
-    judge(&rt, rt.alloc(), &FRAMES_1_AND_10)?;
-    Ok(())
+    judge(rt.alloc(), &YEAR_AND_VOLTAGE_RUN)?;
+    judge(rt.alloc(), &FRAME_40)?;
+    judge(rt.alloc(), &FRAME_19)?;
+    judge(rt.alloc(), &SEVEN_ANSWERS)?;
+    judge(rt.alloc(), &ONE_ACCESS)?;
+    judge(rt.alloc(), &TWO_ACCESSES)?;
+    judge(rt.alloc(), &FRAME_1)?;
+    judge(rt.alloc(), &FRAMES_1_AND_8)?;
+    judge(rt.alloc(), &FRAMES_1_AND_10)
 }
 
 const NO_UNIT: Case<'static> = Case {
@@ -236,10 +236,9 @@ const A_FIXED_LOCATION: Case<'static> = Case {
 
 #[test]
 fn runs_with_other_units(rt: HostRuntime) -> Result<(), Fail> {
-    judge(&rt, rt.alloc(), &NO_UNIT)?;
-    judge(&rt, rt.alloc(), &A_SHORT_BANK)?;
-    judge(&rt, rt.alloc(), &A_FIXED_LOCATION)?;
-    Ok(())
+    judge(rt.alloc(), &NO_UNIT)?;
+    judge(rt.alloc(), &A_SHORT_BANK)?;
+    judge(rt.alloc(), &A_FIXED_LOCATION)
 }
 
 const A_CUT_RECORD: Case<'static> = Case {
@@ -284,10 +283,9 @@ const AMID_THE_WRITES: Case<'static> = Case {
 
 #[test]
 fn runs_with_stops(rt: HostRuntime) -> Result<(), Fail> {
-    judge(&rt, rt.alloc(), &A_CUT_RECORD)?;
-    judge(&rt, rt.alloc(), &A_WHOLE_RECORD)?;
-    judge(&rt, rt.alloc(), &AMID_THE_WRITES)?;
-    Ok(())
+    judge(rt.alloc(), &A_CUT_RECORD)?;
+    judge(rt.alloc(), &A_WHOLE_RECORD)?;
+    judge(rt.alloc(), &AMID_THE_WRITES)
 }
 
 const ONE_ORDER: Case<'static> = Case {
@@ -350,9 +348,8 @@ const TWO_ORDERS: Case<'static> = Case {
 
 #[test]
 fn full_journals(rt: HostRuntime) -> Result<(), Fail> {
-    judge(&rt, rt.alloc(), &ONE_ORDER)?;
-    judge(&rt, rt.alloc(), &TWO_ORDERS)?;
-    Ok(())
+    judge(rt.alloc(), &ONE_ORDER)?;
+    judge(rt.alloc(), &TWO_ORDERS)
 }
 
 #[test]
@@ -379,7 +376,7 @@ fn another_content_format(rt: HostRuntime) -> Result<(), Fail> {
         held: &[(5, 0x03, &STORED), (5, 0x13, &[0xFF])],
         ..PLAIN
     };
-    judge(&rt, rt.alloc(), &case)
+    judge(rt.alloc(), &case)
 }
 
 // Order 1 for a unit that is then left, and order 2 for another one, twice.
@@ -419,7 +416,7 @@ fn a_run_with_a_left_unit(rt: HostRuntime) -> Result<(), Fail> {
         ending: &LEFT_ENDING,
         ..PLAIN
     };
-    judge(&rt, rt.alloc(), &case)
+    judge(rt.alloc(), &case)
 }
 
 #[test]
@@ -444,34 +441,37 @@ fn a_left_unit_that_answers_late(rt: HostRuntime) -> Result<(), Fail> {
         ],
         ..PLAIN
     };
-    judge(&rt, rt.alloc(), &case)
+    judge(rt.alloc(), &case)
+}
+
+// How many orders a journal may hold, the fault of a run for so many, and how many fates it leaves.
+const LIMITS: [(u32, Option<RunFault>, usize); 4] = [
+    (0, Some(RunFault::Limit), 199),
+    (1, None, 87),
+    (100_000, None, 87),
+    (100_001, Some(RunFault::Limit), 199),
+];
+
+// The fault of a run of the GTIN, where it has one, and how many fates it leaves.
+fn run_within(alloc: Global, limit: u32) -> Result<(Option<RunFault>, usize), Fail> {
+    let case = Case { limit, ..PLAIN };
+    let mut bus = bus_of(alloc, &case)?;
+    let fault = run_case(alloc, &mut bus, &case).err();
+    Ok((fault, bus.fates_left()))
+}
+
+fn judge_fault(alloc: Global, fault: RunFault, number: u8, name: &str) -> Result<(), Fail> {
+    let text = fault.to_string(alloc)?;
+    expect_that(fault.number() == number && text.as_str() == name, name)
 }
 
 #[test]
 fn limits(rt: HostRuntime) -> Result<(), Fail> {
-    let alloc = rt.alloc();
-    for (limit, fault, fates_left) in [
-        (0, Some(RunFault::Limit), 199),
-        (1, None, 87),
-        (100_000, None, 87),
-        (100_001, Some(RunFault::Limit), 199),
-    ] {
-        let case = Case { limit, ..PLAIN };
-        let mut bus = bus_of(alloc, &case)?;
-        let found = match run_case(alloc, &mut bus, &case) {
-            Ok(_) => None,
-            Err(fault) => Some(fault),
-        };
-        assert_eq!(rt; found, fault, "{limit}");
-        assert_eq!(rt; bus.fates_left(), fates_left, "{limit}");
+    for (limit, wanted, wanted_left) in LIMITS {
+        let (fault, left) = run_within(rt.alloc(), limit)?;
+        expect_that(fault == wanted, "the fault")?;
+        expect_that(left == wanted_left, "the fates that are left")?;
     }
-    for (fault, number, name) in [
-        (RunFault::Limit, 1, "Limit"),
-        (RunFault::NoMemory, 2, "NoMemory"),
-    ] {
-        assert_eq!(rt; fault.number(), number);
-        let text = fault.to_string(alloc)?;
-        assert_eq!(rt; text.as_str(), name);
-    }
-    Ok(())
+    judge_fault(rt.alloc(), RunFault::Limit, 1, "Limit")?;
+    judge_fault(rt.alloc(), RunFault::NoMemory, 2, "NoMemory")
 }

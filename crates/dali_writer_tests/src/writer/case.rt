@@ -1,3 +1,4 @@
+use crate::expected::expect_that;
 use crate::gtin::{GTIN, HEADER};
 use dali_bank::{BLANK, Order};
 use dali_frame::Frame;
@@ -5,7 +6,6 @@ use dali_gear::{Fate, GearFault, SimBus, Unit};
 use dali_journal::Code;
 use dali_writer::{Event, Happening, Outcome, Reply, RunFault, run_sim};
 use std::alloc::{AllocError, Global};
-use std::process::Abort;
 use std::test::Fail;
 
 pub(crate) const STORED: [u8; 6] = [0x03, 0xA4, 0xCE, 0xEF, 0xAD, 0xAB];
@@ -134,6 +134,19 @@ pub(crate) fn events_of(alloc: Global, deeds: &[Deed<'_>]) -> Result<Vec<Event>,
     Ok(events)
 }
 
+// What becomes of the frame of this number.
+fn fate_of(number: usize, lost: &[(usize, usize)], unanswered: &[usize]) -> Fate {
+    let mut is_lost = false;
+    for &(first, last) in lost {
+        is_lost |= first <= number && number <= last;
+    }
+    Fate {
+        lost: if is_lost { 1 << 5 } else { 0 },
+        answer_lost: unanswered.contains(&number),
+        refuse: false,
+    }
+}
+
 fn fates_of(
     alloc: Global,
     lost: &[(usize, usize)],
@@ -141,16 +154,7 @@ fn fates_of(
 ) -> Result<Vec<Fate>, GearFault> {
     let mut fates = Vec::new(alloc);
     for number in 1..200usize {
-        let mut fate = Fate {
-            answer_lost: unanswered.contains(&number),
-            ..Fate::default()
-        };
-        for &(first, last) in lost {
-            if first <= number && number <= last {
-                fate.lost = 1 << 5;
-            }
-        }
-        put(&mut fates, fate)?;
+        put(&mut fates, fate_of(number, lost, unanswered))?;
     }
     Ok(fates)
 }
@@ -227,24 +231,38 @@ pub(crate) fn holds(unit: &Unit, location: usize, bytes: &[u8]) -> bool {
     rest.starts_with(bytes)
 }
 
+// Judges what a run of the case gave.
+fn judge_outcome(
+    case: &Case<'_>,
+    outcome: &Outcome,
+    answers: &[(u64, Reply, usize)],
+) -> Result<(), Fail> {
+    expect_that(answers == case.answers, case.name)?;
+    expect_that(frames_of(&outcome.trace) == case.frames, case.name)?;
+    let journal = outcome.journal.as_slice();
+    expect_that(journal.len() == case.journal, case.name)?;
+    expect_that(journal.starts_with(&HEADER), case.name)?;
+    expect_that(journal.ends_with(case.ending), case.name)
+}
+
+// Judges the units that it left.
+fn judge_units(case: &Case<'_>, bus: &SimBus) -> Result<(), Fail> {
+    for &(address, location, bytes) in case.held {
+        let unit = unit_at(bus, address)?;
+        expect_that(holds(unit, location, bytes), case.name)?;
+    }
+    for unit in bus.units() {
+        expect_that(!unit.is_enabled(), case.name)?;
+        expect_that(unit.bank2().starts_with(&BANK_2), case.name)?;
+    }
+    Ok(())
+}
+
 // Runs a case, and tells whether all is as it should be.
-pub(crate) fn judge(rt: &impl Abort, alloc: Global, case: &Case<'_>) -> Result<(), Fail> {
-    let name = case.name;
+pub(crate) fn judge(alloc: Global, case: &Case<'_>) -> Result<(), Fail> {
     let mut bus = bus_of(alloc, case)?;
     let outcome = run_case(alloc, &mut bus, case)?;
     let answers = answers_of(alloc, &outcome.trace)?;
-    assert_eq!(rt; answers.as_slice(), case.answers, "{name}");
-    assert_eq!(rt; frames_of(&outcome.trace), case.frames, "{name}");
-    assert_eq!(rt; outcome.journal.len(), case.journal, "{name}");
-    assert!(rt; outcome.journal.starts_with(&HEADER), "{name}");
-    assert!(rt; outcome.journal.ends_with(case.ending), "{name}");
-    for &(address, location, bytes) in case.held {
-        let unit = unit_at(&bus, address)?;
-        assert!(rt; holds(unit, location, bytes), "{name} at {location}");
-    }
-    for unit in bus.units() {
-        assert!(rt; !unit.is_enabled(), "{name}");
-        assert!(rt; unit.bank2().starts_with(&BANK_2), "{name}");
-    }
-    Ok(())
+    judge_outcome(case, &outcome, &answers)?;
+    judge_units(case, &bus)
 }

@@ -1,8 +1,10 @@
+use crate::expected::expect_that;
 use crate::gtin::{GTIN_RECORDS, HEADER};
 use crate::writer::case::{
     Case, DONE, PLAIN, STORED, TAKEN, bus_of, holds, judge, run_case, sent, unit_at,
 };
 use dali_frame::Frame;
+use dali_gear::Unit;
 use dali_journal::Record;
 use dali_writer::Happening;
 use std::test::Fail;
@@ -32,35 +34,48 @@ const FIRST_FRAMES: [(Frame, Option<u8>); 21] = [
     (Frame::Write(0x03), Some(0x03)),
 ];
 
-#[test]
-fn a_gtin(rt: HostRuntime) -> Result<(), Fail> {
-    let mut bus = bus_of(rt.alloc(), &PLAIN)?;
-    let outcome = run_case(rt.alloc(), &mut bus, &PLAIN)?;
-    let records = outcome.journal.get(4..).unwrap_or_default();
-    assert!(rt; outcome.journal.starts_with(&HEADER));
-    assert_eq!(rt; records, GTIN_RECORDS.as_slice());
-    let frames = sent(rt.alloc(), &outcome.trace)?;
-    let first = frames.get(..FIRST_FRAMES.len()).unwrap_or_default();
-    assert_eq!(rt; first, FIRST_FRAMES.as_slice());
-    assert_eq!(rt; frames.len(), 112);
+// The unit that the record Opened names, and how many frames were sent before it.
+fn opened_in(trace: &[Happening]) -> Option<(u8, usize)> {
     let mut before = 0usize;
     let mut opened = None;
-    for happening in outcome.trace.iter() {
+    for happening in trace {
         match happening {
             Happening::Kept(Record::Opened(unit)) => opened = Some((*unit, before)),
             Happening::Sent(_, _) => before = before.saturating_add(1),
             _ => {}
         }
     }
-    assert_eq!(rt; opened, Some((5, 7)));
-    let unit = unit_at(&bus, 5)?;
-    assert_eq!(rt;
-        (unit.dtrs(), unit.is_enabled()),
-        ((0x09, 0x01, 0x00), false)
-    );
-    assert!(rt; holds(unit, 0x02, &[0xFF]));
-    assert!(rt; holds(unit, 0x03, &STORED));
-    Ok(())
+    opened
+}
+
+fn judge_journal(journal: &[u8]) -> Result<(), Fail> {
+    expect_that(journal.starts_with(&HEADER), "the journal's header")?;
+    let records = journal.get(4..).unwrap_or_default();
+    expect_that(records == GTIN_RECORDS.as_slice(), "the journal's records")
+}
+
+fn judge_frames(frames: &[(Frame, Option<u8>)]) -> Result<(), Fail> {
+    expect_that(frames.starts_with(&FIRST_FRAMES), "the first frames")?;
+    expect_that(frames.len() == 112, "112 frames")
+}
+
+fn judge_unit(unit: &Unit) -> Result<(), Fail> {
+    expect_that(unit.dtrs() == (0x09, 0x01, 0x00), "the registers")?;
+    expect_that(!unit.is_enabled(), "a unit that isn't write-enabled")?;
+    expect_that(holds(unit, 0x02, &[0xFF]), "a unit that is locked")?;
+    expect_that(holds(unit, 0x03, &STORED), "the GTIN in bank 1")
+}
+
+#[test]
+fn a_gtin(rt: HostRuntime) -> Result<(), Fail> {
+    let mut bus = bus_of(rt.alloc(), &PLAIN)?;
+    let outcome = run_case(rt.alloc(), &mut bus, &PLAIN)?;
+    let frames = sent(rt.alloc(), &outcome.trace)?;
+    judge_journal(&outcome.journal)?;
+    judge_frames(&frames)?;
+    let is_opened = opened_in(&outcome.trace) == Some((5, 7));
+    expect_that(is_opened, "unit 5 opened after seven frames")?;
+    judge_unit(unit_at(&bus, 5)?)
 }
 
 const ANSWER_21: Case<'static> = Case {
@@ -84,17 +99,22 @@ const WRITTEN: [(u8, Option<u8>); 9] = [
     (0xFF, Some(0xFF)),
 ];
 
+// Judges the bytes that these frames write.
+fn judge_written(frames: &[(Frame, Option<u8>)]) -> Result<(), Fail> {
+    let mut number = 0usize;
+    for &(frame, answer) in frames {
+        if let Frame::Write(byte) = frame {
+            expect_that(WRITTEN.get(number) == Some(&(byte, answer)), "a byte")?;
+            number = number.saturating_add(1);
+        }
+    }
+    expect_that(number == WRITTEN.len(), "all of the bytes")
+}
+
 #[test]
 fn a_lost_write_answer(rt: HostRuntime) -> Result<(), Fail> {
     let mut bus = bus_of(rt.alloc(), &ANSWER_21)?;
     let outcome = run_case(rt.alloc(), &mut bus, &ANSWER_21)?;
-    let mut number = 0usize;
-    for (frame, answer) in sent(rt.alloc(), &outcome.trace)? {
-        if let Frame::Write(byte) = frame {
-            assert_eq!(rt; Some(&(byte, answer)), WRITTEN.get(number));
-            number = number.saturating_add(1);
-        }
-    }
-    assert_eq!(rt; number, WRITTEN.len());
-    judge(&rt, rt.alloc(), &ANSWER_21)
+    judge_written(&sent(rt.alloc(), &outcome.trace)?)?;
+    judge(rt.alloc(), &ANSWER_21)
 }

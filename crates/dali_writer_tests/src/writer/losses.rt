@@ -1,8 +1,8 @@
+use crate::expected::expect_that;
 use crate::writer::case::{Case, DONE, PLAIN, TAKEN, bus_of, frames_of, judge, run_case};
 use dali_journal::Code;
 use dali_writer::{Happening, Reply};
 use std::alloc::Global;
-use std::process::Abort;
 use std::test::Fail;
 
 // Seven answers of the last access are lost: each costs a read of two frames that misses at its first query.
@@ -26,21 +26,20 @@ const EIGHT_AT_THE_END: Case<'static> = Case {
 
 #[test]
 fn losses_at_the_end(rt: HostRuntime) -> Result<(), Fail> {
-    judge(&rt, rt.alloc(), &SEVEN_AT_THE_END)?;
-    judge(&rt, rt.alloc(), &EIGHT_AT_THE_END)
+    judge(rt.alloc(), &SEVEN_AT_THE_END)?;
+    judge(rt.alloc(), &EIGHT_AT_THE_END)
 }
 
 // A GTIN order that loses one frame or answer is done, with one try more at most.
-fn judge_one(rt: &impl Abort, alloc: Global, number: usize, case: &Case<'_>) -> Result<(), Fail> {
+fn judge_one(alloc: Global, case: &Case<'_>) -> Result<(), Fail> {
     let mut bus = bus_of(alloc, case)?;
     let outcome = run_case(alloc, &mut bus, case)?;
     let is_done = matches!(
         outcome.trace.last(),
         Some(Happening::Answered(1, Reply::Kept(Code::Done)))
     );
-    assert!(rt; is_done, "{number}");
-    assert!(rt; frames_of(&outcome.trace) <= 119, "{number}");
-    Ok(())
+    let is_short = frames_of(&outcome.trace) <= 119;
+    expect_that(is_done && is_short, "an order that is done in 119 frames")
 }
 
 // Each of the 112 frames in turn is lost to the unit, and then each answer.
@@ -52,13 +51,13 @@ fn one_loss_at_each_frame(rt: HostRuntime) -> Result<(), Fail> {
             lost: &lost,
             ..PLAIN
         };
-        judge_one(&rt, rt.alloc(), number, &case)?;
+        judge_one(rt.alloc(), &case)?;
         let unanswered = [number];
         let case = Case {
             unanswered: &unanswered,
             ..PLAIN
         };
-        judge_one(&rt, rt.alloc(), number, &case)?;
+        judge_one(rt.alloc(), &case)?;
     }
     Ok(())
 }

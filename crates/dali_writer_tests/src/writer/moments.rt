@@ -1,10 +1,10 @@
+use crate::expected::expect_that;
 use crate::writer::case::{Case, STORED, bus_of};
 use dali_bank::BLANK;
-use dali_gear::{Bus, Unit};
+use dali_gear::{Bus, SimBus, Unit};
 use dali_journal::{Code, Record};
-use dali_writer::{Happening, Outcome};
+use dali_writer::Happening;
 use std::alloc::Global;
-use std::process::Abort;
 use std::test::Fail;
 
 // What a unit's six locations may hold, and whether it was ever opened.
@@ -20,6 +20,15 @@ struct Allowed {
     unit: u8,
     may: May,
     was_opened: bool,
+}
+
+// What a unit may hold at first.
+fn new_unit(unit: u8) -> Allowed {
+    Allowed {
+        unit,
+        may: May::HoldOld,
+        was_opened: false,
+    }
 }
 
 impl Allowed {
@@ -65,47 +74,71 @@ impl Allowed {
     }
 }
 
-// Carries the frames of a trace again, with its losses of power, and tells whether each unit holds at each moment
-// what the records so far allow.
-pub(crate) fn judge_moments(
-    rt: &impl Abort,
-    alloc: Global,
-    case: &Case<'_>,
-    outcome: &Outcome,
-    place: usize,
-) -> Result<(), Fail> {
-    let mut bus = bus_of(alloc, case)?;
-    let mut allowed = [5, 6].map(|unit| Allowed {
-        unit,
-        may: May::HoldOld,
-        was_opened: false,
-    });
-    let mut at_work = 0;
-    for happening in outcome.trace.iter() {
-        match happening {
-            Happening::Sent(frame, answer) => {
-                assert!(rt; frame.is_proper(), "{place}");
-                let again = bus.carry(frame);
-                assert_eq!(rt; again, *answer, "{place}");
-            }
-            Happening::Powered(address) => bus.power(*address),
-            Happening::Kept(entry) => {
-                if let Record::Began(order, _) = entry {
-                    at_work = order.unit();
-                }
-                for rule in allowed.iter_mut() {
-                    if rule.unit == at_work {
-                        *rule = rule.after(entry);
-                    }
-                }
-            }
-            _ => {}
+// The unit whose order is at work, and what each unit may hold.
+#[derive(Drop)]
+struct Rules {
+    at_work: u8,
+    allowed: [Allowed; 2],
+}
+
+impl Rules {
+    fn note(&mut self, entry: &Record) {
+        if let Record::Began(order, _) = entry {
+            self.at_work = order.unit();
         }
-        for unit in bus.units() {
-            for rule in &allowed {
-                assert!(rt; rule.allows(unit), "{place}");
+        for rule in self.allowed.iter_mut() {
+            if rule.unit == self.at_work {
+                *rule = rule.after(entry);
             }
         }
     }
+
+    fn allow(&self, units: &[Unit]) -> bool {
+        for unit in units {
+            for rule in &self.allowed {
+                if !rule.allows(unit) {
+                    return false;
+                }
+            }
+        }
+        true
+    }
+}
+
+// Carries a frame again, or loses power again. Whether the answer is as it was.
+fn happens_again(bus: &mut SimBus, happening: &Happening) -> bool {
+    match happening {
+        Happening::Sent(frame, answer) => frame.is_proper() && bus.carry(frame) == *answer,
+        Happening::Powered(address) => {
+            bus.power(*address);
+            true
+        }
+        _ => true,
+    }
+}
+
+fn judge_on(bus: &mut SimBus, trace: &[Happening]) -> Result<(), Fail> {
+    let mut rules = Rules {
+        at_work: 0,
+        allowed: [new_unit(5), new_unit(6)],
+    };
+    for happening in trace {
+        expect_that(happens_again(bus, happening), "the same answer again")?;
+        if let Happening::Kept(entry) = happening {
+            rules.note(entry);
+        }
+        expect_that(rules.allow(bus.units()), "units as the records allow")?;
+    }
     Ok(())
+}
+
+// Carries the frames of a trace again, with its losses of power, and tells whether each unit holds at each moment
+// what the records so far allow.
+pub(crate) fn judge_moments(
+    alloc: Global,
+    case: &Case<'_>,
+    trace: &[Happening],
+) -> Result<(), Fail> {
+    let mut bus = bus_of(alloc, case)?;
+    judge_on(&mut bus, trace)
 }

@@ -1,12 +1,13 @@
+use crate::expected::expect_that;
 use crate::gtin::GTIN;
 use crate::writer::case::{
     Case, DONE, Deed, ENOUGH, PLAIN, TAKEN, bus_of, holds, judge, run_case, unit_at,
 };
 use crate::writer::moments::judge_moments;
+use dali_gear::Unit;
 use dali_journal::Code;
 use dali_writer::{Happening, Reply};
 use std::alloc::Global;
-use std::process::Abort;
 use std::test::Fail;
 
 const DOUBT: Reply = Reply::Kept(Code::Doubt);
@@ -77,26 +78,31 @@ const OF_OTHERS: Case<'static> = Case {
 
 #[test]
 fn units_that_lose_their_power(rt: HostRuntime) -> Result<(), Fail> {
-    for case in [BEFORE_THE_READ, AFTER_THE_READ, ONCE_UNLOCKED, OF_OTHERS] {
-        judge(&rt, rt.alloc(), &case)?;
-    }
-    Ok(())
+    judge(rt.alloc(), &BEFORE_THE_READ)?;
+    judge(rt.alloc(), &AFTER_THE_READ)?;
+    judge(rt.alloc(), &ONCE_UNLOCKED)?;
+    judge(rt.alloc(), &OF_OTHERS)
 }
 
-// The reply that came last, where one did.
-fn last_reply(trace: &[Happening]) -> Option<Reply> {
-    let mut last = None;
+// Whether the reply that came last says Done or doubt.
+fn is_done_or_in_doubt(trace: &[Happening]) -> bool {
+    let mut is_so = false;
     for happening in trace {
         if let Happening::Answered(_, reply) = happening {
-            last = Some(*reply);
+            is_so = matches!(reply, Reply::Kept(Code::Done) | Reply::Kept(Code::Doubt));
         }
     }
-    last
+    is_so
+}
+
+fn judge_locked(unit: &Unit) -> Result<(), Fail> {
+    expect_that(holds(unit, 2, &[0xFF]), "a unit that is locked")?;
+    expect_that(!unit.is_enabled(), "a unit that isn't write-enabled")
 }
 
 // A GTIN, with the unit's power lost after so many steps: at each moment each unit holds what the records allow, and
 // it ends as Done or in doubt, with the unit locked.
-fn judge_at(rt: &impl Abort, alloc: Global, steps: usize) -> Result<(), Fail> {
+fn judge_at(alloc: Global, steps: usize) -> Result<(), Fail> {
     let deeds = [
         Deed::Submit(1, 5, &GTIN),
         Deed::Steps(steps),
@@ -109,19 +115,16 @@ fn judge_at(rt: &impl Abort, alloc: Global, steps: usize) -> Result<(), Fail> {
     };
     let mut bus = bus_of(alloc, &case)?;
     let outcome = run_case(alloc, &mut bus, &case)?;
-    judge_moments(rt, alloc, &case, &outcome, steps)?;
-    let reply = last_reply(&outcome.trace);
-    assert!(rt; reply == Some(DONE) || reply == Some(DOUBT), "{steps}");
-    let unit = unit_at(&bus, 5)?;
-    assert!(rt; holds(unit, 2, &[0xFF]) && !unit.is_enabled(), "{steps}");
-    Ok(())
+    judge_moments(alloc, &case, &outcome.trace)?;
+    expect_that(is_done_or_in_doubt(&outcome.trace), "Done or doubt")?;
+    judge_locked(unit_at(&bus, 5)?)
 }
 
 // Of the 116 steps that a GTIN takes, after each in turn, and before the first.
 #[test]
 fn a_loss_of_power_after_each_step(rt: HostRuntime) -> Result<(), Fail> {
     for steps in 0..=116usize {
-        judge_at(&rt, rt.alloc(), steps)?;
+        judge_at(rt.alloc(), steps)?;
     }
     Ok(())
 }

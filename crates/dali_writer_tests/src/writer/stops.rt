@@ -1,3 +1,4 @@
+use crate::expected::expect_that;
 use crate::gtin::{GTIN, HEADER};
 use crate::writer::case::{
     Case, DONE, Deed, ENOUGH, PLAIN, TAKEN, bus_of, events_of, frames_of, judge, put, submit,
@@ -100,19 +101,15 @@ const ENDED_WHOLE: Case<'static> = Case {
 
 #[test]
 fn records_cut_and_whole(rt: HostRuntime) -> Result<(), Fail> {
-    for case in [
-        BEGAN_CUT,
-        BEGAN_CUT_AND_TAKEN,
-        BEGAN_WHOLE,
-        BEGAN_WHOLE_AND_MORE,
-        OPENED_CUT,
-        ENDED_CUT_THERE,
-        ENDED_CUT,
-        ENDED_WHOLE,
-    ] {
-        judge(&rt, rt.alloc(), &case)?;
-    }
-    Ok(())
+    let alloc = rt.alloc();
+    judge(alloc, &BEGAN_CUT)?;
+    judge(alloc, &BEGAN_CUT_AND_TAKEN)?;
+    judge(alloc, &BEGAN_WHOLE)?;
+    judge(alloc, &BEGAN_WHOLE_AND_MORE)?;
+    judge(alloc, &OPENED_CUT)?;
+    judge(alloc, &ENDED_CUT_THERE)?;
+    judge(alloc, &ENDED_CUT)?;
+    judge(alloc, &ENDED_WHOLE)
 }
 
 // The units that the three submissions are for, each with the number of its order, and how many steps
@@ -147,16 +144,19 @@ fn events_with_a_stop(
     Ok(events)
 }
 
+fn judge_stop(alloc: Global, submission: usize, step: usize, bytes: u16) -> Result<(), Fail> {
+    let events = events_with_a_stop(alloc, submission, step, bytes)?;
+    let mut bus = bus_of(alloc, &LEFT)?;
+    let outcome = run_sim(alloc, &mut bus, 10, &events)?;
+    judge_moments(alloc, &LEFT, &outcome.trace)
+}
+
 #[test]
 fn a_stop_after_each_step(rt: HostRuntime) -> Result<(), Fail> {
-    let alloc = rt.alloc();
     for (submission, &(_, _, steps)) in SUBMISSIONS.iter().enumerate() {
         for step in 0..=steps {
             for bytes in [0, 1, 22, 400] {
-                let events = events_with_a_stop(alloc, submission, step, bytes)?;
-                let mut bus = bus_of(alloc, &LEFT)?;
-                let outcome = run_sim(alloc, &mut bus, 10, &events)?;
-                judge_moments(&rt, alloc, &LEFT, &outcome, step)?;
+                judge_stop(rt.alloc(), submission, step, bytes)?;
             }
         }
     }
@@ -184,6 +184,23 @@ fn are_same(one: &SimBus, other: &SimBus) -> bool {
     true
 }
 
+// Judges the bus of a run that sent so many frames and then ended for want of memory: it is as some of the events leave
+// it, the first of which send as many.
+fn judge_left(alloc: Global, bus: &SimBus, sent: usize, events: &[Event]) -> Result<(), Fail> {
+    for served in 0..=events.len() {
+        let mut again = bus_of(alloc, &CUT)?;
+        let first = events.get(..served).unwrap_or_default();
+        let outcome = run_sim(alloc, &mut again, CUT.limit, first)?;
+        if frames_of(&outcome.trace) == sent {
+            return expect_that(
+                are_same(bus, &again),
+                "the bus as the first events leave it",
+            );
+        }
+    }
+    Err("no events leave the bus so".into())
+}
+
 // `./test` runs this one again and again, with each allocation refused in turn: a run that ends for
 // want of memory leaves the bus as some of the events leave it, the first of which send as many frames.
 #[test]
@@ -196,14 +213,6 @@ fn a_refused_run_leaves_the_bus_there(rt: HostRuntime) -> Result<(), Fail> {
         return Ok(());
     };
     let sent = fates.saturating_sub(bus.fates_left());
-    for served in 0..=events.len() {
-        let mut again = bus_of(alloc, &CUT)?;
-        let first = events.get(..served).unwrap_or_default();
-        let outcome = run_sim(alloc, &mut again, CUT.limit, first)?;
-        if frames_of(&outcome.trace) == sent {
-            assert!(rt; are_same(&bus, &again), "{served}");
-            return Err(fault.into());
-        }
-    }
-    Err("no events leave the bus so".into())
+    judge_left(alloc, &bus, sent, &events)?;
+    Err(fault.into())
 }

@@ -1,12 +1,12 @@
 // Orders that are submitted at moments, and where memory is refused.
+use crate::expected::expect_that;
 use crate::gtin::GTIN;
 use crate::writer::case::{Case, DONE, Deed, ENOUGH, PLAIN, TAKEN, bus_of, judge, put, run_case};
 use dali_bank::Order;
 use dali_gear::{Bus, SimBus};
 use dali_journal::{Code, Journal, NoMemory, Record};
-use dali_writer::{Happening, Reply, RunFault, Want, Writer};
+use dali_writer::{Happening, Outcome, Reply, RunFault, Want, Writer};
 use std::alloc::Global;
-use std::process::Abort;
 use std::test::Fail;
 
 // 65 53 F1 00 in hexadecimal digits.
@@ -155,31 +155,34 @@ fn has_moments(alloc: Global, bytes: &[u8], begun: &[(u64, u64)]) -> Result<bool
     Ok(has)
 }
 
-// Runs a case, and tells whether its moments are as they should be too.
-fn judge_submitted(rt: &impl Abort, alloc: Global, submitted: &Submitted<'_>) -> Result<(), Fail> {
-    let case = &submitted.case;
-    let name = case.name;
-    judge(rt, alloc, case)?;
-    let mut bus = bus_of(alloc, case)?;
-    let outcome = run_case(alloc, &mut bus, case)?;
+// Judges the moments that a run gave.
+fn judge_given(alloc: Global, submitted: &Submitted<'_>, outcome: &Outcome) -> Result<(), Fail> {
     let asked = asked_in(alloc, &outcome.trace)?;
     let begun = begun_in(alloc, &outcome.trace)?;
-    assert!(rt; asked.as_slice() == submitted.asked, "{name}");
-    assert!(rt; begun.as_slice() == submitted.begun, "{name}");
-    assert!(rt;
-        has_moments(alloc, &outcome.journal, submitted.begun)?,
-        "{name}"
-    );
-    Ok(())
+    let is_right = asked.as_slice() == submitted.asked && begun.as_slice() == submitted.begun;
+    expect_that(is_right, submitted.case.name)?;
+    let has = has_moments(alloc, &outcome.journal, submitted.begun)?;
+    expect_that(has, submitted.case.name)
+}
+
+// Runs a case, and tells whether its moments are as they should be too.
+fn judge_submitted(alloc: Global, submitted: &Submitted<'_>) -> Result<(), Fail> {
+    judge(alloc, &submitted.case)?;
+    let mut bus = bus_of(alloc, &submitted.case)?;
+    let outcome = run_case(alloc, &mut bus, &submitted.case)?;
+    judge_given(alloc, submitted, &outcome)
 }
 
 #[test]
 fn moments_of_submissions(rt: HostRuntime) -> Result<(), Fail> {
-    for submitted in [DONE_ALREADY, AT_WORK, FORGOTTEN, STOPPED, BLOCKED] {
-        judge_submitted(&rt, rt.alloc(), &submitted)?;
-    }
-    Ok(())
+    judge_submitted(rt.alloc(), &DONE_ALREADY)?;
+    judge_submitted(rt.alloc(), &AT_WORK)?;
+    judge_submitted(rt.alloc(), &FORGOTTEN)?;
+    judge_submitted(rt.alloc(), &STOPPED)?;
+    judge_submitted(rt.alloc(), &BLOCKED)
 }
+
+const MOMENT_BYTES: [u8; 8] = [0x00, 0x00, 0x00, 0x00, 0x65, 0x53, 0xF1, 0x00];
 
 #[test]
 fn the_bytes_of_a_moment(rt: HostRuntime) -> Result<(), Fail> {
@@ -187,16 +190,10 @@ fn the_bytes_of_a_moment(rt: HostRuntime) -> Result<(), Fail> {
     let mut bus = bus_of(alloc, &DONE_ALREADY.case)?;
     let outcome = run_case(alloc, &mut bus, &DONE_ALREADY.case)?;
     let moment = outcome.journal.get(13..21).unwrap_or_default();
-    assert_eq!(rt;
-        moment,
-        [0x00, 0x00, 0x00, 0x00, 0x65, 0x53, 0xF1, 0x00].as_slice()
-    );
+    expect_that(moment == MOMENT_BYTES.as_slice(), "the bytes of the moment")?;
     let (journal, _, _) = Journal::load(alloc, 10, &outcome.journal)?;
-    assert_eq!(rt;
-        (journal.moment(1), journal.moment(2)),
-        (Some(MOMENT), None)
-    );
-    Ok(())
+    let has_one = journal.moment(1) == Some(MOMENT) && journal.moment(2).is_none();
+    expect_that(has_one, "the moment of order 1 alone")
 }
 
 // `./test` runs this one again and again, with each allocation refused in turn. An order that was refused is taken
@@ -209,8 +206,9 @@ fn a_refused_order_is_taken_when_it_comes_again(rt: HostRuntime) -> Result<(), F
         Ok(reply) => (reply, false),
         Err(_) => (writer.submit(order.copy(), LATER)?, true),
     };
-    assert_eq!(rt; reply, Reply::Taken);
-    assert!(rt; matches!(writer.want(), Want::Keep(Record::Began(_, LATER))));
+    expect_that(matches!(reply, Reply::Taken), "an order that is taken")?;
+    let begins = matches!(writer.want(), Want::Keep(Record::Began(_, LATER)));
+    expect_that(begins, "the record of its begin")?;
     if was_refused {
         return Err(NoMemory.into());
     }
@@ -240,7 +238,9 @@ fn a_taken_order_comes_to_its_saying(rt: HostRuntime) -> Result<(), Fail> {
     let mut bus = bus_of(rt.alloc(), &PLAIN)?;
     let mut writer = Writer::new(Journal::new(rt.alloc(), 2)?);
     let order = Order::from_pairs(1, 5, &GTIN).ok_or("an order")?;
-    assert_eq!(rt; writer.submit(order, 0)?, Reply::Taken);
-    assert!(rt; said_by_hand(&mut bus, &mut writer) == Some((1, DONE)));
-    Ok(())
+    let reply = writer.submit(order, 0)?;
+    expect_that(matches!(reply, Reply::Taken), "an order that is taken")?;
+    let said = said_by_hand(&mut bus, &mut writer);
+    let is_done = matches!(said, Some((1, Reply::Kept(Code::Done))));
+    expect_that(is_done, "an order that is done")
 }

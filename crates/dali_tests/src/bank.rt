@@ -1,5 +1,8 @@
+mod pairs;
+mod shown;
+
 use crate::expected::expect_that;
-use dali_bank::{BLANK, BankFault, Draft, Field, Order, Shown, Value, laws, read_field};
+use dali_bank::{BLANK, BankFault, Draft, Field, Order, Value, laws};
 use std::alloc::Global;
 use std::test::Fail;
 
@@ -27,10 +30,6 @@ fn fault_of(field: Field, value: Value<'_>) -> Option<BankFault> {
 
 fn has_updates(order: &Order, updates: &[(u8, u8)]) -> bool {
     order.updates() == updates
-}
-
-fn shows(bank: &[u8], field: Field, shown: Shown) -> bool {
-    read_field(bank, field) == shown
 }
 
 // A blank bank with the order's bytes.
@@ -363,196 +362,6 @@ fn identification_digits_in_either_case(rt: HostRuntime) -> Result<(), Fail> {
     for &text in &["0123456789ABCDEF", "0123456789abcdef", "0123456789aBcDeF"] {
         let order = order_of(&[(Field::Identification, Value::Hex(text))])?;
         expect_that(has_at(&laid(&order), 0x09, &IDENTIFICATION), text)?;
-    }
-    Ok(())
-}
-
-// A bank with a GTIN, an identification, the content format, a year and a week.
-const SHORT: [u8; 21] = [
-    0x14, 0xff, 0xff, 0x03, 0xa4, 0xce, 0xef, 0xad, 0xab, 0x00, 0x11, 0x22, 0x33, 0x44, 0x55, 0x66,
-    0x77, 0x00, 0x03, 0x18, 0x35,
-];
-
-#[test]
-fn a_short_bank_is_shown(rt: HostRuntime) -> Result<(), Fail> {
-    for &field in &Field::ALL {
-        let shown = match field {
-            Field::Gtin => Shown::Number(4006381333931),
-            Field::Identification => Shown::Hex,
-            Field::Year => Shown::Number(24),
-            Field::Week => Shown::Number(53),
-            _ => Shown::Absent,
-        };
-        expect_that(shows(&SHORT, field, shown), "each field of a short bank")?;
-    }
-    let shorter = &SHORT[..20];
-    expect_that(shows(shorter, Field::Week, Shown::Absent), "no week")?;
-    expect_that(shows(shorter, Field::Year, Shown::Number(24)), "a year")
-}
-
-#[test]
-fn bytes_that_stand_for_no_value_are_raw(rt: HostRuntime) -> Result<(), Fail> {
-    let mut bank = SHORT;
-    bank[0x13] = 0x64;
-    bank[0x08] = 0xac;
-    expect_that(shows(&bank, Field::Year, Shown::Raw), "no year of 100")?;
-    expect_that(shows(&bank, Field::Gtin, Shown::Raw), "no GTIN")?;
-    // 00000096385074, and a number of 15 digits.
-    bank[0x03..0x09].copy_from_slice(&[0x00, 0x00, 0x05, 0xbe, 0xb8, 0x32]);
-    expect_that(
-        shows(&bank, Field::Gtin, Shown::Number(96385074)),
-        "a GTIN of 8 digits",
-    )?;
-    bank[0x03..0x09].copy_from_slice(&[0xff, 0xff, 0xff, 0xff, 0xff, 0xfe]);
-    expect_that(
-        shows(&bank, Field::Gtin, Shown::Raw),
-        "no GTIN of 15 digits",
-    )
-}
-
-// Whether a bank with these bytes as its colour shows it so.
-fn shows_colour(bytes: &[u8; 24], shown: Shown) -> bool {
-    let mut bank = BLANK;
-    bank[0x24..0x3c].copy_from_slice(bytes);
-    shows(&bank, Field::Colour, shown)
-}
-
-#[test]
-fn texts_are_shown_up_to_their_zeros(rt: HostRuntime) -> Result<(), Fail> {
-    expect_that(
-        shows_colour(b"RAL 9016\0\0\0\0\0\0\0\0\0\0\0\0\0\0\0\0", Shown::Text(8)),
-        "a text up to its zeros",
-    )?;
-    expect_that(
-        shows_colour(b"RAL 9016\0\0\0\0\0\0\0\0\0\0\0\0\0\0\0!", Shown::Raw),
-        "no text with a letter behind a zero",
-    )?;
-    expect_that(
-        shows_colour(&[b'~'; 24], Shown::Text(24)),
-        "a text without zeros",
-    )?;
-    expect_that(shows_colour(&[0; 24], Shown::Raw), "no text of zeros alone")
-}
-
-// Numbers, units and pairs, and whether they make an order.
-const PAIRS: [(u64, u8, &[(u8, u8)], bool); 24] = [
-    (0, 0, &[(0x13, 24)], true),
-    (u64::MAX, 63, &[(0x13, 24)], true),
-    (1, 64, &[(0x13, 24)], false),
-    (1, 255, &[(0x13, 24)], false),
-    (1, 5, &[], false),
-    (1, 5, &[(0x00, 24)], false),
-    (1, 5, &[(0x02, 24)], false),
-    (1, 5, &[(0x03, 24)], true),
-    (1, 5, &[(0x10, 24)], true),
-    (1, 5, &[(0x11, 24)], false),
-    (1, 5, &[(0x12, 24)], false),
-    (1, 5, &[(0x13, 24)], true),
-    (1, 5, &[(0x77, 24)], true),
-    (1, 5, &[(0x78, 24)], false),
-    (1, 5, &[(0xFF, 24)], false),
-    (1, 5, &[(0x03, 0x00), (0x04, 0xFF)], true),
-    (1, 5, &[(0x10, 1), (0x13, 2)], true),
-    (1, 5, &[(0x10, 1), (0x11, 2)], false),
-    (1, 5, &[(0x12, 1), (0x13, 2)], false),
-    (1, 5, &[(0x77, 1), (0x78, 2)], false),
-    (1, 5, &[(0x13, 1), (0x13, 1)], false),
-    (1, 5, &[(0x13, 1), (0x13, 2)], false),
-    (1, 5, &[(0x14, 1), (0x13, 2)], false),
-    (1, 5, &[(0x13, 1), (0x15, 2), (0x14, 3)], false),
-];
-
-fn judge_pairs(number: u64, unit: u8, pairs: &[(u8, u8)], is_order: bool) -> Result<(), Fail> {
-    match Order::from_pairs(number, unit, pairs) {
-        Some(order) => {
-            expect_that(is_order, "no order of pairs out of place")?;
-            expect_that(order.id() == number && order.unit() == unit, "number, unit")?;
-            expect_that(has_updates(&order, pairs), "the pairs of each order")
-        }
-        None => expect_that(!is_order, "an order of pairs in place"),
-    }
-}
-
-#[test]
-fn orders_of_pairs(rt: HostRuntime) -> Result<(), Fail> {
-    for &(number, unit, pairs, is_order) in &PAIRS {
-        judge_pairs(number, unit, pairs, is_order)?;
-    }
-    Ok(())
-}
-
-fn push_all_places(pairs: &mut Vec<(u8, u8)>) -> Result<(), Fail> {
-    for location in 0x03..=0x77u8 {
-        if location != 0x11 && location != 0x12 {
-            pairs.push((location, 0xFF))?;
-        }
-    }
-    Ok(())
-}
-
-fn judge_all_places(pairs: &[(u8, u8)]) -> Result<(), Fail> {
-    expect_that(pairs.len() == 115, "115 places")?;
-    let order = Order::from_pairs(1, 5, pairs).ok_or("an order")?;
-    expect_that(has_updates(&order, pairs), "an update of each place")
-}
-
-#[test]
-fn an_order_of_all_places(rt: HostRuntime) -> Result<(), Fail> {
-    let mut pairs = Vec::new(rt.alloc());
-    push_all_places(&mut pairs)?;
-    judge_all_places(&pairs)?;
-    pairs.push((0x78, 0xFF))?;
-    expect_that(
-        Order::from_pairs(1, 5, &pairs).is_none(),
-        "no order with a place past the last",
-    )
-}
-
-// Numbers, units and pairs, and whether their order is the same as order 7 for unit 5.
-const OTHERS: [(u64, u8, &[(u8, u8)], bool); 8] = [
-    (7, 5, &[(0x13, 24), (0x14, 53)], true),
-    (8, 5, &[(0x13, 24), (0x14, 53)], false),
-    (7, 6, &[(0x13, 24), (0x14, 53)], false),
-    (7, 5, &[(0x13, 25), (0x14, 53)], false),
-    (7, 5, &[(0x13, 24), (0x14, 52)], false),
-    (7, 5, &[(0x13, 24), (0x15, 53)], false),
-    (7, 5, &[(0x13, 24)], false),
-    (7, 5, &[(0x13, 24), (0x14, 53), (0x15, 0)], false),
-];
-
-fn judge_same(order: &Order, other: &Order, is_same: bool) -> Result<(), Fail> {
-    expect_that(order.same(other) == is_same, "the same order")?;
-    expect_that(
-        other.same(order) == is_same,
-        "the same order, asked the other",
-    )
-}
-
-#[test]
-fn orders_that_are_the_same(rt: HostRuntime) -> Result<(), Fail> {
-    let order = Order::from_pairs(7, 5, &[(0x13, 24), (0x14, 53)]).ok_or("an order")?;
-    expect_that(order.same(&order.copy()), "a copy that is the same")?;
-    for &(number, unit, pairs, is_same) in &OTHERS {
-        let other = Order::from_pairs(number, unit, pairs).ok_or("another order")?;
-        judge_same(&order, &other, is_same)?;
-    }
-    Ok(())
-}
-
-#[test]
-fn a_blank_bank(rt: HostRuntime) -> Result<(), Fail> {
-    for (location, &byte) in BLANK.iter().enumerate() {
-        let wanted = match location {
-            0x00 => 0x77,
-            0x11 => 0x00,
-            0x12 => 0x03,
-            _ => 0xff,
-        };
-        expect_that(byte == wanted, "the bytes of a blank bank")?;
-    }
-    for &field in &Field::ALL {
-        let is_unknown = matches!(read_field(&BLANK, field), Shown::Unknown);
-        expect_that(is_unknown, "unknown fields alone")?;
     }
     Ok(())
 }

@@ -1,9 +1,10 @@
 ghost use Rattle.std.specs.Prelude.{◌≡◌, ◌⊎◌, List, ℕ, IfOk, IfErr, IfSome, IfNone, codes, false, map};
 ghost use Rattle.clap.specs.declared.builder.command.Command.TheViews.{out-Command as fields_of};
 ghost use Rattle.std.specs.Bool.{Decides};
-ghost use Rattle.clap.specs.Words.{HasKind, app_of, fault_of, subcommand_rows_of};
+ghost use Rattle.clap.specs.Words.{HasKind, app_of, fault_of, rule_of, subcommand_rows_of};
 ghost use Rattle.dali_job.specs.Jobs.{HasFlag, HasNumber, HasValue, IsJob, IsJobOf, IsNoJob, NamesNoJob};
-ghost use Rattle.dali_job.specs.Jobs.{bench_app, command_app, drive_app, run_app};
+ghost use Rattle.dali_job.specs.Jobs.{bench_app, command_app, drive_app, flag_rule};
+ghost use Rattle.dali_job.specs.Jobs.{number_rule, run_app, value_rule};
 ghost use Rattle.dali_job.specs.declared.job.Job.TheVariants.{Drive};
 ghost use Rattle.std.specs.Borrow.{Bor};
 
@@ -252,11 +253,7 @@ fn run_command<'a>(alloc: Global) -> Result<Command<'a>, AllocError>
     ensures app { IfOk result (λ command. app_of command ≡ run_app) }
     ensures local { IfOk result (λ command. (fields_of command).has_globals ≡ false) }
 {
-    let frames = Arg::new(alloc, "frames")
-        .long("frames")
-        .help(FRAMES_HELP)
-        .action(ArgAction::SetTrue);
-    let command = command_with(alloc, "run", "SCENARIO", SCENARIO_HELP)?.arg(frames)?;
+    let command = command_with(alloc, "run", "SCENARIO", SCENARIO_HELP)?.arg(frames_flag(alloc))?;
     Ok(told(command, RUN_ABOUT, RUN_FAULTS))
 }
 
@@ -292,19 +289,9 @@ fn drive_command<'a>(alloc: Global) -> Result<Command<'a>, AllocError>
     ensures app { IfOk result (λ command. app_of command ≡ drive_app) }
     ensures local { IfOk result (λ command. (fields_of command).has_globals ≡ false) }
 {
-    let journal = Arg::new(alloc, "JOURNAL")
-        .help(DRIVE_JOURNAL_HELP)
-        .required(true)
-        .action(ArgAction::Set);
-    let moment = Arg::new(alloc, "moment")
-        .long("moment")
-        .value_name("M")
-        .help(DRIVE_MOMENT_HELP)
-        .value_parser(value_parser!(u64))
-        .default_value("0")
-        .action(ArgAction::Set);
+    let journal = value_argument(alloc, "JOURNAL", DRIVE_JOURNAL_HELP);
     let files = command_with(alloc, "drive", "ORDERS", DRIVE_ORDERS_HELP)?.arg(journal)?;
-    let command = files.arg(moment)?;
+    let command = files.arg(moment_option(alloc))?;
     Ok(told(command, DRIVE_ABOUT, DRIVE_FAULTS))
 }
 
@@ -318,11 +305,37 @@ fn command_with<'a>(
     ensures app { IfOk result (λ command. app_of command ≡ command_app name.entry.now id.entry.now) }
     ensures local { IfOk result (λ command. (fields_of command).has_globals ≡ false) }
 {
-    let argument = Arg::new(alloc, id)
-        .help(help)
-        .required(true)
-        .action(ArgAction::Set);
-    Command::new(alloc, name).arg(argument)
+    Command::new(alloc, name).arg(value_argument(alloc, id, help))
+}
+
+// An argument that has to be there, and takes one value.
+fn value_argument<'a>(alloc: Global, id: &'a str, help: &'a str) -> Arg<'a>
+    ensures rule { rule_of result ≡ value_rule id.entry.now }
+    ensures local { result.global ≡ false }
+{
+    Arg::new(alloc, id).help(help).required(true).action(ArgAction::Set)
+}
+
+// The flag of `run`.
+fn frames_flag<'a>(alloc: Global) -> Arg<'a>
+    ensures rule { rule_of result ≡ flag_rule (codes "frames") }
+    ensures local { result.global ≡ false }
+{
+    Arg::new(alloc, "frames").long("frames").help(FRAMES_HELP).action(ArgAction::SetTrue)
+}
+
+// The option of `drive`, with the number that stands where it isn't given.
+fn moment_option<'a>(alloc: Global) -> Arg<'a>
+    ensures rule { rule_of result ≡ number_rule (codes "moment") (codes "0") }
+    ensures local { result.global ≡ false }
+{
+    Arg::new(alloc, "moment")
+        .long("moment")
+        .value_name("M")
+        .help(DRIVE_MOMENT_HELP)
+        .value_parser(value_parser!(u64))
+        .default_value("0")
+        .action(ArgAction::Set)
 }
 
 // The command, with what it does and more, as its faults, in its help.

@@ -1,0 +1,69 @@
+"""The crates of this repository, as crates.txt lists them."""
+
+import os
+import pathlib
+import re
+import shutil
+import time
+
+ROOT = pathlib.Path(__file__).resolve().parent.parent
+CRATES = ROOT / "crates"
+# What a crate is made of.
+PARTS = ("src", "specs", "proofs")
+# The memory that a check may take, in bytes, of the largest crate and some more.
+ONE_CHECK = 4 << 30
+
+
+def text_of(path):
+    """Give a file's text, empty where there is none."""
+    return path.read_text(encoding="utf-8") if path.is_file() else ""
+
+
+def uses():
+    """Give each crate's libraries: those of this repository, and those of the kit."""
+    found = {}
+    for line in text_of(ROOT / "crates.txt").split("\n"):
+        name, colon, rest = line.partition(":")
+        if colon and not line.startswith("#"):
+            found[name] = rest.split()
+    return {
+        name: ([it for it in used if it in found], [it for it in used if it not in found])
+        for name, used in found.items()
+    }
+
+
+def below(name, used):
+    """Give all libraries of this repository that a crate stands on."""
+    return {it for lib in used[name][0] for it in {lib, *below(lib, used)}}
+
+
+def linked(one, other):
+    """Give a file of a library or a checked module a second name, where that can be: it is made anew, and never changed."""
+    try:
+        if one.endswith(".oantt") or ".rlib/" in one:
+            os.link(one, other)
+            return
+    except OSError:
+        pass
+    shutil.copy2(one, other)
+
+
+def copy_parts(name, to):
+    """Copy what a crate is made of."""
+    for part in PARTS:
+        if (CRATES / name / part).is_dir():
+            shutil.copytree(CRATES / name / part, to / part)
+
+
+def has_memory():
+    """Tell whether there is memory for one more check."""
+    found = re.search(r"MemAvailable:\s+(\d+)", text_of(pathlib.Path("/proc/meminfo")))
+    return not found or int(found[1]) * 1024 >= ONE_CHECK
+
+
+def wait_for_memory():
+    """Wait until there is memory for one more check, or ten minutes."""
+    for _ in range(600):
+        if has_memory():
+            return
+        time.sleep(1)

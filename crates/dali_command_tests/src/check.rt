@@ -1,5 +1,6 @@
 use crate::tried::{answers, answers_each, fails_to_read, fails_to_write, refuses_past};
 use dali_commands::{FileCommand, Status};
+use std::test::Fail;
 
 const ONE_ORDER: &str = r#"[{"order":1,"unit":5,"gtin":"4006381333931"}]"#;
 
@@ -170,64 +171,56 @@ fault 12 Document
 "#;
 
 #[test]
-fn inputs_and_what_becomes_of_them(rt: HostRuntime) {
+fn inputs_and_what_becomes_of_them(rt: HostRuntime) -> Result<(), Fail> {
     let check = FileCommand::Check;
     answers(
-        &rt,
         rt.alloc(),
         check,
         ONE_ORDER.as_bytes(),
         Status::Good,
         ONE_ORDER_CHECKED,
-    );
-    answers_each(&rt, rt.alloc(), check, Status::Good, ACCEPTED);
-    answers_each(&rt, rt.alloc(), check, Status::Refused, REFUSED);
+    )?;
+    answers_each(rt.alloc(), check, Status::Good, ACCEPTED)?;
+    answers_each(rt.alloc(), check, Status::Refused, REFUSED)
 }
 
 // Arrays nest at most 127 deep.
 #[test]
-fn inputs_that_are_no_text_or_too_deep(rt: HostRuntime) {
+fn inputs_that_are_no_text_or_too_deep(rt: HostRuntime) -> Result<(), Fail> {
     let mut brackets = [b'['; 400];
     brackets[200..].fill(b']');
     answers(
-        &rt,
         rt.alloc(),
         FileCommand::Check,
         &brackets[73..327],
         Status::Refused,
         "item 1 fault 9 Shape\naccepted 0 refused 1\n",
-    );
+    )?;
     for input in [b"\xff".as_slice(), &brackets, &brackets[72..328]] {
         answers(
-            &rt,
             rt.alloc(),
             FileCommand::Check,
             input,
             Status::Refused,
             "fault 11 Json\n",
-        );
+        )?;
     }
+    Ok(())
 }
 
 #[test]
-fn an_input_over_the_limit(rt: HostRuntime) {
-    refuses_past(&rt, rt.alloc(), FileCommand::Check, 16_777_217);
+fn an_input_over_the_limit(rt: HostRuntime) -> Result<(), Fail> {
+    refuses_past(rt.alloc(), FileCommand::Check, 16_777_217)
 }
 
 #[test]
-fn a_reader_that_fails_in_mid_stream(rt: HostRuntime) {
-    fails_to_read(&rt, rt.alloc(), FileCommand::Check, ONE_ORDER.as_bytes());
+fn a_reader_that_fails_in_mid_stream(rt: HostRuntime) -> Result<(), Fail> {
+    fails_to_read(rt.alloc(), FileCommand::Check, ONE_ORDER.as_bytes())
 }
 
 #[test]
-fn a_writer_that_fails_in_mid_text(rt: HostRuntime) {
+fn a_writer_that_fails_in_mid_text(rt: HostRuntime) -> Result<(), Fail> {
     let check = FileCommand::Check;
-    fails_to_write(
-        &rt,
-        rt.alloc(),
-        check,
-        ONE_ORDER.as_bytes(),
-        ONE_ORDER_CHECKED,
-    );
-    fails_to_write(&rt, rt.alloc(), check, b"[", "fault 11 Json\n");
+    fails_to_write(rt.alloc(), check, ONE_ORDER.as_bytes(), ONE_ORDER_CHECKED)?;
+    fails_to_write(rt.alloc(), check, b"[", "fault 11 Json\n")
 }

@@ -8,3 +8,12 @@ pub(crate) fn expect_that(is_so: bool, wanted: &str) -> Result<(), Fail> {
         Err(Fail::from(wanted))
     }
 }
+
+// The same at a place, which it tells too.
+pub(crate) fn expect_at(place: usize, is_so: bool, wanted: &str) -> Result<(), Fail> {
+    if is_so {
+        Ok(())
+    } else {
+        Err(Fail::from((place, wanted)))
+    }
+}

@@ -1,9 +1,10 @@
+use crate::expected::{expect_at, expect_that};
 use crate::streams::TestWriter;
 use dali_commands::Status;
 use dali_commands::frame::frame;
 use dali_text::Output;
 use std::alloc::Global;
-use std::process::Abort;
+use std::test::Fail;
 
 // A word and the line of its frame, with a bar between them.
 const WORDS: &str = "\
@@ -25,48 +26,45 @@ A200|A200 OTHER
 // Arguments that are no word, of which the first is empty.
 const NO_WORDS: &str = "|A3|A303 |A30311|A3G3|+A30|-A30|éé";
 
-// Tests how the command ends over an argument, and what it writes.
-fn answers(rt: &impl Abort, alloc: Global, argument: &str, status: Status, text: &str) {
-    let mut output = Output::new(TestWriter::new(alloc, None));
-    assert_eq!(rt; frame(argument, &mut output), status, "{argument}");
-    assert_eq!(rt;
-        output.into_writer().held.as_slice(),
-        text.as_bytes(),
-        "{argument}"
-    );
+// Whether the command ends so over an argument, and writes this, where there is this room.
+fn does(alloc: Global, argument: &str, room: Option<usize>, status: Status, text: &[u8]) -> bool {
+    let mut output = Output::new(TestWriter::new(alloc, room));
+    let ended = frame(argument, &mut output);
+    ended == status && output.into_writer().held.as_slice() == text
 }
 
 #[test]
-fn words_and_what_they_mean(rt: HostRuntime) {
+fn words_and_what_they_mean(rt: HostRuntime) -> Result<(), Fail> {
     for line in WORDS.split_inclusive('\n') {
-        let Some((argument, text)) = line.split_once('|') else {
-            panic!(&rt; "no line: {line}");
-        };
-        answers(&rt, rt.alloc(), argument, Status::Good, text);
+        let (argument, text) = line.split_once('|').ok_or(line)?;
+        let is_so = does(rt.alloc(), argument, None, Status::Good, text.as_bytes());
+        expect_that(is_so, line)?;
     }
+    Ok(())
 }
 
 #[test]
-fn arguments_that_are_no_word(rt: HostRuntime) {
+fn arguments_that_are_no_word(rt: HostRuntime) -> Result<(), Fail> {
     for argument in NO_WORDS.split('|') {
-        answers(&rt, rt.alloc(), argument, Status::Refused, "fault 14 Hex\n");
+        let text = b"fault 14 Hex\n";
+        let is_so = does(rt.alloc(), argument, None, Status::Refused, text);
+        expect_that(is_so, argument)?;
     }
+    Ok(())
 }
 
 // Tests a writer that fails at each place of what is written of an argument, and at the flush behind it.
-fn fails_to_write(rt: &impl Abort, alloc: Global, argument: &str, text: &str) {
+fn fails_to_write(alloc: Global, argument: &str, text: &str) -> Result<(), Fail> {
     for room in 0..=text.len() {
-        let mut output = Output::new(TestWriter::new(alloc, Some(room)));
-        assert_eq!(rt; frame(argument, &mut output), Status::Unwritten);
-        assert_eq!(rt;
-            output.into_writer().held.as_slice(),
-            &text.as_bytes()[..room]
-        );
+        let front = &text.as_bytes()[..room];
+        let is_so = does(alloc, argument, Some(room), Status::Unwritten, front);
+        expect_at(room, is_so, text)?;
     }
+    Ok(())
 }
 
 #[test]
-fn a_writer_that_fails_in_mid_line(rt: HostRuntime) {
-    fails_to_write(&rt, rt.alloc(), "0B81", "0B81 ENABLE WRITE MEMORY unit 5\n");
-    fails_to_write(&rt, rt.alloc(), "A3", "fault 14 Hex\n");
+fn a_writer_that_fails_in_mid_line(rt: HostRuntime) -> Result<(), Fail> {
+    fails_to_write(rt.alloc(), "0B81", "0B81 ENABLE WRITE MEMORY unit 5\n")?;
+    fails_to_write(rt.alloc(), "A3", "fault 14 Hex\n")
 }

@@ -1,7 +1,7 @@
+use crate::expected::expect_that;
 use clap::error::ErrorKind;
 use dali_job::{Job, job_of};
 use std::alloc::{AllocError, Global};
-use std::process::Abort;
 use std::test::Fail;
 
 // The words of a command line, with a space between them.
@@ -10,39 +10,51 @@ fn words_of(alloc: Global, line: &str) -> Result<Vec<&str>, AllocError> {
 }
 
 // Tests which job a command line names.
-fn names(rt: &impl Abort, alloc: Global, line: &str, job: Job) {
-    let Ok(words) = words_of(alloc, line) else {
-        panic!(rt; "no memory for {line}");
-    };
-    assert_eq!(rt; job_of(alloc, &words).ok(), Some(job), "{line}");
+fn names(alloc: Global, line: &str, job: Job<'_>) -> Result<(), Fail> {
+    let words = words_of(alloc, line)?;
+    expect_that(job_of(alloc, &words).ok() == Some(job), line)
 }
 
-#[test]
-fn command_lines(rt: HostRuntime) {
-    let orders = Job::Check("orders.json");
-    names(&rt, rt.alloc(), "dali_bench check orders.json", orders);
-    names(&rt, rt.alloc(), "dali_bench frame A303", Job::Frame("A303"));
-    names(&rt, rt.alloc(), "dali_bench frame ", Job::Frame(""));
-    let bank = Job::Show("bank.hex");
-    names(&rt, rt.alloc(), "dali_bench show bank.hex", bank);
-    let journal = Job::Journal("b.bin");
-    names(&rt, rt.alloc(), "dali_bench journal b.bin", journal);
-}
-
-#[test]
-fn command_lines_of_a_run(rt: HostRuntime) {
-    let in_runs = run("s.json", false);
-    names(&rt, rt.alloc(), "dali_bench run s.json", in_runs);
-    let in_frames = run("s.json", true);
-    names(&rt, rt.alloc(), "dali_bench run s.json --frames", in_frames);
-    names(&rt, rt.alloc(), "dali_bench run --frames s.json", in_frames);
-}
-
-fn run(scenario: &str, single_frames: bool) -> Job<'_> {
-    Job::Run {
-        scenario,
-        single_frames,
+// Tests which jobs command lines name.
+fn names_each(alloc: Global, cases: &[(&str, Job<'_>)]) -> Result<(), Fail> {
+    for &(line, job) in cases {
+        names(alloc, line, job)?;
     }
+    Ok(())
+}
+
+static LINES: [(&str, Job<'static>); 5] = [
+    ("dali_bench check orders.json", Job::Check("orders.json")),
+    ("dali_bench frame A303", Job::Frame("A303")),
+    ("dali_bench frame ", Job::Frame("")),
+    ("dali_bench show bank.hex", Job::Show("bank.hex")),
+    ("dali_bench journal b.bin", Job::Journal("b.bin")),
+];
+
+#[test]
+fn command_lines(rt: HostRuntime) -> Result<(), Fail> {
+    names_each(rt.alloc(), &LINES)
+}
+
+const IN_FRAMES: Job<'static> = Job::Run {
+    scenario: "s.json",
+    single_frames: true,
+};
+
+const IN_RUNS: Job<'static> = Job::Run {
+    scenario: "s.json",
+    single_frames: false,
+};
+
+static RUNS: [(&str, Job<'static>); 3] = [
+    ("dali_bench run s.json", IN_RUNS),
+    ("dali_bench run s.json --frames", IN_FRAMES),
+    ("dali_bench run --frames s.json", IN_FRAMES),
+];
+
+#[test]
+fn command_lines_of_a_run(rt: HostRuntime) -> Result<(), Fail> {
+    names_each(rt.alloc(), &RUNS)
 }
 
 fn drive(moment: u64) -> Job<'static> {
@@ -64,22 +76,26 @@ dali_bench drive --moment 18446744073709551615 o.json b.bin|18446744073709551615
 fn command_lines_of_a_drive(rt: HostRuntime) -> Result<(), Fail> {
     for case in DRIVES.split('\n') {
         let (line, moment) = case.split_once('|').ok_or("a command line")?;
-        names(&rt, rt.alloc(), line, drive(moment.parse()?));
+        names(rt.alloc(), line, drive(moment.parse()?))?;
     }
     Ok(())
 }
 
-// Tests that each of the command lines has an error of the kind.
-fn refused(rt: &impl Abort, alloc: Global, kind: ErrorKind, lines: &str) {
-    for line in lines.split('\n') {
-        let Ok(words) = words_of(alloc, line) else {
-            panic!(rt; "no memory for {line}");
-        };
-        match job_of(alloc, &words) {
-            Ok(_) => panic!(rt; "a command line that names no job: {line}"),
-            Err(error) => assert_eq!(rt; error.kind(), kind, "{line}"),
-        }
+// Whether a command line has an error of the kind.
+fn is_refused(alloc: Global, kind: ErrorKind, line: &str) -> Result<bool, AllocError> {
+    let words = words_of(alloc, line)?;
+    match job_of(alloc, &words) {
+        Ok(_) => Ok(false),
+        Err(error) => Ok(error.kind() == kind),
     }
+}
+
+// Tests that each of the command lines has an error of the kind.
+fn refused(alloc: Global, kind: ErrorKind, lines: &str) -> Result<(), Fail> {
+    for line in lines.split('\n') {
+        expect_that(is_refused(alloc, kind, line)?, line)?;
+    }
+    Ok(())
 }
 
 const UNVALUED: &str = "dali_bench check
@@ -110,16 +126,22 @@ dali_bench drive a b --moment=-1
 dali_bench drive a b --moment=
 dali_bench drive a b --moment 18446744073709551616";
 
+// The kind of the error of each of the command lines beside it.
+static REFUSED: [(ErrorKind, &str); 8] = [
+    (ErrorKind::MissingSubcommand, "dali_bench"),
+    (ErrorKind::MissingRequiredArgument, UNVALUED),
+    (ErrorKind::UnknownArgument, UNKNOWN),
+    (ErrorKind::ArgumentConflict, TWICE),
+    (ErrorKind::ValueValidation, NO_MOMENTS),
+    (ErrorKind::InvalidValue, "dali_bench drive a b --moment"),
+    (ErrorKind::InvalidSubcommand, "dali_bench chek"),
+    (ErrorKind::DisplayHelp, "dali_bench --help"),
+];
+
 #[test]
-fn command_lines_that_name_no_job(rt: HostRuntime) {
-    let alloc = rt.alloc();
-    refused(&rt, alloc, ErrorKind::MissingSubcommand, "dali_bench");
-    refused(&rt, alloc, ErrorKind::MissingRequiredArgument, UNVALUED);
-    refused(&rt, alloc, ErrorKind::UnknownArgument, UNKNOWN);
-    refused(&rt, alloc, ErrorKind::ArgumentConflict, TWICE);
-    refused(&rt, alloc, ErrorKind::ValueValidation, NO_MOMENTS);
-    let unvalued = "dali_bench drive a b --moment";
-    refused(&rt, alloc, ErrorKind::InvalidValue, unvalued);
-    refused(&rt, alloc, ErrorKind::InvalidSubcommand, "dali_bench chek");
-    refused(&rt, alloc, ErrorKind::DisplayHelp, "dali_bench --help");
+fn command_lines_that_name_no_job(rt: HostRuntime) -> Result<(), Fail> {
+    for &(kind, lines) in &REFUSED {
+        refused(rt.alloc(), kind, lines)?;
+    }
+    Ok(())
 }

@@ -1,7 +1,7 @@
 use crate::tried::{answers, answers_lines, fails_to_read, fails_to_write, refuses_past};
 use dali_commands::{FileCommand, Status};
 use std::alloc::Global;
-use std::process::Abort;
+use std::test::Fail;
 
 // Order 1 for unit 5 with a GTIN, which was submitted at 1700000000 and is done.
 const DONE: [u8; 39] = [
@@ -205,54 +205,65 @@ const HEADER_TOLD: &str = "version 2\ncounts 4 of 4 orders 0 standing idle\n";
 
 const OLD_FRONT_TOLD: &str = "version 1\ncounts 0 of 22 orders 0 standing idle\n";
 
-// Tests what a journal says.
-fn tells(rt: &impl Abort, alloc: Global, input: &[u8], text: &str) {
-    answers(rt, alloc, FileCommand::Journal, input, Status::Good, text);
+// Journals, so many of their first bytes, and what these say.
+type Cases<'a> = &'a [(&'a [u8], usize, &'a str)];
+
+// Tests how the command ends over each of the journals, and what it writes.
+fn answers_fronts(alloc: Global, status: Status, cases: Cases<'_>) -> Result<(), Fail> {
+    for &(bytes, len, text) in cases {
+        let input = bytes.get(..len).ok_or(text)?;
+        answers(alloc, FileCommand::Journal, input, status, text)?;
+    }
+    Ok(())
 }
 
-// Tests that an input is no journal, and what stands in it.
-fn refuses(rt: &impl Abort, alloc: Global, input: &[u8], text: &str) {
-    answers(
-        rt,
-        alloc,
-        FileCommand::Journal,
-        input,
-        Status::Refused,
-        text,
-    );
-}
-
-#[test]
-fn journals_and_what_they_say(rt: HostRuntime) {
-    tells(&rt, rt.alloc(), b"", EMPTY_TOLD);
-    tells(&rt, rt.alloc(), b"DB1\x02", HEADER_TOLD);
-    tells(&rt, rt.alloc(), &DONE, DONE_TOLD);
-    tells(&rt, rt.alloc(), &CUT, CUT_TOLD);
-    tells(&rt, rt.alloc(), &LEFT, LEFT_TOLD);
-}
+static SAID: [(&[u8], usize, &str); 5] = [
+    (&[], 0, EMPTY_TOLD),
+    (b"DB1\x02", 4, HEADER_TOLD),
+    (&DONE, 39, DONE_TOLD),
+    (&CUT, 41, CUT_TOLD),
+    (&LEFT, 76, LEFT_TOLD),
+];
 
 #[test]
-fn journals_that_end_within_an_order(rt: HostRuntime) {
-    tells(&rt, rt.alloc(), &DONE[..35], BEGAN_TOLD);
-    tells(&rt, rt.alloc(), &DONE[..38], OPENED_TOLD);
-    tells(&rt, rt.alloc(), &LEFT[..39], STILL_LEFT_TOLD);
-    tells(&rt, rt.alloc(), &LARGEST, LARGEST_TOLD);
+fn journals_and_what_they_say(rt: HostRuntime) -> Result<(), Fail> {
+    answers_fronts(rt.alloc(), Status::Good, &SAID)
 }
 
-#[test]
-fn journals_of_version_1(rt: HostRuntime) {
-    tells(&rt, rt.alloc(), &OLD_DONE, OLD_DONE_TOLD);
-    tells(&rt, rt.alloc(), &OLD_CUT, OLD_CUT_TOLD);
-    tells(&rt, rt.alloc(), &OLD_LEFT, OLD_LEFT_TOLD);
-}
+static UNENDED: [(&[u8], usize, &str); 4] = [
+    (&DONE, 35, BEGAN_TOLD),
+    (&DONE, 38, OPENED_TOLD),
+    (&LEFT, 39, STILL_LEFT_TOLD),
+    (&LARGEST, 29, LARGEST_TOLD),
+];
 
 #[test]
-fn journals_of_version_1_that_end_within_an_order(rt: HostRuntime) {
-    tells(&rt, rt.alloc(), &OLD_DONE[..22], OLD_FRONT_TOLD);
-    tells(&rt, rt.alloc(), &OLD_DONE[..23], OLD_BEGAN_TOLD);
-    tells(&rt, rt.alloc(), &OLD_DONE[..26], OLD_OPENED_TOLD);
-    tells(&rt, rt.alloc(), &OLD_LEFT[..27], OLD_STILL_LEFT_TOLD);
-    tells(&rt, rt.alloc(), &OLD_LARGEST, OLD_LARGEST_TOLD);
+fn journals_that_end_within_an_order(rt: HostRuntime) -> Result<(), Fail> {
+    answers_fronts(rt.alloc(), Status::Good, &UNENDED)
+}
+
+static OLD_SAID: [(&[u8], usize, &str); 3] = [
+    (&OLD_DONE, 27, OLD_DONE_TOLD),
+    (&OLD_CUT, 29, OLD_CUT_TOLD),
+    (&OLD_LEFT, 56, OLD_LEFT_TOLD),
+];
+
+#[test]
+fn journals_of_version_1(rt: HostRuntime) -> Result<(), Fail> {
+    answers_fronts(rt.alloc(), Status::Good, &OLD_SAID)
+}
+
+static OLD_UNENDED: [(&[u8], usize, &str); 5] = [
+    (&OLD_DONE, 22, OLD_FRONT_TOLD),
+    (&OLD_DONE, 23, OLD_BEGAN_TOLD),
+    (&OLD_DONE, 26, OLD_OPENED_TOLD),
+    (&OLD_LEFT, 27, OLD_STILL_LEFT_TOLD),
+    (&OLD_LARGEST, 17, OLD_LARGEST_TOLD),
+];
+
+#[test]
+fn journals_of_version_1_that_end_within_an_order(rt: HostRuntime) -> Result<(), Fail> {
+    answers_fronts(rt.alloc(), Status::Good, &OLD_UNENDED)
 }
 
 // Inputs that are no journal and the line that says why, with a bar between them.
@@ -269,51 +280,44 @@ DB2\x02|journal fault 7 Header
 ";
 
 #[test]
-fn inputs_that_are_no_journal(rt: HostRuntime) {
-    let journal = FileCommand::Journal;
-    answers_lines(&rt, rt.alloc(), journal, Status::Refused, REFUSED);
+fn inputs_that_are_no_journal(rt: HostRuntime) -> Result<(), Fail> {
+    answers_lines(rt.alloc(), FileCommand::Journal, Status::Refused, REFUSED)
+}
+
+static FAULTY: [(&[u8], usize, &str); 4] = [
+    (&OTHER_UNIT, 37, "journal fault 4 Sequence at 35\n"),
+    (&REPEATED, 70, "journal fault 5 Repeated at 37\n"),
+    (&OLD_OTHER_UNIT, 25, "journal fault 4 Sequence at 23\n"),
+    (&OLD_REPEATED, 50, "journal fault 5 Repeated at 25\n"),
+];
+
+#[test]
+fn journals_with_a_fault(rt: HostRuntime) -> Result<(), Fail> {
+    answers_fronts(rt.alloc(), Status::Refused, &FAULTY)
 }
 
 #[test]
-fn journals_with_a_fault(rt: HostRuntime) {
-    let alloc = rt.alloc();
-    refuses(&rt, alloc, &OTHER_UNIT, "journal fault 4 Sequence at 35\n");
-    refuses(&rt, alloc, &REPEATED, "journal fault 5 Repeated at 37\n");
-    refuses(
-        &rt,
-        alloc,
-        &OLD_OTHER_UNIT,
-        "journal fault 4 Sequence at 23\n",
-    );
-    refuses(
-        &rt,
-        alloc,
-        &OLD_REPEATED,
-        "journal fault 5 Repeated at 25\n",
-    );
+fn a_journal_without_end(rt: HostRuntime) -> Result<(), Fail> {
+    refuses_past(rt.alloc(), FileCommand::Journal, 33_554_433)
 }
 
 #[test]
-fn a_journal_without_end(rt: HostRuntime) {
-    refuses_past(&rt, rt.alloc(), FileCommand::Journal, 33_554_433);
+fn a_journal_whose_reader_fails_in_mid_stream(rt: HostRuntime) -> Result<(), Fail> {
+    fails_to_read(rt.alloc(), FileCommand::Journal, &DONE)
 }
 
-#[test]
-fn a_journal_whose_reader_fails_in_mid_stream(rt: HostRuntime) {
-    fails_to_read(&rt, rt.alloc(), FileCommand::Journal, &DONE);
-}
+// Inputs and what is written of them.
+static WRITTEN: [(&[u8], &str); 4] = [
+    (&DONE, DONE_TOLD),
+    (&OLD_DONE, OLD_DONE_TOLD),
+    (b"A", "journal fault 3 Record at 0\n"),
+    (b"D", "journal fault 7 Header\n"),
+];
 
 #[test]
-fn a_journal_whose_writer_fails_in_mid_line(rt: HostRuntime) {
-    let journal = FileCommand::Journal;
-    fails_to_write(&rt, rt.alloc(), journal, &DONE, DONE_TOLD);
-    fails_to_write(&rt, rt.alloc(), journal, &OLD_DONE, OLD_DONE_TOLD);
-    fails_to_write(
-        &rt,
-        rt.alloc(),
-        journal,
-        b"A",
-        "journal fault 3 Record at 0\n",
-    );
-    fails_to_write(&rt, rt.alloc(), journal, b"D", "journal fault 7 Header\n");
+fn a_journal_whose_writer_fails_in_mid_line(rt: HostRuntime) -> Result<(), Fail> {
+    for &(input, text) in &WRITTEN {
+        fails_to_write(rt.alloc(), FileCommand::Journal, input, text)?;
+    }
+    Ok(())
 }

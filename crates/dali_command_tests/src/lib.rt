@@ -1,5 +1,7 @@
 //! Tests of the commands and of the command line through their public calls alone, as whoever uses them calls them;
 //! those of the texts and the inputs go through a command.
+//! Tables of cases are statics: a function is proved with one borrow of a static, and of a constant with one for each
+//! text in it.
 #![tactic(auto)]
 
 #[cfg(test)]

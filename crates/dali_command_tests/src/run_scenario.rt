@@ -1,5 +1,6 @@
 use crate::tried::{answers, answers_each, fails_to_read, fails_to_write};
 use dali_commands::{FileCommand, Status};
+use std::test::Fail;
 
 /// The command, with a line for each run of frames.
 pub const RUN: FileCommand = FileCommand::Run {
@@ -417,34 +418,27 @@ bank 5 00 10FFFFFFFFFFFFFFFFFFFFFFFFFFFFFF
 "#;
 
 #[test]
-fn scenarios(rt: HostRuntime) {
+fn scenarios(rt: HostRuntime) -> Result<(), Fail> {
     let order = GTIN_ORDER.as_bytes();
-    answers(&rt, rt.alloc(), RUN, order, Status::Good, GTIN_RUN);
-    answers(
-        &rt,
-        rt.alloc(),
-        RUN_FRAMES,
-        order,
-        Status::Good,
-        GTIN_FRAMES,
-    );
-    answers_each(&rt, rt.alloc(), RUN, Status::Good, RUNS);
+    answers(rt.alloc(), RUN, order, Status::Good, GTIN_RUN)?;
+    answers(rt.alloc(), RUN_FRAMES, order, Status::Good, GTIN_FRAMES)?;
+    answers_each(rt.alloc(), RUN, Status::Good, RUNS)
 }
 
 #[test]
-fn units_that_nothing_happens_to(rt: HostRuntime) {
-    answers_each(&rt, rt.alloc(), RUN, Status::Good, STILL);
+fn units_that_nothing_happens_to(rt: HostRuntime) -> Result<(), Fail> {
+    answers_each(rt.alloc(), RUN, Status::Good, STILL)
 }
 
 #[test]
-fn a_reader_that_fails_in_mid_stream(rt: HostRuntime) {
-    fails_to_read(&rt, rt.alloc(), RUN, GTIN_ORDER.as_bytes());
+fn a_reader_that_fails_in_mid_stream(rt: HostRuntime) -> Result<(), Fail> {
+    fails_to_read(rt.alloc(), RUN, GTIN_ORDER.as_bytes())
 }
 
 #[test]
-fn a_writer_that_fails_in_mid_text(rt: HostRuntime) {
+fn a_writer_that_fails_in_mid_text(rt: HostRuntime) -> Result<(), Fail> {
     let order = GTIN_ORDER.as_bytes();
-    fails_to_write(&rt, rt.alloc(), RUN, order, GTIN_RUN);
-    fails_to_write(&rt, rt.alloc(), RUN_FRAMES, order, GTIN_FRAMES);
-    fails_to_write(&rt, rt.alloc(), RUN, b"[", "fault 11 Json\n");
+    fails_to_write(rt.alloc(), RUN, order, GTIN_RUN)?;
+    fails_to_write(rt.alloc(), RUN_FRAMES, order, GTIN_FRAMES)?;
+    fails_to_write(rt.alloc(), RUN, b"[", "fault 11 Json\n")
 }

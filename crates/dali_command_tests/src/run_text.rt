@@ -1,6 +1,7 @@
 ghost use Rattle.std.specs.Prelude.{IfOk, reverse};
 ghost use Rattle.dali_trace.specs.Runs.{SendsAllProper, SendsProper};
 
+use crate::expected::{expect_at, expect_that};
 use crate::streams::TestWriter;
 use dali_bank::Order;
 use dali_frame::{Frame, frame_of};
@@ -9,11 +10,10 @@ use dali_journal::{Code, Record};
 use dali_text::{Output, write_run};
 use dali_writer::{Event, Happening, Reply, run};
 use std::alloc::{AllocError, Global};
-use std::process::Abort;
 use std::test::Fail;
 
 // The updates of a GTIN, 04006381333931.
-const GTIN: [(u8, u8); 6] = [
+static GTIN: [(u8, u8); 6] = [
     (0x03, 0x03),
     (0x04, 0xA4),
     (0x05, 0xCE),
@@ -166,42 +166,43 @@ total 0
 journal 0
 ";
 
-// What is written of happenings and so many bytes of a journal, with no units.
-fn written_of(
+// Whether this is written of a trace, so many bytes of a journal and units, as all or where there is this room alone.
+fn writes(
     alloc: Global,
+    room: Option<usize>,
     single_frames: bool,
-    told: &[Told],
+    trace: &[Happening],
     journal: usize,
-) -> Result<Vec<u8>, Fail> {
-    let trace = trace_of(alloc, told)?;
-    let mut output = Output::new(TestWriter::new(alloc, None));
-    write_run(&mut output, single_frames, &trace, journal, &[])?;
-    Ok(output.into_writer().held)
+    units: &[Unit],
+    text: &[u8],
+) -> bool
+    requires { SendsAllProper (reverse trace.now) }
+{
+    let mut output = Output::new(TestWriter::new(alloc, room));
+    let is_whole = write_run(&mut output, single_frames, trace, journal, units).is_ok();
+    is_whole == room.is_none() && output.into_writer().held.as_slice() == text
 }
 
-// Tests what is written of them.
-fn writes(
-    rt: &impl Abort,
-    alloc: Global,
-    single_frames: bool,
-    told: &[Told],
-    journal: usize,
-    text: &str,
-) {
-    match written_of(alloc, single_frames, told, journal) {
-        Ok(written) => assert_eq!(rt; written.as_slice(), text.as_bytes(), "{text}"),
-        Err(_) => panic!(rt; "not written: {text}"),
-    }
-}
+// Whether each happening has a line for each frame or one for each run of frames, what happened, so many bytes of a
+// journal, and what is written of them.
+static LINES: [(bool, &[Told], usize, &str); 6] = [
+    (false, &RUNS, 39, RUNS_TOLD),
+    (true, &RUNS, 39, FRAMES_TOLD),
+    (false, &KINDS, 0, KINDS_TOLD),
+    (true, &KINDS, 0, KINDS_TOLD),
+    (false, &[], 1, "total 0\njournal 1\n"),
+    (true, &[], 253, "total 0\njournal 253\n"),
+];
 
 #[test]
-fn happenings_and_their_lines(rt: HostRuntime) {
-    writes(&rt, rt.alloc(), false, &RUNS, 39, RUNS_TOLD);
-    writes(&rt, rt.alloc(), true, &RUNS, 39, FRAMES_TOLD);
-    writes(&rt, rt.alloc(), false, &KINDS, 0, KINDS_TOLD);
-    writes(&rt, rt.alloc(), true, &KINDS, 0, KINDS_TOLD);
-    writes(&rt, rt.alloc(), false, &[], 1, "total 0\njournal 1\n");
-    writes(&rt, rt.alloc(), true, &[], 253, "total 0\njournal 253\n");
+fn happenings_and_their_lines(rt: HostRuntime) -> Result<(), Fail> {
+    for &(single_frames, told, journal, text) in &LINES {
+        let trace = trace_of(rt.alloc(), told)?;
+        let bytes = text.as_bytes();
+        let is_so = writes(rt.alloc(), None, single_frames, &trace, journal, &[], bytes);
+        expect_that(is_so, text)?;
+    }
+    Ok(())
 }
 
 // A unit with a whole group and a shorter one, and with registers.
@@ -264,30 +265,27 @@ fn before_units(alloc: Global, told: &str) -> Result<Vec<u8>, AllocError> {
 #[test]
 fn units_and_their_lines(rt: HostRuntime) -> Result<(), Fail> {
     let units = units(rt.alloc())?;
-    let mut output = Output::new(TestWriter::new(rt.alloc(), None));
-    write_run(&mut output, false, &[], 0, &units)?;
     let text = before_units(rt.alloc(), "total 0\njournal 0\n")?;
-    assert_eq!(rt; output.into_writer().held.as_slice(), text.as_slice());
-    Ok(())
+    let is_so = writes(rt.alloc(), None, false, &[], 0, &units, &text);
+    expect_that(is_so, UNITS_TOLD)
 }
 
 // Tests a writer that fails at each place of what is written.
 fn fails_to_write(
-    rt: &impl Abort,
     alloc: Global,
     single_frames: bool,
     trace: &[Happening],
     units: &[Unit],
     text: &[u8],
-)
+) -> Result<(), Fail>
     requires { SendsAllProper (reverse trace.now) }
 {
     for room in 0..text.len() {
-        let mut output = Output::new(TestWriter::new(alloc, Some(room)));
-        let written = write_run(&mut output, single_frames, trace, 39, units);
-        assert!(rt; written.is_err(), "room for {room}");
-        assert_eq!(rt; output.into_writer().held.as_slice(), &text[..room]);
+        let front = &text[..room];
+        let is_so = writes(alloc, Some(room), single_frames, trace, 39, units, front);
+        expect_at(room, is_so, "a writer that fails")?;
     }
+    Ok(())
 }
 
 #[test]
@@ -296,7 +294,7 @@ fn a_writer_that_fails_in_mid_text(rt: HostRuntime) -> Result<(), Fail> {
     let units = units(rt.alloc())?;
     for (single_frames, told) in [(false, RUNS_TOLD), (true, FRAMES_TOLD)] {
         let text = before_units(rt.alloc(), told)?;
-        fails_to_write(&rt, rt.alloc(), single_frames, &trace, &units, &text);
+        fails_to_write(rt.alloc(), single_frames, &trace, &units, &text)?;
     }
     Ok(())
 }
@@ -340,9 +338,16 @@ fn a_whole_run(rt: HostRuntime) -> Result<(), Fail> {
     let mut bus = blank_bus(rt.alloc())?;
     let events = gtin_events(rt.alloc())?;
     let outcome = run(rt.alloc(), &mut bus, 10, &events)?;
-    let mut output = Output::new(TestWriter::new(rt.alloc(), None));
+    let text = GTIN_TOLD.as_bytes();
     let journal = outcome.journal.len();
-    write_run(&mut output, false, &outcome.trace, journal, bus.units())?;
-    assert_eq!(rt; output.into_writer().held.as_slice(), GTIN_TOLD.as_bytes());
-    Ok(())
+    let is_so = writes(
+        rt.alloc(),
+        None,
+        false,
+        &outcome.trace,
+        journal,
+        bus.units(),
+        text,
+    );
+    expect_that(is_so, GTIN_TOLD)
 }

@@ -4,7 +4,7 @@ use crate::run_scenario::RUN;
 use crate::tried::{answers, answers_lines, refuses_past};
 use dali_commands::Status;
 use std::alloc::{AllocError, Global};
-use std::process::Abort;
+use std::test::Fail;
 
 // A scenario that is refused and the line that says why, with a bar between them.
 const REFUSED: &str = r#"{"limit":0,"units":[],"events":[]}|run fault 1 Limit
@@ -136,22 +136,17 @@ bank 5 00 FEFFFFFFFFFFFFFFFFFFFFFFFFFFFFFF
 ";
 
 #[test]
-fn scenarios_that_are_refused(rt: HostRuntime) {
-    answers_lines(&rt, rt.alloc(), RUN, Status::Refused, REFUSED);
+fn scenarios_that_are_refused(rt: HostRuntime) -> Result<(), Fail> {
+    answers_lines(rt.alloc(), RUN, Status::Refused, REFUSED)
 }
 
 #[test]
-fn scenarios_in_which_nothing_happens(rt: HostRuntime) {
+fn scenarios_in_which_nothing_happens(rt: HostRuntime) -> Result<(), Fail> {
     for scenario in QUIET.split('\n') {
-        answers(
-            &rt,
-            rt.alloc(),
-            RUN,
-            scenario.as_bytes(),
-            Status::Good,
-            "total 0\njournal 4\n",
-        );
+        let text = "total 0\njournal 4\n";
+        answers(rt.alloc(), RUN, scenario.as_bytes(), Status::Good, text)?;
     }
+    Ok(())
 }
 
 // A scenario with a unit whose bank has so many digits, these and then each an F.
@@ -166,46 +161,26 @@ fn with_bank(alloc: Global, first: &str, digits: u32) -> Result<Vec<u8>, AllocEr
     Ok(scenario)
 }
 
-// Tests what is said of such a scenario.
-fn bank_answers(
-    rt: &impl Abort,
-    alloc: Global,
-    first: &str,
-    digits: u32,
-    status: Status,
-    text: &str,
-) {
-    match with_bank(alloc, first, digits) {
-        Ok(scenario) => answers(rt, alloc, RUN, scenario.as_slice(), status, text),
-        Err(_) => panic!(rt; "no memory for {digits} digits"),
-    }
-}
+// The first digits of a bank, how many it has, and what is said of a scenario with it. The longest bank, and then a
+// digit more each time: a file may have 512.
+static BANKS: [(&str, u32, Status, &str); 5] = [
+    ("FE", 510, Status::Good, LONGEST_TOLD),
+    ("FF", 512, Status::Refused, "unit 1 fault 2 Size\n"),
+    ("FF", 511, Status::Refused, "fault 12 Document\n"),
+    ("FF", 513, Status::Refused, "fault 12 Document\n"),
+    ("FF", 514, Status::Refused, "fault 12 Document\n"),
+];
 
-// The longest bank, and then a digit more each time: a file may have 512.
 #[test]
-fn banks_by_their_length(rt: HostRuntime) {
-    bank_answers(&rt, rt.alloc(), "FE", 510, Status::Good, LONGEST_TOLD);
-    bank_answers(
-        &rt,
-        rt.alloc(),
-        "FF",
-        512,
-        Status::Refused,
-        "unit 1 fault 2 Size\n",
-    );
-    for digits in [511, 513, 514] {
-        bank_answers(
-            &rt,
-            rt.alloc(),
-            "FF",
-            digits,
-            Status::Refused,
-            "fault 12 Document\n",
-        );
+fn banks_by_their_length(rt: HostRuntime) -> Result<(), Fail> {
+    for &(first, digits, status, text) in &BANKS {
+        let scenario = with_bank(rt.alloc(), first, digits)?;
+        answers(rt.alloc(), RUN, &scenario, status, text)?;
     }
+    Ok(())
 }
 
 #[test]
-fn an_input_over_the_limit(rt: HostRuntime) {
-    refuses_past(&rt, rt.alloc(), RUN, 16_777_217);
+fn an_input_over_the_limit(rt: HostRuntime) -> Result<(), Fail> {
+    refuses_past(rt.alloc(), RUN, 16_777_217)
 }

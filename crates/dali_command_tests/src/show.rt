@@ -1,9 +1,12 @@
+use crate::expected::expect_that;
 use crate::streams::{Behind, TestReader, TestWriter};
 use crate::tried::{answers, fails_to_read, fails_to_write, refuses_past};
 use dali_commands::show::show;
 use dali_commands::{FileCommand, Status};
 use dali_input::Input;
 use dali_text::Output;
+use std::alloc::Global;
+use std::test::Fail;
 
 // The first 21 bytes of a bank: its head, the fields of 6 and 8 bytes, the format, year and week.
 const SHORT: &str = "14FFFF03A4CEEFADAB0011223344556677 0003 1835";
@@ -82,103 +85,76 @@ luminaire absent
 // Texts that spell no bytes.
 const NO_BYTES: &str = "0|14 F|1G|0x14|14\x0c|é";
 
+// Texts and what they say.
+static SAID: [(&str, &str); 4] = [
+    (SHORT, SHORT_SHOWN),
+    (WHOLE, WHOLE_SHOWN),
+    ("", NOTHING_SHOWN),
+    (" \t\r\n", NOTHING_SHOWN),
+];
+
 #[test]
-fn texts_and_what_they_say(rt: HostRuntime) {
-    let show = FileCommand::Show;
-    answers(
-        &rt,
-        rt.alloc(),
-        show,
-        SHORT.as_bytes(),
-        Status::Good,
-        SHORT_SHOWN,
-    );
-    answers(
-        &rt,
-        rt.alloc(),
-        show,
-        WHOLE.as_bytes(),
-        Status::Good,
-        WHOLE_SHOWN,
-    );
-    answers(&rt, rt.alloc(), show, b"", Status::Good, NOTHING_SHOWN);
-    answers(
-        &rt,
-        rt.alloc(),
-        show,
-        b" \t\r\n",
-        Status::Good,
-        NOTHING_SHOWN,
-    );
+fn texts_and_what_they_say(rt: HostRuntime) -> Result<(), Fail> {
+    for &(input, text) in &SAID {
+        let show = FileCommand::Show;
+        answers(rt.alloc(), show, input.as_bytes(), Status::Good, text)?;
+    }
+    Ok(())
+}
+
+// Tests that an input is refused, and this line is written.
+fn refuses(alloc: Global, input: &[u8], line: &str) -> Result<(), Fail> {
+    answers(alloc, FileCommand::Show, input, Status::Refused, line)
 }
 
 #[test]
-fn texts_that_spell_no_bytes(rt: HostRuntime) {
+fn texts_that_spell_no_bytes(rt: HostRuntime) -> Result<(), Fail> {
     for input in NO_BYTES.split('|') {
-        answers(
-            &rt,
-            rt.alloc(),
-            FileCommand::Show,
-            input.as_bytes(),
-            Status::Refused,
-            "fault 14 Hex\n",
-        );
+        refuses(rt.alloc(), input.as_bytes(), "fault 14 Hex\n")?;
     }
+    Ok(())
+}
+
+// How the command ends over an input.
+fn ended(alloc: Global, input: &[u8]) -> Status {
+    let mut reader = Input::new(TestReader::new(input, Behind::Nothing));
+    let mut output = Output::new(TestWriter::new(alloc, None));
+    show(alloc, &mut reader, &mut output)
 }
 
 #[test]
-fn texts_up_to_the_limits(rt: HostRuntime) {
-    let spaces = [b' '; 4096];
-    let digits = [b'0'; 510];
-    for input in [spaces.as_slice(), &digits] {
-        let mut reader = Input::new(TestReader::new(input, Behind::Nothing));
-        let mut output = Output::new(TestWriter::new(rt.alloc(), None));
-        assert_eq!(rt; show(rt.alloc(), &mut reader, &mut output), Status::Good);
-    }
+fn texts_up_to_the_limits(rt: HostRuntime) -> Result<(), Fail> {
+    let are_spaces_good = ended(rt.alloc(), &[b' '; 4096]) == Status::Good;
+    expect_that(are_spaces_good, "so many spaces")?;
+    let are_digits_good = ended(rt.alloc(), &[b'0'; 510]) == Status::Good;
+    expect_that(are_digits_good, "so many digits")
 }
 
 #[test]
-fn texts_past_the_limits(rt: HostRuntime) {
-    let spaces = [b' '; 4097];
-    let digits = [b'0'; 512];
-    let letters = [b'g'; 4097];
-    for input in [spaces.as_slice(), &digits, &letters] {
-        answers(
-            &rt,
-            rt.alloc(),
-            FileCommand::Show,
-            input,
-            Status::Refused,
-            "fault 13 TooBig\n",
-        );
-    }
+fn texts_past_the_limits(rt: HostRuntime) -> Result<(), Fail> {
+    refuses(rt.alloc(), &[b' '; 4097], "fault 13 TooBig\n")?;
+    refuses(rt.alloc(), &[b'0'; 512], "fault 13 TooBig\n")?;
+    refuses(rt.alloc(), &[b'g'; 4097], "fault 13 TooBig\n")
 }
 
 #[test]
-fn an_odd_number_of_too_many_digits(rt: HostRuntime) {
-    answers(
-        &rt,
-        rt.alloc(),
-        FileCommand::Show,
-        &[b'0'; 513],
-        Status::Refused,
-        "fault 14 Hex\n",
-    );
+fn an_odd_number_of_too_many_digits(rt: HostRuntime) -> Result<(), Fail> {
+    refuses(rt.alloc(), &[b'0'; 513], "fault 14 Hex\n")
 }
 
 #[test]
-fn a_text_without_end(rt: HostRuntime) {
-    refuses_past(&rt, rt.alloc(), FileCommand::Show, 4097);
+fn a_text_without_end(rt: HostRuntime) -> Result<(), Fail> {
+    refuses_past(rt.alloc(), FileCommand::Show, 4097)
 }
 
 #[test]
-fn a_bank_whose_reader_fails_in_mid_stream(rt: HostRuntime) {
-    fails_to_read(&rt, rt.alloc(), FileCommand::Show, SHORT.as_bytes());
+fn a_bank_whose_reader_fails_in_mid_stream(rt: HostRuntime) -> Result<(), Fail> {
+    fails_to_read(rt.alloc(), FileCommand::Show, SHORT.as_bytes())
 }
 
 #[test]
-fn a_bank_whose_writer_fails_in_mid_line(rt: HostRuntime) {
+fn a_bank_whose_writer_fails_in_mid_line(rt: HostRuntime) -> Result<(), Fail> {
     let show = FileCommand::Show;
-    fails_to_write(&rt, rt.alloc(), show, WHOLE.as_bytes(), WHOLE_SHOWN);
-    fails_to_write(&rt, rt.alloc(), show, b"0", "fault 14 Hex\n");
+    fails_to_write(rt.alloc(), show, WHOLE.as_bytes(), WHOLE_SHOWN)?;
+    fails_to_write(rt.alloc(), show, b"0", "fault 14 Hex\n")
 }

@@ -44,7 +44,7 @@ fn laid(order: &Order) -> [u8; 120] {
 }
 
 // GTINs of each length, some with leading zeros, and their numbers in hexadecimal.
-const GTINS: [(&str, [u8; 6]); 8] = [
+static GTINS: [(&str, [u8; 6]); 8] = [
     ("96385074", [0x00, 0x00, 0x05, 0xbe, 0xb8, 0x32]),
     ("73513537", [0x00, 0x00, 0x04, 0x61, 0xba, 0x41]),
     ("036000291452", [0x00, 0x08, 0x61, 0xc8, 0xda, 0x7c]),
@@ -94,7 +94,7 @@ fn an_unknown_field_is_ff_again_and_again(rt: HostRuntime) -> Result<(), Fail> {
     Ok(())
 }
 
-const NO_GTINS: [&str; 5] = [
+static NO_GTINS: [&str; 5] = [
     "4006381333932",
     "400638133393l",
     "+006381333931",
@@ -119,7 +119,7 @@ fn texts_that_are_no_gtin(rt: HostRuntime) -> Result<(), Fail> {
 }
 
 // Each number field's least and most, and the bytes of the most.
-const RANGES: [(Field, u64, u64, &[u8]); 10] = [
+static RANGES: [(Field, u64, u64, &[u8]); 10] = [
     (Field::Year, 0, 99, &[0x63]),
     (Field::Week, 1, 53, &[0x35]),
     (Field::InputPower, 0, 65534, &[0xff, 0xfe]),
@@ -172,7 +172,7 @@ fn numbers_end_where_their_range_does(rt: HostRuntime) -> Result<(), Fail> {
 }
 
 // Values of 25 letters for the colour and 61 for the luminaire are too long by one.
-const REFUSED: [(Field, Value<'static>, BankFault); 17] = [
+static REFUSED: [(Field, Value<'static>, BankFault); 17] = [
     (Field::Gtin, Value::Number(4006381333931), BankFault::Kind),
     (Field::Gtin, Value::Hex("00"), BankFault::Kind),
     (Field::Identification, Value::Text("00"), BankFault::Kind),
@@ -260,7 +260,7 @@ fn refused_drafts(rt: HostRuntime) -> Result<(), Fail> {
     judge_year_alone(draft)
 }
 
-const VOLTAGES: [(Value<'static>, Value<'static>, Option<BankFault>); 6] = [
+static VOLTAGES: [(Value<'static>, Value<'static>, Option<BankFault>); 6] = [
     (
         Value::Number(277),
         Value::Number(220),
@@ -302,7 +302,7 @@ fn the_minimum_voltage_is_at_most_the_maximum(rt: HostRuntime) -> Result<(), Fai
     )
 }
 
-const ALL_SET: [(Field, Value<'static>); 14] = [
+static ALL_SET: [(Field, Value<'static>); 14] = [
     (
         Field::Luminaire,
         Value::Text("BBBBBBBBBBBBBBBBBBBBBBBBBBBBBBBBBBBBBBBBBBBBBBBBBBBBBBBBBBBB"),
@@ -323,11 +323,11 @@ const ALL_SET: [(Field, Value<'static>); 14] = [
 ];
 
 // The bytes of the GTIN and the identification, and of the numbers.
-const LOW: [u8; 14] = [
+static LOW: [u8; 14] = [
     0x03, 0xa4, 0xce, 0xef, 0xad, 0xab, 0x00, 0x11, 0x22, 0x33, 0x44, 0x55, 0x66, 0x77,
 ];
 
-const NUMBERS: [u8; 17] = [
+static NUMBERS: [u8; 17] = [
     0x18, 0x35, 0x00, 0x28, 0x00, 0x04, 0x00, 0xdc, 0x00, 0xf0, 0x00, 0x13, 0x88, 0x50, 0x0f, 0xa0,
     0x01,
 ];
@@ -355,7 +355,7 @@ fn the_order_of_all_fields(rt: HostRuntime) -> Result<(), Fail> {
     judge_all(&laid(&order))
 }
 
-const IDENTIFICATION: [u8; 8] = [0x01, 0x23, 0x45, 0x67, 0x89, 0xab, 0xcd, 0xef];
+static IDENTIFICATION: [u8; 8] = [0x01, 0x23, 0x45, 0x67, 0x89, 0xab, 0xcd, 0xef];
 
 #[test]
 fn identification_digits_in_either_case(rt: HostRuntime) -> Result<(), Fail> {
@@ -373,7 +373,7 @@ fn laws_do_nothing() {
 }
 
 // Where the fields lie, and how many bytes they have.
-const LAYOUT: [(u8, u8); 14] = [
+static LAYOUT: [(u8, u8); 14] = [
     (0x03, 6),
     (0x09, 8),
     (0x13, 1),
@@ -390,7 +390,7 @@ const LAYOUT: [(u8, u8); 14] = [
     (0x3c, 60),
 ];
 
-const FAULTS: [(BankFault, u8, &str); 8] = [
+static FAULTS: [(BankFault, u8, &str); 8] = [
     (BankFault::Unit, 1, "Unit"),
     (BankFault::Kind, 2, "Kind"),
     (BankFault::Range, 3, "Range"),

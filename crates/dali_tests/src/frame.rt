@@ -12,7 +12,7 @@ fn every_word_comes_back(rt: HostRuntime) -> Result<(), Fail> {
     Ok(())
 }
 
-const WORDS: [(u16, Frame); 13] = [
+static WORDS: [(u16, Frame); 13] = [
     (0xA303, Frame::Dtr0(0x03)),
     (0xC301, Frame::Dtr1(0x01)),
     (0xC555, Frame::Dtr2(0x55)),
@@ -36,7 +36,7 @@ fn words_of_the_standard(rt: HostRuntime) -> Result<(), Fail> {
     Ok(())
 }
 
-const IMPROPER: [Frame; 7] = [
+static IMPROPER: [Frame; 7] = [
     Frame::Enable(64),
     Frame::AskDtr0(64),
     Frame::AskDtr1(64),
@@ -54,7 +54,7 @@ fn improper_frames(rt: HostRuntime) -> Result<(), Fail> {
     Ok(())
 }
 
-const LINES: [(Frame, &[u8; 5]); 5] = [
+static LINES: [(Frame, &[u8; 5]); 5] = [
     (Frame::Dtr0(0x03), b"A303\n"),
     (Frame::Enable(5), b"0B81\n"),
     (Frame::AskDtr1(6), b"0D9C\n"),
@@ -71,7 +71,7 @@ fn lines_of_frames(rt: HostRuntime) -> Result<(), Fail> {
     Ok(())
 }
 
-const ANSWERS: [(&[u8], Result<Option<u8>, LineFault>); 9] = [
+static ANSWERS: [(&[u8], Result<Option<u8>, LineFault>); 9] = [
     (b"--", Ok(None)),
     (b"a4", Ok(Some(0xA4))),
     (b"7F", Ok(Some(0x7F))),
@@ -91,7 +91,7 @@ fn answers_of_lines(rt: HostRuntime) -> Result<(), Fail> {
     Ok(())
 }
 
-const FAULTS: [(LineFault, u8, &str); 2] = [
+static FAULTS: [(LineFault, u8, &str); 2] = [
     (LineFault::Length, 1, "Length"),
     (LineFault::Digit, 2, "Digit"),
 ];

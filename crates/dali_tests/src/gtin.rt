@@ -1,5 +1,5 @@
 // The updates of the GTIN 4006381333931.
-pub(crate) const GTIN: [(u8, u8); 6] = [
+pub(crate) static GTIN: [(u8, u8); 6] = [
     (0x03, 0x03),
     (0x04, 0xA4),
     (0x05, 0xCE),

@@ -18,7 +18,7 @@ use std::process::Abort;
 use std::test::Fail;
 
 // What a journal of version 2 begins with.
-const HEADER: [u8; 4] = [0x44, 0x42, 0x31, 0x02];
+static HEADER: [u8; 4] = [0x44, 0x42, 0x31, 0x02];
 
 // The moment of order 1, 65 53 F1 00 in hexadecimal digits, and that of order 2.
 const MOMENT: u64 = 1_700_000_000;
@@ -26,30 +26,30 @@ const MOMENT: u64 = 1_700_000_000;
 const LATER: u64 = 1_700_000_009;
 
 // The bytes of order 1 for unit 5 with this GTIN.
-const BEGAN: [u8; 31] = [
+static BEGAN: [u8; 31] = [
     0x42, 0, 0, 0, 0, 0, 0, 0, 1, 0, 0, 0, 0, 0x65, 0x53, 0xF1, 0x00, 5, 6, 0x03, 0x03, 0x04, 0xA4,
     0x05, 0xCE, 0x06, 0xEF, 0x07, 0xAD, 0x08, 0xAB,
 ];
 
 // The bytes of order 2 for unit 6 with this GTIN.
-const NEXT: [u8; 31] = [
+static NEXT: [u8; 31] = [
     0x42, 0, 0, 0, 0, 0, 0, 0, 2, 0, 0, 0, 0, 0x65, 0x53, 0xF1, 0x09, 6, 6, 0x03, 0x03, 0x04, 0xA4,
     0x05, 0xCE, 0x06, 0xEF, 0x07, 0xAD, 0x08, 0xAB,
 ];
 
 // The same in version 1, which has no moments.
-const OLD_BEGAN: [u8; 23] = [
+static OLD_BEGAN: [u8; 23] = [
     0x42, 0, 0, 0, 0, 0, 0, 0, 1, 5, 6, 0x03, 0x03, 0x04, 0xA4, 0x05, 0xCE, 0x06, 0xEF, 0x07, 0xAD,
     0x08, 0xAB,
 ];
 
-const OLD_NEXT: [u8; 23] = [
+static OLD_NEXT: [u8; 23] = [
     0x42, 0, 0, 0, 0, 0, 0, 0, 2, 6, 6, 0x03, 0x03, 0x04, 0xA4, 0x05, 0xCE, 0x06, 0xEF, 0x07, 0xAD,
     0x08, 0xAB,
 ];
 
 // A journal of version 1 in which the first order is silent and the second one has begun.
-const OLD_BOTH: [u8; 48] = [
+static OLD_BOTH: [u8; 48] = [
     0x42, 0, 0, 0, 0, 0, 0, 0, 1, 5, 6, 0x03, 0x03, 0x04, 0xA4, 0x05, 0xCE, 0x06, 0xEF, 0x07, 0xAD,
     0x08, 0xAB, 0x45, 0x03, 0x42, 0, 0, 0, 0, 0, 0, 0, 2, 6, 6, 0x03, 0x03, 0x04, 0xA4, 0x05, 0xCE,
     0x06, 0xEF, 0x07, 0xAD, 0x08, 0xAB,
@@ -93,13 +93,13 @@ fn add(rt: &impl Abort, journal: &mut Journal, entry: Record)
 }
 
 // The first letter of the standing, where it is of this order or its unit.
-fn letter_of(journal: &Journal, order: &Order) -> char {
+fn letter_of(journal: &Journal, order: &Order) -> u8 {
     match journal.standing() {
-        Standing::Idle => 'I',
-        Standing::Began(begun) if begun.same(order) => 'B',
-        Standing::Opened(begun) if begun.same(order) => 'O',
-        Standing::Left(unit) if unit == order.unit() => 'L',
-        _ => '-',
+        Standing::Idle => b'I',
+        Standing::Began(begun) if begun.same(order) => b'B',
+        Standing::Opened(begun) if begun.same(order) => b'O',
+        Standing::Left(unit) if unit == order.unit() => b'L',
+        _ => b'-',
     }
 }
 
@@ -178,7 +178,7 @@ fn begin_both(journal: &mut Journal, order: &Order, next: Order) -> Result<bool,
 fn has_first(journal: &Journal, order: &Order, next: &Order) -> bool {
     journal.orders() == 1
         && journal.has_room(next)
-        && letter_of(journal, order) == 'I'
+        && letter_of(journal, order) == b'I'
         && is_absent(journal, 2)
         && is_kept(journal, 1, MOMENT, order, Some(Code::Silent))
 }

@@ -4,7 +4,7 @@ use dali_bank::Order;
 use std::test::Fail;
 
 // Numbers, units and pairs, and whether they make an order.
-const PAIRS: [(u64, u8, &[(u8, u8)], bool); 24] = [
+static PAIRS: [(u64, u8, &[(u8, u8)], bool); 24] = [
     (0, 0, &[(0x13, 24)], true),
     (u64::MAX, 63, &[(0x13, 24)], true),
     (1, 64, &[(0x13, 24)], false),
@@ -78,7 +78,7 @@ fn an_order_of_all_places(rt: HostRuntime) -> Result<(), Fail> {
 }
 
 // Numbers, units and pairs, and whether their order is the same as order 7 for unit 5.
-const OTHERS: [(u64, u8, &[(u8, u8)], bool); 8] = [
+static OTHERS: [(u64, u8, &[(u8, u8)], bool); 8] = [
     (7, 5, &[(0x13, 24), (0x14, 53)], true),
     (8, 5, &[(0x13, 24), (0x14, 53)], false),
     (7, 6, &[(0x13, 24), (0x14, 53)], false),

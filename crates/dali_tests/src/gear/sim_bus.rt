@@ -63,7 +63,7 @@ fn fates_of_nine_frames() -> [Fate; 9] {
 }
 
 // Frames, their answers, how many fates are left, and what each unit holds at 02h after a frame.
-const CARRIED: [(Frame, Option<u8>, usize, u8); 13] = [
+static CARRIED: [(Frame, Option<u8>, usize, u8); 13] = [
     (Frame::Dtr0(0x07), None, 8, 0xFF),
     (Frame::AskDtr0(6), None, 7, 0xFF),
     (Frame::AskDtr0(6), Some(0x07), 6, 0xFF),
@@ -98,7 +98,7 @@ fn fates_lose_frames_and_answers(rt: HostRuntime) -> Result<(), Fail> {
 }
 
 // Frames, their answers, and what unit 5 holds at 02h after a frame.
-const REFUSED_ONCE: [(Frame, Option<u8>, u8); 7] = [
+static REFUSED_ONCE: [(Frame, Option<u8>, u8); 7] = [
     (Frame::Enable(5), None, 0xFF),
     (Frame::Enable(5), None, 0xFF),
     (Frame::Dtr1(0x01), None, 0xFF),
@@ -140,7 +140,7 @@ fn two_units_at_one_address(rt: HostRuntime) -> Result<(), Fail> {
 }
 
 // Where the power is lost, and then the registers of units 5 and 6.
-const LOST_POWER: [(u8, (u8, u8, u8), (u8, u8, u8)); 4] = [
+static LOST_POWER: [(u8, (u8, u8, u8), (u8, u8, u8)); 4] = [
     (9, (0x03, 0x01, 0x02), (0x03, 0x01, 0x02)),
     (255, (0x03, 0x01, 0x02), (0x03, 0x01, 0x02)),
     (6, (0x03, 0x01, 0x02), (0x00, 0x00, 0x00)),

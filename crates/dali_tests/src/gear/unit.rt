@@ -83,7 +83,7 @@ fn units_are_made(rt: HostRuntime) -> Result<(), Fail> {
 }
 
 // They open both banks, store ABh at 03h of bank 1, and end on half a pair.
-const BEFORE_POWER_UP: [Frame; 11] = [
+static BEFORE_POWER_UP: [Frame; 11] = [
     Frame::Enable(5),
     Frame::Enable(5),
     Frame::Dtr0(0x02),
@@ -136,7 +136,7 @@ fn power_up(rt: HostRuntime) -> Result<(), Fail> {
 }
 
 // Frames to a unit that isn't enabled, and their answers.
-const BROKEN_PAIR: [(Frame, Option<u8>); 4] = [
+static BROKEN_PAIR: [(Frame, Option<u8>); 4] = [
     (Frame::Enable(5), None),
     (Frame::Dtr0(0x02), None),
     (Frame::Enable(5), None),
@@ -144,7 +144,7 @@ const BROKEN_PAIR: [(Frame, Option<u8>); 4] = [
 ];
 
 // Frames, their answers, and then DTR0 and whether the unit is enabled.
-const STORED: [(Frame, Option<u8>, u8, bool); 10] = [
+static STORED: [(Frame, Option<u8>, u8, bool); 10] = [
     (Frame::Enable(5), None, 0x02, false),
     (Frame::Enable(5), None, 0x02, true),
     (Frame::Dtr1(0x01), None, 0x02, true),
@@ -192,7 +192,7 @@ fn a_unit_stores_once_it_is_enabled_and_unlocked(rt: HostRuntime) -> Result<(), 
 }
 
 // Frames to a unit whose DTR0 is at FFh, and their answers.
-const PAST_THE_END: [(Frame, Option<u8>); 9] = [
+static PAST_THE_END: [(Frame, Option<u8>); 9] = [
     (Frame::Enable(5), None),
     (Frame::Enable(5), None),
     (Frame::Write(0x00), None),
@@ -221,7 +221,7 @@ fn unlocked(alloc: Global) -> Result<Unit, GearFault> {
     Ok(unit)
 }
 
-const UNLOCKING: [Frame; 4] = [
+static UNLOCKING: [Frame; 4] = [
     Frame::Enable(5),
     Frame::Enable(5),
     Frame::Write(0x55),
@@ -253,7 +253,7 @@ fn writes_that_are_not_stored(rt: HostRuntime) -> Result<(), Fail> {
 }
 
 // Frames to an unlocked unit, and their answers: bank 2 has a lock of its own, and there is no bank 3.
-const OTHER_BANKS: [(Frame, Option<u8>); 9] = [
+static OTHER_BANKS: [(Frame, Option<u8>); 9] = [
     (Frame::Dtr1(0x02), None),
     (Frame::Write(0x11), None),
     (Frame::Dtr0(0x02), None),
@@ -286,7 +286,7 @@ fn each_bank_has_its_own_lock(rt: HostRuntime) -> Result<(), Fail> {
 }
 
 // How many bytes a bank has, its first one, and the fault.
-const SIZES: [(usize, u8, Option<GearFault>); 7] = [
+static SIZES: [(usize, u8, Option<GearFault>); 7] = [
     (0, 0xFF, Some(GearFault::Size)),
     (16, 0x0F, Some(GearFault::Size)),
     (17, 0x10, None),
@@ -312,7 +312,7 @@ fn banks_of_every_size(rt: HostRuntime) -> Result<(), Fail> {
 }
 
 // Addresses, banks and fixed locations, and the fault.
-const REFUSED: [(u8, &[u8], &[u8], Option<GearFault>); 12] = [
+static REFUSED: [(u8, &[u8], &[u8], Option<GearFault>); 12] = [
     (64, &BLANK, &[], Some(GearFault::Address)),
     (64, &[], &[], Some(GearFault::Address)),
     (63, &BLANK, &[], None),
@@ -340,7 +340,7 @@ fn refused_units(rt: HostRuntime) -> Result<(), Fail> {
     )
 }
 
-const FAULTS: [(GearFault, u8, &str); 5] = [
+static FAULTS: [(GearFault, u8, &str); 5] = [
     (GearFault::Address, 1, "Address"),
     (GearFault::Size, 2, "Size"),
     (GearFault::Fixed, 3, "Fixed"),

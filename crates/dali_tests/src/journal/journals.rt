@@ -34,23 +34,26 @@ fn has_bytes(alloc: Global, journal: &Journal, len: usize, end: &[u8]) -> Result
 }
 
 // Whether the journal stands so with its order 1.
-fn stands(journal: &Journal, order: &Order, letter: char, end: Option<Code>) -> bool {
+fn stands(journal: &Journal, order: &Order, letter: u8, end: Option<Code>) -> bool {
     letter_of(journal, order) == letter && is_kept(journal, 1, MOMENT, order, end)
 }
 
 // Opens the unit of the order that has begun, leaves it open and closes it.
 fn leave_and_close(rt: &impl Abort, journal: &mut Journal, order: &Order) -> Result<(), Fail> {
-    expect_that(stands(journal, order, 'B', None), "an order that has begun")?;
+    expect_that(
+        stands(journal, order, b'B', None),
+        "an order that has begun",
+    )?;
     add(rt, journal, Record::Opened(5));
-    expect_that(stands(journal, order, 'O', None), "an opened unit")?;
+    expect_that(stands(journal, order, b'O', None), "an opened unit")?;
     add(rt, journal, Record::Ended(Code::DoubtOpen));
     expect_that(
-        stands(journal, order, 'L', Some(Code::DoubtOpen)),
+        stands(journal, order, b'L', Some(Code::DoubtOpen)),
         "a left unit",
     )?;
     add(rt, journal, Record::Closed(5));
     expect_that(
-        stands(journal, order, 'I', Some(Code::DoubtOpen)),
+        stands(journal, order, b'I', Some(Code::DoubtOpen)),
         "a closed unit",
     )?;
     let has_one = journal.orders() == 1 && journal.limit() == 2 && !journal.is_full();
@@ -97,20 +100,25 @@ fn a_full_journal(rt: HostRuntime) -> Result<(), Fail> {
     expect_that(is_full && is_written, "a full journal")
 }
 
+// Makes room for an order 2 for unit 6, and tells whether then there is room for it and still none for this one.
+fn makes_room_for_next(journal: &mut Journal, order: &Order) -> Result<bool, Fail>
+    ensures records { journal.new.records ≡ journal.old.records }
+    ensures limit { journal.new.limit ≡ journal.old.limit }
+{
+    let next = order_of(2, 6)?;
+    let had_room = journal.has_room(order);
+    journal.reserve(&next)?;
+    // there are bytes enough, but the number isn't in the index
+    Ok(!had_room && journal.has_room(&next) && !journal.has_room(order))
+}
+
 // A journal for one order, with room for an order 2 for unit 6 and none for this one.
 fn with_room_for_next(alloc: Global, order: &Order) -> Result<Journal, Fail>
     ensures { IfOk result (λ journal. (journal.records ≡ []) × (journal.limit ≡ 1)) }
 {
-    let next = order_of(2, 6)?;
     let mut journal = Journal::new(alloc, 1)?;
-    let had_room = journal.has_room(order);
-    journal.reserve(&next)?;
-    // there are bytes enough, but the number isn't in the index
-    let has_room_for_next_alone = journal.has_room(&next) && !journal.has_room(order);
-    expect_that(
-        !had_room && has_room_for_next_alone,
-        "room for order 2 alone",
-    )?;
+    let is_right = makes_room_for_next(&mut journal, order)?;
+    expect_that(is_right, "room for order 2 alone")?;
     Ok(journal)
 }
 
@@ -140,15 +148,18 @@ fn is_limit(alloc: Global, limit: u32) -> Result<bool, Fail> {
     }
 }
 
+// Limits, and whether a journal may have them.
+static LIMITS: [(u32, bool); 5] = [
+    (0, false),
+    (1, true),
+    (100_000, true),
+    (100_001, false),
+    (u32::MAX, false),
+];
+
 #[test]
 fn limits(rt: HostRuntime) -> Result<(), Fail> {
-    for (limit, may_be) in [
-        (0, false),
-        (1, true),
-        (100_000, true),
-        (100_001, false),
-        (u32::MAX, false),
-    ] {
+    for &(limit, may_be) in &LIMITS {
         expect_that(
             is_limit(rt.alloc(), limit)? == may_be,
             "limits from 1 to 100000",

@@ -6,14 +6,14 @@ use std::alloc::Global;
 use std::test::Fail;
 
 // The moments are 0.
-const LEFT: [u8; 76] = [
+static LEFT: [u8; 76] = [
     0x44, 0x42, 0x31, 0x02, 0x42, 0, 0, 0, 0, 0, 0, 0, 1, 0, 0, 0, 0, 0, 0, 0, 0, 5, 6, 0x03, 0x03,
     0x04, 0xA4, 0x05, 0xCE, 0x06, 0xEF, 0x07, 0xAD, 0x08, 0xAB, 0x4F, 0x05, 0x45, 0x05, 0x43, 0x05,
     0x42, 0, 0, 0, 0, 0, 0, 0, 2, 0, 0, 0, 0, 0, 0, 0, 0, 6, 6, 0x03, 0x03, 0x04, 0xA4, 0x05, 0xCE,
     0x06, 0xEF, 0x07, 0xAD, 0x08, 0xAB, 0x4F, 0x06, 0x45, 0x00,
 ];
 
-const OLD_LEFT: [u8; 56] = [
+static OLD_LEFT: [u8; 56] = [
     0x42, 0, 0, 0, 0, 0, 0, 0, 1, 5, 6, 0x03, 0x03, 0x04, 0xA4, 0x05, 0xCE, 0x06, 0xEF, 0x07, 0xAD,
     0x08, 0xAB, 0x4F, 0x05, 0x45, 0x05, 0x43, 0x05, 0x42, 0, 0, 0, 0, 0, 0, 0, 2, 6, 6, 0x03, 0x03,
     0x04, 0xA4, 0x05, 0xCE, 0x06, 0xEF, 0x07, 0xAD, 0x08, 0xAB, 0x4F, 0x06, 0x45, 0x00,
@@ -21,22 +21,22 @@ const OLD_LEFT: [u8; 56] = [
 
 // What stands at the end of each record: how many bytes count in version 1 and in version 2, how many orders were
 // begun, and the first letter of the standing.
-const STANDS: [(usize, usize, u32, char); 8] = [
-    (0, 4, 0, 'I'),
-    (23, 35, 1, 'B'),
-    (25, 37, 1, 'O'),
-    (27, 39, 1, 'L'),
-    (29, 41, 1, 'I'),
-    (52, 72, 2, 'B'),
-    (54, 74, 2, 'O'),
-    (56, 76, 2, 'I'),
+static STANDS: [(usize, usize, u32, u8); 8] = [
+    (0, 4, 0, b'I'),
+    (23, 35, 1, b'B'),
+    (25, 37, 1, b'O'),
+    (27, 39, 1, b'L'),
+    (29, 41, 1, b'I'),
+    (52, 72, 2, b'B'),
+    (54, 74, 2, b'O'),
+    (56, 76, 2, b'I'),
 ];
 
 // What stands where so many first bytes of a version are there: how many bytes count of them and in version 2, how
 // many orders were begun, and the first letter of the standing.
-fn right_of(version: Version, len: usize) -> (usize, usize, u32, char) {
-    let mut right = (0, 4, 0, 'I');
-    for (old, new, orders, letter) in STANDS {
+fn right_of(version: Version, len: usize) -> (usize, usize, u32, u8) {
+    let mut right = (0, 4, 0, b'I');
+    for &(old, new, orders, letter) in &STANDS {
         let counts = match version {
             Version::One => old,
             Version::Two => new,
@@ -49,17 +49,17 @@ fn right_of(version: Version, len: usize) -> (usize, usize, u32, char) {
 }
 
 // The first letter of the standing, and the number of its order or its unit.
-fn told(standing: &Standing) -> (char, u64) {
+fn told(standing: &Standing) -> (u8, u64) {
     match standing {
-        Standing::Idle => ('I', 0),
-        Standing::Began(order) => ('B', order.id()),
-        Standing::Opened(order) => ('O', order.id()),
-        Standing::Left(unit) => ('L', u64::from(*unit)),
+        Standing::Idle => (b'I', 0),
+        Standing::Began(order) => (b'B', order.id()),
+        Standing::Opened(order) => (b'O', order.id()),
+        Standing::Left(unit) => (b'L', u64::from(*unit)),
     }
 }
 
 // Whether the journal of the first bytes of a version, of which so many count, stands as it should.
-fn stands_right(journal: &Journal, counted: usize, right: (usize, usize, u32, char)) -> bool {
+fn stands_right(journal: &Journal, counted: usize, right: (usize, usize, u32, u8)) -> bool {
     let (counts, _, orders, letter) = right;
     let (found, _) = told(&journal.standing());
     counted == counts && journal.orders() == orders && found == letter
@@ -133,25 +133,31 @@ fn judge_standing(
     alloc: Global,
     bytes: &[u8],
     len: usize,
-    standing: (char, u64),
+    standing: (u8, u64),
 ) -> Result<(), Fail> {
     let journal = load_front(alloc, bytes, len)?;
     expect_that(told(&journal.standing()) == standing, "the standing")
 }
 
+// How many first bytes are there in version 1 and in version 2, a number, and what is kept under it.
+static KEPT: [(usize, usize, u64, Option<(u8, Option<Code>)>); 5] = [
+    (56, 76, 1, Some((5, Some(Code::DoubtOpen)))),
+    (56, 76, 2, Some((6, Some(Code::Done)))),
+    (56, 76, 3, None),
+    (54, 74, 2, Some((6, None))),
+    (51, 71, 2, None),
+];
+
+// How many first bytes are there in version 1 and in version 2, and the standing.
+static STANDINGS: [(usize, usize, (u8, u64)); 2] = [(54, 74, (b'O', 2)), (28, 40, (b'L', 5))];
+
 #[test]
 fn what_is_kept_once_loaded(rt: HostRuntime) -> Result<(), Fail> {
-    for (old, new, id, order) in [
-        (56, 76, 1, Some((5, Some(Code::DoubtOpen)))),
-        (56, 76, 2, Some((6, Some(Code::Done)))),
-        (56, 76, 3, None),
-        (54, 74, 2, Some((6, None))),
-        (51, 71, 2, None),
-    ] {
+    for &(old, new, id, order) in &KEPT {
         judge_kept(rt.alloc(), &OLD_LEFT, old, id, order)?;
         judge_kept(rt.alloc(), &LEFT, new, id, order)?;
     }
-    for (old, new, standing) in [(54, 74, ('O', 2)), (28, 40, ('L', 5))] {
+    for &(old, new, standing) in &STANDINGS {
         judge_standing(rt.alloc(), &OLD_LEFT, old, standing)?;
         judge_standing(rt.alloc(), &LEFT, new, standing)?;
     }
@@ -183,9 +189,9 @@ fn limits_of_loads(rt: HostRuntime) -> Result<(), Fail> {
 
 // How many load of the journals with one byte replaced, for each byte and each value, and how many have each fault, by
 // its number. A program that shares nothing with this one counted both.
-const LOADS: [u32; 8] = [11_516, 0, 0, 6_833, 340, 2, 0, 765];
+static LOADS: [u32; 8] = [11_516, 0, 0, 6_833, 340, 2, 0, 765];
 
-const OLD_LOADS: [u32; 8] = [7_416, 0, 0, 6_577, 340, 2, 0, 1];
+static OLD_LOADS: [u32; 8] = [7_416, 0, 0, 6_577, 340, 2, 0, 1];
 
 // Whether two journals say the same of all that they are asked for.
 fn say_same(one: &Journal, other: &Journal) -> bool {

@@ -70,11 +70,13 @@ const OLD_FAULTS: &str = "10 41: Record(0)
 10 42 00 00 00 00 00 00 00 01 05 74: Record(0)
 10 42 00 00 00 00 00 00 00 01 05 73 05: Record(0)";
 
-// What may not stand behind an order that has ended in a journal for one alone.
-const WRONG: &str = "41: Record
-43 05: Sequence
-BEGAN: Repeated
-NEXT: Full";
+// What may not stand behind an order that has ended in a journal for one alone, and its fault.
+static WRONG: [(&str, &str); 4] = [
+    ("41", "Record"),
+    ("43 05", "Sequence"),
+    ("BEGAN", "Repeated"),
+    ("NEXT", "Full"),
+];
 
 // One record with more than one fault.
 const TWO_FAULTS: &str = "1 HEADER BEGAN BEGAN: Sequence(35)
@@ -97,11 +99,18 @@ const LIMITS: &str = "0 HEADER 41: Limit
 100000: Two 0
 100001: Limit";
 
-// The bytes of the orders BEGAN and NEXT in a version.
-fn orders_of(version: Version) -> (&'static [u8], &'static [u8]) {
+// The bytes of the order BEGAN in a version, and of NEXT.
+fn began_of(version: Version) -> &'static [u8] {
     match version {
-        Version::One => (&OLD_BEGAN, &OLD_NEXT),
-        Version::Two => (&BEGAN, &NEXT),
+        Version::One => &OLD_BEGAN,
+        Version::Two => &BEGAN,
+    }
+}
+
+fn next_of(version: Version) -> &'static [u8] {
+    match version {
+        Version::One => &OLD_NEXT,
+        Version::Two => &NEXT,
     }
 }
 
@@ -115,13 +124,12 @@ fn cut(bytes: &[u8]) -> &[u8] {
 
 // The bytes of a word, where a Began is of this version.
 fn add_word(bytes: &mut Vec<u8>, version: Version, word: &str) -> Result<(), Fail> {
-    let (began, next) = orders_of(version);
     match word {
         "HEADER" => bytes.extend_from_slice(&HEADER)?,
-        "BEGAN" => bytes.extend_from_slice(began)?,
-        "BEGAN-" => bytes.extend_from_slice(cut(began))?,
-        "NEXT" => bytes.extend_from_slice(next)?,
-        "NEXT-" => bytes.extend_from_slice(cut(next))?,
+        "BEGAN" => bytes.extend_from_slice(began_of(version))?,
+        "BEGAN-" => bytes.extend_from_slice(cut(began_of(version)))?,
+        "NEXT" => bytes.extend_from_slice(next_of(version))?,
+        "NEXT-" => bytes.extend_from_slice(cut(next_of(version)))?,
         digits => bytes.push(u8::from_str_radix(digits, 16)?)?,
     }
     Ok(())
@@ -198,23 +206,27 @@ fn bytes_with_a_fault(rt: HostRuntime) -> Result<(), Fail> {
 }
 
 // Loads three of the wrong pieces behind an order that has ended, up to this place: the first one's fault is told.
-fn load_wrong(alloc: Global, front: &str, place: usize, wrong: [&str; 3]) -> Result<(), Fail> {
-    let [first, second, third] = wrong;
-    let (first, fault) = first.split_once(": ").ok_or("a case")?;
-    let (second, _) = second.split_once(": ").ok_or("a case")?;
-    let (third, _) = third.split_once(": ").ok_or("a case")?;
+fn load_wrong(
+    alloc: Global,
+    front: &str,
+    place: usize,
+    first: (&str, &str),
+    others: (&str, &str),
+) -> Result<(), Fail> {
+    let (first, fault) = first;
+    let (second, third) = others;
     let case = format!(in alloc; "1 {front} {first} {second} {third}: {fault}({place})")?;
     load_case(alloc, &case)
 }
 
 #[test]
 fn the_first_fault_is_told(rt: HostRuntime) -> Result<(), Fail> {
-    for first in WRONG.split('\n') {
-        for second in WRONG.split('\n') {
-            for third in WRONG.split('\n') {
-                let wrong = [first, second, third];
-                load_wrong(rt.alloc(), "HEADER BEGAN 45 01", 37, wrong)?;
-                load_wrong(rt.alloc(), "BEGAN 45 01", 25, wrong)?;
+    for &first in &WRONG {
+        for &(second, _) in &WRONG {
+            for &(third, _) in &WRONG {
+                let others = (second, third);
+                load_wrong(rt.alloc(), "HEADER BEGAN 45 01", 37, first, others)?;
+                load_wrong(rt.alloc(), "BEGAN 45 01", 25, first, others)?;
             }
         }
     }

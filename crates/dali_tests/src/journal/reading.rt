@@ -8,7 +8,7 @@ use std::test::Fail;
 // A byte behind each front of the longest record in version 1, from its letter on: the least that may come, and the
 // greatest. A program that shares nothing with this one made both. In version 2 the eight bytes of the number stand
 // before these, of which each may be any, and the first eight of these are the moment's.
-const LEAST: [u8; 240] = [
+static LEAST: [u8; 240] = [
     0x00, 0x00, 0x00, 0x00, 0x00, 0x00, 0x00, 0x00, 0x00, 0x01, 0x03, 0x00, 0x04, 0x00, 0x05, 0x00,
     0x06, 0x00, 0x07, 0x00, 0x08, 0x00, 0x09, 0x00, 0x0A, 0x00, 0x0B, 0x00, 0x0C, 0x00, 0x0D, 0x00,
     0x0E, 0x00, 0x0F, 0x00, 0x10, 0x00, 0x13, 0x00, 0x14, 0x00, 0x15, 0x00, 0x16, 0x00, 0x17, 0x00,
@@ -26,7 +26,7 @@ const LEAST: [u8; 240] = [
     0x70, 0x00, 0x71, 0x00, 0x72, 0x00, 0x73, 0x00, 0x74, 0x00, 0x75, 0x00, 0x76, 0x00, 0x77, 0x00,
 ];
 
-const GREATEST: [u8; 240] = [
+static GREATEST: [u8; 240] = [
     0xFF, 0xFF, 0xFF, 0xFF, 0xFF, 0xFF, 0xFF, 0xFF, 0x3F, 0x73, 0x03, 0xFF, 0x04, 0xFF, 0x05, 0xFF,
     0x06, 0xFF, 0x07, 0xFF, 0x08, 0xFF, 0x09, 0xFF, 0x0A, 0xFF, 0x0B, 0xFF, 0x0C, 0xFF, 0x0D, 0xFF,
     0x0E, 0xFF, 0x0F, 0xFF, 0x10, 0xFF, 0x13, 0xFF, 0x14, 0xFF, 0x15, 0xFF, 0x16, 0xFF, 0x17, 0xFF,
@@ -46,7 +46,7 @@ const GREATEST: [u8; 240] = [
 
 // How many updates an order has, the location of the first, 0 where it is to come, and of the next the least
 // location and the greatest. 11h and 12h are none. The same program made it.
-const ROOM: [(u8, u8, u8, u8); 15] = [
+static ROOM: [(u8, u8, u8, u8); 15] = [
     (1, 0, 0x03, 0x77),
     (2, 0, 0x03, 0x76),
     (2, 0x10, 0x13, 0x77),
@@ -213,7 +213,7 @@ fn judge_room(
 
 // Tries each row in a version.
 fn judge_rooms(alloc: Global, version: Version) -> Result<(), Fail> {
-    for (count, first, least, greatest) in ROOM {
+    for &(count, first, least, greatest) in &ROOM {
         let mut front = front_with(alloc, version, count, first)?;
         judge_room(version, &mut front, len_of(version, count), least, greatest)?;
     }
@@ -243,20 +243,23 @@ fn code_of(version: Version, bytes: &[u8]) -> Option<Code> {
     }
 }
 
+// Two bytes, and whether they are a whole record.
+static TWO_BYTES: [(u8, u8, bool); 10] = [
+    (0x4F, 0, true),
+    (0x4F, 63, true),
+    (0x4F, 64, false),
+    (0x43, 63, true),
+    (0x43, 64, false),
+    (0x45, 6, false),
+    (0x41, 0, false),
+    (0x44, 0, false),
+    (0x46, 0, false),
+    (0x00, 0, false),
+];
+
 // Tries records of two bytes in a version.
 fn judge_two_bytes(version: Version) -> Result<(), Fail> {
-    for (letter, byte, whole) in [
-        (0x4F, 0, true),
-        (0x4F, 63, true),
-        (0x4F, 64, false),
-        (0x43, 63, true),
-        (0x43, 64, false),
-        (0x45, 6, false),
-        (0x41, 0, false),
-        (0x44, 0, false),
-        (0x46, 0, false),
-        (0x00, 0, false),
-    ] {
+    for &(letter, byte, whole) in &TWO_BYTES {
         let is_right = are_whole(version, letter, byte) == Some(whole);
         expect_that(is_right, "whole records alone")?;
     }
@@ -266,16 +269,18 @@ fn judge_two_bytes(version: Version) -> Result<(), Fail> {
     )
 }
 
+static CODES: [(u8, Code); 6] = [
+    (0, Code::Done),
+    (1, Code::Short),
+    (2, Code::Format),
+    (3, Code::Silent),
+    (4, Code::Doubt),
+    (5, Code::DoubtOpen),
+];
+
 // Tries the code of each number in a version.
 fn judge_codes(version: Version) -> Result<(), Fail> {
-    for (number, code) in [
-        (0, Code::Done),
-        (1, Code::Short),
-        (2, Code::Format),
-        (3, Code::Silent),
-        (4, Code::Doubt),
-        (5, Code::DoubtOpen),
-    ] {
+    for &(number, code) in &CODES {
         expect_that(code_of(version, &[0x45, number]) == Some(code), code.name())?;
     }
     Ok(())

@@ -6,12 +6,12 @@ use std::alloc::Global;
 use std::test::Fail;
 
 // Order 1 for unit 5 with the GTIN, which is done, in version 1 and in version 2.
-const OLD_DONE: [u8; 27] = [
+static OLD_DONE: [u8; 27] = [
     0x42, 0, 0, 0, 0, 0, 0, 0, 1, 5, 6, 0x03, 0x03, 0x04, 0xA4, 0x05, 0xCE, 0x06, 0xEF, 0x07, 0xAD,
     0x08, 0xAB, 0x4F, 0x05, 0x45, 0x00,
 ];
 
-const DONE: [u8; 39] = [
+static DONE: [u8; 39] = [
     0x44, 0x42, 0x31, 0x02, 0x42, 0, 0, 0, 0, 0, 0, 0, 1, 0, 0, 0, 0, 0, 0, 0, 0, 5, 6, 0x03, 0x03,
     0x04, 0xA4, 0x05, 0xCE, 0x06, 0xEF, 0x07, 0xAD, 0x08, 0xAB, 0x4F, 0x05, 0x45, 0x00,
 ];
@@ -40,10 +40,15 @@ fn an_old_journal_is_written_anew(rt: HostRuntime) -> Result<(), Fail> {
     expect_that(has_moments && is_written, "the moment 0")
 }
 
+// Whether order 1 has begun in the journal.
+fn is_begun(journal: &Journal) -> Result<bool, Fail> {
+    let order = order_of(1, 5)?;
+    Ok(letter_of(journal, &order) == b'B')
+}
+
 // Whether the journal with order 1, which has begun, is written so.
 fn is_begun_as(alloc: Global, journal: &Journal, bytes: &[u8]) -> Result<bool, Fail> {
-    let order = order_of(1, 5)?;
-    Ok(letter_of(journal, &order) == 'B' && is_written_as(alloc, journal, bytes)?)
+    Ok(is_begun(journal)? && is_written_as(alloc, journal, bytes)?)
 }
 
 // An order that hasn't ended goes on, with a moment of its own for the next one.

@@ -1,6 +1,5 @@
 """The edits of crates/NAME/wrong-bodies and of the folders beside it: what they change, and in which functions."""
 
-import collections
 import pathlib
 import re
 
@@ -10,12 +9,10 @@ HEAD = re.compile(r"(\s*)(?:pub(?:\([^)]*\))? )?(?:const )?(?:unsafe )?fn (\w+)"
 IMPL = re.compile(r"impl(?:<[^{]*?>)? (?:(?P<trait>[^{]*?) for )?(?P<type>\w+)")
 
 
-class Function(collections.namedtuple("Function", "file name path")):
-    """A function of a crate: its file, its name, and the path by which a check finds it."""
-
-
 class Edit:
-    """A wrong body or a wrong line: its crate, and the lines that it changes, by file and number from 1."""
+    """A wrong body or a wrong line: its crate, the lines that it changes, by file and number from 1, and the functions
+    that these are within, by the ends of their names, none where a line is in no function.
+    """
 
     def __init__(self, path):
         self.path, self.crate = path, path.parent.parent
@@ -49,9 +46,9 @@ class Edit:
                     self.lines[file, at] = made
         return None if self.lines else "it changes nothing"
 
-    def paths(self):
-        """Give the paths of what a check has to prove of it, none where that is the whole crate."""
-        return {it.path for it in self.functions} or ({self.by} if self.by else set())
+    def asked(self):
+        """Give the functions that a check has to prove of it, none where that is the whole crate."""
+        return self.functions or ({self.by} if self.by else set())
 
 
 def function_at(path, line):
@@ -70,11 +67,23 @@ def function_at(path, line):
             ends = (f"{head[1]}}}", f"{head[1]}{{}}")
             last = next((n for n in range(at, len(rows)) if rows[n] in ends), at) + 1
             if first <= line <= last:
-                found = Function(str(file), head[2], path_to(file, block if head[1] else None, head[2]))
+                found = end_of_name(file, block if head[1] else None, head[2])
     return found
 
 
-def path_to(file, block, name):
+def function_of_proof(file):
+    """Give the function in whose folder below `proofs` a file is, or None."""
+    folders = pathlib.Path(file).parts[1:-1]
+    if "fn" in folders:
+        # The folder of a closure, below that of its function.
+        at = folders.index("fn")
+        folders = (*folders[:at], folders[at + 1])
+    if len(folders) > 1 and folders[-2][0].isupper():
+        folders = folders[-2:]
+    return "::".join(folders) or None
+
+
+def end_of_name(file, block, name):
     """Give the end of the name that a check has for a function, which is that of no other."""
     if not block:
         return "::".join([*(it for it in file.with_suffix("").parts[1:] if it not in ("lib", "mod")), name])

@@ -168,21 +168,33 @@ const REFUSED: [(&str, DriveFault, usize, usize); 10] = [
     ("-5\r\n", DIGIT, 4, 1),
 ];
 
+// A drive with such a line on the link, which ends with the fault once it has written these frames' lines.
+fn judge_refused(
+    alloc: Global,
+    line: &str,
+    fault: DriveFault,
+    taken: usize,
+    link: &[u8],
+) -> Result<(), Fail> {
+    let orders = [gtin_order(9)?];
+    let left = drive_on(alloc, &[], &orders, line.as_bytes(), ALL)?;
+    let wanted = Wanted {
+        fault: Some(fault),
+        taken,
+        link,
+        journal: &SILENT_RECORDS[..BEGAN],
+        out: TAKEN.as_bytes(),
+        failed: [false; 4],
+    };
+    expect_that(left.is(&wanted), line)
+}
+
 #[test]
 fn lines_that_are_refused(rt: HostRuntime) -> Result<(), Fail> {
-    let orders = [gtin_order(9)?];
     let link = silent_link(rt.alloc())?;
     for (line, fault, taken, frames) in REFUSED {
-        let wanted = Wanted {
-            fault: Some(fault),
-            taken,
-            link: link.get(..5 * frames).unwrap_or_default(),
-            journal: &SILENT_RECORDS[..BEGAN],
-            out: TAKEN.as_bytes(),
-            failed: [false; 4],
-        };
-        let left = drive_on(rt.alloc(), &[], &orders, line.as_bytes(), ALL)?;
-        expect_that(left.is(&wanted), line)?;
+        let written = link.get(..5 * frames).unwrap_or_default();
+        judge_refused(rt.alloc(), line, fault, taken, written)?;
     }
     Ok(())
 }
@@ -359,8 +371,8 @@ fn an_order_that_ended(rt: HostRuntime) -> Result<(), Fail> {
     expect_that(left.is(&wanted), "an order that has ended")
 }
 
-// Drives the order over a reader and writers of std.
-fn drive_std(alloc: Global, answers: &[u8]) -> Result<Left, Fail> {
+// Drives the order over a reader and writers of std. What that leaves, and whether it left no bytes of the reader.
+fn drive_std(alloc: Global, answers: &[u8]) -> Result<(Left, bool), Fail> {
     let (journal, _, _) = Journal::load(alloc, 10, &[])?;
     let orders = [gtin_order(9)?];
     let mut link_in = StdSource::new(answers);
@@ -378,21 +390,21 @@ fn drive_std(alloc: Global, answers: &[u8]) -> Result<Left, Fail> {
     );
     let taken = answers.len().saturating_sub(link_in.reader.len());
     let is_at_end = matches!(link_in.take_byte(), Got::End);
-    expect_that(is_at_end, "no more bytes of the reader")?;
     let failed = [
         link_in.has_failed(),
         link_out.has_failed(),
         journal_out.has_failed(),
         out.has_failed(),
     ];
-    Ok(Left {
+    let left = Left {
         fault: driven.err(),
         taken,
         link: link_out.writer,
         journal: journal_out.writer,
         out: out.writer,
         failed,
-    })
+    };
+    Ok((left, is_at_end))
 }
 
 #[test]
@@ -400,7 +412,8 @@ fn streams_of_std(rt: HostRuntime) -> Result<(), Fail> {
     let alloc = rt.alloc();
     let link = silent_link(alloc)?;
     let answers = silence(alloc)?;
-    let left = drive_std(alloc, &answers)?;
+    let (left, is_at_end) = drive_std(alloc, &answers)?;
+    expect_that(is_at_end, "no more bytes of the reader")?;
     expect_that(left.is(&silent(&link, &answers)), "what the drive leaves")
 }
 

@@ -14,8 +14,9 @@ use std::test::Fail;
 
 // A blank unit 5.
 fn one_unit(alloc: Global) -> Result<SimBus, GearFault> {
+    let unit = Unit::blank(alloc, 5)?;
     let mut units = Vec::new(alloc);
-    put(&mut units, Unit::blank(alloc, 5)?)?;
+    put(&mut units, unit)?;
     SimBus::new(units, Vec::new(alloc))
 }
 
@@ -27,14 +28,14 @@ struct Lie {
     told: u8,
 }
 
+fn is_lied_about(lie: &Lie, line: [u8; 5], answer: Option<u8>) -> bool {
+    line == lie.line && answer == Some(lie.answered)
+}
+
 fn told(lie: Option<Lie>, line: [u8; 5], answer: Option<u8>) -> Option<u8> {
-    let Some(lie) = lie else {
-        return answer;
-    };
-    if line == lie.line && answer == Some(lie.answered) {
-        Some(lie.told)
-    } else {
-        answer
+    match lie {
+        Some(lie) if is_lied_about(&lie, line, answer) => Some(lie.told),
+        _ => answer,
     }
 }
 
@@ -60,6 +61,31 @@ impl Seen {
     }
 }
 
+fn is_idle(writer: &Writer) -> bool {
+    matches!(writer.want(), Want::Idle)
+}
+
+// Does what the writer wants now.
+fn serve(
+    bus: &mut SimBus,
+    writer: &mut Writer,
+    seen: &mut Seen,
+    lie: Option<Lie>,
+) -> Result<(), Fail> {
+    match writer.want() {
+        Want::Idle => {}
+        Want::Keep(_) => writer.kept(),
+        Want::Send(frame) => {
+            let line = line_of(&frame);
+            let answer = told(lie, line, bus.carry(&frame));
+            seen.note(frame, line, answer)?;
+            writer.heard(answer);
+        }
+        Want::Say(_, _) => writer.said(),
+    }
+    Ok(())
+}
+
 // Does what the writer wants until it is idle.
 fn work_by_hand(
     bus: &mut SimBus,
@@ -68,17 +94,10 @@ fn work_by_hand(
     lie: Option<Lie>,
 ) -> Result<(), Fail> {
     for _ in 0..ENOUGH {
-        match writer.want() {
-            Want::Idle => return Ok(()),
-            Want::Keep(_) => writer.kept(),
-            Want::Send(frame) => {
-                let line = line_of(&frame);
-                let answer = told(lie, line, bus.carry(&frame));
-                seen.note(frame, line, answer)?;
-                writer.heard(answer);
-            }
-            Want::Say(_, _) => writer.said(),
+        if is_idle(writer) {
+            return Ok(());
         }
+        serve(bus, writer, seen, lie)?;
     }
     Err("an idle writer".into())
 }
@@ -300,10 +319,16 @@ fn judge_rest(alloc: Global, run: &Run<'_>, frames: &[Frame], records: &[u8]) ->
     judge_driven(alloc, run, records, run.counted(records.len()), &seen)
 }
 
+// Whether the drive ended with this stream's failing, and no other one failed.
+fn has_failed(stream: Stream, left: &Left) -> bool {
+    let fault = Some(stream.fault());
+    let failed = stream.failed();
+    left.fault == fault && left.failed == failed
+}
+
 // Whether the drive left the first bytes of what the whole run leaves, up to the place.
 fn is_cut_there(run: &Run<'_>, whole: &Seen, place: Place, left: &Left) -> bool {
-    left.fault == Some(place.stream.fault())
-        && left.failed == place.stream.failed()
+    has_failed(place.stream, left)
         && place.is_reached(left, run.ends)
         && whole.link.starts_with(&left.link)
         && run.journal.starts_with(&left.journal)

@@ -1,9 +1,11 @@
 use crate::expected::expect_that;
 use crate::gtin::GTIN;
 use crate::writer::case::{
-    Case, DONE, Deed, ENOUGH, PLAIN, STORED, TAKEN, bus_of, judge, run_case,
+    Case, DONE, Deed, ENOUGH, PLAIN, Run, STORED, TAKEN, bus_of, judge, judge_all, judge_runs,
+    run_case,
 };
 use dali_bank::BLANK;
+use dali_gear::SimBus;
 use dali_journal::Code;
 use dali_writer::{Reply, RunFault};
 use std::alloc::Global;
@@ -35,29 +37,30 @@ const SHORT_BANK: [u8; 17] = [
 
 const DOUBT: Reply = Reply::Kept(Code::Doubt);
 
-const AGAIN: Case<'static> = Case {
-    name: "the same again",
-    deeds: &[
-        Deed::Submit(1, 5, &GTIN),
-        Deed::Steps(ENOUGH),
-        Deed::Submit(1, 5, &GTIN),
-        Deed::Steps(ENOUGH),
-    ],
-    answers: &[(1, TAKEN, 0), (1, DONE, 112), (1, DONE, 112)],
-    ..PLAIN
-};
-
-const USED_AGAIN: Case<'static> = Case {
-    name: "the number used again",
-    deeds: &[
-        Deed::Submit(1, 5, &GTIN),
-        Deed::Steps(ENOUGH),
-        Deed::Submit(1, 5, &OTHER_GTIN),
-        Deed::Steps(ENOUGH),
-    ],
-    answers: &[(1, TAKEN, 0), (1, DONE, 112), (1, Reply::IdReused, 112)],
-    ..PLAIN
-};
+const RUNS_AGAIN: [Run<'static>; 2] = [
+    Run {
+        name: "the same again",
+        deeds: &[
+            Deed::Submit(1, 5, &GTIN),
+            Deed::Steps(ENOUGH),
+            Deed::Submit(1, 5, &GTIN),
+            Deed::Steps(ENOUGH),
+        ],
+        answers: &[(1, TAKEN, 0), (1, DONE, 112), (1, DONE, 112)],
+        frames: 112,
+    },
+    Run {
+        name: "the number used again",
+        deeds: &[
+            Deed::Submit(1, 5, &GTIN),
+            Deed::Steps(ENOUGH),
+            Deed::Submit(1, 5, &OTHER_GTIN),
+            Deed::Steps(ENOUGH),
+        ],
+        answers: &[(1, TAKEN, 0), (1, DONE, 112), (1, Reply::IdReused, 112)],
+        frames: 112,
+    },
+];
 
 const YEAR_AND_WEEK_RUN: Case<'static> = Case {
     name: "year and week",
@@ -92,13 +95,15 @@ const TWO_YEARS: Case<'static> = Case {
     ..PLAIN
 };
 
+fn judge_again(alloc: Global) -> Result<(), Fail> {
+    judge(alloc, &PLAIN)?;
+    judge_runs(alloc, &RUNS_AGAIN)
+}
+
 #[test]
 fn runs_without_losses(rt: HostRuntime) -> Result<(), Fail> {
-    judge(rt.alloc(), &PLAIN)?;
-    judge(rt.alloc(), &AGAIN)?;
-    judge(rt.alloc(), &USED_AGAIN)?;
-    judge(rt.alloc(), &YEAR_AND_WEEK_RUN)?;
-    judge(rt.alloc(), &TWO_YEARS)
+    judge_again(rt.alloc())?;
+    judge_all(rt.alloc(), &[YEAR_AND_WEEK_RUN, TWO_YEARS])
 }
 
 const YEAR_AND_VOLTAGE_RUN: Case<'static> = Case {
@@ -119,19 +124,69 @@ const FRAME_40: Case<'static> = Case {
     ..YEAR_AND_VOLTAGE_RUN
 };
 
-const FRAME_19: Case<'static> = Case {
-    name: "frame 19",
-    lost: &[(19, 19)],
-    ..PLAIN
-};
+// A case that is PLAIN but for what is lost, and what comes of that.
+#[derive(Clone, Copy)]
+struct Loss<'a> {
+    name: &'a str,
+    dtrs: (u8, u8, u8),
+    lost: &'a [(usize, usize)],
+    unanswered: &'a [usize],
+    answers: &'a [(u64, Reply, usize)],
+    frames: usize,
+}
 
-const SEVEN_ANSWERS: Case<'static> = Case {
-    name: "seven answers",
-    unanswered: &[11, 15, 19, 23, 27, 31, 35],
-    answers: &[(1, TAKEN, 0), (1, DONE, 140)],
-    frames: 140,
-    ..PLAIN
-};
+const LOSSES: [Loss<'static>; 6] = [
+    Loss {
+        name: "frame 19",
+        dtrs: (0x00, 0x00, 0x00),
+        lost: &[(19, 19)],
+        unanswered: &[],
+        answers: &[(1, TAKEN, 0), (1, DONE, 112)],
+        frames: 112,
+    },
+    Loss {
+        name: "seven answers",
+        dtrs: (0x00, 0x00, 0x00),
+        lost: &[],
+        unanswered: &[11, 15, 19, 23, 27, 31, 35],
+        answers: &[(1, TAKEN, 0), (1, DONE, 140)],
+        frames: 140,
+    },
+    Loss {
+        name: "eight answers of two accesses",
+        dtrs: (0x00, 0x00, 0x00),
+        lost: &[],
+        unanswered: &[11, 15, 19, 23, 27, 31, 35, 46],
+        answers: &[(1, TAKEN, 0), (1, DONE, 144)],
+        frames: 144,
+    },
+    Loss {
+        name: "frame 1, with DTR1 02h",
+        dtrs: (0x00, 0x02, 0x00),
+        lost: &[(1, 1)],
+        unanswered: &[],
+        answers: &[(1, TAKEN, 0), (1, DONE, 114)],
+        frames: 114,
+    },
+    Loss {
+        name: "frames 1 and 8, with DTR1 02h",
+        dtrs: (0x00, 0x02, 0x00),
+        lost: &[(1, 1), (8, 8)],
+        unanswered: &[],
+        answers: &[(1, TAKEN, 0), (1, DONE, 120)],
+        frames: 120,
+    },
+    // Whoever reads bank 2 and asks for no answer to the queries of DTR1 loses the frame 10 that sets it for the
+    // unlock.
+    Loss {
+        name: "frames 1 and 10, with DTR1 02h",
+        dtrs: (0x00, 0x02, 0x00),
+        lost: &[(1, 1), (10, 10)],
+        unanswered: &[],
+        answers: &[(1, TAKEN, 0), (1, DONE, 121)],
+        frames: 121,
+    },
+];
 
 const ONE_ACCESS: Case<'static> = Case {
     name: "eight answers of one access",
@@ -143,53 +198,30 @@ const ONE_ACCESS: Case<'static> = Case {
     ..PLAIN
 };
 
-const TWO_ACCESSES: Case<'static> = Case {
-    name: "eight answers of two accesses",
-    unanswered: &[11, 15, 19, 23, 27, 31, 35, 46],
-    answers: &[(1, TAKEN, 0), (1, DONE, 144)],
-    frames: 144,
-    ..PLAIN
-};
+fn judge_loss(alloc: Global, loss: &Loss<'_>) -> Result<(), Fail> {
+    let case = Case {
+        name: loss.name,
+        dtrs: loss.dtrs,
+        lost: loss.lost,
+        unanswered: loss.unanswered,
+        answers: loss.answers,
+        frames: loss.frames,
+        ..PLAIN
+    };
+    judge(alloc, &case)
+}
 
-const FRAME_1: Case<'static> = Case {
-    name: "frame 1, with DTR1 02h",
-    dtrs: (0x00, 0x02, 0x00),
-    lost: &[(1, 1)],
-    answers: &[(1, TAKEN, 0), (1, DONE, 114)],
-    frames: 114,
-    ..PLAIN
-};
-
-const FRAMES_1_AND_8: Case<'static> = Case {
-    name: "frames 1 and 8, with DTR1 02h",
-    dtrs: (0x00, 0x02, 0x00),
-    lost: &[(1, 1), (8, 8)],
-    answers: &[(1, TAKEN, 0), (1, DONE, 120)],
-    frames: 120,
-    ..PLAIN
-};
-
-// Whoever reads bank 2 and asks for no answer to the queries of DTR1 loses the frame 10 that sets it for the unlock.
-const FRAMES_1_AND_10: Case<'static> = Case {
-    name: "frames 1 and 10, with DTR1 02h",
-    dtrs: (0x00, 0x02, 0x00),
-    lost: &[(1, 1), (10, 10)],
-    answers: &[(1, TAKEN, 0), (1, DONE, 121)],
-    frames: 121,
-    ..PLAIN
-};
+fn judge_losses(alloc: Global) -> Result<(), Fail> {
+    for loss in &LOSSES {
+        judge_loss(alloc, loss)?;
+    }
+    Ok(())
+}
 
 #[test]
 fn runs_with_losses(rt: HostRuntime) -> Result<(), Fail> {
-    judge(rt.alloc(), &YEAR_AND_VOLTAGE_RUN)?;
-    judge(rt.alloc(), &FRAME_40)?;
-    judge(rt.alloc(), &FRAME_19)?;
-    judge(rt.alloc(), &SEVEN_ANSWERS)?;
-    judge(rt.alloc(), &ONE_ACCESS)?;
-    judge(rt.alloc(), &TWO_ACCESSES)?;
-    judge(rt.alloc(), &FRAME_1)?;
-    judge(rt.alloc(), &FRAMES_1_AND_8)?;
-    judge(rt.alloc(), &FRAMES_1_AND_10)
+    judge_losses(rt.alloc())?;
+    judge_all(rt.alloc(), &[YEAR_AND_VOLTAGE_RUN, FRAME_40, ONE_ACCESS])
 }
 
 const NO_UNIT: Case<'static> = Case {
@@ -236,34 +268,33 @@ const A_FIXED_LOCATION: Case<'static> = Case {
 
 #[test]
 fn runs_with_other_units(rt: HostRuntime) -> Result<(), Fail> {
-    judge(rt.alloc(), &NO_UNIT)?;
-    judge(rt.alloc(), &A_SHORT_BANK)?;
-    judge(rt.alloc(), &A_FIXED_LOCATION)
+    judge_all(rt.alloc(), &[NO_UNIT, A_SHORT_BANK, A_FIXED_LOCATION])
 }
 
-const A_CUT_RECORD: Case<'static> = Case {
-    name: "a record that is cut",
-    deeds: &[
-        Deed::Submit(1, 5, &GTIN),
-        Deed::Steps(8),
-        Deed::Stop(1),
-        Deed::Steps(ENOUGH),
-    ],
-    answers: &[(1, TAKEN, 0), (1, DONE, 119)],
-    frames: 119,
-    ..PLAIN
-};
-
-const A_WHOLE_RECORD: Case<'static> = Case {
-    name: "a whole record",
-    deeds: &[
-        Deed::Submit(1, 5, &GTIN),
-        Deed::Steps(8),
-        Deed::Stop(2),
-        Deed::Steps(ENOUGH),
-    ],
-    ..PLAIN
-};
+const STOPS_OF_A_RECORD: [Run<'static>; 2] = [
+    Run {
+        name: "a record that is cut",
+        deeds: &[
+            Deed::Submit(1, 5, &GTIN),
+            Deed::Steps(8),
+            Deed::Stop(1),
+            Deed::Steps(ENOUGH),
+        ],
+        answers: &[(1, TAKEN, 0), (1, DONE, 119)],
+        frames: 119,
+    },
+    Run {
+        name: "a whole record",
+        deeds: &[
+            Deed::Submit(1, 5, &GTIN),
+            Deed::Steps(8),
+            Deed::Stop(2),
+            Deed::Steps(ENOUGH),
+        ],
+        answers: &[(1, TAKEN, 0), (1, DONE, 112)],
+        frames: 112,
+    },
+];
 
 const AMID_THE_WRITES: Case<'static> = Case {
     name: "a stop amid the writes",
@@ -283,8 +314,7 @@ const AMID_THE_WRITES: Case<'static> = Case {
 
 #[test]
 fn runs_with_stops(rt: HostRuntime) -> Result<(), Fail> {
-    judge(rt.alloc(), &A_CUT_RECORD)?;
-    judge(rt.alloc(), &A_WHOLE_RECORD)?;
+    judge_runs(rt.alloc(), &STOPS_OF_A_RECORD)?;
     judge(rt.alloc(), &AMID_THE_WRITES)
 }
 
@@ -452,11 +482,15 @@ const LIMITS: [(u32, Option<RunFault>, usize); 4] = [
     (100_001, Some(RunFault::Limit), 199),
 ];
 
+fn fault_of(alloc: Global, bus: &mut SimBus, case: &Case<'_>) -> Option<RunFault> {
+    run_case(alloc, bus, case).err()
+}
+
 // The fault of a run of the GTIN, where it has one, and how many fates it leaves.
 fn run_within(alloc: Global, limit: u32) -> Result<(Option<RunFault>, usize), Fail> {
     let case = Case { limit, ..PLAIN };
     let mut bus = bus_of(alloc, &case)?;
-    let fault = run_case(alloc, &mut bus, &case).err();
+    let fault = fault_of(alloc, &mut bus, &case);
     Ok((fault, bus.fates_left()))
 }
 

@@ -95,6 +95,10 @@ fn filled(alloc: Global, first: u8, last: u8, byte: u8) -> Result<Vec<(u8, u8)>,
     Ok(updates)
 }
 
+fn put_order(events: &mut Vec<Event>, moment: u64, order: Order) -> Result<(), AllocError> {
+    put(events, Event::Submit(order, moment))
+}
+
 // Puts the submission of an order at the end, where it is one.
 pub(crate) fn submit(
     events: &mut Vec<Event>,
@@ -104,7 +108,7 @@ pub(crate) fn submit(
     updates: &[(u8, u8)],
 ) -> Result<(), AllocError> {
     match Order::from_pairs(id, unit, updates) {
-        Some(order) => put(events, Event::Submit(order, moment)),
+        Some(order) => put_order(events, moment, order),
         None => Ok(()),
     }
 }
@@ -134,14 +138,18 @@ pub(crate) fn events_of(alloc: Global, deeds: &[Deed<'_>]) -> Result<Vec<Event>,
     Ok(events)
 }
 
-// What becomes of the frame of this number.
-fn fate_of(number: usize, lost: &[(usize, usize)], unanswered: &[usize]) -> Fate {
+fn is_lost(number: usize, lost: &[(usize, usize)]) -> bool {
     let mut is_lost = false;
     for &(first, last) in lost {
         is_lost |= first <= number && number <= last;
     }
+    is_lost
+}
+
+// What becomes of the frame of this number.
+fn fate_of(number: usize, lost: &[(usize, usize)], unanswered: &[usize]) -> Fate {
     Fate {
-        lost: if is_lost { 1 << 5 } else { 0 },
+        lost: if is_lost(number, lost) { 1 << 5 } else { 0 },
         answer_lost: unanswered.contains(&number),
         refuse: false,
     }
@@ -265,4 +273,40 @@ pub(crate) fn judge(alloc: Global, case: &Case<'_>) -> Result<(), Fail> {
     let answers = answers_of(alloc, &outcome.trace)?;
     judge_outcome(case, &outcome, &answers)?;
     judge_units(case, &bus)
+}
+
+// Does so with each of the cases.
+pub(crate) fn judge_all(alloc: Global, cases: &[Case<'_>]) -> Result<(), Fail> {
+    for case in cases {
+        judge(alloc, case)?;
+    }
+    Ok(())
+}
+
+// A case that is PLAIN but for these. A table of cases costs a proof far more than one of what they differ in.
+#[derive(Clone, Copy)]
+pub(crate) struct Run<'a> {
+    pub(crate) name: &'a str,
+    pub(crate) deeds: &'a [Deed<'a>],
+    pub(crate) answers: &'a [(u64, Reply, usize)],
+    pub(crate) frames: usize,
+}
+
+fn judge_run(alloc: Global, run: &Run<'_>) -> Result<(), Fail> {
+    let case = Case {
+        name: run.name,
+        deeds: run.deeds,
+        answers: run.answers,
+        frames: run.frames,
+        ..PLAIN
+    };
+    judge(alloc, &case)
+}
+
+// Judges each of the runs.
+pub(crate) fn judge_runs(alloc: Global, runs: &[Run<'_>]) -> Result<(), Fail> {
+    for run in runs {
+        judge_run(alloc, run)?;
+    }
+    Ok(())
 }

@@ -7,6 +7,7 @@ use dali_frame::Frame;
 use dali_gear::Unit;
 use dali_journal::Record;
 use dali_writer::Happening;
+use std::alloc::Global;
 use std::test::Fail;
 
 // The first frames of the GTIN for unit 5: the length is read, the unit unlocked, the first byte written.
@@ -48,15 +49,26 @@ fn opened_in(trace: &[Happening]) -> Option<(u8, usize)> {
     opened
 }
 
+// Whether the journal's records are those of the GTIN.
+fn has_records(journal: &[u8]) -> bool {
+    journal.get(4..).unwrap_or_default() == GTIN_RECORDS.as_slice()
+}
+
 fn judge_journal(journal: &[u8]) -> Result<(), Fail> {
     expect_that(journal.starts_with(&HEADER), "the journal's header")?;
-    let records = journal.get(4..).unwrap_or_default();
-    expect_that(records == GTIN_RECORDS.as_slice(), "the journal's records")
+    expect_that(has_records(journal), "the journal's records")
 }
 
 fn judge_frames(frames: &[(Frame, Option<u8>)]) -> Result<(), Fail> {
     expect_that(frames.starts_with(&FIRST_FRAMES), "the first frames")?;
     expect_that(frames.len() == 112, "112 frames")
+}
+
+fn judge_trace(alloc: Global, trace: &[Happening]) -> Result<(), Fail> {
+    let frames = sent(alloc, trace)?;
+    judge_frames(&frames)?;
+    let is_opened = opened_in(trace) == Some((5, 7));
+    expect_that(is_opened, "unit 5 opened after seven frames")
 }
 
 fn judge_unit(unit: &Unit) -> Result<(), Fail> {
@@ -68,13 +80,11 @@ fn judge_unit(unit: &Unit) -> Result<(), Fail> {
 
 #[test]
 fn a_gtin(rt: HostRuntime) -> Result<(), Fail> {
-    let mut bus = bus_of(rt.alloc(), &PLAIN)?;
-    let outcome = run_case(rt.alloc(), &mut bus, &PLAIN)?;
-    let frames = sent(rt.alloc(), &outcome.trace)?;
+    let case = PLAIN;
+    let mut bus = bus_of(rt.alloc(), &case)?;
+    let outcome = run_case(rt.alloc(), &mut bus, &case)?;
     judge_journal(&outcome.journal)?;
-    judge_frames(&frames)?;
-    let is_opened = opened_in(&outcome.trace) == Some((5, 7));
-    expect_that(is_opened, "unit 5 opened after seven frames")?;
+    judge_trace(rt.alloc(), &outcome.trace)?;
     judge_unit(unit_at(&bus, 5)?)
 }
 
@@ -99,22 +109,32 @@ const WRITTEN: [(u8, Option<u8>); 9] = [
     (0xFF, Some(0xFF)),
 ];
 
+// Whether the byte of this number is written so.
+fn is_written(number: usize, byte: u8, answer: Option<u8>) -> bool {
+    WRITTEN.get(number) == Some(&(byte, answer))
+}
+
 // Judges the bytes that these frames write.
 fn judge_written(frames: &[(Frame, Option<u8>)]) -> Result<(), Fail> {
     let mut number = 0usize;
     for &(frame, answer) in frames {
         if let Frame::Write(byte) = frame {
-            expect_that(WRITTEN.get(number) == Some(&(byte, answer)), "a byte")?;
+            expect_that(is_written(number, byte, answer), "a byte")?;
             number = number.saturating_add(1);
         }
     }
     expect_that(number == WRITTEN.len(), "all of the bytes")
 }
 
+fn judge_case_written(alloc: Global, case: &Case<'_>) -> Result<(), Fail> {
+    let mut bus = bus_of(alloc, case)?;
+    let outcome = run_case(alloc, &mut bus, case)?;
+    judge_written(&sent(alloc, &outcome.trace)?)
+}
+
 #[test]
 fn a_lost_write_answer(rt: HostRuntime) -> Result<(), Fail> {
-    let mut bus = bus_of(rt.alloc(), &ANSWER_21)?;
-    let outcome = run_case(rt.alloc(), &mut bus, &ANSWER_21)?;
-    judge_written(&sent(rt.alloc(), &outcome.trace)?)?;
-    judge(rt.alloc(), &ANSWER_21)
+    let case = ANSWER_21;
+    judge_case_written(rt.alloc(), &case)?;
+    judge(rt.alloc(), &case)
 }

@@ -7,7 +7,7 @@ use crate::gtin::GTIN;
 use crate::writer::case::{Deed, ENOUGH, STORED, events_of};
 use dali_bank::BLANK;
 use dali_frame::Frame;
-use dali_gear::{Bus, Unit};
+use dali_gear::{Bus, GearFault, Unit};
 use dali_journal::Code;
 use dali_writer::{Event, Happening, Reply, run};
 use std::alloc::Global;
@@ -121,19 +121,31 @@ fn is_as_said(unit: &Unit, end: Option<Code>) -> bool {
     is_right && !(unit.is_enabled() && end == Some(Code::Done))
 }
 
-// Runs the events on the bus of a turn, and tells whether order 1 was done.
-fn judge_turn(alloc: Global, events: &[Event], turn: u32) -> Result<bool, Fail> {
-    let mut bus = HostileBus {
-        first: Unit::blank(alloc, 5)?,
-        second: Unit::blank(alloc, 6)?,
+// The bus of a turn, of two blank units.
+fn hostile_bus(alloc: Global, turn: u32) -> Result<HostileBus, GearFault> {
+    let first = Unit::blank(alloc, 5)?;
+    let second = Unit::blank(alloc, 6)?;
+    Ok(HostileBus {
+        first,
+        second,
         turn,
-    };
-    let outcome = run(alloc, &mut bus, 10, events)?;
-    let first = end_of(&outcome.trace, 1);
-    let second = end_of(&outcome.trace, 2);
+    })
+}
+
+// Tells whether order 1 was done, where each unit is as it was said.
+fn judge_ends(bus: &HostileBus, trace: &[Happening]) -> Result<bool, Fail> {
+    let first = end_of(trace, 1);
+    let second = end_of(trace, 2);
     expect_that(is_as_said(&bus.first, first), "unit 5 as it was said")?;
     expect_that(is_as_said(&bus.second, second), "unit 6 as it was said")?;
     Ok(first == Some(Code::Done))
+}
+
+// Runs the events on the bus of a turn, and tells whether order 1 was done.
+fn judge_turn(alloc: Global, events: &[Event], turn: u32) -> Result<bool, Fail> {
+    let mut bus = hostile_bus(alloc, turn)?;
+    let outcome = run(alloc, &mut bus, 10, events)?;
+    judge_ends(&bus, &outcome.trace)
 }
 
 #[test]

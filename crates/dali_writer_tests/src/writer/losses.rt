@@ -30,34 +30,46 @@ fn losses_at_the_end(rt: HostRuntime) -> Result<(), Fail> {
     judge(rt.alloc(), &EIGHT_AT_THE_END)
 }
 
+// Whether the last of a run is that order 1 is done.
+fn is_done(trace: &[Happening]) -> bool {
+    matches!(
+        trace.last(),
+        Some(Happening::Answered(1, Reply::Kept(Code::Done)))
+    )
+}
+
 // A GTIN order that loses one frame or answer is done, with one try more at most.
 fn judge_one(alloc: Global, case: &Case<'_>) -> Result<(), Fail> {
     let mut bus = bus_of(alloc, case)?;
     let outcome = run_case(alloc, &mut bus, case)?;
-    let is_done = matches!(
-        outcome.trace.last(),
-        Some(Happening::Answered(1, Reply::Kept(Code::Done)))
-    );
-    let is_short = frames_of(&outcome.trace) <= 119;
-    expect_that(is_done && is_short, "an order that is done in 119 frames")
+    let is_right = is_done(&outcome.trace) && frames_of(&outcome.trace) <= 119;
+    expect_that(is_right, "an order that is done in 119 frames")
+}
+
+fn judge_lost(alloc: Global, number: usize) -> Result<(), Fail> {
+    let lost = [(number, number)];
+    let case = Case {
+        lost: &lost,
+        ..PLAIN
+    };
+    judge_one(alloc, &case)
+}
+
+fn judge_unanswered(alloc: Global, number: usize) -> Result<(), Fail> {
+    let unanswered = [number];
+    let case = Case {
+        unanswered: &unanswered,
+        ..PLAIN
+    };
+    judge_one(alloc, &case)
 }
 
 // Each of the 112 frames in turn is lost to the unit, and then each answer.
 #[test]
 fn one_loss_at_each_frame(rt: HostRuntime) -> Result<(), Fail> {
     for number in 1..=112usize {
-        let lost = [(number, number)];
-        let case = Case {
-            lost: &lost,
-            ..PLAIN
-        };
-        judge_one(rt.alloc(), &case)?;
-        let unanswered = [number];
-        let case = Case {
-            unanswered: &unanswered,
-            ..PLAIN
-        };
-        judge_one(rt.alloc(), &case)?;
+        judge_lost(rt.alloc(), number)?;
+        judge_unanswered(rt.alloc(), number)?;
     }
     Ok(())
 }

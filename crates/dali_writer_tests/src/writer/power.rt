@@ -1,10 +1,11 @@
 use crate::expected::expect_that;
 use crate::gtin::GTIN;
 use crate::writer::case::{
-    Case, DONE, Deed, ENOUGH, PLAIN, TAKEN, bus_of, holds, judge, run_case, unit_at,
+    Case, DONE, Deed, ENOUGH, PLAIN, Run, TAKEN, bus_of, holds, judge_all, judge_runs, run_case,
+    unit_at,
 };
 use crate::writer::moments::judge_moments;
-use dali_gear::Unit;
+use dali_gear::{SimBus, Unit};
 use dali_journal::Code;
 use dali_writer::{Happening, Reply};
 use std::alloc::Global;
@@ -12,33 +13,32 @@ use std::test::Fail;
 
 const DOUBT: Reply = Reply::Kept(Code::Doubt);
 
-// Before the first read: DTR1 is 00h, so the read isn't answered, and the next try begins.
-const BEFORE_THE_READ: Case<'static> = Case {
-    name: "power lost after two steps of the first read",
-    deeds: &[
-        Deed::Submit(1, 5, &GTIN),
-        Deed::Steps(3),
-        Deed::Power(5),
-        Deed::Steps(200),
-    ],
-    answers: &[(1, TAKEN, 0), (1, DONE, 117)],
-    frames: 117,
-    ..PLAIN
-};
-
-// After it: QUERY CONTENT DTR0 answers 00h in place of 01h.
-const AFTER_THE_READ: Case<'static> = Case {
-    name: "power lost straight after the first read",
-    deeds: &[
-        Deed::Submit(1, 5, &GTIN),
-        Deed::Steps(6),
-        Deed::Power(5),
-        Deed::Steps(200),
-    ],
-    answers: &[(1, TAKEN, 0), (1, DONE, 118)],
-    frames: 118,
-    ..PLAIN
-};
+const ABOUT_THE_READ: [Run<'static>; 2] = [
+    // Before the first read: DTR1 is 00h, so the read isn't answered, and the next try begins.
+    Run {
+        name: "power lost after two steps of the first read",
+        deeds: &[
+            Deed::Submit(1, 5, &GTIN),
+            Deed::Steps(3),
+            Deed::Power(5),
+            Deed::Steps(200),
+        ],
+        answers: &[(1, TAKEN, 0), (1, DONE, 117)],
+        frames: 117,
+    },
+    // After it: QUERY CONTENT DTR0 answers 00h in place of 01h.
+    Run {
+        name: "power lost straight after the first read",
+        deeds: &[
+            Deed::Submit(1, 5, &GTIN),
+            Deed::Steps(6),
+            Deed::Power(5),
+            Deed::Steps(200),
+        ],
+        answers: &[(1, TAKEN, 0), (1, DONE, 118)],
+        frames: 118,
+    },
+];
 
 // The unit is locked again, so that the write at 03h isn't answered in eight tries. The order sent again sends
 // no frame, and at 9 there is no unit.
@@ -78,10 +78,12 @@ const OF_OTHERS: Case<'static> = Case {
 
 #[test]
 fn units_that_lose_their_power(rt: HostRuntime) -> Result<(), Fail> {
-    judge(rt.alloc(), &BEFORE_THE_READ)?;
-    judge(rt.alloc(), &AFTER_THE_READ)?;
-    judge(rt.alloc(), &ONCE_UNLOCKED)?;
-    judge(rt.alloc(), &OF_OTHERS)
+    judge_runs(rt.alloc(), &ABOUT_THE_READ)?;
+    judge_all(rt.alloc(), &[ONCE_UNLOCKED, OF_OTHERS])
+}
+
+fn says_done_or_doubt(reply: &Reply) -> bool {
+    matches!(reply, Reply::Kept(Code::Done) | Reply::Kept(Code::Doubt))
 }
 
 // Whether the reply that came last says Done or doubt.
@@ -89,7 +91,7 @@ fn is_done_or_in_doubt(trace: &[Happening]) -> bool {
     let mut is_so = false;
     for happening in trace {
         if let Happening::Answered(_, reply) = happening {
-            is_so = matches!(reply, Reply::Kept(Code::Done) | Reply::Kept(Code::Doubt));
+            is_so = says_done_or_doubt(reply);
         }
     }
     is_so
@@ -98,6 +100,18 @@ fn is_done_or_in_doubt(trace: &[Happening]) -> bool {
 fn judge_locked(unit: &Unit) -> Result<(), Fail> {
     expect_that(holds(unit, 2, &[0xFF]), "a unit that is locked")?;
     expect_that(!unit.is_enabled(), "a unit that isn't write-enabled")
+}
+
+fn judge_end(bus: &SimBus, trace: &[Happening]) -> Result<(), Fail> {
+    expect_that(is_done_or_in_doubt(trace), "Done or doubt")?;
+    judge_locked(unit_at(bus, 5)?)
+}
+
+fn judge_case(alloc: Global, case: &Case<'_>) -> Result<(), Fail> {
+    let mut bus = bus_of(alloc, case)?;
+    let outcome = run_case(alloc, &mut bus, case)?;
+    judge_moments(alloc, case, &outcome.trace)?;
+    judge_end(&bus, &outcome.trace)
 }
 
 // A GTIN, with the unit's power lost after so many steps: at each moment each unit holds what the records allow, and
@@ -113,11 +127,7 @@ fn judge_at(alloc: Global, steps: usize) -> Result<(), Fail> {
         deeds: &deeds,
         ..PLAIN
     };
-    let mut bus = bus_of(alloc, &case)?;
-    let outcome = run_case(alloc, &mut bus, &case)?;
-    judge_moments(alloc, &case, &outcome.trace)?;
-    expect_that(is_done_or_in_doubt(&outcome.trace), "Done or doubt")?;
-    judge_locked(unit_at(&bus, 5)?)
+    judge_case(alloc, &case)
 }
 
 // Of the 116 steps that a GTIN takes, after each in turn, and before the first.

@@ -1,12 +1,13 @@
 use crate::expected::expect_that;
 use crate::gtin::{GTIN, HEADER};
 use crate::writer::case::{
-    Case, DONE, Deed, ENOUGH, PLAIN, TAKEN, bus_of, events_of, frames_of, judge, put, submit,
+    Case, DONE, Deed, ENOUGH, PLAIN, Run, TAKEN, bus_of, events_of, frames_of, judge_all,
+    judge_runs, put, submit,
 };
 use crate::writer::moments::judge_moments;
-use dali_gear::SimBus;
-use dali_writer::{Event, RunFault, run_sim};
-use std::alloc::Global;
+use dali_gear::{SimBus, Unit};
+use dali_writer::{Event, Outcome, RunFault, run_sim};
+use std::alloc::{AllocError, Global};
 use std::test::Fail;
 
 // Of the 31 bytes of Began so many don't reach the journal as a record: the order is forgotten.
@@ -21,37 +22,61 @@ const BEGAN_CUT: Case<'static> = Case {
     ..PLAIN
 };
 
-const BEGAN_CUT_AND_TAKEN: Case<'static> = Case {
-    name: "Began is cut, and the order taken again",
-    deeds: &[
-        Deed::Submit(1, 5, &GTIN),
-        Deed::Stop(30),
-        Deed::Submit(1, 5, &GTIN),
-        Deed::Steps(ENOUGH),
-    ],
-    answers: &[(1, TAKEN, 0), (1, TAKEN, 0), (1, DONE, 112)],
-    ..PLAIN
-};
-
-const BEGAN_WHOLE: Case<'static> = Case {
-    name: "Began is whole",
-    deeds: &[
-        Deed::Submit(1, 5, &GTIN),
-        Deed::Stop(31),
-        Deed::Steps(ENOUGH),
-    ],
-    ..PLAIN
-};
-
-const BEGAN_WHOLE_AND_MORE: Case<'static> = Case {
-    name: "Began is whole, and more would reach the journal",
-    deeds: &[
-        Deed::Submit(1, 5, &GTIN),
-        Deed::Stop(400),
-        Deed::Steps(ENOUGH),
-    ],
-    ..PLAIN
-};
+const CUT_AND_WHOLE: [Run<'static>; 5] = [
+    Run {
+        name: "Began is cut, and the order taken again",
+        deeds: &[
+            Deed::Submit(1, 5, &GTIN),
+            Deed::Stop(30),
+            Deed::Submit(1, 5, &GTIN),
+            Deed::Steps(ENOUGH),
+        ],
+        answers: &[(1, TAKEN, 0), (1, TAKEN, 0), (1, DONE, 112)],
+        frames: 112,
+    },
+    Run {
+        name: "Began is whole",
+        deeds: &[
+            Deed::Submit(1, 5, &GTIN),
+            Deed::Stop(31),
+            Deed::Steps(ENOUGH),
+        ],
+        answers: &[(1, TAKEN, 0), (1, DONE, 112)],
+        frames: 112,
+    },
+    Run {
+        name: "Began is whole, and more would reach the journal",
+        deeds: &[
+            Deed::Submit(1, 5, &GTIN),
+            Deed::Stop(400),
+            Deed::Steps(ENOUGH),
+        ],
+        answers: &[(1, TAKEN, 0), (1, DONE, 112)],
+        frames: 112,
+    },
+    Run {
+        name: "Ended is cut",
+        deeds: &[
+            Deed::Submit(1, 5, &GTIN),
+            Deed::Steps(114),
+            Deed::Stop(1),
+            Deed::Steps(ENOUGH),
+        ],
+        answers: &[(1, TAKEN, 0), (1, DONE, 217)],
+        frames: 217,
+    },
+    Run {
+        name: "Ended is whole, and not said",
+        deeds: &[
+            Deed::Submit(1, 5, &GTIN),
+            Deed::Steps(114),
+            Deed::Stop(2),
+            Deed::Steps(ENOUGH),
+        ],
+        answers: &[(1, TAKEN, 0)],
+        frames: 112,
+    },
+];
 
 // One byte of Opened, which is cut away.
 const OPENED_CUT: Case<'static> = Case {
@@ -74,42 +99,14 @@ const ENDED_CUT_THERE: Case<'static> = Case {
     ..PLAIN
 };
 
-const ENDED_CUT: Case<'static> = Case {
-    name: "Ended is cut",
-    deeds: &[
-        Deed::Submit(1, 5, &GTIN),
-        Deed::Steps(114),
-        Deed::Stop(1),
-        Deed::Steps(ENOUGH),
-    ],
-    answers: &[(1, TAKEN, 0), (1, DONE, 217)],
-    frames: 217,
-    ..PLAIN
-};
-
-const ENDED_WHOLE: Case<'static> = Case {
-    name: "Ended is whole, and not said",
-    deeds: &[
-        Deed::Submit(1, 5, &GTIN),
-        Deed::Steps(114),
-        Deed::Stop(2),
-        Deed::Steps(ENOUGH),
-    ],
-    answers: &[(1, TAKEN, 0)],
-    ..PLAIN
-};
+fn judge_whole_and_cut(alloc: Global) -> Result<(), Fail> {
+    judge_runs(alloc, &CUT_AND_WHOLE)
+}
 
 #[test]
 fn records_cut_and_whole(rt: HostRuntime) -> Result<(), Fail> {
-    let alloc = rt.alloc();
-    judge(alloc, &BEGAN_CUT)?;
-    judge(alloc, &BEGAN_CUT_AND_TAKEN)?;
-    judge(alloc, &BEGAN_WHOLE)?;
-    judge(alloc, &BEGAN_WHOLE_AND_MORE)?;
-    judge(alloc, &OPENED_CUT)?;
-    judge(alloc, &ENDED_CUT_THERE)?;
-    judge(alloc, &ENDED_CUT)?;
-    judge(alloc, &ENDED_WHOLE)
+    judge_whole_and_cut(rt.alloc())?;
+    judge_all(rt.alloc(), &[BEGAN_CUT, OPENED_CUT, ENDED_CUT_THERE])
 }
 
 // The units that the three submissions are for, each with the number of its order, and how many steps
@@ -124,6 +121,17 @@ const LEFT: Case<'static> = Case {
     ..PLAIN
 };
 
+// Puts the steps of a submission at the end, with a stop after so many of them, where one is wanted.
+fn put_steps(events: &mut Vec<Event>, stop: Option<usize>, bytes: u16) -> Result<(), AllocError> {
+    for made in 0..STEPS {
+        if stop == Some(made) {
+            put(events, Event::Stop(bytes))?;
+        }
+        put(events, Event::Step)?;
+    }
+    Ok(())
+}
+
 // The submissions, each with its steps, and a stop after so many of one of them.
 fn events_with_a_stop(
     alloc: Global,
@@ -134,21 +142,26 @@ fn events_with_a_stop(
     let mut events = Vec::new(alloc);
     for (number, &(id, unit, _)) in SUBMISSIONS.iter().enumerate() {
         submit(&mut events, 0, id, unit, &GTIN)?;
-        for made in 0..STEPS {
-            if number == submission && made == step {
-                put(&mut events, Event::Stop(bytes))?;
-            }
-            put(&mut events, Event::Step)?;
-        }
+        let stop = if number == submission {
+            Some(step)
+        } else {
+            None
+        };
+        put_steps(&mut events, stop, bytes)?;
     }
     Ok(events)
 }
 
+fn outcome_of(alloc: Global, case: &Case<'_>, events: &[Event]) -> Result<Outcome, Fail> {
+    let mut bus = bus_of(alloc, case)?;
+    Ok(run_sim(alloc, &mut bus, 10, events)?)
+}
+
 fn judge_stop(alloc: Global, submission: usize, step: usize, bytes: u16) -> Result<(), Fail> {
+    let case = LEFT;
     let events = events_with_a_stop(alloc, submission, step, bytes)?;
-    let mut bus = bus_of(alloc, &LEFT)?;
-    let outcome = run_sim(alloc, &mut bus, 10, &events)?;
-    judge_moments(alloc, &LEFT, &outcome.trace)
+    let outcome = outcome_of(alloc, &case, &events)?;
+    judge_moments(alloc, &case, &outcome.trace)
 }
 
 #[test]
@@ -174,23 +187,27 @@ const CUT: Case<'static> = Case {
     ..PLAIN
 };
 
+fn is_same(mine: &Unit, theirs: &Unit) -> bool {
+    mine.bank1() == theirs.bank1() && mine.dtrs() == theirs.dtrs()
+}
+
 // Whether the units of two buses are in the same state.
 fn are_same(one: &SimBus, other: &SimBus) -> bool {
+    let mut are_same = true;
     for (mine, theirs) in one.units().iter().zip(other.units()) {
-        if mine.bank1() != theirs.bank1() || mine.dtrs() != theirs.dtrs() {
-            return false;
-        }
+        are_same &= is_same(mine, theirs);
     }
-    true
+    are_same
 }
 
 // Judges the bus of a run that sent so many frames and then ended for want of memory: it is as some of the events leave
 // it, the first of which send as many.
 fn judge_left(alloc: Global, bus: &SimBus, sent: usize, events: &[Event]) -> Result<(), Fail> {
+    let case = CUT;
     for served in 0..=events.len() {
-        let mut again = bus_of(alloc, &CUT)?;
+        let mut again = bus_of(alloc, &case)?;
         let first = events.get(..served).unwrap_or_default();
-        let outcome = run_sim(alloc, &mut again, CUT.limit, first)?;
+        let outcome = run_sim(alloc, &mut again, case.limit, first)?;
         if frames_of(&outcome.trace) == sent {
             return expect_that(
                 are_same(bus, &again),
@@ -201,15 +218,20 @@ fn judge_left(alloc: Global, bus: &SimBus, sent: usize, events: &[Event]) -> Res
     Err("no events leave the bus so".into())
 }
 
+fn fault_of(alloc: Global, bus: &mut SimBus, limit: u32, events: &[Event]) -> Option<RunFault> {
+    run_sim(alloc, bus, limit, events).err()
+}
+
 // `./test` runs this one again and again, with each allocation refused in turn: a run that ends for
 // want of memory leaves the bus as some of the events leave it, the first of which send as many frames.
 #[test]
 fn a_refused_run_leaves_the_bus_there(rt: HostRuntime) -> Result<(), Fail> {
     let alloc = rt.alloc();
-    let events = events_of(alloc, CUT.deeds)?;
-    let mut bus = bus_of(alloc, &CUT)?;
+    let case = CUT;
+    let events = events_of(alloc, case.deeds)?;
+    let mut bus = bus_of(alloc, &case)?;
     let fates = bus.fates_left();
-    let Err(fault) = run_sim(alloc, &mut bus, CUT.limit, &events) else {
+    let Some(fault) = fault_of(alloc, &mut bus, case.limit, &events) else {
         return Ok(());
     };
     let sent = fates.saturating_sub(bus.fates_left());

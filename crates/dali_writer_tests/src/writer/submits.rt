@@ -165,35 +165,75 @@ fn judge_given(alloc: Global, submitted: &Submitted<'_>, outcome: &Outcome) -> R
     expect_that(has, submitted.case.name)
 }
 
+fn outcome_of(alloc: Global, case: &Case<'_>) -> Result<Outcome, Fail> {
+    let mut bus = bus_of(alloc, case)?;
+    Ok(run_case(alloc, &mut bus, case)?)
+}
+
 // Runs a case, and tells whether its moments are as they should be too.
 fn judge_submitted(alloc: Global, submitted: &Submitted<'_>) -> Result<(), Fail> {
     judge(alloc, &submitted.case)?;
-    let mut bus = bus_of(alloc, &submitted.case)?;
-    let outcome = run_case(alloc, &mut bus, &submitted.case)?;
+    let outcome = outcome_of(alloc, &submitted.case)?;
     judge_given(alloc, submitted, &outcome)
+}
+
+fn judge_submitted_again(alloc: Global) -> Result<(), Fail> {
+    judge_submitted(alloc, &DONE_ALREADY)?;
+    judge_submitted(alloc, &AT_WORK)
+}
+
+fn judge_submitted_with_stops(alloc: Global) -> Result<(), Fail> {
+    judge_submitted(alloc, &FORGOTTEN)?;
+    judge_submitted(alloc, &STOPPED)
 }
 
 #[test]
 fn moments_of_submissions(rt: HostRuntime) -> Result<(), Fail> {
-    judge_submitted(rt.alloc(), &DONE_ALREADY)?;
-    judge_submitted(rt.alloc(), &AT_WORK)?;
-    judge_submitted(rt.alloc(), &FORGOTTEN)?;
-    judge_submitted(rt.alloc(), &STOPPED)?;
+    judge_submitted_again(rt.alloc())?;
+    judge_submitted_with_stops(rt.alloc())?;
     judge_submitted(rt.alloc(), &BLOCKED)
 }
 
 const MOMENT_BYTES: [u8; 8] = [0x00, 0x00, 0x00, 0x00, 0x65, 0x53, 0xF1, 0x00];
 
+fn judge_bytes(journal: &[u8]) -> Result<(), Fail> {
+    let moment = journal.get(13..21).unwrap_or_default();
+    expect_that(moment == MOMENT_BYTES.as_slice(), "the bytes of the moment")
+}
+
+// Whether the journal of these bytes has the moment of order 1, and none of order 2.
+fn has_one(alloc: Global, bytes: &[u8]) -> Result<bool, Fail> {
+    let (journal, _, _) = Journal::load(alloc, 10, bytes)?;
+    Ok(journal.moment(1) == Some(MOMENT) && journal.moment(2).is_none())
+}
+
 #[test]
 fn the_bytes_of_a_moment(rt: HostRuntime) -> Result<(), Fail> {
     let alloc = rt.alloc();
-    let mut bus = bus_of(alloc, &DONE_ALREADY.case)?;
-    let outcome = run_case(alloc, &mut bus, &DONE_ALREADY.case)?;
-    let moment = outcome.journal.get(13..21).unwrap_or_default();
-    expect_that(moment == MOMENT_BYTES.as_slice(), "the bytes of the moment")?;
-    let (journal, _, _) = Journal::load(alloc, 10, &outcome.journal)?;
-    let has_one = journal.moment(1) == Some(MOMENT) && journal.moment(2).is_none();
-    expect_that(has_one, "the moment of order 1 alone")
+    let outcome = outcome_of(alloc, &DONE_ALREADY.case)?;
+    judge_bytes(&outcome.journal)?;
+    expect_that(
+        has_one(alloc, &outcome.journal)?,
+        "the moment of order 1 alone",
+    )
+}
+
+fn submit_at(writer: &mut Writer, order: &Order, moment: u64) -> Result<Reply, NoMemory> {
+    writer.submit(order.copy(), moment)
+}
+
+// Submits an order, and once more where memory is refused. The last reply, and whether it was.
+fn submit_till_taken(writer: &mut Writer, order: &Order) -> Result<(Reply, bool), NoMemory> {
+    if let Ok(reply) = submit_at(writer, order, LATER) {
+        return Ok((reply, false));
+    }
+    let reply = submit_at(writer, order, LATER)?;
+    Ok((reply, true))
+}
+
+// Whether the record of an order's begin is wanted.
+fn begins(writer: &Writer) -> bool {
+    matches!(writer.want(), Want::Keep(Record::Began(_, LATER)))
 }
 
 // `./test` runs this one again and again, with each allocation refused in turn. An order that was refused is taken
@@ -202,33 +242,58 @@ fn the_bytes_of_a_moment(rt: HostRuntime) -> Result<(), Fail> {
 fn a_refused_order_is_taken_when_it_comes_again(rt: HostRuntime) -> Result<(), Fail> {
     let mut writer = Writer::new(Journal::new(rt.alloc(), 2)?);
     let order = Order::from_pairs(1, 5, &GTIN).ok_or("an order")?;
-    let (reply, was_refused) = match writer.submit(order.copy(), LATER) {
-        Ok(reply) => (reply, false),
-        Err(_) => (writer.submit(order.copy(), LATER)?, true),
-    };
+    let (reply, was_refused) = submit_till_taken(&mut writer, &order)?;
     expect_that(matches!(reply, Reply::Taken), "an order that is taken")?;
-    let begins = matches!(writer.want(), Want::Keep(Record::Began(_, LATER)));
-    expect_that(begins, "the record of its begin")?;
+    expect_that(begins(&writer), "the record of its begin")?;
     if was_refused {
         return Err(NoMemory.into());
     }
     Ok(())
 }
 
+// What the writer says now.
+fn said_now(writer: &Writer) -> Option<(u64, Reply)> {
+    match writer.want() {
+        Want::Say(id, reply) => Some((id, reply)),
+        _ => None,
+    }
+}
+
+// Keeps the record or sends the frame that the writer wants, where it wants one.
+fn serve(bus: &mut SimBus, writer: &mut Writer) {
+    match writer.want() {
+        Want::Keep(_) => writer.kept(),
+        Want::Send(frame) => {
+            let answer = bus.carry(&frame);
+            writer.heard(answer);
+        }
+        _ => {}
+    }
+}
+
 // Does what the writer wants until it says something.
 fn said_by_hand(bus: &mut SimBus, writer: &mut Writer) -> Option<(u64, Reply)> {
     for _ in 0..ENOUGH {
-        match writer.want() {
-            Want::Idle => return None,
-            Want::Keep(_) => writer.kept(),
-            Want::Send(frame) => {
-                let answer = bus.carry(&frame);
-                writer.heard(answer);
-            }
-            Want::Say(id, reply) => return Some((id, reply)),
+        let said = said_now(writer);
+        if said.is_some() {
+            return said;
         }
+        serve(bus, writer);
     }
     None
+}
+
+// Submits the order to a writer that takes it.
+fn submit_to(writer: &mut Writer) -> Result<(), Fail> {
+    let order = Order::from_pairs(1, 5, &GTIN).ok_or("an order")?;
+    let reply = submit_at(writer, &order, 0)?;
+    expect_that(matches!(reply, Reply::Taken), "an order that is taken")
+}
+
+fn judge_said(bus: &mut SimBus, writer: &mut Writer) -> Result<(), Fail> {
+    let said = said_by_hand(bus, writer);
+    let is_done = matches!(said, Some((1, Reply::Kept(Code::Done))));
+    expect_that(is_done, "an order that is done")
 }
 
 // `./test` runs this one again and again, with each allocation refused in turn. Once the order is taken no memory is
@@ -237,10 +302,6 @@ fn said_by_hand(bus: &mut SimBus, writer: &mut Writer) -> Option<(u64, Reply)> {
 fn a_taken_order_comes_to_its_saying(rt: HostRuntime) -> Result<(), Fail> {
     let mut bus = bus_of(rt.alloc(), &PLAIN)?;
     let mut writer = Writer::new(Journal::new(rt.alloc(), 2)?);
-    let order = Order::from_pairs(1, 5, &GTIN).ok_or("an order")?;
-    let reply = writer.submit(order, 0)?;
-    expect_that(matches!(reply, Reply::Taken), "an order that is taken")?;
-    let said = said_by_hand(&mut bus, &mut writer);
-    let is_done = matches!(said, Some((1, Reply::Kept(Code::Done))));
-    expect_that(is_done, "an order that is done")
+    submit_to(&mut writer)?;
+    judge_said(&mut bus, &mut writer)
 }

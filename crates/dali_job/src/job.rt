@@ -313,7 +313,10 @@ fn value_argument<'a>(alloc: Global, id: &'a str, help: &'a str) -> Arg<'a>
     ensures rule { rule_of result ≡ value_rule id.entry.now }
     ensures local { result.global ≡ false }
 {
-    Arg::new(alloc, id).help(help).required(true).action(ArgAction::Set)
+    Arg::new(alloc, id)
+        .help(help)
+        .required(true)
+        .action(ArgAction::Set)
 }
 
 // The flag of `run`.
@@ -321,7 +324,10 @@ fn frames_flag<'a>(alloc: Global) -> Arg<'a>
     ensures rule { rule_of result ≡ flag_rule (codes "frames") }
     ensures local { result.global ≡ false }
 {
-    Arg::new(alloc, "frames").long("frames").help(FRAMES_HELP).action(ArgAction::SetTrue)
+    Arg::new(alloc, "frames")
+        .long("frames")
+        .help(FRAMES_HELP)
+        .action(ArgAction::SetTrue)
 }
 
 // The option of `drive`, with the number that stands where it isn't given.

@@ -37,6 +37,11 @@ def below(name, used):
     return {it for lib in used[name][0] for it in {lib, *below(lib, used)}}
 
 
+def lines_of(name):
+    """Give how many lines of code a crate has, by which its checks take their time."""
+    return sum(text_of(it).count("\n") for it in (CRATES / name / "src").rglob("*.rt"))
+
+
 def linked(one, other):
     """Give a file of a library or a checked module a second name, where that can be: it is made anew, and never changed."""
     try:

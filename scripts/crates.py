@@ -4,6 +4,7 @@ import os
 import pathlib
 import re
 import shutil
+import subprocess
 import time
 
 ROOT = pathlib.Path(__file__).resolve().parent.parent
@@ -35,6 +36,29 @@ def uses():
 def below(name, used):
     """Give all libraries of this repository that a crate stands on."""
     return {it for lib in used[name][0] for it in {lib, *below(lib, used)}}
+
+
+class Kit:
+    """The prover of the Rattle kit, over the libraries of this repository that stand built in a folder."""
+
+    def __init__(self, libraries):
+        said = subprocess.run(["rt", "doc"], stdout=subprocess.PIPE, text=True, check=True).stdout
+        self.folder = pathlib.Path(said.strip()).parent
+        self.libraries = libraries
+
+    def words(self, verb, name):
+        """Give the words by which the prover checks or builds a crate in its folder."""
+        own, kits = uses()[name]
+        root = "main" if (CRATES / name / "src" / "main.rt").is_file() else "lib"
+        words = [str(self.folder / "bin/rattle"), verb, "--crate-name", name, f"src/{root}.rt"]
+        words += ["--extern", f"std={self.folder}/rlibs/std.rlib", "-L", f"dependency={self.folder}/rlibs"]
+        for it in kits:
+            words += ["--extern", f"{it}={self.folder}/rlibs/{it}.rlib"]
+        for it in own:
+            words += ["--extern", f"{it}={self.libraries}/{it}.rlib"]
+        words += ["-L", f"dependency={self.libraries}", "--links", f"{name}="]
+        words += ["--antt-project", f"{self.folder}/rattle/logic/antt-project.json"]
+        return [*words, "--logic-built", f"{self.folder}/logic_built"]
 
 
 def lines_of(name):

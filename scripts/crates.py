@@ -67,7 +67,7 @@ def lines_of(name):
 
 
 def linked(one, other):
-    """Give a file of a library or a checked module a second name, where that can be: it is made anew, and never changed."""
+    """Give a file of a library or a checked module a second name, where that can be: none is changed, but made anew."""
     try:
         if one.endswith(".oantt") or ".rlib/" in one:
             os.link(one, other)

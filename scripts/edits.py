@@ -1,5 +1,6 @@
 """The edits of crates/NAME/wrong-bodies and of the folders beside it: what they change, and in which functions."""
 
+import hashlib
 import pathlib
 import re
 
@@ -10,22 +11,24 @@ IMPL = re.compile(r"impl(?:<[^{]*?>)? (?:(?P<trait>[^{]*?) for )?(?P<type>\w+)")
 
 
 class Edit:
-    """A wrong body or a wrong line: its crate, the lines that it changes, by file and number from 1, and the functions
-    that these are within, by the ends of their names, none where a line is in no function.
+    """A wrong body or a wrong line: its crate, the sum of its text, the lines that it changes, by file and number from
+    1, and the functions that these are within, by the ends of their names, none where a line is in no function.
     """
 
     def __init__(self, path):
-        self.path, self.crate = path, path.parent.parent
+        self.crate = path.parent.parent
         self.name = f"{self.crate.name}/{path.stem}"
         self.lines, self.by = {}, None
-        self.why = self.read()
+        text = path.read_text(encoding="utf-8")
+        self.sum = hashlib.sha256(text.encode()).hexdigest()
+        self.why = self.read(text)
         found = {function_at(self.crate / file, line) for file, line in self.lines}
         self.functions = found if found and None not in found else set()
 
-    def read(self):
+    def read(self, text):
         """Read the pairs of texts, and tell why they can't be applied, or give None."""
         texts, file, old, pairs = {}, None, None, 0
-        for line in self.path.read_text(encoding="utf-8").split("\n"):
+        for line in text.split("\n"):
             word, _, rest = line.partition(": ")
             if word == "by":
                 self.by = rest.strip()

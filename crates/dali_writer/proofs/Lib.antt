@@ -10,3 +10,4 @@ pub mod ChainLemmas
 pub mod PartsLemmas
 pub mod ServeLemmas
 pub mod RunLemmas
+pub mod ResumeLemmas

@@ -30,6 +30,18 @@ pub on_err : {A E : Type 0} (result : Result A E) (P : E → Type 0) (Q : Type 0
 on_err (Ok a) P Q f p = tt
 on_err (Err e) P Q f p = f e p
 
+-- no event was served yet
+pub none_served : {S : Type 0} (step : S → BusEvent → S → Type 0) (bus : S) (writer : Held)
+    → AreServed step [] bus writer bus writer []
+none_served step bus writer = record {
+  described = λ start d. d;
+  follows = λ start d f. f;
+  parts = λ start d f. refl;
+  proper = tt;
+  orders = tt;
+  leads = record { states = []; steps = refl };
+}
+
 -- one event more was served
 pub one_more_served : {S : Type 0} (step : S → BusEvent → S → Type 0) (events : List Event) (i : ℕ) (d : Event)
     (bus mid_bus new_bus : S) (writer mid new : Held) (past new_past : List Happening) → i < length events

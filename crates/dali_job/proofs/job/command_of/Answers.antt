@@ -1,16 +1,18 @@
 use Rattle.std.proofs.Common.{◌∙◌, ◌||◌, ap₂}
 use Rattle.std.proofs.lemmas.Result.{IfOk-weaker}
 use Rattle.clap.specs.Words.{with_rule}
-use Rattle.dali_job.proofs.job.command_with.Goals as goal
+use Rattle.dali_job.proofs.job.command_of.Goals as goal
 
 pub returns-clause-app : goal.returns-clause-app
 returns-clause-app c =
     let argument = c.value_argument.ensures in
+    let named = c.told-command.ensures.app ∙ c.new.ensures.app in
     IfOk-weaker c.arg.result _ _
-    (λ command added. added.shape argument.local ∙ ap₂ with_rule c.new.ensures.app argument.rule) c.arg.ensures
+    (λ command added. added.shape argument.local ∙ ap₂ with_rule named argument.rule) c.arg.ensures
 
 pub returns-clause-local : goal.returns-clause-local
 returns-clause-local c =
+    let local = c.told-command.ensures.local ∙ c.new.ensures.local in
     IfOk-weaker c.arg.result _ _
-    (λ command added. added.globals ∙ ap₂ (λ old new. old || new) c.new.ensures.local c.value_argument.ensures.local)
+    (λ command added. added.globals ∙ ap₂ (λ old new. old || new) local c.value_argument.ensures.local)
     c.arg.ensures

@@ -311,7 +311,10 @@ fn has_flag(matches: &ArgMatches<'_>, command: &str, id: &str) -> bool
 fn bench_command<'a>(alloc: Global) -> Result<Command<'a>, AllocError>
     ensures { IfOk result (λ command. app_of command ≡ bench_app) }
 {
-    let top = told(Command::new(alloc, "dali_bench"), ABOUT, TOP_HELP).subcommand_required(true);
+    let top = Command::new(alloc, "dali_bench")
+        .about(ABOUT)
+        .after_help(TOP_HELP)
+        .subcommand_required(true);
     let checks = with_made(top, command_of(alloc, &CHECK))?;
     let runs = with_made(checks, run_command(alloc))?;
     let frames = with_made(runs, command_of(alloc, &FRAME))?;
@@ -359,8 +362,10 @@ fn command_of<'a>(alloc: Global, usage: &Usage<'a>) -> Result<Command<'a>, Alloc
     ensures app { IfOk result (λ command. app_of command ≡ command_app usage.now.name.now usage.now.id.now) }
     ensures local { IfOk result (λ command. (fields_of command).has_globals ≡ false) }
 {
-    let command = told(Command::new(alloc, usage.name), usage.about, usage.faults);
-    command.arg(value_argument(alloc, usage.id, usage.help))
+    Command::new(alloc, usage.name)
+        .about(usage.about)
+        .after_help(usage.faults)
+        .arg(value_argument(alloc, usage.id, usage.help))
 }
 
 // An argument that has to be there, and takes one value.
@@ -397,14 +402,6 @@ fn moment_option<'a>(alloc: Global) -> Arg<'a>
         .value_parser(value_parser!(u64))
         .default_value("0")
         .action(ArgAction::Set)
-}
-
-// The command, with what it does and more, as its faults, in its help.
-fn told<'a>(command: Command<'a>, about: &'a str, more: &'a str) -> Command<'a>
-    ensures app { app_of result ≡ app_of command.entry }
-    ensures local { (fields_of result).has_globals ≡ (fields_of command.entry).has_globals }
-{
-    command.about(about).after_help(more)
 }
 
 // The error of a command line that names no job.

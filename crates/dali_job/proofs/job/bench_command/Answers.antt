@@ -22,7 +22,7 @@ returns c =
     let top : app_of c.subcommand_required-top.result ≡ top_app =
     ap app_of_fields c.subcommand_required-top.ensures
     ∙ ap (λ (app : App). record app { top = record app.top { subcommand_required = true } })
-    (c.told.ensures.app ∙ c.new.ensures.app) in
+    (ap app_of_fields c.after_help.ensures ∙ ap app_of_fields c.about.ensures ∙ c.new.ensures.app) in
     let checks =
     with_added _ c.command_of.result _ c.in_ok-checks.checks top_app _ check.app check.local top
     c.in_ok-checks.ensures in

@@ -8,8 +8,8 @@ pub invariant_of-self-in-Ended : goal.invariant_of-self-in-Ended
 invariant_of-self-in-Ended c = record {
   ready =
       ready_checked c.self.inside.journal c.append-in-Ended.new.self c.in-Checks.order c.in-Checks.session
-      c.in-Ended.verdict c.after_check.result
-      (rw (← c.in-Checks.ensures.value) at c.self.invariant.ready) c.after_check.ensures
+      c.in-Ended.verdict c.after_check-self-inside.result
+      (rw (← c.in-Checks.ensures.value) at c.self.invariant.ready) c.after_check-self-inside.ensures
       (rw (c.check_record.ensures.record, c.unit.ensures.value) at c.append-in-Ended.ensures.records);
 }
 
@@ -42,9 +42,9 @@ pub returns-in-Ended-clause-described : goal.returns-in-Ended-clause-described
 returns-in-Ended-clause-described c = λ start past entry want d.
     keeps_checked start past c.self.inside.journal c.append-in-Ended.new.self c.self.inside.phase c.in-Checks.order
     c.in-Checks.session c.in-Ended.verdict
-    c.after_check.result entry c.in-Checks.ensures.value (rw (← c.self.view_is) at d) c.self.invariant.ready
+    c.after_check-self-inside.result entry c.in-Checks.ensures.value (rw (← c.self.view_is) at d) c.self.invariant.ready
     (rw (← c.self.view_is) at want)
-    (sym c.in-Ended.ensures.aim) c.after_check.ensures
+    (sym c.in-Ended.ensures.aim) c.after_check-self-inside.ensures
     (rw (c.check_record.ensures.record, c.unit.ensures.value) at c.append-in-Ended.ensures.records)
     c.append-in-Ended.ensures.limit
 
@@ -67,7 +67,7 @@ returns-in-Closes-clause-described c = λ start past entry want d.
 pub returns-in-Ended-clause-falls : goal.returns-in-Ended-clause-falls
 returns-in-Ended-clause-falls c = rw (← c.self.view_is)
     (check_falls c.in-Checks.order c.in-Checks.session c.in-Ended.verdict c.self.inside.phase
-    c.after_check.result c.in-Checks.ensures.value c.after_check.ensures)
+    c.after_check-self-inside.result c.in-Checks.ensures.value c.after_check-self-inside.ensures)
 
 pub returns-in-Begins-clause-follows : goal.returns-in-Begins-clause-follows
 returns-in-Begins-clause-follows c = λ start past entry want d f.
@@ -79,9 +79,9 @@ pub returns-in-Ended-clause-follows : goal.returns-in-Ended-clause-follows
 returns-in-Ended-clause-follows c = λ start past entry want d f.
     checked_follows start past c.self.inside.journal c.append-in-Ended.new.self c.self.inside.phase c.in-Checks.order
     c.in-Checks.session c.in-Ended.verdict
-    c.after_check.result entry c.in-Checks.ensures.value (rw (← c.self.view_is) at d)
+    c.after_check-self-inside.result entry c.in-Checks.ensures.value (rw (← c.self.view_is) at d)
     (rw (← c.self.view_is) at f) c.self.invariant.ready (rw (← c.self.view_is) at want)
-    (sym c.in-Ended.ensures.aim) c.after_check.ensures
+    (sym c.in-Ended.ensures.aim) c.after_check-self-inside.ensures
 
 pub returns-in-Ended-want-clause-follows : goal.returns-in-Ended-want-clause-follows
 returns-in-Ended-want-clause-follows c = λ start past entry want d f.

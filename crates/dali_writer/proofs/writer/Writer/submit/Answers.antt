@@ -17,21 +17,21 @@ pub invariant_of-self-2 : goal.invariant_of-self-2
 invariant_of-self-2 c = record {
   ready =
       ready_taken c.self.inside.journal c.reserve.new.self c.self.inside.phase
-      c.first_phase.result c.args.order c.args.moment
+      c.first_phase-self-inside.result c.args.order c.args.moment
       (rw c.in_ok-reserve.ensures.records at c.standing.ensures.journal.kept.whole.0) c.self.invariant.ready
       (c.in_default.ensures.none refl) (sym c.is_idle.ensures ∙ c.if-not-is_idle.false)
       (not_full c.is_full.result c.self.inside.journal.limit (order_count c.self.inside.journal) c.is_full.ensures
       c.if-is_full.false)
       c.in_ok-reserve.ensures.records c.in_ok-reserve.ensures.limit c.in_ok-reserve.ensures.room
-      (rw c.standing.ensures.value at c.first_phase.ensures);
+      (rw c.standing.ensures.value at c.first_phase-self-inside.ensures);
 }
 
 pub returns-clause-described : goal.returns-clause-described
 returns-clause-described c = λ start past d.
     taken_on start past c.self.inside.journal c.reserve.new.self c.self.inside.phase
-    c.first_phase.result c.args.order c.args.moment c.standing.result
+    c.first_phase-self-inside.result c.args.order c.args.moment c.standing.result
     (rw (← c.self.view_is) at d) c.self.invariant.ready
     (c.in_default.ensures.none refl) (sym c.is_idle.ensures ∙ c.if-not-is_idle.false)
     (not_full c.is_full.result c.self.inside.journal.limit (order_count c.self.inside.journal) c.is_full.ensures
     c.if-is_full.false)
-    c.in_ok-reserve.ensures.records c.in_ok-reserve.ensures.limit c.first_phase.ensures
+    c.in_ok-reserve.ensures.records c.in_ok-reserve.ensures.limit c.first_phase-self-inside.ensures

@@ -1,5 +1,6 @@
 -- Lemmas on what is answered where a scenario is run, and where it isn't.
-use Rattle.std.proofs.Common.{◌≡◌, List, [], ℕ, length, Bool, Option, Result, Ok, Err, IfOk, IfErr, OnOk, inl, inr, refl}
+use Rattle.std.proofs.Common.{◌≡◌, List, [], ℕ, length, Bool, Option, Result, Ok, Err, IfOk, IfErr, OnOk, inl, inr}
+use Rattle.std.proofs.Common.{refl}
 use Rattle.std.specs.Io.KnownBytes.{Appends}
 use Rattle.dali_gear.specs.SimState.{SimState}
 use Rattle.dali_journal.specs.JournalState.{IsLimit}

@@ -130,34 +130,26 @@ fn write_hindrance<W: Write>(
     name: &str,
     hindrance: Hindrance,
 ) -> Result<Status, Unwritten> {
-    write_why(output, name, &hindrance)?;
-    match hindrance {
-        Hindrance::Unwritten => Err(Unwritten),
-        Hindrance::Fault(fault) => write_failure(output, fault),
-        _ => write_failure(output, Fault::Input(InputFault::File)),
-    }
-}
-
-// Tells a person why a file can't serve a drive, where a fault's line doesn't say it.
-fn write_why<W: Write>(
-    output: &mut Output<W>,
-    name: &str,
-    hindrance: &Hindrance,
-) -> Result<(), Unwritten> {
+    let fault = Fault::Input(InputFault::File);
     let name = Escaped::whole(name);
     match hindrance {
-        Hindrance::Fault(Fault::Input(InputFault::Memory)) => {
-            writeln!(output, "error: memory ran out: {name}")
+        Hindrance::Unwritten => Err(Unwritten),
+        Hindrance::Fault(fault) => {
+            if fault == Fault::Input(InputFault::Memory) {
+                writeln!(output, "error: memory ran out: {name}")?;
+            }
+            write_failure(output, fault)
         }
         Hindrance::System(cause) => {
-            writeln!(output, "error: the file can't be used: {name}: {cause}")
+            writeln!(output, "error: the file can't be used: {name}: {cause}")?;
+            write_failure(output, fault)
         }
         Hindrance::InUse => {
             writeln!(
                 output,
                 "error: the journal is in use by another drive: {name}"
-            )
+            )?;
+            write_failure(output, fault)
         }
-        _ => Ok(()),
     }
 }

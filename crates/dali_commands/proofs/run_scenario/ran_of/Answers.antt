@@ -11,7 +11,8 @@ returns-in-Err-clause-err g c = c.in-Err.ensures.err _ _ c.in_ok-bytes.ensures.o
 
 pub returns-in_err-outcome-in-Ok-clause-err : goal.returns-in_err-outcome-in-Ok-clause-err
 returns-in_err-outcome-in-Ok-clause-err g c =
-    let p = err_from_is_err_and c.from_residual-in_err-outcome-in-Ok.result c.from_residual-in_err-outcome-in-Ok.ensures.1 in
+    let gone = c.from_residual-in_err-outcome-in-Ok in
+    let p = err_from_is_err_and gone.result gone.ensures.1 in
     let (planned, says, limit_is, ready) = c.in-Ok.ensures.ok in
     rw (p.1, p.2)
     (not_run _ _ planned c.in-Ok.field-0.bus c.in-Ok.field-0.events.items _

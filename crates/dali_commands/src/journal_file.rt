@@ -7,9 +7,10 @@ use crate::fault::Fault;
 use crate::journal::{Found, read_journal};
 use dali_input::{Input, InputFault};
 use dali_journal::{Journal, NoMemory, Version};
-use std::alloc::AllocError;
+use std::alloc::{AllocError, Global};
 use std::fs::{File, Files, OpenOptions, TryLockError};
 use std::io::{ErrorKind, Write};
+use std::path::Path;
 use std::{fs, io};
 
 /// Why a file can't serve a drive.
@@ -105,23 +106,71 @@ pub fn open_journal<R: Files<File = File> + AllocGlobal>(
     ensures { IfOk result (λ opened. (input : List ℕ) × (counted : ℕ) × (version : Version)
         × IsJournalIn input opened.1 counted version) }
 {
-    let mut file = locked(rt, name)?;
-    let is_regular = file.metadata()?.is_file();
-    if is_regular && !is_named(rt, name, &file)? {
-        return Err(Hindrance::InUse);
+    let mut file = opened(rt, name)?;
+    match found_in(rt.alloc(), &mut file.file) {
+        Ok(found) => match readied(rt, name, file, &found) {
+            Ok(file) => Ok((file, found.journal)),
+            Err(hindrance) => Err(hindrance),
+        },
+        Err(hindrance) => Err(hindrance),
     }
-    let mut input = Input::new(&mut file);
-    let found = match read_journal(rt.alloc(), &mut input) {
-        Ok(found) => found,
-        Err(fault) => return Err(Hindrance::unread(fault, input.cause())),
-    };
-    if is_regular {
-        let file = in_version_2(rt, name, file, &found)?;
-        sync_folder(rt, name)?;
-        Ok((JournalFile { file, is_regular }, found.journal))
+}
+
+// Opens the file of a journal for one drive alone, as it is.
+fn opened<R: Files<File = File>>(rt: &R, name: &str) -> Result<JournalFile, Hindrance> {
+    let file = locked(rt, name)?;
+    match is_free(rt, name, &file) {
+        Ok(Some(is_regular)) => Ok(JournalFile { file, is_regular }),
+        Ok(None) => Err(Hindrance::InUse),
+        Err(cause) => Err(Hindrance::from(cause)),
+    }
+}
+
+// Whether a locked file is a regular one, or nothing where it is and the name means another file by now.
+fn is_free<R: Files<File = File>>(rt: &R, name: &str, file: &File) -> io::Result<Option<bool>> {
+    let is_regular = file.metadata()?.is_file();
+    Ok(if is_regular && !is_named(rt, name, file)? {
+        None
     } else {
-        begin_stream(rt, &mut file, &found)?;
-        Ok((JournalFile { file, is_regular }, found.journal))
+        Some(is_regular)
+    })
+}
+
+// Reads the journal that a file holds.
+fn found_in(alloc: Global, file: &mut File) -> Result<Found, Hindrance>
+    ensures { IfOk result (λ found. (input : List ℕ)
+        × IsJournalIn input found.journal found.counted found.version) }
+{
+    let mut input = Input::new(file);
+    match read_journal(alloc, &mut input) {
+        Ok(found) => Ok(found),
+        Err(fault) => Err(Hindrance::unread(fault, input.cause())),
+    }
+}
+
+// The file in version 2 with no more than what counts, and its name, both on the disk; or one that is no regular file,
+// begun.
+fn readied<R: Files<File = File> + AllocGlobal>(
+    rt: &R,
+    name: &str,
+    opened: JournalFile,
+    found: &Found,
+) -> Result<JournalFile, Hindrance> {
+    let JournalFile {
+        mut file,
+        is_regular,
+    } = opened;
+    if is_regular {
+        let file = in_version_2(rt, name, file, found)?;
+        match sync_folder(rt, name) {
+            Ok(()) => Ok(JournalFile { file, is_regular }),
+            Err(cause) => Err(Hindrance::from(cause)),
+        }
+    } else {
+        match begin_stream(rt.alloc(), &mut file, found) {
+            Ok(()) => Ok(JournalFile { file, is_regular }),
+            Err(hindrance) => Err(hindrance),
+        }
     }
 }
 
@@ -171,33 +220,79 @@ fn written_anew<R: Files<File = File> + AllocGlobal>(
     journal: &Journal,
 ) -> Result<File, Hindrance> {
     let path = rt.canonicalize(rt.alloc(), name)?;
+    replaced(rt, &path.as_path(), old, journal)
+}
+
+// A new file with the journal, which takes the name of the file at this path.
+fn replaced<R: Files<File = File> + AllocGlobal>(
+    rt: &R,
+    path: &Path,
+    old: &File,
+    journal: &Journal,
+) -> Result<File, Hindrance> {
     let shown = path.display();
     let new_name = format!(in rt.alloc(); "{shown}.new")?;
-    let mut file = locked(rt, new_name.as_str())?;
+    renamed(rt, new_name.as_str(), path, old, journal)
+}
+
+// A file of the new name with the journal, which takes the name of the file at this path.
+fn renamed<R: Files<File = File> + AllocGlobal>(
+    rt: &R,
+    new_name: &str,
+    path: &Path,
+    old: &File,
+    journal: &Journal,
+) -> Result<File, Hindrance> {
+    let mut file = locked(rt, new_name)?;
+    match fill(rt.alloc(), &mut file, old, journal) {
+        Ok(()) => match fs::rename(rt, new_name, path) {
+            Ok(()) => Ok(file),
+            Err(cause) => Err(Hindrance::from(cause)),
+        },
+        Err(hindrance) => Err(hindrance),
+    }
+}
+
+// Leaves the journal alone in a file, on the disk, which who may use the old one may use then.
+fn fill(alloc: Global, file: &mut File, old: &File, journal: &Journal) -> Result<(), Hindrance> {
     file.set_len(0)?;
     file.set_permissions(old.metadata()?.permissions())?;
-    file.write_all(&journal.to_bytes(rt.alloc())?)?;
+    write_bytes(alloc, file, journal)?;
     file.sync_all()?;
-    fs::rename(rt, new_name.as_str(), &path)?;
-    Ok(file)
+    Ok(())
+}
+
+// Writes the bytes of a journal.
+fn write_bytes(alloc: Global, file: &mut File, journal: &Journal) -> Result<(), Hindrance> {
+    let bytes = journal.to_bytes(alloc)?;
+    match file.write_all(bytes.as_slice()) {
+        Ok(()) => Ok(()),
+        Err(cause) => Err(Hindrance::from(cause)),
+    }
 }
 
 // Begins what can't be written anew, as a pipe or a terminal: with the header, where nothing was there.
-fn begin_stream<R: AllocGlobal>(rt: &R, file: &mut File, found: &Found) -> Result<(), Hindrance> {
+fn begin_stream(alloc: Global, file: &mut File, found: &Found) -> Result<(), Hindrance> {
     if found.version == Version::One {
         return Err(Hindrance::System(io::ErrorKind::InvalidInput.into()));
     }
     if found.total == 0 {
-        file.write_all(&found.journal.to_bytes(rt.alloc())?)?;
+        write_bytes(alloc, file, &found.journal)
+    } else {
+        Ok(())
     }
-    Ok(())
 }
 
 // Waits until the name of a file is on the disk.
 fn sync_folder<R: Files<File = File> + AllocGlobal>(rt: &R, name: &str) -> io::Result<()> {
     let path = rt.canonicalize(rt.alloc(), name)?;
     match path.as_path().parent() {
-        Some(folder) => fs::open(rt, folder)?.sync_all(),
+        Some(folder) => sync(rt, &folder),
         None => Ok(()),
     }
+}
+
+// Waits until a folder is on the disk.
+fn sync<R: Files<File = File>>(rt: &R, folder: &Path) -> io::Result<()> {
+    fs::open(rt, folder)?.sync_all()
 }

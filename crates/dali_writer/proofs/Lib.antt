@@ -11,3 +11,4 @@ pub mod PartsLemmas
 pub mod ServeLemmas
 pub mod RunLemmas
 pub mod ResumeLemmas
+pub mod KeepNeverLemmas

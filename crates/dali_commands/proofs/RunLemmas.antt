@@ -1,6 +1,5 @@
 -- Lemmas on what is answered where a scenario is run, and where it isn't.
-use Rattle.std.proofs.Common.{◌≡◌, List, [], ℕ, length, Bool, Option, Result, Ok, Err, IfOk, IfErr, OnOk, inl, inr}
-use Rattle.std.proofs.Common.{refl}
+use Rattle.std.proofs.Common.{◌≡◌, List, [], ℕ, length, Bool, Option, Result, Ok, Err, IfOk, OnOk, inl, inr, refl}
 use Rattle.std.specs.Io.KnownBytes.{Appends}
 use Rattle.dali_gear.specs.SimState.{SimState}
 use Rattle.dali_journal.specs.JournalState.{IsLimit}
@@ -9,9 +8,8 @@ use Rattle.dali_writer.specs.declared.fault.RunFault.TheVariants.{Limit, NoMemor
 use Rattle.dali_trace.specs.declared.happening.Event.{Event}
 use Rattle.dali_trace.specs.declared.happening.Happening.{Happening}
 use Rattle.dali_text.specs.RunText.{run_text}
-use Rattle.serde_json.specs.Data.{Data}
-use Rattle.dali_input.specs.Input.{InputState, IsJson, ReadsInput}
-use Rattle.dali_input.specs.Scenario.{IsScenario, Planned}
+use Rattle.dali_input.specs.Input.{InputState}
+use Rattle.dali_input.specs.Scenario.{Planned}
 use Rattle.dali_input.specs.Setup.{IsSetUp}
 use Rattle.dali_commands.specs.declared.fault.Fault.TheVariants.{Run}
 use Rattle.dali_commands.specs.declared.fault.Fault.{Fault}
@@ -23,7 +21,7 @@ use Rattle.dali_text.specs.Output.{held}
 use Rattle.dali_notes.specs.Notes.{Tells}
 use Rattle.dali_commands.specs.Notes.{IsNotedRun}
 use Rattle.dali_commands.proofs.NoteLemmas.{appends_nothing}
-use Rattle.dali_commands.specs.RunAnswers.{IsRan, IsRunAnswer, IsUnderstood, IsUnrun, scenario_limit}
+use Rattle.dali_commands.specs.RunAnswers.{IsRan, IsRunAnswer, IsUnderstood, IsUnrun}
 
 -- a fault of the run, which tells Limit only where the limit is none
 pub not_run : (before after : InputState) (planned : Planned) (bus : SimState) (all : List Event) (fault : RunFault)
@@ -72,31 +70,3 @@ pub run_noted : {E N : Type 0} (text : List ℕ) (before now : Option (List ℕ)
 run_noted text before now contents notes (Ok status) (good, told) =
     (text, told, λ unfailed. (unfailed, ([], inl (good, refl), appends_nothing (held contents notes))))
 run_noted text before now contents notes (Err e) told = tt
-
--- a scenario is understood where its input was read and the JSON of it says one
-pub understood : (before after : InputState) (input : List ℕ) (planned : Planned)
-    → ReadsInput scenario_limit before after input
-    → (json : Data) × IsJson scenario_limit input json × IsScenario json planned
-    → IsUnderstood before after planned
-understood before after input planned read (json, is_json, says) =
-    record { input = input; json = json; read = read; is_json = is_json; says = says }
-
--- what a JSON value gives, its input gives
-pub json_known : {R E : Type 0} (input : List ℕ) (json : Data) (P Q : Planned → R → Type 0)
-    (r : Result R E)
-    → IsJson scenario_limit input json
-    → IfOk r (λ x. (planned : Planned) × IsScenario json planned × P planned x × Q planned x)
-    → IfOk r (λ x. (planned : Planned) × ((said : Data) × IsJson scenario_limit input said × IsScenario said planned)
-    × P planned x × Q planned x)
-json_known input json P Q (Ok x) is_json (planned, says, holds, more) = (planned, (json, is_json, says), holds, more)
-json_known input json P Q (Err e) is_json known = tt
-
--- and so with a fault
-pub fault_known : {R : Type 0} (input : List ℕ) (json : Data) (r : Result R Fault)
-    → IsJson scenario_limit input json
-    → IfErr r (λ fault. (before : InputState) → (after : InputState) → (bytes : List ℕ)
-    → ReadsInput scenario_limit before after bytes → IsJson scenario_limit bytes json → IsUnrun before after fault)
-    → IfErr r (λ fault. (before : InputState) → (after : InputState) → ReadsInput scenario_limit before after input
-    → IsUnrun before after fault)
-fault_known input json (Ok x) is_json known = tt
-fault_known input json (Err fault) is_json known = λ before after read. known before after input read is_json

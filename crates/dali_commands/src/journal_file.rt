@@ -10,7 +10,6 @@ use dali_journal::{Journal, NoMemory, Version};
 use std::alloc::{AllocError, Global};
 use std::fs::{File, Files, OpenOptions, TryLockError};
 use std::io::{ErrorKind, Write};
-use std::path::Path;
 use std::{fs, io};
 
 /// Why a file can't serve a drive.
@@ -119,21 +118,19 @@ pub fn open_journal<R: Files<File = File> + AllocGlobal>(
 // Opens the file of a journal for one drive alone, as it is.
 fn opened<R: Files<File = File>>(rt: &R, name: &str) -> Result<JournalFile, Hindrance> {
     let file = locked(rt, name)?;
-    match is_free(rt, name, &file) {
-        Ok(Some(is_regular)) => Ok(JournalFile { file, is_regular }),
-        Ok(None) => Err(Hindrance::InUse),
-        Err(cause) => Err(Hindrance::from(cause)),
+    match is_regular(rt, name, &file) {
+        Ok(is_regular) => Ok(JournalFile { file, is_regular }),
+        Err(hindrance) => Err(hindrance),
     }
 }
 
-// Whether a locked file is a regular one, or nothing where it is and the name means another file by now.
-fn is_free<R: Files<File = File>>(rt: &R, name: &str, file: &File) -> io::Result<Option<bool>> {
+// Whether a locked file is a regular one. It must still be the one that the name means, then.
+fn is_regular<R: Files<File = File>>(rt: &R, name: &str, file: &File) -> Result<bool, Hindrance> {
     let is_regular = file.metadata()?.is_file();
-    Ok(if is_regular && !is_named(rt, name, file)? {
-        None
-    } else {
-        Some(is_regular)
-    })
+    if is_regular && !is_named(rt, name, file)? {
+        return Err(Hindrance::InUse);
+    }
+    Ok(is_regular)
 }
 
 // Reads the journal that a file holds.
@@ -167,7 +164,7 @@ fn readied<R: Files<File = File> + AllocGlobal>(
             Err(cause) => Err(Hindrance::from(cause)),
         }
     } else {
-        match begin_stream(rt.alloc(), &mut file, found) {
+        match begin_stream(rt, &mut file, found) {
             Ok(()) => Ok(JournalFile { file, is_regular }),
             Err(hindrance) => Err(hindrance),
         }
@@ -220,79 +217,33 @@ fn written_anew<R: Files<File = File> + AllocGlobal>(
     journal: &Journal,
 ) -> Result<File, Hindrance> {
     let path = rt.canonicalize(rt.alloc(), name)?;
-    replaced(rt, &path.as_path(), old, journal)
-}
-
-// A new file with the journal, which takes the name of the file at this path.
-fn replaced<R: Files<File = File> + AllocGlobal>(
-    rt: &R,
-    path: &Path,
-    old: &File,
-    journal: &Journal,
-) -> Result<File, Hindrance> {
     let shown = path.display();
     let new_name = format!(in rt.alloc(); "{shown}.new")?;
-    renamed(rt, new_name.as_str(), path, old, journal)
-}
-
-// A file of the new name with the journal, which takes the name of the file at this path.
-fn renamed<R: Files<File = File> + AllocGlobal>(
-    rt: &R,
-    new_name: &str,
-    path: &Path,
-    old: &File,
-    journal: &Journal,
-) -> Result<File, Hindrance> {
-    let mut file = locked(rt, new_name)?;
-    match fill(rt.alloc(), &mut file, old, journal) {
-        Ok(()) => match fs::rename(rt, new_name, path) {
-            Ok(()) => Ok(file),
-            Err(cause) => Err(Hindrance::from(cause)),
-        },
-        Err(hindrance) => Err(hindrance),
-    }
-}
-
-// Leaves the journal alone in a file, on the disk, which who may use the old one may use then.
-fn fill(alloc: Global, file: &mut File, old: &File, journal: &Journal) -> Result<(), Hindrance> {
+    let mut file = locked(rt, new_name.as_str())?;
     file.set_len(0)?;
     file.set_permissions(old.metadata()?.permissions())?;
-    write_bytes(alloc, file, journal)?;
+    file.write_all(&journal.to_bytes(rt.alloc())?)?;
     file.sync_all()?;
-    Ok(())
-}
-
-// Writes the bytes of a journal.
-fn write_bytes(alloc: Global, file: &mut File, journal: &Journal) -> Result<(), Hindrance> {
-    let bytes = journal.to_bytes(alloc)?;
-    match file.write_all(bytes.as_slice()) {
-        Ok(()) => Ok(()),
-        Err(cause) => Err(Hindrance::from(cause)),
-    }
+    fs::rename(rt, new_name.as_str(), &path)?;
+    Ok(file)
 }
 
 // Begins what can't be written anew, as a pipe or a terminal: with the header, where nothing was there.
-fn begin_stream(alloc: Global, file: &mut File, found: &Found) -> Result<(), Hindrance> {
+fn begin_stream<R: AllocGlobal>(rt: &R, file: &mut File, found: &Found) -> Result<(), Hindrance> {
     if found.version == Version::One {
         return Err(Hindrance::System(io::ErrorKind::InvalidInput.into()));
     }
     if found.total == 0 {
-        write_bytes(alloc, file, &found.journal)
-    } else {
-        Ok(())
+        file.write_all(&found.journal.to_bytes(rt.alloc())?)?;
     }
+    Ok(())
 }
 
 // Waits until the name of a file is on the disk.
 fn sync_folder<R: Files<File = File> + AllocGlobal>(rt: &R, name: &str) -> io::Result<()> {
     let path = rt.canonicalize(rt.alloc(), name)?;
     match path.as_path().parent() {
-        Some(folder) => sync(rt, &folder),
+        Some(folder) => fs::open(rt, folder)?.sync_all(),
         None => Ok(()),
     }
-}
-
-// Waits until a folder is on the disk.
-fn sync<R: Files<File = File>>(rt: &R, folder: &Path) -> io::Result<()> {
-    fs::open(rt, folder)?.sync_all()
 }

@@ -2,10 +2,9 @@ ghost use Rattle.std.specs.Prelude.{◌≡◌, ◌≢◌, ◌↔◌, List, ℕ, 
 ghost use Rattle.dali_trace.specs.Runs.{SendsAllProper};
 ghost use Rattle.dali_text.specs.RunText.{run_text};
 ghost use Rattle.dali_text.specs.Output.{Takes, has_failed, is_flushed};
-ghost use Rattle.serde_json.specs.Data.{Data};
 ghost use Rattle.serde_json.specs.View.{view};
-ghost use Rattle.dali_input.specs.Input.{InputState, IsJson, IsNoJson, ReadsAtMost, ReadsInput, state_of};
-ghost use Rattle.dali_input.specs.Scenario.{IsScenario, Planned, planned_of};
+ghost use Rattle.dali_input.specs.Input.{IsJson, IsNoJson, ReadsAtMost, state_of};
+ghost use Rattle.dali_input.specs.Scenario.{IsScenario, planned_of};
 ghost use Rattle.dali_input.specs.Setup.{IsSetUp, IsSetupRefused};
 ghost use Rattle.dali_input.specs.Values.{IsNoReading};
 ghost use Rattle.dali_notes.specs.Notes.{Tells};
@@ -21,7 +20,6 @@ use dali_input::{
 };
 use dali_notes::{Note, note_of_json, note_of_scenario, note_of_setup};
 use dali_text::{Output, Unwritten, write_run};
-use dali_trace::Event;
 use dali_writer::{Outcome, RunFault, run_sim};
 use serde_json::Value;
 use std::alloc::Global;
@@ -36,14 +34,6 @@ pub const SCENARIO_LIMIT: u32 = 16_777_216;
 struct Ran {
     outcome: Outcome,
     bus: SimBus,
-}
-
-// What a run begins with: the bus, the most orders of its journal, and what is done.
-#[derive(Drop)]
-struct Ready {
-    bus: SimBus,
-    limit: u32,
-    events: Vec<Event>,
 }
 
 /// Reads a JSON scenario, serves its events over its units under its fates, and writes the trace,
@@ -136,48 +126,18 @@ fn ran_of<R: Read>(alloc: Global, input: &mut Input<R>, note: &mut Note) -> Resu
     ensures read { ReadsAtMost scenario_limit (state_of R.remaining input.old) (state_of R.remaining input.new) }
 {
     let bytes = read_input(alloc, input, SCENARIO_LIMIT)?;
-    // The scenario's text, which takes many times what the run needs, is let go there.
-    match ready_in(alloc, bytes, note) {
-        Ok(
-            Ready {
-                mut bus,
-                limit,
-                events,
-            },
-        ) => {
-            let outcome = run_sim(alloc, &mut bus, limit, events.as_slice())?;
-            Ok(Ran { outcome, bus })
-        }
-        Err(fault) => Err(fault),
-    }
-}
-
-// Understands and sets up the scenario of an input. Where it comes to a fault, the note is what is wrong there.
-fn ready_in(alloc: Global, input: Vec<u8>, note: &mut Note) -> Result<Ready, Fault>
-    ensures ok { IfOk result (λ ready. (planned : Planned)
-        × ((json : Data) × IsJson scenario_limit input.items json × IsScenario json planned)
-        × (ready.limit ≡ planned.limit) × IsSetUp planned ready.bus.units ready.bus.fates ready.events.items) }
-    ensures err { IfErr result (λ fault. (before : InputState) → (after : InputState)
-        → ReadsInput scenario_limit before after input.items → IsUnrun before after fault) }
-{
-    let json = json_noting(alloc, input.as_slice(), note)?;
-    set_up(alloc, &json, note)
-}
-
-// The same of a JSON value.
-fn set_up(alloc: Global, json: &Value, note: &mut Note) -> Result<Ready, Fault>
-    ensures ok { IfOk result (λ ready. (planned : Planned) × IsScenario (view json.now) planned
-        × (ready.limit ≡ planned.limit) × IsSetUp planned ready.bus.units ready.bus.fates ready.events.items) }
-    ensures err { IfErr result (λ fault. (before : InputState) → (after : InputState) → (input : List ℕ)
-        → ReadsInput scenario_limit before after input → IsJson scenario_limit input (view json.now)
-        → IsUnrun before after fault) }
-{
-    let scenario = scenario_noting(alloc, json, note)?;
-    let Setup { bus, events } = setup_noting(alloc, &scenario, note)?;
-    match u32::try_from(scenario.limit) {
-        Ok(limit) => Ok(Ready { bus, limit, events }),
-        Err(_) => Err(Fault::Run(RunFault::Limit)),
-    }
+    let json = json_noting(alloc, bytes.as_slice(), note)?;
+    let scenario = scenario_noting(alloc, &json, note)?;
+    let Setup { mut bus, events } = setup_noting(alloc, &scenario, note)?;
+    let Ok(limit) = u32::try_from(scenario.limit) else {
+        return Err(Fault::Run(RunFault::Limit));
+    };
+    // The scenario's text takes many times what the run needs.
+    drop(scenario);
+    drop(json);
+    drop(bytes);
+    let outcome = run_sim(alloc, &mut bus, limit, events.as_slice())?;
+    Ok(Ran { outcome, bus })
 }
 
 // The JSON value of a scenario's bytes. Where there is none, the note is why.

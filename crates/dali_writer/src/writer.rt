@@ -41,7 +41,10 @@ pub struct Writer {
 // Called wherever one goes: what is derived would be written out at each such place.
 impl Drop for Writer {
     fn drop(self) {
-        let Writer { journal: _, phase: _ } = self;
+        let Writer {
+            journal: _,
+            phase: _,
+        } = self;
     }
 }
 

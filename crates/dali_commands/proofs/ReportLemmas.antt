@@ -2,6 +2,7 @@
 use Rattle.std.proofs.Common.{◌≡◌, ℕ, suc, ◌+◌, List, [], ◌∷◌, ◌++◌, Bool, true, false, Option, length, count_by, is_ok}
 use Rattle.std.proofs.Common.{not, ap, sym, ◌∙◌, arith, append_assoc, append-nil, add-zero, zero-add, cond, subst}
 use Rattle.std.proofs.Common.{length-append, refl}
+use Rattle.std.proofs.lemmas.Bool.{ne_eqb}
 use Rattle.std.proofs.lemmas.List.{map-append}
 use Rattle.std.proofs.lemmas.List.Sums.{sum_by-append}
 use Rattle.std.specs.Io.KnownBytes.{Appends}
@@ -11,7 +12,8 @@ use Rattle.serde_json.specs.declared.value.Value.{Value}
 use Rattle.dali_input.specs.Items.{Judges}
 use Rattle.dali_input.specs.Orders.{Outcome, JudgesEach}
 use Rattle.dali_input.proofs.OrderLemmas.{judges_one_more}
-use Rattle.dali_commands.specs.Report.{item_lines, lines_from, refused_count}
+use Rattle.dali_commands.specs.declared.fault.Status.TheVariants.{Refused}
+use Rattle.dali_commands.specs.Report.{item_lines, lines_from, refused_count, report_status}
 use Rattle.dali_text.proofs.StreamLemmas.{appends_both}
 use Rattle.dali_commands.proofs.NoteLemmas.{appends_nothing}
 
@@ -99,3 +101,8 @@ refused_more done v a r before mid now x Told ToldNow s judged bad written more 
       written = rw lines_from_one_more (appends_both before mid now _ _ s.written (rw number at written));
       told = more s.outcomes number s.told;
     }
+
+-- the status where an item is refused
+pub some_refused : (outcomes : List Outcome) (n : ℕ)
+    → refused_count outcomes ≡ n → ¬ (n ≡ 0) → Refused ≡ report_status outcomes
+some_refused outcomes n is some = rw (is, ne_eqb n 0 some) refl

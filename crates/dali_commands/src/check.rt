@@ -6,7 +6,8 @@ ghost use Rattle.dali_input.specs.Items.{Judges};
 ghost use Rattle.dali_input.specs.Orders.{Outcome, JudgesEach, orders_limit};
 ghost use Rattle.dali_commands.specs.Ends.{TellsEnd};
 ghost use Rattle.dali_notes.specs.Notes.{SomeAbout, Tells};
-ghost use Rattle.dali_commands.specs.Report.{item_lines, report, report_status, IsChecked, IsAnswered};
+ghost use Rattle.dali_commands.specs.Report.{accepted_count, item_lines, lines_from, refused_count, report};
+ghost use Rattle.dali_commands.specs.Report.{report_status, IsChecked, IsAnswered};
 ghost use Rattle.dali_commands.specs.Notes.{AreItemNotes, IsItemNote, IsNotedCheck};
 
 use crate::fault::{Fault, Status};
@@ -124,6 +125,29 @@ fn write_report<W: Write, N: Write>(
         × Tells N.contents notes.old notes.new (AreItemNotes 1 outcomes)) }
     ensures end { TellsEnd result output.new }
 {
+    let (accepted, refused) = write_items(alloc, items, output, notes)?;
+    write_tally(output, accepted, refused)?;
+    output.flush()?;
+    Ok(if refused == 0 {
+        Status::Good
+    } else {
+        Status::Refused
+    })
+}
+
+// Writes the lines of each item, and how many were accepted and how many refused.
+fn write_items<W: Write, N: Write>(
+    alloc: Global,
+    items: Vec<Value>,
+    output: &mut Output<W>,
+    notes: &mut Output<N>,
+) -> Result<(u64, u64), Unwritten>
+    ensures lines { IfOk result (λ counted. (outcomes : List Outcome) × JudgesEach (items_view items.items) outcomes
+        × (accepted_count outcomes ≡ counted.0) × (refused_count outcomes ≡ counted.1)
+        × Takes W.contents output.old output.new (lines_from 1 outcomes)
+        × Tells N.contents notes.old notes.new (AreItemNotes 1 outcomes)) }
+    ensures failed { TellsFailure result output.old output.new }
+{
     let mut accepted = 0u64;
     let mut refused = 0u64;
     let mut repeats = Repeats::new(alloc);
@@ -141,13 +165,7 @@ fn write_report<W: Write, N: Write>(
             refused += 1;
         }
     }
-    write_tally(output, accepted, refused)?;
-    output.flush()?;
-    Ok(if refused == 0 {
-        Status::Good
-    } else {
-        Status::Refused
-    })
+    Ok((accepted, refused))
 }
 
 // Writes what becomes of an item, and whether it was accepted. The item is let go here, while it

@@ -9,6 +9,7 @@ use dali_drive::{StdSink, StdSource};
 use dali_input::{Input, InputFault, ItemFault, ORDERS_LIMIT, read_input, read_orders};
 use dali_notes::{Escaped, FirstLines};
 use dali_text::{Output, Unwritten};
+use std::alloc::Global;
 use std::fs::{File, Files};
 use std::io::{ErrorKind, Read, Write};
 use std::{fs, io};
@@ -55,22 +56,49 @@ fn orders_in<R: Files + AllocGlobal, O: Write>(
     name: &str,
     lines: &mut O,
 ) -> Result<Result<Vec<Order>, Vec<(u64, ItemFault)>>, Hindrance> {
+    let bytes = bytes_in(rt, name)?;
+    orders_of(rt.alloc(), bytes.as_slice(), lines)
+}
+
+// The bytes of a file of orders.
+fn bytes_in<R: Files + AllocGlobal>(rt: &R, name: &str) -> Result<Vec<u8>, Hindrance> {
     let mut file = Input::new(fs::open(rt, name)?);
-    let bytes = match read_input(rt.alloc(), &mut file, ORDERS_LIMIT) {
-        Ok(bytes) => bytes,
-        Err(fault) => return Err(Hindrance::unread(Fault::Input(fault), file.cause())),
-    };
-    let orders = read_orders(rt.alloc(), &mut Input::new(bytes.as_slice()));
-    if !matches!(orders, Ok(Ok(_))) {
-        let (mut again, mut none) = (Input::new(bytes.as_slice()), Output::new(io::sink()));
-        let mut notes = Output::new(FirstLines::new(lines));
-        let _ = check_noting(rt.alloc(), &mut again, &mut none, &mut notes);
-        let _ = notes.flush();
-        if !matches!(notes.cause(), None | Some(ErrorKind::QuotaExceeded)) {
-            return Err(Hindrance::Unwritten);
-        }
+    match read_input(rt.alloc(), &mut file, ORDERS_LIMIT) {
+        Ok(bytes) => Ok(bytes),
+        Err(fault) => Err(Hindrance::unread(Fault::Input(fault), file.cause())),
     }
-    Ok(orders?)
+}
+
+// The orders of an input, or the items that are refused, with what is wrong told where there are no orders.
+fn orders_of<O: Write>(
+    alloc: Global,
+    input: &[u8],
+    lines: &mut O,
+) -> Result<Result<Vec<Order>, Vec<(u64, ItemFault)>>, Hindrance> {
+    match read_orders(alloc, &mut Input::new(input)) {
+        Ok(Ok(orders)) => Ok(Ok(orders)),
+        Ok(Err(refused)) => {
+            if is_told(alloc, input, lines) {
+                Ok(Err(refused))
+            } else {
+                Err(Hindrance::Unwritten)
+            }
+        }
+        Err(fault) => Err(if is_told(alloc, input, lines) {
+            Hindrance::from(fault)
+        } else {
+            Hindrance::Unwritten
+        }),
+    }
+}
+
+// Tells a person what is wrong with an input, as by `check`, and whether that could be written.
+fn is_told<O: Write>(alloc: Global, input: &[u8], lines: &mut O) -> bool {
+    let (mut again, mut none) = (Input::new(input), Output::new(io::sink()));
+    let mut notes = Output::new(FirstLines::new(lines));
+    let _ = check_noting(alloc, &mut again, &mut none, &mut notes);
+    let _ = notes.flush();
+    matches!(notes.cause(), None | Some(ErrorKind::QuotaExceeded))
 }
 
 // Drives the orders with the journal of a file.

@@ -7,7 +7,7 @@ use crate::fault::Fault;
 use crate::journal::{Found, read_journal};
 use dali_input::{Input, InputFault};
 use dali_journal::{Journal, NoMemory, Version};
-use std::alloc::AllocError;
+use std::alloc::{AllocError, Global};
 use std::fs::{File, Files, OpenOptions, TryLockError};
 use std::io::{ErrorKind, Write};
 use std::{fs, io};
@@ -105,23 +105,69 @@ pub fn open_journal<R: Files<File = File> + AllocGlobal>(
     ensures { IfOk result (λ opened. (input : List ℕ) × (counted : ℕ) × (version : Version)
         × IsJournalIn input opened.1 counted version) }
 {
-    let mut file = locked(rt, name)?;
+    let mut file = opened(rt, name)?;
+    match found_in(rt.alloc(), &mut file.file) {
+        Ok(found) => match readied(rt, name, file, &found) {
+            Ok(file) => Ok((file, found.journal)),
+            Err(hindrance) => Err(hindrance),
+        },
+        Err(hindrance) => Err(hindrance),
+    }
+}
+
+// Opens the file of a journal for one drive alone, as it is.
+fn opened<R: Files<File = File>>(rt: &R, name: &str) -> Result<JournalFile, Hindrance> {
+    let file = locked(rt, name)?;
+    match is_regular(rt, name, &file) {
+        Ok(is_regular) => Ok(JournalFile { file, is_regular }),
+        Err(hindrance) => Err(hindrance),
+    }
+}
+
+// Whether a locked file is a regular one. It must still be the one that the name means, then.
+fn is_regular<R: Files<File = File>>(rt: &R, name: &str, file: &File) -> Result<bool, Hindrance> {
     let is_regular = file.metadata()?.is_file();
-    if is_regular && !is_named(rt, name, &file)? {
+    if is_regular && !is_named(rt, name, file)? {
         return Err(Hindrance::InUse);
     }
-    let mut input = Input::new(&mut file);
-    let found = match read_journal(rt.alloc(), &mut input) {
-        Ok(found) => found,
-        Err(fault) => return Err(Hindrance::unread(fault, input.cause())),
-    };
+    Ok(is_regular)
+}
+
+// Reads the journal that a file holds.
+fn found_in(alloc: Global, file: &mut File) -> Result<Found, Hindrance>
+    ensures { IfOk result (λ found. (input : List ℕ)
+        × IsJournalIn input found.journal found.counted found.version) }
+{
+    let mut input = Input::new(file);
+    match read_journal(alloc, &mut input) {
+        Ok(found) => Ok(found),
+        Err(fault) => Err(Hindrance::unread(fault, input.cause())),
+    }
+}
+
+// The file in version 2 with no more than what counts, and its name, both on the disk; or one that is no regular file,
+// begun.
+fn readied<R: Files<File = File> + AllocGlobal>(
+    rt: &R,
+    name: &str,
+    opened: JournalFile,
+    found: &Found,
+) -> Result<JournalFile, Hindrance> {
+    let JournalFile {
+        mut file,
+        is_regular,
+    } = opened;
     if is_regular {
-        let file = in_version_2(rt, name, file, &found)?;
-        sync_folder(rt, name)?;
-        Ok((JournalFile { file, is_regular }, found.journal))
+        let file = in_version_2(rt, name, file, found)?;
+        match sync_folder(rt, name) {
+            Ok(()) => Ok(JournalFile { file, is_regular }),
+            Err(cause) => Err(Hindrance::from(cause)),
+        }
     } else {
-        begin_stream(rt, &mut file, &found)?;
-        Ok((JournalFile { file, is_regular }, found.journal))
+        match begin_stream(rt, &mut file, found) {
+            Ok(()) => Ok(JournalFile { file, is_regular }),
+            Err(hindrance) => Err(hindrance),
+        }
     }
 }
 

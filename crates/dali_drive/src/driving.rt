@@ -136,8 +136,49 @@ pub fn drive<I: Source, L: Sink, J: Sink, O: Sink>(
         FailedAs fault (J.failed journal_out.new) (L.failed link_out.new) (I.failed link_in.new) (O.failed out.new)) }
 {
     let mut writer = writer;
+    match drive_all(
+        &mut writer,
+        orders,
+        moment,
+        link_in,
+        link_out,
+        journal_out,
+        out,
+    ) {
+        Ok(()) => Ok(writer),
+        Err(fault) => Err(fault),
+    }
+}
+
+// Carries out what the writer still has to do, and then the orders one after the other, each submitted at this moment.
+fn drive_all<I: Source, L: Sink, J: Sink, O: Sink>(
+    writer: &mut Writer,
+    orders: &[Order],
+    moment: u64,
+    link_in: &mut I,
+    link_out: &mut L,
+    journal_out: &mut J,
+    out: &mut O,
+) -> Result<(), DriveFault>
+    requires rests { IsAtRest writer.old }
+    requires journal { J.failed journal_out.old ≡ false }
+    requires link_out { L.failed link_out.old ≡ false }
+    requires link_in { I.failed link_in.old ≡ false }
+    requires out { O.failed out.old ≡ false }
+    ensures driven { OnOk result (IsDrive (start_of writer.old) orders.now moment
+        (shown (J.held journal_out.old) (L.held link_out.old) (I.left link_in.old) (O.held out.old))
+        writer.new (shown (J.held journal_out.new) (L.held link_out.new) (I.left link_in.new) (O.held out.new))) }
+    ensures rests { OnOk result (IsAtRest writer.new) }
+    ensures ok { OnOk result
+        (NoneFailed (J.failed journal_out.new) (L.failed link_out.new) (I.failed link_in.new) (O.failed out.new)) }
+    ensures broken { IfErr result (λ fault. IsBrokenDrive (start_of writer.old) orders.now moment fault
+        (shown (J.held journal_out.old) (L.held link_out.old) (I.left link_in.old) (O.held out.old))
+        (shown (J.held journal_out.new) (L.held link_out.new) (I.left link_in.new) (O.held out.new))) }
+    ensures err { IfErr result (λ fault.
+        FailedAs fault (J.failed journal_out.new) (L.failed link_out.new) (I.failed link_in.new) (O.failed out.new)) }
+{
     writer.rest();
-    work(&mut writer, link_in, link_out, journal_out, out)?;
+    work(writer, link_in, link_out, journal_out, out)?;
     for order in orders {
         let Ok(reply) = writer.submit(order.copy(), moment) else {
             return Err(DriveFault::NoMemory);
@@ -145,7 +186,7 @@ pub fn drive<I: Source, L: Sink, J: Sink, O: Sink>(
         if !put_all(out, &reply_line(order.id(), reply)) {
             return Err(DriveFault::Out);
         }
-        work(&mut writer, link_in, link_out, journal_out, out)?;
+        work(writer, link_in, link_out, journal_out, out)?;
     }
-    Ok(writer)
+    Ok(())
 }

@@ -17,10 +17,16 @@ use std::vec::IntoIter;
 
 /// A bus of simulated units, on which frames and answers are lost and writes are refused as a list
 /// of fates says (profile).
-#[derive(Drop)]
 pub struct SimBus {
     units: BoxedSlice<Unit>,
     fates: IntoIter<Fate, Global>,
+}
+
+// Called wherever one goes: what is derived would be written out at each such place.
+impl Drop for SimBus {
+    fn drop(self) {
+        let SimBus { units: _, fates: _ } = self;
+    }
 }
 
 impl Model for SimBus {

@@ -25,7 +25,6 @@ const BANK_2: [u8; 16] = [
 ///
 /// A new unit isn't write-enabled, no half of a pair that enables it is pending, and DTR0, DTR1 and
 /// DTR2 are 0. Bank 2 has 16 locations, 0Fh at 00h and FFh at all others.
-#[derive(Drop)]
 pub struct Unit {
     address: u8,
     dtr0: u8,
@@ -35,6 +34,22 @@ pub struct Unit {
     is_half_pair_pending: bool,
     bank1: Bank,
     bank2: Bank,
+}
+
+// Called wherever one goes: what is derived would be written out at each such place.
+impl Drop for Unit {
+    fn drop(self) {
+        let Unit {
+            address: _,
+            dtr0: _,
+            dtr1: _,
+            dtr2: _,
+            is_enabled: _,
+            is_half_pair_pending: _,
+            bank1: _,
+            bank2: _,
+        } = self;
+    }
 }
 
 impl Model for Unit {

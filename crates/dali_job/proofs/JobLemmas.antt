@@ -1,13 +1,15 @@
 -- Lemmas on what the command line names.
 use Rattle.std.proofs.Common.{◌≡◌, List, ℕ, Bool, Bor, Option, Some, None, IfSome, IfNone, true, false, option_map}
-use Rattle.std.proofs.Common.{Result, Ok, Err, codes, refl, ap, sym, subst, ◌∙◌}
+use Rattle.std.proofs.Common.{Result, Ok, Err, IfOk, IsOkAnd, codes, refl, ap, sym, subst, ◌∙◌}
 use mathlib.Core.Bool.{beq}
 use Rattle.std.specs.Bool.{Decides}
 use Rattle.std.specs.Option.{option_eq}
 use Rattle.std.specs.Str.Parse.{ParsesBool, ParsesUnsigned}
 use Rattle.std.proofs.lemmas.Bool.Decides.{Decides-like}
 use Rattle.clap.specs.Words.{App, HasMatchesOf, ReadsOne, Row, Text, first_of, is_simple, is_simple_and_free, one_of}
-use Rattle.clap.specs.Words.{subcommand_of, subcommand_rows_of}
+use Rattle.clap.specs.Words.{AddsSubcommand, app_of, subcommand_of, subcommand_rows_of, with_subcommand}
+use Rattle.clap.specs.declared.builder.command.Command.{Command}
+use Rattle.clap.specs.declared.builder.command.Command.TheViews.{out-Command as fields_of}
 use Rattle.clap.specs.declared.parser.matches.ArgMatches.{ArgMatches}
 use Rattle.clap.proofs.OnLiterals.{clap_on_literals}
 use Rattle.dali_job.specs.Jobs.{HasFlag, HasNumber, HasValue, IsJob, IsNoJob, IsNumber, bench_app}
@@ -115,6 +117,18 @@ number_none E G entered command id rows o only e value = not_found (one_of id ro
         let same = same_text (one_of id) command t has.1 entered rows has.0 e is has.2 has.3 in
         let (error, read) = value t refl in
         no_number E G t error number only read (subst (λ given. IsNumber given number) same has.4)
+
+-- ---- commands
+
+-- where a command was made and added, the program is with it
+pub with_added : (E : Type 0) (made : Result Command E) (was all : Command) (before next : App)
+    → IfOk made (λ command. app_of command ≡ next) → IfOk made (λ command. (fields_of command).has_globals ≡ false)
+    → app_of was ≡ before → IsOkAnd made (λ command. AddsSubcommand was command all)
+    → app_of all ≡ with_subcommand before next.top
+with_added E (Ok command) was all before next is_next local was_is added =
+    added.shape local ∙ ap (λ app. with_subcommand app (app_of command).top) was_is
+    ∙ ap (λ (app : App). with_subcommand before app.top) is_next
+with_added E (Err error) was all before next is_next local was_is added = absurd added
 
 -- ---- jobs
 

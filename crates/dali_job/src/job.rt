@@ -1,7 +1,7 @@
-ghost use Rattle.std.specs.Prelude.{◌≡◌, ◌⊎◌, List, ℕ, IfOk, IfErr, IfSome, IfNone, codes, false, map};
+ghost use Rattle.std.specs.Prelude.{◌≡◌, ◌⊎◌, List, ℕ, IfOk, IfErr, IfSome, IfNone, IsOkAnd, codes, false, map};
 ghost use Rattle.clap.specs.declared.builder.command.Command.TheViews.{out-Command as fields_of};
 ghost use Rattle.std.specs.Bool.{Decides};
-ghost use Rattle.clap.specs.Words.{HasKind, app_of, fault_of, rule_of, subcommand_rows_of};
+ghost use Rattle.clap.specs.Words.{HasKind, app_of, fault_of, rule_of, subcommand_rows_of, AddsSubcommand};
 ghost use Rattle.dali_job.specs.Jobs.{HasFlag, HasNumber, HasValue, IsJob, IsJobOf, IsNoJob, NamesNoJob};
 ghost use Rattle.dali_job.specs.Jobs.{bench_app, command_app, drive_app, flag_rule};
 ghost use Rattle.dali_job.specs.Jobs.{number_rule, run_app, value_rule};
@@ -129,6 +129,63 @@ After a fault the same command goes on from the journal.
 Exit status: 0 each order has its reply, whatever it says, 1 something refused, or 3 Line, 4 End, 6 TooLong,
 2 a file, the memory, the link or the output failed.";
 
+// A command with an argument that has to be there: its name, what it does and its faults, the argument's name and help.
+struct Usage<'a> {
+    name: &'a str,
+    about: &'a str,
+    id: &'a str,
+    help: &'a str,
+    faults: &'a str,
+}
+
+static CHECK: Usage<'static> = Usage {
+    name: "check",
+    about: CHECK_ABOUT,
+    id: "ORDERS",
+    help: ORDERS_HELP,
+    faults: CHECK_FAULTS,
+};
+
+static RUN: Usage<'static> = Usage {
+    name: "run",
+    about: RUN_ABOUT,
+    id: "SCENARIO",
+    help: SCENARIO_HELP,
+    faults: RUN_FAULTS,
+};
+
+static FRAME: Usage<'static> = Usage {
+    name: "frame",
+    about: FRAME_ABOUT,
+    id: "HEX",
+    help: HEX_HELP,
+    faults: FRAME_FAULTS,
+};
+
+static SHOW: Usage<'static> = Usage {
+    name: "show",
+    about: SHOW_ABOUT,
+    id: "HEXFILE",
+    help: HEXFILE_HELP,
+    faults: SHOW_FAULTS,
+};
+
+static JOURNAL: Usage<'static> = Usage {
+    name: "journal",
+    about: JOURNAL_ABOUT,
+    id: "FILE",
+    help: FILE_HELP,
+    faults: JOURNAL_FAULTS,
+};
+
+static DRIVE: Usage<'static> = Usage {
+    name: "drive",
+    about: DRIVE_ABOUT,
+    id: "ORDERS",
+    help: DRIVE_ORDERS_HELP,
+    faults: DRIVE_FAULTS,
+};
+
 /// Reads the command line, the program's name first.
 ///
 /// The error is `clap`'s: its text for a person, which may be the help that was asked for, or want of memory.
@@ -137,14 +194,38 @@ pub fn job_of<'a>(alloc: Global, words: &'a [&'a str]) -> Result<Job<'a>, Error>
     ensures refused { IfErr result (λ error. HasKind (fault_of bench_app (map (λ word. word.now) words.entry.now)) error
         ⊎ NamesNoJob (map (λ word. word.now) words.entry.now)) }
 {
-    let mut command = bench_command(alloc)?;
-    let matches = match command.try_get_matches_from_mut(words) {
-        Ok(matches) => matches,
-        Err(error) => return Err(error),
-    };
-    match job_in(&matches) {
+    match bench_command(alloc) {
+        Ok(mut command) => job_by(&mut command, words),
+        Err(error) => Err(Error::from(error)),
+    }
+}
+
+// The job that the words name, by the program's commands.
+fn job_by<'a>(command: &mut Command<'a>, words: &'a [&'a str]) -> Result<Job<'a>, Error>
+    requires { app_of command.old ≡ bench_app }
+    ensures named { IfOk result (IsJobOf (map (λ word. word.now) words.entry.now)) }
+    ensures refused { IfErr result (λ error. HasKind (fault_of bench_app (map (λ word. word.now) words.entry.now)) error
+        ⊎ NamesNoJob (map (λ word. word.now) words.entry.now)) }
+{
+    match entered_job(command, words)? {
         Some(job) => Ok(job),
-        None => Err(missing(&mut command)),
+        None => Err(missing(command)),
+    }
+}
+
+// The job of the command that the words enter, where they enter one and it is a job's.
+fn entered_job<'a>(
+    command: &mut Command<'a>,
+    words: &'a [&'a str],
+) -> Result<Option<Job<'a>>, Error>
+    requires { app_of command.old ≡ bench_app }
+    ensures named { IfOk result (λ found. IfSome found (IsJobOf (map (λ word. word.now) words.entry.now))) }
+    ensures none { IfOk result (λ found. IfNone found (NamesNoJob (map (λ word. word.now) words.entry.now))) }
+    ensures refused { IfErr result (HasKind (fault_of bench_app (map (λ word. word.now) words.entry.now))) }
+{
+    match command.try_get_matches_from_mut(words) {
+        Ok(matches) => Ok(job_in(&matches)),
+        Err(error) => Err(error),
     }
 }
 
@@ -230,22 +311,29 @@ fn has_flag(matches: &ArgMatches<'_>, command: &str, id: &str) -> bool
 fn bench_command<'a>(alloc: Global) -> Result<Command<'a>, AllocError>
     ensures { IfOk result (λ command. app_of command ≡ bench_app) }
 {
-    let top = told(Command::new(alloc, "dali_bench"), ABOUT, TOP_HELP).subcommand_required(true);
-    let checks = top.subcommand(check_command(alloc)?)?;
-    let runs = checks.subcommand(run_command(alloc)?)?;
-    let frames = runs.subcommand(frame_command(alloc)?)?;
-    let shows = frames.subcommand(show_command(alloc)?)?;
-    let journals = shows.subcommand(journal_command(alloc)?)?;
-    journals.subcommand(drive_command(alloc)?)
+    let top = Command::new(alloc, "dali_bench")
+        .about(ABOUT)
+        .after_help(TOP_HELP)
+        .subcommand_required(true);
+    let checks = with_made(top, command_of(alloc, &CHECK))?;
+    let runs = with_made(checks, run_command(alloc))?;
+    let frames = with_made(runs, command_of(alloc, &FRAME))?;
+    let shows = with_made(frames, command_of(alloc, &SHOW))?;
+    let journals = with_made(shows, command_of(alloc, &JOURNAL))?;
+    with_made(journals, drive_command(alloc))
 }
 
-// The command that checks a file of orders.
-fn check_command<'a>(alloc: Global) -> Result<Command<'a>, AllocError>
-    ensures app { IfOk result (λ command. app_of command ≡ command_app (codes "check") (codes "ORDERS")) }
-    ensures local { IfOk result (λ command. (fields_of command).has_globals ≡ false) }
+// The program with one more command, where that one could be made.
+fn with_made<'a>(
+    program: Command<'a>,
+    made: Result<Command<'a>, AllocError>,
+) -> Result<Command<'a>, AllocError>
+    ensures { IfOk result (λ all. IsOkAnd made.entry (λ command. AddsSubcommand program.entry command all)) }
 {
-    let command = command_with(alloc, "check", "ORDERS", ORDERS_HELP)?;
-    Ok(told(command, CHECK_ABOUT, CHECK_FAULTS))
+    match made {
+        Ok(command) => program.subcommand(command),
+        Err(error) => Err(error),
+    }
 }
 
 // The command that runs a scenario, with its flag.
@@ -253,35 +341,7 @@ fn run_command<'a>(alloc: Global) -> Result<Command<'a>, AllocError>
     ensures app { IfOk result (λ command. app_of command ≡ run_app) }
     ensures local { IfOk result (λ command. (fields_of command).has_globals ≡ false) }
 {
-    let command = command_with(alloc, "run", "SCENARIO", SCENARIO_HELP)?.arg(frames_flag(alloc))?;
-    Ok(told(command, RUN_ABOUT, RUN_FAULTS))
-}
-
-// The command that says what a frame means.
-fn frame_command<'a>(alloc: Global) -> Result<Command<'a>, AllocError>
-    ensures app { IfOk result (λ command. app_of command ≡ command_app (codes "frame") (codes "HEX")) }
-    ensures local { IfOk result (λ command. (fields_of command).has_globals ≡ false) }
-{
-    let command = command_with(alloc, "frame", "HEX", HEX_HELP)?;
-    Ok(told(command, FRAME_ABOUT, FRAME_FAULTS))
-}
-
-// The command that says what a memory bank holds.
-fn show_command<'a>(alloc: Global) -> Result<Command<'a>, AllocError>
-    ensures app { IfOk result (λ command. app_of command ≡ command_app (codes "show") (codes "HEXFILE")) }
-    ensures local { IfOk result (λ command. (fields_of command).has_globals ≡ false) }
-{
-    let command = command_with(alloc, "show", "HEXFILE", HEXFILE_HELP)?;
-    Ok(told(command, SHOW_ABOUT, SHOW_FAULTS))
-}
-
-// The command that prints a journal's records.
-fn journal_command<'a>(alloc: Global) -> Result<Command<'a>, AllocError>
-    ensures app { IfOk result (λ command. app_of command ≡ command_app (codes "journal") (codes "FILE")) }
-    ensures local { IfOk result (λ command. (fields_of command).has_globals ≡ false) }
-{
-    let command = command_with(alloc, "journal", "FILE", FILE_HELP)?;
-    Ok(told(command, JOURNAL_ABOUT, JOURNAL_FAULTS))
+    command_of(alloc, &RUN)?.arg(frames_flag(alloc))
 }
 
 // The command that carries out orders over a link.
@@ -289,23 +349,23 @@ fn drive_command<'a>(alloc: Global) -> Result<Command<'a>, AllocError>
     ensures app { IfOk result (λ command. app_of command ≡ drive_app) }
     ensures local { IfOk result (λ command. (fields_of command).has_globals ≡ false) }
 {
-    let journal = value_argument(alloc, "JOURNAL", DRIVE_JOURNAL_HELP);
-    let files = command_with(alloc, "drive", "ORDERS", DRIVE_ORDERS_HELP)?.arg(journal)?;
-    let command = files.arg(moment_option(alloc))?;
-    Ok(told(command, DRIVE_ABOUT, DRIVE_FAULTS))
+    let files = command_of(alloc, &DRIVE)?.arg(value_argument(
+        alloc,
+        "JOURNAL",
+        DRIVE_JOURNAL_HELP,
+    ))?;
+    files.arg(moment_option(alloc))
 }
 
 // A command with one argument, which has to be there.
-fn command_with<'a>(
-    alloc: Global,
-    name: &'a str,
-    id: &'a str,
-    help: &'a str,
-) -> Result<Command<'a>, AllocError>
-    ensures app { IfOk result (λ command. app_of command ≡ command_app name.entry.now id.entry.now) }
+fn command_of<'a>(alloc: Global, usage: &Usage<'a>) -> Result<Command<'a>, AllocError>
+    ensures app { IfOk result (λ command. app_of command ≡ command_app usage.now.name.now usage.now.id.now) }
     ensures local { IfOk result (λ command. (fields_of command).has_globals ≡ false) }
 {
-    Command::new(alloc, name).arg(value_argument(alloc, id, help))
+    Command::new(alloc, usage.name)
+        .about(usage.about)
+        .after_help(usage.faults)
+        .arg(value_argument(alloc, usage.id, usage.help))
 }
 
 // An argument that has to be there, and takes one value.
@@ -342,14 +402,6 @@ fn moment_option<'a>(alloc: Global) -> Arg<'a>
         .value_parser(value_parser!(u64))
         .default_value("0")
         .action(ArgAction::Set)
-}
-
-// The command, with what it does and more, as its faults, in its help.
-fn told<'a>(command: Command<'a>, about: &'a str, more: &'a str) -> Command<'a>
-    ensures app { app_of result ≡ app_of command.entry }
-    ensures local { (fields_of result).has_globals ≡ (fields_of command.entry).has_globals }
-{
-    command.about(about).after_help(more)
 }
 
 // The error of a command line that names no job.

@@ -20,7 +20,7 @@ use Rattle.dali_journal.specs.Decoding.{began_piece, head_length}
 use Rattle.dali_journal.proofs.PairLemmas.{AreBytes, climb, length-climb}
 use Rattle.dali_journal.proofs.PieceLemmas.{length-pairs_spelling, reads-began, number-of, bytes-take, bytes-drop}
 use Rattle.dali_journal.proofs.JournalLemmas.{pairs_in_range}
-use Rattle.dali_journal.proofs.TornLemmas.{bytes_front, bytes_back}
+use Rattle.dali_journal.proofs.TornLemmas.{bytes_front}
 
 -- the two bytes in front
 pub two_front : (bytes : List ℕ) → 2 ≤ length bytes

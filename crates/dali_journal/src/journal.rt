@@ -38,7 +38,6 @@ const BYTES_BEHIND_BEGAN: usize = 6;
 /// Its records are a list of groups, one for each order, of which the last may end early; their
 /// orders' numbers are distinct, and there are no more than the limit, 1 to 100000. There is always
 /// room for the records that end what the journal has begun.
-#[derive(Drop)]
 pub struct Journal {
     limit: u32,
     orders: u32,
@@ -47,6 +46,19 @@ pub struct Journal {
     bytes: Vec<u8>,
     // where the order of each number began, and how it ended; a number is here before its order begins
     index: IndexMap<u64, Place>,
+}
+
+// A function of its own, which is called wherever a journal goes: what is derived is written out at each such place.
+impl Drop for Journal {
+    fn drop(self) {
+        let Journal {
+            limit: _,
+            orders: _,
+            standing: _,
+            bytes: _,
+            index: _,
+        } = self;
+    }
 }
 
 impl Model for Journal {

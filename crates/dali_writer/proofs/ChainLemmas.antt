@@ -6,7 +6,6 @@ use Rattle.dali_bus.specs.Carry.{BusEvent, Carried, WorldStep}
 use Rattle.dali_bus.specs.Carry as bus
 use Rattle.dali_bus.specs.Chain.{IsChain, AtEachMoment, Chain}
 use Rattle.dali_bus.specs.Unenabled.{NoneEnabled}
-use Rattle.dali_journal.specs.declared.record.Record.{Record}
 use Rattle.dali_trace.specs.declared.happening.Happening.{Happening}
 use Rattle.dali_trace.specs.declared.happening.Happening.TheVariants.{Asked, Answered, Sent, Kept, Stopped, Powered}
 use Rattle.dali_trace.specs.Trace.{Start}
@@ -55,41 +54,10 @@ follows_power start w trace new address is follows =
     (sym (ap reverse is ∙ reverse-append trace (Powered address ∷ [])))
     (record { planned = (follows.planned, tt); told = follows.told })
 
--- and one that is longer by a record and a stop
-pub onto_stop : (start : Start) (w : Held) (trace mid new : List Happening) (entry : Record)
-    → mid ≡ trace ++ Kept entry ∷ [] → new ≡ mid ++ Stopped ∷ []
-    → Describes start (Stopped ∷ Kept entry ∷ reverse trace) w → Describes start (reverse new) w
-onto_stop start w trace mid new entry one two d =
-    onto start w mid new Stopped two
-    (subst (λ (t : List Happening). Describes start (Stopped ∷ t) w)
-    (sym (ap reverse one ∙ reverse-append trace (Kept entry ∷ []))) d)
-
--- the same of whatever is so of the happenings
-pub all_onto : (P : List Happening → Type 0) (trace new : List Happening) (next : Happening) → new ≡ trace ++ next ∷ []
-    → P (next ∷ reverse trace) → P (reverse new)
-all_onto P trace new next is so = subst P (sym (ap reverse is ∙ reverse-append trace (next ∷ []))) so
-
-pub all_onto_stop : (P : List Happening → Type 0) (trace mid new : List Happening) (entry : Record)
-    → mid ≡ trace ++ Kept entry ∷ [] → new ≡ mid ++ Stopped ∷ []
-    → P (Stopped ∷ Kept entry ∷ reverse trace) → P (reverse new)
-all_onto_stop P trace mid new entry one two so =
-    subst P (sym (ap reverse two ∙ reverse-append mid (Stopped ∷ [])
-    ∙ ap (λ (t : List Happening). Stopped ∷ t) (ap reverse one ∙ reverse-append trace (Kept entry ∷ []))))
-    so
-
 module _ {S : Type 0} (world : S → World) (step : S → BusEvent → S → Type 0) where
   -- a chain before anything happens
   pub starts : (first : S) → Chain (MovesBy step) first [] first
   starts first = record { states = []; steps = refl }
-
-  -- a chain goes on, where the trace is written oldest first
-  pub pushed : (first mid last : S) (trace new : List Happening) (next : Happening) → new ≡ trace ++ next ∷ []
-      → Chain (MovesBy step) first (reverse trace) mid
-      → MovesBy step mid next last → Chain (MovesBy step) first (reverse new) last
-  pushed first mid last trace new next is chain moved =
-      subst (λ (t : List Happening). Chain (MovesBy step) first t last)
-      (sym (ap reverse is ∙ reverse-append trace (next ∷ [])))
-      (record { states = mid ∷ chain.states; steps = (moved, chain.steps) })
 
   module _ (allowed : (old : S) (event : BusEvent) (new : S) → step old event new
       → WorldStep (world old) event (world new)) where

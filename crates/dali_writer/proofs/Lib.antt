@@ -8,3 +8,7 @@ pub mod SubmitLemmas
 pub mod StopLemmas
 pub mod ChainLemmas
 pub mod PartsLemmas
+pub mod ServeLemmas
+pub mod RunLemmas
+pub mod ResumeLemmas
+pub mod KeepNeverLemmas

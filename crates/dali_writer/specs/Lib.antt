@@ -5,3 +5,4 @@ pub mod Inside
 pub mod Describes
 pub mod Follows
 pub mod WorkLeft
+pub mod Served

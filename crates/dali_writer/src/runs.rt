@@ -1,20 +1,23 @@
 ghost use Rattle.std.specs.Prelude.{◌≡◌, ◌↔◌, ◌∷◌, List, reverse, is_some, IfSome, IsNone, IfOk, OnOk, OnErr, IfErr};
-ghost use Rattle.std.specs.Prelude.{Err};
+ghost use Rattle.std.specs.Prelude.{Err, ℕ, [], take, IsOk};
+ghost use Rattle.dali_journal.specs.declared.version.Version.TheVariants.{Two};
+ghost use Rattle.dali_journal.specs.Spelling.{journal_spelling};
 ghost use Rattle.dali_journal.specs.JournalState.{IsLimit};
-ghost use Rattle.dali_bus.specs.Chain.{Chain};
 ghost use Rattle.dali_trace.specs.declared.happening.Happening.{Happening};
 ghost use Rattle.dali_writer.specs.declared.fault.RunFault.TheVariants as faults;
 ghost use Rattle.dali_trace.specs.Trace.{Start, is_busy};
-ghost use Rattle.dali_trace.specs.Parts.{IsWork, Part};
+ghost use Rattle.dali_trace.specs.Parts.{IsWork};
 ghost use Rattle.dali_trace.specs.Moves.{MovesBy};
-ghost use Rattle.dali_trace.specs.Runs.{IsRun, IsCutShort, SendsProper, SendsAllProper, AsksProper, AsksAllProper};
+ghost use Rattle.dali_trace.specs.Runs.{fresh, IsRun, IsCutShort, SendsProper, AsksProper};
 ghost use Rattle.dali_writer.specs.Describes.{Describes};
 ghost use Rattle.dali_writer.specs.Follows.{Follows};
+ghost use Rattle.dali_writer.specs.Held.{Held};
+ghost use Rattle.dali_writer.specs.Served.{IsServed, AreServed};
 ghost use Rattle.dali_trace.specs.Spared.{IsSimRun};
 ghost use Rattle.dali_gear.specs.SimState.{SimStep, world_of};
 
 use crate::fault::RunFault;
-use crate::stops::{keep_within, left_by, loaded_again};
+use crate::stops::stop;
 use crate::writer::Writer;
 use dali_gear::{Bus, SimBus};
 use dali_journal::Journal;
@@ -63,20 +66,10 @@ fn serve<B: Bus>(
     trace: &mut Vec<Happening>,
     event: &Event,
 ) -> Result<(), RunFault>
-    ensures described { OnOk result ((start : Start) → Describes start (reverse trace.old.items) writer.old
-        → Describes start (reverse trace.new.items) writer.new) }
-    ensures follows { OnOk result ((start : Start) → Describes start (reverse trace.old.items) writer.old
-        → Follows start (reverse trace.old.items) writer.old
-        → Follows start (reverse trace.new.items) writer.new) }
-    ensures part { OnOk result ((start : Start) → Describes start (reverse trace.old.items) writer.old
-        → Follows start (reverse trace.old.items) writer.old
-        → Part start event.now (reverse trace.old.items) (reverse trace.new.items)) }
-    ensures err { OnErr result (trace.new.items ≡ trace.old.items) }
-    ensures fault { IfErr result (λ fault. fault ≡ faults.NoMemory) }
-    ensures proper { SendsAllProper (reverse trace.old.items) → SendsAllProper (reverse trace.new.items) }
-    ensures orders { AsksAllProper (reverse trace.old.items) → AsksAllProper (reverse trace.new.items) }
-    ensures leads { (first : B) → Chain (MovesBy B.step) first (reverse trace.old.items) bus.old
-        → Chain (MovesBy B.step) first (reverse trace.new.items) bus.new }
+    ensures ok { OnOk result (IsServed B.step event.now bus.old writer.old (reverse trace.old.items)
+        bus.new writer.new (reverse trace.new.items)) }
+    ensures err { IfErr result (λ fault. (fault ≡ faults.NoMemory) × (bus.new ≡ bus.old)
+        × (trace.new.items ≡ trace.old.items)) }
 {
     trace.reserve(2)?;
     match event {
@@ -90,19 +83,12 @@ fn serve<B: Bus>(
                 trace.push_reserved(happening);
             }
         }
-        Event::Stop(bytes) => match keep_within(writer, *bytes) {
-            Some(entry) => {
-                let journal = loaded_again(alloc, writer.journal(), &[])?;
-                *writer = Writer::new(journal);
+        Event::Stop(bytes) => {
+            if let Some(entry) = stop(alloc, writer, *bytes)? {
                 trace.push_reserved(Happening::Kept(entry));
-                trace.push_reserved(Happening::Stopped);
             }
-            None => {
-                let journal = left_by(alloc, writer, *bytes)?;
-                *writer = Writer::new(journal);
-                trace.push_reserved(Happening::Stopped);
-            }
-        },
+            trace.push_reserved(Happening::Stopped);
+        }
         Event::Power(address) => {
             bus.power(*address);
             trace.push_reserved(Happening::Powered(*address));
@@ -142,13 +128,42 @@ pub fn run<B: Bus>(
     ensures untouched { result ≡ Err faults.Limit → bus.new ≡ bus.old }
     ensures err { OnErr result (IsCutShort B.world B.step limit events.now bus.old bus.new) }
 {
+    match empty_writer(alloc, limit) {
+        Ok(mut writer) => serve_all(alloc, bus, &mut writer, events),
+        Err(fault) => Err(fault),
+    }
+}
+
+// A writer over an empty journal for at most so many orders.
+fn empty_writer(alloc: Global, limit: u32) -> Result<Writer, RunFault>
+    ensures described { IfOk result (λ writer. Describes (fresh limit) [] writer) }
+    ensures follows { IfOk result (λ writer. Follows (fresh limit) [] writer) }
+    ensures succeeds { IsLimit limit ↔ IsOk result }
+    ensures fault { IfErr result (λ fault. fault ≡ faults.Limit) }
+{
     let Ok(journal) = Journal::new(alloc, limit) else {
         return Err(RunFault::Limit);
     };
-    let mut writer = Writer::new(journal);
+    Ok(Writer::new(journal))
+}
+
+// Serves the events in their order, from an empty trace on.
+fn serve_all<B: Bus>(
+    alloc: Global,
+    bus: &mut B,
+    writer: &mut Writer,
+    events: &[Event],
+) -> Result<Outcome, RunFault>
+    ensures ok { IfOk result (λ outcome. AreServed B.step events.now bus.old writer.old
+        bus.new writer.new (reverse outcome.trace.items)) }
+    ensures journal { IfOk result
+        (λ outcome. outcome.journal.items ≡ journal_spelling Two writer.new.journal.records) }
+    ensures err { IfErr result (λ fault. (fault ≡ faults.NoMemory) × ((served : ℕ) × (last : Held)
+        × (past : List Happening) × AreServed B.step (take served events.now) bus.old writer.old bus.new last past)) }
+{
     let mut trace = Vec::new(alloc);
     for event in events {
-        serve(alloc, bus, &mut writer, &mut trace, event)?;
+        serve(alloc, bus, writer, &mut trace, event)?;
     }
     Ok(Outcome {
         journal: writer.journal().to_bytes(alloc)?,

@@ -1,4 +1,4 @@
-ghost use Rattle.std.specs.Prelude.{◌≡◌, ◌↔◌, ◌<◌, ◌≤◌, ◌∷◌, length, IfOk, IfSome, IsNone, List};
+ghost use Rattle.std.specs.Prelude.{◌≡◌, ◌↔◌, ◌<◌, ◌≤◌, ◌∷◌, length, IfOk, OnOk, OnErr, IfSome, IsNone, List};
 ghost use Rattle.dali_journal.specs.declared.record.Record.{Record};
 ghost use Rattle.dali_journal.specs.declared.version.Version.TheVariants.{Two};
 ghost use Rattle.dali_journal.specs.Reading.{IsCutOf};
@@ -10,6 +10,7 @@ ghost use Rattle.dali_writer.specs.Phases.{want_of};
 ghost use Rattle.dali_trace.specs.Trace.{Start};
 ghost use Rattle.dali_writer.specs.Describes.{Describes};
 ghost use Rattle.dali_writer.specs.Follows.{Follows};
+ghost use Rattle.dali_writer.specs.Served.{IsStop};
 ghost use Rattle.dali_trace.specs.Parts.{IsKeptNext};
 
 use crate::writer::Writer;
@@ -17,9 +18,30 @@ use dali_journal::{Journal, JournalFault, NoMemory, Record};
 use dali_trace::Want;
 use std::alloc::Global;
 
+// Stops the writer and begins it anew, where so many bytes of the record that is wanted reach the journal. The record
+// that was kept, where all of its bytes do.
+pub(crate) fn stop(
+    alloc: Global,
+    writer: &mut Writer,
+    bytes: u16,
+) -> Result<Option<Record>, NoMemory>
+    ensures { IfOk result (λ kept. IsStop bytes writer.old kept writer.new) }
+{
+    match keep_within(writer, bytes) {
+        Some(entry) => match begin_anew(alloc, writer, &[]) {
+            Ok(()) => Ok(Some(entry)),
+            Err(fault) => Err(fault),
+        },
+        None => match cut_off(alloc, writer, bytes) {
+            Ok(()) => Ok(None),
+            Err(fault) => Err(fault),
+        },
+    }
+}
+
 // Keeps the record that is wanted, where one is and no more than these bytes of it reach the journal
 // but all do.
-pub(crate) fn keep_within(writer: &mut Writer, bytes: u16) -> Option<Record>
+fn keep_within(writer: &mut Writer, bytes: u16) -> Option<Record>
     ensures wanted { IfSome result (λ entry. want_of writer.old.phase ≡ Want.Keep entry) }
     ensures described { IfSome result (λ entry. (start : Start) (past : List Happening)
         → Describes start past writer.old → Describes start (happenings.Kept entry ∷ past) writer.new) }
@@ -46,28 +68,44 @@ pub(crate) fn keep_within(writer: &mut Writer, bytes: u16) -> Option<Record>
     }
 }
 
-// The journal that is loaded again after a stop that let through so many bytes of the record that is
-// wanted, where one is and it has more.
-pub(crate) fn left_by(alloc: Global, writer: &Writer, bytes: u16) -> Result<Journal, NoMemory>
-    requires { (entry : Record) → want_of writer.now.phase ≡ Want.Keep entry → bytes < length (spelling Two entry) }
-    ensures { IfOk result
-        (λ journal. (journal.records ≡ writer.now.journal.records) × (journal.limit ≡ writer.now.journal.limit)) }
+// Begins the writer anew, with no more than these bytes of the record that is wanted, where one is, in the journal.
+fn cut_off(alloc: Global, writer: &mut Writer, bytes: u16) -> Result<(), NoMemory>
+    requires { (entry : Record) → want_of writer.old.phase ≡ Want.Keep entry → bytes < length (spelling Two entry) }
+    ensures described { OnOk result ((start : Start) (past : List Happening)
+        → Describes start past writer.old → Describes start (happenings.Stopped ∷ past) writer.new) }
+    ensures follows { OnOk result ((start : Start) (past : List Happening)
+        → Follows start past writer.old → Follows start (happenings.Stopped ∷ past) writer.new) }
+    ensures err { OnErr result (writer.new ≡ writer.old) }
 {
     match writer.want() {
         Want::Keep(entry) => {
             let spelled = entry.bytes();
-            loaded_again(alloc, writer.journal(), &spelled[..usize::from(bytes)])
+            begin_anew(alloc, writer, &spelled[..usize::from(bytes)])
         }
-        _ => loaded_again(alloc, writer.journal(), &[]),
+        _ => begin_anew(alloc, writer, &[]),
+    }
+}
+
+// Begins the writer anew, from the bytes of its journal with those of a cut record behind them.
+fn begin_anew(alloc: Global, writer: &mut Writer, cut: &[u8]) -> Result<(), NoMemory>
+    requires { (last : Record) × IsCutOf Two cut.now last }
+    ensures described { OnOk result ((start : Start) (past : List Happening)
+        → Describes start past writer.old → Describes start (happenings.Stopped ∷ past) writer.new) }
+    ensures follows { OnOk result ((start : Start) (past : List Happening)
+        → Follows start past writer.old → Follows start (happenings.Stopped ∷ past) writer.new) }
+    ensures err { OnErr result (writer.new ≡ writer.old) }
+{
+    match loaded_again(alloc, writer.journal(), cut) {
+        Ok(journal) => {
+            *writer = Writer::new(journal);
+            Ok(())
+        }
+        Err(fault) => Err(fault),
     }
 }
 
 // The journal that is loaded from the bytes of this one, with those of a cut record behind them.
-pub(crate) fn loaded_again(
-    alloc: Global,
-    journal: &Journal,
-    cut: &[u8],
-) -> Result<Journal, NoMemory>
+fn loaded_again(alloc: Global, journal: &Journal, cut: &[u8]) -> Result<Journal, NoMemory>
     requires { (last : Record) × IsCutOf Two cut.now last }
     ensures { IfOk result (λ again. (again.records ≡ journal.now.records) × (again.limit ≡ journal.now.limit)) }
 {

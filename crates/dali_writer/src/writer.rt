@@ -33,10 +33,19 @@ use std::mem;
 ///
 /// It tells what it wants (`want`), and is told when that was done: `kept`, `heard` or `said`. It
 /// takes memory in `submit` alone.
-#[derive(Drop)]
 pub struct Writer {
     journal: Journal,
     phase: Phase,
+}
+
+// Called wherever one goes: what is derived would be written out at each such place.
+impl Drop for Writer {
+    fn drop(self) {
+        let Writer {
+            journal: _,
+            phase: _,
+        } = self;
+    }
 }
 
 impl Model for Writer {

@@ -1,41 +1,26 @@
-use Rattle.std.proofs.Common.{◌≡◌, ◌∷◌, [], length, ap, ◌∙◌, append_assoc, arith, refl}
-use Rattle.std.specs.Vec.Iter.{into_iter_items, into_iter_len}
-use Rattle.dali_commands.proofs.NoteLemmas.{appends_nothing, tells_one_more}
-use Rattle.dali_commands.proofs.ReportLemmas.{accepted_more, none_yet, refused_more}
+use Rattle.std.proofs.Common.{refl}
+use Rattle.dali_text.proofs.StreamLemmas.{appends_both, appends_kept}
+use Rattle.dali_commands.proofs.ReportLemmas.{some_refused}
 use Rattle.dali_commands.proofs.check.write_report.Goals as goal
 
-pub loop-item-init : goal.loop-item-init
-loop-item-init g c =
-    (refl, search, none_yet _ _ (λ unfailed. (unfailed, ([], refl, appends_nothing _))))
-
-pub loop-item-preserved-then-branch : goal.loop-item-preserved-then-branch
-loop-item-preserved-then-branch g c =
-    let at = c.loop-item in
-    let (split, size, so_far) = at.invariant in
-    let (outcome, judged, is, written, noted) = c.in_ok-write_item.ensures.lines in
-    let steps : into_iter_items at.item-iterator ≡ c.in-Some.item ∷ into_iter_items c.next.new.self =
-    c.in-Some.ensures.steps.0 in
-    let gone = c.in-Some.ensures.steps.1 in
-    let left : into_iter_len c.next.new.self ≡ length (into_iter_items c.next.new.self) =
-    let short = ap length steps in omega arith in (
-      append_assoc at.yielded (c.in-Some.item ∷ []) _ ∙ rw (← steps) split,
-      left,
-      accepted_more at.yielded c.in-Some.item at.accepted at.refused _ _ _ outcome _ _ so_far judged
-          (is ∙ c.if-branch.true) written (λ xs. tells_one_more g.N.Write.contents c.args.notes.now at.notes c.write_item.new.notes outcome _ xs noted),
+pub returns-then-refused-eq0-clause-report : goal.returns-then-refused-eq0-clause-report
+returns-then-refused-eq0-clause-report g c =
+    let (outcomes, judged, good, bad, written, noted) = c.in_ok-accepted.ensures.lines in (
+      outcomes,
+      judged,
+      rw (bad, c.if-refused-eq0.true) refl,
+      appends_kept _ _ _ _ (appends_both _ _ _ _ _ written (rw (good, bad) c.in_ok-write_tally.ensures.text))
+          c.in_ok-flush.ensures.bytes,
+      noted,
     )
 
-pub loop-item-preserved : goal.loop-item-preserved
-loop-item-preserved g c =
-    let at = c.loop-item in
-    let (split, size, so_far) = at.invariant in
-    let (outcome, judged, is, written, noted) = c.in_ok-write_item.ensures.lines in
-    let steps : into_iter_items at.item-iterator ≡ c.in-Some.item ∷ into_iter_items c.next.new.self =
-    c.in-Some.ensures.steps.0 in
-    let gone = c.in-Some.ensures.steps.1 in
-    let left : into_iter_len c.next.new.self ≡ length (into_iter_items c.next.new.self) =
-    let short = ap length steps in omega arith in (
-      append_assoc at.yielded (c.in-Some.item ∷ []) _ ∙ rw (← steps) split,
-      left,
-      refused_more at.yielded c.in-Some.item at.accepted at.refused _ _ _ outcome _ _ so_far judged
-          (is ∙ c.if-branch.false) written (λ xs. tells_one_more g.N.Write.contents c.args.notes.now at.notes c.write_item.new.notes outcome _ xs noted),
+pub returns-else-refused-eq0-clause-report : goal.returns-else-refused-eq0-clause-report
+returns-else-refused-eq0-clause-report g c =
+    let (outcomes, judged, good, bad, written, noted) = c.in_ok-accepted.ensures.lines in (
+      outcomes,
+      judged,
+      some_refused outcomes _ bad c.if-refused-eq0.false,
+      appends_kept _ _ _ _ (appends_both _ _ _ _ _ written (rw (good, bad) c.in_ok-write_tally.ensures.text))
+          c.in_ok-flush.ensures.bytes,
+      noted,
     )

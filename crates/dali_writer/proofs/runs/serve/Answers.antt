@@ -1,102 +1,45 @@
-use Rattle.std.proofs.Common.{refl, sym, ap, ◌∙◌, ◌∷◌, reverse}
-use Rattle.dali_journal.specs.JournalState.{JournalState}
-use Rattle.dali_writer.specs.Describes.{Describes}
-use Rattle.dali_trace.specs.declared.happening.Happening.TheVariants.{Kept, Stopped}
-use Rattle.dali_writer.proofs.ChainLemmas.{pushed, onto, all_onto, onto_stop, all_onto_stop}
-use Rattle.dali_writer.proofs.PartsLemmas.{stop_kept, stop_cut}
-use Rattle.dali_writer.specs.Follows.{Follows}
-use Rattle.dali_writer.proofs.StopLemmas.{cut_of_none}
+use Rattle.std.proofs.Common.{◌≡◌, ap, ◌∙◌, reverse, is_some}
+use Rattle.dali_writer.specs.Served.{stopped_after}
+use Rattle.dali_trace.specs.declared.happening.Happening.TheVariants.{Stopped}
+use Rattle.dali_writer.proofs.ServeLemmas.{one_more, two_more, submitted, stepped, stopped, lost_power}
+use Rattle.dali_writer.proofs.runs.serve.Goals.{in-Some-2, in_default-2}
 use Rattle.dali_writer.proofs.runs.serve.Goals as goal
 
-pub returns-in_ok-reply-in-Submit-clause-leads : goal.returns-in_ok-reply-in-Submit-clause-leads
-returns-in_ok-reply-in-Submit-clause-leads g c = λ first chain.
-    pushed g.B.Bus.world g.B.Bus.step first _ _ _ _ _ c.push_reserved-in-Submit.ensures.items
-    (pushed g.B.Bus.world g.B.Bus.step first _ _ _ _ _ c.push_reserved.ensures.items
-    (rw c.in_ok-reserve.ensures.items chain) refl)
-    refl
+pub returns-in_ok-reply-in-Submit-clause-ok : goal.returns-in_ok-reply-in-Submit-clause-ok
+returns-in_ok-reply-in-Submit-clause-ok g c =
+    let order = c.in-Submit.order in
+    submitted g.B.Bus.step c.args.event.now _ _ _ c.args.trace.now.items _ _ order c.in-Submit.moment
+    c.in_ok-reply-in-Submit.reply c.in-Submit.is (rw c.copy.ensures.value at c.copy.ensures.valid)
+    (rw c.in_ok-reserve.ensures.items at (rw c.copy-in-Submit.ensures.value at c.push_reserved.ensures.items))
+    (rw c.id.ensures at c.push_reserved-in-Submit.ensures.items)
+    (rw c.copy.ensures.value at c.in_ok-reply-in-Submit.ensures.described)
+    (rw c.copy.ensures.value at c.in_ok-reply-in-Submit.ensures.follows)
 
-pub returns-in-Some-clause-leads : goal.returns-in-Some-clause-leads
-returns-in-Some-clause-leads g c = λ first chain.
-    pushed g.B.Bus.world g.B.Bus.step first _ _ _ _ _ c.push_reserved-in-Some.ensures.items
-    (rw c.in_ok-reserve.ensures.items chain) c.in-Some.ensures.moves
+pub returns-in-Some-clause-ok : goal.returns-in-Some-clause-ok
+returns-in-Some-clause-ok g c =
+    stepped g.B.Bus.step c.args.event.now _ _ _ _ c.args.trace.now.items _ c.in-Some.happening c.in-Step.is
+    (rw c.in_ok-reserve.ensures.items at c.push_reserved-in-Some.ensures.items)
+    c.in-Some.ensures.work c.in-Some.ensures.proper c.in-Some.ensures.orders c.in-Some.ensures.moves
+    (λ start past d. c.advance.ensures.busy start past d ∙ ap is_some c.in-Some.is)
+    c.in-Some.ensures.described c.in-Some.ensures.follows
 
-pub loaded_again-requires : goal.loaded_again-requires
-loaded_again-requires g c = cut_of_none
+pub returns-after-branch-4-clause-ok : goal.returns-after-branch-4-clause-ok
+returns-after-branch-4-clause-ok g c =
+    let after = c.push_reserved-in-Stop.new.self.items in
+    let kept = c.in_ok-entry-in-Stop.field-0 in
+    let longer : reverse after ≡ stopped_after kept (reverse c.args.trace.now.items) =
+    elim c.match-branch-4.branch [
+      | in-Some-2 w ↦ rw w.in-Some-2.is (two_more c.args.trace.now.items _ after _ Stopped
+          (rw c.in_ok-reserve.ensures.items at w.push_reserved-in-Some-2.ensures.items)
+          (rw w.trace-is at c.push_reserved-in-Stop.ensures.items))
+      | in_default-2 w ↦ rw w.in_default-2.is (one_more c.args.trace.now.items after Stopped
+          (rw c.in_ok-reserve.ensures.items at (rw w.trace-is at c.push_reserved-in-Stop.ensures.items)))
+    ] in
+    stopped g.B.Bus.step c.args.event.now c.in-Stop.bytes _ _ _ c.args.trace.now.items after kept c.in-Stop.is longer
+    c.in_ok-entry-in-Stop.ensures
 
-pub returns-in_ok-journal-in-Some-keep_within-clause-described :
-    goal.returns-in_ok-journal-in-Some-keep_within-clause-described
-returns-in_ok-journal-in-Some-keep_within-clause-described g c = λ start d.
-    let kept = c.in-Some-keep_within.ensures.described start (reverse c.args.trace.now.items) d in
-    let again = c.in_ok-journal-in-Some-keep_within.ensures in
-    let mine = c.journal.ensures in
-    let stopped =
-    c.new.ensures.stopped start (Kept c.in-Some-keep_within.entry ∷ reverse c.args.trace.now.items)
-    c.keep_within.new.writer kept
-    (sym (again.0 ∙ ap (λ (j : JournalState). j.records) mine))
-    (sym (again.1 ∙ ap (λ (j : JournalState). j.limit) mine)) in
-    onto_stop start c.new.result _ _ _ c.in-Some-keep_within.entry c.push_reserved-in-Some-keep_within.ensures.items
-    c.push_reserved-in-Some-keep_within-2.ensures.items (rw c.in_ok-reserve.ensures.items stopped)
-
-pub returns-in_ok-journal-in-Some-keep_within-clause-follows :
-    goal.returns-in_ok-journal-in-Some-keep_within-clause-follows
-returns-in_ok-journal-in-Some-keep_within-clause-follows g c = λ start d f.
-    let kept = c.in-Some-keep_within.ensures.follows start (reverse c.args.trace.now.items) d f in
-    let stopped =
-    c.new.ensures.stopped_follows start (Kept c.in-Some-keep_within.entry ∷ reverse c.args.trace.now.items)
-    c.keep_within.new.writer kept in
-    all_onto_stop (λ past. Follows start past c.new.result) _ _ _ c.in-Some-keep_within.entry
-    c.push_reserved-in-Some-keep_within.ensures.items
-    c.push_reserved-in-Some-keep_within-2.ensures.items (rw c.in_ok-reserve.ensures.items stopped)
-
-pub returns-in_ok-journal-in-Some-keep_within-clause-leads : goal.returns-in_ok-journal-in-Some-keep_within-clause-leads
-returns-in_ok-journal-in-Some-keep_within-clause-leads g c = λ first chain.
-    pushed g.B.Bus.world g.B.Bus.step first _ _ _ _ _ c.push_reserved-in-Some-keep_within-2.ensures.items
-    (pushed g.B.Bus.world g.B.Bus.step first _ _ _ _ _ c.push_reserved-in-Some-keep_within.ensures.items
-    (rw c.in_ok-reserve.ensures.items chain) refl)
-    refl
-
-pub returns-in_ok-journal-in-None-clause-leads : goal.returns-in_ok-journal-in-None-clause-leads
-returns-in_ok-journal-in-None-clause-leads g c = λ first chain.
-    pushed g.B.Bus.world g.B.Bus.step first _ _ _ _ _ c.push_reserved-in-None.ensures.items
-    (rw c.in_ok-reserve.ensures.items chain) refl
-
-pub returns-in_ok-journal-in-Some-keep_within-clause-part : goal.returns-in_ok-journal-in-Some-keep_within-clause-part
-returns-in_ok-journal-in-Some-keep_within-clause-part g c = λ start d f.
-    let next =
-    c.in-Some-keep_within.ensures.next start (reverse c.args.trace.now.items) d f c.in-Some-keep_within.entry in
-    stop_kept start c.args.event.now c.in-Stop.bytes c.args.trace.now.items _ _ c.in-Some-keep_within.entry c.in-Stop.is
-    (rw c.in_ok-reserve.ensures.items at c.push_reserved-in-Some-keep_within.ensures.items)
-    c.push_reserved-in-Some-keep_within-2.ensures.items
-    (next.0 c.in-Some-keep_within.ensures.wanted) c.in-Some-keep_within.ensures.few
-
-pub returns-in_ok-journal-in-None-clause-described : goal.returns-in_ok-journal-in-None-clause-described
-returns-in_ok-journal-in-None-clause-described g c = λ start d.
-    let again = c.in_ok-journal-in-None.ensures in
-    let before : Describes start (reverse c.args.trace.now.items) c.keep_within.new.writer =
-    rw (c.in-None.ensures.same refl) d in
-    let stopped =
-    c.new-in-None.ensures.stopped start (reverse c.args.trace.now.items) c.keep_within.new.writer before (sym again.0)
-    (sym again.1) in
-    onto start c.new-in-None.result _ _ _ c.push_reserved-in-None.ensures.items
-    (rw c.in_ok-reserve.ensures.items stopped)
-
-pub returns-in_ok-journal-in-None-clause-follows : goal.returns-in_ok-journal-in-None-clause-follows
-returns-in_ok-journal-in-None-clause-follows g c = λ start d f.
-    let before : Follows start (reverse c.args.trace.now.items) c.keep_within.new.writer =
-    rw (c.in-None.ensures.same refl) f in
-    let stopped =
-    c.new-in-None.ensures.stopped_follows start (reverse c.args.trace.now.items) c.keep_within.new.writer before in
-    all_onto (λ past. Follows start past c.new-in-None.result) _ _ Stopped c.push_reserved-in-None.ensures.items
-    (rw c.in_ok-reserve.ensures.items stopped)
-
-pub returns-in_ok-journal-in-None-clause-part : goal.returns-in_ok-journal-in-None-clause-part
-returns-in_ok-journal-in-None-clause-part g c = λ start d f.
-    stop_cut start c.args.event.now c.in-Stop.bytes c.args.trace.now.items _ c.in-Stop.is
-    (rw c.in_ok-reserve.ensures.items at c.push_reserved-in-None.ensures.items)
-    (λ entry next.
-    c.in-None.ensures.cut refl entry ((c.in-None.ensures.next start (reverse c.args.trace.now.items) d f entry).1 next))
-
-pub returns-in-Power-clause-leads : goal.returns-in-Power-clause-leads
-returns-in-Power-clause-leads g c = λ first chain.
-    pushed g.B.Bus.world g.B.Bus.step first _ _ _ _ _ c.push_reserved-in-Power.ensures.items
-    (rw c.in_ok-reserve.ensures.items chain) c.power.ensures
+pub returns-in-Power-clause-ok : goal.returns-in-Power-clause-ok
+returns-in-Power-clause-ok g c =
+    lost_power g.B.Bus.step c.args.event.now _ _ _ c.args.trace.now.items _ c.in-Power.address c.in-Power.is
+    (rw c.in_ok-reserve.ensures.items at c.push_reserved-in-Power.ensures.items)
+    c.power.ensures

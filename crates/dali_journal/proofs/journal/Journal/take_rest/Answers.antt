@@ -1,4 +1,4 @@
-use Rattle.std.proofs.Common.{◌+◌, ◌++◌, ◌∙◌, subst, drop, List, ℕ, length}
+use Rattle.std.proofs.Common.{◌+◌, ◌++◌, ◌∙◌, subst, drop, List, ℕ}
 use Rattle.dali_journal.specs.declared.read.Piece.TheVariants.{Bad}
 use Rattle.dali_journal.specs.Spelling.{journal_spelling}
 use Rattle.dali_journal.specs.Reading.{IsRead, BeginsWith}

@@ -2,6 +2,7 @@ use Rattle.std.proofs.Common.{sym}
 use Rattle.dali_writer.proofs.KeepLemmas.{ready_checked, ready_written, ready_closed, check_falls, keeps_begun}
 use Rattle.dali_writer.proofs.KeepLemmas.{keeps_checked, keeps_written, keeps_closed}
 use Rattle.dali_writer.proofs.FollowLemmas.{begun_follows, checked_follows, written_follows, closed_follows}
+use Rattle.dali_writer.proofs.KeepNeverLemmas.{checks_keep_none, writes_keep_none}
 use Rattle.dali_writer.proofs.writer.Writer.kept.Goals as goal
 
 pub invariant_of-self-in-Ended : goal.invariant_of-self-in-Ended
@@ -97,3 +98,43 @@ returns-in-Closes-clause-follows c = λ start past entry want d f.
     c.in-Closes.session entry
     c.in-Closes.ensures.value (rw (← c.self.view_is) at d) (rw (← c.self.view_is) at f) c.self.invariant.ready
     (rw (← c.self.view_is) at want)
+
+pub invariant_of-self-in_default : goal.invariant_of-self-in_default
+invariant_of-self-in_default c =
+    checks_keep_none c.self.inside.phase c.in-Checks.order c.in-Checks.session c.in_default.field-0 c.in-Checks.ensures.value
+    c.in_default.ensures.aim (rw (← c.self.view_is) at c.requires)
+
+pub returns-in_default-clause-falls : goal.returns-in_default-clause-falls
+returns-in_default-clause-falls c =
+    checks_keep_none c.self.inside.phase c.in-Checks.order c.in-Checks.session c.in_default.field-0 c.in-Checks.ensures.value
+    c.in_default.ensures.aim (rw (← c.self.view_is) at c.requires)
+
+pub returns-in_default-clause-described : goal.returns-in_default-clause-described
+returns-in_default-clause-described c =
+    checks_keep_none c.self.inside.phase c.in-Checks.order c.in-Checks.session c.in_default.field-0 c.in-Checks.ensures.value
+    c.in_default.ensures.aim (rw (← c.self.view_is) at c.requires)
+
+pub returns-in_default-clause-follows : goal.returns-in_default-clause-follows
+returns-in_default-clause-follows c =
+    checks_keep_none c.self.inside.phase c.in-Checks.order c.in-Checks.session c.in_default.field-0 c.in-Checks.ensures.value
+    c.in_default.ensures.aim (rw (← c.self.view_is) at c.requires)
+
+pub invariant_of-self-in_default-want : goal.invariant_of-self-in_default-want
+invariant_of-self-in_default-want c =
+    writes_keep_none c.self.inside.phase c.in-Writes.order c.in-Writes.session c.in_default-want.field-0 c.in-Writes.ensures.value
+    c.in_default-want.ensures.aim (rw (← c.self.view_is) at c.requires)
+
+pub returns-in_default-want-clause-falls : goal.returns-in_default-want-clause-falls
+returns-in_default-want-clause-falls c =
+    writes_keep_none c.self.inside.phase c.in-Writes.order c.in-Writes.session c.in_default-want.field-0 c.in-Writes.ensures.value
+    c.in_default-want.ensures.aim (rw (← c.self.view_is) at c.requires)
+
+pub returns-in_default-want-clause-described : goal.returns-in_default-want-clause-described
+returns-in_default-want-clause-described c =
+    writes_keep_none c.self.inside.phase c.in-Writes.order c.in-Writes.session c.in_default-want.field-0 c.in-Writes.ensures.value
+    c.in_default-want.ensures.aim (rw (← c.self.view_is) at c.requires)
+
+pub returns-in_default-want-clause-follows : goal.returns-in_default-want-clause-follows
+returns-in_default-want-clause-follows c =
+    writes_keep_none c.self.inside.phase c.in-Writes.order c.in-Writes.session c.in_default-want.field-0 c.in-Writes.ensures.value
+    c.in_default-want.ensures.aim (rw (← c.self.view_is) at c.requires)

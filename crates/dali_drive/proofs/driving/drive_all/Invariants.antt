@@ -5,7 +5,7 @@ use Rattle.dali_writer.specs.Held.{start_of, IsAtRest}
 use Rattle.dali_drive.specs.Transcript.{shown}
 use Rattle.dali_drive.specs.Driven.{orders_asked, at_moment}
 use Rattle.dali_drive.specs.WorkedOn.{IsDrivenAt}
-use Rattle.dali_drive.proofs.driving.drive.Given as goal
+use Rattle.dali_drive.proofs.driving.drive_all.Given as goal
 
 abbrev pub invariant-loop-order : goal.invariant-loop-order
 invariant-loop-order g l = record {

@@ -45,89 +45,12 @@ const TOP_HELP: &str = "\
 A file named - is standard input; not for `drive`, which has the answers there.
 `dali_bench --version` alone prints the version, and the logic that it is proved with.";
 
-const CHECK_ABOUT: &str = "Checks a file of orders and prints the bytes that each would write";
-
-const ORDERS_HELP: &str = "A JSON array of orders; /dev/stdin for standard input";
-
-const CHECK_FAULTS: &str = "\
-Faults of an order: 1 Unit (short address over 63), 2 Kind (value of another kind),
-3 Range (number out of range), 4 Gtin (length or check digit), 5 Text (length or character,
-or no 16 hexadecimal digits), 7 Voltage (minimum over maximum), 8 Empty (no field),
-9 Shape (no object, or order or unit is missing or no whole number), 10 Key (unknown key).
-Faults of the file: 11 Json, 12 Document (no array), 13 TooBig (over 16777216 bytes),
-20 Memory, 21 File (can't be opened or read).
-Exit status: 0 all accepted, 1 something refused, 2 a file, the memory or the output failed.";
-
-const RUN_ABOUT: &str = "Runs the events of a scenario on simulated units and prints what happened";
-
-const SCENARIO_HELP: &str =
-    "A JSON object of limit, units, fates and events; /dev/stdin for standard input";
-
 const FRAMES_HELP: &str = "Prints a line for each frame, with its answer";
-
-const RUN_FAULTS: &str = "\
-Keys of a unit: address, bank, fixed, dtr; of a fate: times, lost, answer_lost, refuse;
-of an event: submit with or without moment, steps, stop or power.
-Faults of the file: 11 Json, 12 Document (an unknown key, or another form), 13 TooBig (over 16777216
-bytes, 20000 events or 20000 fates), 20 Memory, 21 File (can't be opened or read).
-Faults of a unit: 1 Address (over 63), 2 Size (not 17 to 255 bytes, or 00h isn't the last location),
-3 Fixed (locations that don't rise, below 03h or past the last);
-of the units together: 5 SameAddress.
-Faults of a submitted order: as of `check`. Fault of the run: 1 Limit (0 or over 100000).
-Exit status: 0 it ran, 1 something refused, 2 a file, the memory or the output failed.";
-
-const FRAME_ABOUT: &str = "Prints what the word of a forward frame means";
-
-const HEX_HELP: &str = "Four hexadecimal digits, as A303";
-
-const FRAME_FAULTS: &str = "\
-Faults: 14 Hex (not four hexadecimal digits), 20 Memory.
-Exit status: 0 printed, 1 refused, 2 the memory or the output failed.";
-
-const SHOW_ABOUT: &str = "Prints what the bytes of a memory bank say";
-
-const HEXFILE_HELP: &str =
-    "The bytes as hexadecimal digits, location 00h first; /dev/stdin for standard input";
-
-const SHOW_FAULTS: &str = "\
-Faults of the file: 13 TooBig (over 4096 bytes of text, or over 255 bytes of the bank),
-14 Hex (no hexadecimal digits, or an odd number of them), 20 Memory, 21 File (can't be opened or read).
-Exit status: 0 printed, 1 refused, 2 a file, the memory or the output failed.";
-
-const JOURNAL_ABOUT: &str = "Prints the records of a writer's journal, and how much of it counts";
-
-const FILE_HELP: &str = "The journal's bytes; /dev/stdin for standard input";
-
-const JOURNAL_FAULTS: &str = "\
-Faults of the journal, with the place of the record, counted from 0: 3 Record (no record stands there),
-4 Sequence (the records before don't allow it), 5 Repeated (its order number was there),
-6 Full (over 100000 orders); without a place 7 Header (the first byte is 44h, and no whole header stands there).
-A record that is cut off at the end doesn't count, and is no fault.
-Faults of the file: 13 TooBig (over 33554432 bytes), 20 Memory, 21 File (can't be opened or read).
-Exit status: 0 printed, 1 refused, 2 a file, the memory or the output failed.";
-
-const DRIVE_ABOUT: &str =
-    "Carries out a file of orders over a link: standard output has the frames, standard input the answers";
-
-const DRIVE_ORDERS_HELP: &str = "A JSON array of orders, as for `check`";
 
 const DRIVE_JOURNAL_HELP: &str = "The writer's journal, which is made where there is none";
 
 const DRIVE_MOMENT_HELP: &str =
     "A whole number that is kept with each order that begins, as the seconds since 1970";
-
-const DRIVE_FAULTS: &str = "\
-Standard output has a line for each frame, four hexadecimal digits. For each, one line is read from standard
-input: two hexadecimal digits, or -- for no answer. Replies and faults go to standard error.
-Nothing is sent where an item is refused, with the faults of `check`, or where a file has a fault:
-of ORDERS 11 Json, 12 Document, 13 TooBig (over 16777216 bytes), of JOURNAL 13 TooBig (over 33554432 bytes)
-and those of `journal`; 20 Memory, 21 File (can't be opened, read, written anew or synced, or another drive has
-the journal). A journal that is empty or of version 1 is written anew, in version 2, before anything is sent.
-Faults of a drive: 1 Journal (can't be written), 2 Link (can't be read or written), 3 Line (no answer),
-4 End (no more answers), 6 TooLong (over 8 bytes in a line), 7 Out (standard error can't be written).
-After a fault the same command goes on from the journal.
-Exit status: 0 each order has its reply, whatever it says, 1 something refused, or 3 Line, 4 End, 6 TooLong,
-2 a file, the memory, the link or the output failed.";
 
 // A command with an argument that has to be there: its name, what it does and its faults, the argument's name and help.
 struct Usage<'a> {
@@ -140,50 +63,88 @@ struct Usage<'a> {
 
 static CHECK: Usage<'static> = Usage {
     name: "check",
-    about: CHECK_ABOUT,
+    about: "Checks a file of orders and prints the bytes that each would write",
     id: "ORDERS",
-    help: ORDERS_HELP,
-    faults: CHECK_FAULTS,
+    help: "A JSON array of orders; /dev/stdin for standard input",
+    faults: "\
+Faults of an order: 1 Unit (short address over 63), 2 Kind (value of another kind),
+3 Range (number out of range), 4 Gtin (length or check digit), 5 Text (length or character,
+or no 16 hexadecimal digits), 7 Voltage (minimum over maximum), 8 Empty (no field),
+9 Shape (no object, or order or unit is missing or no whole number), 10 Key (unknown key).
+Faults of the file: 11 Json, 12 Document (no array), 13 TooBig (over 16777216 bytes),
+20 Memory, 21 File (can't be opened or read).
+Exit status: 0 all accepted, 1 something refused, 2 a file, the memory or the output failed.",
 };
 
 static RUN: Usage<'static> = Usage {
     name: "run",
-    about: RUN_ABOUT,
+    about: "Runs the events of a scenario on simulated units and prints what happened",
     id: "SCENARIO",
-    help: SCENARIO_HELP,
-    faults: RUN_FAULTS,
+    help: "A JSON object of limit, units, fates and events; /dev/stdin for standard input",
+    faults: "\
+Keys of a unit: address, bank, fixed, dtr; of a fate: times, lost, answer_lost, refuse;
+of an event: submit with or without moment, steps, stop or power.
+Faults of the file: 11 Json, 12 Document (an unknown key, or another form), 13 TooBig (over 16777216
+bytes, 20000 events or 20000 fates), 20 Memory, 21 File (can't be opened or read).
+Faults of a unit: 1 Address (over 63), 2 Size (not 17 to 255 bytes, or 00h isn't the last location),
+3 Fixed (locations that don't rise, below 03h or past the last);
+of the units together: 5 SameAddress.
+Faults of a submitted order: as of `check`. Fault of the run: 1 Limit (0 or over 100000).
+Exit status: 0 it ran, 1 something refused, 2 a file, the memory or the output failed.",
 };
 
 static FRAME: Usage<'static> = Usage {
     name: "frame",
-    about: FRAME_ABOUT,
+    about: "Prints what the word of a forward frame means",
     id: "HEX",
-    help: HEX_HELP,
-    faults: FRAME_FAULTS,
+    help: "Four hexadecimal digits, as A303",
+    faults: "\
+Faults: 14 Hex (not four hexadecimal digits), 20 Memory.
+Exit status: 0 printed, 1 refused, 2 the memory or the output failed.",
 };
 
 static SHOW: Usage<'static> = Usage {
     name: "show",
-    about: SHOW_ABOUT,
+    about: "Prints what the bytes of a memory bank say",
     id: "HEXFILE",
-    help: HEXFILE_HELP,
-    faults: SHOW_FAULTS,
+    help: "The bytes as hexadecimal digits, location 00h first; /dev/stdin for standard input",
+    faults: "\
+Faults of the file: 13 TooBig (over 4096 bytes of text, or over 255 bytes of the bank),
+14 Hex (no hexadecimal digits, or an odd number of them), 20 Memory, 21 File (can't be opened or read).
+Exit status: 0 printed, 1 refused, 2 a file, the memory or the output failed.",
 };
 
 static JOURNAL: Usage<'static> = Usage {
     name: "journal",
-    about: JOURNAL_ABOUT,
+    about: "Prints the records of a writer's journal, and how much of it counts",
     id: "FILE",
-    help: FILE_HELP,
-    faults: JOURNAL_FAULTS,
+    help: "The journal's bytes; /dev/stdin for standard input",
+    faults: "\
+Faults of the journal, with the place of the record, counted from 0: 3 Record (no record stands there),
+4 Sequence (the records before don't allow it), 5 Repeated (its order number was there),
+6 Full (over 100000 orders); without a place 7 Header (the first byte is 44h, and no whole header stands there).
+A record that is cut off at the end doesn't count, and is no fault.
+Faults of the file: 13 TooBig (over 33554432 bytes), 20 Memory, 21 File (can't be opened or read).
+Exit status: 0 printed, 1 refused, 2 a file, the memory or the output failed.",
 };
 
 static DRIVE: Usage<'static> = Usage {
     name: "drive",
-    about: DRIVE_ABOUT,
+    about: "Carries out a file of orders over a link: standard output has the frames, standard input the answers",
     id: "ORDERS",
-    help: DRIVE_ORDERS_HELP,
-    faults: DRIVE_FAULTS,
+    help: "A JSON array of orders, as for `check`",
+    faults: "\
+Standard output has a line for each frame, four hexadecimal digits. For each, one line is read from standard
+input: two hexadecimal digits, or -- for no answer. Replies and faults go to standard error.
+Nothing is sent where an item is refused, with the faults of `check`, or where a file has a fault:
+of ORDERS 11 Json, 12 Document, 13 TooBig (over 16777216 bytes), of JOURNAL 13 TooBig (over 33554432 bytes)
+and those of `journal`; 20 Memory, 21 File (can't be opened, read, written anew or synced, or another drive has
+the journal). A journal that is empty or of version 1 is written anew, in version 2, before anything is sent.
+Faults of a drive: 1 Journal (can't be written), 2 Link (can't be read or written), 3 Line (no answer),
+4 End (no more answers), 6 TooLong (over 8 bytes in a line), 7 Out (standard error can't be written).
+After a fault the same command goes on from the journal.
+Exit status: 0 each order has its reply, whatever it says, 1 something refused, or 3 Line, 4 End, 6 TooLong,
+2 a file, the memory, the link or the output failed.",
 };
 
 /// Reads the command line, the program's name first.

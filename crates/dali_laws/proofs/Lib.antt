@@ -16,6 +16,7 @@ pub mod RunLossLemmas
 pub mod SparedLemmas
 pub mod ValidLemmas
 pub mod OnsetLemmas
+pub mod SaidAsDueLemmas
 pub mod StepsLemmas
 pub mod AgreeLemmas
 pub mod PoweredLemmas

@@ -260,22 +260,25 @@ said_spared start zero first (Answered id reply ∷ Asked order moment ∷ past)
 said_spared start zero first (Answered id reply ∷ past) last [] none legal planned chain asks each = absurd chain
 said_spared start zero first (Answered id (replies.Kept code) ∷ past) last (state ∷ states) none legal planned chain
     asks each =
-    λ order bank hand idle has kind powered few takes.
+    λ order bank hand little.
     let left_one = named_unit (stood_at start past) in
-    let since = since_start order.unit left_one first past state states chain.1 powered in
+    let since = since_start order.unit left_one first past state states chain.1 little.powered in
     let valid = hand_valid start past order none legal.0 asks.1 hand in
     let said = said_end start past id code legal.0 planned.0 legal.1 in
     let whole =
     starts_whole (IsAnother order.unit left_one) (sent_since_taken past) (state_at_start past state states) state
     since.run (ended_sent (stood_at start past) said.0 code (sent_since_taken past) said.3) in
-    let start_is = onset start zero past state states order.unit bank none legal.0 each.1 whole has in
-    kept_spared start past id code state states legal.0 planned.0 legal.1 order bank since hand valid idle
-    start_is kind few (λ due. takes_all bank order.updates start_is.whole valid (takes due) due)
+    let start_is = onset start zero past state states order.unit bank none legal.0 each.1 whole little.there in
+    let end =
+    kept_spared start past id code state states legal.0 planned.0 legal.1 order bank since hand valid little.taken
+    start_is little.unrefused little.few
+    (λ due. takes_all bank order.updates start_is.whole valid (little.free due) due) in
+    record { reply_is = end.0; few_misses = end.1 }
 said_spared start zero first (Answered id (replies.Blocked left) ∷ past) last (state ∷ states) none legal planned chain
     asks each =
-    λ order bank hand idle has kind powered few takes.
+    λ order bank hand little.
     let left_one = named_unit (stood_at start past) in
-    let since = since_start order.unit left_one first past state states chain.1 powered in
+    let since = since_start order.unit left_one first past state states chain.1 little.powered in
     let never =
     blocked_never (stood_at start past) (standing_at start past) (waiting past) (has_ended past)
     (orders_of (records_of start past)) (sent_since_taken past) (told_in past) (kept_since past)
@@ -284,7 +287,8 @@ said_spared start zero first (Answered id (replies.Blocked left) ∷ past) last 
     starts_whole (IsAnother order.unit left_one) (sent_since_taken past) (state_at_start past state states) state
     since.run (blocked_sent left (sent_since_taken past) never.1) in
     absurd (blocked_spared start past id left state states legal.0 planned.0 legal.1 planned.1 order.unit bank since
-    (onset start zero past state states order.unit bank none legal.0 each.1 whole has) kind few)
+    (onset start zero past state states order.unit bank none legal.0 each.1 whole little.there) little.unrefused
+    little.few)
 said_spared start zero first (Answered id reply ∷ past) last (state ∷ states) none legal planned chain asks each =
     absurd legal.1
 

@@ -7,10 +7,10 @@ use Rattle.dali_trace.specs.declared.happening.Happening.{Happening}
 use Rattle.dali_trace.specs.declared.happening.Happening.TheVariants.{Asked, Answered, Sent, Kept, Stopped, Powered}
 use Rattle.dali_trace.specs.Trace.{Start, records_of, sent_of, sent_since_taken, course_of, replied, next_course}
 use Rattle.dali_trace.specs.Trace.{Course, Quiet}
-use Rattle.dali_trace.specs.Legal.{MayHappen, MayFollow, Legal}
+use Rattle.dali_trace.specs.Legal.{MayHappen, MayFollow, Legal, IsFinished}
 use Rattle.dali_trace.specs.ByPlan.{told_in, IsPlanned, ByPlan}
 use Rattle.dali_laws.specs.Powered.{unpowered, IsPowerApart}
-use Rattle.dali_laws.proofs.AgreeLemmas.{Agree, happens_too, replies_too, planned_too}
+use Rattle.dali_laws.proofs.AgreeLemmas.{Agree, happens_too, replies_too, planned_too, may_happen, said_quiet}
 
 -- Each function of a trace passes over them
 
@@ -52,12 +52,8 @@ same_told (Stopped ∷ past) = refl
 same_told (Asked order moment ∷ past) = same_told past
 same_told (Answered id other ∷ past) = same_told past
 
--- no order is the newest
-abbrev NotAsked : List Happening → Type 0
-NotAsked (Asked order moment ∷ past) = ⊥
-NotAsked past = Unit {0}
-
-not_asked : (address : ℕ) (past : List Happening) → IsPowerApart (Powered address ∷ past) → NotAsked (unpowered past)
+-- no reply is due then, with or without the losses
+not_asked : (address : ℕ) (past : List Happening) → IsPowerApart (Powered address ∷ past) → IsFinished (unpowered past)
 not_asked address [] apart = tt
 not_asked address (Asked order moment ∷ past) apart = absurd apart
 not_asked address (Powered other ∷ past) apart = not_asked other past apart
@@ -65,28 +61,6 @@ not_asked address (Answered id reply ∷ past) apart = tt
 not_asked address (Sent frame answer ∷ past) apart = tt
 not_asked address (Kept entry ∷ past) apart = tt
 not_asked address (Stopped ∷ past) apart = tt
-
--- so what is said then is no reply
-said_quiet : (id : ℕ) (reply : Reply) (past : List Happening) → NotAsked past
-    → Quiet ≡ course_of (Answered id reply ∷ past)
-said_quiet id reply [] none = refl
-said_quiet id reply (Asked order moment ∷ past) none = absurd none
-said_quiet id reply (Answered other last ∷ past) none = refl
-said_quiet id reply (Sent frame answer ∷ past) none = refl
-said_quiet id reply (Kept entry ∷ past) none = refl
-said_quiet id reply (Stopped ∷ past) none = refl
-said_quiet id reply (Powered address ∷ past) none = refl
-
--- and what may follow may happen
-happens_next : (start : Start) (past : List Happening) (next : Happening) → NotAsked past → MayFollow start past next
-    → MayHappen start past next
-happens_next start [] next none may = may
-happens_next start (Asked order moment ∷ past) next none may = absurd none
-happens_next start (Answered id reply ∷ past) next none may = may
-happens_next start (Sent frame answer ∷ past) next none may = may
-happens_next start (Kept entry ∷ past) next none may = may
-happens_next start (Stopped ∷ past) next none may = may
-happens_next start (Powered address ∷ past) next none may = may
 
 -- a part of the trace
 older_apart : (next : Happening) (past : List Happening) → IsPowerApart (next ∷ past) → IsPowerApart past
@@ -139,7 +113,7 @@ follows start (Asked order moment ∷ past) next apart may =
 follows start (Powered address ∷ past) next apart may =
     happens_too start start (Powered address ∷ past) (unpowered past) next
     (agrees start (Powered address ∷ past) apart)
-    (happens_next start (unpowered past) next (not_asked address past apart) may)
+    (may_happen start (unpowered past) next (not_asked address past apart) may)
 follows start (Answered id reply ∷ past) next apart may =
     happens_too start start (Answered id reply ∷ past) (Answered id reply ∷ unpowered past) next
     (agrees start (Answered id reply ∷ past) apart) may

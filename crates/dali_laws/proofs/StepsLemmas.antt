@@ -1,6 +1,7 @@
 -- Steps lead to what is said of an order.
 use Rattle.std.proofs.Common.{◌≡◌, ◌⊎◌, inl, inr, refl, sym, ap, ◌∙◌, subst, ℕ, suc, ◌+◌, ◌≤◌, Bool, true, false, ◌||◌}
 use Rattle.std.proofs.Common.{List, [], ◌∷◌, ◌++◌, length, Option, Some, None, IfSome, IsSome, arith}
+use Rattle.std.proofs.lemmas.List.{append_assoc}
 use Rattle.dali_bank.specs.Order.{Contents}
 use Rattle.dali_journal.specs.declared.record.Code.{Code}
 use Rattle.dali_journal.specs.declared.record.Record.{Record}
@@ -23,7 +24,8 @@ use Rattle.dali_trace.specs.Legal.{Legal, MaySay, HasNumber, IsFinished}
 use Rattle.dali_trace.specs.ByPlan.{ByPlan}
 use Rattle.dali_trace.specs.Parts.{IsWork, Part, AreParts}
 use Rattle.dali_trace.specs.Work.{stood_at, kept_since, work_limit, order_at, order_at_hand, IsWithinLimit}
-use Rattle.dali_trace.specs.Steps.{steps_in, NoneStops, IsSaid, PartsSince, IsSaidInTime, SaysInTime}
+use Rattle.dali_trace.specs.Steps.{steps_in, NoneStops, IsSaid, PartsSince, IsSaidInTime, SaysInTime, IsCut}
+use Rattle.dali_trace.specs.Steps.{HasStepsEnough}
 use Rattle.dali_laws.proofs.TakenLemmas.{ended_unsaid, waits_unsaid}
 use Rattle.dali_laws.proofs.MomentLemmas.{may_keep}
 use Rattle.dali_laws.proofs.StandingLemmas.{begun_order, open_order}
@@ -353,8 +355,8 @@ within_at start past order within hand = by (order_at_hand start past) hand with
 
 pub said_in_time : (start : Start) (before after : List Happening) → Legal start after → ByPlan start after
     → IsFinished before → IsSaidInTime start before after
-said_in_time start before after legal planned finished = λ events order parts hand none many.
-    by events order many (goes_on start before order events after finished hand parts none legal planned)
+said_in_time start before after legal planned finished = λ events order parts enough.
+    by events order enough.2 (goes_on start before order events after finished enough.0 parts enough.1 legal planned)
   where
     by : (events : List Event) (order : Contents) → work_limit (length order.updates) + 5 ≤ steps_in events
         → GoesOn start before after order (steps_in events)
@@ -375,6 +377,40 @@ split_parts : (start : Start) (newer older : List Event) (trace : List Happening
 split_parts start [] older trace parts = (trace, parts, refl)
 split_parts start (event ∷ newer) older trace (mid, part, rest) =
     let split = split_parts start newer older mid rest in (split.0, split.1, (mid, part, split.2))
+
+cut_parts : (start : Start) (newer middle older : List Event) (trace : List Happening)
+    → AreParts start (newer ++ (middle ++ older)) trace → IsCut start newer middle older trace
+cut_parts start newer middle older trace parts =
+    let behind = split_parts start newer (middle ++ older) trace parts in
+    let before = split_parts start middle older behind.0 behind.1 in
+    record {
+      before = before.0;
+      behind = behind.0;
+      older_parts = before.1;
+      middle_parts = before.2;
+      newer_parts = behind.2;
+    }
+
+-- what newer events added stands in front of the trace before them
+part_adds : (start : Start) (event : Event) (before after : List Happening) → Part start event before after
+    → (more : List Happening) × (after ≡ more ++ before)
+part_adds start (Submit order moment) before after (reply, same) =
+    (Answered order.id reply ∷ Asked order moment ∷ [], same)
+part_adds start Step before after (inl (due, (work, is, same))) = (work ∷ [], same)
+part_adds start Step before after (inr (due, same)) = ([], same)
+part_adds start (Stop bytes) before after (inl (same, none)) = (Stopped ∷ [], same)
+part_adds start (Stop bytes) before after (inr (entry, next, few, same)) = (Stopped ∷ Kept entry ∷ [], same)
+part_adds start (Power address) before after same = (Powered address ∷ [], same)
+
+pub parts_add : (start : Start) (events : List Event) (before after : List Happening)
+    → PartsSince start events before after → (more : List Happening) × (after ≡ more ++ before)
+parts_add start [] before after same = ([], same)
+parts_add start (event ∷ events) before after (mid, part, rest) =
+    let newest = part_adds start event mid after part in
+    let older = parts_add start events before mid rest in (
+      newest.0 ++ older.0,
+      newest.1 ∙ ap (λ (t : List Happening). newest.0 ++ t) older.1 ∙ sym (append_assoc newest.0 older.0 before),
+    )
 
 part_finished : (start : Start) (event : Event) (before after : List Happening) → Part start event before after
     → IsFinished before → IsFinished after
@@ -399,15 +435,31 @@ parts_finished start [] trace same = subst IsFinished (sym same) tt
 parts_finished start (event ∷ events) trace (before, part, rest) =
     part_finished start event before trace part (parts_finished start events before rest)
 
-pub says_in_time : (start : Start) (events newer older : List Event) (trace : List Happening) → Legal start trace
-    → ByPlan start trace → AreParts start events trace → events ≡ newer ++ older
-    → SaysInTime start newer older trace
-says_in_time start events newer older trace legal planned parts same =
-    let split = split_parts start newer older trace (subst (λ (es : List Event). AreParts start es trace) same parts) in
-    let finished = parts_finished start older split.0 split.1 in (
-      split.0,
-      split.1,
-      split.2,
-      λ order hand none many.
-          said_in_time start split.0 trace legal planned finished newer order split.2 hand none many,
-    )
+pub cut_of : (start : Start) (events newer middle older : List Event) (trace : List Happening)
+    → AreParts start events trace → events ≡ newer ++ (middle ++ older) → IsCut start newer middle older trace
+cut_of start events newer middle older trace parts same =
+    cut_parts start newer middle older trace (subst (λ (es : List Event). AreParts start es trace) same parts)
+
+-- the trace behind the middle ones is legal and by plan, as the whole is
+pub older_rules : (start : Start) (more past : List Happening) → Legal start (more ++ past) → ByPlan start (more ++ past)
+    → Legal start past × ByPlan start past
+older_rules start [] past legal planned = (legal, planned)
+older_rules start (next ∷ more) past legal planned = older_rules start more past legal.0 planned.0
+
+pub says_in_cut : (start : Start) (newer middle older : List Event) (trace : List Happening) → Legal start trace
+    → ByPlan start trace → (cut : IsCut start newer middle older trace)
+    → (order : Contents) → HasStepsEnough start cut.before middle order
+    → IsSaid start order cut.before cut.behind
+says_in_cut start newer middle older trace legal planned cut order enough =
+    let added = parts_add start newer cut.behind trace cut.newer_parts in
+    let rules =
+    older_rules start added.0 cut.behind (subst (Legal start) added.1 legal) (subst (ByPlan start) added.1 planned) in
+    said_in_time start cut.before cut.behind rules.0 rules.1 (parts_finished start older cut.before cut.older_parts)
+    middle order cut.middle_parts enough
+
+pub says_in_time : (start : Start) (events newer middle older : List Event) (trace : List Happening)
+    → Legal start trace → ByPlan start trace → AreParts start events trace → events ≡ newer ++ (middle ++ older)
+    → SaysInTime start newer middle older trace
+says_in_time start events newer middle older trace legal planned parts same =
+    let cut = cut_of start events newer middle older trace parts same in
+    (cut, says_in_cut start newer middle older trace legal planned cut)

@@ -58,14 +58,17 @@ abbrev pub QuietUntilTaken : Type 0
 QuietUntilTaken = (start : Start) (past more : List Happening)
     → Legal start (more ++ past) → is_busy start past ≡ false → NoneTaken more → NothingIsDone start more past
 
--- After an order that gets another reply than Taken, as each repeat does, just that may come next which might before,
--- and the plan asks for just that. Anything may be at work.
+-- An order that gets another reply than Taken, as each repeat does, changes nothing, wherever it stands in a trace and
+-- whatever is at work: just that may come next, behind whatever came after it, which might without it, and the plan
+-- asks for just that.
 abbrev pub RefusedOrdersChangeNothing : Type 0
 RefusedOrdersChangeNothing =
-    (start : Start) (past : List Happening) (order : Contents) (moment : ℕ) (reply : Reply) (next : Happening)
+    (start : Start) (past more : List Happening) (order : Contents) (moment : ℕ) (reply : Reply) (next : Happening)
     → IsFinished past → reply ≢ replies.Taken
-    → (MayFollow start (Answered order.id reply ∷ Asked order moment ∷ past) next ↔ MayFollow start past next)
-    × (IsPlanned start (Answered order.id reply ∷ Asked order moment ∷ past) next ↔ IsPlanned start past next)
+    → (MayFollow start (more ++ Answered order.id reply ∷ Asked order moment ∷ past) next
+    ↔ MayFollow start (more ++ past) next)
+    × (IsPlanned start (more ++ Answered order.id reply ∷ Asked order moment ∷ past) next
+    ↔ IsPlanned start (more ++ past) next)
 
 -- where a trace isn't busy, nothing is done by the repeat of an order that has ended, nor from there until an order
 -- is taken

@@ -4,6 +4,8 @@ pub mod WorkedWorkLemmas
 pub mod WorkedStepLemmas
 pub mod NewUnitLemmas
 pub mod WorkedLossLemmas
+pub mod WorkedBusLemmas
+pub mod WorkedEndLemmas
 pub mod RefusedLemmas
 pub mod LeftLemmas
 pub mod BlankLemmas

@@ -1,10 +1,10 @@
 -- New units: the lock bytes of the banks from 2 up are FFh.
-use Rattle.std.proofs.Common.{◌≡◌, refl, sym, ℕ, ◌≤◌, Bool, true, false, ◌==◌, ◌||◌, if◌then◌else◌, ◌∷◌, Option, Some}
+use Rattle.std.proofs.Common.{◌≡◌, refl, sym, ℕ, ◌≤◌, Bool, true, false, ◌==◌, ◌||◌, if◌then◌else◌, ◌∷◌, Some}
 use Rattle.std.proofs.Common.{None, arith}
 use Rattle.std.specs.Prelude.{replicate, slice_get}
 use Rattle.std.proofs.lemmas.Bool.{eqb-true}
 use Rattle.dali_bus.specs.World.{byte_in}
-use Rattle.dali_gear.specs.UnitState.{BankState, UnitState, gear_of}
+use Rattle.dali_gear.specs.UnitState.{UnitState, gear_of}
 
 pub new_locked : (unit : UnitState) (bank byte : ℕ) → unit.bank2.bytes ≡ 0x0F ∷ replicate 15 0xFF → 2 ≤ bank
     → byte_in (Some (gear_of unit)) bank 2 ≡ Some byte → byte ≡ 0xFF

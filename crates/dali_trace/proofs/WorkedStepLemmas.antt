@@ -7,7 +7,7 @@ use Rattle.dali_journal.specs.declared.record.Code.TheVariants as codes
 use Rattle.dali_journal.specs.declared.standing.Standing.TheVariants as standings
 use Rattle.dali_trace.specs.declared.happening.Reply.TheVariants as replies
 use Rattle.dali_trace.specs.declared.happening.Event.{Event}
-use Rattle.dali_trace.specs.declared.happening.Event.TheVariants.{Submit, Step, Stop}
+use Rattle.dali_trace.specs.declared.happening.Event.TheVariants.{Submit, Step, Stop, Power}
 use Rattle.dali_trace.specs.declared.happening.Happening.{Happening}
 use Rattle.dali_trace.specs.declared.happening.Happening.TheVariants.{Asked, Answered, Stopped}
 use Rattle.dali_trace.specs.Trace.{Start}
@@ -36,19 +36,28 @@ submits_are_none = tt
 pub a_stop_is_one : NoneStops (Step ∷ Stop 0 ∷ Step ∷ []) → ⊥
 a_stop_is_one none = none
 
-pub says_by_then : (n : ℕ) (trace : List Happening) → 1237 ≤ n → SaysInTime at_work (replicate n Step) [] trace
-    → IsSaid at_work first_order [] trace
-says_by_then n trace many (before, older, newer, says) =
+-- a loss of power is none either
+pub losses_of_power_are_none : NoneStops (Step ∷ Power 5 ∷ Step ∷ [])
+losses_of_power_are_none = tt
+
+-- it is said by then, a loss of power among the steps, whatever is behind them: a stop too
+pub says_by_then : (n : ℕ) (newer : List Event) (trace : List Happening) → 1237 ≤ n
+    → SaysInTime at_work newer (Power 5 ∷ replicate n Step) [] trace
+    → (behind : List Happening) × PartsSince at_work newer behind trace × IsSaid at_work first_order [] behind
+says_by_then n newer trace many (cut, says) =
     let count = count_steps n in
-    let at : order_at_hand at_work before ≡ Some first_order =
-    subst (λ (t : List Happening). order_at_hand at_work t ≡ Some first_order) (sym older) refl in
-    subst (λ (t : List Happening). IsSaid at_work first_order t trace) older
-    (says first_order at (none_stops n) (omega arith))
+    let at : order_at_hand at_work cut.before ≡ Some first_order =
+    subst (λ (t : List Happening). order_at_hand at_work t ≡ Some first_order) (sym cut.older_parts) refl in (
+      cut.behind,
+      cut.newer_parts,
+      subst (λ (t : List Happening). IsSaid at_work first_order t cut.behind) cut.older_parts
+          (says first_order (at, none_stops n, omega arith)),
+    )
 
 pub said_by_then : (n : ℕ) (trace : List Happening) → 1237 ≤ n → IsSaidInTime empty taken trace
     → PartsSince empty (replicate n Step) taken trace → IsSaid empty first_order taken trace
 said_by_then n trace many in_time parts =
-    let count = count_steps n in in_time (replicate n Step) first_order parts refl (none_stops n) (omega arith)
+    let count = count_steps n in in_time (replicate n Step) first_order parts (refl, none_stops n, omega arith)
 
 -- the parts of newer events behind those of older ones are the parts of all of them
 parts_join : (start : Start) (newer older : List Event) (before trace : List Happening) → AreParts start older before
@@ -58,9 +67,11 @@ parts_join start [] older before trace parts same =
 parts_join start (event ∷ newer) older before trace parts (mid, part, rest) =
     (mid, part, parts_join start newer older before mid parts rest)
 
-pub says_parts : (start : Start) (newer older : List Event) (trace : List Happening)
-    → SaysInTime start newer older trace → AreParts start (newer ++ older) trace
-says_parts start newer older trace (before, parts, since, says) = parts_join start newer older before trace parts since
+pub says_parts : (start : Start) (newer middle older : List Event) (trace : List Happening)
+    → SaysInTime start newer middle older trace → AreParts start (newer ++ (middle ++ older)) trace
+says_parts start newer middle older trace (cut, says) =
+    parts_join start newer (middle ++ older) cut.behind trace
+    (parts_join start middle older cut.before cut.behind cut.older_parts cut.middle_parts) cut.newer_parts
 
 -- where one happening was added, it is the saying; where two were, one of them is
 length_append : (xs ys : List Happening) → length (xs ++ ys) ≡ length xs + length ys

@@ -71,8 +71,8 @@ pub record IsRun {S : Type 0} (world : S → World) (step : S → BusEvent → S
   -- work than its limit, and is said in time
   pub planned : ByPlan (fresh limit) (reverse trace)
   pub worked : IsWorked (fresh limit) (reverse trace)
-  pub said : (newer older : List Event) → reverse all ≡ newer ++ older
-      → SaysInTime (fresh limit) newer older (reverse trace)
+  pub said : (newer middle older : List Event) → reverse all ≡ newer ++ (middle ++ older)
+      → SaysInTime (fresh limit) newer middle older (reverse trace)
   -- the trace is the joined parts of the events
   pub parts : AreParts (fresh limit) (reverse all) (reverse trace)
   -- the journal's bytes are those of the records that were kept, and its orders are the taken ones (which follows from

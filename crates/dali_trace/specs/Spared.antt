@@ -1,6 +1,6 @@
 -- Over the simulated bus: what is lost of an order's frames since its start, and how an order ends that loses little.
-use Rattle.std.specs.Prelude.{◌≡◌, ◌≢◌, ◌<◌, ◌≤◌, ℕ, ◌+◌, Bool, false, ◌||◌, ◌==◌, nat_lt, List, [], ◌∷◌, Option, Some}
-use Rattle.std.specs.Prelude.{None, slice_index, reverse, if◌then◌else◌}
+use Rattle.std.specs.Prelude.{◌≡◌, ◌≢◌, ◌<◌, ◌≤◌, ℕ, ◌+◌, Bool, false, ◌||◌, ◌==◌, nat_lt, List, [], ◌∷◌, ◌++◌}
+use Rattle.std.specs.Prelude.{Option, Some, None, length, slice_index, reverse, if◌then◌else◌}
 use Rattle.std.specs.List.{list_any}
 use Rattle.dali_frame.specs.declared.forward.Frame.{Frame}
 use Rattle.dali_bank.specs.Order.{Contents}
@@ -16,6 +16,7 @@ use Rattle.dali_write.specs.Tries.{most_tries}
 use Rattle.dali_write.specs.Losses.{is_loss}
 use Rattle.dali_write.specs.Successes.{HasBank, has_format}
 use Rattle.dali_write.specs.Misses.{misses_in}
+use Rattle.dali_trace.specs.declared.happening.Reply.{Reply}
 use Rattle.dali_trace.specs.declared.happening.Reply.TheVariants as replies
 use Rattle.dali_trace.specs.declared.happening.Event.{Event}
 use Rattle.dali_trace.specs.declared.happening.Happening.{Happening}
@@ -26,6 +27,7 @@ use Rattle.dali_trace.specs.Fits.{IsLockedAbove}
 use Rattle.dali_trace.specs.Moves.{MovesBy}
 use Rattle.dali_trace.specs.Runs.{fresh, IsRun}
 use Rattle.dali_trace.specs.Work.{stood_at, order_at_hand}
+use Rattle.dali_trace.specs.Steps.{IsSaid, IsCut, HasStepsEnough}
 
 -- the frame is a loss to the unit, or to the one that was left
 abbrev pub is_lost_to : ℕ → Option ℕ → SimState → Frame → Bool
@@ -85,20 +87,31 @@ abbrev pub NoneFixed : BankState → List (ℕ × ℕ) → Type 0
 NoneFixed bank [] = Unit {0}
 NoneFixed bank (update ∷ updates) = (list_any (λ fixed. fixed == update.0) bank.fixed ≡ false) × NoneFixed bank updates
 
--- What is said of an order that was taken, with no stop since. Where its unit is on the bus, its unit and a left one
--- keep their power, no fate refuses and little is lost: how it is to end, if none of its locations is fixed where they
--- are to be written; and the misses are no more than the losses.
+-- Little befell an order since its start: none was at work then, so it was taken and no stop came since. Its unit had
+-- this bank 1 then, no fate refused since, its unit and a left one kept their power, at most seven frames were losses
+-- to one of them, and none of its locations is fixed where they are to be written.
+pub record LosesLittle (start : Start) (order : Contents) (bank : BankState) (past : List Happening) (last : SimState)
+    (states : List SimState) : Type 0 where
+  pub taken : is_at_work (stood_at start past) ≡ false
+  pub there : HasBank order.unit bank (state_at_start past last states).units
+  pub unrefused : UnrefusedSince past states
+  pub powered : KeepsPowerSince order.unit (named_unit (stood_at start past)) past
+  pub few : losses_since order.unit (named_unit (stood_at start past)) past states < most_tries
+  pub free : due_code bank.bytes order.updates ≡ codes.Done → NoneFixed bank order.updates
+
+-- such an order ends as it is to end, and the misses are no more than the losses
+pub record EndsAsDue (start : Start) (order : Contents) (bank : BankState) (past : List Happening)
+    (states : List SimState) (reply : Reply) : Type 0 where
+  pub reply_is : reply ≡ replies.Kept (due_code bank.bytes order.updates)
+  pub few_misses : misses_in (sent_since_taken past)
+      ≤ losses_since order.unit (named_unit (stood_at start past)) past states
+
+-- what is said of an order that little befell is how it is to end
 abbrev pub IsSpared : Start → List Happening → SimState → List SimState → Type 0
 IsSpared start (Answered id reply ∷ Asked order moment ∷ past) last states = Unit {0}
 IsSpared start (Answered id reply ∷ past) last (state ∷ states) =
     (order : Contents) (bank : BankState) → order_at_hand start past ≡ Some order
-    → is_at_work (stood_at start past) ≡ false
-    → HasBank order.unit bank (state_at_start past state states).units → UnrefusedSince past states
-    → KeepsPowerSince order.unit (named_unit (stood_at start past)) past
-    → losses_since order.unit (named_unit (stood_at start past)) past states < most_tries
-    → (due_code bank.bytes order.updates ≡ codes.Done → NoneFixed bank order.updates)
-    → (reply ≡ replies.Kept (due_code bank.bytes order.updates))
-    × (misses_in (sent_since_taken past) ≤ losses_since order.unit (named_unit (stood_at start past)) past states)
+    → LosesLittle start order bank past state states → EndsAsDue start order bank past states reply
 IsSpared start other last states = Unit {0}
 
 -- it holds at each moment of a chain: of what happened up to there, the state there, and those before it
@@ -110,17 +123,41 @@ AtEachState holds (next ∷ past) last (state ∷ states) =
 AtEachState holds [] last (state ∷ states) = ⊥
 AtEachState holds (next ∷ past) last [] = ⊥
 
--- a chain of the simulated bus leads along the trace, and where no unit was enabled at first and the lock bytes of the
--- banks from 2 up were FFh, what is said along it is so
-pub record LeadsSpared (limit : ℕ) (first : SimState) (past : List Happening) (last : SimState) : Type 0 where
+-- The order is said in what came to the trace since it was like this before; and if little befell it up to then, it is
+-- said as it is to end. The states along the whole of it are the later ones, the one when it was said, and those before.
+pub record IsSaidAsDue (start : Start) (order : Contents) (before behind : List Happening) (states : List SimState) :
+    Type 0 where
+  pub said : IsSaid start order before behind
+  pub later : List SimState
+  pub state : SimState
+  pub older : List SimState
+  pub states_are : states ≡ later ++ state ∷ older
+  pub as_many : length older ≡ length (said.since ++ before)
+  pub due : (bank : BankState) → LosesLittle start order bank (said.since ++ before) state older
+      → EndsAsDue start order bank (said.since ++ before) older said.reply
+
+-- an order that has steps enough in the middle ones of these events is said so in what they add
+abbrev pub SaysAsDue : Start → List Event → List Event → List Event → List Happening → List SimState → Type 0
+SaysAsDue start newer middle older trace states =
+    (cut : IsCut start newer middle older trace)
+    × ((order : Contents) → HasStepsEnough start cut.before middle order
+    → IsSaidAsDue start order cut.before cut.behind states)
+
+-- A chain of the simulated bus leads along the trace. Where no unit was enabled at first and the lock bytes of the
+-- banks from 2 up were FFh, what is said along it is so, and each order that is given steps enough is said as it is due.
+pub record LeadsSpared (limit : ℕ) (all : List Event) (first : SimState) (past : List Happening) (last : SimState) :
+    Type 0 where
   pub states : List SimState
   pub chain : IsChain (MovesBy SimStep) first past last states
   pub spared : NoneEnabled (world_of first.units) → IsLockedAbove (world_of first.units)
       → AtEachState (IsSpared (fresh limit)) past last states
+  pub said : NoneEnabled (world_of first.units) → IsLockedAbove (world_of first.units)
+      → (newer middle older : List Event) → reverse all ≡ newer ++ (middle ++ older)
+      → SaysAsDue (fresh limit) newer middle older past states
 
--- What a run of these events over the simulated bus is: all that a run over any bus is, and what is said along it
--- where little is lost.
+-- What a run of these events over the simulated bus is: all that a run over any bus is, and what is said along it of
+-- orders that little befalls.
 pub record IsSimRun (limit : ℕ) (all : List Event) (first : SimState) (trace : List Happening) (journal : List ℕ)
     (last : SimState) : Type 0 where
   pub run : IsRun (λ state. world_of state.units) SimStep limit all first trace journal last
-  pub spared : LeadsSpared limit first (reverse trace) last
+  pub spared : LeadsSpared limit all first (reverse trace) last

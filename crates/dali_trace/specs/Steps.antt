@@ -40,19 +40,28 @@ PartsSince start [] before trace = trace ≡ before
 PartsSince start (event ∷ events) before trace =
     (mid : List Happening) × Part start event mid trace × PartsSince start events before mid
 
--- Wherever an order is at hand, and five steps more than its limit follow with no stop among them, it is said in what
--- they add to the trace.
+-- the order is at hand before these events, none of them is a stop, and five more than its limit are steps
+abbrev pub HasStepsEnough : Start → List Happening → List Event → Contents → Type 0
+HasStepsEnough start before events order =
+    (order_at_hand start before ≡ Some order) × NoneStops events
+    × (work_limit (length order.updates) + 5 ≤ steps_in events)
+
+-- such an order is said in what they add to the trace
 abbrev pub IsSaidInTime : Start → List Happening → List Happening → Type 0
 IsSaidInTime start before trace =
     (events : List Event) (order : Contents) → PartsSince start events before trace
-    → order_at_hand start before ≡ Some order → NoneStops events
-    → work_limit (length order.updates) + 5 ≤ steps_in events → IsSaid start order before trace
+    → HasStepsEnough start before events order → IsSaid start order before trace
 
--- After the older of these events the trace was one to which the newer ones added the rest, and of an order that was
--- at hand there it is so.
-abbrev pub SaysInTime : Start → List Event → List Event → List Happening → Type 0
-SaysInTime start newer older trace =
-    (before : List Happening) × AreParts start older before × PartsSince start newer before trace
-    × ((order : Contents) → order_at_hand start before ≡ Some order → NoneStops newer
-    → work_limit (length order.updates) + 5 ≤ steps_in newer
-    → IsSaid start order before trace)
+-- the trace is cut before what the middle ones of these events added, and behind it
+pub record IsCut (start : Start) (newer middle older : List Event) (trace : List Happening) : Type 0 where
+  pub before : List Happening
+  pub behind : List Happening
+  pub older_parts : AreParts start older before
+  pub middle_parts : PartsSince start middle before behind
+  pub newer_parts : PartsSince start newer behind trace
+
+-- an order that has steps enough in the middle ones is said in what these add, whatever comes behind them
+abbrev pub SaysInTime : Start → List Event → List Event → List Event → List Happening → Type 0
+SaysInTime start newer middle older trace =
+    (cut : IsCut start newer middle older trace)
+    × ((order : Contents) → HasStepsEnough start cut.before middle order → IsSaid start order cut.before cut.behind)

@@ -1,32 +1,33 @@
 -- Small buses and banks near the edges of what is promised where little is lost.
 use Rattle.std.specs.Prelude.{◌≡◌, ◌≤◌, ℕ, true, false, replicate, map, List, [], ◌∷◌, ◌++◌, Option, Some, None}
 use Rattle.dali_frame.specs.declared.forward.Frame.{Frame}
-use Rattle.dali_frame.specs.declared.forward.Frame.TheVariants.{Dtr1}
-use Rattle.dali_bank.specs.Order.{Contents}
+use Rattle.dali_frame.specs.declared.forward.Frame.TheVariants.{Dtr1, Write}
+use Rattle.dali_bank.specs.Order.{Contents, AreUpdates}
 use Rattle.dali_gear.specs.Fate.{whole, next_fate, fates_after}
 use Rattle.dali_gear.specs.SimState.{SimState, SimStep, unit_after, unit_powered, world_of}
 use Rattle.dali_bus.specs.Chain.{IsChain}
 use Rattle.dali_bus.specs.Unenabled.{NoneEnabled}
-use Rattle.dali_gear.specs.UnitState.{BankState, new_unit}
+use Rattle.dali_gear.specs.UnitState.{BankState, UnitState, new_unit}
+use Rattle.dali_journal.specs.declared.record.Code.{Code}
 use Rattle.dali_journal.specs.declared.record.Code.TheVariants as codes
-use Rattle.dali_journal.specs.declared.record.Record.TheVariants.{Ended}
+use Rattle.dali_journal.specs.declared.record.Record.TheVariants.{Began, Opened, Ended, Closed}
 use Rattle.dali_journal.specs.Sentence.{named_unit}
 use Rattle.dali_write.specs.Misses.{misses_in}
 use Rattle.dali_write.specs.Successes.{HasBank}
 use Rattle.dali_trace.specs.declared.happening.Reply.{Reply}
 use Rattle.dali_trace.specs.declared.happening.Reply.TheVariants as replies
 use Rattle.dali_trace.specs.declared.happening.Happening.{Happening}
-use Rattle.dali_trace.specs.declared.happening.Happening.TheVariants.{Answered, Sent, Kept, Powered}
+use Rattle.dali_trace.specs.declared.happening.Happening.TheVariants.{Asked, Answered, Sent, Kept, Powered}
 use Rattle.dali_trace.specs.Trace.{Start, sent_since_taken, is_at_work}
 use Rattle.dali_trace.specs.Legal.{Legal}
 use Rattle.dali_trace.specs.ByPlan.{ByPlan}
 use Rattle.dali_trace.specs.Fits.{IsLockedAbove}
 use Rattle.dali_trace.specs.Moves.{MovesBy}
-use Rattle.dali_trace.specs.Runs.{fresh}
 use Rattle.dali_trace.specs.Work.{stood_at, order_at_hand}
 use Rattle.dali_trace.specs.Spared.{state_at_start, losses_since, UnrefusedSince, KeepsPowerSince, due_code, NoneFixed}
-use Rattle.dali_trace.specs.Spared.{IsSpared}
-use Rattle.dali_trace.specs.Worked.{read_at, read_try, taken, third_order, third_begun}
+use Rattle.dali_trace.specs.Spared.{LosesLittle, IsSpared}
+use Rattle.dali_trace.specs.Worked.{select_at, read_at, write_at, enable_twice, read_try, lock_try, taken}
+use Rattle.dali_trace.specs.Worked.{third_order, third_begun}
 
 -- a bus whose next frame is lost to the units of these bits, and one whose next frame is refused
 abbrev pub losing : ℕ → SimState
@@ -56,24 +57,6 @@ fixed_beside = record { bytes = []; fixed = 0x07 ∷ 0x0A ∷ [] }
 abbrev pub fixed_there : BankState
 fixed_there = record { bytes = []; fixed = 0x07 ∷ 0x09 ∷ [] }
 
--- An order that ends Short after one answer was lost and another unit lost its power: the bus, with a bank of 17 bytes
--- at address 5 and another one at 6, and the trace
-
-abbrev pub short_bank : BankState
-short_bank = record { bytes = 0x10 ∷ replicate 0x10 0xFF; fixed = [] }
-
-abbrev pub short_bus : SimState
-short_bus = record {
-  units = new_unit 5 (0x10 ∷ replicate 0x10 0xFF) [] ∷ new_unit 6 (0x10 ∷ replicate 0x10 0xFF) [] ∷ [];
-  fates = whole ∷ record whole { answer_lost = true } ∷ [];
-}
-
-abbrev pub short_sent : List Happening
-short_sent = Kept (Ended codes.Short) ∷ read_at 5 0x00 0x10 (Powered 6 ∷ read_try third_begun)
-
-abbrev pub short_said : List Happening
-short_said = Answered 3 (replies.Kept codes.Short) ∷ short_sent
-
 -- the bus after what happened, and the states before each happening
 abbrev pub bus_after : SimState → List Happening → SimState
 bus_after first [] = first
@@ -89,21 +72,88 @@ abbrev pub buses_along : SimState → List Happening → List SimState
 buses_along first [] = []
 buses_along first (next ∷ past) = bus_after first past ∷ buses_along first past
 
--- all that is asked for, so that it is promised how the order ends, holds of it together
-abbrev pub MeetsAll : Type 0
-MeetsAll =
-    Legal (fresh 10) short_said × ByPlan (fresh 10) short_said
-    × IsChain (MovesBy SimStep) short_bus short_said (bus_after short_bus short_said) (buses_along short_bus short_said)
-    × NoneEnabled (world_of short_bus.units) × IsLockedAbove (world_of short_bus.units)
-    × (order_at_hand (fresh 10) short_sent ≡ Some third_order)
-    × (is_at_work (stood_at (fresh 10) short_sent) ≡ false)
-    × HasBank 5 short_bank
-    (state_at_start short_sent (bus_after short_bus short_sent) (buses_along short_bus short_sent)).units
-    × UnrefusedSince short_sent (buses_along short_bus short_sent) × KeepsPowerSince 5 None short_sent
-    × (losses_since 5 None short_sent (buses_along short_bus short_sent) ≡ 1)
-    × (misses_in (sent_since_taken short_sent) ≡ 1) × (due_code short_bank.bytes third_order.updates ≡ codes.Short)
+-- all that is asked for, so that it is promised how an order ends, holds together of one that ends with this code, after
+-- so many losses, on this bus and after what happened on it
+pub record MeetsAll (start : Start) (first : SimState) (order : Contents) (bank : BankState) (code : Code) (lost : ℕ)
+    (past : List Happening) : Type 0 where
+  pub legal : Legal start (Answered order.id (replies.Kept code) ∷ past)
+  pub planned : ByPlan start (Answered order.id (replies.Kept code) ∷ past)
+  pub chain : IsChain (MovesBy SimStep) first past (bus_after first past) (buses_along first past)
+  pub none : NoneEnabled (world_of first.units)
+  pub locked : IsLockedAbove (world_of first.units)
+  pub valid : AreUpdates order.updates
+  pub hand : order_at_hand start past ≡ Some order
+  pub little : LosesLittle start order bank past (bus_after first past) (buses_along first past)
+  pub losses : losses_since order.unit (named_unit (stood_at start past)) past (buses_along first past) ≡ lost
+  pub misses : misses_in (sent_since_taken past) ≡ lost
+  pub due : due_code bank.bytes order.updates ≡ code
 
--- With seven losses an order whose unit is on the bus ends as it is to end, and misses no more often.
+-- a bank of 17 bytes, and the whole of one with another content format
+abbrev pub small_bank : BankState
+small_bank = record { bytes = 0x10 ∷ replicate 0x10 0xFF; fixed = [] }
+
+abbrev pub another_format : BankState
+another_format = record { bytes = of_format 0x00 0x04 ++ replicate 0x65 0xFF; fixed = [] }
+
+-- units 5 and 6 with the small bank
+abbrev pub small_units : List UnitState
+small_units = new_unit 5 small_bank.bytes [] ∷ new_unit 6 small_bank.bytes [] ∷ []
+
+-- Short, after one answer was lost and another unit lost its power
+abbrev pub short_bus : SimState
+short_bus = record { units = small_units; fates = whole ∷ record whole { answer_lost = true } ∷ [] }
+
+abbrev pub short_order_ended : List Happening
+short_order_ended = Kept (Ended codes.Short) ∷ read_at 5 0x00 0x10 (Powered 6 ∷ read_try third_begun)
+
+-- Format, with nothing lost
+abbrev pub format_bus : SimState
+format_bus = record { units = new_unit 5 another_format.bytes [] ∷ []; fates = [] }
+
+-- Done: order 4 writes 08h of unit 5, and the answer to its write is lost
+abbrev pub fourth_order : Contents
+fourth_order = record { id = 4; unit = 5; updates = (0x08, 0xAB) ∷ [] }
+
+abbrev pub done_bus : SimState
+done_bus = record { units = small_units; fates = replicate 20 whole ++ record whole { answer_lost = true } ∷ [] }
+
+abbrev pub fourth_begun : List Happening
+fourth_begun = Kept (Began fourth_order 13) ∷ Answered 4 replies.Taken ∷ Asked fourth_order 13 ∷ []
+
+abbrev pub fourth_opened : List Happening
+fourth_opened = Kept (Opened 5) ∷ read_at 5 0x00 0x10 fourth_begun
+
+abbrev pub fourth_written : List Happening
+fourth_written =
+    write_at 5 0x08 0xAB (Sent (Write 0xAB) None ∷ select_at 5 0x08 (enable_twice 5 (write_at 5 0x02 0x55 fourth_opened)))
+
+abbrev pub fourth_ended : List Happening
+fourth_ended =
+    Kept (Ended codes.Done) ∷ read_at 5 0x08 0xAB (read_at 5 0x02 0xFF (write_at 5 0x02 0xFF fourth_written))
+
+-- Short, where unit 5 was left open, and an answer of it is lost: order 6 for the year of unit 6
+abbrev pub sixth_order : Contents
+sixth_order = record { id = 6; unit = 6; updates = third_order.updates }
+
+abbrev pub left_bus : SimState
+left_bus = record { units = small_units; fates = replicate 3 whole ++ record whole { answer_lost = true } ∷ [] }
+
+abbrev pub sixth_taken : List Happening
+sixth_taken = Answered 6 replies.Taken ∷ Asked sixth_order 15 ∷ []
+
+abbrev pub sixth_closing : List Happening
+sixth_closing = lock_try sixth_taken
+
+abbrev pub sixth_closed : List Happening
+sixth_closed = Kept (Closed 5) ∷ read_at 5 0x02 0xFF (write_at 5 0x02 0xFF sixth_closing)
+
+abbrev pub sixth_begun : List Happening
+sixth_begun = Kept (Began sixth_order 15) ∷ sixth_closed
+
+abbrev pub sixth_ended : List Happening
+sixth_ended = Kept (Ended codes.Short) ∷ read_at 6 0x00 0x10 sixth_begun
+
+-- With seven losses an order that little else befalls ends as it is to end, and misses no more often.
 abbrev pub SparesSeven : Type 0
 SparesSeven =
     (start : Start) (id : ℕ) (reply : Reply) (frame : Frame) (answer : Option ℕ) (older : List Happening)

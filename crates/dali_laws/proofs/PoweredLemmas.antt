@@ -1,13 +1,12 @@
 -- Losses of power between happenings change nothing of what may come next, and of what the plan asks.
 use Rattle.std.proofs.Common.{◌≡◌, refl, ap, ℕ, List, [], ◌∷◌}
 use Rattle.dali_bank.specs.Order.{Contents}
-use Rattle.dali_trace.specs.declared.happening.Reply.{Reply}
 use Rattle.dali_trace.specs.declared.happening.Reply.TheVariants as replies
 use Rattle.dali_trace.specs.declared.happening.Happening.{Happening}
 use Rattle.dali_trace.specs.declared.happening.Happening.TheVariants.{Asked, Answered, Sent, Kept, Stopped, Powered}
 use Rattle.dali_trace.specs.Trace.{Start, records_of, sent_of, sent_since_taken, course_of, replied, next_course}
-use Rattle.dali_trace.specs.Trace.{Course, Quiet}
-use Rattle.dali_trace.specs.Legal.{MayHappen, MayFollow, Legal, IsFinished}
+use Rattle.dali_trace.specs.Trace.{Course}
+use Rattle.dali_trace.specs.Legal.{MayFollow, Legal, IsFinished}
 use Rattle.dali_trace.specs.ByPlan.{told_in, IsPlanned, ByPlan}
 use Rattle.dali_laws.specs.Powered.{unpowered, IsPowerApart}
 use Rattle.dali_laws.proofs.AgreeLemmas.{Agree, happens_too, replies_too, planned_too, may_happen, said_quiet}

@@ -13,7 +13,7 @@ use Rattle.dali_trace.specs.Legal.{Legal, IsFinished}
 use Rattle.dali_trace.specs.ByPlan.{ByPlan}
 use Rattle.dali_trace.specs.Parts.{AreParts}
 use Rattle.dali_trace.specs.Work.{order_at_hand}
-use Rattle.dali_trace.specs.Steps.{IsSaid, IsCut, HasStepsEnough}
+use Rattle.dali_trace.specs.Steps.{IsSaid}
 use Rattle.dali_trace.specs.Spared.{IsSpared, AtEachState, LosesLittle, EndsAsDue, IsSaidAsDue, SaysAsDue}
 use Rattle.dali_laws.proofs.StepsLemmas.{cut_of, parts_add, says_in_cut}
 

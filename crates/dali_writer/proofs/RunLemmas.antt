@@ -106,8 +106,8 @@ module _ {S : Type 0} (world : S → World) (step : S → BusEvent → S → Typ
         asked = are.orders;
         planned = planned;
         worked = worked start (reverse trace) described.legal planned;
-        said = λ newer older same.
-            says_in_time start (reverse events) newer older (reverse trace) described.legal planned parts same;
+        said = λ newer middle older same.
+            says_in_time start (reverse events) newer middle older (reverse trace) described.legal planned parts same;
         parts = parts;
         journal_is = spelled ∙ ap (journal_spelling Two) (sym described.same);
         taken = taken_from_none start (reverse trace) refl described.legal;

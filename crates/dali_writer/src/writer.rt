@@ -130,6 +130,10 @@ impl Writer {
         ensures unchanged { OnErr result
             ((self.new.phase ≡ self.old.phase) × (self.new.journal.records ≡ self.old.journal.records)
             × (self.new.journal.limit ≡ self.old.journal.limit)) }
+        ensures refused { OnErr result ((start : Start) (past : List Happening) → Describes start past self.old
+            → Describes start past self.new) }
+        ensures refused_follows { OnErr result ((start : Start) (past : List Happening) → Follows start past self.old
+            → Follows start past self.new) }
         ensures due { OnErr result ((start : Start) (past : List Happening) → Describes start past self.old
             → IsReply start past order replies.Taken) }
         ensures succeeds { HasRoom self.old.journal order → IsOk result }

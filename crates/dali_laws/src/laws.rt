@@ -17,6 +17,8 @@ ghost use Rattle.dali_trace.specs.Moments.{Always, FitsAt, OnlyNamedAt, AppliedA
 ghost use Rattle.dali_laws.specs.Law.{RecordsAreTrue, RecordsAreASentence, TakenOrdersAreKept, OneReplyIsDue};
 ghost use Rattle.dali_laws.specs.Law.{RepeatsAreAnswered, RepeatsAreQuiet, RefusedOrdersChangeNothing, QuietUntilTaken};
 
+pub use dali_write::laws::misses_are_those_of_the_tries;
+
 /// Along every chain of worlds of every legal trace, whichever units lose their power, from a world that fits the start
 /// world and the start records and in which no unit is write-enabled but the one that they name. In the start world the
 /// lock bytes of the banks from 2 up are FFh.
@@ -61,9 +63,9 @@ pub fn repeats_are_answered_by_what_is_kept()
     ensures quiet { RepeatsAreQuiet }
 {}
 
-/// An order that gets another reply than Taken, as each repeat of one that has ended does, changes nothing of what
-/// comes next, whatever is at work: just the frames, records and sayings that might come before it may come after its
-/// reply, and the plan asks for the same.
+/// An order that gets another reply than Taken, as each repeat of one that has ended does, changes nothing, wherever it
+/// stands in a trace and whatever is at work: just the frames, records, replies and sayings that might come without it
+/// may come with it, and the plan asks for the same.
 pub fn refused_orders_change_nothing()
     ensures { RefusedOrdersChangeNothing }
 {}

@@ -44,6 +44,15 @@ IsKnownReply order kept (replies.Kept code) = kept ≡ kepts.Ended order code
 IsKnownReply order kept replies.IdReused = IsReused order kept
 IsKnownReply order kept _ = ⊥
 
+-- the number of a reply
+abbrev pub reply_number : Reply → ℕ
+reply_number (replies.Kept code) = 1
+reply_number replies.IdReused = 2
+reply_number replies.Busy = 3
+reply_number replies.Full = 4
+reply_number replies.Taken = 5
+reply_number (replies.Blocked unit) = 6
+
 -- a reply, in what a program prints
 abbrev pub reply_text : Reply → List ℕ
 reply_text replies.Taken = codes "taken"

@@ -5,23 +5,42 @@ use std::fmt;
 
 /// The answer to an order, given at once, or what is said of an order that was taken (profile).
 ///
-/// At once the first of `Kept`, `IdReused`, `Busy`, `Full` and `Taken` is given that applies. `Kept`
-/// and `Blocked` are also said later, of an order that was taken.
+/// At once the first of `Kept`, `IdReused`, `Busy`, `Full` and `Taken` is given that applies: the one
+/// with the lowest number. `Kept` and `Blocked` are also said later, of an order that was taken.
 #[derive(Clone, Copy, Debug, PartialEq, Eq, Hash)]
 pub enum Reply {
-    /// The order will be carried out.
+    /// 5: the order will be carried out.
     Taken,
-    /// The journal has this same order, and it ended so.
+    /// 1: the journal has this same order, and it ended so.
     Kept(Code),
-    /// The journal has an order of this number for another unit or with other updates.
+    /// 2: the journal has an order of this number for another unit or with other updates.
     IdReused,
-    /// An order is at work, waits, or has ended and that isn't said yet.
+    /// 3: an order is at work, waits, or has ended and that isn't said yet.
     Busy,
-    /// The journal holds as many orders as it may.
+    /// 4: the journal holds as many orders as it may.
     Full,
-    /// The order isn't carried out, since a unit that an order before it left open couldn't be
+    /// 6: the order isn't carried out, since a unit that an order before it left open couldn't be
     /// closed: that unit's short address, 0 to 63.
     Blocked(u8),
+}
+
+impl Reply {
+    ghost use Rattle.std.specs.Prelude.{◌≡◌};
+    ghost use Rattle.dali_trace.specs.Replies.{reply_number};
+
+    /// The reply's number, 1 to 6.
+    pub fn number(&self) -> u8
+        ensures { result ≡ reply_number self.now }
+    {
+        match self {
+            Reply::Kept(_) => 1,
+            Reply::IdReused => 2,
+            Reply::Busy => 3,
+            Reply::Full => 4,
+            Reply::Taken => 5,
+            Reply::Blocked(_) => 6,
+        }
+    }
 }
 
 impl fmt::Display for Reply {

@@ -117,7 +117,7 @@ impl Writer {
     ///
     /// 1 `Kept`: the journal has ended this same order. 2 `IdReused`: the journal has its number for
     /// another unit or with other updates. 3 `Busy`: something is wanted. 4 `Full`: the journal holds
-    /// as many orders as it may. 5 `Taken`. `Blocked` is never given at once. `NoMemory` comes where
+    /// as many orders as it may. 5 `Taken`. 6 `Blocked` is never given at once. `NoMemory` comes where
     /// an order could be taken, but there is no memory for its records. Only `Taken` changes what the
     /// writer wants. The moment is a number of the caller's, kept in the order's `Began`; replies pass over it.
     pub fn submit(&mut self, order: Order, moment: u64) -> Result<Reply, NoMemory>

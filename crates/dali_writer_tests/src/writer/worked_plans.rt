@@ -1,4 +1,7 @@
-ghost use Rattle.std.specs.Prelude.{◌≡◌, ◌≤◌, ◌↔◌, ℕ, replicate, List, [], ◌∷◌, ◌++◌, length, Some, None};
+ghost use Rattle.std.specs.Prelude.{◌≡◌, ◌≤◌, ◌↔◌, ℕ, replicate, List, [], ◌∷◌, ◌++◌, length, reverse};
+ghost use Rattle.std.specs.Prelude.{Some, None};
+ghost use Rattle.dali_bank.specs.Order.{Contents};
+ghost use Rattle.dali_gear.specs.UnitState.{BankState};
 ghost use Rattle.dali_bus.specs.Chain.{IsChain};
 ghost use Rattle.dali_gear.specs.SimState.{SimState, SimStep, world_of};
 ghost use Rattle.dali_bus.specs.Unenabled.{NoneEnabled};
@@ -6,7 +9,7 @@ ghost use Rattle.dali_journal.specs.declared.record.Code.TheVariants as Code;
 ghost use Rattle.dali_journal.specs.declared.standing.Standing.TheVariants as Standing;
 ghost use Rattle.dali_trace.specs.declared.happening.Reply.TheVariants as Reply;
 ghost use Rattle.dali_trace.specs.declared.happening.Event.{Event};
-ghost use Rattle.dali_trace.specs.declared.happening.Event.TheVariants.{Submit, Step, Stop};
+ghost use Rattle.dali_trace.specs.declared.happening.Event.TheVariants.{Submit, Step, Stop, Power};
 ghost use Rattle.dali_trace.specs.declared.happening.Happening.{Happening};
 ghost use Rattle.dali_trace.specs.declared.happening.Happening.TheVariants.{Answered, Stopped, Powered};
 ghost use Rattle.dali_trace.specs.Trace.{Start, sent_since_taken};
@@ -19,10 +22,12 @@ ghost use Rattle.dali_trace.specs.ByPlan.{ByPlan};
 ghost use Rattle.dali_trace.specs.Work.{stood_at, kept_since, frames_from, order_at_hand, IsWithinLimit, IsSaidSo};
 ghost use Rattle.dali_trace.specs.Work.{IsWorked};
 ghost use Rattle.dali_trace.specs.Steps.{steps_in, NoneStops, IsSaid, PartsSince, IsSaidInTime, SaysInTime};
+ghost use Rattle.dali_trace.specs.Steps.{IsCut, HasStepsEnough};
 ghost use Rattle.dali_trace.specs.Spared.{losses_since, UnrefusedSince, state_at_start, due_code, NoneFixed};
-ghost use Rattle.dali_trace.specs.Spared.{KeepsPowerSince, IsSpared, AtEachState, LeadsSpared};
+ghost use Rattle.dali_trace.specs.Spared.{KeepsPowerSince, IsSpared, AtEachState, LeadsSpared, LosesLittle};
+ghost use Rattle.dali_trace.specs.Spared.{IsSaidAsDue};
 ghost use Rattle.dali_trace.specs.Worked.{empty, left_open, first_order, second_order, short_ended, silent_ended};
-ghost use Rattle.dali_trace.specs.Worked.{blocked};
+ghost use Rattle.dali_trace.specs.Worked.{blocked, third_order, format_ended};
 ghost use Rattle.dali_trace.specs.Worked.{taken, begun, opened, unlocked, ended, said, left_said, second_taken};
 ghost use Rattle.dali_trace.specs.Worked.{unreached, taken_again};
 ghost use Rattle.dali_trace.specs.WorkedPlans.{first_frame, next_try, next_frame, begun_anew, enabled_first};
@@ -36,6 +41,9 @@ ghost use Rattle.dali_trace.specs.WorkedPlans.{reads_more, closed_anew, try_past
 ghost use Rattle.dali_trace.specs.WorkedPlans.{repeated, another_said, said_behind_a_stop, said_again};
 ghost use Rattle.dali_trace.specs.WorkedLosses.{losing, refusing, clear, one_since, start_taken, of_format};
 ghost use Rattle.dali_trace.specs.WorkedLosses.{fixed_beside, fixed_there, MeetsAll, SparesSeven};
+ghost use Rattle.dali_trace.specs.WorkedLosses.{done_bus, fourth_order, small_bank, fourth_ended, format_bus};
+ghost use Rattle.dali_trace.specs.WorkedLosses.{another_format, short_bus, short_order_ended, left_bus, sixth_order};
+ghost use Rattle.dali_trace.specs.WorkedLosses.{sixth_ended};
 
 // Each frame is the next of its try, a try ends at its first miss, and the session begins anew after a stop, once a
 // record is kept, and where an order is taken.
@@ -130,18 +138,22 @@ fn what_counts_as_work()
     ensures forgotten { order_at_hand left_open (Stopped ∷ second_taken) ≡ None }
 {}
 
-// The first order is said by the 1237th step, 5 more than its limit.
+// The first order is said by the 1237th step, 5 more than its limit, whatever comes behind them and though its unit
+// loses its power among them.
 fn said_by_the_1237th_step()
-    ensures says { (n : ℕ) (trace : List Happening) → 1237 ≤ n → SaysInTime at_work (replicate n Step) [] trace
-        → IsSaid at_work first_order [] trace }
+    ensures says { (n : ℕ) (newer : List Event) (trace : List Happening) → 1237 ≤ n
+        → SaysInTime at_work newer (Power 5 ∷ replicate n Step) [] trace
+        → (behind : List Happening) × PartsSince at_work newer behind trace
+        × IsSaid at_work first_order [] behind }
     ensures said { (n : ℕ) (trace : List Happening) → 1237 ≤ n → IsSaidInTime empty taken trace
         → PartsSince empty (replicate n Step) taken trace
         → IsSaid empty first_order taken trace }
-    ensures parts { (start : Start) (newer older : List Event) (trace : List Happening)
-        → SaysInTime start newer older trace
-        → AreParts start (newer ++ older) trace }
+    ensures parts { (start : Start) (newer middle older : List Event) (trace : List Happening)
+        → SaysInTime start newer middle older trace
+        → AreParts start (newer ++ (middle ++ older)) trace }
     ensures steps { steps_in (Step ∷ Submit second_order 9 ∷ Stop 0 ∷ Step ∷ []) ≡ 2 }
     ensures submits { NoneStops (Step ∷ Submit second_order 9 ∷ Step ∷ []) }
+    ensures power { NoneStops (Step ∷ Power 5 ∷ Step ∷ []) }
     ensures stops { ¬ NoneStops (Step ∷ Stop 0 ∷ Step ∷ []) }
 {}
 
@@ -184,19 +196,35 @@ fn how_an_order_is_to_end()
     ensures one_fixed { ¬ NoneFixed fixed_there ((0x08, 0) ∷ (0x09, 0) ∷ []) }
 {}
 
-// Seven losses are few, what is promised is so at each moment, and all that it asks for is met together by an order
-// that ends Short after one loss, and after another unit lost its power.
+// Seven losses are few, what is promised is so at each moment, and an order that is given steps enough is said as it is
+// to end.
 fn little_loss_is_spared()
     ensures seven { SparesSeven }
     ensures earlier { (start : Start) (next : Happening) (past : List Happening) (last state : SimState)
         (states : List SimState) → AtEachState (IsSpared start) (next ∷ past) last (state ∷ states)
         → IsSpared start (next ∷ past) last (state ∷ states) × AtEachState (IsSpared start) past state states }
-    ensures leads { (limit : ℕ) (first : SimState) (past : List Happening) (last : SimState)
-        (leads : LeadsSpared limit first past last) → NoneEnabled (world_of first.units)
+    ensures leads { (limit : ℕ) (all : List Event) (first : SimState) (past : List Happening) (last : SimState)
+        (leads : LeadsSpared limit all first past last) → NoneEnabled (world_of first.units)
         → IsLockedAbove (world_of first.units)
         → IsChain (MovesBy SimStep) first past last leads.states
         × AtEachState (IsSpared (fresh limit)) past last leads.states }
-    ensures met { MeetsAll }
+    ensures said { (limit : ℕ) (all newer middle older : List Event) (first : SimState) (past : List Happening)
+        (last : SimState) (leads : LeadsSpared limit all first past last) → NoneEnabled (world_of first.units)
+        → IsLockedAbove (world_of first.units) → reverse all ≡ newer ++ (middle ++ older)
+        → (cut : IsCut (fresh limit) newer middle older past)
+        × ((order : Contents) (bank : BankState) → HasStepsEnough (fresh limit) cut.before middle order
+        → (so : IsSaidAsDue (fresh limit) order cut.before cut.behind leads.states)
+        × (LosesLittle (fresh limit) order bank (so.said.since ++ cut.before) so.state so.older
+        → so.said.reply ≡ Reply.Kept (due_code bank.bytes order.updates))) }
+{}
+
+// All that this asks for is met together: by an order that ends Done after a lost answer, by one that ends Format, by
+// one that ends Short after a lost answer and after another unit lost its power, and by one behind a left unit.
+fn orders_that_little_befalls()
+    ensures done { MeetsAll empty done_bus fourth_order small_bank Code.Done 1 fourth_ended }
+    ensures format { MeetsAll empty format_bus third_order another_format Code.Format 0 format_ended }
+    ensures short { MeetsAll empty short_bus third_order small_bank Code.Short 1 short_order_ended }
+    ensures left { MeetsAll left_open left_bus sixth_order small_bank Code.Short 1 sixth_ended }
 {}
 
 // All of it is proved: the test calls it, so that nothing is left out.
@@ -215,4 +243,5 @@ fn the_worked_plans_are_as_they_should_be() {
     what_counts_as_a_loss();
     how_an_order_is_to_end();
     little_loss_is_spared();
+    orders_that_little_befalls();
 }

@@ -1,10 +1,11 @@
 -- What a small unit may do with a frame and what it may not, and the same of a bus with two.
 use Rattle.std.proofs.lemmas.Bool.{eqb-true}
 use Rattle.std.proofs.Common.{◌≡◌, ℕ, Bool, true, false, inl, inr, Option, Some, None, refl, sym, subst, arith, ap, ◌∙◌}
-use Rattle.std.proofs.Common.{◌==◌, ◌&&◌, if◌then◌else◌}
-use Rattle.dali_frame.specs.declared.forward.Frame.TheVariants.{Dtr0, Dtr1, Write, Enable, AskDtr0, AskDtr1, Read}
+use Rattle.std.proofs.Common.{◌==◌, ◌&&◌, ◌⊎◌, if◌then◌else◌}
+use Rattle.dali_frame.specs.declared.forward.Frame.TheVariants.{Dtr0, Dtr1, Write, WriteSilent, Enable, AskDtr0}
+use Rattle.dali_frame.specs.declared.forward.Frame.TheVariants.{AskDtr1, Read, Other}
 use Rattle.dali_bus.specs.World.{Gear, Memory, World, stored}
-use Rattle.dali_bus.specs.Hears.{Hears, Obeys, MayEnd}
+use Rattle.dali_bus.specs.Hears.{Hears, Obeys, Stores, PassesBy, MayEnd}
 use Rattle.dali_bus.specs.Carry.{Carry, MayHear}
 use Rattle.dali_bus.specs.Power.{PowersUp, LosesPower}
 use Rattle.dali_bus.specs.WorkedFrames.{at_the_end, small, moved, written, pair, started, with_locks, two_places}
@@ -39,6 +40,16 @@ stays_at_ffh = record { obeyed = at_the_end; obeys = inr (0xFF, inl refl, refl, 
 pub tells_and_ends : Hears 5 (small true) (AskDtr0 5) (Some 3) (small false)
 tells_and_ends = record { obeyed = small true; obeys = inl (refl, (refl, refl)); ends = inr refl }
 
+pub stores_silently : Hears 5 (small true) (WriteSilent 9) None (written true 3)
+stores_silently = record { obeyed = written true 3; obeys = (inl (refl, refl, refl), refl); ends = inl refl }
+
+pub refuses_silently : Hears 5 (small true) (WriteSilent 9) None (moved true)
+refuses_silently = record { obeyed = moved true; obeys = (inr (4, inl refl, refl, refl), refl); ends = inl refl }
+
+-- nothing is known of what a frame that isn't named does
+pub does_anything_with_others : (word : ℕ) (answer : Option ℕ) (old new : Gear) → Hears 5 old (Other word) answer new
+does_anything_with_others word answer old new = record { obeyed = new; obeys = tt; ends = inl refl }
+
 -- what may not
 
 same_byte : (a b : ℕ) → Some a ≡ Some b → a ≡ b
@@ -50,6 +61,9 @@ memory_kept old new (inr same) = ap (λ (g : Gear). g.memory) same
 
 byte_kept : (old new : Gear) → MayEnd old new → new.memory 1 3 ≡ old.memory 1 3
 byte_kept old new ends = ap (λ (m : Memory). m 1 3) (memory_kept old new ends)
+
+lock_kept : (old new : Gear) → MayEnd old new → new.memory 1 2 ≡ old.memory 1 2
+lock_kept old new ends = ap (λ (m : Memory). m 1 2) (memory_kept old new ends)
 
 pub not_elsewhere : Hears 5 (small true) (Write 9) (Some 9) (written true 2) → ⊥
 not_elsewhere h = by h.obeyed h.obeys h.ends where
@@ -70,6 +84,29 @@ not_unenabled answer h = by h.obeyed h.obeys h.ends where
   by obeyed (inl did) ends = let on : false ≡ true = did.0.0 in cc
   by obeyed (inr passed) ends =
       omega (arith, same_byte 9 7 (byte_kept obeyed (written false 3) ends ∙ ap (λ (g : Gear). g.memory 1 3) passed.2))
+
+pub silent_not_answered : (byte : ℕ) (new : Gear) → Hears 5 (small true) (WriteSilent 9) (Some byte) new → ⊥
+silent_not_answered byte new h = let none : Some byte ≡ None = h.obeys.1 in cc
+
+pub silent_not_elsewhere : Hears 5 (small true) (WriteSilent 9) None (written true 2) → ⊥
+silent_not_elsewhere h = by h.obeyed h.obeys.0 h.ends where
+  by : (obeyed : Gear)
+      → Stores 9 (small true) obeyed ⊎ PassesBy (small true) None obeyed
+      → MayEnd obeyed (written true 2) → ⊥
+  by obeyed (inl did) ends =
+      omega (arith, same_byte 7 9 (byte_kept obeyed (written true 2) ends ∙ ap (λ (g : Gear). g.memory 1 3) did.2))
+  by obeyed (inr (dtr0, goes, is, none)) ends =
+      omega (arith, same_byte 0x09 0x55 (lock_kept obeyed (written true 2) ends
+      ∙ ap (λ (g : Gear). g.memory 1 2) is))
+
+pub silent_not_unenabled : Hears 5 (small false) (WriteSilent 9) None (written false 3) → ⊥
+silent_not_unenabled h = by h.obeyed h.obeys.0 h.ends where
+  by : (obeyed : Gear)
+      → Stores 9 (small false) obeyed ⊎ PassesBy (small false) None obeyed
+      → MayEnd obeyed (written false 3) → ⊥
+  by obeyed (inl did) ends = let on : false ≡ true = did.0 in cc
+  by obeyed (inr (dtr0, goes, is, none)) ends =
+      omega (arith, same_byte 9 7 (byte_kept obeyed (written false 3) ends ∙ ap (λ (g : Gear). g.memory 1 3) is))
 
 off : (old new : Gear) → old.enabled ≡ false → MayEnd old new → new.enabled ≡ false
 off old new is (inl same) = ap (λ (g : Gear). g.enabled) same ∙ is
@@ -173,6 +210,12 @@ pub not_a_third : (gear : Gear) (new : World) → new 7 ≡ Some gear
     → Carry (pair (small true) (small true)) (Write 9) None new → ⊥
 not_a_third gear new there carried =
     subst (λ (unit : Option Gear). MayHear 7 None (Write 9) unit) there (carried.units 7)
+
+-- nor by a frame that isn't named
+pub no_unit_by_others : (word : ℕ) (answer : Option ℕ) (gear : Gear) (new : World) → new 7 ≡ Some gear
+    → Carry (pair (small true) (small true)) (Other word) answer new → ⊥
+no_unit_by_others word answer gear new there carried =
+    subst (λ (unit : Option Gear). MayHear 7 None (Other word) unit) there (carried.units 7)
 
 -- A loss of power
 

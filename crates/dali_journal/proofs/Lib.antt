@@ -14,3 +14,4 @@ pub mod TornLemmas
 pub mod FaultLemmas
 pub mod KeptLemmas
 pub mod MomentLemmas
+pub mod WorkedRoomLemmas

@@ -10,3 +10,4 @@ pub mod BlankLemmas
 pub mod PartLemmas
 pub mod EndingLemmas
 pub mod WorkedWorldLemmas
+pub mod WorkedHappeningLemmas

@@ -21,3 +21,4 @@ pub mod StepsLemmas
 pub mod AgreeLemmas
 pub mod PoweredLemmas
 pub mod JoinLemmas
+pub mod WorkedLawLemmas

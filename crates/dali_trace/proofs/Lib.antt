@@ -12,3 +12,4 @@ pub mod BlankLemmas
 pub mod PartLemmas
 pub mod EndingLemmas
 pub mod WorkedWorldLemmas
+pub mod WorkedHappeningLemmas

@@ -15,6 +15,7 @@ use Rattle.dali_write.specs.Worlds.{IsAmong, MayRelock}
 use Rattle.dali_trace.specs.declared.happening.Happening.TheVariants.{Kept, Powered}
 use Rattle.dali_trace.specs.Possible.{IsPossible, IsSettled, applied}
 use Rattle.dali_trace.specs.Fits.{HasBeenOpened, IsLockByte, Fits, OnlyNamed, IsApplied}
+use Rattle.dali_trace.specs.Moments.{FitsAt}
 use Rattle.dali_trace.specs.Moves.{Moves}
 use Rattle.dali_trace.specs.WhenKept.{Holds, IsLetGo, WhenKept}
 use Rattle.dali_trace.specs.Worked.{first_order, third_order, empty, left_open, begun, third_begun, opened, alone}
@@ -330,3 +331,23 @@ changed_by_a_loss_of_power loses = let off : true ≡ false = loses.there.off in
 
 pub not_changed_by_a_record : Moves before (Kept (Opened 5)) enabled_world → ⊥
 not_changed_by_a_record moves = let same : true ≡ false = ap (λ (now : World). is_enabled now 5) moves in cc
+
+-- The units that have lost their power at a moment of a trace
+
+pub fits_after_a_loss_of_power : Fits unlocked_world [] (5 ∷ []) before
+    → FitsAt unlocked_world [] empty (Powered 5 ∷ []) before
+fits_after_a_loss_of_power fits = fits
+
+pub fits_after_a_loss_before : Fits unlocked_world [] (5 ∷ []) before → FitsAt unlocked_world (5 ∷ []) empty [] before
+fits_after_a_loss_before fits = fits
+
+pub not_without_a_loss_of_power : FitsAt unlocked_world [] empty [] before → ⊥
+not_without_a_loss_of_power fits =
+    omega (arith, ap (λ (byte : Option ℕ). or_none byte) (unlost 5 1 2 _ _ (fits.locks 5 (λ is. is))))
+
+pub not_after_a_loss_of_another : FitsAt unlocked_world [] empty (Powered 6 ∷ []) before → ⊥
+not_after_a_loss_of_another fits = by (fits.locks 5 (λ is. is)) where
+  by : MayRelock (IsAmong (6 ∷ []) 5) 1 2 (Some 0x55) (Some 0xFF) → ⊥
+  by (inl is) = omega (arith, ap (λ (byte : Option ℕ). or_none byte) is)
+  by (inr (inl is, above, lock, now)) = omega (arith, is)
+  by (inr (inr none, above, lock, now)) = none

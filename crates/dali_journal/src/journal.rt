@@ -92,6 +92,7 @@ impl Journal {
         ensures accepted { OnOk result (IsLimit limit) }
         ensures succeeds { IsLimit limit → IsOk result }
         ensures ok { IfOk result (λ journal. (journal.records ≡ []) × (journal.limit ≡ limit)) }
+        ensures room { IfOk result (λ journal. (journal.room ≡ 0) × (journal.numbers ≡ [])) }
         ensures err { IfErr result (λ fault. IsNewFault limit fault) }
     {
         if limit < 1 || limit > MOST_ORDERS {

@@ -168,12 +168,12 @@ group_known bytes order moment code records id at found new_found false is there
 
 group_sound : (bytes : List ℕ) (records : List Record) (orders limit at : ℕ) (index new_index : List (ℕ × Place))
     (order : Contents) (moment : ℕ) (code : Code)
-    → IsSound bytes records standings.Idle orders limit 0 index → orders < limit → IsRecord Two (Began order moment)
+    → IsSound bytes records standings.Idle orders limit 0 0 index → orders < limit → IsRecord Two (Began order moment)
     → at ≡ length bytes → is_begun order.id records ≡ false
     → ((id : ℕ)
     → lookup (nat_eq id) new_index ≡ cond (order.id == id) (Some (places.Ended at code)) (lookup (nat_eq id) index))
     → IsSound (bytes ++ records_spelling Two (group_of order moment code)) (group_of order moment code ++ records) standings.Idle
-    (orders + 1) limit 0 new_index
+    (orders + 1) limit 0 0 new_index
 group_sound bytes records orders limit at index new_index order moment code sound more is there fresh found =
     let kept = sound.journal.kept in
     let idle = group_idle order moment code records (sym sound.standing_is) in
@@ -258,9 +258,9 @@ front_more limit bytes at len orders id code index new_index front more has none
           let rest = length-append group has.rest in
           let n = has.counted in omega arith);
       sound =
-          subst (λ (bs : List ℕ). IsSound bs (records_in Two bs) standings.Idle (orders + 1) limit 0 new_index) (sym taken)
+          subst (λ (bs : List ℕ). IsSound bs (records_in Two bs) standings.Idle (orders + 1) limit 0 0 new_index) (sym taken)
           (subst (λ (rs : List Record).
-          IsSound (take at bytes ++ group) rs standings.Idle (orders + 1) limit 0 new_index) (sym read) sound);
+          IsSound (take at bytes ++ group) rs standings.Idle (orders + 1) limit 0 0 new_index) (sym read) sound);
       begun = begun_more index new_index at id code front.begun found;
     }
 

@@ -65,21 +65,22 @@ allowed_record (standings.Left unit) (Closed closed) a o n = rw a n
 allowed_record _ _ a o n = absurd a
 
 -- what is due falls by the bytes that come
-due_next : (standing : Standing) (entry : Record) (records : List Record) (limit room new_room : ℕ) (numbers : List ℕ)
+due_next : (standing : Standing) (entry : Record) (records : List Record) (limit room new_room index_room : ℕ)
+    (numbers : List ℕ)
     → standing ≡ standing_of records → Allows standing entry
-    → MayBegin (record { records = records; limit = limit; room = room; numbers = numbers }) entry
+    → MayBegin (record { records = records; limit = limit; room = room; numbers = numbers; index_room = index_room }) entry
     → bytes_due standing ≤ room → room ≤ new_room + length (spelling Two entry)
     → bytes_due (next_standing standing entry) ≤ new_room
-due_next standings.Idle (Began order moment) records limit room new_room numbers s a may d r = let h = may.0.0 in omega arith
-due_next (standings.Began order) (Opened unit) records limit room new_room numbers s a may d r = omega arith
-due_next (standings.Began order) (Ended Short) records limit room new_room numbers s a may d r = omega arith
-due_next (standings.Began order) (Ended Format) records limit room new_room numbers s a may d r = omega arith
-due_next (standings.Began order) (Ended Silent) records limit room new_room numbers s a may d r = omega arith
-due_next (standings.Opened order) (Ended Done) records limit room new_room numbers s a may d r = omega arith
-due_next (standings.Opened order) (Ended Doubt) records limit room new_room numbers s a may d r = omega arith
-due_next (standings.Opened order) (Ended DoubtOpen) records limit room new_room numbers s a may d r = omega arith
-due_next (standings.Left unit) (Closed closed) records limit room new_room numbers s a may d r = omega arith
-due_next _ _ records limit room new_room numbers s a may d r = absurd a
+due_next standings.Idle (Began order moment) records limit room new_room index_room numbers s a may d r = let h = may.0.0 in omega arith
+due_next (standings.Began order) (Opened unit) records limit room new_room index_room numbers s a may d r = omega arith
+due_next (standings.Began order) (Ended Short) records limit room new_room index_room numbers s a may d r = omega arith
+due_next (standings.Began order) (Ended Format) records limit room new_room index_room numbers s a may d r = omega arith
+due_next (standings.Began order) (Ended Silent) records limit room new_room index_room numbers s a may d r = omega arith
+due_next (standings.Opened order) (Ended Done) records limit room new_room index_room numbers s a may d r = omega arith
+due_next (standings.Opened order) (Ended Doubt) records limit room new_room index_room numbers s a may d r = omega arith
+due_next (standings.Opened order) (Ended DoubtOpen) records limit room new_room index_room numbers s a may d r = omega arith
+due_next (standings.Left unit) (Closed closed) records limit room new_room index_room numbers s a may d r = omega arith
+due_next _ _ records limit room new_room index_room numbers s a may d r = absurd a
 
 length_come : (progress : Progress) (orders : List (Contents × Progress)) → length (come_to progress orders)
     ≡ length orders
@@ -108,27 +109,40 @@ new_next journal (Ended code) may = tt
 new_next journal (Closed unit) may = tt
 
 -- a record that comes is in range
-pub entry_record : (bytes : List ℕ) (records : List Record) (standing : Standing) (orders limit room : ℕ)
+pub entry_record : (bytes : List ℕ) (records : List Record) (standing : Standing) (orders limit room index_room : ℕ)
     (index : List (ℕ × Place)) (entry : Record)
-    → IsSound bytes records standing orders limit room index → Allows (standing_of records) entry → BeginsInRange entry
+    → IsSound bytes records standing orders limit room index_room index → Allows (standing_of records) entry → BeginsInRange entry
     → IsRecord Two entry
-entry_record bytes records standing orders limit room index entry sound a o =
+entry_record bytes records standing orders limit room index_room index entry sound a o =
     allowed_record (standing_of records) entry a o
     (named records sound.journal.kept.whole.0 sound.journal.kept.in_range)
 
-sound_more : (bytes : List ℕ) (records : List Record) (standing : Standing) (orders limit room new_room : ℕ)
+sound_more : (bytes : List ℕ) (records : List Record) (standing : Standing)
+    (orders limit room new_room index_room new_index_room : ℕ)
     (index new_index : List (ℕ × Place)) (entry : Record)
-    → IsSound bytes records standing orders limit room index → Allows (standing_of records) entry → BeginsInRange entry
-    → MayBegin (record { records = records; limit = limit; room = room; numbers = keys_of index }) entry
+    → IsSound bytes records standing orders limit room index_room index → Allows (standing_of records) entry → BeginsInRange entry
+    → MayBegin (record {
+      records = records;
+      limit = limit;
+      room = room;
+      numbers = keys_of index;
+      index_room = index_room;
+    }) entry
     → ((id : ℕ)
     → place_of (lookup (nat_eq id) new_index)
     ≡ place_after standing entry (length bytes) id (place_of (lookup (nat_eq id) index)))
     → HasShortUnit (next_standing standing entry) → room ≤ new_room + length (spelling Two entry)
     → IsSound (bytes ++ spelling Two entry) (entry ∷ records) (next_standing standing entry) (orders + orders_begun entry)
-    limit new_room new_index
-sound_more bytes records standing orders limit room new_room index new_index entry sound a o may wrote short rest =
-    let journal : JournalState = record { records = records; limit = limit; room = room; numbers = keys_of index } in
-    let is = entry_record bytes records standing orders limit room index entry sound a o in
+    limit new_room new_index_room new_index
+sound_more bytes records standing orders limit room new_room index_room new_index_room index new_index entry sound a o may wrote short rest =
+    let journal : JournalState = record {
+      records = records;
+      limit = limit;
+      room = room;
+      numbers = keys_of index;
+      index_room = index_room;
+    } in
+    let is = entry_record bytes records standing orders limit room index_room index entry sound a o in
     let more = orders_more records entry in
     let within = within_next journal entry may sound.journal.kept.whole.1 in
     record {
@@ -143,7 +157,7 @@ sound_more bytes records standing orders limit room new_room index new_index ent
         };
         limited = sound.journal.limited;
         due =
-            due_next (standing_of records) entry records limit room new_room (keys_of index) refl a may
+            due_next (standing_of records) entry records limit room new_room index_room (keys_of index) refl a may
             sound.journal.due rest;
       };
       known = λ id.
@@ -157,35 +171,43 @@ sound_more bytes records standing orders limit room new_room index new_index ent
     }
 
 -- the bytes of one record more are read as one record more
-pub records_more : (bytes : List ℕ) (standing : Standing) (orders limit room : ℕ) (index : List (ℕ × Place))
+pub records_more : (bytes : List ℕ) (standing : Standing) (orders limit room index_room : ℕ)
+    (index : List (ℕ × Place))
     (entry : Record)
-    → IsSound bytes (records_in Two bytes) standing orders limit room index → Allows (standing_of (records_in Two bytes)) entry
+    → IsSound bytes (records_in Two bytes) standing orders limit room index_room index → Allows (standing_of (records_in Two bytes)) entry
     → BeginsInRange entry
     → records_in Two (bytes ++ spelling Two entry) ≡ entry ∷ records_in Two bytes
-records_more bytes standing orders limit room index entry sound a o =
+records_more bytes standing orders limit room index_room index entry sound a o =
     ap (λ front. records_in Two (front ++ spelling Two entry)) sound.spelled
     ∙ spelling_read Two (entry ∷ records_in Two bytes) (
-      entry_record bytes (records_in Two bytes) standing orders limit room index entry sound a o,
+      entry_record bytes (records_in Two bytes) standing orders limit room index_room index entry sound a o,
       sound.journal.kept.in_range,
     )
 
-pub sound_next : (bytes : List ℕ) (standing : Standing) (orders limit room new_room at : ℕ)
+pub sound_next : (bytes : List ℕ) (standing : Standing)
+    (orders limit room new_room index_room new_index_room at : ℕ)
     (index new_index : List (ℕ × Place)) (entry : Record)
-    → IsSound bytes (records_in Two bytes) standing orders limit room index → Allows (standing_of (records_in Two bytes)) entry
+    → IsSound bytes (records_in Two bytes) standing orders limit room index_room index → Allows (standing_of (records_in Two bytes)) entry
     → BeginsInRange entry
-    → MayBegin (record { records = records_in Two bytes; limit = limit; room = room; numbers = keys_of index }) entry
+    → MayBegin (record {
+      records = records_in Two bytes;
+      limit = limit;
+      room = room;
+      numbers = keys_of index;
+      index_room = index_room;
+    }) entry
     → ((id : ℕ)
     → place_of (lookup (nat_eq id) new_index) ≡ place_after standing entry at id (place_of (lookup (nat_eq id) index)))
     → at ≡ length bytes → HasShortUnit (next_standing standing entry) → room ≤ new_room + length (spelling Two entry)
     → IsSound (bytes ++ spelling Two entry) (records_in Two (bytes ++ spelling Two entry)) (next_standing standing entry)
-    (orders + orders_begun entry) limit new_room new_index
-sound_next bytes standing orders limit room new_room at index new_index entry sound a o may wrote there short rest =
+    (orders + orders_begun entry) limit new_room new_index_room new_index
+sound_next bytes standing orders limit room new_room index_room new_index_room at index new_index entry sound a o may wrote there short rest =
     subst (λ (those : List Record).
     IsSound (bytes ++ spelling Two entry) those (next_standing standing entry) (orders + orders_begun entry) limit
-    new_room new_index)
-    (sym (records_more bytes standing orders limit room index entry sound a o))
-    (sound_more bytes (records_in Two bytes) standing orders limit room new_room index new_index entry sound a o may
-    (λ id. wrote id ∙ ap (λ n. place_after standing entry n id (place_of (lookup (nat_eq id) index))) there) short rest)
+    new_room new_index_room new_index)
+    (sym (records_more bytes standing orders limit room index_room index entry sound a o))
+    (sound_more bytes (records_in Two bytes) standing orders limit room new_room index_room new_index_room index new_index
+    entry sound a o may (λ id. wrote id ∙ ap (λ n. place_after standing entry n id (place_of (lookup (nat_eq id) index))) there) short rest)
 
 -- a number that has room is in the index
 pub entered : (journal : JournalState) (index : List (ℕ × Place)) (entry : Record) → MayBegin journal entry
@@ -275,7 +297,7 @@ pub room_kept : (journal : JournalState) (bytes new : List ℕ) (room : ℕ) (in
     → new ≡ bytes → records_in Two bytes ≡ journal.records → keys_of index ≡ journal.numbers → journal.room ≤ room
     → ((id : ℕ) → is_some (lookup (nat_eq id) index) ≡ true → is_some (lookup (nat_eq id) new_index) ≡ true)
     → (order : Contents) → HasRoom journal order
-    → HasRoom (record { records = records_in Two new; limit = 0; room = room; numbers = keys_of new_index }) order
+    → HasRoom (record { records = records_in Two new; limit = 0; room = room; numbers = keys_of new_index; index_room = 0 }) order
 room_kept journal bytes new room index new_index same records numbers more stays order h = (
   let due = ap (λ (those : List Record). bytes_due (standing_of those)) (ap (records_in Two) same ∙ records) in
       let enough = h.0 in omega arith,

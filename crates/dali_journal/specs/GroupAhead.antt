@@ -78,5 +78,5 @@ pub record HasGroup (id : ℕ) (code : Code) (len : ℕ) (bytes : List ℕ) : Ty
 -- and of no other
 pub record IsFront (limit : ℕ) (bytes : List ℕ) (len orders : ℕ) (index : List (ℕ × Place)) : Type 0 where
   pub within : len ≤ length bytes
-  pub sound : IsSound (take len bytes) (records_in Two (take len bytes)) standings.Idle orders limit 0 index
+  pub sound : IsSound (take len bytes) (records_in Two (take len bytes)) standings.Idle orders limit 0 0 index
   pub begun : (id : ℕ) (place : Place) → lookup (nat_eq id) index ≡ Some place → is_begun_at place ≡ true

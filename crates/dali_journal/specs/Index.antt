@@ -84,11 +84,17 @@ orders_begun (Began order moment) = 1
 orders_begun other = 0
 
 -- what is so of a journal's parts: the bytes are those of the records, and the rest tells of the records
-pub record IsSound (bytes : List ℕ) (records : List Record) (standing : Standing) (orders limit room : ℕ)
-    (index : List (ℕ × Place)) : Type 0 where
+pub record IsSound (bytes : List ℕ) (records : List Record) (standing : Standing)
+    (orders limit room index_room : ℕ) (index : List (ℕ × Place)) : Type 0 where
   pub spelled : bytes ≡ records_spelling Two records
   pub standing_is : standing ≡ standing_of records
   pub short : HasShortUnit standing
   pub count : orders ≡ length (orders_of records)
-  pub journal : IsJournal (record { records = records; limit = limit; room = room; numbers = keys_of index })
+  pub journal : IsJournal (record {
+    records = records;
+    limit = limit;
+    room = room;
+    numbers = keys_of index;
+    index_room = index_room;
+  })
   pub known : (id : ℕ) → Agrees bytes (place_of (lookup (nat_eq id) index)) (kept_of id records) (moment_of id records)

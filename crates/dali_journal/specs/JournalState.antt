@@ -13,12 +13,13 @@ use Rattle.dali_journal.specs.Orders.{orders_of}
 use Rattle.dali_journal.specs.Spelling.{spelling, IsRecord}
 
 -- its records, the newest first; the most orders that it may hold; for how many bytes more it has memory;
--- the numbers in its index
+-- the numbers in its index, and for how many numbers more that has memory
 pub record JournalState : Type 0 where
   pub records : List Record
   pub limit : ℕ
   pub room : ℕ
   pub numbers : List ℕ
+  pub index_room : ℕ
 
 -- how many bytes may come before the journal is idle again
 abbrev pub bytes_due : Standing → ℕ

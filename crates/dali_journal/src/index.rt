@@ -1,5 +1,5 @@
 ghost use Rattle.std.specs.Prelude.{◌≡◌, ℕ, ◌==◌, nat_eq, Option, Some, IsOk, OnOk, if◌then◌else◌};
-ghost use Rattle.indexmap.specs.IndexMap.{get, keys, ContainsKey};
+ghost use Rattle.indexmap.specs.IndexMap.{get, keys, spare, ContainsKey};
 ghost use Rattle.dali_bank.specs.Order.{Contents};
 ghost use Rattle.dali_journal.specs.declared.kept.Kept.{Kept as KeptValue};
 ghost use Rattle.dali_journal.specs.declared.record.Record.TheVariants.{Began};
@@ -81,6 +81,7 @@ pub(crate) fn note(index: &mut IndexMap<u64, Place>, standing: &Standing, entry:
     ensures places { (id : ℕ) → place_of (get nat_eq index.new id)
         ≡ place_after standing.now entry.now at id (place_of (get nat_eq index.old id)) }
     ensures numbers { keys index.new ≡ keys index.old }
+    ensures room { spare index.new ≡ spare index.old }
 {
     match entry {
         Record::Began(order, _) => set_place(index, order.id(), Place::Begun(at)),
@@ -99,6 +100,7 @@ fn set_place(index: &mut IndexMap<u64, Place>, id: u64, place: Place)
     ensures places { (other : ℕ) → place_of (get nat_eq index.new other)
         ≡ (if id == other then place else place_of (get nat_eq index.old other)) }
     ensures numbers { keys index.new ≡ keys index.old }
+    ensures room { spare index.new ≡ spare index.old }
 {
     if let Some(known) = index.get_mut(&id) {
         *known = place;
@@ -111,6 +113,7 @@ fn end_place(index: &mut IndexMap<u64, Place>, id: u64, code: Code)
         ≡ (if id == other then ended_place code (place_of (get nat_eq index.old other))
         else place_of (get nat_eq index.old other)) }
     ensures numbers { keys index.new ≡ keys index.old }
+    ensures room { spare index.new ≡ spare index.old }
 {
     if let Some(known) = index.get_mut(&id) {
         *known = known.ended(code);

@@ -64,6 +64,7 @@ impl Drop for Journal {
 impl Model for Journal {
     ghost use Rattle.std.specs.Prelude.{◌-◌, vec_len, vec_capacity};
     ghost use Rattle.std.specs.Map.{keys_of};
+    ghost use Rattle.indexmap.specs.IndexMap.{spare};
     ghost use Rattle.dali_journal.specs.declared.version.Version.TheVariants.{Two};
     ghost use Rattle.dali_journal.specs.Decoding.{records_in};
     ghost use Rattle.dali_journal.specs.JournalState.{JournalState};
@@ -76,11 +77,12 @@ impl Model for Journal {
       limit = j.limit;
       room = vec_capacity j.bytes - vec_len j.bytes;
       numbers = keys_of j.index.entries;
+      index_room = spare j.index;
     } };
 
     ghost invariant = { λ j.
         IsSound j.bytes.items (records_in Two j.bytes.items) j.standing j.orders j.limit
-        (vec_capacity j.bytes - vec_len j.bytes) j.index.entries };
+        (vec_capacity j.bytes - vec_len j.bytes) (spare j.index) j.index.entries };
 }
 
 impl Journal {
@@ -92,6 +94,7 @@ impl Journal {
         ensures accepted { OnOk result (IsLimit limit) }
         ensures succeeds { IsLimit limit → IsOk result }
         ensures ok { IfOk result (λ journal. (journal.records ≡ []) × (journal.limit ≡ limit)) }
+        ensures room { IfOk result (λ journal. (journal.room ≡ 0) × (journal.numbers ≡ [])) }
         ensures err { IfErr result (λ fault. IsNewFault limit fault) }
     {
         if limit < 1 || limit > MOST_ORDERS {
@@ -380,6 +383,7 @@ impl Journal {
         ensures limit { self.new.limit ≡ self.old.limit }
         ensures kept_room { KeepsRoom entry self.old self.new }
         ensures room { self.new.room + length (spelling Two entry) ≡ self.old.room }
+        ensures index_room { self.new.index_room ≡ self.old.index_room }
     {
         let bytes = entry.bytes();
         note(&mut self.index, &self.standing, &entry, self.bytes.len());

@@ -100,6 +100,7 @@ may_keep start past journal (Writes order s) entry d ready e = by (aim_of s) ref
         limit = journal.limit;
         room = journal.room;
         numbers = journal.numbers;
+        index_room = journal.index_room;
       } in
       rw (← same_entry (Ended (write_code verdict)) entry e)
       (written_on start past journal new order s verdict d ready aim refl refl).legal
@@ -110,6 +111,7 @@ may_keep start past journal (Closes order moment s) entry d ready e =
       limit = journal.limit;
       room = journal.room;
       numbers = journal.numbers;
+      index_room = journal.index_room;
     } in
     rw (← is.1) (closed_on start past journal new order moment s d ready is.0 refl refl).legal
 

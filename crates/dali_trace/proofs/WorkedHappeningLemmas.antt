@@ -1,4 +1,5 @@
--- What stands in a part of a trace and what doesn't, what is the same but for its answer, and how replies are told.
+-- What stands in a part of a trace and what doesn't, what is the same but for its answer, and how replies are
+-- numbered and told.
 use Rattle.std.proofs.Common.{◌≡◌, refl, ap, ℕ, List, [], ◌∷◌, Option, Some, None, codes, arith}
 use Rattle.std.proofs.lemmas.Fmt.{decimal_digit}
 use Rattle.dali_frame.specs.declared.forward.Frame.TheVariants.{Dtr0, Dtr1, Read}
@@ -9,7 +10,7 @@ use Rattle.dali_trace.specs.declared.happening.Happening.{Happening}
 use Rattle.dali_trace.specs.declared.happening.Happening.TheVariants.{Asked, Answered, Sent, Kept, Stopped, Powered}
 use Rattle.dali_trace.specs.Quiet.{NoneTaken, NoneSent}
 use Rattle.dali_trace.specs.Next.{IsSameBut}
-use Rattle.dali_trace.specs.Replies.{reply_text}
+use Rattle.dali_trace.specs.Replies.{reply_number, reply_text}
 use Rattle.dali_trace.specs.Worked.{first_order, begun}
 
 -- Frames
@@ -101,6 +102,13 @@ not_another_saying same = omega (arith, ap number_of same)
 
 pub not_a_frame_for_a_record : IsSameBut (Kept (Opened 5)) (Sent (Dtr0 3) None) → ⊥
 not_a_frame_for_a_record same = omega (arith, ap opened_of same)
+
+-- The numbers of replies
+
+pub numbered : (reply_number (replies.Kept Done) ≡ 1) × (reply_number replies.IdReused ≡ 2)
+    × (reply_number replies.Busy ≡ 3) × (reply_number replies.Full ≡ 4) × (reply_number replies.Taken ≡ 5)
+    × (reply_number (replies.Blocked 5) ≡ 6)
+numbered = (refl, refl, refl, refl, refl, refl)
 
 -- How replies are told, in bytes
 

@@ -6,7 +6,7 @@ use Rattle.dali_gear.specs.declared.fault.GearFault.TheVariants.{Address}
 use Rattle.dali_input.specs.declared.item.ItemFault.{ItemFault}
 use Rattle.dali_input.specs.declared.setup.SetupFault.TheVariants as faults
 use Rattle.dali_input.specs.Scenario.{PlannedUnit, PlannedEvent, Planned}
-use Rattle.dali_input.specs.Setup.{AreTogether, IsFirstUnitFault, IsSetupRefused}
+use Rattle.dali_input.specs.Setup.{AreTogether, IsFirstUnitFault, HasBus, IsSetupRefused}
 
 -- a unit at short address 64, which there isn't
 abbrev far_unit : PlannedUnit
@@ -30,11 +30,15 @@ told_as_its_fault events = record {
 
 pub not_as_an_order : (events : List PlannedEvent) (number : ℕ) (fault : ItemFault)
     → IsSetupRefused (one_far events) (faults.Order number fault) → ⊥
-not_as_an_order events number fault refused = omega (arith, refused.0.bus.made.makeable.0.short)
+not_as_an_order events number fault refused = no_bus refused.0 where
+  no_bus : HasBus (one_far events) → ⊥
+  no_bus has = omega (arith, has.bus.made.makeable.0.short)
 
 -- nor where two units are at one address
 pub not_as_an_order_where_two_are_together : (planned : Planned) (number : ℕ) (fault : ItemFault)
     → AreTogether planned.units → IsSetupRefused planned (faults.Order number fault) → ⊥
-not_as_an_order_where_two_are_together planned number fault two refused =
-    let bus = refused.0.bus in
-    two.together (subst (λ (units : List UnitState). AreApart units) (bus.made.made ∙ sym two.made.made) bus.apart)
+not_as_an_order_where_two_are_together planned number fault two refused = no_bus refused.0 where
+  no_bus : HasBus planned → ⊥
+  no_bus has =
+      let made = has.bus.made.made ∙ sym two.made.made in
+      two.together (subst (λ (units : List UnitState). AreApart units) made has.bus.apart)

@@ -5,3 +5,4 @@ pub mod ReportLemmas
 pub mod RunLemmas
 pub mod NoteLemmas
 mod WorkedNoteLemmas
+mod WorkedEndLemmas

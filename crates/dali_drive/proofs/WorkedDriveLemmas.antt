@@ -1,5 +1,6 @@
 -- A small drive, and what is near it and isn't one.
-use Rattle.std.proofs.Common.{get_or, ap, ◌≡◌, ◌≢◌, inl, refl, sym, ℕ, List, [], ◌∷◌, Some, None, codes, arith}
+use Rattle.std.proofs.Common.{get_or, ap, ◌≡◌, ◌≢◌, inl, inr, refl, sym, ℕ, List, [], ◌∷◌, Some, None, codes}
+use Rattle.std.proofs.Common.{Bool, true, false, arith}
 use Rattle.std.proofs.lemmas.Fmt.{decimal_digit}
 use Rattle.std.proofs.lemmas.List.Elements.{All-from_recursion}
 use Rattle.dali_bank.specs.Order.{Contents}
@@ -12,12 +13,14 @@ use Rattle.dali_journal.specs.declared.version.Version.{Version}
 use Rattle.dali_journal.specs.Spelling.{IsRecord}
 use Rattle.dali_write.proofs.NextLemmas.{none_ended}
 use Rattle.dali_trace.specs.declared.happening.Reply.TheVariants as replies
-use Rattle.dali_trace.specs.declared.happening.Happening.TheVariants.{Sent, Kept}
+use Rattle.dali_trace.specs.declared.happening.Happening.TheVariants.{Asked, Sent, Kept, Stopped, Powered}
 use Rattle.dali_drive.specs.declared.fault.DriveFault.TheVariants as faults
+use Rattle.dali_frame.specs.declared.fault.LineFault.{LineFault}
 use Rattle.dali_trace.specs.Next.{IsNext}
 use Rattle.dali_drive.specs.Lines.{reply_line, IsAnswerLine}
 use Rattle.dali_drive.specs.Transcript.{Streams}
-use Rattle.dali_drive.specs.Driven.{IsDriven, BrokenOff}
+use Rattle.dali_drive.specs.Driven.{IsDriven, BrokenOff, IsInTurn, FailedAs}
+use Rattle.dali_drive.specs.Faults.{drive_number}
 use Rattle.dali_drive.specs.Sittings.{IsFileOf, after}
 use Rattle.dali_trace.specs.Worked.{empty, first_order, begun}
 use Rattle.dali_trace.specs.WorkedPlans.{half_tried}
@@ -128,3 +131,85 @@ no_record (Closed unit) next = let planned = next.planned in none_ended 5 _ _ pl
 pub no_record_broken : (rest : List Contents) (old new : Streams) → BrokenOff empty begun rest faults.Journal old new
     → ⊥
 no_record_broken rest old new (entry, next, cut) = no_record entry next
+
+-- Which happenings a drive makes
+
+pub asked_in_turn : IsInTurn empty (Asked first_order 7 ∷ [])
+asked_in_turn = (refl, tt)
+
+pub not_asked_at_work : IsInTurn empty (Asked first_order 8 ∷ begun) → ⊥
+not_asked_at_work turn = let busy : true ≡ false = turn.0 in cc
+
+pub not_stopped_in_turn : IsInTurn empty (Stopped ∷ begun) → ⊥
+not_stopped_in_turn turn = turn
+
+pub no_loss_of_power_in_turn : IsInTurn empty (Powered 5 ∷ begun) → ⊥
+no_loss_of_power_in_turn turn = turn
+
+pub no_loss_of_power_before : IsInTurn empty (Sent (Dtr1 1) None ∷ Powered 5 ∷ begun) → ⊥
+no_loss_of_power_before turn = turn
+
+-- Which streams have failed where a fault comes: its own, and no other
+
+pub each_its_own :
+    FailedAs faults.Journal true false false false × FailedAs faults.Link false true false false
+    × FailedAs faults.Link false false true false × FailedAs faults.Out false false false true
+    × FailedAs faults.End false false false false × FailedAs faults.NoMemory false false false false
+each_its_own = (
+  (refl, refl, refl, refl),
+  (refl, inl (refl, refl), refl),
+  (refl, inr (refl, refl), refl),
+  (refl, refl, refl, refl),
+  (refl, refl, refl, refl),
+  (refl, refl, refl, refl),
+)
+
+not_on : true ≡ false → ⊥
+not_on is = cc
+
+not_off : false ≡ true → ⊥
+not_off is = cc
+
+pub journal_without_its_failure : (link_out link_in out : Bool) → FailedAs faults.Journal false link_out link_in out → ⊥
+journal_without_its_failure link_out link_in out came = not_off came.0
+
+pub journal_with_the_link : (out : Bool) → FailedAs faults.Journal true true false out → ⊥
+journal_with_the_link out came = not_on came.1
+
+pub link_without_its_failure : (out : Bool) → FailedAs faults.Link false false false out → ⊥
+link_without_its_failure out (journal, inl (failed, whole), rest) = not_off failed
+link_without_its_failure out (journal, inr (whole, failed), rest) = not_off failed
+
+pub link_with_both : (out : Bool) → FailedAs faults.Link false true true out → ⊥
+link_with_both out (journal, inl (failed, whole), rest) = not_on whole
+link_with_both out (journal, inr (whole, failed), rest) = not_on whole
+
+pub link_with_the_replies : (link_out link_in : Bool) → FailedAs faults.Link false link_out link_in true → ⊥
+link_with_the_replies link_out link_in came = not_on came.2
+
+pub out_without_its_failure : (link_out link_in : Bool) → FailedAs faults.Out false link_out link_in false → ⊥
+out_without_its_failure link_out link_in came = not_off came.3
+
+pub out_with_the_journal : (link_out link_in : Bool) → FailedAs faults.Out true link_out link_in true → ⊥
+out_with_the_journal link_out link_in came = not_on came.0
+
+pub end_with_a_failure : (journal link_out out : Bool) → FailedAs faults.End journal link_out true out → ⊥
+end_with_a_failure journal link_out out came = not_on came.2
+
+pub line_with_a_failure : (fault : LineFault) (journal link_out out : Bool)
+    → FailedAs (faults.Line fault) journal link_out true out → ⊥
+line_with_a_failure fault journal link_out out came = not_on came.2
+
+pub no_memory_with_a_failure : (link_out link_in out : Bool) → FailedAs faults.NoMemory true link_out link_in out → ⊥
+no_memory_with_a_failure link_out link_in out came = not_on came.0
+
+pub too_long_with_a_failure : (journal link_out out : Bool) → FailedAs faults.TooLong journal link_out true out → ⊥
+too_long_with_a_failure journal link_out out came = not_on came.2
+
+-- The numbers of the faults
+
+pub fault_numbers : (fault : LineFault)
+    → (drive_number faults.Journal ≡ 1) × (drive_number faults.Link ≡ 2) × (drive_number (faults.Line fault) ≡ 3)
+    × (drive_number faults.End ≡ 4) × (drive_number faults.NoMemory ≡ 5) × (drive_number faults.TooLong ≡ 6)
+    × (drive_number faults.Out ≡ 7)
+fault_numbers fault = (refl, refl, refl, refl, refl, refl, refl)

@@ -4,3 +4,4 @@ pub mod ValueLemmas
 pub mod KeyLemmas
 pub mod SetupLemmas
 pub mod OrderLemmas
+pub mod WorkedSetupLemmas

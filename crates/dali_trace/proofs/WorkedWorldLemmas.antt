@@ -342,12 +342,15 @@ pub fits_after_a_loss_before : Fits unlocked_world [] (5 ∷ []) before → Fits
 fits_after_a_loss_before fits = fits
 
 pub not_without_a_loss_of_power : FitsAt unlocked_world [] empty [] before → ⊥
-not_without_a_loss_of_power fits =
-    omega (arith, ap (λ (byte : Option ℕ). or_none byte) (unlost 5 1 2 _ _ (fits.locks 5 (λ is. is))))
+not_without_a_loss_of_power fits = by fits where
+  by : Fits unlocked_world [] [] before → ⊥
+  by fits = omega (arith, ap (λ (byte : Option ℕ). or_none byte) (unlost 5 1 2 _ _ (fits.locks 5 (λ is. is))))
 
 pub not_after_a_loss_of_another : FitsAt unlocked_world [] empty (Powered 6 ∷ []) before → ⊥
-not_after_a_loss_of_another fits = by (fits.locks 5 (λ is. is)) where
+not_after_a_loss_of_another fits = of_the_world fits where
   by : MayRelock (IsAmong (6 ∷ []) 5) 1 2 (Some 0x55) (Some 0xFF) → ⊥
   by (inl is) = omega (arith, ap (λ (byte : Option ℕ). or_none byte) is)
   by (inr (inl is, above, lock, now)) = omega (arith, is)
   by (inr (inr none, above, lock, now)) = none
+  of_the_world : Fits unlocked_world [] (6 ∷ []) before → ⊥
+  of_the_world fits = by (fits.locks 5 (λ is. is))

@@ -1,11 +1,11 @@
-// A journal of many orders.
+// A journal of many orders: over a megabyte in each version.
 use super::HEADER;
 use crate::expected::expect_that;
 use dali_journal::{Journal, Version};
 use std::alloc::Global;
 use std::test::Fail;
 
-const MANY: u32 = 3_000;
+const MANY: u32 = 62_000;
 
 // The bytes of so many orders for unit 5, each of the year 24 and of the moment 0, and none found the unit.
 fn bytes_of(alloc: Global, version: Version, orders: u32) -> Result<Vec<u8>, Fail> {
@@ -37,7 +37,7 @@ fn judge_many(alloc: Global, version: Version, new: &[u8]) -> Result<(), Fail> {
 }
 
 #[test]
-fn three_thousand_orders(rt: HostRuntime) -> Result<(), Fail> {
+fn over_a_megabyte_of_orders(rt: HostRuntime) -> Result<(), Fail> {
     let new = bytes_of(rt.alloc(), Version::Two, MANY)?;
     judge_many(rt.alloc(), Version::One, &new)?;
     judge_many(rt.alloc(), Version::Two, &new)

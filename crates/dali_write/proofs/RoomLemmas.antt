@@ -14,7 +14,7 @@ use Rattle.dali_write.specs.Stages.{plan_of}
 use Rattle.dali_write.proofs.PlanLemmas.{either_all}
 
 -- whatever the outcomes are, the plan has no more accesses
-abbrev HasAtMost : ℕ → Plan → Type 0
+abbrev pub HasAtMost : ℕ → Plan → Type 0
 HasAtMost most (Finish verdict) = Unit {0}
 HasAtMost zero (Make access after) = ⊥
 HasAtMost (suc most) (Make access after) = (outcome : Option ℕ) → HasAtMost most (after outcome)
@@ -26,7 +26,7 @@ read_on_has (suc most) location (suc left) few =
     either_all (HasAtMost most) (Finish Silent) (λ byte. read_on (suc location) left) tt
     (λ byte. read_on_has most (suc location) left (omega arith))
 
-read_all_has : HasAtMost 255 read_all
+pub read_all_has : HasAtMost 255 read_all
 read_all_has =
     either_all (HasAtMost 254) (Finish Silent) (λ last. read_on 1 (min last 0xFE)) tt
     (λ last. read_on_has 254 1 (min last 0xFE) (omega arith))
@@ -40,7 +40,7 @@ one_less (suc most) (Make access after) outcome has =
     let less : suc most - 1 ≡ most = omega arith in
     subst (λ (n : ℕ). HasAtMost n (after outcome)) (sym less) (has outcome)
 
-accesses_left : (most : ℕ) (plan : Plan) (outcomes : List (Option ℕ)) → HasAtMost most plan
+pub accesses_left : (most : ℕ) (plan : Plan) (outcomes : List (Option ℕ)) → HasAtMost most plan
     → HasAtMost (most - length outcomes) (plan_after plan outcomes)
 accesses_left most plan [] has =
     let all : most - 0 ≡ most = omega arith in subst (λ (n : ℕ). HasAtMost n plan) (sym all) has
@@ -49,12 +49,12 @@ accesses_left most plan (outcome ∷ outcomes) has =
     subst (λ (n : ℕ). HasAtMost n (goes_on (plan_after plan outcomes) outcome)) less
     (one_less (most - length outcomes) (plan_after plan outcomes) outcome (accesses_left most plan outcomes has))
 
-some_left : (most : ℕ) (plan : Plan) (access : Access) (after : Option ℕ → Plan) → plan ≡ Make access after
+pub some_left : (most : ℕ) (plan : Plan) (access : Access) (after : Option ℕ → Plan) → plan ≡ Make access after
     → HasAtMost most plan → 1 ≤ most
 some_left zero plan access after is has = absurd (subst (λ (p : Plan). HasAtMost zero p) is has)
 some_left (suc most) plan access after is has = omega arith
 
-found_few : (outcomes : List (Option ℕ)) → length (found outcomes) ≤ length outcomes
+pub found_few : (outcomes : List (Option ℕ)) → length (found outcomes) ≤ length outcomes
 found_few [] = omega arith
 found_few (outcome ∷ outcomes) =
     omega (arith, found_few outcomes, length-append (found outcomes) (option_to_list outcome), at_most_one outcome)

@@ -1,17 +1,15 @@
 -- The byte of a checked read was there when it was read, and its unit kept its power until the last answer.
-use Rattle.std.proofs.Common.{◌≡◌, ◌≢◌, refl, sym, ap, subst, ◌∙◌, inl, inr, ℕ, List, [], ◌∷◌, ◌++◌, length, Option, Some, None}
+use Rattle.std.proofs.Common.{◌≡◌, refl, sym, ap, subst, ◌∙◌, inl, inr, ℕ, List, [], ◌∷◌, ◌++◌, Option, Some, None}
 use Rattle.dali_frame.specs.declared.forward.Frame.{Frame}
 use Rattle.dali_frame.specs.declared.forward.Frame.TheVariants.{Dtr0, AskDtr0, AskDtr1, Read}
-use Rattle.dali_bus.specs.World.{World, Gear, byte_in, byte_at}
+use Rattle.dali_bus.specs.World.{World, Gear}
 use Rattle.dali_bus.specs.Power.{MayPowerUp}
-use Rattle.dali_bus.specs.Carry.{Carry}
 use Rattle.dali_write.specs.Exchanges.{Exchange}
-use Rattle.dali_write.specs.Tries.{byte_of}
-use Rattle.dali_write.specs.Reads.{EndsInRead, StillRead}
+use Rattle.dali_write.specs.Reads.{StillRead}
 use Rattle.dali_write.specs.Worlds.{Drifts, Stays, Loses, Run, IsCheckedRead}
 use Rattle.dali_write.specs.WhenRead.{AllBut, WhenRead}
 use Rattle.dali_write.proofs.GearLemmas.{LeavesDtr1, carry_dtr1, dtr1_in, asked1}
-use Rattle.dali_write.proofs.ShapeLemmas.{WasRead, Selected, selected, was_read}
+use Rattle.dali_write.proofs.ShapeLemmas.{selected, was_read}
 use Rattle.dali_write.proofs.TruthLemmas.{split, carried, selects_run, same_or_not, held_then, last_answer}
 
 -- a unit that lost its power has not bank 1 selected

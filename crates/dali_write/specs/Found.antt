@@ -5,7 +5,7 @@ use Rattle.dali_write.specs.Exchanges.{Exchange}
 use Rattle.dali_write.specs.declared.request.Request.{Request}
 use Rattle.dali_write.specs.declared.stage.Job.{Job}
 use Rattle.dali_write.specs.declared.stage.Job.TheVariants.{Reading}
-use Rattle.dali_write.specs.Plans.{Plan}
+use Rattle.dali_write.specs.Plans.{Plan, read_all}
 use Rattle.dali_write.specs.Tries.{Stands}
 
 -- the bytes of outcomes that are listed newest first, the oldest first
@@ -28,3 +28,13 @@ pub record StandsWith (job : Job) (unit : ℕ) (plan : Plan) (told : List Exchan
     (left : List Request) (byte : Option ℕ) (bytes : List ℕ) : Type 0 where
   pub stands : Stands unit plan told now misses left byte
   pub bytes_are : bytes ≡ kept_bytes job stands.outcomes
+
+-- What a reading session has read after these exchanges: they are whole accesses, then missed tries of the access at
+-- hand, then the try at hand, and the bytes are those that the whole accesses told, in their order.
+pub record ReadsSoFar (told : List Exchange) (unit : ℕ) (bytes : List ℕ) : Type 0 where
+  pub now : Plan
+  pub misses : ℕ
+  pub left : List Request
+  pub byte : Option ℕ
+  pub stands : Stands unit read_all told now misses left byte
+  pub bytes_are : bytes ≡ found stands.outcomes

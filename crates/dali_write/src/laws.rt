@@ -1,6 +1,7 @@
 //! Laws of checked accesses and sessions. Each is the contract of a function that does nothing.
 ghost use Rattle.std.specs.Prelude.{◌↔◌, ◌≡◌, ◌∷◌, ◌≤◌, ◌<◌, ◌⊎◌, ◌+◌, ◌*◌, List, [], length, slice_get, Some, ℕ};
-ghost use Rattle.std.specs.Prelude.{Option};
+ghost use Rattle.std.specs.Prelude.{Option, ◌≢◌};
+ghost use Rattle.dali_write.specs.Found.{ReadsSoFar};
 ghost use Rattle.dali_frame.specs.declared.forward.Frame.{Frame};
 ghost use Rattle.dali_frame.specs.declared.forward.Frame.TheVariants.{Write};
 ghost use Rattle.dali_write.specs.declared.ask.Ask.{Ask};
@@ -115,6 +116,16 @@ pub fn verdicts_rest_on_reads()
         → Rests (StillRead told unit) [] verdict }
     ensures reading { (told : List Exchange) (s : Session) → Told told s → job_of s ≡ Job.Reading
         → aim_of s ≡ Ask.Ended Verdict.Read → ReadsBank told (unit_of s) (bytes_read s) }
+{}
+
+/// What a reading session has read at each moment: the bytes that its accesses so far told, in their order, at most
+/// 255. The others have read nothing.
+pub fn sessions_keep_what_they_read()
+    ensures reading { (told : List Exchange) (s : Session) → Told told s → job_of s ≡ Job.Reading
+        → ReadsSoFar told (unit_of s) (bytes_read s) }
+    ensures few { (told : List Exchange) (s : Session) → Told told s → length (bytes_read s) ≤ 255 }
+    ensures others { (told : List Exchange) (s : Session) → Told told s → job_of s ≢ Job.Reading
+        → bytes_read s ≡ [] }
 {}
 
 /// What a session's verdict says of the world, whichever units lose their power meanwhile.

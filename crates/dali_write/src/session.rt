@@ -12,7 +12,7 @@ ghost use Rattle.dali_write.specs.declared.stage.Job.{Job};
 ghost use Rattle.dali_write.specs.Stages.{plan_of, order_for, plan_at, access_of};
 ghost use Rattle.dali_write.specs.Found.{kept_after};
 ghost use Rattle.dali_write.specs.FramesLeft.{limit_at};
-ghost use Rattle.dali_write.specs.Counts.{fresh_limit, opened_limit, closing_limit};
+ghost use Rattle.dali_write.specs.Counts.{fresh_limit, opened_limit, closing_limit, reading_limit};
 
 use crate::ask::{Ask, Verdict};
 use crate::request::{Request, byte_after};
@@ -101,6 +101,7 @@ impl Session {
         ensures unit { unit_of result ≡ unit }
         ensures job { job_of result ≡ Job.Reading }
         ensures told { Told [] result }
+        ensures left { frames_left result ≡ reading_limit }
     {
         Session::begun(unit, Job::Reading, Stage::ReadAll)
     }
@@ -161,7 +162,8 @@ impl Session {
     /// What a reading session has read so far: bank 1 from location 00h on, at most 255 bytes. Empty
     /// for the others.
     pub fn bytes(&self) -> &[u8]
-        ensures { result.now ≡ bytes_read self.now }
+        ensures value { result.now ≡ bytes_read self.now }
+        ensures few { length result.now ≤ 255 }
     {
         self.bytes.as_slice()
     }

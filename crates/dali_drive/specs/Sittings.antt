@@ -66,8 +66,8 @@ AreSittings limit first (newest ∷ older) last =
     (before : List ℕ) × AreSittings limit first older before × (newest.start.limit ≡ limit)
     × IsSitting before newest last
 
--- A drive from the bytes of its start's records leaves a file that bears out something that may have happened: all of
--- it where it came to its end.
+-- A drive from the bytes of its start's records leaves a file that bears out something that may have happened: the
+-- drive's trace, or that and one step more which was next there. Where it came to its end none is.
 pub record LeavesFile (start : Start) (trace : List Happening) (last : Streams) : Type 0 where
   pub past : List Happening
   pub happened : MayHaveHappened start trace past

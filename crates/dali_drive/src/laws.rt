@@ -20,8 +20,9 @@ ghost use Rattle.dali_drive.specs.Transcript.{Streams};
 ghost use Rattle.dali_drive.specs.Driven.{IsDrive, IsBrokenDrive};
 ghost use Rattle.dali_drive.specs.Sittings.{IsFileOf, AreSittings, LeavesFile, ActOnce};
 
-/// A drive from the bytes of its start's records in version 2 leaves the journal's file with whole records, and behind them at
-/// most a cut one: those of its trace where it came to its end, and else those of what may have happened.
+/// A drive from the bytes of its start's records in version 2 leaves the journal's file with whole records, and behind
+/// them at most a cut one: those of its trace, or of that and one step more which was next there. Where it came to its
+/// end none is.
 pub fn drives_leave_their_journal()
     ensures driven { (start : Start) (orders : List Contents) (moment : ℕ) (writer : Held)
         (first last : Streams) (d : IsDrive start orders moment first writer last)
@@ -34,10 +35,10 @@ pub fn drives_leave_their_journal()
 {}
 
 /// Drives one after another, however many and however each ended, each from the journal that is loaded from the file
-/// that the one before it left, the first from a file of either version, over one chain of worlds from a world that fits the start world and the start records
-/// and in which no unit is write-enabled but the one that they name: together they act as one, and each order once.
-/// Units may lose their power anywhere but between an order and its reply; in the start world the lock bytes of the
-/// banks from 2 up are FFh.
+/// that the one before it left, the first from a file of either version, over one chain of worlds from a world that
+/// fits the start world and the start records and in which no unit is write-enabled but the one that they name:
+/// together they act as one, and each order once. Units may lose their power anywhere but between an order and its
+/// reply; in the start world the lock bytes of the banks from 2 up are FFh.
 pub fn drives_act_once()
     ensures follow { (start : Start) (first left : List ℕ) (version : Version) (len : ℕ)
         (sittings : List Sitting) → IsFileOf first start version len → AreSittings start.limit first sittings left → FollowOn start sittings }

@@ -227,9 +227,10 @@ fn orders_that_little_befalls()
     ensures left { MeetsAll left_open left_bus sixth_order small_bank Code.Short 1 sixth_ended }
 {}
 
-// All of it is proved: the test calls it, so that nothing is left out.
+// All of it is proved: the test calls it, so that nothing is left out. The law of misses is reached through the writer.
 #[test]
 fn the_worked_plans_are_as_they_should_be() {
+    dali_writer::laws::misses_are_those_of_the_tries();
     frames_by_plan();
     ends_by_plan();
     traces_that_are_not_by_plan();

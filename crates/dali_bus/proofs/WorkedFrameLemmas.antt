@@ -96,8 +96,11 @@ silent_not_elsewhere h = by h.obeyed h.obeys.0 h.ends where
   by obeyed (inl did) ends =
       omega (arith, same_byte 7 9 (byte_kept obeyed (written true 2) ends ∙ ap (λ (g : Gear). g.memory 1 3) did.2))
   by obeyed (inr (dtr0, goes, is, none)) ends =
-      omega (arith, same_byte 0x09 0x55 (lock_kept obeyed (written true 2) ends
-      ∙ ap (λ (g : Gear). g.memory 1 2) is))
+      omega (
+        arith,
+        same_byte 0x09 0x55 (lock_kept obeyed (written true 2) ends
+            ∙ ap (λ (g : Gear). g.memory 1 2) is),
+      )
 
 pub silent_not_unenabled : Hears 5 (small false) (WriteSilent 9) None (written false 3) → ⊥
 silent_not_unenabled h = by h.obeyed h.obeys.0 h.ends where

@@ -13,6 +13,6 @@ nothing_behind_the_replies told = let more : Some (codes "{}\n") ≡ Some [] = t
 pub not_failed : (before after : Option (List ℕ)) → IsFaultTold faults.Out Failed before after → ⊥
 not_failed before after told = let other : Failed ≡ Unwritten = told.0 in cc
 
--- another fault is told, unless the replies can't be written by then
-pub end_told : IsFaultTold faults.End Good (Some []) (Some []) → ⊥
-end_told told = let is : Good ≡ Refused = (told (λ is. cc)).0 in cc
+-- another fault is told, and is no good end
+pub not_good_where_the_link_ends : IsFaultTold faults.End Good (Some []) (Some []) → ⊥
+not_good_where_the_link_ends told = let is : Good ≡ Refused = (told (λ is. cc)).0 in cc

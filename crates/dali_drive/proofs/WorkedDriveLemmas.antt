@@ -1,6 +1,6 @@
 -- A small drive, and what is near it and isn't one.
 use Rattle.std.proofs.Common.{get_or, ap, ◌≡◌, ◌≢◌, inl, inr, refl, sym, ℕ, List, [], ◌∷◌, Some, None, codes}
-use Rattle.std.proofs.Common.{Bool, true, false, arith}
+use Rattle.std.proofs.Common.{Bool, true, false, not, ◌⊎◌, arith}
 use Rattle.std.proofs.lemmas.Fmt.{decimal_digit}
 use Rattle.std.proofs.lemmas.List.Elements.{All-from_recursion}
 use Rattle.dali_bank.specs.Order.{Contents}
@@ -19,7 +19,7 @@ use Rattle.dali_frame.specs.declared.fault.LineFault.{LineFault}
 use Rattle.dali_trace.specs.Next.{IsNext}
 use Rattle.dali_drive.specs.Lines.{reply_line, IsAnswerLine}
 use Rattle.dali_drive.specs.Transcript.{Streams}
-use Rattle.dali_drive.specs.Driven.{IsDriven, BrokenOff, IsInTurn, FailedAs}
+use Rattle.dali_drive.specs.Driven.{IsDriven, BrokenOff, IsInTurn, NoneFailed, FailedAs}
 use Rattle.dali_drive.specs.Faults.{drive_number}
 use Rattle.dali_drive.specs.Sittings.{IsFileOf, after}
 use Rattle.dali_trace.specs.Worked.{empty, first_order, begun}
@@ -151,60 +151,46 @@ no_loss_of_power_before turn = turn
 
 -- Which streams have failed where a fault comes: its own, and no other
 
-pub each_its_own :
-    FailedAs faults.Journal true false false false × FailedAs faults.Link false true false false
+pub each_its_own : (fault : LineFault)
+    → FailedAs faults.Journal true false false false × FailedAs faults.Link false true false false
     × FailedAs faults.Link false false true false × FailedAs faults.Out false false false true
     × FailedAs faults.End false false false false × FailedAs faults.NoMemory false false false false
-each_its_own = (
+    × FailedAs (faults.Line fault) false false false false × FailedAs faults.TooLong false false false false
+each_its_own fault = (
   (refl, refl, refl, refl),
   (refl, inl (refl, refl), refl),
   (refl, inr (refl, refl), refl),
   (refl, refl, refl, refl),
   (refl, refl, refl, refl),
   (refl, refl, refl, refl),
+  (refl, refl, refl, refl),
+  (refl, refl, refl, refl),
 )
 
-not_on : true ≡ false → ⊥
-not_on is = cc
+failed_not : (failed : Bool) → failed ≡ true → not failed ≡ false
+failed_not failed is = ap not is
 
-not_off : false ≡ true → ⊥
-not_off is = cc
+pub journal_alone : (journal link_out link_in out : Bool) → FailedAs faults.Journal journal link_out link_in out
+    → NoneFailed (not journal) link_out link_in out
+journal_alone journal link_out link_in out came = (failed_not journal came.0, came.1, came.2, came.3)
 
-pub journal_without_its_failure : (link_out link_in out : Bool) → FailedAs faults.Journal false link_out link_in out → ⊥
-journal_without_its_failure link_out link_in out came = not_off came.0
+pub one_of_the_link : (journal link_out link_in out : Bool) → FailedAs faults.Link journal link_out link_in out
+    → NoneFailed journal (not link_out) link_in out ⊎ NoneFailed journal link_out (not link_in) out
+one_of_the_link journal link_out link_in out (kept, inl (failed, heard), written) =
+    inl (kept, failed_not link_out failed, heard, written)
+one_of_the_link journal link_out link_in out (kept, inr (sent, failed), written) =
+    inr (kept, sent, failed_not link_in failed, written)
 
-pub journal_with_the_link : (out : Bool) → FailedAs faults.Journal true true false out → ⊥
-journal_with_the_link out came = not_on came.1
+pub out_alone : (journal link_out link_in out : Bool) → FailedAs faults.Out journal link_out link_in out
+    → NoneFailed journal link_out link_in (not out)
+out_alone journal link_out link_in out came = (came.0, came.1, came.2, failed_not out came.3)
 
-pub link_without_its_failure : (out : Bool) → FailedAs faults.Link false false false out → ⊥
-link_without_its_failure out (journal, inl (failed, whole), rest) = not_off failed
-link_without_its_failure out (journal, inr (whole, failed), rest) = not_off failed
-
-pub link_with_both : (out : Bool) → FailedAs faults.Link false true true out → ⊥
-link_with_both out (journal, inl (failed, whole), rest) = not_on whole
-link_with_both out (journal, inr (whole, failed), rest) = not_on whole
-
-pub link_with_the_replies : (link_out link_in : Bool) → FailedAs faults.Link false link_out link_in true → ⊥
-link_with_the_replies link_out link_in came = not_on came.2
-
-pub out_without_its_failure : (link_out link_in : Bool) → FailedAs faults.Out false link_out link_in false → ⊥
-out_without_its_failure link_out link_in came = not_off came.3
-
-pub out_with_the_journal : (link_out link_in : Bool) → FailedAs faults.Out true link_out link_in true → ⊥
-out_with_the_journal link_out link_in came = not_on came.0
-
-pub end_with_a_failure : (journal link_out out : Bool) → FailedAs faults.End journal link_out true out → ⊥
-end_with_a_failure journal link_out out came = not_on came.2
-
-pub line_with_a_failure : (fault : LineFault) (journal link_out out : Bool)
-    → FailedAs (faults.Line fault) journal link_out true out → ⊥
-line_with_a_failure fault journal link_out out came = not_on came.2
-
-pub no_memory_with_a_failure : (link_out link_in out : Bool) → FailedAs faults.NoMemory true link_out link_in out → ⊥
-no_memory_with_a_failure link_out link_in out came = not_on came.0
-
-pub too_long_with_a_failure : (journal link_out out : Bool) → FailedAs faults.TooLong journal link_out true out → ⊥
-too_long_with_a_failure journal link_out out came = not_on came.2
+pub none_else : (fault : LineFault) (journal link_out link_in out : Bool)
+    → (FailedAs faults.End journal link_out link_in out → NoneFailed journal link_out link_in out)
+    × (FailedAs faults.NoMemory journal link_out link_in out → NoneFailed journal link_out link_in out)
+    × (FailedAs (faults.Line fault) journal link_out link_in out → NoneFailed journal link_out link_in out)
+    × (FailedAs faults.TooLong journal link_out link_in out → NoneFailed journal link_out link_in out)
+none_else fault journal link_out link_in out = (λ came. came, λ came. came, λ came. came, λ came. came)
 
 -- The numbers of the faults
 

@@ -1,5 +1,5 @@
 -- Near the edges of what is promised of a journal's room, and of the first of its faults.
-use Rattle.std.proofs.Common.{◌≡◌, refl, ℕ, ◌+◌, ◌<◌, List, [], arith, length}
+use Rattle.std.proofs.Common.{ℕ, ◌+◌, ◌<◌, [], arith, length}
 use Rattle.dali_bank.specs.Order.{Contents}
 use Rattle.dali_journal.specs.declared.fault.JournalFault.TheVariants as faults
 use Rattle.dali_journal.specs.declared.record.Code.{Code}

@@ -1,5 +1,5 @@
 -- What is something that is done, and what is nothing.
-use Rattle.std.proofs.Common.{◌≡◌, refl, ap, ℕ, List, [], ◌∷◌, None, length, arith}
+use Rattle.std.proofs.Common.{refl, ap, [], ◌∷◌, None, length, arith}
 use Rattle.dali_frame.specs.declared.forward.Frame.TheVariants.{Dtr0}
 use Rattle.dali_journal.specs.declared.record.Record.TheVariants.{Began}
 use Rattle.dali_trace.specs.declared.happening.Reply.TheVariants as replies

@@ -1,8 +1,8 @@
 -- What stands in a part of a trace and what doesn't, what is the same but for its answer, and how replies are
 -- numbered and told.
-use Rattle.std.proofs.Common.{◌≡◌, refl, ap, ℕ, List, [], ◌∷◌, Option, Some, None, codes, arith}
+use Rattle.std.proofs.Common.{◌≡◌, refl, ap, ℕ, List, [], ◌∷◌, Some, None, codes, arith}
 use Rattle.std.proofs.lemmas.Fmt.{decimal_digit}
-use Rattle.dali_frame.specs.declared.forward.Frame.TheVariants.{Dtr0, Dtr1, Read}
+use Rattle.dali_frame.specs.declared.forward.Frame.TheVariants.{Dtr0, Read}
 use Rattle.dali_journal.specs.declared.record.Code.TheVariants.{Done, DoubtOpen}
 use Rattle.dali_journal.specs.declared.record.Record.TheVariants.{Opened, Closed}
 use Rattle.dali_trace.specs.declared.happening.Reply.TheVariants as replies

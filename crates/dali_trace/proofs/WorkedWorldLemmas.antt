@@ -352,5 +352,6 @@ not_after_a_loss_of_another fits = of_the_world fits where
   by (inl is) = omega (arith, ap (λ (byte : Option ℕ). or_none byte) is)
   by (inr (inl is, above, lock, now)) = omega (arith, is)
   by (inr (inr none, above, lock, now)) = none
+
   of_the_world : Fits unlocked_world [] (6 ∷ []) before → ⊥
   of_the_world fits = by (fits.locks 5 (λ is. is))

@@ -1,13 +1,15 @@
 -- What `drive` answers and writes: of its orders, of its journal, and of the drive over its streams.
-use Rattle.std.specs.Prelude.{◌≡◌, ◌≢◌, ◌⊎◌, ℕ, List, Option, length}
+use Rattle.std.specs.Prelude.{◌≡◌, ◌≢◌, ◌⊎◌, ℕ, List, Option, Ok, length, map}
 use Rattle.std.specs.List.{flat_map}
 use Rattle.std.specs.Io.KnownBytes.{Appends}
+use Rattle.serde_json.specs.Data.{Items}
 use Rattle.dali_bank.specs.Order.{Contents}
 use Rattle.dali_journal.specs.declared.version.Version.{Version}
 use Rattle.dali_journal.specs.JournalState.{JournalState}
 use Rattle.dali_input.specs.declared.fault.InputFault.{InputFault}
 use Rattle.dali_input.specs.declared.item.ItemFault.{ItemFault}
 use Rattle.dali_input.specs.Input.{InputState, IsReadFailure, ReadsInput}
+use Rattle.dali_input.specs.Orders.{AreItems, AreRefused, JudgesEach, orders_limit}
 use Rattle.dali_drive.specs.declared.fault.DriveFault.{DriveFault}
 use Rattle.dali_drive.specs.declared.fault.DriveFault.TheVariants.{Out}
 use Rattle.dali_drive.specs.Driven.{IsDrive, IsBrokenDrive}
@@ -22,6 +24,14 @@ use Rattle.dali_commands.specs.Faults.{item_line, told_line, status_of}
 use Rattle.dali_commands.specs.JournalAnswers.{IsJournalIn, IsUnloaded, journal_limit}
 
 -- ---- the orders
+
+-- each item of an input spells its order
+abbrev pub AreOrdersIn : List ℕ → List Contents → Type 0
+AreOrdersIn input orders = (items : Items) × AreItems orders_limit input items × JudgesEach items (map Ok orders)
+
+-- some items of an input are refused, and these are all of them
+abbrev pub AreRefusedIn : List ℕ → List (ℕ × ItemFault) → Type 0
+AreRefusedIn input refused = (items : Items) × AreItems orders_limit input items × AreRefused items refused
 
 -- the lines of the refused items
 abbrev pub refused_lines : List (ℕ × ItemFault) → List ℕ

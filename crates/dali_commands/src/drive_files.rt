@@ -1,3 +1,7 @@
+ghost use Rattle.std.specs.Prelude.{◌≤◌, ◌+◌, ℕ, List, IfErr, IfOk, length};
+ghost use Rattle.dali_input.specs.Orders.{orders_limit};
+ghost use Rattle.dali_commands.specs.DriveAnswers.{AreOrdersIn, AreRefusedIn};
+
 use crate::check::check_noting;
 use crate::drive::{drive_over, tell_refused, told};
 use crate::fault::{Fault, Status};
@@ -6,7 +10,7 @@ use crate::journal_file::{Hindrance, open_journal};
 use crate::lines::Lines;
 use dali_bank::Order;
 use dali_drive::{StdSink, StdSource};
-use dali_input::{Input, InputFault, ItemFault, ORDERS_LIMIT, read_input, read_orders};
+use dali_input::{Input, InputFault, ItemFault, ORDERS_LIMIT, items_of, read_input};
 use dali_notes::{Escaped, FirstLines};
 use dali_text::{Output, Unwritten};
 use std::alloc::Global;
@@ -55,13 +59,19 @@ fn orders_in<R: Files + AllocGlobal, O: Write>(
     rt: &R,
     name: &str,
     lines: &mut O,
-) -> Result<Result<Vec<Order>, Vec<(u64, ItemFault)>>, Hindrance> {
+) -> Result<Result<Vec<Order>, Vec<(u64, ItemFault)>>, Hindrance>
+    ensures ok { IfOk result (λ judged. IfOk judged (λ orders. (input : List ℕ) × AreOrdersIn input orders.items)) }
+    ensures refused { IfOk result (λ judged. IfErr judged (λ refused. (input : List ℕ)
+        × AreRefusedIn input refused.items)) }
+{
     let bytes = bytes_in(rt, name)?;
     orders_of(rt.alloc(), bytes.as_slice(), lines)
 }
 
 // The bytes of a file of orders.
-fn bytes_in<R: Files + AllocGlobal>(rt: &R, name: &str) -> Result<Vec<u8>, Hindrance> {
+fn bytes_in<R: Files + AllocGlobal>(rt: &R, name: &str) -> Result<Vec<u8>, Hindrance>
+    ensures { IfOk result (λ bytes. length bytes.items ≤ orders_limit + 1) }
+{
     let mut file = Input::new(fs::open(rt, name)?);
     match read_input(rt.alloc(), &mut file, ORDERS_LIMIT) {
         Ok(bytes) => Ok(bytes),
@@ -74,8 +84,11 @@ fn orders_of<O: Write>(
     alloc: Global,
     input: &[u8],
     lines: &mut O,
-) -> Result<Result<Vec<Order>, Vec<(u64, ItemFault)>>, Hindrance> {
-    match read_orders(alloc, &mut Input::new(input)) {
+) -> Result<Result<Vec<Order>, Vec<(u64, ItemFault)>>, Hindrance>
+    ensures ok { IfOk result (λ judged. IfOk judged (λ orders. AreOrdersIn input.now orders.items)) }
+    ensures refused { IfOk result (λ judged. IfErr judged (λ refused. AreRefusedIn input.now refused.items)) }
+{
+    match judged(alloc, input) {
         Ok(Ok(orders)) => Ok(Ok(orders)),
         Ok(Err(refused)) => {
             if is_told(alloc, input, lines) {
@@ -90,6 +103,18 @@ fn orders_of<O: Write>(
             Hindrance::Unwritten
         }),
     }
+}
+
+// The orders of an input, or the items that are refused.
+fn judged(
+    alloc: Global,
+    input: &[u8],
+) -> Result<Result<Vec<Order>, Vec<(u64, ItemFault)>>, InputFault>
+    ensures ok { IfOk result (λ judged. IfOk judged (λ orders. AreOrdersIn input.now orders.items)) }
+    ensures refused { IfOk result (λ judged. IfErr judged (λ refused. AreRefusedIn input.now refused.items)) }
+{
+    let items = items_of(alloc, input, ORDERS_LIMIT)?;
+    Ok(dali_input::orders_of(alloc, items.as_slice())?)
 }
 
 // Tells a person what is wrong with an input, as by `check`, and whether that could be written.

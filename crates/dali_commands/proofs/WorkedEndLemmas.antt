@@ -1,5 +1,6 @@
 -- How a drive's fault is told: one of the replies' stream by its status alone, with nothing written behind them.
-use Rattle.std.proofs.Common.{◌≡◌, refl, ℕ, List, [], ◌∷◌, Option, Some, None, codes}
+use Rattle.std.proofs.Common.{◌≡◌, refl, inl, inr, ap, ℕ, zero, suc, List, [], ◌∷◌, ◌++◌, Option, Some, None, codes}
+use Rattle.std.proofs.Common.{get_or, arith}
 use Rattle.dali_drive.specs.declared.fault.DriveFault.TheVariants as faults
 use Rattle.dali_commands.specs.declared.fault.Status.TheVariants.{Good, Refused, Failed, Unwritten}
 use Rattle.dali_commands.specs.DriveAnswers.{IsFaultTold}
@@ -15,4 +16,19 @@ not_failed before after told = let other : Failed ≡ Unwritten = told.0 in cc
 
 -- another fault is told, and is no good end
 pub not_good_where_the_link_ends : IsFaultTold faults.End Good (Some []) (Some []) → ⊥
-not_good_where_the_link_ends told = let is : Good ≡ Refused = (told (λ is. cc)).0 in cc
+not_good_where_the_link_ends (inl told) = let is : Good ≡ Refused = told.0 in cc
+not_good_where_the_link_ends (inr told) = let is : Good ≡ Unwritten = told.0 in cc
+
+-- where the output fails then, a first part of its line stands behind the replies, and nothing else
+pub told_in_part : IsFaultTold faults.End Unwritten (Some (codes "{}")) (Some (codes "{}drive fault "))
+told_in_part = inr (refl, (12, omega arith, refl))
+
+pub nothing_else_in_part : IsFaultTold faults.End Unwritten (Some []) (Some (codes "{}")) → ⊥
+nothing_else_in_part (inl told) = let is : Unwritten ≡ Refused = told.0 in cc
+nothing_else_in_part (inr (is, (zero, within, part))) = let none : codes "{}" ≡ [] = part in cc
+nothing_else_in_part (inr (is, (suc k, within, part))) =
+    let first : 123 ≡ 100 = ap (λ (text : List ℕ). get_or text 0 0) part in omega (arith, first)
+
+pub not_in_part_and_refused : IsFaultTold faults.End Refused (Some []) (Some []) → ⊥
+not_in_part_and_refused (inl told) = let none : [] ≡ codes "drive fault " ++ _ = told.1 in cc
+not_in_part_and_refused (inr told) = let is : Refused ≡ Unwritten = told.0 in cc

@@ -1,17 +1,16 @@
 -- What `drive` answers and writes: of its orders, of its journal, and of the drive over its streams.
-use Rattle.std.specs.Prelude.{◌≡◌, ◌≢◌, ◌⊎◌, ℕ, List, Option, Ok, length, map}
+use Rattle.std.specs.Prelude.{◌≡◌, ◌⊎◌, ℕ, Bool, true, false, List, Option, length}
 use Rattle.std.specs.List.{flat_map}
 use Rattle.std.specs.Io.KnownBytes.{Appends}
-use Rattle.serde_json.specs.Data.{Items}
 use Rattle.dali_bank.specs.Order.{Contents}
 use Rattle.dali_journal.specs.declared.version.Version.{Version}
 use Rattle.dali_journal.specs.JournalState.{JournalState}
 use Rattle.dali_input.specs.declared.fault.InputFault.{InputFault}
 use Rattle.dali_input.specs.declared.item.ItemFault.{ItemFault}
 use Rattle.dali_input.specs.Input.{InputState, IsReadFailure, ReadsInput}
-use Rattle.dali_input.specs.Orders.{AreItems, AreRefused, JudgesEach, orders_limit}
 use Rattle.dali_drive.specs.declared.fault.DriveFault.{DriveFault}
 use Rattle.dali_drive.specs.declared.fault.DriveFault.TheVariants.{Out}
+use Rattle.dali_drive.specs.Streams.{PutsFirst}
 use Rattle.dali_drive.specs.Driven.{IsDrive, IsBrokenDrive}
 use Rattle.dali_writer.specs.Held.{Held}
 use Rattle.dali_trace.specs.Trace.{Start}
@@ -24,14 +23,6 @@ use Rattle.dali_commands.specs.Faults.{item_line, told_line, status_of}
 use Rattle.dali_commands.specs.JournalAnswers.{IsJournalIn, IsUnloaded, journal_limit}
 
 -- ---- the orders
-
--- each item of an input spells its order
-abbrev pub AreOrdersIn : List ℕ → List Contents → Type 0
-AreOrdersIn input orders = (items : Items) × AreItems orders_limit input items × JudgesEach items (map Ok orders)
-
--- some items of an input are refused, and these are all of them
-abbrev pub AreRefusedIn : List ℕ → List (ℕ × ItemFault) → Type 0
-AreRefusedIn input refused = (items : Items) × AreItems orders_limit input items × AreRefused items refused
 
 -- the lines of the refused items
 abbrev pub refused_lines : List (ℕ × ItemFault) → List ℕ
@@ -59,11 +50,18 @@ HasNoJournal before after fault =
 abbrev pub start_at : JournalState → Start
 start_at journal = record { records = journal.records; limit = journal.limit }
 
--- how a fault is told behind the replies; nothing is where they can't be written
+-- the fault is that the replies can't be written
+abbrev pub is_out : DriveFault → Bool
+is_out Out = true
+is_out fault = false
+
+-- how a fault is told behind the replies: by its line, or by a first part of that where the output fails then; nothing
+-- is told where the replies can't be written
 abbrev pub IsFaultTold : DriveFault → Status → Option (List ℕ) → Option (List ℕ) → Type 0
 IsFaultTold Out status before after = (status ≡ Unwritten) × (after ≡ before)
 IsFaultTold fault status before after =
-    status ≢ Unwritten → (status ≡ status_of (Drive fault)) × Appends before after (told_line (Drive fault))
+    ((status ≡ status_of (Drive fault)) × Appends before after (told_line (Drive fault)))
+    ⊎ ((status ≡ Unwritten) × PutsFirst before after (told_line (Drive fault)))
 
 -- all the orders were asked at this moment, and nothing more is to be done
 pub record EndsWell (start : Start) (orders : List Contents) (moment : ℕ) (first : Streams) (status : Status)

@@ -2,13 +2,13 @@ ghost use Rattle.std.specs.Prelude.{◌≡◌, ◌≢◌, ◌↔◌, IfOk, IfErr
 ghost use Rattle.dali_drive.specs.Transcript.{shown};
 ghost use Rattle.dali_text.specs.Output.{TellsFailure, Takes, has_failed, held, is_flushed};
 ghost use Rattle.dali_commands.specs.Ends.{TellsEnd};
-ghost use Rattle.dali_commands.specs.DriveAnswers.{IsDriveAnswer, IsFaultTold, refused_lines, start_at};
+ghost use Rattle.dali_commands.specs.DriveAnswers.{IsDriveAnswer, IsFaultTold, is_out, refused_lines, start_at};
 
 use crate::fault::{Fault, Status};
-use crate::fault_lines::{write_failure, write_refused_item};
+use crate::fault_lines::{drive_line, write_refused_item};
 use crate::lines::Lines;
 use dali_bank::Order;
-use dali_drive::{DriveFault, Sink, Source, drive};
+use dali_drive::{DriveFault, Sink, Source, drive, put_all};
 use dali_input::ItemFault;
 use dali_journal::Journal;
 use dali_text::{Output, Unwritten};
@@ -17,7 +17,8 @@ use std::io::Write;
 
 /// Carries out what a journal still asks for, and then the orders one after the other, each at this moment, over
 /// streams that haven't failed. Where that breaks off it writes the fault's line: 1 Journal, 2 Link, 3 Line, 4 End, 6
-/// TooLong, or 20 Memory. Where `lines` fails nothing more is written, and it is 7 Out.
+/// TooLong, or 20 Memory. Where `lines` fails it is 7 Out, or there stands a first part of the fault's line, and
+/// nothing more is written.
 pub fn drive_over<I: Source, L: Sink, J: Sink, W: Write>(
     journal: Journal,
     orders: &[Order],
@@ -48,20 +49,27 @@ pub fn drive_over<I: Source, L: Sink, J: Sink, W: Write>(
         lines,
     ) {
         Ok(_) => Status::Good,
-        Err(fault) => tell_fault(&mut lines.output, fault),
+        Err(fault) => tell_fault(lines, fault),
     }
 }
 
 // Writes the fault of a drive, where the replies could be written.
-fn tell_fault<W: Write>(output: &mut Output<W>, fault: DriveFault) -> Status
-    ensures told { IsFaultTold fault result (held W.contents output.old) (held W.contents output.new) }
-    ensures unwritten { fault ≢ DriveFault.Out → (result ≡ Status.Unwritten ↔ has_failed output.new ≡ true) }
-    ensures out { fault ≡ DriveFault.Out → (result ≡ Status.Unwritten) × (output.new ≡ output.old) }
+fn tell_fault<W: Write>(lines: &mut Lines<W>, fault: DriveFault) -> Status
+    requires { has_failed lines.old.output ≡ is_out fault }
+    ensures told { IsFaultTold fault result
+        (held W.contents lines.old.output) (held W.contents lines.new.output) }
+    ensures unwritten { result ≡ Status.Unwritten ↔ has_failed lines.new.output ≡ true }
 {
-    match fault {
-        DriveFault::Out => Status::Unwritten,
-        _ => told(write_failure(output, Fault::Drive(fault))),
+    if let DriveFault::Out = fault {
+        return Status::Unwritten;
     }
+    if !put_all(lines, drive_line(fault).as_bytes()) {
+        return Status::Unwritten;
+    }
+    if !lines.flush() {
+        return Status::Unwritten;
+    }
+    Fault::Drive(fault).status()
 }
 
 /// Writes the refused items of a list of orders, and nothing after them.

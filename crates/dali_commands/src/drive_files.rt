@@ -1,6 +1,5 @@
 ghost use Rattle.std.specs.Prelude.{◌≤◌, ◌+◌, ℕ, List, IfErr, IfOk, length};
-ghost use Rattle.dali_input.specs.Orders.{orders_limit};
-ghost use Rattle.dali_commands.specs.DriveAnswers.{AreOrdersIn, AreRefusedIn};
+ghost use Rattle.dali_input.specs.Orders.{AreOrdersIn, AreRefusedIn, orders_limit};
 
 use crate::check::check_noting;
 use crate::drive::{drive_over, tell_refused, told};
@@ -10,7 +9,7 @@ use crate::journal_file::{Hindrance, open_journal};
 use crate::lines::Lines;
 use dali_bank::Order;
 use dali_drive::{StdSink, StdSource};
-use dali_input::{Input, InputFault, ItemFault, ORDERS_LIMIT, items_of, read_input};
+use dali_input::{Input, InputFault, ItemFault, ORDERS_LIMIT, read_input, read_orders};
 use dali_notes::{Escaped, FirstLines};
 use dali_text::{Output, Unwritten};
 use std::alloc::Global;
@@ -88,7 +87,7 @@ fn orders_of<O: Write>(
     ensures ok { IfOk result (λ judged. IfOk judged (λ orders. AreOrdersIn input.now orders.items)) }
     ensures refused { IfOk result (λ judged. IfErr judged (λ refused. AreRefusedIn input.now refused.items)) }
 {
-    match judged(alloc, input) {
+    match read_orders(alloc, input) {
         Ok(Ok(orders)) => Ok(Ok(orders)),
         Ok(Err(refused)) => {
             if is_told(alloc, input, lines) {
@@ -103,18 +102,6 @@ fn orders_of<O: Write>(
             Hindrance::Unwritten
         }),
     }
-}
-
-// The orders of an input, or the items that are refused.
-fn judged(
-    alloc: Global,
-    input: &[u8],
-) -> Result<Result<Vec<Order>, Vec<(u64, ItemFault)>>, InputFault>
-    ensures ok { IfOk result (λ judged. IfOk judged (λ orders. AreOrdersIn input.now orders.items)) }
-    ensures refused { IfOk result (λ judged. IfErr judged (λ refused. AreRefusedIn input.now refused.items)) }
-{
-    let items = items_of(alloc, input, ORDERS_LIMIT)?;
-    Ok(dali_input::orders_of(alloc, items.as_slice())?)
 }
 
 // Tells a person what is wrong with an input, as by `check`, and whether that could be written.

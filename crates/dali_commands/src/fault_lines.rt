@@ -39,7 +39,7 @@ pub fn write_fault<W: Write>(output: &mut Output<W>, fault: Fault) -> Result<(),
         }
         Fault::Run(RunFault::NoMemory) => write_input_fault(output, InputFault::Memory),
         Fault::Journal(fault) => write_journal_fault(output, fault),
-        Fault::Drive(fault) => write_drive_fault(output, fault),
+        Fault::Drive(fault) => output.write_all(drive_line(fault).as_bytes()),
     }
 }
 
@@ -98,14 +98,18 @@ fn write_journal_fault<W: Write>(
     }
 }
 
-// Writes why a drive ended.
-fn write_drive_fault<W: Write>(output: &mut Output<W>, fault: DriveFault) -> Result<(), Unwritten>
-    ensures line { OnOk result (Takes W.contents output.old output.new (drive_line fault)) }
-    ensures failed { TellsFailure result output.old output.new }
+/// The line of a drive's fault.
+pub fn drive_line(fault: DriveFault) -> &'static str
+    ensures { result.now ≡ drive_line fault }
 {
     match fault {
-        DriveFault::NoMemory => write_input_fault(output, InputFault::Memory),
-        _ => write_single_fault(output, "drive", fault.number(), &fault),
+        DriveFault::Journal => "drive fault 1 Journal\n",
+        DriveFault::Link => "drive fault 2 Link\n",
+        DriveFault::Line(_) => "drive fault 3 Line\n",
+        DriveFault::End => "drive fault 4 End\n",
+        DriveFault::NoMemory => "fault 20 Memory\n",
+        DriveFault::TooLong => "drive fault 6 TooLong\n",
+        DriveFault::Out => "drive fault 7 Out\n",
     }
 }
 

@@ -20,6 +20,10 @@ abbrev pub Puts : Option (List ℕ) → Option (List ℕ) → Option ℕ → Lis
 Puts old new (Some k) bytes = (k ≤ length bytes) × Appends old new (take k bytes)
 Puts old new None bytes = Keeps old new
 
+-- just the first so many of the bytes are held
+abbrev pub PutsFirst : Option (List ℕ) → Option (List ℕ) → List ℕ → Type 0
+PutsFirst old new bytes = (k : ℕ) × (k ≤ length bytes) × Appends old new (take k bytes)
+
 -- none of the bytes was held
 abbrev pub is_refusal : Option ℕ → Bool
 is_refusal (Some k) = k == 0

@@ -13,4 +13,4 @@ mod streams;
 pub use driving::drive;
 pub use fault::DriveFault;
 pub use std_streams::{StdSink, StdSource};
-pub use streams::{Got, Sink, Source};
+pub use streams::{Got, Sink, Source, put_all};

@@ -1,7 +1,7 @@
 // What a drive reads and writes, a byte or a few at a time.
 ghost use Rattle.std.specs.Prelude.{◌≡◌, ◌<◌, ◌≤◌, ◌||◌, ℕ, Bool, List, Option, not, length, take, true, false};
 ghost use Rattle.std.specs.Io.KnownBytes.{Keeps, Appends};
-ghost use Rattle.dali_drive.specs.Streams.{TakesOneByte, Puts, is_failure, is_refusal};
+ghost use Rattle.dali_drive.specs.Streams.{TakesOneByte, Puts, PutsFirst, is_failure, is_refusal};
 
 /// What a source gives for a byte (profile).
 #[derive(Clone, Copy, Debug, PartialEq, Eq)]
@@ -59,11 +59,10 @@ pub trait Sink {
         ensures { result ≡ failed self.now };
 }
 
-// Puts all the bytes. Where that fails, just the first so many are held.
-pub(crate) fn put_all<S: Sink>(sink: &mut S, bytes: &[u8]) -> bool
+/// Puts all the bytes, and says whether they are held. Where they aren't, just the first so many are (profile).
+pub fn put_all<S: Sink>(sink: &mut S, bytes: &[u8]) -> bool
     ensures whole { result ≡ true → Appends (S.held sink.old) (S.held sink.new) bytes.now }
-    ensures cut { result ≡ false
-        → (k : ℕ) × (k ≤ length bytes.now) × Appends (S.held sink.old) (S.held sink.new) (take k bytes.now) }
+    ensures cut { result ≡ false → PutsFirst (S.held sink.old) (S.held sink.new) bytes.now }
     ensures failed { S.failed sink.new ≡ (S.failed sink.old || not result) }
 {
     let mut done = 0;

@@ -44,23 +44,10 @@ abbrev pub AreRefused : Items → List (ℕ × ItemFault) → Type 0
 AreRefused items refused =
     (outcomes : List Outcome) × JudgesEach items outcomes × (refused ≡ refused_from 1 outcomes) × (refused ≢ [])
 
--- ---- a reader of a list of orders, by what it had before and has after it
+-- each item of an input spells its order
+abbrev pub AreOrdersIn : List ℕ → List Contents → Type 0
+AreOrdersIn input orders = (items : Items) × AreItems orders_limit input items × JudgesEach items (map Ok orders)
 
--- its items, in an input that it gave
-abbrev pub HasItems : InputState → InputState → Items → Type 0
-HasItems before after items =
-    (input : List ℕ) × ReadsInput orders_limit before after input × AreItems orders_limit input items
-
--- each item spells its order
-abbrev pub HasOrders : InputState → InputState → List Contents → Type 0
-HasOrders before after orders = (items : Items) × HasItems before after items × JudgesEach items (map Ok orders)
-
--- some items are refused
-abbrev pub HasRefused : InputState → InputState → List (ℕ × ItemFault) → Type 0
-HasRefused before after refused = (items : Items) × HasItems before after items × AreRefused items refused
-
--- why it has no items: it or the memory failed, or the input has none
-abbrev pub HasNoOrders : InputState → InputState → InputFault → Type 0
-HasNoOrders before after fault =
-    IsReadFailure before after fault
-    ⊎ ((input : List ℕ) × ReadsInput orders_limit before after input × IsInputFault orders_limit input fault)
+-- some items of an input are refused, and these are all of them
+abbrev pub AreRefusedIn : List ℕ → List (ℕ × ItemFault) → Type 0
+AreRefusedIn input refused = (items : Items) × AreItems orders_limit input items × AreRefused items refused

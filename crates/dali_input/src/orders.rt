@@ -1,16 +1,14 @@
 ghost use Rattle.std.specs.Prelude.{IfOk, IfErr, Ok, map};
 ghost use Rattle.serde_json.specs.View.{items_view};
-ghost use Rattle.dali_input.specs.Input.{ReadsAtMost, state_of};
-ghost use Rattle.dali_input.specs.Orders.{AreItems, AreRefused, HasNoOrders, HasOrders, HasRefused, IsInputFault};
+ghost use Rattle.dali_input.specs.Orders.{AreItems, AreOrdersIn, AreRefused, AreRefusedIn, IsInputFault};
 ghost use Rattle.dali_input.specs.Orders.{JudgesEach, orders_limit};
 
 use crate::fault::InputFault;
-use crate::input::{Input, json_of, read_input};
+use crate::input::json_of;
 use crate::item::{ItemFault, order_of};
 use dali_bank::Order;
 use serde_json::Value;
 use std::alloc::{AllocError, Global};
-use std::io::Read;
 
 /// The most bytes of a list of orders (profile).
 pub const ORDERS_LIMIT: u32 = 16_777_216;
@@ -58,24 +56,17 @@ pub fn orders_of(
     Ok(Err(refused))
 }
 
-/// Reads a list of orders, and says what `orders_of` does (profile).
+/// The orders of an input, or all its items that are refused: what `orders_of` says of those of `items_of` (profile).
 ///
-/// InputFault 13 TooBig where there are more than 16777216 bytes, 11 Json, 12 Document, 20 Memory, and 21 File
-/// where the reader failed.
-pub fn read_orders<R: Read>(
+/// InputFault 13 TooBig where there are more than 16777216 bytes, 11 Json, 12 Document, and 20 Memory.
+pub fn read_orders(
     alloc: Global,
-    input: &mut Input<R>,
+    input: &[u8],
 ) -> Result<Result<Vec<Order>, Vec<(u64, ItemFault)>>, InputFault>
-    ensures ok { IfOk result (λ judged. IfOk judged (λ orders.
-        HasOrders (state_of R.remaining input.old) (state_of R.remaining input.new) orders.items)) }
-    ensures refused { IfOk result (λ judged. IfErr judged (λ refused.
-        HasRefused (state_of R.remaining input.old) (state_of R.remaining input.new) refused.items)) }
-    ensures err { IfErr result (HasNoOrders (state_of R.remaining input.old) (state_of R.remaining input.new)) }
-    ensures read { ReadsAtMost orders_limit (state_of R.remaining input.old) (state_of R.remaining input.new) }
+    ensures ok { IfOk result (λ judged. IfOk judged (λ orders. AreOrdersIn input.now orders.items)) }
+    ensures refused { IfOk result (λ judged. IfErr judged (λ refused. AreRefusedIn input.now refused.items)) }
+    ensures err { IfErr result (IsInputFault orders_limit input.now) }
 {
-    let bytes = read_input(alloc, input, ORDERS_LIMIT)?;
-    match items_of(alloc, bytes.as_slice(), ORDERS_LIMIT) {
-        Ok(items) => Ok(orders_of(alloc, items.as_slice())?),
-        Err(fault) => Err(fault),
-    }
+    let items = items_of(alloc, input, ORDERS_LIMIT)?;
+    Ok(orders_of(alloc, items.as_slice())?)
 }

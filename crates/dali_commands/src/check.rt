@@ -28,7 +28,7 @@ use std::io::{Read, Write};
 /// Where the input is no such list it writes the fault alone: 13 TooBig over 16777216 bytes,
 /// 11 Json, 12 Document, 20 Memory or 21 File.
 ///
-/// Where the output fails nothing more is written to it, and it ends as `Unwritten`.
+/// Where a call of the output fails later ones write nothing more to it, and it ends as `Unwritten`.
 pub fn check<R: Read, W: Write>(
     alloc: Global,
     input: &mut Input<R>,

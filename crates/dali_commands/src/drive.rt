@@ -17,8 +17,8 @@ use std::io::Write;
 
 /// Carries out what a journal still asks for, and then the orders one after the other, each at this moment, over
 /// streams that haven't failed. Where that breaks off it writes the fault's line: 1 Journal, 2 Link, 3 Line, 4 End, 6
-/// TooLong, or 20 Memory. Where `lines` fails it is 7 Out, or there stands a first part of the fault's line, and
-/// nothing more is written.
+/// TooLong, or 20 Memory. Where `lines` fails it is 7 Out, or there stands a first part of the fault's line; later calls
+/// of it write nothing more.
 pub fn drive_over<I: Source, L: Sink, J: Sink, W: Write>(
     journal: Journal,
     orders: &[Order],
@@ -74,7 +74,7 @@ fn tell_fault<W: Write>(lines: &mut Lines<W>, fault: DriveFault) -> Status
 
 /// Writes the refused items of a list of orders, and nothing after them.
 ///
-/// Where the output fails nothing more is written to it, and it ends as `Unwritten`.
+/// Where a call of the output fails later ones write nothing more to it, and it ends as `Unwritten`.
 pub fn tell_refused<W: Write>(output: &mut Output<W>, refused: &[(u64, ItemFault)]) -> Status
     ensures told { result ≢ Status.Unwritten → (result ≡ Status.Refused)
         × Takes W.contents output.old output.new (refused_lines refused.now) }

@@ -17,7 +17,7 @@ pub enum Status {
     Refused,
     /// A file or the memory failed, which was told.
     Failed,
-    /// The output could not be written, so nothing more was told.
+    /// The output could not be written, so later calls of it told nothing more.
     Unwritten,
 }
 

@@ -18,7 +18,7 @@ use std::io::Write;
 ///
 /// Where the argument isn't four hexadecimal digits it writes fault 14 Hex.
 ///
-/// Where the output fails nothing more is written to it, and it ends as `Unwritten`.
+/// Where a call of the output fails later ones write nothing more to it, and it ends as `Unwritten`.
 pub fn frame<W: Write>(argument: &str, output: &mut Output<W>) -> Status
     ensures told { result ≢ Status.Unwritten → (text : List ℕ) × IsFrameAnswer argument.now result text
         × Takes W.contents output.old output.new text }

@@ -28,7 +28,7 @@ const MOST_ORDERS: u32 = 100_000;
 /// place of the record 3 Record, 4 Sequence, 5 Repeated, 6 Full (over 100000 orders); 20 Memory or 21
 /// File.
 ///
-/// Where the output fails nothing more is written to it, and it ends as `Unwritten`.
+/// Where a call of the output fails later ones write nothing more to it, and it ends as `Unwritten`.
 pub fn journal<R: Read, W: Write>(
     alloc: Global,
     input: &mut Input<R>,

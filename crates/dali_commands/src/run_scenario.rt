@@ -45,7 +45,7 @@ struct Ran {
 /// unit (1 Address, 2 Size, 3 Fixed), 5 SameAddress, the fault of an order, 1 Limit; 20 Memory or 21
 /// File where the memory or the reader failed.
 ///
-/// Where the output fails nothing more is written to it, and it ends as `Unwritten`.
+/// Where a call of the output fails later ones write nothing more to it, and it ends as `Unwritten`.
 pub fn run_scenario<R: Read, W: Write>(
     alloc: Global,
     input: &mut Input<R>,

@@ -18,7 +18,7 @@ use std::io::{Read, Write};
 /// Where the input spells no bank it writes the fault alone: 13 TooBig over 4096 bytes of text,
 /// 14 Hex, 13 TooBig over 255 bytes of the bank, 20 Memory or 21 File.
 ///
-/// Where the output fails nothing more is written to it, and it ends as `Unwritten`.
+/// Where a call of the output fails later ones write nothing more to it, and it ends as `Unwritten`.
 pub fn show<R: Read, W: Write>(
     alloc: Global,
     input: &mut Input<R>,

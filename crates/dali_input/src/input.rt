@@ -11,7 +11,7 @@ use std::io::{ErrorKind, Read};
 // How many bytes are read at a time.
 const CHUNK: usize = 65536;
 
-/// A reader that knows whether it has failed. From then on it gives nothing more, and its reader is left alone.
+/// A reader that knows whether it has failed. Later calls give nothing more then, and leave its reader alone.
 #[derive(Drop)]
 pub struct Input<R> {
     reader: R,

@@ -1,8 +1,8 @@
 //! What a person is told beside an answer (profile): where in an input a fault is, what stands there, and what has to
 //! stand there. The lines are for standard error; an answer never hangs on them.
 //!
-//! A `Note` is what is told of one fault. It is told on an `Output` whose failure is let be: from then on nothing more is
-//! written there.
+//! A `Note` is what is told of one fault. It is told on an `Output` whose failure is let be: later calls write nothing
+//! more there then.
 #![tactic(auto)]
 
 mod described;

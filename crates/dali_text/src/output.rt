@@ -23,7 +23,7 @@ impl fmt::Display for Unwritten {
 
 impl Error for Unwritten {}
 
-/// A writer that knows whether it has failed. From then on it takes nothing more, and its writer is left alone.
+/// A writer that knows whether it has failed. Later calls take nothing more then, and leave its writer alone.
 #[derive(Drop)]
 pub struct Output<W> {
     writer: W,

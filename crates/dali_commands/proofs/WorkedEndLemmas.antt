@@ -1,5 +1,5 @@
 -- How a drive's fault is told: one of the replies' stream by its status alone, with nothing written behind them.
-use Rattle.std.proofs.Common.{◌≡◌, refl, inl, inr, ap, ℕ, zero, suc, List, [], ◌∷◌, ◌++◌, Option, Some, None, codes}
+use Rattle.std.proofs.Common.{◌≡◌, refl, inl, inr, ap, ℕ, zero, suc, List, [], ◌++◌, Option, Some, codes}
 use Rattle.std.proofs.Common.{get_or, arith}
 use Rattle.dali_drive.specs.declared.fault.DriveFault.TheVariants as faults
 use Rattle.dali_commands.specs.declared.fault.Status.TheVariants.{Good, Refused, Failed, Unwritten}

@@ -1,5 +1,5 @@
 -- Which fault of a scenario comes first where two stand: one of its units before one of its orders.
-use Rattle.std.proofs.Common.{◌≡◌, ◌+◌, ℕ, List, [], ◌∷◌, refl, sym, subst, ◌∙◌, arith}
+use Rattle.std.proofs.Common.{ℕ, List, [], ◌∷◌, refl, sym, subst, ◌∙◌, arith}
 use Rattle.dali_gear.specs.SimState.{AreApart}
 use Rattle.dali_gear.specs.UnitState.{UnitState}
 use Rattle.dali_gear.specs.declared.fault.GearFault.TheVariants.{Address}

@@ -1,12 +1,12 @@
 -- What a list of orders says: its items, and what becomes of each.
-use Rattle.std.specs.Prelude.{◌≡◌, ◌≢◌, ◌⊎◌, ◌+◌, ℕ, List, [], ◌∷◌, Some, None, Result, Ok, Err, map, ⊤}
+use Rattle.std.specs.Prelude.{◌≡◌, ◌≢◌, ◌+◌, ℕ, List, [], ◌∷◌, Some, None, Result, Ok, Err, map, ⊤}
 use Rattle.serde_json.specs.Data.{Data, Items, no_items, item}
 use Rattle.serde_json.specs.Find.{as_array}
 use Rattle.dali_bank.specs.Order.{Contents}
 use Rattle.dali_input.specs.declared.fault.InputFault.{InputFault}
 use Rattle.dali_input.specs.declared.fault.InputFault.TheVariants.{Document}
 use Rattle.dali_input.specs.declared.item.ItemFault.{ItemFault}
-use Rattle.dali_input.specs.Input.{IsJson, IsNoJson, IsReadFailure, ReadsInput, InputState}
+use Rattle.dali_input.specs.Input.{IsJson, IsNoJson}
 use Rattle.dali_input.specs.Items.{Judges}
 
 -- the most bytes of a list of orders

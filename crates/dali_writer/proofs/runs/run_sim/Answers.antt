@@ -34,7 +34,7 @@ returns-clause-ok c =
         states = ran.leads.states;
         chain = ran.leads.chain;
         spared = λ none locked. spared_along c.args.limit c.args.events.now c.args.bus.now outcome.trace.items
-        outcome.journal.items c.run.new.bus ran none locked;
+            outcome.journal.items c.run.new.bus ran none locked;
         said =
             λ none locked newer middle older same.
             says_as_due (fresh c.args.limit) (reverse c.args.events.now) newer middle older

@@ -56,6 +56,8 @@ REPLIES = {
 }
 # Prefixes of the old journal, one for each standing, most of them with a record that is cut.
 LENGTHS = (0, 24, 26, 28, 40, 53, 55, 56)
+# A Began that is cut off so late that a journal with it gets shorter as it is written anew.
+LONG_TAIL = b"B" + bytes(8) + bytes([5, 20]) + bytes(it for place in range(0x13, 0x27) for it in (place, 0))[:-1]
 ABSENT_STARTS = (None, b"", OLD_ABSENT_BEGAN, OLD_ABSENT_BEGAN + b"E", OLD_ABSENT_JOURNAL)
 
 
@@ -319,14 +321,17 @@ def test_one_of_two_drives_runs(folder, part, _):
 
 def test_a_drive_that_opened_the_old_file_is_kept_out(folder):
     desk = desk_of(folder, ABSENT)
-    for start in (b"", OLD_ABSENT_BEGAN):
+    assert len(OLD_ABSENT_BEGAN + LONG_TAIL) > len(ABSENT_BEGAN)
+    for start in (b"", OLD_ABSENT_BEGAN, OLD_ABSENT_BEGAN + LONG_TAIL):
         put_journal(desk, start)
-        first = None
+        first, changed = None, desk.journal.stat().st_mtime_ns
 
         def begin():
             nonlocal first
             first = desk.start()
             want(driven.line_from(first.stdout), ABSENT_FRAMES[:5])
+            # The new file is told from the old one by its length alone.
+            os.utime(desk.journal, ns=(changed, changed))
 
         try:
             second, _ = give_around(desk, "lock journal 1 pause", begin)

@@ -24,6 +24,19 @@ LEFT_OUT = "more is left out: these are the first 1000 lines"
 # An item whose line on standard error is long.
 LONG = '{"order": 1, "unit": 5, "luminaire": "' + 61 * "x" + '"}'
 JSON = "here the input is no JSON any more, or nests too deep"
+YEAR = "a whole number from 0 to 99, or null"
+ADDRESS = "and a short address is 0 to 63"
+# Two refused orders with two mistakes each, and a sound one between them; and what is told of each.
+REFUSED = (b'[{"order": 7, "unit": 5, "yeer": 1, "week": 54}, {"order": 8, "unit": 5, "year": 1},'
+           b' {"order": 18446744073709551615, "unit": 64, "year": 100}]')
+REFUSED_FIRST = [
+    "item 1 order 7: yeer: no such key (year?)",
+    "item 1 order 7: week: the number 54, and it is a whole number from 1 to 53, or null",
+]
+REFUSED_THIRD = [
+    f"item 3 order 18446744073709551615: unit: the number 64, {ADDRESS}",
+    f"item 3 order 18446744073709551615: year: the number 100, and it is {YEAR}",
+]
 
 # Mistakes in one item: what stands behind its number 6 and its unit 5, and the lines behind `item 1 order 6: `.
 ITEMS = [
@@ -41,9 +54,9 @@ ITEMS = [
     ('"\\u001b[31m": 1', ["\\u{1b}[31m: no such key"]),
     ('"identification": "0011223344556"', [f'identification: the text "0011223344556", and it is {IDENTIFICATION}']),
     ('"identification": "0x112233445566"', [f'identification: the text "0x112233445566", and it is {IDENTIFICATION}']),
-    ('"year": 2024', ["year: the number 2024, and it is a whole number from 0 to 99, or null"]),
-    ('"year": "24"', ['year: the text "24", and it is a whole number from 0 to 99, or null']),
-    ('"year": 24.5', ["year: the number 24.5, and it is a whole number from 0 to 99, or null"]),
+    ('"year": 2024', [f"year: the number 2024, and it is {YEAR}"]),
+    ('"year": "24"', [f'year: the text "24", and it is {YEAR}']),
+    ('"year": 24.5', [f"year: the number 24.5, and it is {YEAR}"]),
     ('"week": 0', ["week: the number 0, and it is a whole number from 1 to 53, or null"]),
     ('"week": 54', ["week: the number 54, and it is a whole number from 1 to 53, or null"]),
     ('"input_power": 65535', [f"input_power: the number 65535, and it is {WATTS}"]),
@@ -64,7 +77,7 @@ ITEMS = [
     ('"luminaire": "a\\u0000b"', [f'luminaire: the text "a\\u{{0}}b", and it is {LUMINAIRE}']),
     ('"year": 100, "week": 54, "yaer": 1', [
         "yaer: no such key (year?)",
-        "year: the number 100, and it is a whole number from 0 to 99, or null",
+        f"year: the number 100, and it is {YEAR}",
         "week: the number 54, and it is a whole number from 1 to 53, or null",
     ]),
 ]
@@ -74,9 +87,8 @@ INPUTS = [
     ("check", b'[{"order": 1, "unit": 5}]', [
         "item 1 order 1: no field is given, and an order has one at least, as gtin or year",
     ]),
-    ("check", b'[{"order": 1, "unit": 64, "year": 1}]', [
-        "item 1 order 1: unit: the number 64, and a short address is 0 to 63",
-    ]),
+    ("check", b'[{"order": 1, "unit": 64, "year": 1}]', [f"item 1 order 1: unit: the number 64, {ADDRESS}"]),
+    ("check", REFUSED, [*REFUSED_FIRST, *REFUSED_THIRD]),
     ("check", b'[{"order": "1", "unit": 5, "year": 1}]', [f'item 1: order: the text "1", and it is {WHOLE}']),
     ("check", b'[{"unit": 5, "year": 1}, 7]', [
         f"item 1: order: missing, and it is {WHOLE}",
@@ -124,7 +136,7 @@ INPUTS = [
     ]),
     ("run", b'{"limit": 0, "units": [], "events": []}', ["limit: a journal has from 1 to 100000 orders"]),
     ("run", b'{"limit": 1, "units": [{"address": 64}], "events": []}', [
-        "unit 1: address: the number 64, and a short address is 0 to 63",
+        f"unit 1: address: the number 64, {ADDRESS}",
     ]),
     ("run", b'{"limit": 1, "units": [{"address": 5, "bank": "77"}], "events": []}', [
         "unit 1: bank: 1 bytes, and it has 17 to 255, the first of which is the last location",
@@ -137,6 +149,11 @@ INPUTS = [
     ]),
     ("run", b'{"limit": 1, "units": [], "events": [{"steps": 1}, {"submit": {"order": 1, "unit": 5, "yeer": 1}}]}', [
         "event 2 order 1: yeer: no such key (year?)",
+    ]),
+    ("run", b'{"limit": 1, "units": [], "events": [{"submit": {"order": 7, "unit": 5, "year": 1}},'
+            b' {"submit": {"order": 9, "unit": 64, "yeer": 1}}]}', [
+        f"event 2 order 9: unit: the number 64, {ADDRESS}",
+        "event 2 order 9: yeer: no such key (year?)",
     ]),
 ]
 
@@ -225,6 +242,7 @@ def fails_on_drives(program):
         for given, wanted in (
             (b'[{"order": 6, "unit": 5, "yeer": 1}]',
              "item 1 order 6: yeer: no such key (year?)\nitem 1 fault 10 Key\n"),
+            (REFUSED, "\n".join([*REFUSED_FIRST, "item 1 fault 10 Key", *REFUSED_THIRD, "item 3 fault 1 Unit", ""])),
             (b'[{"order": 6,}]', f"line 1 column 14: {JSON}\nfault 11 Json\n"),
             (b"{}", "the input is an object, and orders are an array\nfault 12 Document\n"),
         ):

@@ -13,6 +13,8 @@ use Rattle.dali_trace.specs.declared.happening.Happening.{Happening}
 use Rattle.dali_trace.specs.declared.happening.Happening.TheVariants.{Asked, Answered, Sent, Kept, Stopped, Powered}
 use Rattle.dali_drive.specs.declared.fault.DriveFault.{DriveFault}
 use Rattle.dali_drive.specs.declared.fault.DriveFault.TheVariants.{Journal, Link, NoMemory, Out}
+use Rattle.std.specs.List.{AllByRecursion}
+use Rattle.dali_trace.specs.Cut.{kept_in}
 use Rattle.dali_trace.specs.Trace.{Start, is_busy}
 use Rattle.dali_trace.specs.Replies.{IsReply}
 use Rattle.dali_trace.specs.Legal.{Legal, IsFinished}
@@ -45,9 +47,7 @@ IsInTurn start (other ∷ past) = IsInTurn start past
 
 -- the numbers of each record that was kept are in their ranges
 abbrev pub KeepsRecords : List Happening → Type 0
-KeepsRecords [] = Unit {0}
-KeepsRecords (Kept entry ∷ past) = IsRecord Two entry × KeepsRecords past
-KeepsRecords (other ∷ past) = KeepsRecords past
+KeepsRecords past = AllByRecursion (IsRecord Two) (kept_in past)
 
 -- this trace was driven: each happening was one that might follow those before it and that the plan asked for, and
 -- the trace's text was written and read

@@ -250,11 +250,6 @@ said_spared : (start : Start) (zero : World) (first : SimState) (past : List Hap
     → IsChain (MovesBy SimStep) first past last states → AsksAllProper past → RightAlong zero start past last states
     → IsSpared start past last states
 said_spared start zero first [] last states none legal planned chain asks each = tt
-said_spared start zero first (Asked order moment ∷ past) last states none legal planned chain asks each = tt
-said_spared start zero first (Sent frame answer ∷ past) last states none legal planned chain asks each = tt
-said_spared start zero first (Kept entry ∷ past) last states none legal planned chain asks each = tt
-said_spared start zero first (Stopped ∷ past) last states none legal planned chain asks each = tt
-said_spared start zero first (Powered address ∷ past) last states none legal planned chain asks each = tt
 said_spared start zero first (Answered id reply ∷ Asked order moment ∷ past) last states none legal planned chain asks each =
     tt
 said_spared start zero first (Answered id reply ∷ past) last [] none legal planned chain asks each = absurd chain
@@ -291,6 +286,7 @@ said_spared start zero first (Answered id (replies.Blocked left) ∷ past) last 
     little.few)
 said_spared start zero first (Answered id reply ∷ past) last (state ∷ states) none legal planned chain asks each =
     absurd legal.1
+said_spared start zero first (_ ∷ past) last states none legal planned chain asks each = tt
 
 pub all_spared : (start : Start) (zero : World) (first : SimState) (past : List Happening) (last : SimState)
     (states : List SimState)

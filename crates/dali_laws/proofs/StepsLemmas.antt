@@ -26,6 +26,7 @@ use Rattle.dali_trace.specs.Parts.{IsWork, Part, AreParts}
 use Rattle.dali_trace.specs.Work.{stood_at, kept_since, work_limit, order_at, order_at_hand, IsWithinLimit}
 use Rattle.dali_trace.specs.Steps.{steps_in, NoneStops, IsSaid, PartsSince, IsSaidInTime, SaysInTime, IsCut}
 use Rattle.dali_trace.specs.Steps.{HasStepsEnough}
+use Rattle.dali_laws.proofs.AgreeLemmas.{may_happen}
 use Rattle.dali_laws.proofs.TakenLemmas.{ended_unsaid, waits_unsaid}
 use Rattle.dali_laws.proofs.MomentLemmas.{may_keep}
 use Rattle.dali_laws.proofs.StandingLemmas.{begun_order, open_order}
@@ -187,17 +188,6 @@ said_more start order before after next said =
       start_is = said.start_is;
     }
 
--- a saying where no reply is due
-may_say : (start : Start) (past : List Happening) (id : ℕ) (reply : Reply) → IsFinished past
-    → Legal start (Answered id reply ∷ past) → MaySay start past id reply
-may_say start [] id reply finished legal = legal.1
-may_say start (Asked order moment ∷ past) id reply finished legal = absurd finished
-may_say start (Answered other last ∷ past) id reply finished legal = legal.1
-may_say start (Sent frame answer ∷ past) id reply finished legal = legal.1
-may_say start (Kept entry ∷ past) id reply finished legal = legal.1
-may_say start (Stopped ∷ past) id reply finished legal = legal.1
-may_say start (Powered address ∷ past) id reply finished legal = legal.1
-
 one_step : (start : Start) (before mid : List Happening) (order : Contents) (steps : ℕ) (work : Happening) → IsWork work
     → Legal start (work ∷ mid) → ByPlan start (work ∷ mid)
     → IsAtHand start before mid order steps → GoesOn start before (work ∷ mid) order (suc steps)
@@ -223,7 +213,7 @@ one_step start before mid order steps (Kept entry) is legal planned at =
     })
 one_step start before mid order steps (Answered id reply) is legal planned at =
     let number =
-    said_number start mid id reply order legal.0 planned.0 (may_say start mid id reply at.finished legal) at.hand in
+    said_number start mid id reply order legal.0 planned.0 (may_happen start mid (Answered id reply) at.finished legal.1) at.hand in
     inl (record {
       later = [];
       reply = reply;
@@ -235,9 +225,7 @@ one_step start before mid order steps (Answered id reply) is legal planned at =
       hand = subst (λ (t : List Happening). order_at_hand start t ≡ Some order) at.parts at.hand;
       start_is = subst (λ (t : List Happening). stood_at start t ≡ stood_at start before) at.parts at.start_is;
     })
-one_step start before mid order steps (Asked other moment) is legal planned at = absurd is
-one_step start before mid order steps Stopped is legal planned at = absurd is
-one_step start before mid order steps (Powered address) is legal planned at = absurd is
+one_step start before mid order steps _ is legal planned at = absurd is
 
 not_idle : {A : Type 0} (b : Bool) → b ≡ true → b ≡ false → A
 not_idle b one two = let both : true ≡ false = sym one ∙ two in cc

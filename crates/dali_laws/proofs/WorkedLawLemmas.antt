@@ -9,16 +9,16 @@ use Rattle.dali_laws.specs.Law.{NothingIsDone}
 
 -- an order that is refused, one that is taken and not begun, and a stop
 pub nothing_by_a_refused_order : NothingIsDone empty (Answered 1 replies.Busy ∷ Asked first_order 7 ∷ []) begun
-nothing_by_a_refused_order = (tt, refl)
+nothing_by_a_refused_order = (refl, refl)
 
 pub nothing_before_it_is_begun : NothingIsDone empty (Answered 1 replies.Taken ∷ Asked first_order 7 ∷ []) []
-nothing_before_it_is_begun = (tt, refl)
+nothing_before_it_is_begun = (refl, refl)
 
 pub nothing_by_a_stop : NothingIsDone empty (Stopped ∷ []) begun
-nothing_by_a_stop = (tt, refl)
+nothing_by_a_stop = (refl, refl)
 
 pub not_nothing_by_a_record : NothingIsDone empty (Kept (Began first_order 7) ∷ []) [] → ⊥
 not_nothing_by_a_record (none, same) = omega (arith, ap length same)
 
 pub not_nothing_by_a_frame : NothingIsDone empty (Sent (Dtr0 3) None ∷ []) [] → ⊥
-not_nothing_by_a_frame (none, same) = none
+not_nothing_by_a_frame (none, same) = cc

@@ -69,20 +69,9 @@ told_before k line rest =
 
 left_other : (frames : ℕ) (happening : Happening) (rest : List Happening) → is_sent happening ≡ false
     → left_text frames (happening ∷ rest) ≡ (run_line frames ++ happening_line happening) ++ left_text 0 rest
-left_other zero (Asked order moment) rest other = refl
-left_other zero (Answered id reply) rest other = refl
-left_other zero (Sent frame answer) rest other = cc
-left_other zero (Kept entry) rest other = refl
-left_other zero Stopped rest other = refl
-left_other zero (Powered address) rest other = refl
-left_other (suc k) (Asked order moment) rest other = told_before k (happening_line (Asked order moment)) (summary false rest)
-left_other (suc k) (Answered id reply) rest other =
-    told_before k (happening_line (Answered id reply)) (summary false rest)
-left_other (suc k) (Sent frame answer) rest other = cc
-left_other (suc k) (Kept entry) rest other = told_before k (happening_line (Kept entry)) (summary false rest)
-left_other (suc k) Stopped rest other = told_before k (happening_line Stopped) (summary false rest)
-left_other (suc k) (Powered address) rest other =
-    told_before k (happening_line (Powered address)) (summary false rest)
+left_other frames (Sent frame answer) rest other = cc
+left_other zero _ rest other = refl
+left_other (suc k) happening rest other = told_before k (happening_line happening) (summary false rest)
 
 left_nothing : (frames : ℕ) → left_text frames [] ≡ run_line frames
 left_nothing zero = refl
@@ -143,12 +132,8 @@ summed trace i frames before mid now all s run =
 
 pub not_sent : (happening : Happening) → ((frame : Frame) (answer : Option ℕ) → ¬ (happening ≡ Sent frame answer))
     → is_sent happening ≡ false
-not_sent (Asked order moment) other = refl
-not_sent (Answered id reply) other = refl
 not_sent (Sent frame answer) other = absurd (other frame answer refl)
-not_sent (Kept entry) other = refl
-not_sent Stopped other = refl
-not_sent (Powered address) other = refl
+not_sent _ other = refl
 
 -- ---- units
 

@@ -1,3 +1,4 @@
+pub mod CutLemmas
 pub mod WorkedLemmas
 pub mod WorkedPlanLemmas
 pub mod WorkedWorkLemmas

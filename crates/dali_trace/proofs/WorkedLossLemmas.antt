@@ -56,13 +56,13 @@ pub keeps_power_since_a_stop : KeepsPowerSince 5 (Some 6) (one_since Stopped ++ 
 keeps_power_since_a_stop = tt
 
 pub its_unit_powered : KeepsPowerSince 5 None (Sent (Dtr1 1) None ∷ Powered 5 ∷ one_since Stopped) → ⊥
-its_unit_powered kept = kept.0 refl
+its_unit_powered kept = kept.0.0 refl
 
 pub left_powered : KeepsPowerSince 5 (Some 6) (Sent (Dtr1 1) None ∷ Powered 6 ∷ one_since Stopped) → ⊥
-left_powered kept = kept.1 refl
+left_powered kept = kept.0.1 refl
 
 pub another_powered : KeepsPowerSince 5 (Some 6) (Sent (Dtr1 1) None ∷ Powered 7 ∷ one_since Stopped)
-another_powered = (λ same. cc, λ same. cc, tt)
+another_powered = ((λ same. cc, λ same. cc), tt)
 
 -- the state at the start
 pub state_then : state_at_start (one_since start_taken) clear (losing 1 ∷ losing 2 ∷ losing 3 ∷ []) ≡ losing 1

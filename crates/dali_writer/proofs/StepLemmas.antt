@@ -20,12 +20,13 @@ use Rattle.dali_write.specs.Touches.{Has, writes_of}
 use Rattle.dali_write.specs.Guards.{IsGuarded as IsGuardedFrame}
 use Rattle.dali_write.proofs.GuardLemmas.{older_guarded}
 use Rattle.dali_write.proofs.SessionLemmas.{fresh_sends, opened_sends, closing_sends}
-use Rattle.dali_trace.specs.declared.happening.Reply.TheVariants as replies
 use Rattle.dali_trace.specs.declared.happening.Happening.{Happening}
 use Rattle.dali_trace.specs.declared.happening.Happening.TheVariants.{Asked, Answered, Sent, Kept, Stopped, Powered}
 use Rattle.dali_trace.specs.declared.happening.Want.TheVariants as wants
 use Rattle.dali_writer.specs.declared.phase.Phase.{Phase}
 use Rattle.dali_writer.specs.declared.phase.Phase.TheVariants.{Idle, Begins, Checks, Writes, Closes, Says}
+use Rattle.dali_trace.specs.Cut.{since, is_stop, is_start, frames_in}
+use Rattle.dali_trace.proofs.CutLemmas.{since_sooner, stop_starts, frames_joined}
 use Rattle.dali_trace.specs.Trace.{Start, standing_at, sent_of, sent_since_taken, waiting, is_unsaid, is_at_work}
 use Rattle.dali_trace.specs.Trace.{is_busy, course_of}
 use Rattle.dali_trace.specs.Legal.{MayPut, MaySend, MayHappen, MayFollow, IsFinished}
@@ -177,20 +178,9 @@ closing_may past unit (Other word) waits guarded = absurd guarded
 
 -- the frames since an order was taken are the newest of those since the last stop
 pub since_part : (past : List Happening) → (older : List Exchange) × (sent_of past ≡ sent_since_taken past ++ older)
-since_part [] = ([], refl)
-since_part (Asked order moment ∷ past) = since_part past
-since_part (Answered id replies.Taken ∷ past) = (sent_of past, refl)
-since_part (Answered id (replies.Kept code) ∷ past) = since_part past
-since_part (Answered id replies.IdReused ∷ past) = since_part past
-since_part (Answered id replies.Busy ∷ past) = since_part past
-since_part (Answered id replies.Full ∷ past) = since_part past
-since_part (Answered id (replies.Blocked unit) ∷ past) = since_part past
-since_part (Sent frame answer ∷ past) =
-    let part = since_part past in
-    (part.0, ap (λ (t : List Exchange). record { frame = frame; answer = answer } ∷ t) part.1)
-since_part (Kept entry ∷ past) = since_part past
-since_part (Stopped ∷ past) = ([], refl)
-since_part (Powered address ∷ past) = since_part past
+since_part past =
+    let part = since_sooner is_start is_stop stop_starts past in
+    (frames_in part.0, ap frames_in part.1 ∙ frames_joined (since is_start past) part.0)
 
 -- one frame more, that may be sent
 sent_on : (start : Start) (past : List Happening) (journal : JournalState) (old new : Phase) (frame : Frame)

@@ -19,7 +19,7 @@ use Rattle.dali_writer.specs.declared.phase.Phase.{Phase}
 use Rattle.dali_writer.specs.declared.phase.Phase.TheVariants.{Idle, Begins, Checks, Writes, Closes, Says}
 use Rattle.dali_writer.specs.Describes.{IsAt, Describes}
 use Rattle.dali_writer.specs.Follows.{Follows}
-use Rattle.dali_writer.proofs.StepLemmas.{may_next}
+use Rattle.dali_laws.proofs.AgreeLemmas.{may_follow}
 use Rattle.dali_trace.specs.WhenKept.{WhenKept}
 use Rattle.dali_laws.proofs.MomentLemmas.{every_moment, each_kept}
 
@@ -33,7 +33,7 @@ onto start w trace new next is d =
 pub onto_power : (start : Start) (w : Held) (trace new : List Happening) (address : ℕ)
     → new ≡ trace ++ Powered address ∷ [] → Describes start (reverse trace) w → Describes start (reverse new) w
 onto_power start w trace new address is d = onto start w trace new (Powered address) is (record {
-  legal = (d.legal, may_next start (reverse trace) (Powered address) d.finished tt);
+  legal = (d.legal, may_follow start (reverse trace) (Powered address) d.finished tt);
   finished = tt;
   same = d.same;
   limit = d.limit;
@@ -62,12 +62,9 @@ module _ {S : Type 0} (world : S → World) (step : S → BusEvent → S → Typ
   module _ (allowed : (old : S) (event : BusEvent) (new : S) → step old event new
       → WorldStep (world old) event (world new)) where
     moves : (old : S) (next : Happening) (new : S) → MovesBy step old next new → Moves (world old) next (world new)
-    moves old (Asked order moment) new same = ap world same
-    moves old (Answered id reply) new same = ap world same
     moves old (Sent frame answer) new moved = allowed old (Carried frame answer) new moved
-    moves old (Kept entry) new same = ap world same
-    moves old Stopped new same = ap world same
     moves old (Powered address) new moved = allowed old (bus.Powered address) new moved
+    moves old _ new same = ap world same
 
     worlds : (first last : S) (past : List Happening) (states : List S) → IsChain (MovesBy step) first past last states
         → IsChain Moves (world first) past (world last) (map world states)

@@ -38,7 +38,8 @@ use Rattle.dali_writer.specs.WorkLeft.{work_left}
 use Rattle.dali_writer.specs.Describes.{IsAt, Describes}
 use Rattle.dali_laws.proofs.StandingLemmas.{begun_order, open_order}
 use Rattle.dali_laws.proofs.RepeatLemmas.{legal_sentence}
-use Rattle.dali_writer.proofs.StepLemmas.{may_next, stands_so, since_part}
+use Rattle.dali_laws.proofs.AgreeLemmas.{may_follow}
+use Rattle.dali_writer.proofs.StepLemmas.{stands_so, since_part}
 
 -- a record that may be kept
 kept_on : (start : Start) (past : List Happening) (journal new : JournalState) (old next : Phase) (entry : Record)
@@ -46,7 +47,7 @@ kept_on : (start : Start) (past : List Happening) (journal new : JournalState) (
     → new.records ≡ entry ∷ journal.records → new.limit ≡ journal.limit
     → IsAt next (Kept entry ∷ past) → Describes start (Kept entry ∷ past) (record { journal = new; phase = next })
 kept_on start past journal new old next entry d may records limit place = record {
-  legal = (d.legal, may_next start past (Kept entry) d.finished may);
+  legal = (d.legal, may_follow start past (Kept entry) d.finished may);
   finished = tt;
   same = ap (λ (r : List Record). entry ∷ r) d.same ∙ sym records;
   limit = d.limit ∙ sym limit;

@@ -11,7 +11,7 @@ use Rattle.dali_writer.specs.declared.phase.Phase.{Phase}
 use Rattle.dali_writer.specs.Held.{Held, IsReady, IsResumed}
 use Rattle.dali_writer.specs.Describes.{IsAt, Describes}
 use Rattle.dali_writer.specs.Follows.{Follows}
-use Rattle.dali_writer.proofs.StepLemmas.{may_next}
+use Rattle.dali_laws.proofs.AgreeLemmas.{may_follow}
 use Rattle.dali_writer.proofs.FollowLemmas.{resumed_told}
 
 pub resumed_ready : (journal : JournalState) (stands : Standing) (phase : Phase) → stands ≡ standing_of journal.records
@@ -60,7 +60,7 @@ pub stopped_described : (start : Start) (past : List Happening) (before : Held) 
     → before.journal.records ≡ journal.records → before.journal.limit ≡ journal.limit
     → Describes start (Stopped ∷ past) (record { journal = journal; phase = phase })
 stopped_described start past before journal stands phase resumed d records limit = record {
-  legal = (d.legal, may_next start past Stopped d.finished tt);
+  legal = (d.legal, may_follow start past Stopped d.finished tt);
   finished = tt;
   same = d.same ∙ records;
   limit = d.limit ∙ limit;

@@ -27,6 +27,7 @@ use Rattle.dali_writer.specs.declared.phase.Phase.{Phase}
 use Rattle.dali_writer.specs.declared.phase.Phase.TheVariants.{Idle, Begins, Checks, Writes, Closes, Says}
 use Rattle.dali_trace.specs.Cut.{since, is_stop, is_start, frames_in}
 use Rattle.dali_trace.proofs.CutLemmas.{since_sooner, stop_starts, frames_joined}
+use Rattle.dali_laws.proofs.AgreeLemmas.{may_follow}
 use Rattle.dali_trace.specs.Trace.{Start, standing_at, sent_of, sent_since_taken, waiting, is_unsaid, is_at_work}
 use Rattle.dali_trace.specs.Trace.{is_busy, course_of}
 use Rattle.dali_trace.specs.Legal.{MayPut, MaySend, MayHappen, MayFollow, IsFinished}
@@ -34,17 +35,6 @@ use Rattle.dali_writer.specs.Phases.{want_of, check_of, write_of, closing_of, is
 use Rattle.dali_writer.specs.Held.{Held, IsReady}
 use Rattle.dali_writer.specs.Describes.{ToldNewest, IsAt, Describes}
 use Rattle.dali_laws.proofs.TakenLemmas.{waits, ended_unsaid, waits_unsaid}
-
--- what may happen may follow where no reply is due
-pub may_next : (start : Start) (past : List Happening) (next : Happening) → IsFinished past → MayHappen start past next
-    → MayFollow start past next
-may_next start [] next finished may = may
-may_next start (Asked order moment ∷ past) next finished may = absurd finished
-may_next start (Answered id reply ∷ past) next finished may = may
-may_next start (Sent frame answer ∷ past) next finished may = may
-may_next start (Kept entry ∷ past) next finished may = may
-may_next start (Stopped ∷ past) next finished may = may
-may_next start (Powered address ∷ past) next finished may = may
 
 -- a session always wants something
 pub check_wants : (unit : ℕ) (ask : Ask) → is_wanting (check_of unit ask) ≡ true
@@ -189,7 +179,7 @@ sent_on : (start : Start) (past : List Happening) (journal : JournalState) (old 
     → IsAt new (Sent frame answer ∷ past)
     → Describes start (Sent frame answer ∷ past) (record { journal = journal; phase = new })
 sent_on start past journal old new frame answer d may place = record {
-  legal = (d.legal, may_next start past (Sent frame answer) d.finished may);
+  legal = (d.legal, may_follow start past (Sent frame answer) d.finished may);
   finished = tt;
   same = d.same;
   limit = d.limit;

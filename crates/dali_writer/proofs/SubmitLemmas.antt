@@ -31,7 +31,8 @@ use Rattle.dali_writer.specs.Phases.{want_of, is_idle, is_wanting}
 use Rattle.dali_writer.specs.Held.{Held, IsReady, IsFirst}
 use Rattle.dali_writer.specs.Describes.{IsAt, Describes}
 use Rattle.dali_laws.proofs.RepeatLemmas.{never_absent}
-use Rattle.dali_writer.proofs.StepLemmas.{may_next, busy_at, check_wants, write_wants, closing_wants}
+use Rattle.dali_laws.proofs.AgreeLemmas.{may_follow}
+use Rattle.dali_writer.proofs.StepLemmas.{busy_at, check_wants, write_wants, closing_wants}
 
 -- the replies by which nothing is taken
 abbrev pub IsRefusal : Reply → Type 0
@@ -57,7 +58,7 @@ asked : (start : Start) (past : List Happening) (old new : Held) (order : Conten
     → IsAt new.phase (Answered order.id reply ∷ Asked order moment ∷ past)
     → Describes start (Answered order.id reply ∷ Asked order moment ∷ past) new
 asked start past old new order moment reply d due records limit place = record {
-  legal = ((d.legal, may_next start past (Asked order moment) d.finished tt), (refl, due));
+  legal = ((d.legal, may_follow start past (Asked order moment) d.finished tt), (refl, due));
   finished = tt;
   same = d.same ∙ sym records;
   limit = d.limit ∙ sym limit;

@@ -3,7 +3,7 @@ use Rattle.std.proofs.Common.{◌≡◌, ◌≢◌, inl, inr, refl, sym, ap, ◌
 use Rattle.std.proofs.Common.{List, [], ◌∷◌, ◌++◌, Option, Some, None, is_some, arith}
 use Rattle.std.proofs.lemmas.Bool.{eqb-true}
 use Rattle.dali_bank.specs.Order.{Contents}
-use Rattle.dali_bus.specs.Chain.{IsChain, AtEachMoment}
+use Rattle.dali_bus.specs.Chain.{IsChain, AtEachMoment, AtEachState}
 use Rattle.dali_bus.specs.World.{World, Gear, byte_in, byte_at, is_open}
 use Rattle.dali_gear.specs.UnitState.{BankState, UnitState, gear_of}
 use Rattle.dali_gear.specs.SimState.{SimState, SimStep, AreApart, AreBanks, world_of}
@@ -35,7 +35,7 @@ use Rattle.dali_trace.specs.Moments.{IsRight}
 use Rattle.dali_trace.specs.Work.{stood_at, kept_since}
 use Rattle.dali_laws.proofs.RecordLemmas.{not_lock}
 use Rattle.dali_laws.proofs.Courses.{EndedBy}
-use Rattle.dali_trace.specs.Spared.{state_at_start, IsSpared, AtEachState}
+use Rattle.dali_trace.specs.Spared.{state_at_start, IsSpared}
 use Rattle.dali_laws.proofs.StandingLemmas.{named_opened}
 use Rattle.dali_laws.proofs.RepeatLemmas.{legal_sentence}
 use Rattle.dali_laws.proofs.RunLossLemmas.{IsAnother, since_start}

@@ -4,7 +4,7 @@ use Rattle.std.proofs.Common.{None, arith}
 use Rattle.dali_frame.specs.declared.forward.Frame.TheVariants.{Dtr1}
 use Rattle.dali_gear.specs.SimState.{SimState, SimStep}
 use Rattle.dali_gear.specs.SimState.{world_of}
-use Rattle.dali_bus.specs.Chain.{IsChain}
+use Rattle.dali_bus.specs.Chain.{IsChain, AtEachState}
 use Rattle.dali_bus.specs.Unenabled.{NoneEnabled}
 use Rattle.dali_journal.specs.declared.record.Code.TheVariants as codes
 use Rattle.dali_trace.specs.declared.happening.Event.{Event}
@@ -15,7 +15,7 @@ use Rattle.dali_trace.specs.Fits.{IsLockedAbove}
 use Rattle.dali_trace.specs.Moves.{MovesBy}
 use Rattle.dali_trace.specs.Runs.{fresh}
 use Rattle.dali_trace.specs.Spared.{state_at_start, losses_since, UnrefusedSince, due_code, NoneFixed, IsSpared}
-use Rattle.dali_trace.specs.Spared.{KeepsPowerSince, AtEachState, LosesLittle, IsSaidAsDue, LeadsSpared}
+use Rattle.dali_trace.specs.Spared.{KeepsPowerSince, LosesLittle, IsSaidAsDue, LeadsSpared}
 use Rattle.dali_trace.specs.Steps.{IsCut, HasStepsEnough}
 use Rattle.dali_trace.specs.declared.happening.Reply.TheVariants as replies
 use Rattle.dali_bank.specs.Order.{Contents}

@@ -4,7 +4,7 @@ use Rattle.std.specs.Prelude.{None, length, slice_index, reverse, if◌then◌el
 use Rattle.std.specs.List.{list_any, filter, AllByRecursion}
 use Rattle.dali_frame.specs.declared.forward.Frame.{Frame}
 use Rattle.dali_bank.specs.Order.{Contents}
-use Rattle.dali_bus.specs.Chain.{IsChain}
+use Rattle.dali_bus.specs.Chain.{IsChain, AtEachState}
 use Rattle.dali_gear.specs.Fate.{next_fate}
 use Rattle.dali_gear.specs.UnitState.{BankState}
 use Rattle.dali_gear.specs.SimState.{SimState, SimStep, world_of}
@@ -108,15 +108,6 @@ IsSpared start (Answered id reply ∷ past) last (state ∷ states) =
     (order : Contents) (bank : BankState) → order_at_hand start past ≡ Some order
     → LosesLittle start order bank past state states → EndsAsDue start order bank past states reply
 IsSpared start other last states = Unit {0}
-
--- it holds at each moment of a chain: of what happened up to there, the state there, and those before it
-abbrev pub AtEachState : (List Happening → SimState → List SimState → Type 0) → List Happening → SimState
-    → List SimState → Type 0
-AtEachState holds [] last [] = holds [] last []
-AtEachState holds (next ∷ past) last (state ∷ states) =
-    holds (next ∷ past) last (state ∷ states) × AtEachState holds past state states
-AtEachState holds [] last (state ∷ states) = ⊥
-AtEachState holds (next ∷ past) last [] = ⊥
 
 -- The order is said in what came to the trace since it was like this before; and if little befell it up to then, it is
 -- said as it is to end. The states along the whole of it are the later ones, the one when it was said, and those before.

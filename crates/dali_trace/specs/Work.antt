@@ -91,11 +91,11 @@ IsSaidSo start (Answered id (replies.Blocked unit) ∷ past) = EndsUnread unit 0
 IsSaidSo start other = Unit {0}
 
 -- it holds at each moment of a trace
-abbrev pub AtEach : (List Happening → Type 0) → List Happening → Type 0
-AtEach holds [] = holds []
-AtEach holds (newest ∷ past) = holds (newest ∷ past) × AtEach holds past
+abbrev pub AtEachPast : (List Happening → Type 0) → List Happening → Type 0
+AtEachPast holds [] = holds []
+AtEachPast holds (newest ∷ past) = holds (newest ∷ past) × AtEachPast holds past
 
 -- at each moment the frames and records since the start of the order at hand are within the limit, and what is said
 -- was earned
 abbrev pub IsWorked : Start → List Happening → Type 0
-IsWorked start past = AtEach (λ moment. IsWithinLimit start moment × IsSaidSo start moment) past
+IsWorked start past = AtEachPast (λ moment. IsWithinLimit start moment × IsSaidSo start moment) past

@@ -5,7 +5,7 @@ use Rattle.std.specs.Map.{lookup, keys_of}
 use Rattle.dali_bank.specs.Order.{Contents}
 use Rattle.dali_journal.specs.declared.record.Code.{Code}
 use Rattle.dali_journal.specs.declared.record.Record.{Record}
-use Rattle.dali_journal.specs.declared.record.Record.TheVariants.{Began, Ended}
+use Rattle.dali_journal.specs.declared.record.Record.TheVariants.{Began, Opened, Ended, Closed}
 use Rattle.dali_journal.specs.declared.standing.Standing.{Standing}
 use Rattle.dali_journal.specs.declared.standing.Standing.TheVariants as standings
 use Rattle.dali_journal.specs.declared.kept.Kept.{Kept}
@@ -49,20 +49,23 @@ Agrees bytes (index_entries.Ended at code) kept since =
 -- what an end makes of an order's entry in the index
 abbrev pub ended_index_entry : Code → IndexEntry → IndexEntry
 ended_index_entry code (index_entries.Begun at) = index_entries.Ended at code
-ended_index_entry code other = other
+ended_index_entry code index_entries.NotBegun = index_entries.NotBegun
+ended_index_entry code (index_entries.Ended at other) = index_entries.Ended at other
 
 -- the order that is at work has this number
 abbrev pub works_on : Standing → ℕ → Bool
 works_on (standings.Began order) id = order.id == id
 works_on (standings.Opened order) id = order.id == id
-works_on other id = false
+works_on standings.Idle id = false
+works_on (standings.Left unit) id = false
 
 -- what a record that stands there makes of a number's entry in the index
 abbrev pub index_entry_after : Standing → Record → ℕ → ℕ → IndexEntry → IndexEntry
 index_entry_after standing (Began order moment) at id known = if order.id == id then index_entries.Begun at else known
 index_entry_after standing (Ended code) at id known =
     if works_on standing id then ended_index_entry code known else known
-index_entry_after standing other at id known = known
+index_entry_after standing (Opened unit) at id known = known
+index_entry_after standing (Closed unit) at id known = known
 
 -- an order's number is in the index before it begins
 abbrev pub EntersNumber : List (ℕ × IndexEntry) → Record → Type 0
@@ -82,7 +85,9 @@ BeginsInRange other = ⊤
 -- how many orders a record begins
 abbrev pub orders_begun : Record → ℕ
 orders_begun (Began order moment) = 1
-orders_begun other = 0
+orders_begun (Opened unit) = 0
+orders_begun (Ended code) = 0
+orders_begun (Closed unit) = 0
 
 -- what is so of a journal's parts: the bytes are those of the records, and the rest tells of the records
 pub record IsSound (bytes : List ℕ) (records : List Record) (standing : Standing)

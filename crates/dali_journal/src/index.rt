@@ -43,7 +43,7 @@ impl IndexEntry {
     {
         match self {
             IndexEntry::Begun(at) => IndexEntry::Ended(at, code),
-            other => other,
+            IndexEntry::NotBegun | IndexEntry::Ended(_, _) => self,
         }
     }
 }
@@ -93,9 +93,9 @@ pub(crate) fn note(
         Record::Ended(code) => match standing {
             Standing::Began(order) => end_index_entry(index, order.id(), *code),
             Standing::Opened(order) => end_index_entry(index, order.id(), *code),
-            _ => {}
+            Standing::Idle | Standing::Left(_) => {}
         },
-        _ => {}
+        Record::Opened(_) | Record::Closed(_) => {}
     }
 }
 

@@ -461,7 +461,7 @@ fn orders_begun(entry: &Record) -> u32
 {
     match entry {
         Record::Began(_, _) => 1,
-        _ => 0,
+        Record::Opened(_) | Record::Ended(_) | Record::Closed(_) => 0,
     }
 }
 

@@ -4,7 +4,7 @@ use Rattle.std.specs.Option.{option_to_list}
 use Rattle.dali_write.specs.Exchanges.{Exchange}
 use Rattle.dali_write.specs.declared.request.Request.{Request}
 use Rattle.dali_write.specs.declared.stage.Task.{Task}
-use Rattle.dali_write.specs.declared.stage.Task.TheVariants.{Reading}
+use Rattle.dali_write.specs.declared.stage.Task.TheVariants.{Fresh, Opened, Closing, Reading}
 use Rattle.dali_write.specs.Plans.{Plan, read_all}
 use Rattle.dali_write.specs.Tries.{Stands}
 
@@ -16,12 +16,16 @@ found (newest ∷ older) = found older ++ option_to_list newest
 -- the bytes that a session keeps that had these outcomes: a reading one keeps all that it read, others none
 abbrev pub kept_bytes : Task → List (Option ℕ) → List ℕ
 kept_bytes Reading outcomes = found outcomes
-kept_bytes task outcomes = []
+kept_bytes (Fresh order) outcomes = []
+kept_bytes (Opened order) outcomes = []
+kept_bytes Closing outcomes = []
 
 -- the bytes kept after one more outcome
 abbrev pub kept_after : Task → List ℕ → Option ℕ → List ℕ
 kept_after Reading bytes outcome = bytes ++ option_to_list outcome
-kept_after task bytes outcome = bytes
+kept_after (Fresh order) bytes outcome = bytes
+kept_after (Opened order) bytes outcome = bytes
+kept_after Closing bytes outcome = bytes
 
 -- what was told is so, and these bytes were kept of it
 pub record StandsWith (task : Task) (unit : ℕ) (plan : Plan) (told : List Exchange) (now : Plan) (misses : ℕ)

@@ -116,7 +116,7 @@ data Due (start : Start) (past : List Happening) (next : Happening) : Type 0 whe
       → Due start past next
   Begins : (order : Contents) → standing_at start past ≡ standings.Idle → waiting past ≡ Some order
       → next ≡ Kept (Began order (waiting_since past)) → Due start past next
-  GoesOn : (ask : Ask) → Asks (standing_at start past) (told_in past) ask
+  Continues : (ask : Ask) → Asks (standing_at start past) (told_in past) ask
       → IsAtHand (standing_at start past) (waiting past)
       → Does (standing_at start past) (waiting past) ask next → Due start past next
 
@@ -152,7 +152,7 @@ kept_due : (start : Start) (past : List Happening) (entry : Record) → IsDue pa
     × EndsIn (standing_at start past) verdict entry
     → Due start past (Kept entry)
 kept_due start past entry due (verdict, asked, ends) =
-    GoesOn (asks.Ended verdict) asked (kept_at_hand past (standing_at start past) verdict entry due ends)
+    Continues (asks.Ended verdict) asked (kept_at_hand past (standing_at start past) verdict entry due ends)
     (does_keep (standing_at start past) (waiting past) verdict entry ends)
 
 some_waits : (id : ℕ) (waits : Option Contents) → HasNumber id waits → IsSome waits
@@ -163,11 +163,11 @@ due : (start : Start) (past : List Happening) (next : Happening) → IsWork next
     → IsPlanned start past next → Due start past next
 due start past (Answered id (replies.Kept code)) work may planned = Says id code may.0 may.1 refl
 due start past (Answered id (replies.Blocked unit)) work may planned =
-    GoesOn (asks.Ended verdicts.NotClosed) planned (rw may.0 (some_waits id (waiting past) may.1))
+    Continues (asks.Ended verdicts.NotClosed) planned (rw may.0 (some_waits id (waiting past) may.1))
     (rw may.0 (id, may.1, refl))
 due start past (Answered id reply) work may planned = absurd may
 due start past (Sent frame answer) work may planned =
-    GoesOn (asks.Send frame) planned (sent_at_hand past (standing_at start past) (told_in past) frame may planned)
+    Continues (asks.Send frame) planned (sent_at_hand past (standing_at start past) (told_in past) frame may planned)
     (answer, refl)
 due start past (Kept (Began order moment)) work may planned =
     Begins order (idle_began (standing_at start past) order moment may.whole.0.1) may.due.0
@@ -214,20 +214,20 @@ one_due start past one other legal (Says id code ended ends is) (Says number las
     rw is (same ∙ ends_as_one id number code last (orders_of (records_of start past)) ends so)
 one_due start past one other legal (Begins order idle waits is) (Begins waiter _ so same) =
     let begun : waiter ≡ order = cc in rw is (same ∙ ap (λ o. Kept (Began o (waiting_since past))) begun)
-one_due start past one other legal (GoesOn ask asked hand does) (GoesOn wish wished _ did) =
+one_due start past one other legal (Continues ask asked hand does) (Continues wish wished _ did) =
     let same = asks_one (standing_at start past) (told_in past) wish ask wished asked in
     does_one (standing_at start past) (waiting past) ask one other does (rw same at did)
 one_due start past one other legal (Says id code ended ends is) (Begins order idle waits same) =
     ended_not_waiting start past order legal ended waits
 one_due start past one other legal (Begins order idle waits is) (Says id code ended ends same) =
     ended_not_waiting start past order legal ended waits
-one_due start past one other legal (Says id code ended ends is) (GoesOn ask asked hand does) =
+one_due start past one other legal (Says id code ended ends is) (Continues ask asked hand does) =
     ended_not_on start past legal ended hand
-one_due start past one other legal (GoesOn ask asked hand does) (Says id code ended ends same) =
+one_due start past one other legal (Continues ask asked hand does) (Says id code ended ends same) =
     ended_not_on start past legal ended hand
-one_due start past one other legal (Begins order idle waits is) (GoesOn ask asked hand does) =
+one_due start past one other legal (Begins order idle waits is) (Continues ask asked hand does) =
     idle_not_on (standing_at start past) (waiting past) idle hand
-one_due start past one other legal (GoesOn ask asked hand does) (Begins order idle waits same) =
+one_due start past one other legal (Continues ask asked hand does) (Begins order idle waits same) =
     idle_not_on (standing_at start past) (waiting past) idle hand
 
 one_reply : (start : Start) (past : List Happening) (order : Contents) (one other : Happening)

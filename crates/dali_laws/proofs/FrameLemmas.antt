@@ -18,7 +18,7 @@ use Rattle.dali_journal.specs.declared.standing.Standing.TheVariants as standing
 use Rattle.dali_journal.specs.Sentence.{standing_of, named_unit, IsSentence}
 use Rattle.dali_journal.specs.Orders.{orders_of}
 use Rattle.dali_write.specs.Reads.{IsPassive}
-use Rattle.dali_write.specs.Worlds.{IsAmong, Run, Stays, MayRelock, IsOff, OnlyEnabled}
+use Rattle.dali_write.specs.Worlds.{IsAmong, MayRelock, IsOff, OnlyEnabled}
 use Rattle.dali_write.specs.Touches.{Has}
 use Rattle.dali_write.proofs.GearLemmas.{StaysAt, carry_stays, off_where, same_byte, dtr1_in}
 use Rattle.dali_write.proofs.PowerLemmas.{relock_then, after_power}
@@ -30,6 +30,8 @@ use Rattle.dali_trace.specs.Legal.{MayPut, MaySend, IsGuardedWrite}
 use Rattle.dali_trace.specs.Possible.{Mark, Applied, Untouched, InDoubt, mark_of, byte_for, MayHold, IsPossible}
 use Rattle.dali_trace.specs.Fits.{Fits, IsLockedAbove, OnlyNamed, HasBeenOpened, IsLockByte}
 use Rattle.dali_laws.proofs.StandingLemmas.{open_order, named_opened, byte_for_here}
+use Rattle.dali_write.proofs.RunLemmas.{Leads, Stays}
+use Rattle.dali_bus.specs.Carry.{WorldStep}
 
 -- what is so before and after each frame
 pub record IsFine (zero : World) (records : List Record) (lost : List ℕ) (now : World) : Type 0 where
@@ -209,7 +211,7 @@ after_enable zero old new records lost unit answer sentence is_named carry fine 
 after_write : (zero old new since : World) (records : List Record) (lost : List ℕ) (past : List Happening) (byte : ℕ)
     (answer : Option ℕ)
     → IsSentence records
-    → Run (IsAmong lost) (sent_of past) since old → IsGuardedWrite past (standing_of records) byte
+    → Leads WorldStep (IsAmong lost) (sent_of past) since old → IsGuardedWrite past (standing_of records) byte
     → Carry old (Write byte) answer new
     → IsFine zero records lost old → IsFine zero records lost new
 after_write zero old new since records lost past byte answer sentence run guarded carry fine =
@@ -230,7 +232,7 @@ pub after_sent : (zero old new since : World) (records : List Record) (lost : Li
     (frame : Frame)
     (answer : Option ℕ)
     → IsSentence records
-    → Run (IsAmong lost) (sent_of past) since old → MaySend past (standing_of records) frame
+    → Leads WorldStep (IsAmong lost) (sent_of past) since old → MaySend past (standing_of records) frame
     → Carry old frame answer new
     → IsFine zero records lost old → IsFine zero records lost new
 after_sent zero old new since records lost past (Dtr0 byte) answer sentence run may carry fine =

@@ -6,7 +6,7 @@ use Rattle.dali_bus.specs.Chain.{IsChain, AtEachMoment}
 use Rattle.dali_journal.specs.declared.record.Record.{Record}
 use Rattle.dali_journal.specs.Sentence.{IsSentence}
 use Rattle.dali_write.specs.Reads.{StillRead}
-use Rattle.dali_write.specs.Worlds.{IsAmong, Run, Stays, Shows}
+use Rattle.dali_write.specs.Worlds.{IsAmong, Shows}
 use Rattle.dali_write.proofs.RunLemmas.{run_on, run_among}
 use Rattle.dali_write.proofs.StillReadLemmas.{stands_true}
 use Rattle.dali_trace.specs.declared.happening.Happening.{Happening}
@@ -22,12 +22,14 @@ use Rattle.dali_laws.proofs.FrameLemmas.{IsFine, after_sent, after_loss}
 use Rattle.dali_laws.proofs.RecordLemmas.{keeps_fitting, keeps_only, grounds_too}
 use Rattle.dali_laws.proofs.AppliedLemmas.{fits_applied}
 use Rattle.dali_laws.proofs.PromiseLemmas.{tells_truth}
+use Rattle.dali_write.proofs.RunLemmas.{Leads, Stays}
+use Rattle.dali_bus.specs.Carry.{WorldStep}
 
 -- what is known of the world behind a legal trace: the frames since the last stop lead to it
 pub record IsTold (start : Start) (past : List Happening) (now : World) : Type 0 where
   pub sentence : IsSentence (records_of start past)
   pub since : World
-  pub run : Run (IsAmong (powered_of [] past)) (sent_of past) since now
+  pub run : Leads WorldStep (IsAmong (powered_of [] past)) (sent_of past) since now
 
 -- a happening that says nothing of the world
 told_quiet : (old new : World) (start : Start) (past : List Happening) (next : Happening)
@@ -38,9 +40,9 @@ told_quiet old new start past next records sent lost same told = record {
   sentence = subst IsSentence (sym records) told.sentence;
   since = told.since;
   run =
-      subst (λ now. Run (IsAmong (powered_of [] (next ∷ past))) (sent_of (next ∷ past)) told.since now) (sym same)
-      (subst (λ which. Run (IsAmong which) (sent_of (next ∷ past)) told.since old) (sym lost)
-      (subst (λ exchanges. Run (IsAmong (powered_of [] past)) exchanges told.since old) (sym sent) told.run));
+      subst (λ now. Leads WorldStep (IsAmong (powered_of [] (next ∷ past))) (sent_of (next ∷ past)) told.since now) (sym same)
+      (subst (λ which. Leads WorldStep (IsAmong which) (sent_of (next ∷ past)) told.since old) (sym lost)
+      (subst (λ exchanges. Leads WorldStep (IsAmong (powered_of [] past)) exchanges told.since old) (sym sent) told.run));
 }
 
 -- what a record rests on is so
@@ -82,8 +84,8 @@ told_step old new start past (Powered address) may lost told = (
   record {
     sentence = told.sentence;
     since = told.since;
-    run = run_on (IsAmong (address ∷ powered_of [] past)) (sent_of past) told.since old new address (inl refl)
-        (run_among (sent_of past) told.since old (λ at before. inr before) told.run) lost;
+    run = run_on WorldStep (IsAmong (address ∷ powered_of [] past)) (sent_of past) told.since old new address (inl refl)
+        (run_among WorldStep (sent_of past) told.since old (λ at before. inr before) told.run) lost;
   },
   tt,
 )
@@ -117,7 +119,7 @@ fine_step : (zero old new : World) (lost : List ℕ) (start : Start) (past : Lis
     → IsTold start past old → FineAt zero lost start past old → FineAt zero lost start (next ∷ past) new
 fine_step zero old new lost start past (Sent frame answer) locked may carry told fine =
     after_sent zero old new told.since (records_of start past) (powered_of lost past) past frame answer told.sentence
-    (run_among (sent_of past) told.since old (among_all lost past) told.run)
+    (run_among WorldStep (sent_of past) told.since old (among_all lost past) told.run)
     (may_send start past frame answer may) carry fine
 fine_step zero old new lost start past (Kept entry) locked may same told fine =
     let kept : MayKeep start past entry = may_keep start past entry may in

@@ -5,13 +5,14 @@ use Rattle.dali_frame.specs.declared.forward.Frame.{Frame}
 use Rattle.dali_bus.specs.Chain.{IsChain}
 use Rattle.dali_gear.specs.SimState.{SimState, SimStep, SimPower}
 use Rattle.dali_write.specs.Exchanges.{Exchange}
-use Rattle.dali_write.specs.Losses.{SimRun, SimStays, SimLoses, is_loss, losses, Unrefused}
+use Rattle.dali_write.specs.Losses.{is_loss}
 use Rattle.dali_trace.specs.declared.happening.Reply.TheVariants as replies
 use Rattle.dali_trace.specs.declared.happening.Happening.{Happening}
 use Rattle.dali_trace.specs.declared.happening.Happening.TheVariants.{Answered, Sent, Stopped, Powered}
 use Rattle.dali_trace.specs.Trace.{sent_since_taken}
 use Rattle.dali_trace.specs.Moves.{MovesBy}
 use Rattle.dali_trace.specs.Spared.{is_lost_to, state_at_start, losses_since, UnrefusedSince, KeepsPowerSince}
+use Rattle.dali_write.proofs.RunLemmas.{Leads, Stays, Loses, losses_along, UnrefusedAlong}
 
 -- the address is another one than the unit's and the left one's
 abbrev pub IsAnother : ℕ → Option ℕ → ℕ → Type 0
@@ -19,21 +20,21 @@ IsAnother unit left address = (address ≢ unit) × (left ≢ Some address)
 
 -- a run in which other units may lose their power
 abbrev pub RunBeside : ℕ → Option ℕ → List Exchange → SimState → SimState → Type 0
-RunBeside unit left told first last = SimRun (IsAnother unit left) told first last
+RunBeside unit left told first last = Leads SimStep (IsAnother unit left) told first last
 
 -- so many of the exchanges are: one that is lost to both counts once
 abbrev pub losses_to : (unit : ℕ) (left : Option ℕ) (told : List Exchange) (first last : SimState)
     → RunBeside unit left told first last → ℕ
 losses_to unit left [] first last run = 0
 losses_to unit left (x ∷ told) first last run =
-    (if is_lost_to unit left run.0 x.frame then 1 else 0) + losses_to unit left told first run.0 run.1
+    (if is_lost_to unit left run.0 x.frame then 1 else 0) + losses_to unit left told first run.0 run.2
 
 -- exchanges as a run of the simulated bus, with so many losses, and unrefused where it is so
 pub record RunSo (unit : ℕ) (left : Option ℕ) (told : List Exchange) (first last : SimState) (count : ℕ)
     (Kind : Type 0) : Type 0 where
   pub run : RunBeside unit left told first last
   pub losses : losses_to unit left told first last run ≡ count
-  pub kind : Kind → Unrefused (IsAnother unit left) told first last run
+  pub kind : Kind → UnrefusedAlong (IsAnother unit left) told first last run
 
 -- the frames since the last start
 abbrev pub Since : ℕ → Option ℕ → List Happening → SimState → List SimState → Type 0
@@ -42,7 +43,7 @@ Since unit left past last states =
     (losses_since unit left past states) (UnrefusedSince past states)
 
 begins_run : (unit : ℕ) (left : Option ℕ) (last : SimState) → RunSo unit left [] last last 0 (Unit {0})
-begins_run unit left last = record { run = SimStays; losses = refl; kind = λ kind. tt }
+begins_run unit left last = record { run = Stays; losses = refl; kind = λ kind. tt }
 
 stays : (unit : ℕ) (left : Option ℕ) (told : List Exchange) (first last state : SimState) (count : ℕ) (Kind : Type 0)
     → last ≡ state → RunSo unit left told first state count Kind → RunSo unit left told first last count Kind
@@ -55,11 +56,11 @@ drifts_on : (unit : ℕ) (left : Option ℕ) (told : List Exchange) (first last 
     → IsAnother unit left address → SimPower state address last
     → RunSo unit left told first state count Kind → RunSo unit left told first last count Kind
 drifts_on unit left [] first last state count Kind address is lost since =
-    record { run = SimLoses address is since.run lost; losses = since.losses; kind = since.kind }
+    record { run = Loses address is since.run lost; losses = since.losses; kind = since.kind }
 drifts_on unit left (x ∷ told) first last state count Kind address is lost since =
     let run = since.run in
     record {
-      run = (run.0, run.1, run.2, run.3, SimLoses address is run.4 lost);
+      run = (run.0, run.1, run.2, run.3, Loses address is run.4 lost);
       losses = since.losses;
       kind = since.kind;
     }
@@ -85,7 +86,7 @@ since_start unit left first (Powered address ∷ past) last (state ∷ states) c
 since_start unit left first (Sent frame answer ∷ past) last (state ∷ states) chain kept =
     let before = since_start unit left first past state states chain.1 kept in
     record {
-      run = (state, before.run, last, chain.0, SimStays);
+      run = (state, last, before.run, chain.0, Stays);
       losses =
           ap (λ (n : ℕ). (if is_lost_to unit left state frame then 1 else 0) + n) before.losses
           ∙ one_more (is_lost_to unit left state frame) (frame, state) _;
@@ -112,18 +113,18 @@ one_le unit (Some left) state frame = bit_le (is_loss unit state frame) (is_loss
 
 pub own_losses : (unit : ℕ) (left : Option ℕ) (told : List Exchange) (first last : SimState)
     (run : RunBeside unit left told first last)
-    → losses unit (IsAnother unit left) told first last run ≤ losses_to unit left told first last run
+    → losses_along unit (IsAnother unit left) told first last run ≤ losses_to unit left told first last run
 own_losses unit left [] first last run = omega arith
 own_losses unit left (x ∷ told) first last run =
-    let here = one_le unit left run.0 x.frame in let rest = own_losses unit left told first run.0 run.1 in omega arith
+    let here = one_le unit left run.0 x.frame in let rest = own_losses unit left told first run.0 run.2 in omega arith
 
 pub left_losses : (unit left : ℕ) (told : List Exchange) (first last : SimState)
     (run : RunBeside unit (Some left) told first last)
-    → losses left (IsAnother unit (Some left)) told first last run ≤ losses_to unit (Some left) told first last run
+    → losses_along left (IsAnother unit (Some left)) told first last run ≤ losses_to unit (Some left) told first last run
 left_losses unit left [] first last run = omega arith
 left_losses unit left (x ∷ told) first last run =
     let here = bit_right (is_loss unit run.0 x.frame) (is_loss left run.0 x.frame) in
-    let rest = left_losses unit left told first run.0 run.1 in omega arith
+    let rest = left_losses unit left told first run.0 run.2 in omega arith
 
 -- a run in two parts
 pub record Halves (unit : ℕ) (left : Option ℕ) (sent told older : List Exchange) (first last : SimState)
@@ -133,21 +134,21 @@ pub record Halves (unit : ℕ) (left : Option ℕ) (sent told older : List Excha
   pub after : RunBeside unit left told mid last
   pub sum : losses_to unit left sent first last run
       ≡ losses_to unit left told mid last after + losses_to unit left older first mid before
-  pub kinds : Unrefused (IsAnother unit left) sent first last run
-      → Unrefused (IsAnother unit left) older first mid before × Unrefused (IsAnother unit left) told mid last after
+  pub kinds : UnrefusedAlong (IsAnother unit left) sent first last run
+      → UnrefusedAlong (IsAnother unit left) older first mid before × UnrefusedAlong (IsAnother unit left) told mid last after
 
 joined_halves : (unit : ℕ) (left : Option ℕ) (told older : List Exchange) (first last : SimState)
     (run : RunBeside unit left (told ++ older) first last)
     → Halves unit left (told ++ older) told older first last run
 joined_halves unit left [] older first last run =
-    record { mid = last; before = run; after = SimStays; sum = omega arith; kinds = λ kind. (kind, tt) }
+    record { mid = last; before = run; after = Stays; sum = omega arith; kinds = λ kind. (kind, tt) }
 joined_halves unit left (x ∷ told) older first last run =
-    let rest = joined_halves unit left told older first run.0 run.1 in
+    let rest = joined_halves unit left told older first run.0 run.2 in
     let sum = rest.sum in
     record {
       mid = rest.mid;
       before = rest.before;
-      after = (run.0, rest.after, run.2, run.3, run.4);
+      after = (run.0, run.1, rest.after, run.3, run.4);
       sum = omega arith;
       kinds = λ kind. let both = rest.kinds kind.1 in (both.0, (kind.0, both.1));
     }

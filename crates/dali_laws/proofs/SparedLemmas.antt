@@ -23,9 +23,9 @@ use Rattle.dali_write.specs.declared.ask.Verdict.TheVariants as verdicts
 use Rattle.dali_write.specs.Plans.{greatest, read_length, unlock, close}
 use Rattle.dali_write.specs.Tries.{most_tries, Wants}
 use Rattle.dali_write.specs.Worlds.{IsOff, OnlyEnabled}
-use Rattle.dali_write.specs.Losses.{SimRun, losses, Unrefused, IsAlone, OnlyDiffers}
+use Rattle.dali_write.specs.Losses.{IsAlone, OnlyDiffers}
 use Rattle.dali_write.specs.Misses.{misses_in}
-use Rattle.dali_write.specs.Successes.{HasBank, TakesAll, has_format, found_verdict, Spared}
+use Rattle.dali_write.specs.Successes.{HasBank, TakesAll, has_format, found_verdict}
 use Rattle.dali_write.proofs.RunLemmas.{sim_run}
 use Rattle.dali_write.proofs.PowerLemmas.{drifts_keep}
 use Rattle.dali_write.proofs.DriftLemmas.{drifts_bank}
@@ -48,6 +48,8 @@ use Rattle.dali_laws.proofs.CourseLemmas.{on_course}
 use Rattle.dali_laws.proofs.WorkLemmas.{said_end}
 use Rattle.dali_trace.specs.Spared.{state_at_start, losses_since, UnrefusedSince, due_code}
 use Rattle.dali_laws.proofs.RunLossLemmas.{IsAnother, RunBeside, losses_to, Since, own_losses, left_losses, halves}
+use Rattle.dali_write.proofs.RunLemmas.{Leads, losses_along, UnrefusedAlong, SparedAlong}
+use Rattle.dali_gear.specs.SimState.{SimStep}
 
 -- Where an order starts, and this unit or none was left: the units are apart, none is enabled but the left one, the
 -- order's unit has this bank 1, and the left one has some.
@@ -83,7 +85,7 @@ some_bank unit bank state older lost apart only has few =
 
 -- a unit that was closed isn't enabled
 closed_off : (loses : ℕ → Type 0) (left : ℕ) (now : UnitState) (older : List Exchange) (begun mid : SimState)
-    → SimRun loses older begun mid
+    → Leads SimStep loses older begun mid
     → Wants left (close verdicts.Closed verdicts.NotClosed) older (asks.Ended verdicts.Closed)
     → IsAlone left now mid.units → now.enabled ≡ false
 closed_off loses left now older begun mid run closed alone =
@@ -100,12 +102,12 @@ cleared : (first : Standing) (unit : ℕ) (bank : BankState) (older : List Excha
     (run : RunBeside unit (named_unit first) older begun mid)
     → is_at_work first ≡ false
     → Onset (named_unit first) unit bank begun → ClosedBy first older
-    → Unrefused (IsAnother unit (named_unit first)) older begun mid run
+    → UnrefusedAlong (IsAnother unit (named_unit first)) older begun mid run
     → losses_to unit (named_unit first) older begun mid run < most_tries
     → Cleared unit bank mid older (losses_to unit (named_unit first) older begun mid run)
 cleared standings.Idle unit bank older begun mid run idle onset closed kind few =
     let loses = IsAnother unit None in
-    let still : SimRun loses [] begun mid = subst (λ (t : List Exchange). SimRun loses t begun mid) closed run in
+    let still : Leads SimStep loses [] begun mid = subst (λ (t : List Exchange). Leads SimStep loses t begun mid) closed run in
     let none : misses_in older ≡ 0 = ap misses_in closed in
     some_bank unit bank mid older _ (run_apart loses older begun mid run onset.apart)
     (λ address other.
@@ -123,7 +125,7 @@ cleared (standings.Left left) unit bank older begun mid run idle onset closed ki
     let lost = left_losses unit left older begun mid run in
     let whole : IsBank at_left.0.bank1.bytes = subst (λ (b : BankState). IsBank b.bytes) (sym at_left.2) there.2 in
     let least = whole.least in
-    let spared : Spared loses left at_left.0 older begun mid =
+    let spared : SparedAlong loses left at_left.0 older begun mid =
     record {
       run = run;
       keeps_power = λ another. another.1 refl;
@@ -262,7 +264,7 @@ looked : (first : Standing) (order : Contents) (bank : BankState) (verdict : Ver
     (begun last : SimState) (run : RunBeside order.unit (named_unit first) sent begun last)
     → is_at_work first ≡ false
     → Onset (named_unit first) order.unit bank begun
-    → Unrefused (IsAnother order.unit (named_unit first)) sent begun last run
+    → UnrefusedAlong (IsAnother order.unit (named_unit first)) sent begun last run
     → losses_to order.unit (named_unit first) sent begun last run < most_tries
     → sent ≡ told ++ older → Wants order.unit (read_length order.updates) told (asks.Ended verdict)
     → ClosedBy first older
@@ -274,7 +276,7 @@ looked first order bank verdict sent told older begun last run idle onset kind f
     let kinds = two.kinds kind in
     let clear = cleared first order.unit bank older begun two.mid two.before idle onset closed kinds.0 (omega arith) in
     let own = own_losses order.unit (named_unit first) told two.mid last two.after in
-    let spared : Spared loses order.unit clear.now told two.mid last =
+    let spared : SparedAlong loses order.unit clear.now told two.mid last =
     record {
       run = two.after;
       keeps_power = λ another. another.0 refl;
@@ -305,7 +307,7 @@ pub spared_end : (first : Standing) (order : Contents) (code : Code) (bank : Ban
     (begun last : SimState) (run : RunBeside order.unit (named_unit first) sent begun last)
     → is_at_work first ≡ false
     → Onset (named_unit first) order.unit bank begun → RisesAbove 0 order.updates
-    → Unrefused (IsAnother order.unit (named_unit first)) sent begun last run
+    → UnrefusedAlong (IsAnother order.unit (named_unit first)) sent begun last run
     → losses_to order.unit (named_unit first) sent begun last run < most_tries
     → (due_code bank.bytes order.updates ≡ codes.Done → TakesAll bank order.updates) → EndedBy first order code sent
     → (code ≡ due_code bank.bytes order.updates)
@@ -328,7 +330,7 @@ spared_end first order code bank sent begun last run idle onset rises kind few t
     (omega arith) check.2 check.3 check.4 in
     let due = open_due bank.bytes order.updates look.verdict_is in
     let own = own_losses order.unit (named_unit first) told two.mid last two.after in
-    let spared : Spared loses order.unit look.now told two.mid last =
+    let spared : SparedAlong loses order.unit look.now told two.mid last =
     record {
       run = two.after;
       keeps_power = λ another. another.0 refl;
@@ -364,7 +366,7 @@ spared_closed : (first : Standing) (left unit : ℕ) (bank : BankState) (sent : 
     (run : RunBeside unit (named_unit first) sent begun last)
     → first ≡ standings.Left left
     → Onset (named_unit first) unit bank begun
-    → Unrefused (IsAnother unit (named_unit first)) sent begun last run
+    → UnrefusedAlong (IsAnother unit (named_unit first)) sent begun last run
     → losses_to unit (named_unit first) sent begun last run < most_tries
     → Wants left (close verdicts.Closed verdicts.NotClosed) sent (asks.Ended verdicts.NotClosed) → ⊥
 spared_closed standings.Idle left unit bank sent begun last run at onset kind few wants = cc
@@ -381,9 +383,9 @@ spared_closed (standings.Left other) left unit bank sent begun last run at onset
     let lost = left_losses unit other sent begun last run in
     let whole : IsBank at_left.0.bank1.bytes = subst (λ (b : BankState). IsBank b.bytes) (sym at_left.2) there.2 in
     let least = whole.least in
-    let lost_here : losses left loses sent begun last run ≤ losses_to unit (Some other) sent begun last run =
+    let lost_here : losses_along left loses sent begun last run ≤ losses_to unit (Some other) sent begun last run =
     subst (λ (l : ℕ). losses l loses sent begun last run ≤ losses_to unit (Some other) sent begun last run) same lost in
-    let spared : Spared loses left at_left.0 sent begun last =
+    let spared : SparedAlong loses left at_left.0 sent begun last =
     record {
       run = run;
       keeps_power = λ another. another.1 (ap Some same);

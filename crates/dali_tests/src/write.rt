@@ -345,7 +345,6 @@ fn losses_in_each_try_of_the_unlock(rt: HostRuntime) -> Result<(), Fail> {
 
 #[test]
 fn laws_hold(_rt: HostRuntime) {
-    laws::runs_are_chains();
     laws::simulated_runs_are_runs();
     laws::sessions_follow_their_plans();
     laws::sessions_send_few_frames();

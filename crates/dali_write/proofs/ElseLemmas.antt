@@ -21,13 +21,15 @@ use Rattle.dali_write.specs.Plans.{close}
 use Rattle.dali_write.specs.Tries.{Wants}
 use Rattle.dali_write.specs.Worlds.{IsOff, OnlyEnabled}
 use Rattle.dali_write.specs.Guards.{IsGuarded}
-use Rattle.dali_write.specs.Losses.{SimRun, IsElse, AllElse, IsAlone}
+use Rattle.dali_write.specs.Losses.{IsElse, AllElse, IsAlone}
 use Rattle.dali_write.specs.Successes.{HasBank}
 use Rattle.dali_write.proofs.OneFrameLemmas.{IsFor, alone_then}
 use Rattle.dali_write.proofs.DriftLemmas.{drifts_alone, drifts_bank, drifts_apart}
 use Rattle.dali_write.proofs.GuardLemmas.{closing_guarded}
 use Rattle.dali_write.proofs.DeterminedLemmas.{frame_wanted}
 use Rattle.dali_write.proofs.AloneLemmas.{alone_of}
+use Rattle.dali_write.proofs.RunLemmas.{Leads}
+use Rattle.dali_gear.specs.SimState.{SimStep}
 
 -- a frame that is meant for another unit changes no bank of a unit that isn't enabled
 else_bank : (refuses : Bool) (at : ℕ) (unit : UnitState) (frame : Frame) → IsFor at frame → unit.address ≢ at
@@ -110,7 +112,7 @@ record Along (at address : ℕ) (bank : BankState) (last : SimState) : Type 0 wh
 
 along : (loses : ℕ → Type 0) (at address : ℕ) (bank : BankState) (unit : UnitState) (told : List Exchange)
     (first last : SimState)
-    → SimRun loses told first last → (loses at → ⊥) → (loses address → ⊥) → AllAre at told → address ≢ at
+    → Leads SimStep loses told first last → (loses at → ⊥) → (loses address → ⊥) → AllAre at told → address ≢ at
     → IsAlone at unit first.units → HasBank address bank first.units → Along at address bank last
 along loses at address bank unit [] first last run keeps_power also all other alone has =
     record {
@@ -119,14 +121,14 @@ along loses at address bank unit [] first last run keeps_power also all other al
       has = drifts_bank loses address bank first last also run has;
     }
 along loses at address bank unit (x ∷ told) first last run keeps_power also all other alone has =
-    let before = along loses at address bank unit told first run.0 run.1 keeps_power also all.1 other alone has in
+    let before = along loses at address bank unit told first run.0 run.2 keeps_power also all.1 other alone has in
     record {
       now = _;
       alone =
-          drifts_alone loses at _ run.2 last keeps_power run.4
-          (alone_then at run.0 before.now x.frame x.answer run.2 run.3 all.0 before.alone);
+          drifts_alone loses at _ run.1 last keeps_power run.4
+          (alone_then at run.0 before.now x.frame x.answer run.1 run.3 all.0 before.alone);
       has =
-          drifts_bank loses address bank run.2 last also run.4
+          drifts_bank loses address bank run.1 last also run.4
           (subst (HasBank address bank) (sym run.3.units) (bank_after (next_fate run.0.fates) at address bank before.now
           run.0.units x.frame all.0 other before.alone before.has));
     }
@@ -134,7 +136,7 @@ along loses at address bank unit (x ∷ told) first last run keeps_power also al
 -- a session that closes one unit, where neither it nor this other one loses its power
 pub closing_keeps_bank : (loses : ℕ → Type 0) (at address : ℕ) (bank : BankState) (unit : UnitState)
     (told : List Exchange) (ask : Ask) (first last : SimState)
-    → SimRun loses told first last → (loses at → ⊥) → (loses address → ⊥)
+    → Leads SimStep loses told first last → (loses at → ⊥) → (loses address → ⊥)
     → Wants at (close Closed NotClosed) told ask → address ≢ at → IsAlone at unit first.units
     → HasBank address bank first.units → HasBank address bank last.units
 closing_keeps_bank loses at address bank unit told ask first last run keeps_power also wants other alone has =
@@ -142,14 +144,14 @@ closing_keeps_bank loses at address bank unit told ask first last run keeps_powe
     has).has
 
 -- units that are apart stay so
-pub run_apart : (loses : ℕ → Type 0) (told : List Exchange) (first last : SimState) → SimRun loses told first last
+pub run_apart : (loses : ℕ → Type 0) (told : List Exchange) (first last : SimState) → Leads SimStep loses told first last
     → AreApart first.units → AreApart last.units
 run_apart loses [] first last run apart = drifts_apart loses first last run apart
 run_apart loses (x ∷ told) first last run apart =
-    drifts_apart loses run.2 last run.4
+    drifts_apart loses run.1 last run.4
     (subst AreApart (sym run.3.units)
     (AreApart-map _ (fate_keeps (next_fate run.0.fates) x.frame) run.0.units
-    (run_apart loses told first run.0 run.1 apart)))
+    (run_apart loses told first run.0 run.2 apart)))
 
 -- where the one isn't enabled either, none is
 all_off : (at address : ℕ) (units : List UnitState) → AllElse at units → IsOff (world_of units address)

@@ -8,12 +8,14 @@ use Rattle.dali_write.specs.declared.ask.Verdict.TheVariants.{MayOpen, Short, Si
 use Rattle.dali_write.specs.Plans.{Plan, Finish, Make, next_plan, plan_after, greatest, judge_length, read_format}
 use Rattle.dali_write.specs.Plans.{read_format_low, read_length, read_on, read_all}
 use Rattle.dali_write.specs.Tries.{AccessEnds, AccessesEnd, Wants, plan_requests}
-use Rattle.dali_write.specs.Worlds.{Run, KeepsAt}
+use Rattle.dali_write.specs.Worlds.{KeepsAt}
 use Rattle.dali_write.proofs.TruthLemmas.{AllQuiet, run_keeps}
 use Rattle.dali_write.proofs.VerdictLemmas.{read_access_quiet, both_quiet, misses_quiet, trying_quiet}
 use Rattle.dali_write.proofs.VerdictLemmas.{read_quiet_requests}
 use Rattle.dali_write.proofs.VerdictLemmas.{RequestsQuiet}
 use Rattle.dali_write.proofs.PlanLemmas.{either_all, if_all}
+use Rattle.dali_write.proofs.RunLemmas.{Leads}
+use Rattle.dali_bus.specs.Carry.{WorldStep}
 
 -- all accesses of the plan are reads
 OnlyReads : Plan → Type 0
@@ -50,7 +52,7 @@ requests_quiet address unit (Make (WriteTo location byte) after) reads = absurd 
 
 quiet_wants : {loses : ℕ → Type 0} (unit : ℕ) (plan : Plan) (told : List Exchange) (ask : Ask) (first last : World)
     → OnlyReads plan
-    → Run loses told first last → Wants unit plan told ask
+    → Leads WorldStep loses told first last → Wants unit plan told ask
     → (address : ℕ) → KeepsAt loses first last address
 quiet_wants unit plan told ask first last reads run wants address =
     let s = wants.stands in
@@ -84,13 +86,13 @@ all_reads =
 
 pub fresh_quiet : {loses : ℕ → Type 0} (told : List Exchange) (first last : World) (unit : ℕ) (updates : List (ℕ × ℕ))
     (ask : Ask)
-    → Run loses told first last → Wants unit (read_length updates) told ask
+    → Leads WorldStep loses told first last → Wants unit (read_length updates) told ask
     → (address : ℕ) → KeepsAt loses first last address
 fresh_quiet told first last unit updates ask run wants =
     quiet_wants unit (read_length updates) told ask first last (length_reads updates) run wants
 
 pub reading_quiet : {loses : ℕ → Type 0} (told : List Exchange) (first last : World) (unit : ℕ) (ask : Ask)
-    → Run loses told first last
+    → Leads WorldStep loses told first last
     → Wants unit read_all told ask
     → (address : ℕ) → KeepsAt loses first last address
 reading_quiet told first last unit ask run wants = quiet_wants unit read_all told ask first last all_reads run wants

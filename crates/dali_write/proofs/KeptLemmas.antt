@@ -22,10 +22,12 @@ use Rattle.dali_write.specs.declared.access.Access.{Access}
 use Rattle.dali_write.specs.declared.access.Access.TheVariants.{ReadFrom, WriteTo}
 use Rattle.dali_write.specs.Requests.{Meets, request, read_requests, access_requests}
 use Rattle.dali_write.specs.Tries.{Trying, Missed, Misses, Succeeds}
-use Rattle.dali_write.specs.Losses.{SimRun, SimStays, losses, Unrefused, IsAlone}
+use Rattle.dali_write.specs.Losses.{IsAlone}
 use Rattle.dali_write.proofs.OneFrameLemmas.{own_answer, alone_then}
 use Rattle.dali_write.proofs.DriftLemmas.{drifts_alone}
 use Rattle.dali_write.proofs.LossLemmas.{AllFor, all_for}
+use Rattle.dali_write.proofs.RunLemmas.{Leads, Stays, losses_along, UnrefusedAlong}
+use Rattle.dali_gear.specs.SimState.{SimStep}
 
 -- the unit hears the frame or not
 abbrev hears : Bool → Bool → UnitState → Frame → UnitState
@@ -202,7 +204,7 @@ one_more keep end at next left old answer new carry before =
 
 after_trying : (loses : ℕ → Type 0) (keep : BankState → Type 0) (end : UnitState → Type 0) (at : ℕ)
     (requests left : List Request) (unit : UnitState) (told : List Exchange) (first last : SimState)
-    → SimRun loses told first last → (loses at → ⊥)
+    → Leads SimStep loses told first last → (loses at → ⊥)
     → IsAlone at unit first.units → keep unit.bank1 → Safe keep end requests unit → AllFor at requests
     → Trying requests told left → After keep end at left last
 after_trying loses keep end at requests left unit [] first last run keeps_power alone kept safe for try =
@@ -215,12 +217,12 @@ after_trying loses keep end at requests left unit [] first last run keeps_power 
     })
 after_trying loses keep end at requests left unit (x ∷ told) first last run keeps_power alone kept safe for try =
     let before =
-    after_trying loses keep end at requests (request x.frame try.0 ∷ left) unit told first run.0 run.1 keeps_power alone
+    after_trying loses keep end at requests (request x.frame try.0 ∷ left) unit told first run.0 run.2 keeps_power alone
     kept safe for try.2 in
-    let more = one_more keep end at (request x.frame try.0) left run.0 x.answer run.2 run.3 before in
+    let more = one_more keep end at (request x.frame try.0) left run.0 x.answer run.1 run.3 before in
     record {
       now = more.0;
-      alone = drifts_alone loses at more.0 run.2 last keeps_power run.4 more.1;
+      alone = drifts_alone loses at more.0 run.1 last keeps_power run.4 more.1;
       kept = more.2;
       safe = more.3 try.1;
       for = before.for.1;
@@ -229,58 +231,58 @@ after_trying loses keep end at requests left unit (x ∷ told) first last run ke
 -- a try that missed
 after_missed : (loses : ℕ → Type 0) (keep : BankState → Type 0) (at : ℕ) (access : Access) (unit : UnitState)
     (told : List Exchange) (first last : SimState)
-    → SimRun loses told first last → (loses at → ⊥)
+    → Leads SimStep loses told first last → (loses at → ⊥)
     → IsAlone at unit first.units → keep unit.bank1 → Keeps keep access → Missed (access_requests at access) told
     → (now : UnitState) × IsAlone at now last.units × keep now.bank1
 after_missed loses keep at access unit [] first last run keeps_power alone kept keeps missed = absurd missed
 after_missed loses keep at access unit (x ∷ told) first last run keeps_power alone kept keeps missed =
     let before =
     after_trying loses keep (Ends access) at (access_requests at access) (request x.frame missed.0 ∷ missed.1) unit told
-    first run.0 run.1 keeps_power
+    first run.0 run.2 keeps_power
     alone kept
     (safe_access keep at access unit keeps kept) (all_for at access) missed.3 in
-    let more = one_more keep (Ends access) at (request x.frame missed.0) missed.1 run.0 x.answer run.2 run.3 before in
-    (more.0, drifts_alone loses at more.0 run.2 last keeps_power run.4 more.1, more.2)
+    let more = one_more keep (Ends access) at (request x.frame missed.0) missed.1 run.0 x.answer run.1 run.3 before in
+    (more.0, drifts_alone loses at more.0 run.1 last keeps_power run.4 more.1, more.2)
 
 -- a run in two parts
 pub record Parts (loses : ℕ → Type 0) (at : ℕ) (told newer older : List Exchange) (first last : SimState)
-    (run : SimRun loses told first last) : Type 0 where
+    (run : Leads SimStep loses told first last) : Type 0 where
   pub mid : SimState
-  pub before : SimRun loses older first mid
-  pub after : SimRun loses newer mid last
-  pub sum : losses at loses told first last run
-      ≡ losses at loses newer mid last after + losses at loses older first mid before
-  pub kinds : Unrefused loses told first last run
-      → Unrefused loses older first mid before × Unrefused loses newer mid last after
+  pub before : Leads SimStep loses older first mid
+  pub after : Leads SimStep loses newer mid last
+  pub sum : losses_along at loses told first last run
+      ≡ losses_along at loses newer mid last after + losses_along at loses older first mid before
+  pub kinds : UnrefusedAlong loses told first last run
+      → UnrefusedAlong loses older first mid before × UnrefusedAlong loses newer mid last after
 
 joined_parts : (loses : ℕ → Type 0) (at : ℕ) (newer older : List Exchange) (first last : SimState)
-    (run : SimRun loses (newer ++ older) first last)
+    (run : Leads SimStep loses (newer ++ older) first last)
     → Parts loses at (newer ++ older) newer older first last run
 joined_parts loses at [] older first last run =
-    record { mid = last; before = run; after = SimStays; sum = omega arith; kinds = λ kind. (kind, tt) }
+    record { mid = last; before = run; after = Stays; sum = omega arith; kinds = λ kind. (kind, tt) }
 joined_parts loses at (x ∷ newer) older first last run =
-    let rest = joined_parts loses at newer older first run.0 run.1 in
+    let rest = joined_parts loses at newer older first run.0 run.2 in
     let sum = rest.sum in
     record {
       mid = rest.mid;
       before = rest.before;
-      after = (run.0, rest.after, run.2, run.3, run.4);
+      after = (run.0, run.1, rest.after, run.3, run.4);
       sum = omega arith;
       kinds = λ kind. let older_newer = rest.kinds kind.1 in (older_newer.0, (kind.0, older_newer.1));
     }
 
 pub parts : (loses : ℕ → Type 0) (at : ℕ) (told newer older : List Exchange) (first last : SimState)
-    (run : SimRun loses told first last)
+    (run : Leads SimStep loses told first last)
     → told ≡ newer ++ older → Parts loses at told newer older first last run
 parts loses at told newer older first last run same =
-    subst (λ (t : List Exchange). (r : SimRun loses t first last) → Parts loses at t newer older first last r)
+    subst (λ (t : List Exchange). (r : Leads SimStep loses t first last) → Parts loses at t newer older first last r)
     (sym same)
     (joined_parts loses at newer older first last) run
 
 -- after misses the unit is alone still, and has kept it
 pub after_misses : (loses : ℕ → Type 0) (keep : BankState → Type 0) (at : ℕ) (access : Access) (unit : UnitState)
     (misses : ℕ) (told : List Exchange) (first last : SimState)
-    → SimRun loses told first last → (loses at → ⊥)
+    → Leads SimStep loses told first last → (loses at → ⊥)
     → IsAlone at unit first.units → keep unit.bank1 → Keeps keep access → Misses (access_requests at access) misses told
     → (now : UnitState) × IsAlone at now last.units × keep now.bank1
 after_misses loses keep at access unit zero [] first last run keeps_power alone kept keeps are =
@@ -295,7 +297,7 @@ after_misses loses keep at access unit (suc misses) told first last run keeps_po
 -- an access that succeeded
 pub after_success : (loses : ℕ → Type 0) (keep : BankState → Type 0) (at : ℕ) (access : Access) (unit : UnitState)
     (outcome : Option ℕ) (told : List Exchange) (first last : SimState)
-    → SimRun loses told first last → (loses at → ⊥)
+    → Leads SimStep loses told first last → (loses at → ⊥)
     → IsAlone at unit first.units → keep unit.bank1 → Keeps keep access
     → Succeeds (access_requests at access) outcome told
     → (now : UnitState) × IsAlone at now last.units × keep now.bank1 × Ends access now

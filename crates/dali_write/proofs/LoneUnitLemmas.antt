@@ -12,10 +12,12 @@ use Rattle.dali_bus.specs.Power.{MayPowerUp, LosesPower}
 use Rattle.dali_write.specs.declared.request.Wish.TheVariants.{Nothing, Exactly, Anything}
 use Rattle.dali_write.specs.Requests.{request, read_requests}
 use Rattle.dali_write.specs.Tries.{Trying}
-use Rattle.dali_write.specs.Worlds.{IsAmong, Stays, Loses, Run, Shows, MayRelock}
+use Rattle.dali_write.specs.Worlds.{IsAmong, Run, Shows, MayRelock}
 use Rattle.dali_write.specs.Exchanges.{Exchange}
 use Rattle.dali_write.specs.WorkedAccesses.{sent}
 use Rattle.dali_write.specs.LoneUnit.{small_gear, lone_unit, six_frames}
+use Rattle.dali_write.proofs.RunLemmas.{run_of, Leads, Stays, Loses}
+use Rattle.dali_bus.specs.Carry.{WorldStep}
 
 -- the unit heard a frame
 heard : (dtr1 dtr0 now1 now0 : ℕ) (frame : Frame) (answer : Option ℕ)
@@ -111,7 +113,7 @@ select_frames : List Exchange
 select_frames =
     sent (AskDtr0 9) (Some 0) ∷ sent (Dtr0 0) None ∷ sent (AskDtr1 9) (Some 1) ∷ sent (Dtr1 1) None ∷ []
 
-selected_then_off : Run (IsAmong (9 ∷ [])) select_frames (lone_unit 0 0) (lone_unit 0 0)
+selected_then_off : Leads WorldStep (IsAmong (9 ∷ [])) select_frames (lone_unit 0 0) (lone_unit 0 0)
 unfolding select_frames
 selected_then_off = (
   lone_unit 1 0,
@@ -133,15 +135,18 @@ selected_then_off = (
   Loses 9 (inl refl) Stays (loses_power 1 0),
 )
 
-pub six_may_be : Run (IsAmong (9 ∷ [])) six_frames (lone_unit 0 0) (lone_unit 0 1)
+six_lead : Leads WorldStep (IsAmong (9 ∷ [])) six_frames (lone_unit 0 0) (lone_unit 0 1)
 unfolding select_frames
-six_may_be = (
+six_lead = (
   lone_unit 0 1,
   lone_unit 0 1,
   (lone_unit 0 0, lone_unit 0 1, selected_then_off, reads_bank_0, Stays),
   tells_dtr0 0 1 9 refl,
   Stays,
 )
+
+pub six_may_be : Run WorldStep (IsAmong (9 ∷ [])) six_frames (lone_unit 0 0) (lone_unit 0 1)
+six_may_be = run_of six_frames (lone_unit 0 0) (lone_unit 0 1) six_lead
 
 -- and bank 1 doesn't hold the byte at 00h: without the seventh frame it would be told so
 

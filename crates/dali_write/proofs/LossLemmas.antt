@@ -16,9 +16,11 @@ use Rattle.dali_write.specs.declared.access.Access.{Access}
 use Rattle.dali_write.specs.declared.access.Access.TheVariants.{ReadFrom, WriteTo}
 use Rattle.dali_write.specs.Requests.{Meets, request, select_requests, read_requests, write_requests, access_requests}
 use Rattle.dali_write.specs.Tries.{Trying, Missed}
-use Rattle.dali_write.specs.Losses.{SimRun, is_loss, losses, Unrefused, IsAlone, CanDo}
+use Rattle.dali_write.specs.Losses.{is_loss, IsAlone, CanDo}
 use Rattle.dali_write.proofs.OneFrameLemmas.{IsFor, heard_whole, address_of}
 use Rattle.dali_write.proofs.DriftLemmas.{drifts_alone}
+use Rattle.dali_write.proofs.RunLemmas.{Leads, losses_along, UnrefusedAlong}
+use Rattle.dali_gear.specs.SimState.{SimStep}
 
 -- a unit that hears all of the requests gives the answers that they want
 abbrev pub Suits : List Request → UnitState → Type 0
@@ -133,9 +135,9 @@ pub record Suited (at : ℕ) (left : List Request) (last : SimState) : Type 0 wh
   pub for : AllFor at left
 
 pub suited : (loses : ℕ → Type 0) (at : ℕ) (requests left : List Request) (unit : UnitState) (told : List Exchange)
-    (first last : SimState) (run : SimRun loses told first last)
+    (first last : SimState) (run : Leads SimStep loses told first last)
     → (loses at → ⊥) → AllFor at requests → Suits requests unit → IsAlone at unit first.units
-    → losses at loses told first last run ≡ 0 → Unrefused loses told first last run → Trying requests told left
+    → losses_along at loses told first last run ≡ 0 → UnrefusedAlong loses told first last run → Trying requests told left
     → Suited at left last
 suited loses at requests left unit [] first last run keeps_power for suits alone none kind try =
     rw try (record {
@@ -145,39 +147,39 @@ suited loses at requests left unit [] first last run keeps_power for suits alone
       for = for;
     })
 suited loses at requests left unit (x ∷ told) first last run keeps_power for suits alone none kind try =
-    let whole = no_more (is_loss at run.0 x.frame) (losses at loses told first run.0 run.1) none in
+    let whole = no_more (is_loss at run.0 x.frame) (losses_along at loses told first run.0 run.2) none in
     let before =
-    suited loses at requests (request x.frame try.0 ∷ left) unit told first run.0 run.1 keeps_power for suits alone
+    suited loses at requests (request x.frame try.0 ∷ left) unit told first run.0 run.2 keeps_power for suits alone
     whole.1 kind.1 try.2 in
     let heard =
-    heard_whole at run.0 before.now x.frame x.answer run.2 run.3 before.for.0 before.alone whole.0 kind.0 in
+    heard_whole at run.0 before.now x.frame x.answer run.1 run.3 before.for.0 before.alone whole.0 kind.0 in
     record {
       now = after_frame false before.now x.frame;
-      alone = drifts_alone loses at _ run.2 last keeps_power run.4 heard.alone;
+      alone = drifts_alone loses at _ run.1 last keeps_power run.4 heard.alone;
       suits = before.suits.1;
       for = before.for.1;
     }
 
 -- and so it doesn't miss
 ends : (loses : ℕ → Type 0) (at : ℕ) (requests : List Request) (unit : UnitState) (told : List Exchange)
-    (first last : SimState) (run : SimRun loses told first last)
+    (first last : SimState) (run : Leads SimStep loses told first last)
     → (loses at → ⊥) → AllFor at requests → Suits requests unit → IsAlone at unit first.units
-    → losses at loses told first last run ≡ 0 → Unrefused loses told first last run → Missed requests told → ⊥
+    → losses_along at loses told first last run ≡ 0 → UnrefusedAlong loses told first last run → Missed requests told → ⊥
 ends loses at requests unit [] first last run keeps_power for suits alone none kind missed = missed
 ends loses at requests unit (x ∷ told) first last run keeps_power for suits alone none kind missed =
-    let whole = no_more (is_loss at run.0 x.frame) (losses at loses told first run.0 run.1) none in
+    let whole = no_more (is_loss at run.0 x.frame) (losses_along at loses told first run.0 run.2) none in
     let before =
-    suited loses at requests (request x.frame missed.0 ∷ missed.1) unit told first run.0 run.1 keeps_power for suits
+    suited loses at requests (request x.frame missed.0 ∷ missed.1) unit told first run.0 run.2 keeps_power for suits
     alone whole.1 kind.1 missed.3 in
     let heard =
-    heard_whole at run.0 before.now x.frame x.answer run.2 run.3 before.for.0 before.alone whole.0 kind.0 in
+    heard_whole at run.0 before.now x.frame x.answer run.1 run.3 before.for.0 before.alone whole.0 kind.0 in
     missed.2 (meets_own missed.0 (answer_to false before.now x.frame) x.answer before.suits.0 heard.answered)
 
 pub missed_by_loss : (loses : ℕ → Type 0) (at : ℕ) (access : Access) (unit : UnitState) (told : List Exchange)
-    (first last : SimState) (run : SimRun loses told first last)
-    → (loses at → ⊥) → IsAlone at unit first.units → CanDo access unit → Unrefused loses told first last run
+    (first last : SimState) (run : Leads SimStep loses told first last)
+    → (loses at → ⊥) → IsAlone at unit first.units → CanDo access unit → UnrefusedAlong loses told first last run
     → Missed (access_requests at access) told
-    → 1 ≤ losses at loses told first last run
+    → 1 ≤ losses_along at loses told first last run
 missed_by_loss loses at access unit told first last run keeps_power alone can kind missed =
     pos_of_ne-zero
     (λ none. ends loses at (access_requests at access) unit told first last run keeps_power (all_for at access)

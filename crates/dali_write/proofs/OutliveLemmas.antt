@@ -12,9 +12,11 @@ use Rattle.dali_write.specs.declared.access.Access.{Access}
 use Rattle.dali_write.specs.declared.access.Access.TheVariants.{ReadFrom, WriteTo}
 use Rattle.dali_write.specs.Requests.{access_requests}
 use Rattle.dali_write.specs.Tries.{most_tries, Misses, Succeeds, Fails}
-use Rattle.dali_write.specs.Losses.{SimRun, losses, Unrefused, IsAlone, CanDo}
+use Rattle.dali_write.specs.Losses.{IsAlone, CanDo}
 use Rattle.dali_write.proofs.LossLemmas.{missed_by_loss}
 use Rattle.dali_write.proofs.KeptLemmas.{parts, after_misses}
+use Rattle.dali_write.proofs.RunLemmas.{Leads, losses_along, UnrefusedAlong}
+use Rattle.dali_gear.specs.SimState.{SimStep}
 
 -- a location that was written is as writable as before
 still_writable : (bank : BankState) (location byte : ℕ)
@@ -36,7 +38,7 @@ still_writable bank location byte = rw (length-set bank.bytes location byte) (by
 -- after misses the unit can do the access still
 can_after : (loses : ℕ → Type 0) (at : ℕ) (access : Access) (unit : UnitState) (misses : ℕ) (told : List Exchange)
     (first last : SimState)
-    → SimRun loses told first last → (loses at → ⊥)
+    → Leads SimStep loses told first last → (loses at → ⊥)
     → IsAlone at unit first.units → CanDo access unit → Misses (access_requests at access) misses told
     → (now : UnitState) × IsAlone at now last.units × CanDo access now
 can_after loses at (ReadFrom location) unit misses told first last run keeps_power alone can are =
@@ -49,9 +51,9 @@ can_after loses at (WriteTo location byte) unit misses told first last run keeps
 
 -- each missed try took a loss
 pub misses_by_losses : (loses : ℕ → Type 0) (at : ℕ) (access : Access) (unit : UnitState) (misses : ℕ)
-    (told : List Exchange) (first last : SimState) (run : SimRun loses told first last)
-    → (loses at → ⊥) → IsAlone at unit first.units → CanDo access unit → Unrefused loses told first last run
-    → Misses (access_requests at access) misses told → misses ≤ losses at loses told first last run
+    (told : List Exchange) (first last : SimState) (run : Leads SimStep loses told first last)
+    → (loses at → ⊥) → IsAlone at unit first.units → CanDo access unit → UnrefusedAlong loses told first last run
+    → Misses (access_requests at access) misses told → misses ≤ losses_along at loses told first last run
 misses_by_losses loses at access unit zero told first last run keeps_power alone can kind are = omega arith
 misses_by_losses loses at access unit (suc misses) told first last run keeps_power alone can kind are =
     let two = parts loses at told are.0 are.1 first last run are.2 in
@@ -65,9 +67,9 @@ misses_by_losses loses at access unit (suc misses) told first last run keeps_pow
     omega arith
 
 pub access_succeeds : (loses : ℕ → Type 0) (at : ℕ) (access : Access) (unit : UnitState) (outcome : Option ℕ)
-    (told : List Exchange) (first last : SimState) (run : SimRun loses told first last)
-    → (loses at → ⊥) → IsAlone at unit first.units → CanDo access unit → Unrefused loses told first last run
-    → losses at loses told first last run < most_tries
+    (told : List Exchange) (first last : SimState) (run : Leads SimStep loses told first last)
+    → (loses at → ⊥) → IsAlone at unit first.units → CanDo access unit → UnrefusedAlong loses told first last run
+    → losses_along at loses told first last run < most_tries
     → Succeeds (access_requests at access) outcome told ⊎ Fails (access_requests at access) outcome told
     → Succeeds (access_requests at access) outcome told
 access_succeeds loses at access unit outcome told first last run keeps_power alone can kind few (inl done) = done

@@ -6,8 +6,10 @@ use Rattle.std.proofs.lemmas.Bool.{eqb-true, eqb-false}
 use Rattle.dali_bus.specs.World.{World, Gear, byte_in, byte_at, is_open}
 use Rattle.dali_bus.specs.Power.{relocked, MayPowerUp, LosesPower}
 use Rattle.dali_bus.proofs.UnenabledLemmas.{powered_at, relocked_twice}
-use Rattle.dali_write.specs.Worlds.{Drifts, Stays, Loses, MayRelock, KeepsAt, Shows, IsOff}
+use Rattle.dali_write.specs.Worlds.{MayRelock, KeepsAt, Shows, IsOff}
 use Rattle.dali_write.proofs.GearLemmas.{StaysAt, dtr1_in, off_where, shut_where, same_byte, same_there}
+use Rattle.dali_write.proofs.RunLemmas.{Drifts, Stays, Loses}
+use Rattle.dali_bus.specs.Carry.{WorldStep}
 
 -- one change after another
 pub relock_then : {lost : Type 0} {bank location : ℕ} (first mid last : Option ℕ)
@@ -53,7 +55,7 @@ power_keeps {loses} old address new of_these lost unit =
       off = λ off. off_where (new unit) (after.shut (shut_where (old unit) off));
     }
 
-pub drifts_keep : {loses : ℕ → Type 0} (first last : World) → Drifts loses first last → (address : ℕ)
+pub drifts_keep : {loses : ℕ → Type 0} (first last : World) → Drifts WorldStep loses first last → (address : ℕ)
     → KeepsAt loses first last address
 drifts_keep first last Stays address =
     record { there = refl; memory = λ bank location. inl refl; off = λ off. off }
@@ -85,7 +87,7 @@ after_power old address new lost unit = by (unit == address) refl
 -- what a unit has that holds of one without its bank goes on to hold
 pub drifts_have : {loses : ℕ → Type 0} (P : Option Gear → Type 0)
     → ((gear : Option Gear) → is_open gear ≡ false → (dtr1_in gear ≡ Some 1 → ⊥) → P gear)
-    → (unit : ℕ) (first last : World) → Drifts loses first last → P (first unit) → P (last unit)
+    → (unit : ℕ) (first last : World) → Drifts WorldStep loses first last → P (first unit) → P (last unit)
 drifts_have P off unit first last Stays p = p
 drifts_have P off unit first last (Loses {mid = mid} at of_these drifts lost) p =
     by (drifts_have P off unit first mid drifts p) (after_power mid at last lost unit)

@@ -15,13 +15,15 @@ use Rattle.dali_write.specs.declared.request.Wish.{Wish}
 use Rattle.dali_write.specs.declared.request.Wish.TheVariants.{Nothing, Exactly}
 use Rattle.dali_write.specs.Requests.{request, select_requests, read_requests, write_requests}
 use Rattle.dali_write.specs.Tries.{Trying}
-use Rattle.dali_write.specs.Worlds.{Run, MayRelock, KeepsAt, Selects, OnlyEnabled, IsOff, memory_of, Written}
+use Rattle.dali_write.specs.Worlds.{MayRelock, KeepsAt, Selects, OnlyEnabled, IsOff, memory_of, Written}
 use Rattle.dali_write.specs.Touches.{Has, OldOrNew, Touches}
 use Rattle.dali_write.proofs.GearLemmas.{end_steady, carry_stays, StaysAt, IsQuiet, same_byte}
 use Rattle.dali_write.proofs.PowerLemmas.{relock_then, keeps_then, stays_keeps}
 use Rattle.dali_write.proofs.ShapeLemmas.{trying_length}
 use Rattle.dali_write.proofs.TruthLemmas.{write_safe}
 use Rattle.dali_write.proofs.VerdictLemmas.{trying_quiet, read_quiet_requests}
+use Rattle.dali_write.proofs.RunLemmas.{Leads}
+use Rattle.dali_bus.specs.Carry.{WorldStep}
 
 -- What one frame does: every other unit keeps its memory and isn't newly enabled, and in this one each place is old, or
 -- new by one of the writes
@@ -193,7 +195,7 @@ write_off_here at (Some old) byte None hears off = absurd hears
 abbrev pub SafeNext : (ℕ → Type 0) → List (ℕ × ℕ) → ℕ → List Exchange → Frame → Type 0
 SafeNext loses writes unit tried frame =
     (first before last : World) (answer : Option ℕ) → OnlyEnabled unit before
-    → Run loses tried first before → Carry before frame answer last → Puts writes unit before last
+    → Leads WorldStep loses tried first before → Carry before frame answer last → Puts writes unit before last
 
 -- each frame of a try of these requests may be sent when it is next
 abbrev pub SafeRequests : (ℕ → Type 0) → List (ℕ × ℕ) → ℕ → List Request → Type 0

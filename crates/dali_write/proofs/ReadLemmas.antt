@@ -19,13 +19,15 @@ use Rattle.dali_write.specs.Tries.{AccessEnds, AccessesEnd, plan_requests}
 use Rattle.dali_write.proofs.AskLemmas.{shown_ask, ask_shown}
 use Rattle.dali_write.specs.Found.{StandsWith, found}
 use Rattle.dali_write.specs.Reads.{StillRead, ReadsBank}
-use Rattle.dali_write.specs.Worlds.{Run, MayRelock, Shows}
+use Rattle.dali_write.specs.Worlds.{MayRelock, Shows}
 use Rattle.dali_write.specs.Verdicts.{ShowsBank}
 use Rattle.dali_write.specs.Stages.{plan_of, plan_at}
 use Rattle.dali_write.specs.Told.{Told, aim_of}
 use Rattle.dali_write.proofs.RestLemmas.{After, KeepsReads, split, shows_kept, read_access_shows, read_access_keeps}
 use Rattle.dali_write.proofs.StillReadLemmas.{stands_true}
 use Rattle.dali_write.proofs.WalkLemmas.{ended_told}
+use Rattle.dali_write.proofs.RunLemmas.{Leads}
+use Rattle.dali_bus.specs.Carry.{WorldStep}
 
 -- each of the bytes was told at its location, and is still read
 abbrev ReadsEach : List Exchange → ℕ → List ℕ → Type 0
@@ -206,7 +208,7 @@ not_lock location old new other (inr relocks) = absurd (other relocks.2)
 
 pub bytes_are_true : {loses : ℕ → Type 0} (told : List Exchange) (s : Session) (first last : World) → Told told s
     → s.task ≡ Reading
-    → aim_of s ≡ Ended Read → Run loses told first last
+    → aim_of s ≡ Ended Read → Leads WorldStep loses told first last
     → ShowsBank loses last s.unit s.bytes.items
 bytes_are_true {loses} told s first last was reading ended run =
     let reads = bytes_are_read told s was reading ended in

@@ -6,10 +6,12 @@ use Rattle.dali_frame.specs.declared.forward.Frame.TheVariants.{AskDtr1, AskDtr2
 use Rattle.dali_bus.specs.World.{World}
 use Rattle.dali_write.specs.Exchanges.{Exchange}
 use Rattle.dali_write.specs.Reads.{IsPassive, StillRead}
-use Rattle.dali_write.specs.Worlds.{Run, Shows}
+use Rattle.dali_write.specs.Worlds.{Shows}
 use Rattle.dali_write.proofs.GearLemmas.{IsQuiet, carry_stays}
 use Rattle.dali_write.proofs.PowerLemmas.{shows_kept, stays_keeps, drifts_keep}
 use Rattle.dali_write.proofs.TruthLemmas.{split, read_true}
+use Rattle.dali_write.proofs.RunLemmas.{Leads}
+use Rattle.dali_bus.specs.Carry.{WorldStep}
 
 -- a frame that enables no unit and writes nothing is quiet at each address
 pub passive_quiet : (frame : Frame) → IsPassive frame → (address : ℕ) → IsQuiet address frame
@@ -26,11 +28,11 @@ passive_quiet (Enable unit) passive address = absurd passive
 passive_quiet (Other word) passive address = absurd passive
 
 pub stands_true : {loses : ℕ → Type 0} (told : List Exchange) (first last : World) (unit location byte : ℕ)
-    → Run loses told first last → StillRead told unit location byte
+    → Leads WorldStep loses told first last → StillRead told unit location byte
     → Shows loses last unit location byte
 stands_true [] first last unit location byte run stands = absurd stands
 stands_true {loses} (x ∷ told) first last unit location byte run (inl ends) =
-    let parts = split _ ends.0 ends.1 first last (subst (λ (t : List Exchange). Run loses t first last) ends.2 run) in
+    let parts = split _ ends.0 ends.1 first last (subst (λ (t : List Exchange). Leads WorldStep loses t first last) ends.2 run) in
     read_true ends.0 parts.0 last unit location byte parts.2 ends.3
 stands_true (x ∷ told) first last unit location byte run (inr (passive, stands)) =
     let before = stands_true told first run.0 unit location byte run.2 stands in

@@ -11,8 +11,10 @@ use Rattle.dali_write.specs.declared.access.Access.{Access}
 use Rattle.dali_write.specs.declared.access.Access.TheVariants.{ReadFrom, WriteTo}
 use Rattle.dali_write.specs.Requests.{access_requests}
 use Rattle.dali_write.specs.Tries.{most_tries, Succeeds, Fails}
-use Rattle.dali_write.specs.Losses.{SimRun, IsAlone, OnlyDiffers}
+use Rattle.dali_write.specs.Losses.{IsAlone, OnlyDiffers}
 use Rattle.dali_write.proofs.KeptLemmas.{Keeps, after_misses, after_success}
+use Rattle.dali_write.proofs.RunLemmas.{Leads}
+use Rattle.dali_gear.specs.SimState.{SimStep}
 
 get_other : (xs : List ℕ) (i x j : ℕ) → j ≢ i → slice_get (slice_set xs i x) j ≡ slice_get xs j
 get_other xs i x j other = grind (arith, common_steps, gets)
@@ -31,7 +33,7 @@ stored old location byte bank so =
 
 pub write_stored : (loses : ℕ → Type 0) (at location byte : ℕ) (unit : UnitState) (outcome : Option ℕ)
     (told : List Exchange) (first last : SimState)
-    → SimRun loses told first last → (loses at → ⊥)
+    → Leads SimStep loses told first last → (loses at → ⊥)
     → IsAlone at unit first.units → Succeeds (access_requests at (WriteTo location byte)) outcome told
     → (now : UnitState) × IsAlone at now last.units × OnlyDiffers unit.bank1 location now.bank1
     × (slice_get now.bank1.bytes location ≡ Some byte)
@@ -43,7 +45,7 @@ write_stored loses at location byte unit outcome told first last run keeps_power
 -- an access that came to its end, either way
 kept_by : (loses : ℕ → Type 0) (keep : BankState → Type 0) (at : ℕ) (access : Access) (unit : UnitState)
     (outcome : Option ℕ) (told : List Exchange) (first last : SimState)
-    → SimRun loses told first last → (loses at → ⊥)
+    → Leads SimStep loses told first last → (loses at → ⊥)
     → IsAlone at unit first.units → keep unit.bank1 → Keeps keep access
     → Succeeds (access_requests at access) outcome told ⊎ Fails (access_requests at access) outcome told
     → (now : UnitState) × IsAlone at now last.units × keep now.bank1
@@ -55,7 +57,7 @@ kept_by loses keep at access unit outcome told first last run keeps_power alone 
 
 pub read_keeps : (loses : ℕ → Type 0) (at location : ℕ) (unit : UnitState) (outcome : Option ℕ) (told : List Exchange)
     (first last : SimState)
-    → SimRun loses told first last → (loses at → ⊥)
+    → Leads SimStep loses told first last → (loses at → ⊥)
     → IsAlone at unit first.units
     → Succeeds (access_requests at (ReadFrom location)) outcome told
     ⊎ Fails (access_requests at (ReadFrom location)) outcome told
@@ -66,7 +68,7 @@ read_keeps loses at location unit outcome told first last run keeps_power alone 
 
 pub write_keeps : (loses : ℕ → Type 0) (at location byte : ℕ) (unit : UnitState) (outcome : Option ℕ)
     (told : List Exchange) (first last : SimState)
-    → SimRun loses told first last → (loses at → ⊥)
+    → Leads SimStep loses told first last → (loses at → ⊥)
     → IsAlone at unit first.units
     → Succeeds (access_requests at (WriteTo location byte)) outcome told
     ⊎ Fails (access_requests at (WriteTo location byte)) outcome told

@@ -21,10 +21,10 @@ use Rattle.dali_write.specs.Plans.{Plan, Finish, Make, greatest, read_length, re
 use Rattle.dali_write.specs.Plans.{unlock, read_on, read_all}
 use Rattle.dali_write.specs.Tries.{most_tries, AccessEnds, Wants}
 use Rattle.dali_write.specs.Walks.{Walk, access_misses, misses_of}
-use Rattle.dali_write.specs.Losses.{SimRun, losses, Unrefused, IsAlone, CanDo, OnlyDiffers}
+use Rattle.dali_write.specs.Losses.{IsAlone, CanDo, OnlyDiffers}
 use Rattle.dali_write.specs.Misses.{misses_in}
 use Rattle.dali_write.specs.Touches.{Has}
-use Rattle.dali_write.specs.Successes.{MayStoreAt, TakesAll, has_format, found_verdict, Spared, MissesByLosses}
+use Rattle.dali_write.specs.Successes.{MayStoreAt, TakesAll, has_format, found_verdict}
 use Rattle.dali_write.specs.Worlds.{MayRelock}
 use Rattle.dali_write.proofs.RunLemmas.{sim_run}
 use Rattle.dali_write.proofs.VerdictLemmas.{read_access_shows}
@@ -36,6 +36,8 @@ use Rattle.dali_write.proofs.GiveUpLemmas.{has_byte}
 use Rattle.dali_write.proofs.WalkLemmas.{ended_walk}
 use Rattle.dali_write.proofs.NextLemmas.{none_ended}
 use Rattle.dali_write.proofs.MissLemmas.{walk_misses, walk_misses_in}
+use Rattle.dali_write.proofs.RunLemmas.{Leads, losses_along, UnrefusedAlong, SparedAlong, MissesAlong}
+use Rattle.dali_gear.specs.SimState.{SimStep}
 
 -- From this bank the plan reads what is there and writes where it may, and where no access of it fails it ends so, with
 -- a bank that is so.
@@ -67,7 +69,7 @@ unlost lost location old new keeps_power (inr relocks) = absurd (keeps_power rel
 -- a checked read tells the byte of the bank
 read_byte : (loses : ℕ → Type 0) (at location byte : ℕ) (after : Option ℕ → Plan) (unit : UnitState)
     (told : List Exchange) (first last : SimState)
-    → SimRun loses told first last → (loses at → ⊥) → IsAlone at unit first.units
+    → Leads SimStep loses told first last → (loses at → ⊥) → IsAlone at unit first.units
     → AccessEnds at (Make (ReadFrom location) after) (Some byte) told
     → (now : UnitState) × IsAlone at now last.units × (now.bank1 ≡ unit.bank1)
     × (slice_get unit.bank1.bytes location ≡ Some byte)
@@ -85,10 +87,10 @@ read_byte loses at location byte after unit told first last run keeps_power alon
 
 -- the misses of one access
 access_few : (loses : ℕ → Type 0) (at : ℕ) (access : Access) (after : Option ℕ → Plan) (unit : UnitState)
-    (outcome : Option ℕ) (told : List Exchange) (first last : SimState) (run : SimRun loses told first last)
-    → (loses at → ⊥) → IsAlone at unit first.units → CanDo access unit → Unrefused loses told first last run
+    (outcome : Option ℕ) (told : List Exchange) (first last : SimState) (run : Leads SimStep loses told first last)
+    → (loses at → ⊥) → IsAlone at unit first.units → CanDo access unit → UnrefusedAlong loses told first last run
     → (ends : AccessEnds at (Make access after) outcome told)
-    → access_misses at (Make access after) outcome told ends ≤ losses at loses told first last run
+    → access_misses at (Make access after) outcome told ends ≤ losses_along at loses told first last run
 access_few loses at access after unit outcome told first last run keeps_power alone can kind (inl done) =
     let two = parts loses at told done.0 done.1 first last run done.3 in
     let few =
@@ -111,16 +113,16 @@ pub record Gone (P : BankState → Type 0) (verdict end : Verdict) (at : ℕ) (m
 -- a walk of the plan ends as it goes, and misses no more often than the unit loses
 goes : (loses : ℕ → Type 0) (P : BankState → Type 0) (verdict end : Verdict) (at : ℕ) (plan : Plan)
     (outcomes : List (Option ℕ)) (unit : UnitState) (told : List Exchange) (first last : SimState)
-    (run : SimRun loses told first last)
+    (run : Leads SimStep loses told first last)
     → (loses at → ⊥) → IsAlone at unit first.units → Goes P verdict plan unit.bank1
-    → Unrefused loses told first last run → losses at loses told first last run < most_tries
+    → UnrefusedAlong loses told first last run → losses_along at loses told first last run < most_tries
     → (walk : Walk at plan outcomes told (Finish end))
-    → Gone P verdict end at (misses_of at plan outcomes told (Finish end) walk) (losses at loses told first last run)
+    → Gone P verdict end at (misses_of at plan outcomes told (Finish end) walk) (losses_along at loses told first last run)
     last
 goes loses P verdict end at (Finish v) [] unit told first last run keeps_power alone way kind few walk =
     let same = walk.1 in
     let is : v ≡ end = cc in
-    let none : SimRun loses [] first last = subst (λ (t : List Exchange). SimRun loses t first last) walk.0 run in
+    let none : Leads SimStep loses [] first last = subst (λ (t : List Exchange). Leads SimStep loses t first last) walk.0 run in
     record {
       ends = sym is ∙ way.0;
       few = omega arith;
@@ -193,10 +195,10 @@ goes loses P verdict end at (Make (WriteTo location byte) after) (Some echo ∷ 
 -- the same of a session, with frames before it
 pub gone : (loses : ℕ → Type 0) (P : BankState → Type 0) (verdict end : Verdict) (at : ℕ) (plan : Plan)
     (unit : UnitState) (told older : List Exchange) (first last : SimState)
-    (spared : Spared loses at unit told first last)
+    (spared : SparedAlong loses at unit told first last)
     → Goes P verdict plan unit.bank1 → Wants at plan told (Ended end)
     → (misses : ℕ) × (misses_in (told ++ older) ≡ misses + misses_in older)
-    × Gone P verdict end at misses (losses at loses told first last spared.run) last
+    × Gone P verdict end at misses (losses_along at loses told first last spared.run) last
 gone loses P verdict end at plan unit told older first last spared way wants =
     let walk = ended_walk at plan told end wants in (
       misses_of at plan walk.0 told (Finish end) walk.1,
@@ -206,9 +208,9 @@ gone loses P verdict end at plan unit told older first last spared way wants =
     )
 
 succeeds : (loses : ℕ → Type 0) (P : BankState → Type 0) (verdict end : Verdict) (at : ℕ) (plan : Plan)
-    (unit : UnitState) (told : List Exchange) (first last : SimState) (spared : Spared loses at unit told first last)
+    (unit : UnitState) (told : List Exchange) (first last : SimState) (spared : SparedAlong loses at unit told first last)
     → Goes P verdict plan unit.bank1 → Wants at plan told (Ended end)
-    → (end ≡ verdict) × MissesByLosses loses at unit told first last spared
+    → (end ≡ verdict) × MissesAlong loses at unit told first last spared
 succeeds loses P verdict end at plan unit told first last spared way wants =
     let walk = ended_walk at plan told end wants in
     let all =
@@ -226,16 +228,16 @@ alone_bank at unit (first ∷ units) (inl here) are = subst (λ (u : UnitState).
 alone_bank at unit (first ∷ units) (inr further) are = alone_bank at unit units further.1 are.1
 
 -- where a frame was sent the units were apart, each with a bank
-pub starts_whole : (loses : ℕ → Type 0) (sent : List Exchange) (first last : SimState) → SimRun loses sent first last
+pub starts_whole : (loses : ℕ → Type 0) (sent : List Exchange) (first last : SimState) → Leads SimStep loses sent first last
     → sent ≢ [] → AreApart first.units × AreBanks first.units
 starts_whole loses [] first last run some = absurd (some refl)
 starts_whole loses (x ∷ []) first last run some =
-    whole_before loses first run.0 run.1 (run.3.apart, run.3.banks)
-starts_whole loses (x ∷ y ∷ sent) first last run some = starts_whole loses (y ∷ sent) first run.0 run.1 (λ e. cc)
+    whole_before loses first run.0 run.2 (run.3.apart, run.3.banks)
+starts_whole loses (x ∷ y ∷ sent) first last run some = starts_whole loses (y ∷ sent) first run.0 run.2 (λ e. cc)
 
 spared_bank : (loses : ℕ → Type 0) (at : ℕ) (unit : UnitState) (access : Access) (after : Option ℕ → Plan)
     (verdict : Verdict) (told : List Exchange) (first last : SimState)
-    → Spared loses at unit told first last
+    → SparedAlong loses at unit told first last
     → Wants at (Make access after) told (Ended verdict) → IsBank unit.bank1.bytes
 spared_bank loses at unit access after verdict told first last spared wants =
     alone_bank at unit first.units spared.alone
@@ -253,9 +255,9 @@ pub closing_goes : (bank : BankState) → 2 < length bank.bytes
 closing_goes bank long = (lock_writable bank long, λ new echo only stored. (0xFF, stored, (refl, only)))
 
 pub closing_succeeds : (loses : ℕ → Type 0) (at : ℕ) (unit : UnitState) (verdict : Verdict) (told : List Exchange)
-    (first last : SimState) (spared : Spared loses at unit told first last)
+    (first last : SimState) (spared : SparedAlong loses at unit told first last)
     → Wants at (close Closed NotClosed) told (Ended verdict)
-    → (verdict ≡ Closed) × MissesByLosses loses at unit told first last spared
+    → (verdict ≡ Closed) × MissesAlong loses at unit told first last spared
 closing_succeeds loses at unit verdict told first last spared wants =
     let least = (spared_bank loses at unit _ _ verdict told first last spared wants).least in
     succeeds loses (OnlyDiffers unit.bank1 2) Closed verdict at (close Closed NotClosed) unit told first last spared
@@ -295,9 +297,9 @@ fresh_goes updates bank is =
         )
 
 pub fresh_succeeds : (loses : ℕ → Type 0) (at : ℕ) (unit : UnitState) (updates : List (ℕ × ℕ)) (verdict : Verdict)
-    (told : List Exchange) (first last : SimState) (spared : Spared loses at unit told first last)
+    (told : List Exchange) (first last : SimState) (spared : SparedAlong loses at unit told first last)
     → Wants at (read_length updates) told (Ended verdict)
-    → (verdict ≡ found_verdict unit.bank1.bytes updates) × MissesByLosses loses at unit told first last spared
+    → (verdict ≡ found_verdict unit.bank1.bytes updates) × MissesAlong loses at unit told first last spared
 fresh_succeeds loses at unit updates verdict told first last spared wants =
     succeeds loses (λ now. now ≡ unit.bank1) (found_verdict unit.bank1.bytes updates) verdict at (read_length updates)
     unit told first last spared
@@ -325,8 +327,8 @@ read_all_goes bank is =
     )
 
 pub reading_succeeds : (loses : ℕ → Type 0) (at : ℕ) (unit : UnitState) (verdict : Verdict) (told : List Exchange)
-    (first last : SimState) (spared : Spared loses at unit told first last)
-    → Wants at read_all told (Ended verdict) → (verdict ≡ Read) × MissesByLosses loses at unit told first last spared
+    (first last : SimState) (spared : SparedAlong loses at unit told first last)
+    → Wants at read_all told (Ended verdict) → (verdict ≡ Read) × MissesAlong loses at unit told first last spared
 reading_succeeds loses at unit verdict told first last spared wants =
     succeeds loses (λ now. now ≡ unit.bank1) Read verdict at read_all unit told first last spared
     (read_all_goes unit.bank1 (spared_bank loses at unit _ _ verdict told first last spared wants)) wants
@@ -471,9 +473,9 @@ unlock_goes updates bank rises long takes = (
 )
 
 pub opened_succeeds : (loses : ℕ → Type 0) (at : ℕ) (unit : UnitState) (updates : List (ℕ × ℕ)) (verdict : Verdict)
-    (told : List Exchange) (first last : SimState) (spared : Spared loses at unit told first last)
+    (told : List Exchange) (first last : SimState) (spared : SparedAlong loses at unit told first last)
     → RisesAbove 0 updates → TakesAll unit.bank1 updates → Wants at (unlock updates) told (Ended verdict)
-    → (verdict ≡ Done) × MissesByLosses loses at unit told first last spared
+    → (verdict ≡ Done) × MissesAlong loses at unit told first last spared
 opened_succeeds loses at unit updates verdict told first last spared rises takes wants =
     let least = (spared_bank loses at unit _ _ verdict told first last spared wants).least in
     succeeds loses (λ now. Unit {0}) Done verdict at (unlock updates) unit told first last spared

@@ -12,18 +12,20 @@ use Rattle.dali_write.specs.Requests.{request}
 use Rattle.dali_write.specs.Plans.{Plan, Finish, Make, next_plan, plan_after, close, give_up, expect, read_back}
 use Rattle.dali_write.specs.Plans.{read_lock, write_on, unlock}
 use Rattle.dali_write.specs.Tries.{Trying, Missed, Misses, AccessEnds, AccessesEnd, Wants, plan_requests}
-use Rattle.dali_write.specs.Worlds.{Run, OnlyEnabled}
+use Rattle.dali_write.specs.Worlds.{OnlyEnabled}
 use Rattle.dali_write.specs.Touches.{Has, Touches, writes_of}
 use Rattle.dali_write.proofs.PowerLemmas.{drifts_keep}
 use Rattle.dali_write.proofs.ShapeLemmas.{none_left}
 use Rattle.dali_write.proofs.TruthLemmas.{split}
 use Rattle.dali_write.proofs.PlanLemmas.{either_all, if_all}
 use Rattle.dali_write.proofs.PutLemmas.{touches_then, keeps_touches, puts_touch, only_on, SafeNext, SafeRequests, read_safe, write_requests_safe}
+use Rattle.dali_write.proofs.RunLemmas.{Leads}
+use Rattle.dali_bus.specs.Carry.{WorldStep}
 
 -- Wherever these exchanges start with no other unit enabled, they touch only the places of the writes.
 abbrev Harmless : (ℕ → Type 0) → List (ℕ × ℕ) → ℕ → List Exchange → Type 0
 Harmless loses writes unit told =
-    (first last : World) → OnlyEnabled unit first → Run loses told first last
+    (first last : World) → OnlyEnabled unit first → Leads WorldStep loses told first last
     → Touches loses writes unit first last
 
 -- no exchanges touch nothing
@@ -205,13 +207,13 @@ unlock_writes updates =
 
 pub opened_touches : {loses : ℕ → Type 0} (told : List Exchange) (first last : World) (unit : ℕ)
     (updates : List (ℕ × ℕ)) (ask : Ask)
-    → OnlyEnabled unit first → Run loses told first last → Wants unit (unlock updates) told ask
+    → OnlyEnabled unit first → Leads WorldStep loses told first last → Wants unit (unlock updates) told ask
     → Touches loses (writes_of updates) unit first last
 opened_touches told first last unit updates ask only run wants =
     wants_harmless (writes_of updates) unit (unlock updates) told ask (unlock_writes updates) wants first last only run
 
 pub closing_touches : {loses : ℕ → Type 0} (told : List Exchange) (first last : World) (unit : ℕ) (ask : Ask)
-    → OnlyEnabled unit first → Run loses told first last → Wants unit (close Closed NotClosed) told ask
+    → OnlyEnabled unit first → Leads WorldStep loses told first last → Wants unit (close Closed NotClosed) told ask
     → Touches loses ((2, 0xFF) ∷ []) unit first last
 closing_touches told first last unit ask only run wants =
     wants_harmless ((2, 0xFF) ∷ []) unit (close Closed NotClosed) told ask
@@ -220,7 +222,7 @@ closing_touches told first last unit ask only run wants =
 -- after either no other unit is enabled
 pub others_off : (loses : ℕ → Type 0) (told : List Exchange) (first last : World) (unit : ℕ) (updates : List (ℕ × ℕ))
     (ask : Ask)
-    → OnlyEnabled unit first → Run loses told first last
+    → OnlyEnabled unit first → Leads WorldStep loses told first last
     → Wants unit (unlock updates) told ask ⊎ Wants unit (close Closed NotClosed) told ask → OnlyEnabled unit last
 others_off loses told first last unit updates ask only run (inl wants) =
     only_on (writes_of updates) unit first last only (opened_touches told first last unit updates ask only run wants)

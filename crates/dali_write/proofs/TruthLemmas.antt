@@ -13,16 +13,18 @@ use Rattle.dali_bus.specs.Carry.{Carry, MayHear, Heard}
 use Rattle.dali_write.specs.Exchanges.{Exchange}
 use Rattle.dali_write.specs.Requests.{select_requests, byte_after}
 use Rattle.dali_write.specs.Tries.{Trying, byte_of}
-use Rattle.dali_write.specs.Worlds.{Run, Stays, IsCheckedRead, Shows, KeepsAt, Selects, OnlyEnabled, MayWrite, IsOff}
+use Rattle.dali_write.specs.Worlds.{IsCheckedRead, Shows, KeepsAt, Selects, OnlyEnabled, MayWrite, IsOff}
 use Rattle.dali_write.specs.Worlds.{memory_of, memory_at, Written}
 use Rattle.dali_write.proofs.GearLemmas.{asked1, asked0, carry_dtr1, carry_stays, IsQuiet, passing_keeps, end_steady}
 use Rattle.dali_write.proofs.GearLemmas.{dtr0_in, dtr1_in, off_where, shut_where, same_byte}
 use Rattle.dali_write.proofs.PowerLemmas.{drifts_have, drifts_keep, keeps_then, stays_keeps, shows_kept}
 use Rattle.dali_write.proofs.ShapeLemmas.{WasRead, selected, was_read}
+use Rattle.dali_write.proofs.RunLemmas.{Leads, Stays}
+use Rattle.dali_bus.specs.Carry.{WorldStep}
 
 -- a run in two parts
 pub split : (loses : ℕ → Type 0) (newer older : List Exchange) (first last : World)
-    → Run loses (newer ++ older) first last → (mid : World) × Run loses older first mid × Run loses newer mid last
+    → Leads WorldStep loses (newer ++ older) first last → (mid : World) × Leads WorldStep loses older first mid × Leads WorldStep loses newer mid last
 split loses [] older first last run = (last, run, Stays)
 split loses (x ∷ newer) older first last run =
     let parts = split _ newer older first run.0 run.2 in
@@ -73,11 +75,11 @@ was_on old new frame answer unit quiet carry on = by (is_open (old unit)) refl w
 
 -- after the four frames the unit has selected the location
 pub selects_run : (loses : ℕ → Type 0) (unit location : ℕ) (tried : List Exchange) (first last : World)
-    → Run loses tried first last → Trying (select_requests unit location) tried []
+    → Leads WorldStep loses tried first last → Trying (select_requests unit location) tried []
     → HasBank (last unit) × HasPlace location (last unit)
 selects_run loses unit location tried first last run try =
     let s = selected unit location tried try in
-    let r4 = subst (λ (t : List Exchange). Run loses t first last) s.is run in
+    let r4 = subst (λ (t : List Exchange). Leads WorldStep loses t first last) s.is run in
     let r3 = r4.2 in
     let r2 = r3.2 in
     let one =
@@ -167,10 +169,10 @@ shows_now world unit location byte (Some gear) is holds =
 -- the answer to the read of a checked read: the unit that tells 01h of DTR1 at its end has kept its power since it told
 -- it first
 pub read_true : {loses : ℕ → Type 0} (tried : List Exchange) (first last : World) (unit location byte : ℕ)
-    → Run loses tried first last → IsCheckedRead unit location byte tried → Shows loses last unit location byte
+    → Leads WorldStep loses tried first last → IsCheckedRead unit location byte tried → Shows loses last unit location byte
 read_true {loses} tried first last unit location byte run reads =
     let s = was_read unit location tried reads.0 in
-    let r7 = subst (λ (t : List Exchange). Run loses t first last) s.is run in
+    let r7 = subst (λ (t : List Exchange). Leads WorldStep loses t first last) s.is run in
     let r6 = r7.2 in
     let r5 = r6.2 in
     let at = selects_run _ unit location s.older first r5.0 r5.2 s.selects in
@@ -198,7 +200,7 @@ AllQuiet address [] = Unit {0}
 AllQuiet address (x ∷ told) = IsQuiet address x.frame × AllQuiet address told
 
 pub run_keeps : {loses : ℕ → Type 0} (told : List Exchange) (first last : World) (address : ℕ) → AllQuiet address told
-    → Run loses told first last → KeepsAt loses first last address
+    → Leads WorldStep loses told first last → KeepsAt loses first last address
 run_keeps [] first last address quiet run = drifts_keep first last run address
 run_keeps (x ∷ told) first last address quiet run =
     keeps_then first run.0 last address (run_keeps told first run.0 address quiet.1 run.2)
@@ -274,11 +276,11 @@ off_not_on world address gear is on off = let e : gear.enabled ≡ false = rw is
 
 -- a unit that is enabled after it was made sure to have selected the location has it selected
 selected_after : (loses : ℕ → Type 0) (told : List Exchange) (first before : World) (unit location : ℕ) (gear : Gear)
-    → Run loses told first before → Selects unit location told → before unit ≡ Some gear → gear.enabled ≡ true
+    → Leads WorldStep loses told first before → Selects unit location told → before unit ≡ Some gear → gear.enabled ≡ true
     → (gear.dtr0 ≡ location) × (gear.dtr1 ≡ 1)
 selected_after loses told first before unit location gear run selects is on =
     let parts =
-    split _ selects.0 selects.1 first before (subst (λ (t : List Exchange). Run loses t first before) selects.2 run) in
+    split _ selects.0 selects.1 first before (subst (λ (t : List Exchange). Leads WorldStep loses t first before) selects.2 run) in
     let at = selects_run _ unit location selects.0 parts.0 before parts.2 selects.3 in
     let bank = at.0 (ap is_open is ∙ on) in
     let one : Some gear.dtr1 ≡ Some 1 = sym (ap dtr1_in is) ∙ bank in
@@ -287,7 +289,7 @@ selected_after loses told first before unit location gear run selects is on =
 
 -- the unit that answered is the only one that can be enabled
 answer_here : (loses : ℕ → Type 0) (told : List Exchange) (first before : World) (unit location byte v : ℕ)
-    (last : World) → Run loses told first before → Selects unit location told
+    (last : World) → Leads WorldStep loses told first before → Selects unit location told
     → OnlyEnabled unit before → Carry before (Write byte) (Some v) last
     → Written location byte (memory_at before unit) (memory_at last unit)
 answer_here loses told first before unit location byte v last run selects only carry =
@@ -304,7 +306,7 @@ answer_here loses told first before unit location byte v last run selects only c
 
 -- at the unit itself, whether it is enabled or not
 here_on : (loses : ℕ → Type 0) (told : List Exchange) (first before last : World) (unit location byte : ℕ)
-    → Run loses told first before → Selects unit location told → (old : Option Gear) → before unit ≡ old
+    → Leads WorldStep loses told first before → Selects unit location told → (old : Option Gear) → before unit ≡ old
     → (new : Option Gear) → last unit ≡ new → MayHear unit old (Write byte) new
     → (memory_of new ≡ memory_of old) ⊎ Written location byte (memory_of old) (memory_of new)
 here_on loses told first before last unit location byte run selects None was None is hears = inl refl
@@ -324,7 +326,7 @@ here_on loses told first before last unit location byte run selects (Some old) w
         ]
 
 pub write_safe : (loses : ℕ → Type 0) (told : List Exchange) (first before last : World) (unit location byte : ℕ)
-    (answer : Option ℕ) → Run loses told first before → Selects unit location told → OnlyEnabled unit before
+    (answer : Option ℕ) → Leads WorldStep loses told first before → Selects unit location told → OnlyEnabled unit before
     → Carry before (Write byte) answer last
     → MayWrite before unit location byte answer last
 write_safe loses told first before last unit location byte answer run selects only carry =

@@ -8,10 +8,12 @@ use Rattle.dali_write.specs.declared.ask.Verdict.{Verdict}
 use Rattle.dali_write.specs.Requests.{request, read_requests}
 use Rattle.dali_write.specs.Plans.{Plan, Finish, Make}
 use Rattle.dali_write.specs.Tries.{most_tries, Trying, Missed, Misses, AccessEnds}
-use Rattle.dali_write.specs.Worlds.{Run, IsCheckedRead, Shows, KeepsAt}
+use Rattle.dali_write.specs.Worlds.{IsCheckedRead, Shows, KeepsAt}
 use Rattle.dali_write.proofs.GearLemmas.{IsQuiet}
 use Rattle.dali_write.proofs.TruthLemmas.{split, read_true, AllQuiet, run_keeps}
 use Rattle.dali_write.specs.Walks.{Walk}
+use Rattle.dali_write.proofs.RunLemmas.{Leads}
+use Rattle.dali_bus.specs.Carry.{WorldStep}
 
 -- no frame of these requests writes, or enables the unit at the address
 abbrev pub RequestsQuiet : ℕ → List Request → Type 0
@@ -52,7 +54,7 @@ pub read_quiet_requests : (address unit location : ℕ) → RequestsQuiet addres
 read_quiet_requests address unit location = (tt, (tt, (tt, (tt, (tt, (tt, (tt, tt)))))))
 
 pub read_quiet : {loses : ℕ → Type 0} (tried : List Exchange) (first last : World) (unit location byte : ℕ)
-    → Run loses tried first last
+    → Leads WorldStep loses tried first last
     → IsCheckedRead unit location byte tried
     → (address : ℕ) → KeepsAt loses first last address
 read_quiet tried first last unit location byte run reads address =
@@ -76,7 +78,7 @@ read_access_quiet address unit location after outcome told (inr failed) =
 pub read_access_keeps : {loses : ℕ → Type 0} (unit location : ℕ) (after : Option ℕ → Plan) (outcome : Option ℕ)
     (told : List Exchange)
     (first last : World)
-    → AccessEnds unit (Make (ReadFrom location) after) outcome told → Run loses told first last → (address : ℕ)
+    → AccessEnds unit (Make (ReadFrom location) after) outcome told → Leads WorldStep loses told first last → (address : ℕ)
     → KeepsAt loses first last address
 read_access_keeps unit location after outcome told first last ends run address =
     run_keeps told first last address (read_access_quiet address unit location after outcome told ends) run
@@ -84,10 +86,10 @@ read_access_keeps unit location after outcome told first last ends run address =
 -- a read access that didn't fail shows its byte
 pub read_access_shows : {loses : ℕ → Type 0} (unit location byte : ℕ) (after : Option ℕ → Plan) (told : List Exchange)
     (first last : World)
-    → AccessEnds unit (Make (ReadFrom location) after) (Some byte) told → Run loses told first last
+    → AccessEnds unit (Make (ReadFrom location) after) (Some byte) told → Leads WorldStep loses told first last
     → Shows loses last unit location byte
 read_access_shows {loses} unit location byte after told first last (inl done) run =
-    let parts = split _ done.0 done.1 first last (subst (λ (t : List Exchange). Run loses t first last) done.3 run) in
+    let parts = split _ done.0 done.1 first last (subst (λ (t : List Exchange). Leads WorldStep loses t first last) done.3 run) in
     read_true done.0 parts.0 last unit location byte parts.2 (done.4, sym done.5)
 read_access_shows {loses} unit location byte after told first last (inr failed) run = let never = failed.0 in cc
 

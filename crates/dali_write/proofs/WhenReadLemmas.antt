@@ -6,11 +6,13 @@ use Rattle.dali_bus.specs.World.{World, Gear}
 use Rattle.dali_bus.specs.Power.{MayPowerUp}
 use Rattle.dali_write.specs.Exchanges.{Exchange}
 use Rattle.dali_write.specs.Reads.{StillRead}
-use Rattle.dali_write.specs.Worlds.{Drifts, Stays, Loses, Run, IsCheckedRead}
+use Rattle.dali_write.specs.Worlds.{IsCheckedRead}
 use Rattle.dali_write.specs.WhenRead.{AllBut, WhenRead}
 use Rattle.dali_write.proofs.GearLemmas.{LeavesDtr1, carry_dtr1, dtr1_in, asked1}
 use Rattle.dali_write.proofs.ShapeLemmas.{selected, was_read}
 use Rattle.dali_write.proofs.TruthLemmas.{split, carried, selects_run, same_or_not, held_then, last_answer}
+use Rattle.dali_write.proofs.RunLemmas.{leads_of, run_of, Leads, Drifts, Stays, Loses}
+use Rattle.dali_bus.specs.Carry.{WorldStep}
 
 -- a unit that lost its power has not bank 1 selected
 gone : (old new : Option Gear) → MayPowerUp old new → dtr1_in new ≡ Some 1 → ⊥
@@ -20,8 +22,8 @@ gone None (Some new) powers bank = absurd powers
 gone (Some old) None powers bank = absurd powers
 
 -- so one that has it selected lost none, and had it selected before
-drifts_apart : {loses : ℕ → Type 0} (unit : ℕ) (first last : World) → Drifts loses first last
-    → dtr1_in (last unit) ≡ Some 1 → Drifts (AllBut unit loses) first last × (dtr1_in (first unit) ≡ Some 1)
+drifts_apart : {loses : ℕ → Type 0} (unit : ℕ) (first last : World) → Drifts WorldStep loses first last
+    → dtr1_in (last unit) ≡ Some 1 → Drifts WorldStep (AllBut unit loses) first last × (dtr1_in (first unit) ≡ Some 1)
 drifts_apart unit first last Stays bank = (Stays, bank)
 drifts_apart unit first last (Loses {mid = mid} at of_these drifts lost) bank = elim (same_or_not at unit) [
   | inl same ↦ absurd (gone (mid unit) (last unit)
@@ -38,8 +40,8 @@ AllLeave [] = Unit {0}
 AllLeave (x ∷ told) = LeavesDtr1 x.frame × AllLeave told
 
 kept_on : (loses : ℕ → Type 0) (unit : ℕ) (told : List Exchange) (first last : World) → AllLeave told
-    → Run loses told first last → dtr1_in (last unit) ≡ Some 1
-    → Run (AllBut unit loses) told first last × (dtr1_in (first unit) ≡ Some 1)
+    → Leads WorldStep loses told first last → dtr1_in (last unit) ≡ Some 1
+    → Leads WorldStep (AllBut unit loses) told first last × (dtr1_in (first unit) ≡ Some 1)
 kept_on loses unit [] first last leaves run bank = drifts_apart unit first last run bank
 kept_on loses unit (x ∷ told) first last leaves run bank =
     let after = drifts_apart unit run.1 last run.4 bank in
@@ -53,21 +55,21 @@ leaves x frame is so = subst LeavesDtr1 (sym is) so
 -- of a checked read with exchanges before it
 when_just_read : {loses : ℕ → Type 0} (told tried older : List Exchange) (first begun last : World)
     (unit location byte : ℕ)
-    → told ≡ tried ++ older → Run loses older first begun → Run loses tried begun last
+    → told ≡ tried ++ older → Leads WorldStep loses older first begun → Leads WorldStep loses tried begun last
     → IsCheckedRead unit location byte tried → WhenRead loses told first last unit location byte
 when_just_read {loses} told tried older first begun last unit location byte is before run reads =
     let s = was_read unit location tried reads.0 in
     let four = selected unit location s.older s.selects in
     let whole : tried ≡ (s.x7 ∷ s.x6 ∷ s.x5 ∷ []) ++ ((four.x4 ∷ four.x3 ∷ []) ++ (four.x2 ∷ four.x1 ∷ [])) =
     s.is ∙ ap (λ (t : List Exchange). s.x7 ∷ s.x6 ∷ s.x5 ∷ t) four.is in
-    let r7 = subst (λ (t : List Exchange). Run loses t begun last) s.is run in
+    let r7 = subst (λ (t : List Exchange). Leads WorldStep loses t begun last) s.is run in
     let r6 = r7.2 in
     let r5 = r6.2 in
-    let r4 = subst (λ (t : List Exchange). Run loses t begun r5.0) four.is r5.2 in
+    let r4 = subst (λ (t : List Exchange). Leads WorldStep loses t begun r5.0) four.is r5.2 in
     let r3 = r4.2 in
     let r2 = r3.2 in
     let c7 = carried r7.0 r7.1 s.x7 (AskDtr1 unit) (Some 1) s.got7.frame_is s.got7.meets r7.3 in
-    let three : Run loses (s.x7 ∷ s.x6 ∷ s.x5 ∷ []) r5.0 r7.1 =
+    let three : Leads WorldStep loses (s.x7 ∷ s.x6 ∷ s.x5 ∷ []) r5.0 r7.1 =
     (r7.0, r7.1, (r6.0, r6.1, (r5.0, r5.1, Stays, r5.3, r5.4), r6.3, r6.4), r7.3, Stays) in
     let all_leave : AllLeave (s.x7 ∷ s.x6 ∷ s.x5 ∷ []) = (
       leaves s.x7 (AskDtr1 unit) s.got7.frame_is tt,
@@ -75,7 +77,7 @@ when_just_read {loses} told tried older first begun last unit location byte is b
     ) in
     let reading =
     kept_on loses unit (s.x7 ∷ s.x6 ∷ s.x5 ∷ []) r5.0 r7.1 all_leave three (asked1 r7.0 unit 1 r7.1 c7) in
-    let middle : Run loses (four.x4 ∷ four.x3 ∷ []) r2.1 r5.0 =
+    let middle : Leads WorldStep loses (four.x4 ∷ four.x3 ∷ []) r2.1 r5.0 =
     (r4.0, r4.1, (r3.0, r3.1, r2.4, r3.3, r3.4), r4.3, r4.4) in
     let both_leave : AllLeave (four.x4 ∷ four.x3 ∷ []) = (
       leaves four.x4 (AskDtr0 unit) four.got4.frame_is tt,
@@ -86,6 +88,8 @@ when_just_read {loses} told tried older first begun last unit location byte is b
     let c5 =
     carried r5.0 r5.1 s.x5 (Read unit) (Some byte) s.got5.frame_is (last_answer unit location byte tried s reads.1)
     r5.3 in
+    let asking : Leads WorldStep loses (four.x2 ∷ four.x1 ∷ []) begun r2.1 = (r2.0, r2.1, r2.2, r2.3, Stays) in
+    let behind : Leads WorldStep loses [] r7.1 last = r7.4 in
     record {
       newer = [];
       three = s.x7 ∷ s.x6 ∷ s.x5 ∷ [];
@@ -99,23 +103,25 @@ when_just_read {loses} told tried older first begun last unit location byte is b
       asked = r2.1;
       read = r5.0;
       answered = r7.1;
-      before = before;
-      asking = (r2.0, r2.1, r2.2, r2.3, Stays);
-      selecting = selecting.0;
-      reading = reading.0;
-      behind = r7.4;
+      before = run_of _ _ _ before;
+      asking = run_of _ _ _ asking;
+      selecting = run_of _ _ _ selecting.0;
+      reading = run_of _ _ _ reading.0;
+      behind = run_of _ _ _ behind;
       held = held_then r5.0 unit location byte r5.1 c5 reading.1 place;
     }
 
 pub when_read : {loses : ℕ → Type 0} (told : List Exchange) (first last : World) (unit location byte : ℕ)
-    → Run loses told first last → StillRead told unit location byte
+    → Leads WorldStep loses told first last → StillRead told unit location byte
     → WhenRead loses told first last unit location byte
 when_read [] first last unit location byte run still = absurd still
 when_read {loses} (x ∷ told) first last unit location byte run (inl ends) =
-    let parts = split _ ends.0 ends.1 first last (subst (λ (t : List Exchange). Run loses t first last) ends.2 run) in
+    let parts = split _ ends.0 ends.1 first last (subst (λ (t : List Exchange). Leads WorldStep loses t first last) ends.2 run) in
     when_just_read (x ∷ told) ends.0 ends.1 first parts.0 last unit location byte ends.2 parts.1 parts.2 ends.3
 when_read {loses} (x ∷ told) first last unit location byte run (inr (passive, still)) =
     let w = when_read told first run.0 unit location byte run.2 still in
+    let behind : Leads WorldStep loses (x ∷ w.newer) w.answered last =
+    (run.0, run.1, leads_of w.newer w.answered run.0 w.behind, run.3, run.4) in
     record {
       newer = x ∷ w.newer;
       three = w.three;
@@ -133,6 +139,6 @@ when_read {loses} (x ∷ told) first last unit location byte run (inr (passive, 
       asking = w.asking;
       selecting = w.selecting;
       reading = w.reading;
-      behind = (run.0, run.1, w.behind, run.3, run.4);
+      behind = run_of _ _ _ behind;
       held = w.held;
     }

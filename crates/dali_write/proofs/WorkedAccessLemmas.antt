@@ -16,11 +16,13 @@ use Rattle.dali_write.specs.Plans.{Plan, Finish, next_plan, plan_after, expect, 
 use Rattle.dali_write.specs.Tries.{Trying, Missed, AccessEnds, AccessesEnd, Wants}
 use Rattle.dali_write.specs.Walks.{Walk}
 use Rattle.dali_write.specs.Misses.{is_missed, misses_in, IsLong}
-use Rattle.dali_write.specs.Losses.{SimRun, losses, Unrefused, IsAlone}
+use Rattle.dali_write.specs.Losses.{losses, Unrefused, IsAlone}
 use Rattle.dali_write.specs.Successes.{MayStoreAt, HasBank, Spared, MissesByLosses}
 use Rattle.dali_write.specs.Doubts.{EndsUnread, EndsUnlooked, FoundAnother}
 use Rattle.dali_write.specs.WorkedAccesses.{sent, missed_read, after_a_miss, small_bank, two_units}
 use Rattle.dali_write.proofs.ShapeLemmas.{trying_length}
+use Rattle.dali_write.specs.Worlds.{Run}
+use Rattle.dali_gear.specs.SimState.{SimStep}
 
 -- what is a miss
 pub another_missed : is_missed (Exactly 1) (Some 2) ≡ true
@@ -74,16 +76,16 @@ second_has = inr (inl (refl, refl))
 
 -- seven losses are few, and with none nothing was missed
 pub seven_spared : (loses : ℕ → Type 0) (at : ℕ) (unit : UnitState) (told : List Exchange) (first last : SimState)
-    (run : SimRun loses told first last)
-    → (loses at → ⊥) → IsAlone at unit first.units → Unrefused loses told first last run
-    → losses at loses told first last run ≡ 7 → Spared loses at unit told first last
+    (run : Run SimStep loses told first last)
+    → (loses at → ⊥) → IsAlone at unit first.units → Unrefused run.past run.chain.states
+    → losses at run.past run.chain.states ≡ 7 → Spared loses at unit told first last
 seven_spared loses at unit told first last run keeps_power alone kind seven =
     record { run = run; keeps_power = keeps_power; alone = alone; kind = kind; few = omega arith }
 
 pub none_lost : (loses : ℕ → Type 0) (at : ℕ) (unit : UnitState) (told : List Exchange) (first last : SimState)
     (spared : Spared loses at unit told first last)
     → MissesByLosses loses at unit told first last spared
-    → losses at loses told first last spared.run ≡ 0 → misses_in told ≡ 0
+    → losses at spared.run.past spared.run.chain.states ≡ 0 → misses_in told ≡ 0
 none_lost loses at unit told first last spared few none = omega arith
 
 -- a read that failed names its unit and its location

@@ -3,10 +3,12 @@ use Rattle.std.proofs.Common.{◌≡◌, ◌≢◌, inl, inr, refl, sym, ◌∙�
 use Rattle.dali_frame.specs.declared.forward.Frame.{Frame}
 use Rattle.dali_bus.specs.World.{World}
 use Rattle.dali_gear.specs.SimState.{SimState, SimCarry, SimPower, world_of}
-use Rattle.dali_write.specs.Losses.{SimDrifts, SimStays, SimLoses, SimRun}
-use Rattle.dali_write.specs.Worlds.{IsAmong, Drifts, Stays, Loses, MayRelock}
+use Rattle.dali_write.specs.Worlds.{IsAmong, Run, MayRelock}
 use Rattle.dali_write.specs.WhenRead.{AllBut}
-use Rattle.dali_write.proofs.RunLemmas.{sim_drifts}
+use Rattle.dali_write.proofs.RunLemmas.{leads_of, shown_run}
+use Rattle.dali_write.proofs.RunLemmas.{Drifts, Stays, Loses}
+use Rattle.dali_bus.specs.Carry.{WorldStep, Carried, Powered}
+use Rattle.dali_gear.specs.SimState.{SimStep}
 
 byte_is : (one other : ℕ) → Some one ≡ Some other → one ≡ other
 byte_is one other e = cc
@@ -39,32 +41,52 @@ other_than : (address : ℕ) → IsAmong (5 ∷ []) address → 6 ≢ address
 other_than address (inl is) = λ same. omega (arith, is, same)
 other_than address (inr none) = absurd none
 
-pub others_stay : (first last : World) → Drifts (IsAmong (5 ∷ [])) first last → last 6 ≡ first 6
-others_stay first last Stays = refl
-others_stay first last (Loses {mid = mid} address of_these drifts lost) =
-    lost.others 6 (other_than address of_these) ∙ others_stay first mid drifts
+fives_stay : (first last : World) → Drifts WorldStep (IsAmong (5 ∷ [])) first last → last 6 ≡ first 6
+fives_stay first last Stays = refl
+fives_stay first last (Loses {mid = mid} address of_these drifts lost) =
+    lost.others 6 (other_than address of_these) ∙ fives_stay first mid drifts
+
+pub others_stay : (first last : World) → Run WorldStep (IsAmong (5 ∷ [])) [] first last → last 6 ≡ first 6
+others_stay first last run = fives_stay first last (leads_of [] first last run)
 
 -- and so it is on the simulated bus, where it may do so before a frame and after it, and twice
-pub simulated_others_stay : (first last : SimState) → SimDrifts (IsAmong (5 ∷ [])) first last
+pub simulated_others_stay : (first last : SimState) → Run SimStep (IsAmong (5 ∷ [])) [] first last
     → world_of last.units 6 ≡ world_of first.units 6
-simulated_others_stay first last drifts =
-    others_stay (world_of first.units) (world_of last.units) (sim_drifts (IsAmong (5 ∷ [])) first last drifts)
+simulated_others_stay first last run =
+    others_stay (world_of first.units) (world_of last.units) (shown_run (IsAmong (5 ∷ [])) [] first last run)
 
 pub powered_before : (first mid last : SimState) (frame : Frame) (answer : Option ℕ) → SimPower first 5 mid
     → SimCarry mid frame answer last
-    → SimRun (IsAmong (5 ∷ [])) (record { frame = frame; answer = answer } ∷ []) first last
+    → Run SimStep (IsAmong (5 ∷ [])) (record { frame = frame; answer = answer } ∷ []) first last
 powered_before first mid last frame answer lost carried =
-    (mid, SimLoses 5 (inl refl) SimStays lost, last, carried, SimStays)
+    record {
+      past = Carried frame answer ∷ Powered 5 ∷ [];
+      told_is = refl;
+      among = λ address has. has;
+      chain = record { states = mid ∷ first ∷ []; steps = (carried, (lost, refl)) };
+    }
 
 pub powered_twice_after : (first mid then last : SimState) (frame : Frame) (answer : Option ℕ)
     → SimCarry first frame answer mid → SimPower mid 5 then → SimPower then 5 last
-    → SimRun (IsAmong (5 ∷ [])) (record { frame = frame; answer = answer } ∷ []) first last
+    → Run SimStep (IsAmong (5 ∷ [])) (record { frame = frame; answer = answer } ∷ []) first last
 powered_twice_after first mid then last frame answer carried one two =
-    (first, SimStays, mid, carried, SimLoses 5 (inl refl) (SimLoses 5 (inl refl) SimStays one) two)
+    record {
+      past = Powered 5 ∷ Powered 5 ∷ Carried frame answer ∷ [];
+      told_is = refl;
+      among = λ address has. elim has [
+        | inl five ↦ inl five
+        | inr before ↦ before
+      ];
+      chain = record { states = then ∷ mid ∷ first ∷ []; steps = (two, (one, (carried, refl))) };
+    }
 
 -- while only others lose their power, the unit stays as it is
-pub keeps_its_power : (loses : ℕ → Type 0) (first last : World) → Drifts (AllBut 6 loses) first last
+stays_as_it_is : (loses : ℕ → Type 0) (first last : World) → Drifts WorldStep (AllBut 6 loses) first last
     → last 6 ≡ first 6
-keeps_its_power loses first last Stays = refl
-keeps_its_power loses first last (Loses {mid = mid} address of_these drifts lost) =
-    lost.others 6 (λ same. of_these.1 (sym same)) ∙ keeps_its_power loses first mid drifts
+stays_as_it_is loses first last Stays = refl
+stays_as_it_is loses first last (Loses {mid = mid} address of_these drifts lost) =
+    lost.others 6 (λ same. of_these.1 (sym same)) ∙ stays_as_it_is loses first mid drifts
+
+pub keeps_its_power : (loses : ℕ → Type 0) (first last : World) → Run WorldStep (AllBut 6 loses) [] first last
+    → last 6 ≡ first 6
+keeps_its_power loses first last run = stays_as_it_is loses first last (leads_of [] first last run)

@@ -3,28 +3,13 @@ use Rattle.std.specs.Prelude.{◌≡◌, ◌≢◌, ℕ, ◌+◌, ◌==◌, Bool
 use Rattle.std.specs.Prelude.{◌∷◌, length, slice_get, if◌then◌else◌}
 use Rattle.std.specs.List.{list_any}
 use Rattle.dali_frame.specs.declared.forward.Frame.{Frame}
+use Rattle.dali_bus.specs.Carry.{BusEvent, Carried, Powered}
 use Rattle.dali_gear.specs.declared.fate.Fate.{Fate}
 use Rattle.dali_gear.specs.Fate.{is_lost, next_fate}
 use Rattle.dali_gear.specs.UnitState.{BankState, UnitState, is_writable}
-use Rattle.dali_gear.specs.SimState.{SimState, SimCarry, SimPower, unit_answer}
-use Rattle.dali_write.specs.Exchanges.{Exchange}
+use Rattle.dali_gear.specs.SimState.{SimState, unit_answer}
 use Rattle.dali_write.specs.declared.access.Access.{Access}
 use Rattle.dali_write.specs.declared.access.Access.TheVariants.{ReadFrom, WriteTo}
-
--- Units of these addresses lose their power and get it back, one after another and any number of times. Nothing else
--- happens.
-pub data SimDrifts (loses : ℕ → Type 0) : SimState → SimState → Type 0 where
-  SimStays : {state : SimState} → SimDrifts loses state state
-  SimLoses : {first mid last : SimState} → (address : ℕ) → loses address → SimDrifts loses first mid
-      → SimPower mid address last → SimDrifts loses first last
-
--- exchanges, the newest first, lead the simulated bus from the first state to the last; before, between and after them
--- units of these addresses may lose their power
-abbrev pub SimRun : (ℕ → Type 0) → List Exchange → SimState → SimState → Type 0
-SimRun loses [] first last = SimDrifts loses first last
-SimRun loses (x ∷ told) first last =
-    (before : SimState) × SimRun loses told first before × (after : SimState)
-    × SimCarry before x.frame x.answer after × SimDrifts loses after last
 
 -- the unit at the address answers the frame
 abbrev pub answers_at : ℕ → Fate → Frame → List UnitState → Bool
@@ -37,19 +22,19 @@ is_loss address state frame =
     is_lost (next_fate state.fates) address
     || ((next_fate state.fates).answer_lost && answers_at address (next_fate state.fates) frame state.units)
 
--- so many of the exchanges are losses to the unit
-abbrev pub losses : ℕ → (loses : ℕ → Type 0) (told : List Exchange) (first last : SimState)
-    → SimRun loses told first last → ℕ
-losses address loses [] first last run = 0
-losses address loses (x ∷ told) first last run =
-    (if is_loss address run.0 x.frame then 1 else 0) + losses address loses told first run.0 run.1
+-- so many of the frames of a chain, by the states before them, are losses to the unit
+abbrev pub losses : ℕ → List BusEvent → List SimState → ℕ
+losses address (Carried frame answer ∷ past) (state ∷ states) =
+    (if is_loss address state frame then 1 else 0) + losses address past states
+losses address (Powered other ∷ past) (state ∷ states) = losses address past states
+losses address past states = 0
 
--- no fate of the exchanges refuses
-abbrev pub Unrefused : (loses : ℕ → Type 0) (told : List Exchange) (first last : SimState)
-    → SimRun loses told first last → Type 0
-Unrefused loses [] first last run = Unit {0}
-Unrefused loses (x ∷ told) first last run =
-    ((next_fate run.0.fates).refuse ≡ false) × Unrefused loses told first run.0 run.1
+-- no fate of its frames refuses
+abbrev pub Unrefused : List BusEvent → List SimState → Type 0
+Unrefused (Carried frame answer ∷ past) (state ∷ states) =
+    ((next_fate state.fates).refuse ≡ false) × Unrefused past states
+Unrefused (Powered address ∷ past) (state ∷ states) = Unrefused past states
+Unrefused past states = Unit {0}
 
 -- another unit, not enabled
 abbrev pub IsElse : ℕ → UnitState → Type 0

@@ -3,13 +3,14 @@ use Rattle.std.specs.Prelude.{◌≡◌, ◌⊎◌, ℕ, ◌<◌, ◌≤◌, ◌
 use Rattle.std.specs.Prelude.{slice_index, if◌then◌else◌}
 use Rattle.std.specs.List.{list_any, AllByRecursion}
 use Rattle.dali_gear.specs.UnitState.{BankState, UnitState}
-use Rattle.dali_gear.specs.SimState.{SimState}
+use Rattle.dali_gear.specs.SimState.{SimState, SimStep}
 use Rattle.dali_write.specs.Exchanges.{Exchange}
 use Rattle.dali_write.specs.declared.ask.Verdict.{Verdict}
 use Rattle.dali_write.specs.declared.ask.Verdict.TheVariants.{MayOpen, Short, Format}
 use Rattle.dali_write.specs.Plans.{greatest}
 use Rattle.dali_write.specs.Tries.{most_tries}
-use Rattle.dali_write.specs.Losses.{SimRun, losses, Unrefused, IsAlone}
+use Rattle.dali_write.specs.Losses.{losses, Unrefused, IsAlone}
+use Rattle.dali_write.specs.Worlds.{Run}
 use Rattle.dali_write.specs.Misses.{misses_in}
 
 -- the location isn't fixed
@@ -48,14 +49,15 @@ found_verdict bytes updates = by_bank Short Format MayOpen bytes updates
 -- address and keeps its power: no fate refuses, and it loses less than an access has tries.
 pub record Spared (loses : ℕ → Type 0) (at : ℕ) (unit : UnitState) (told : List Exchange) (first last : SimState)
     : Type 0 where
-  pub run : SimRun loses told first last
+  pub run : Run SimStep loses told first last
   pub keeps_power : loses at → ⊥
   pub alone : IsAlone at unit first.units
-  pub kind : Unrefused loses told first last run
-  pub few : losses at loses told first last run < most_tries
+  pub kind : Unrefused run.past run.chain.states
+  pub few : losses at run.past run.chain.states < most_tries
 
 -- it missed no more often than it lost
 abbrev pub MissesByLosses : (loses : ℕ → Type 0) (at : ℕ) (unit : UnitState) (told : List Exchange)
     (first last : SimState)
     → Spared loses at unit told first last → Type 0
-MissesByLosses loses at unit told first last spared = misses_in told ≤ losses at loses told first last spared.run
+MissesByLosses loses at unit told first last spared =
+    misses_in told ≤ losses at spared.run.past spared.run.chain.states

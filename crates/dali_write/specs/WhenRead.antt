@@ -1,6 +1,7 @@
 -- When the byte of a checked read was there, and how long its unit kept its power.
 use Rattle.std.specs.Prelude.{◌≡◌, ◌≢◌, ℕ, List, ◌++◌, length, Some}
 use Rattle.dali_bus.specs.World.{World, byte_at}
+use Rattle.dali_bus.specs.Carry.{WorldStep}
 use Rattle.dali_write.specs.Exchanges.{Exchange}
 use Rattle.dali_write.specs.Worlds.{Run, IsCheckedRead}
 
@@ -27,9 +28,9 @@ pub record WhenRead (loses : ℕ → Type 0) (told : List Exchange) (first last 
   pub asked : World
   pub read : World
   pub answered : World
-  pub before : Run loses older first begun
-  pub asking : Run loses two begun asked
-  pub selecting : Run (AllBut unit loses) middle asked read
-  pub reading : Run (AllBut unit loses) three read answered
-  pub behind : Run loses newer answered last
+  pub before : Run WorldStep loses older first begun
+  pub asking : Run WorldStep loses two begun asked
+  pub selecting : Run WorldStep (AllBut unit loses) middle asked read
+  pub reading : Run WorldStep (AllBut unit loses) three read answered
+  pub behind : Run WorldStep loses newer answered last
   pub held : byte_at read unit 1 location ≡ Some byte

@@ -1,8 +1,8 @@
 -- What exchanges do to a world of units.
 use Rattle.std.specs.Prelude.{◌≡◌, ◌≢◌, ◌≤◌, ◌⊎◌, ℕ, false, List, [], ◌∷◌, ◌++◌, Option, Some, None, IsSome, is_some}
 use Rattle.dali_bus.specs.World.{World, Gear, Memory, stored, byte_at}
-use Rattle.dali_bus.specs.Power.{relocked, LosesPower}
-use Rattle.dali_bus.specs.Carry.{Carry, BusEvent, WorldStep, HasLostPower}
+use Rattle.dali_bus.specs.Power.{relocked}
+use Rattle.dali_bus.specs.Carry.{BusEvent, HasLostPower}
 use Rattle.dali_bus.specs.Chain.{Chain}
 use Rattle.dali_write.specs.Exchanges.{Exchange, exchanges_of}
 use Rattle.dali_write.specs.Requests.{read_requests, select_requests}
@@ -13,27 +13,14 @@ abbrev pub IsAmong : List ℕ → ℕ → Type 0
 IsAmong [] address = ⊥
 IsAmong (first ∷ more) address = (first ≡ address) ⊎ IsAmong more address
 
--- Units of these addresses lose their power and get it back, one after another and any number of times. Nothing else
--- happens.
-pub data Drifts (loses : ℕ → Type 0) : World → World → Type 0 where
-  Stays : {world : World} → Drifts loses world world
-  Loses : {first mid last : World} → (address : ℕ) → loses address → Drifts loses first mid
-      → LosesPower mid address last → Drifts loses first last
-
--- exchanges, the newest first, lead from the first world to the last; before, between and after them units of these
--- addresses may lose their power
-abbrev pub Run : (ℕ → Type 0) → List Exchange → World → World → Type 0
-Run loses [] first last = Drifts loses first last
-Run loses (x ∷ told) first last =
-    (before : World) × (after : World) × Run loses told first before × Carry before x.frame x.answer after
-    × Drifts loses after last
-
--- a chain of worlds whose frames are these exchanges, and in which only units of these addresses lose their power
-pub record ChainOf (loses : ℕ → Type 0) (told : List Exchange) (first last : World) : Type 0 where
+-- exchanges, the newest first, lead from the first state to the last: through a chain of states whose frames they are,
+-- and in which only units of these addresses lose their power
+pub record Run {S : Type 0} (step : S → BusEvent → S → Type 0) (loses : ℕ → Type 0) (told : List Exchange)
+    (first last : S) : Type 0 where
   pub past : List BusEvent
   pub told_is : exchanges_of past ≡ told
   pub among : (address : ℕ) → HasLostPower address past → loses address
-  pub chain : Chain WorldStep first past last
+  pub chain : Chain step first past last
 
 -- the byte is as it was; or its place is a lock byte, the unit has lost its power, and the byte is FFh since then
 abbrev pub MayRelock : Type 0 → ℕ → ℕ → Option ℕ → Option ℕ → Type 0

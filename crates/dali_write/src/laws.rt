@@ -6,7 +6,7 @@ ghost use Rattle.dali_frame.specs.declared.forward.Frame.{Frame};
 ghost use Rattle.dali_frame.specs.declared.forward.Frame.TheVariants.{Write};
 ghost use Rattle.dali_write.specs.declared.ask.Ask.{Ask};
 ghost use Rattle.dali_bus.specs.World.{World, Gear};
-ghost use Rattle.dali_bus.specs.Carry.{Carry};
+ghost use Rattle.dali_bus.specs.Carry.{Carry, WorldStep};
 ghost use Rattle.dali_write.specs.Exchanges.{Exchange};
 ghost use Rattle.dali_write.specs.declared.session.Session.{Session};
 ghost use Rattle.dali_write.specs.declared.ask.Verdict.{Verdict};
@@ -18,7 +18,7 @@ ghost use Rattle.dali_write.specs.Stages.{plan_of};
 ghost use Rattle.dali_write.specs.Told.{Told, unit_of, task_of, bytes_read, aim_of};
 ghost use Rattle.dali_write.specs.Frames.{read_frames, write_frames};
 ghost use Rattle.dali_write.specs.Counts.{done_frames, frame_limit};
-ghost use Rattle.dali_gear.specs.SimState.{SimState, AreApart, world_of};
+ghost use Rattle.dali_gear.specs.SimState.{SimState, SimStep, AreApart, world_of};
 ghost use Rattle.dali_gear.specs.UnitState.{UnitState, gear_of};
 ghost use Rattle.dali_write.specs.declared.access.Access.{Access};
 ghost use Rattle.dali_write.specs.declared.access.Access.TheVariants.{ReadFrom, WriteTo};
@@ -29,21 +29,14 @@ ghost use Rattle.dali_write.specs.Misses.{misses_in};
 ghost use Rattle.dali_write.specs.Successes.{TakesAll, found_verdict, Spared, MissesByLosses};
 ghost use Rattle.dali_bank.specs.Order.{Contents, RisesAbove};
 ghost use Rattle.dali_write.specs.Doubts.{EndsUnread, EndsUnlooked, HasFailed, read_backs, FoundAnother};
-ghost use Rattle.dali_write.specs.Losses.{SimRun, losses, Unrefused, IsAlone, CanDo, OnlyDiffers};
+ghost use Rattle.dali_write.specs.Losses.{losses, Unrefused, IsAlone, CanDo, OnlyDiffers};
 ghost use Rattle.dali_write.specs.Touches.{Touches, writes_of};
 ghost use Rattle.dali_write.specs.Findings.{Rests};
 ghost use Rattle.dali_write.specs.Guards.{IsGuarded};
 ghost use Rattle.dali_write.specs.Reads.{StillRead, HasRead, ReadsBank};
-ghost use Rattle.dali_write.specs.Worlds.{IsAmong, Run, ChainOf, IsCheckedRead, Shows, KeepsAt, Selects, OnlyEnabled};
+ghost use Rattle.dali_write.specs.Worlds.{IsAmong, Run, IsCheckedRead, Shows, KeepsAt, Selects, OnlyEnabled};
 ghost use Rattle.dali_write.specs.Worlds.{MayWrite};
 ghost use Rattle.dali_write.specs.WhenRead.{WhenRead};
-
-/// Exchanges lead from one world to another exactly where a chain of worlds does whose frames they are, and in which
-/// no units but those of these addresses lose their power.
-pub fn runs_are_chains()
-    ensures { (loses : List ℕ) (told : List Exchange) (first last : World)
-        → Run (IsAmong loses) told first last ↔ ChainOf (IsAmong loses) told first last }
-{}
 
 /// A session wants what its plan asks after what it was told, and ends so.
 pub fn sessions_follow_their_plans()
@@ -60,10 +53,10 @@ pub fn sessions_send_few_frames()
 /// units that lose their power, and no unit is newly enabled.
 pub fn checked_reads_are_true()
     ensures byte { (loses : List ℕ) (tried : List Exchange) (first last : World) (unit location byte : ℕ)
-        → Run (IsAmong loses) tried first last → IsCheckedRead unit location byte tried
+        → Run WorldStep (IsAmong loses) tried first last → IsCheckedRead unit location byte tried
         → Shows (IsAmong loses) last unit location byte }
     ensures quiet { (loses : List ℕ) (tried : List Exchange) (first last : World) (unit location byte : ℕ)
-        → Run (IsAmong loses) tried first last → IsCheckedRead unit location byte tried
+        → Run WorldStep (IsAmong loses) tried first last → IsCheckedRead unit location byte tried
         → (address : ℕ) → KeepsAt (IsAmong loses) first last address }
 {}
 
@@ -71,7 +64,7 @@ pub fn checked_reads_are_true()
 /// power may be FFh.
 pub fn still_reads_are_true()
     ensures { (loses : List ℕ) (told : List Exchange) (first last : World) (unit location byte : ℕ)
-        → Run (IsAmong loses) told first last → StillRead told unit location byte
+        → Run WorldStep (IsAmong loses) told first last → StillRead told unit location byte
         → Shows (IsAmong loses) last unit location byte }
 {}
 
@@ -79,7 +72,7 @@ pub fn still_reads_are_true()
 /// to its seventh the unit kept its power, whichever units lose theirs before, between and behind.
 pub fn read_bytes_were_there()
     ensures { (loses : List ℕ) (told : List Exchange) (first last : World) (unit location byte : ℕ)
-        → Run (IsAmong loses) told first last → StillRead told unit location byte
+        → Run WorldStep (IsAmong loses) told first last → StillRead told unit location byte
         → WhenRead (IsAmong loses) told first last unit location byte }
 {}
 
@@ -88,7 +81,7 @@ pub fn read_bytes_were_there()
 pub fn guarded_writes_are_safe()
     ensures { (loses : List ℕ) (told : List Exchange) (first before last : World) (unit location byte : ℕ)
         (answer : Option ℕ)
-        → Run (IsAmong loses) told first before → Selects unit location told → OnlyEnabled unit before
+        → Run WorldStep (IsAmong loses) told first before → Selects unit location told → OnlyEnabled unit before
         → Carry before (Write byte) answer last
         → MayWrite before unit location byte answer last }
 {}
@@ -132,19 +125,19 @@ pub fn sessions_keep_what_they_read()
 pub fn verdicts_are_true()
     ensures opened { (loses : List ℕ) (told : List Exchange) (first last : World) (unit : ℕ)
         (updates : List (ℕ × ℕ)) (verdict : Verdict)
-        → Run (IsAmong loses) told first last → Wants unit (unlock updates) told (Ask.Ended verdict)
+        → Run WorldStep (IsAmong loses) told first last → Wants unit (unlock updates) told (Ask.Ended verdict)
         → Says (IsAmong loses) unit updates last verdict }
     ensures fresh { (loses : List ℕ) (told : List Exchange) (first last : World) (unit : ℕ)
         (updates : List (ℕ × ℕ)) (verdict : Verdict)
-        → Run (IsAmong loses) told first last → Wants unit (read_length updates) told (Ask.Ended verdict)
+        → Run WorldStep (IsAmong loses) told first last → Wants unit (read_length updates) told (Ask.Ended verdict)
         → Says (IsAmong loses) unit updates last verdict }
     ensures closing { (loses : List ℕ) (told : List Exchange) (first last : World) (unit : ℕ) (verdict : Verdict)
-        → Run (IsAmong loses) told first last
+        → Run WorldStep (IsAmong loses) told first last
         → Wants unit (close Verdict.Closed Verdict.NotClosed) told (Ask.Ended verdict)
         → Says (IsAmong loses) unit [] last verdict }
     ensures reading { (loses : List ℕ) (told : List Exchange) (s : Session) (first last : World) → Told told s
         → task_of s ≡ Task.Reading → aim_of s ≡ Ask.Ended Verdict.Read
-        → Run (IsAmong loses) told first last → ShowsBank (IsAmong loses) last (unit_of s) (bytes_read s) }
+        → Run WorldStep (IsAmong loses) told first last → ShowsBank (IsAmong loses) last (unit_of s) (bytes_read s) }
 {}
 
 /// A session that looks whether a bank suits, or reads it, changes no memory and enables no unit; lock bytes of units
@@ -152,10 +145,10 @@ pub fn verdicts_are_true()
 pub fn readers_are_quiet()
     ensures fresh { (loses : List ℕ) (told : List Exchange) (first last : World) (unit : ℕ)
         (updates : List (ℕ × ℕ)) (ask : Ask)
-        → Run (IsAmong loses) told first last → Wants unit (read_length updates) told ask
+        → Run WorldStep (IsAmong loses) told first last → Wants unit (read_length updates) told ask
         → (address : ℕ) → KeepsAt (IsAmong loses) first last address }
     ensures reading { (loses : List ℕ) (told : List Exchange) (first last : World) (unit : ℕ) (ask : Ask)
-        → Run (IsAmong loses) told first last → Wants unit read_all told ask
+        → Run WorldStep (IsAmong loses) told first last → Wants unit read_all told ask
         → (address : ℕ) → KeepsAt (IsAmong loses) first last address }
 {}
 
@@ -165,15 +158,15 @@ pub fn readers_are_quiet()
 pub fn sessions_touch_their_places_alone()
     ensures opened { (loses : List ℕ) (told : List Exchange) (first last : World) (unit : ℕ)
         (updates : List (ℕ × ℕ)) (ask : Ask)
-        → OnlyEnabled unit first → Run (IsAmong loses) told first last → Wants unit (unlock updates) told ask
+        → OnlyEnabled unit first → Run WorldStep (IsAmong loses) told first last → Wants unit (unlock updates) told ask
         → Touches (IsAmong loses) (writes_of updates) unit first last }
     ensures closing { (loses : List ℕ) (told : List Exchange) (first last : World) (unit : ℕ) (ask : Ask)
-        → OnlyEnabled unit first → Run (IsAmong loses) told first last
+        → OnlyEnabled unit first → Run WorldStep (IsAmong loses) told first last
         → Wants unit (close Verdict.Closed Verdict.NotClosed) told ask
         → Touches (IsAmong loses) ((2, 0xFF) ∷ []) unit first last }
     ensures enabled { (loses : List ℕ) (told : List Exchange) (first last : World) (unit : ℕ)
         (updates : List (ℕ × ℕ)) (ask : Ask)
-        → OnlyEnabled unit first → Run (IsAmong loses) told first last
+        → OnlyEnabled unit first → Run WorldStep (IsAmong loses) told first last
         → Wants unit (unlock updates) told ask ⊎ Wants unit (close Verdict.Closed Verdict.NotClosed) told ask
         → OnlyEnabled unit last }
 {}
@@ -196,8 +189,8 @@ pub fn wanted_frames_are_guarded()
 /// What the simulated bus does with exchanges, while units of these addresses may lose their power, is what its units
 /// may do.
 pub fn simulated_runs_are_runs()
-    ensures { (loses : List ℕ) (told : List Exchange) (first last : SimState) → SimRun (IsAmong loses) told first last
-        → Run (IsAmong loses) told (world_of first.units) (world_of last.units) }
+    ensures { (loses : List ℕ) (told : List Exchange) (first last : SimState) → Run SimStep (IsAmong loses) told first last
+        → Run WorldStep (IsAmong loses) told (world_of first.units) (world_of last.units) }
 {}
 
 /// On the simulated bus, where no fate refuses, no other unit is write-enabled, and the unit has
@@ -205,25 +198,25 @@ pub fn simulated_runs_are_runs()
 /// their power meanwhile.
 pub fn tries_miss_by_losses()
     ensures { (loses : List ℕ) (at : ℕ) (access : Access) (unit : UnitState) (told : List Exchange)
-        (first last : SimState) (run : SimRun (IsAmong loses) told first last)
+        (first last : SimState) (run : Run SimStep (IsAmong loses) told first last)
         → (IsAmong loses at → ⊥) → IsAlone at unit first.units → CanDo access unit
-        → Unrefused (IsAmong loses) told first last run
-        → Missed (access_requests at access) told → 1 ≤ losses at (IsAmong loses) told first last run }
+        → Unrefused run.past run.chain.states
+        → Missed (access_requests at access) told → 1 ≤ losses at run.past run.chain.states }
 {}
 
 /// With the same premises, an access misses no more often than its unit has losses, and with fewer of
 /// them than an access has tries it succeeds.
 pub fn accesses_outlive_losses()
     ensures misses { (loses : List ℕ) (at : ℕ) (access : Access) (unit : UnitState) (misses : ℕ)
-        (told : List Exchange) (first last : SimState) (run : SimRun (IsAmong loses) told first last)
+        (told : List Exchange) (first last : SimState) (run : Run SimStep (IsAmong loses) told first last)
         → (IsAmong loses at → ⊥) → IsAlone at unit first.units → CanDo access unit
-        → Unrefused (IsAmong loses) told first last run
-        → Misses (access_requests at access) misses told → misses ≤ losses at (IsAmong loses) told first last run }
+        → Unrefused run.past run.chain.states
+        → Misses (access_requests at access) misses told → misses ≤ losses at run.past run.chain.states }
     ensures succeeds { (loses : List ℕ) (at : ℕ) (access : Access) (unit : UnitState) (outcome : Option ℕ)
-        (told : List Exchange) (first last : SimState) (run : SimRun (IsAmong loses) told first last)
+        (told : List Exchange) (first last : SimState) (run : Run SimStep (IsAmong loses) told first last)
         → (IsAmong loses at → ⊥) → IsAlone at unit first.units → CanDo access unit
-        → Unrefused (IsAmong loses) told first last run
-        → losses at (IsAmong loses) told first last run < most_tries
+        → Unrefused run.past run.chain.states
+        → losses at run.past run.chain.states < most_tries
         → Succeeds (access_requests at access) outcome told ⊎ Fails (access_requests at access) outcome told
         → Succeeds (access_requests at access) outcome told }
 {}
@@ -304,7 +297,7 @@ pub fn doubts_have_a_cause()
 pub fn successful_writes_are_stored()
     ensures { (loses : List ℕ) (at location byte : ℕ) (unit : UnitState) (outcome : Option ℕ) (told : List Exchange)
         (first last : SimState)
-        → SimRun (IsAmong loses) told first last → (IsAmong loses at → ⊥)
+        → Run SimStep (IsAmong loses) told first last → (IsAmong loses at → ⊥)
         → IsAlone at unit first.units → Succeeds (access_requests at (WriteTo location byte)) outcome told
         → (now : UnitState) × IsAlone at now last.units × OnlyDiffers unit.bank1 location now.bank1
         × (slice_get now.bank1.bytes location ≡ Some byte) }
@@ -316,14 +309,14 @@ pub fn successful_writes_are_stored()
 pub fn accesses_keep_the_bank()
     ensures read { (loses : List ℕ) (at location : ℕ) (unit : UnitState) (outcome : Option ℕ) (told : List Exchange)
         (first last : SimState)
-        → SimRun (IsAmong loses) told first last → (IsAmong loses at → ⊥)
+        → Run SimStep (IsAmong loses) told first last → (IsAmong loses at → ⊥)
         → IsAlone at unit first.units
         → Succeeds (access_requests at (ReadFrom location)) outcome told
         ⊎ Fails (access_requests at (ReadFrom location)) outcome told
         → (now : UnitState) × IsAlone at now last.units × (now.bank1 ≡ unit.bank1) }
     ensures write { (loses : List ℕ) (at location byte : ℕ) (unit : UnitState) (outcome : Option ℕ)
         (told : List Exchange) (first last : SimState)
-        → SimRun (IsAmong loses) told first last → (IsAmong loses at → ⊥)
+        → Run SimStep (IsAmong loses) told first last → (IsAmong loses at → ⊥)
         → IsAlone at unit first.units
         → Succeeds (access_requests at (WriteTo location byte)) outcome told
         ⊎ Fails (access_requests at (WriteTo location byte)) outcome told

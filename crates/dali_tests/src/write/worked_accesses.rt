@@ -7,7 +7,7 @@ ghost use Rattle.dali_write.specs.declared.ask.Verdict.{Verdict};
 ghost use Rattle.dali_write.specs.Plans.{Plan};
 ghost use Rattle.dali_write.specs.Tries.{Wants};
 ghost use Rattle.dali_write.specs.Misses.{is_missed, misses_in, IsLong};
-ghost use Rattle.dali_write.specs.Losses.{SimRun, losses, Unrefused, IsAlone};
+ghost use Rattle.dali_write.specs.Losses.{losses, Unrefused, IsAlone};
 ghost use Rattle.dali_write.specs.Worlds.{IsAmong};
 ghost use Rattle.dali_write.specs.Successes.{MayStoreAt, HasBank, Spared, MissesByLosses};
 ghost use Rattle.dali_write.specs.Doubts.{EndsUnread, EndsUnlooked, FoundAnother};
@@ -40,13 +40,13 @@ fn what_a_bank_takes()
 // Seven losses are few, and with none nothing was missed, whichever other units lose their power.
 fn little_loss_is_spared()
     ensures seven { (loses : List ℕ) (at : ℕ) (unit : UnitState) (told : List Exchange) (first last : SimState)
-        (run : SimRun (IsAmong loses) told first last)
-        → (IsAmong loses at → ⊥) → IsAlone at unit first.units → Unrefused (IsAmong loses) told first last run
-        → losses at (IsAmong loses) told first last run ≡ 7 → Spared (IsAmong loses) at unit told first last }
+        (run : Run SimStep (IsAmong loses) told first last)
+        → (IsAmong loses at → ⊥) → IsAlone at unit first.units → Unrefused run.past run.chain.states
+        → losses at run.past run.chain.states ≡ 7 → Spared (IsAmong loses) at unit told first last }
     ensures none { (loses : List ℕ) (at : ℕ) (unit : UnitState) (told : List Exchange) (first last : SimState)
         (spared : Spared (IsAmong loses) at unit told first last)
         → MissesByLosses (IsAmong loses) at unit told first last spared
-        → losses at (IsAmong loses) told first last spared.run ≡ 0 → misses_in told ≡ 0 }
+        → losses at spared.run.past spared.run.chain.states ≡ 0 → misses_in told ≡ 0 }
 {}
 
 // A read that failed names its unit and its location, and where another byte was found the session has ended in doubt.

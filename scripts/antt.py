@@ -5,12 +5,9 @@ import re
 from crates import text_of
 from terms import Names, level_index, tokens_of
 
-USE = re.compile(
-    r"use (?P<path>[^\s{};]+?)(?:\.\{(?P<names>[^}]*)\}| as (?P<alias>[^\s;]+))?;?$"
-)
+USE = re.compile(r"use (?P<path>[^\s{};]+?)(?:\.\{(?P<names>[^}]*)\}| as (?P<alias>[^\s;]+))?;?$")
 # What stands before the name of an item, and the name.
 HEAD = re.compile(r"((?:(?:abbrev|unfoldable|pub|record|data) )*)(\S+)( |$)")
-FIELD = re.compile(r"(?:pub )?(.*)")
 # The modules that the kit makes of code: its types, and the goals of its functions.
 DECLARED = "declared"
 
@@ -34,13 +31,6 @@ class Imports:
             name, _, here = it.strip().partition(" as ")
             self.names[here or name] = (path, name)
 
-    def joined(self, other):
-        """Give these and others, which come first."""
-        made = Imports()
-        made.names = {**self.names, **other.names}
-        made.modules = {**self.modules, **other.modules}
-        return made
-
 
 class Item:
     """A definition or a lemma: its module, name and first line, its text, and the paths of names that it speaks of."""
@@ -50,22 +40,12 @@ class Item:
         self.rows, self.blocks, self.names = [], [], set()
 
     def is_definition(self):
-        """Tell whether it says what something is, and isn't a lemma, of which its type says all."""
+        """Tell whether it says what something is: else it is a lemma, of which its type says all."""
         return not {"abbrev", "unfoldable", "record", "data"}.isdisjoint(self.words)
 
     def lines(self):
         """Count its lines, without comments and blank ones."""
         return len(self.rows)
-
-    def parts(self):
-        """Give its statement and what stands behind it, clause by clause, each as its lines."""
-        parts = [[]]
-        for row in self.rows:
-            is_clause = row[0] not in " )}]" and parts[0]
-            if is_clause:
-                parts.append([])
-            parts[-1].append(row)
-        return parts
 
     def read(self, is_constructor):
         """Read which names it speaks of, by what tells whether a name in a pattern is a constructor's."""
@@ -199,12 +179,11 @@ class Library:
             for item in module.items.values():
                 item.read(lambda path, module=module: self.is_constructor(module, path))
 
-    def there(self, module, path):
-        """Give the module, if it is one of these, and the name that a path of a module's text means."""
-        return self.meant(module.imports, path, module)
-
     def meant(self, imports, path, module=None):
-        """The same of any text, by what it brings in, and the module that it stands in, if that is one of these."""
+        """Give the module, if it is one of these, and the name that a path means, by what a text brings in.
+
+        A text in a module of these may mean what is its own.
+        """
         if path[0] in imports.names:
             name, there = imports.names[path[0]]
             return self.modules.get(name), there

@@ -40,17 +40,6 @@ pub wants_nothing : (plan : Plan) (left : List Request) (verdict : Verdict) → 
 wants_nothing (Finish ended) left verdict is going = let same : ended ≡ verdict = cc in ap Ended same
 wants_nothing (Make access after) left verdict is going = cc
 
--- an access at hand has a next frame
-pub has_request : (unit : ℕ) (plan : Plan) (number : ℕ) (access : Access) → access_of plan ≡ Ok access
-    → IsGoing plan (drop number (plan_requests unit plan))
-    → slice_get (access_requests unit access) number ≡ None → ⊥
-has_request unit (Finish verdict) number access is going none = cc
-has_request unit (Make s after) number access is going none =
-    let same : s ≡ access = cc in
-    let end : drop number (access_requests unit s) ≡ [] =
-    rw same (drop_end (access_requests unit access) number none) in
-    let still : IsGoing (Make s after) [] = subst (λ (left : List Request). IsGoing (Make s after) left) end going in cc
-
 -- one more location to read
 pub read_on_next : (location last : ℕ) (outcome : Option ℕ) → location < last → is_some outcome ≡ true
     → read_on (location + 1) (suc last - (location + 1)) ≡ next_plan (read_on location (suc last - location)) outcome

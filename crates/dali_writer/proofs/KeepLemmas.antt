@@ -121,11 +121,6 @@ pub check_allowed : (order : Contents) (verdict : Verdict)
 check_allowed order verdicts.MayOpen = refl
 check_allowed order _ = tt
 
-pub check_begins : (journal : JournalState) (unit : ℕ) (verdict : Verdict)
-    → MayBegin journal (check_record unit verdict)
-check_begins journal unit verdicts.MayOpen = tt
-check_begins journal unit _ = tt
-
 check_new : (unit : ℕ) (verdict : Verdict) (records : List Record) → IsNew (check_record unit verdict) records
 check_new unit verdicts.MayOpen records = tt
 check_new unit _ records = tt
@@ -234,12 +229,6 @@ closed_on start past journal new order moment s d ready aim records limit =
     (waits, stands_read (sent_since_taken past) unit 2 over.1.0 over.1.1) (2, all.0, all.1) in
     kept_on start past journal new (Closes order moment s) (Begins order moment) (Closed unit) d may records limit
     (place.0, place.1)
-
--- the journal is ready for what comes next
-pub ready_begun : (new : JournalState) (records : List Record) (order : Contents) (moment : ℕ) (s : Session) → IsFresh order s
-    → AreUpdates order.updates
-    → new.records ≡ Began order moment ∷ records → IsReady (Checks order s) new
-ready_begun new records order moment s fresh valid is = (rw is refl, fresh, valid)
 
 said_ready : (journal new : JournalState) (order : Contents) (code : Code) (progress : Progress)
     → (older : List (Contents × Progress)) × orders_of journal.records ≡ (order, progress) ∷ older

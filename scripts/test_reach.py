@@ -76,6 +76,12 @@ named_by_attribute = tt
 
 pub shadowed : Bare []
 shadowed = tt
+
+pub kept : Bare []
+kept = only_kept
+
+only_kept : Bare []
+only_kept = tt
 """
 WORKED = """use Rattle.top.specs.Top.{Bare}
 use Rattle.top.proofs.TopLemmas.{only_brought_in, shadowed}
@@ -164,6 +170,8 @@ pub fn apart(text: &str, mark: char) -> usize {
 pub fn unneeded() {}
 
 pub fn in_an_edit() {}
+
+pub fn kept_too() {}
 """
 TESTS = """use top::main::only_tested;
 
@@ -195,6 +203,10 @@ PROMISES = """# Promises
 
 | other | `nothing::at::all` | 1 |
 """
+EXCEPTIONS = {
+    ("top/proofs/TopLemmas.antt", "kept"): "it calls what only it calls",
+    ("top/src/parts.rt", "kept_too"): "a bench calls it",
+}
 UNUSED = [
     "low/specs/Base.antt:22 hidden",
     "top/proofs/TopLemmas.antt:8 unused_one",
@@ -226,8 +238,12 @@ FILES = {
 
 
 def repository(root):
-    """Make the repository."""
+    """Make the repository, in which `unused` has an exception of its own."""
     shutil.copytree(HERE, root / "scripts", ignore=shutil.ignore_patterns("__pycache__"))
+    text = (HERE / "unused").read_text(encoding="utf-8")
+    before, _, rest = text.partition("\nEXCEPTIONS = {\n")
+    made = f"{before}\nEXCEPTIONS = {EXCEPTIONS}\n{rest.partition('}')[2]}"
+    (root / "scripts" / "unused").write_text(made, encoding="utf-8")
     for name, text in FILES.items():
         (root / name).parent.mkdir(parents=True, exist_ok=True)
         (root / name).write_text(text, encoding="utf-8")

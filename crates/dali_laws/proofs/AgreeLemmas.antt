@@ -20,8 +20,6 @@ use Rattle.dali_trace.specs.Trace.{waits_in, replied, next_course, Course, Quiet
 use Rattle.dali_trace.specs.Legal.{Serves, IsGuardedWrite, MaySend, IsDue, MayKeep, MaySay, MayHappen, Replies}
 use Rattle.dali_trace.specs.Legal.{MayFollow, IsFinished}
 use Rattle.dali_trace.specs.ByPlan.{told_in, IsPlanned}
-use Rattle.dali_trace.specs.Worked.{empty, second_order, begun, busy_while_at_work}
-use Rattle.dali_trace.specs.WorkedPlans.{first_frame}
 use Rattle.dali_laws.specs.Law.{RefusedOrdersChangeNothing}
 
 -- two traces, each from its start, that tell the same
@@ -207,10 +205,3 @@ nothing_changed start past more order moment reply next finished other =
         planned_too start start (more ++ whole) (more ++ past) next (agree more).records told,
       ),
     )
-
--- so a frame behind a refused order leaves what may come behind the frame without it
-pub behind_a_refused_order : RefusedOrdersChangeNothing → (next : Happening)
-    → (MayFollow empty (Sent (Dtr1 1) None ∷ busy_while_at_work) next ↔ MayFollow empty first_frame next)
-    × (IsPlanned empty (Sent (Dtr1 1) None ∷ busy_while_at_work) next ↔ IsPlanned empty first_frame next)
-behind_a_refused_order law next =
-    law empty begun (Sent (Dtr1 1) None ∷ []) second_order 9 replies.Busy next tt (λ same. cc)

@@ -95,18 +95,3 @@ powered_planned start [] planned = tt
 powered_planned start (Powered address ∷ past) planned = (powered_planned start past planned, tt)
 powered_planned start (newest ∷ past) planned =
     (powered_planned start past planned.0, planned_next start past newest planned.1)
-
--- They may stand before an order, behind its reply and one behind another, but not between the two.
-
-pub apart_elsewhere : (order : Contents) (moment : ℕ)
-    → IsPowerApart (Powered 6 ∷ Powered 5 ∷ Answered order.id replies.Busy ∷ Asked order moment ∷ Powered 5 ∷ [])
-apart_elsewhere order moment = tt
-
-pub not_apart_before_the_reply : (order : Contents) (moment : ℕ)
-    → IsPowerApart (Answered order.id replies.Busy ∷ Powered 6 ∷ Powered 5 ∷ Asked order moment ∷ []) → ⊥
-not_apart_before_the_reply order moment apart = apart
-
-pub none_are_left : (order : Contents) (moment : ℕ)
-    → unpowered (Powered 6 ∷ Stopped ∷ Powered 5 ∷ Asked order moment ∷ Powered 5 ∷ [])
-    ≡ Stopped ∷ Asked order moment ∷ []
-none_are_left order moment = refl

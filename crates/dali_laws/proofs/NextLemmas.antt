@@ -27,7 +27,7 @@ use Rattle.dali_trace.specs.Trace.{waiting_since}
 use Rattle.dali_trace.specs.Trace.{Start, records_of, standing_at, waiting, has_ended, is_at_work, is_busy, is_full}
 use Rattle.dali_trace.specs.Trace.{course_of}
 use Rattle.dali_trace.specs.Legal.{EndsAs, HasNumber, IsDue, MaySend, MayHappen, Replies, Legal}
-use Rattle.dali_trace.specs.Grounds.{verdict_told, EndsIn}
+use Rattle.dali_trace.specs.Grounds.{verdict_of, EndsIn}
 use Rattle.dali_trace.specs.ByPlan.{told_in, Asks, IsPlanned}
 use Rattle.dali_trace.specs.Parts.{IsWork}
 use Rattle.dali_trace.specs.Next.{IsNext, IsSameBut}
@@ -62,28 +62,43 @@ asks_one (standings.Left unit) told one other first second =
     wants_one told unit (close verdicts.Closed verdicts.NotClosed) one other first second
 
 -- no code tells that an order may be opened
-not_opened : (order : Contents) (code : Code)
-    → verdict_told (standings.Began order) (Ended code) ≡ Some verdicts.MayOpen → ⊥
-not_opened order codes.Short e = cc
-not_opened order codes.Format e = cc
-not_opened order codes.Silent e = cc
-not_opened order _ e = cc
+not_opened : (code : Code) → verdict_of (Ended code) ≡ Some verdicts.MayOpen → ⊥
+not_opened codes.Done e = cc
+not_opened codes.Short e = cc
+not_opened codes.Format e = cc
+not_opened codes.Silent e = cc
+not_opened codes.Doubt e = cc
+not_opened codes.DoubtOpen e = cc
 
 -- one record tells of a verdict
 ends_one : (stands : Standing) (verdict : Verdict) (one other : Record) → EndsIn stands verdict one
     → EndsIn stands verdict other → other ≡ one
 ends_one (standings.Began order) verdict (Opened unit) (Opened left) first second =
     let is = first.0 in let same = second.0 in cc
+ends_one (standings.Left unit) verdict (Closed one) (Closed other) first second =
+    let is = first.0 in let same = second.0 in cc
 ends_one (standings.Began order) verdict (Opened unit) (Ended code) first second =
-    absurd (not_opened order code (second.1 ∙ sym first.1))
+    absurd (not_opened code (second.1 ∙ sym first.1))
 ends_one (standings.Began order) verdict (Ended codes.Short) (Ended codes.Short) first second = refl
 ends_one (standings.Began order) verdict (Ended codes.Format) (Ended codes.Format) first second = refl
 ends_one (standings.Began order) verdict (Ended codes.Silent) (Ended codes.Silent) first second = refl
 ends_one (standings.Opened order) verdict (Ended codes.Done) (Ended codes.Done) first second = refl
 ends_one (standings.Opened order) verdict (Ended codes.Doubt) (Ended codes.Doubt) first second = refl
 ends_one (standings.Opened order) verdict (Ended codes.DoubtOpen) (Ended codes.DoubtOpen) first second = refl
-ends_one (standings.Left unit) verdict (Closed one) (Closed other) first second =
-    let is = first.0 in let same = second.0 in cc
+ends_one standings.Idle verdict (Began order moment) _ first second = let told = first.1 in cc
+ends_one standings.Idle verdict _ _ first second = absurd first.0
+ends_one (standings.Began order) verdict (Closed unit) _ first second = absurd first.0
+ends_one (standings.Began order) verdict (Ended codes.Done) _ first second = absurd first.0
+ends_one (standings.Began order) verdict (Ended codes.Doubt) _ first second = absurd first.0
+ends_one (standings.Began order) verdict (Ended codes.DoubtOpen) _ first second = absurd first.0
+ends_one (standings.Opened order) verdict (Opened unit) _ first second = absurd first.0
+ends_one (standings.Opened order) verdict (Closed unit) _ first second = absurd first.0
+ends_one (standings.Opened order) verdict (Ended codes.Short) _ first second = absurd first.0
+ends_one (standings.Opened order) verdict (Ended codes.Format) _ first second = absurd first.0
+ends_one (standings.Opened order) verdict (Ended codes.Silent) _ first second = absurd first.0
+ends_one (standings.Left unit) verdict (Opened left) _ first second = absurd first.0
+ends_one (standings.Left unit) verdict (Ended code) _ first second = absurd first.0
+ends_one (standings.Left unit) verdict (Closed one) (Ended code) first second = absurd second.0
 ends_one _ verdict _ _ first second = let told = first.1 in let other = second.1 in cc
 
 number_one : (one other : ℕ) (waits : Option Contents) → HasNumber one waits → HasNumber other waits → other ≡ one
@@ -120,7 +135,8 @@ data Due (start : Start) (past : List Happening) (next : Happening) : Type 0 whe
       → IsAtHand (standing_at start past) (waiting past)
       → Does (standing_at start past) (waiting past) ask next → Due start past next
 
-idle_began : (stands : Standing) (order : Contents) (moment : ℕ) → Allows stands (Began order moment) → stands ≡ standings.Idle
+idle_began : (stands : Standing) (order : Contents) (moment : ℕ) → Allows stands (Began order moment)
+    → stands ≡ standings.Idle
 idle_began standings.Idle order moment allowed = refl
 idle_began stands order moment allowed = absurd allowed
 
@@ -134,7 +150,8 @@ sent_at_hand past stands told frame may asked = tt
 kept_at_hand : (past : List Happening) (stands : Standing) (verdict : Verdict) (entry : Record) → IsDue past entry
     → EndsIn stands verdict entry
     → IsAtHand stands (waiting past)
-kept_at_hand past standings.Idle verdict entry due ends = let none = ends.1 in cc
+kept_at_hand past standings.Idle verdict (Began order moment) due ends = let none = ends.1 in cc
+kept_at_hand past standings.Idle verdict entry due ends = absurd ends.0
 kept_at_hand past (standings.Left unit) verdict entry due ends =
     let is = (closed_verdict unit verdict entry ends).1 in (rw is at due).0
 kept_at_hand past stands verdict entry due ends = tt

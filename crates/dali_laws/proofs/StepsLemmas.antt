@@ -118,7 +118,8 @@ still_kept : (start : Start) (past : List Happening) (entry : Record) (order : C
     → order_at_hand start (Kept entry ∷ past) ≡ Some order
 still_kept start past (Began begun moment) order legal hand =
     let may = may_keep start past (Began begun moment) legal.1 in
-    still_began (standing_at start past) begun moment (waiting past) (has_ended past) (orders_of (records_of start past)) order
+    still_began (standing_at start past) begun moment (waiting past) (has_ended past)
+    (orders_of (records_of start past)) order
     may.whole.0.1 may.due.0 hand
 still_kept start past (Opened unit) order legal hand =
     let may = may_keep start past (Opened unit) legal.1 in
@@ -270,10 +271,12 @@ reply_on start before mid order asked moment steps reply legal at = record {
 
 after_submit : (start : Start) (before mid after : List Happening) (order asked : Contents) (moment steps : ℕ)
     → Part start (Submit asked moment) mid after → Legal start after → ByPlan start after
-    → (Legal start mid → ByPlan start mid → SaidOrAtHand start before mid order steps) → SaidOrAtHand start before after order steps
+    → (Legal start mid → ByPlan start mid → SaidOrAtHand start before mid order steps)
+    → SaidOrAtHand start before after order steps
 after_submit start before mid after order asked moment steps (reply, same) legal planned rest =
     let legal_now : Legal start (Answered asked.id reply ∷ Asked asked moment ∷ mid) = subst (Legal start) same legal in
-    let planned_now : ByPlan start (Answered asked.id reply ∷ Asked asked moment ∷ mid) = subst (ByPlan start) same planned in
+    let planned_now : ByPlan start (Answered asked.id reply ∷ Asked asked moment ∷ mid) = subst (ByPlan start) same
+    planned in
     subst (λ (t : List Happening). SaidOrAtHand start before t order steps) (sym same)
     (by legal_now (rest legal_now.0.0 planned_now.0.0))
   where
@@ -299,7 +302,8 @@ after_loss start before mid order steps address (inr at) =
       work = at.work;
     })
 
-said_or_at_hand : (start : Start) (before : List Happening) (order : Contents) (events : List Event) (after : List Happening)
+said_or_at_hand : (start : Start) (before : List Happening) (order : Contents) (events : List Event)
+    (after : List Happening)
     → IsFinished before → order_at_hand start before ≡ Some order
     → PartsSince start events before after → NoneStops events → Legal start after → ByPlan start after
     → SaidOrAtHand start before after order (steps_in events)
@@ -315,7 +319,8 @@ said_or_at_hand start before order [] after finished hand same none legal planne
 said_or_at_hand start before order (Step ∷ events) after finished hand (mid, part, rest) none legal planned =
     after_step start before mid after order (steps_in events) part legal planned
     (λ legal planned. said_or_at_hand start before order events mid finished hand rest none legal planned)
-said_or_at_hand start before order (Submit asked moment ∷ events) after finished hand (mid, part, rest) none legal planned =
+said_or_at_hand start before order (Submit asked moment ∷ events) after finished hand (mid, part, rest) none legal
+    planned =
     after_submit start before mid after order asked moment (steps_in events) part legal planned
     (λ legal planned. said_or_at_hand start before order events mid finished hand rest none legal planned)
 said_or_at_hand start before order (Stop bytes ∷ events) after finished hand parts none legal planned = absurd none
@@ -344,7 +349,8 @@ within_at start past order within hand = by (order_at_hand start past) hand with
 pub said_in_time : (start : Start) (before after : List Happening) → Legal start after → ByPlan start after
     → IsFinished before → IsSaidInTime start before after
 said_in_time start before after legal planned finished = λ events order parts enough.
-    by events order enough.2 (said_or_at_hand start before order events after finished enough.0 parts enough.1 legal planned)
+    by events order enough.2 (said_or_at_hand start before order events after finished enough.0 parts enough.1 legal
+    planned)
   where
     by : (events : List Event) (order : Contents) → work_limit (length order.updates) + 5 ≤ steps_in events
         → SaidOrAtHand start before after order (steps_in events)
@@ -429,7 +435,8 @@ cut_of start events newer middle older trace parts same =
     cut_parts start newer middle older trace (subst (λ (es : List Event). AreParts start es trace) same parts)
 
 -- the trace behind the middle ones is legal and by plan, as the whole is
-pub older_rules : (start : Start) (more past : List Happening) → Legal start (more ++ past) → ByPlan start (more ++ past)
+pub older_rules : (start : Start) (more past : List Happening) → Legal start (more ++ past)
+    → ByPlan start (more ++ past)
     → Legal start past × ByPlan start past
 older_rules start [] past legal planned = (legal, planned)
 older_rules start (next ∷ more) past legal planned = older_rules start more past legal.0 planned.0

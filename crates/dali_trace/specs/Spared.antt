@@ -1,7 +1,7 @@
 -- Over the simulated bus: what is lost of an order's frames since its start, and how an order ends that loses little.
-use Rattle.std.specs.Prelude.{◌≡◌, ◌≢◌, ◌<◌, ◌≤◌, ℕ, Bool, false, ◌||◌, ◌==◌, nat_lt, List, [], ◌∷◌, ◌++◌, Option, Some}
-use Rattle.std.specs.Prelude.{None, length, slice_index, reverse, if◌then◌else◌}
-use Rattle.std.specs.List.{list_any, filter, AllByRecursion}
+use Rattle.std.specs.Prelude.{◌≡◌, ◌≢◌, ◌<◌, ◌≤◌, ℕ, Bool, false, ◌||◌, List, [], ◌∷◌, ◌++◌, Option, Some, None}
+use Rattle.std.specs.Prelude.{length, reverse}
+use Rattle.std.specs.List.{filter, AllByRecursion}
 use Rattle.dali_frame.specs.declared.forward.Frame.{Frame}
 use Rattle.dali_bank.specs.Order.{Contents}
 use Rattle.dali_bus.specs.Chain.{IsChain, AtEachState}
@@ -11,10 +11,9 @@ use Rattle.dali_gear.specs.SimState.{SimState, SimStep, world_of}
 use Rattle.dali_bus.specs.Unenabled.{NoneEnabled}
 use Rattle.dali_journal.specs.declared.record.Code.{Code}
 use Rattle.dali_journal.specs.declared.record.Code.TheVariants as codes
-use Rattle.dali_write.specs.Plans.{greatest}
 use Rattle.dali_write.specs.Tries.{most_tries}
 use Rattle.dali_write.specs.Losses.{is_loss}
-use Rattle.dali_write.specs.Successes.{HasBank, has_format}
+use Rattle.dali_write.specs.Successes.{HasBank, IsFree, by_bank}
 use Rattle.dali_write.specs.Misses.{misses_in}
 use Rattle.dali_trace.specs.declared.happening.Reply.{Reply}
 use Rattle.dali_trace.specs.declared.happening.Reply.TheVariants as replies
@@ -68,19 +67,13 @@ abbrev pub KeepsPowerSince : ℕ → Option ℕ → List Happening → Type 0
 KeepsPowerSince unit left past =
     AllByRecursion (λ address. (address ≢ unit) × (left ≢ Some address)) (powered_of [] (since is_start past))
 
--- how an order of these updates is to end where bank 1 has these bytes: Short where it ends before the greatest
--- location, Format where an update is at 13h or above and the content format isn't 0003h, else Done
+-- how an order of these updates is to end where bank 1 has these bytes
 abbrev pub due_code : List ℕ → List (ℕ × ℕ) → Code
-due_code bytes updates =
-    if nat_lt (slice_index bytes 0) (greatest updates) then codes.Short
-    else (if nat_lt (greatest updates) 0x13
-    then codes.Done
-    else (if has_format bytes then codes.Done else codes.Format))
+due_code bytes updates = by_bank codes.Short codes.Format codes.Done bytes updates
 
 -- none of the updates is at a fixed location
 abbrev pub NoneFixed : BankState → List (ℕ × ℕ) → Type 0
-NoneFixed bank [] = Unit {0}
-NoneFixed bank (update ∷ updates) = (list_any (λ fixed. fixed == update.0) bank.fixed ≡ false) × NoneFixed bank updates
+NoneFixed bank updates = AllByRecursion (λ update. IsFree bank update.0) updates
 
 -- Little befell an order since its start: none was at work then, so it was taken and no stop came since. Its unit had
 -- this bank 1 then, no fate refused since, its unit and a left one kept their power, at most seven frames were losses

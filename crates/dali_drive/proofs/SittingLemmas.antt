@@ -9,7 +9,6 @@ use Rattle.std.specs.Io.KnownBytes.{Appends, Keeps}
 use Rattle.dali_bank.specs.Order.{Contents}
 use Rattle.dali_frame.specs.declared.forward.Frame.{Frame}
 use Rattle.dali_bus.specs.World.{World}
-use Rattle.dali_bus.specs.Chain.{IsChain}
 use Rattle.dali_journal.specs.declared.record.Record.{Record}
 use Rattle.dali_journal.specs.declared.version.Version.TheVariants.{Two}
 use Rattle.dali_journal.specs.declared.version.Version.{Version}
@@ -29,8 +28,7 @@ use Rattle.dali_drive.specs.Transcript.{Streams, recorded}
 use Rattle.dali_drive.specs.Driven.{KeepsRecords, IsDriven, IsDrive, IsBrokenDrive, BrokenOff, AppendsPart, CutFrame}
 use Rattle.dali_drive.specs.Driven.{Unanswered}
 use Rattle.dali_laws.specs.Joined.{Sitting, joined, FollowOn}
-use Rattle.dali_trace.specs.Moves.{Moves}
-use Rattle.dali_trace.specs.Fits.{Fits, IsLockedAbove, OnlyNamed}
+use Rattle.dali_trace.specs.Moments.{Along}
 use Rattle.dali_laws.specs.Powered.{unpowered, IsPowerApart}
 use Rattle.dali_drive.specs.Sittings.{IsFileOf, after, MayHaveHappened, WasDriven, AreSittings, LeavesFile, ActOnce}
 use Rattle.dali_laws.proofs.JoinLemmas.{joined_records, joined_sittings, sittings_right}
@@ -287,10 +285,9 @@ pub act_once : (zero : World) (lost : List ℕ) (start : Start) (first left : Li
     (sittings : List Sitting) (past : List Happening) (now last : World) (states : List World)
     → IsFileOf first start version len → AreSittings start.limit first sittings left
     → unpowered past ≡ joined sittings → IsPowerApart past
-    → IsLockedAbove zero → Fits zero start.records lost now → OnlyNamed start.records now
-    → IsChain Moves now past last states
+    → Along zero lost start now past last states
     → ActOnce zero lost start sittings left past last states
-act_once zero lost start first left version len sittings past now last states is sat same apart locked fits only chain =
+act_once zero lost start first left version len sittings past now last states is sat same apart along =
     let all = sittings_follow start first left version len sittings is sat in
     let one = joined_sittings start sittings all.0 in record {
       trace = one;
@@ -298,5 +295,5 @@ act_once zero lost start first left version len sittings past now last states is
       count = all.2;
       file = all.3;
       once = kept_are_taken start (joined sittings) one.0;
-      right = sittings_right zero lost start sittings past now last states all.0 same apart locked fits only chain;
+      right = sittings_right zero lost start sittings past now last states all.0 same apart along;
     }

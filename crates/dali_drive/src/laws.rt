@@ -3,15 +3,13 @@
 ghost use Rattle.std.specs.Prelude.{◌≡◌, ℕ, List, Some};
 ghost use Rattle.dali_bank.specs.Order.{Contents};
 ghost use Rattle.dali_bus.specs.World.{World};
-ghost use Rattle.dali_bus.specs.Chain.{IsChain};
 ghost use Rattle.dali_journal.specs.declared.version.Version.{Version};
 ghost use Rattle.dali_journal.specs.declared.version.Version.TheVariants.{Two};
 ghost use Rattle.dali_journal.specs.Spelling.{journal_spelling};
 ghost use Rattle.dali_journal.specs.JournalState.{AreKept};
 ghost use Rattle.dali_trace.specs.Trace.{Start};
 ghost use Rattle.dali_writer.specs.Held.{Held};
-ghost use Rattle.dali_trace.specs.Moves.{Moves};
-ghost use Rattle.dali_trace.specs.Fits.{Fits, IsLockedAbove, OnlyNamed};
+ghost use Rattle.dali_trace.specs.Moments.{Along};
 ghost use Rattle.dali_trace.specs.declared.happening.Happening.{Happening};
 ghost use Rattle.dali_laws.specs.Powered.{unpowered, IsPowerApart};
 ghost use Rattle.dali_laws.specs.Joined.{Sitting, joined, FollowOn};
@@ -46,7 +44,6 @@ pub fn drives_act_once()
         (sittings : List Sitting) (past : List Happening) (now last : World) (states : List World)
         → IsFileOf first start version len → AreSittings start.limit first sittings left
         → unpowered past ≡ joined sittings → IsPowerApart past
-        → IsLockedAbove zero → Fits zero start.records lost now → OnlyNamed start.records now
-        → IsChain Moves now past last states
+        → Along zero lost start now past last states
         → ActOnce zero lost start sittings left past last states }
 {}

@@ -97,8 +97,7 @@ joined_sittings start (newest ∷ last ∷ older) follow =
     )
 
 pub sittings_right : SittingsAreRight
-sittings_right zero lost start sittings past first last states follow same apart locked fits only chain =
+sittings_right zero lost start sittings past first last states follow same apart along =
     let one = joined_sittings start sittings follow in
     let legal = powered_legal start past apart (subst (λ (p : List Happening). Legal start p) (sym same) one.0) in
-    every_moment zero lost start first past last states
-    (record { legal = legal; locked = locked; fits = fits; only = only; chain = chain })
+    every_moment zero lost start first past last states legal along

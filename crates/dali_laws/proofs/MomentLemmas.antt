@@ -40,9 +40,11 @@ told_quiet old new start past next records sent lost same told = record {
   sentence = subst IsSentence (sym records) told.sentence;
   since = told.since;
   run =
-      subst (λ now. Leads WorldStep (IsAmong (powered_of [] (next ∷ past))) (sent_of (next ∷ past)) told.since now) (sym same)
+      subst (λ now. Leads WorldStep (IsAmong (powered_of [] (next ∷ past))) (sent_of (next ∷ past)) told.since now)
+      (sym same)
       (subst (λ which. Leads WorldStep (IsAmong which) (sent_of (next ∷ past)) told.since old) (sym lost)
-      (subst (λ exchanges. Leads WorldStep (IsAmong (powered_of [] past)) exchanges told.since old) (sym sent) told.run));
+      (subst (λ exchanges. Leads WorldStep (IsAmong (powered_of [] past)) exchanges told.since old) (sym sent)
+      told.run));
 }
 
 -- what a record rests on is so
@@ -139,27 +141,26 @@ fine_step zero old new lost start past _ locked may same told fine = subst (Fine
 
 every_fine : (zero : World) (lost : List ℕ) (start : Start) (first : World) (past : List Happening) (last : World)
     (states : List World)
-    → Along zero lost start first past last states
+    → Legal start past → Along zero lost start first past last states
     → FineAt zero lost start past last × AtEachMoment (IsRight zero lost start) past last states
-every_fine zero lost start first [] last [] along =
+every_fine zero lost start first [] last [] legal along =
     let fine : IsFine zero start.records lost last = record {
       fits = subst (Fits zero start.records lost) (sym along.chain) along.fits;
       only = subst (OnlyNamed start.records) (sym along.chain) along.only;
     } in
     (fine, (fine.fits, fine.only, fits_applied zero start.records lost last fine.fits, tt))
-every_fine zero lost start first [] last (state ∷ states) along = absurd along.chain
-every_fine zero lost start first (next ∷ past) last [] along = absurd along.chain
-every_fine zero lost start first (next ∷ past) last (state ∷ states) along =
-    let before = every_fine zero lost start first past state states (record {
-      legal = along.legal.0;
+every_fine zero lost start first [] last (state ∷ states) legal along = absurd along.chain
+every_fine zero lost start first (next ∷ past) last [] legal along = absurd along.chain
+every_fine zero lost start first (next ∷ past) last (state ∷ states) legal along =
+    let before = every_fine zero lost start first past state states legal.0 (record {
       locked = along.locked;
       fits = along.fits;
       only = along.only;
       chain = along.chain.1;
     }) in
-    let told = (each_kept start first past state states along.legal.0 along.chain.1).0 in
-    let now = fine_step zero state last lost start past next along.locked along.legal.1 along.chain.0 told before.0 in
-    let true_now = (told_step state last start past next along.legal.1 along.chain.0 told).1 in (
+    let told = (each_kept start first past state states legal.0 along.chain.1).0 in
+    let now = fine_step zero state last lost start past next along.locked legal.1 along.chain.0 told before.0 in
+    let true_now = (told_step state last start past next legal.1 along.chain.0 told).1 in (
       now,
       (
         (
@@ -174,8 +175,10 @@ every_fine zero lost start first (next ∷ past) last (state ∷ states) along =
 
 pub every_moment : (zero : World) (lost : List ℕ) (start : Start) (first : World) (past : List Happening) (last : World)
     (states : List World)
-    → Along zero lost start first past last states → AtEachMoment (IsRight zero lost start) past last states
-every_moment zero lost start first past last states along = (every_fine zero lost start first past last states along).1
+    → Legal start past → Along zero lost start first past last states
+    → AtEachMoment (IsRight zero lost start) past last states
+every_moment zero lost start first past last states legal along =
+    (every_fine zero lost start first past last states legal along).1
 
 -- a part of what is so at each moment
 pub part_of : (P Q : List Happening → World → Type 0)

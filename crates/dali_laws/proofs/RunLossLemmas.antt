@@ -120,7 +120,8 @@ own_losses unit left (x ∷ told) first last run =
 
 pub left_losses : (unit left : ℕ) (told : List Exchange) (first last : SimState)
     (run : RunBeside unit (Some left) told first last)
-    → losses_along left (IsAnother unit (Some left)) told first last run ≤ losses_to unit (Some left) told first last run
+    → losses_along left (IsAnother unit (Some left)) told first last run
+    ≤ losses_to unit (Some left) told first last run
 left_losses unit left [] first last run = omega arith
 left_losses unit left (x ∷ told) first last run =
     let here = bit_right (is_loss unit run.0 x.frame) (is_loss left run.0 x.frame) in
@@ -135,7 +136,8 @@ pub record Halves (unit : ℕ) (left : Option ℕ) (sent told older : List Excha
   pub sum : losses_to unit left sent first last run
       ≡ losses_to unit left told mid last after + losses_to unit left older first mid before
   pub kinds : UnrefusedAlong (IsAnother unit left) sent first last run
-      → UnrefusedAlong (IsAnother unit left) older first mid before × UnrefusedAlong (IsAnother unit left) told mid last after
+      → UnrefusedAlong (IsAnother unit left) older first mid before
+      × UnrefusedAlong (IsAnother unit left) told mid last after
 
 joined_halves : (unit : ℕ) (left : Option ℕ) (told older : List Exchange) (first last : SimState)
     (run : RunBeside unit left (told ++ older) first last)

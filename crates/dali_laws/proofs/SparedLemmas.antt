@@ -107,7 +107,8 @@ cleared : (first : Standing) (unit : ℕ) (bank : BankState) (older : List Excha
     → Cleared unit bank mid older (losses_to unit (named_unit first) older begun mid run)
 cleared standings.Idle unit bank older begun mid run idle onset closed kind few =
     let loses = IsAnother unit None in
-    let still : Leads SimStep loses [] begun mid = subst (λ (t : List Exchange). Leads SimStep loses t begun mid) closed run in
+    let still : Leads SimStep loses [] begun mid =
+    subst (λ (t : List Exchange). Leads SimStep loses t begun mid) closed run in
     let none : misses_in older ≡ 0 = ap misses_in closed in
     some_bank unit bank mid older _ (run_apart loses older begun mid run onset.apart)
     (λ address other.
@@ -374,7 +375,8 @@ spared_closed (standings.Left other) left unit bank sent begun last run at onset
     let whole : IsBank at_left.0.bank1.bytes = subst (λ (b : BankState). IsBank b.bytes) (sym at_left.2) there.2 in
     let least = whole.least in
     let lost_here : losses_along left loses sent begun last run ≤ losses_to unit (Some other) sent begun last run =
-    subst (λ (l : ℕ). losses l loses sent begun last run ≤ losses_to unit (Some other) sent begun last run) same lost in
+    subst (λ (l : ℕ). losses_along l loses sent begun last run ≤ losses_to unit (Some other) sent begun last run) same
+    lost in
     let spared : SparedAlong loses left at_left.0 sent begun last =
     record {
       run = run;

@@ -1,15 +1,13 @@
 -- The sittings of a program that is switched off and begins anew from its journal, and all that happened in them.
 use Rattle.std.specs.Prelude.{◌≡◌, ℕ, List, [], ◌∷◌, ◌++◌}
 use Rattle.dali_bus.specs.World.{World}
-use Rattle.dali_bus.specs.Chain.{IsChain, AtEachMoment}
+use Rattle.dali_bus.specs.Chain.{AtEachMoment}
 use Rattle.dali_trace.specs.declared.happening.Happening.{Happening}
 use Rattle.dali_trace.specs.declared.happening.Happening.TheVariants.{Stopped}
 use Rattle.dali_trace.specs.Trace.{Start, records_of}
 use Rattle.dali_trace.specs.Legal.{Legal, IsFinished}
 use Rattle.dali_trace.specs.ByPlan.{ByPlan}
-use Rattle.dali_trace.specs.Moves.{Moves}
-use Rattle.dali_trace.specs.Fits.{Fits, IsLockedAbove, OnlyNamed}
-use Rattle.dali_trace.specs.Moments.{IsRight}
+use Rattle.dali_trace.specs.Moments.{Along, IsRight}
 use Rattle.dali_laws.specs.Powered.{unpowered, IsPowerApart}
 
 -- one sitting: what the program started from, and what happened until it was switched off, the newest first
@@ -38,12 +36,11 @@ IsOneTrace start sittings =
     Legal start (joined sittings) × ByPlan start (joined sittings) × IsFinished (joined sittings)
 
 -- So along every chain of worlds of them, in which units may lose their power anywhere but between an order and its
--- reply, from a world as in Along of Moments.antt, all is right at each moment.
+-- reply, all is right at each moment.
 abbrev pub SittingsAreRight : Type 0
 SittingsAreRight =
     (zero : World) (lost : List ℕ) (start : Start) (sittings : List Sitting) (past : List Happening)
     (first last : World) (states : List World)
     → FollowOn start sittings → unpowered past ≡ joined sittings → IsPowerApart past
-    → IsLockedAbove zero → Fits zero start.records lost first → OnlyNamed start.records first
-    → IsChain Moves first past last states
+    → Along zero lost start first past last states
     → AtEachMoment (IsRight zero lost start) past last states

@@ -225,7 +225,8 @@ pub goes_along : GoesAlong
 goes_along = (
   last_gear,
   whole_comes.states,
-  record { legal = whole_legal; locked = locked_above; fits = fits; only = only; chain = whole_comes.steps },
+  whole_legal,
+  record { locked = locked_above; fits = fits; only = only; chain = whole_comes.steps },
   (refl, refl, refl),
   (refl, refl, refl, refl, refl, refl, refl, refl),
 )

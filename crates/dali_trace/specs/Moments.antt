@@ -9,23 +9,23 @@ use Rattle.dali_trace.specs.Moves.{Moves}
 use Rattle.dali_trace.specs.Fits.{Fits, IsLockedAbove, OnlyNamed, IsApplied}
 use Rattle.dali_trace.specs.WhenKept.{WhenKept}
 
--- A chain of worlds along a legal trace, from a world that fits the start world and the start records, where these
--- units had lost their power before, with no unit enabled but the one that the records name. In the start world the
--- lock bytes of the banks from 2 up are FFh.
+-- A chain of worlds along a trace, from a world that fits the start world and the start records, where these units had
+-- lost their power before, with no unit enabled but the one that the records name. In the start world the lock bytes of
+-- the banks from 2 up are FFh.
 pub record Along (zero : World) (lost : List ℕ) (start : Start) (first : World) (past : List Happening) (last : World)
     (states : List World) : Type 0 where
-  pub legal : Legal start past
   pub locked : IsLockedAbove zero
   pub fits : Fits zero start.records lost first
   pub only : OnlyNamed start.records first
   pub chain : IsChain Moves first past last states
 
--- along each of them this is so at each moment, of the trace up to there and the world there
+-- along each of them, where the trace is legal, this is so at each moment, of the trace up to there and the world there
 abbrev pub Always : (World → List ℕ → Start → List Happening → World → Type 0) → Type 0
 Always holds =
     (zero : World) (lost : List ℕ) (start : Start) (first : World) (past : List Happening) (last : World)
     (states : List World)
-    → Along zero lost start first past last states → AtEachMoment (holds zero lost start) past last states
+    → Legal start past → Along zero lost start first past last states
+    → AtEachMoment (holds zero lost start) past last states
 
 -- the world fits
 abbrev pub FitsAt : World → List ℕ → Start → List Happening → World → Type 0

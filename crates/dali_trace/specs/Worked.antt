@@ -12,6 +12,7 @@ use Rattle.dali_trace.specs.declared.happening.Reply.TheVariants as replies
 use Rattle.dali_trace.specs.declared.happening.Happening.{Happening}
 use Rattle.dali_trace.specs.declared.happening.Happening.TheVariants.{Asked, Answered, Sent, Kept, Stopped}
 use Rattle.dali_trace.specs.Trace.{Start}
+use Rattle.dali_trace.specs.Legal.{Legal}
 use Rattle.dali_trace.specs.Moments.{Along}
 
 -- four frames more, by which the unit is made sure to have selected the location of bank 1
@@ -122,6 +123,7 @@ alone gear address = if address == 5 then Some gear else None
 abbrev pub GoesAlong : Type 0
 GoesAlong =
     (last : Gear) × (states : List World)
+    × Legal empty first_carried_out
     × Along (alone blank_unit) [] empty (alone blank_unit) first_carried_out (alone last) states
     × ((last.dtr0 ≡ 0x09) × (last.dtr1 ≡ 0x01) × (last.enabled ≡ false))
     × ((last.memory 1 0x02 ≡ Some 0xFF) × (last.memory 1 0x03 ≡ Some 0x03) × (last.memory 1 0x04 ≡ Some 0xA4)

@@ -144,7 +144,8 @@ closing_keeps_bank loses at address bank unit told ask first last run keeps_powe
     has).has
 
 -- units that are apart stay so
-pub run_apart : (loses : ℕ → Type 0) (told : List Exchange) (first last : SimState) → Leads SimStep loses told first last
+pub run_apart : (loses : ℕ → Type 0) (told : List Exchange) (first last : SimState)
+    → Leads SimStep loses told first last
     → AreApart first.units → AreApart last.units
 run_apart loses [] first last run apart = drifts_apart loses first last run apart
 run_apart loses (x ∷ told) first last run apart =

@@ -137,7 +137,8 @@ pub record Suited (at : ℕ) (left : List Request) (last : SimState) : Type 0 wh
 pub suited : (loses : ℕ → Type 0) (at : ℕ) (requests left : List Request) (unit : UnitState) (told : List Exchange)
     (first last : SimState) (run : Leads SimStep loses told first last)
     → (loses at → ⊥) → AllFor at requests → Suits requests unit → IsAlone at unit first.units
-    → losses_along at loses told first last run ≡ 0 → UnrefusedAlong loses told first last run → Trying requests told left
+    → losses_along at loses told first last run ≡ 0 → UnrefusedAlong loses told first last run
+    → Trying requests told left
     → Suited at left last
 suited loses at requests left unit [] first last run keeps_power for suits alone none kind try =
     rw try (record {
@@ -164,7 +165,8 @@ suited loses at requests left unit (x ∷ told) first last run keeps_power for s
 ends : (loses : ℕ → Type 0) (at : ℕ) (requests : List Request) (unit : UnitState) (told : List Exchange)
     (first last : SimState) (run : Leads SimStep loses told first last)
     → (loses at → ⊥) → AllFor at requests → Suits requests unit → IsAlone at unit first.units
-    → losses_along at loses told first last run ≡ 0 → UnrefusedAlong loses told first last run → Missed requests told → ⊥
+    → losses_along at loses told first last run ≡ 0 → UnrefusedAlong loses told first last run → Missed requests told
+    → ⊥
 ends loses at requests unit [] first last run keeps_power for suits alone none kind missed = missed
 ends loses at requests unit (x ∷ told) first last run keeps_power for suits alone none kind missed =
     let whole = no_more (is_loss at run.0 x.frame) (losses_along at loses told first run.0 run.2) none in

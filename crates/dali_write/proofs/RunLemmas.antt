@@ -172,7 +172,11 @@ led_on : (loses : ℕ → Type 0) (told : List Exchange) (first mid last : SimSt
     → Led loses told first last (Powered address ∷ past) (mid ∷ states)
 unfolding run_on
 led_on loses [] first mid last address past states of_these lost led =
-    record { run = run_on SimStep loses [] first mid last address of_these led.run lost; counts = led.counts; kinds = led.kinds }
+    record {
+      run = run_on SimStep loses [] first mid last address of_these led.run lost;
+      counts = led.counts;
+      kinds = led.kinds;
+    }
 led_on loses (x ∷ told) first mid last address past states of_these lost led =
     record {
       run = run_on SimStep loses (x ∷ told) first mid last address of_these led.run lost;

@@ -32,7 +32,8 @@ pub stands_true : {loses : ℕ → Type 0} (told : List Exchange) (first last : 
     → Shows loses last unit location byte
 stands_true [] first last unit location byte run stands = absurd stands
 stands_true {loses} (x ∷ told) first last unit location byte run (inl ends) =
-    let parts = split _ ends.0 ends.1 first last (subst (λ (t : List Exchange). Leads WorldStep loses t first last) ends.2 run) in
+    let parts =
+    split _ ends.0 ends.1 first last (subst (λ (t : List Exchange). Leads WorldStep loses t first last) ends.2 run) in
     read_true ends.0 parts.0 last unit location byte parts.2 ends.3
 stands_true (x ∷ told) first last unit location byte run (inr (passive, stands)) =
     let before = stands_true told first run.0 unit location byte run.2 stands in

@@ -117,12 +117,14 @@ goes : (loses : ℕ → Type 0) (P : BankState → Type 0) (verdict end : Verdic
     → (loses at → ⊥) → IsAlone at unit first.units → Goes P verdict plan unit.bank1
     → UnrefusedAlong loses told first last run → losses_along at loses told first last run < most_tries
     → (walk : Walk at plan outcomes told (Finish end))
-    → Gone P verdict end at (misses_of at plan outcomes told (Finish end) walk) (losses_along at loses told first last run)
+    → Gone P verdict end at (misses_of at plan outcomes told (Finish end) walk)
+    (losses_along at loses told first last run)
     last
 goes loses P verdict end at (Finish v) [] unit told first last run keeps_power alone way kind few walk =
     let same = walk.1 in
     let is : v ≡ end = cc in
-    let none : Leads SimStep loses [] first last = subst (λ (t : List Exchange). Leads SimStep loses t first last) walk.0 run in
+    let none : Leads SimStep loses [] first last =
+    subst (λ (t : List Exchange). Leads SimStep loses t first last) walk.0 run in
     record {
       ends = sym is ∙ way.0;
       few = omega arith;
@@ -208,7 +210,8 @@ gone loses P verdict end at plan unit told older first last spared way wants =
     )
 
 succeeds : (loses : ℕ → Type 0) (P : BankState → Type 0) (verdict end : Verdict) (at : ℕ) (plan : Plan)
-    (unit : UnitState) (told : List Exchange) (first last : SimState) (spared : SparedAlong loses at unit told first last)
+    (unit : UnitState) (told : List Exchange) (first last : SimState)
+    (spared : SparedAlong loses at unit told first last)
     → Goes P verdict plan unit.bank1 → Wants at plan told (Ended end)
     → (end ≡ verdict) × MissesAlong loses at unit told first last spared
 succeeds loses P verdict end at plan unit told first last spared way wants =
@@ -228,7 +231,8 @@ alone_bank at unit (first ∷ units) (inl here) are = subst (λ (u : UnitState).
 alone_bank at unit (first ∷ units) (inr further) are = alone_bank at unit units further.1 are.1
 
 -- where a frame was sent the units were apart, each with a bank
-pub starts_whole : (loses : ℕ → Type 0) (sent : List Exchange) (first last : SimState) → Leads SimStep loses sent first last
+pub starts_whole : (loses : ℕ → Type 0) (sent : List Exchange) (first last : SimState)
+    → Leads SimStep loses sent first last
     → sent ≢ [] → AreApart first.units × AreBanks first.units
 starts_whole loses [] first last run some = absurd (some refl)
 starts_whole loses (x ∷ []) first last run some =

@@ -24,7 +24,8 @@ use Rattle.dali_bus.specs.Carry.{WorldStep}
 
 -- a run in two parts
 pub split : (loses : ℕ → Type 0) (newer older : List Exchange) (first last : World)
-    → Leads WorldStep loses (newer ++ older) first last → (mid : World) × Leads WorldStep loses older first mid × Leads WorldStep loses newer mid last
+    → Leads WorldStep loses (newer ++ older) first last
+    → (mid : World) × Leads WorldStep loses older first mid × Leads WorldStep loses newer mid last
 split loses [] older first last run = (last, run, Stays)
 split loses (x ∷ newer) older first last run =
     let parts = split _ newer older first run.0 run.2 in
@@ -169,7 +170,8 @@ shows_now world unit location byte (Some gear) is holds =
 -- the answer to the read of a checked read: the unit that tells 01h of DTR1 at its end has kept its power since it told
 -- it first
 pub read_true : {loses : ℕ → Type 0} (tried : List Exchange) (first last : World) (unit location byte : ℕ)
-    → Leads WorldStep loses tried first last → IsCheckedRead unit location byte tried → Shows loses last unit location byte
+    → Leads WorldStep loses tried first last → IsCheckedRead unit location byte tried
+    → Shows loses last unit location byte
 read_true {loses} tried first last unit location byte run reads =
     let s = was_read unit location tried reads.0 in
     let r7 = subst (λ (t : List Exchange). Leads WorldStep loses t first last) s.is run in
@@ -276,11 +278,13 @@ off_not_on world address gear is on off = let e : gear.enabled ≡ false = rw is
 
 -- a unit that is enabled after it was made sure to have selected the location has it selected
 selected_after : (loses : ℕ → Type 0) (told : List Exchange) (first before : World) (unit location : ℕ) (gear : Gear)
-    → Leads WorldStep loses told first before → Selects unit location told → before unit ≡ Some gear → gear.enabled ≡ true
+    → Leads WorldStep loses told first before → Selects unit location told → before unit ≡ Some gear
+    → gear.enabled ≡ true
     → (gear.dtr0 ≡ location) × (gear.dtr1 ≡ 1)
 selected_after loses told first before unit location gear run selects is on =
     let parts =
-    split _ selects.0 selects.1 first before (subst (λ (t : List Exchange). Leads WorldStep loses t first before) selects.2 run) in
+    split _ selects.0 selects.1 first before
+    (subst (λ (t : List Exchange). Leads WorldStep loses t first before) selects.2 run) in
     let at = selects_run _ unit location selects.0 parts.0 before parts.2 selects.3 in
     let bank = at.0 (ap is_open is ∙ on) in
     let one : Some gear.dtr1 ≡ Some 1 = sym (ap dtr1_in is) ∙ bank in

@@ -81,7 +81,8 @@ pub read_access_shows : {loses : ℕ → Type 0} (unit location byte : ℕ) (aft
     → AccessEnds unit (Make (ReadFrom location) after) (Some byte) told → Leads WorldStep loses told first last
     → Shows loses last unit location byte
 read_access_shows {loses} unit location byte after told first last (inl done) run =
-    let parts = split _ done.0 done.1 first last (subst (λ (t : List Exchange). Leads WorldStep loses t first last) done.3 run) in
+    let parts =
+    split _ done.0 done.1 first last (subst (λ (t : List Exchange). Leads WorldStep loses t first last) done.3 run) in
     read_true done.0 parts.0 last unit location byte parts.2 (done.4, sym done.5)
 read_access_shows {loses} unit location byte after told first last (inr failed) run = let never = failed.0 in cc
 

@@ -116,7 +116,8 @@ pub when_read : {loses : ℕ → Type 0} (told : List Exchange) (first last : Wo
     → WhenRead loses told first last unit location byte
 when_read [] first last unit location byte run still = absurd still
 when_read {loses} (x ∷ told) first last unit location byte run (inl ends) =
-    let parts = split _ ends.0 ends.1 first last (subst (λ (t : List Exchange). Leads WorldStep loses t first last) ends.2 run) in
+    let parts =
+    split _ ends.0 ends.1 first last (subst (λ (t : List Exchange). Leads WorldStep loses t first last) ends.2 run) in
     when_just_read (x ∷ told) ends.0 ends.1 first parts.0 last unit location byte ends.2 parts.1 parts.2 ends.3
 when_read {loses} (x ∷ told) first last unit location byte run (inr (passive, still)) =
     let w = when_read told first run.0 unit location byte run.2 still in

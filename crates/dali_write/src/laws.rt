@@ -189,7 +189,8 @@ pub fn wanted_frames_are_guarded()
 /// What the simulated bus does with exchanges, while units of these addresses may lose their power, is what its units
 /// may do.
 pub fn simulated_runs_are_runs()
-    ensures { (loses : List ℕ) (told : List Exchange) (first last : SimState) → Run SimStep (IsAmong loses) told first last
+    ensures { (loses : List ℕ) (told : List Exchange) (first last : SimState)
+        → Run SimStep (IsAmong loses) told first last
         → Run WorldStep (IsAmong loses) told (world_of first.units) (world_of last.units) }
 {}
 

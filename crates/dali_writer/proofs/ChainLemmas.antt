@@ -110,9 +110,8 @@ module _ {S : Type 0} (world : S → World) (step : S → BusEvent → S → Typ
       each : NoneEnabled (world first) → IsLockedAbove (world first)
           → AtEachMoment (IsRight (world first) [] (fresh limit)) past (world last) (map world chain.states)
       each none locked =
-          every_moment (world first) [] (fresh limit) (world first) past (world last) (map world chain.states)
+          every_moment (world first) [] (fresh limit) (world first) past (world last) (map world chain.states) legal
           (record {
-            legal = legal;
             locked = locked;
             fits = fits;
             only = only none;

@@ -23,7 +23,7 @@ use Rattle.dali_trace.specs.Trace.{Start, records_of}
 use Rattle.dali_trace.specs.Legal.{Legal, IsFinished}
 use Rattle.dali_trace.specs.ByPlan.{ByPlan}
 use Rattle.dali_trace.specs.Next.{IsNext}
-use Rattle.dali_writer.specs.Held.{Held}
+use Rattle.dali_writer.specs.WriterState.{WriterState}
 use Rattle.dali_drive.specs.Transcript.{Streams, recorded}
 use Rattle.dali_drive.specs.Driven.{KeepsRecords, IsDriven, IsDrive, IsBrokenDrive, BrokenOff, AppendsPart, CutFrame}
 use Rattle.dali_drive.specs.Driven.{Unanswered}
@@ -180,7 +180,7 @@ record_finished start _ entry next = tt
 
 -- the file that a drive leaves
 
-pub drive_leaves : (start : Start) (orders : List Contents) (moment : ℕ) (writer : Held) (first last : Streams)
+pub drive_leaves : (start : Start) (orders : List Contents) (moment : ℕ) (writer : WriterState) (first last : Streams)
     (d : IsDrive start orders moment first writer last)
     → AreKept Two start.limit start.records
     → first.journal ≡ Some (journal_spelling Two start.records) → LeavesFile start d.past last

@@ -20,7 +20,7 @@ use Rattle.dali_trace.specs.Replies.{IsReply}
 use Rattle.dali_trace.specs.Legal.{Legal, IsFinished}
 use Rattle.dali_trace.specs.ByPlan.{ByPlan}
 use Rattle.dali_trace.specs.Next.{IsNext}
-use Rattle.dali_writer.specs.Held.{Held}
+use Rattle.dali_writer.specs.WriterState.{WriterState}
 use Rattle.dali_writer.specs.Describes.{Describes}
 use Rattle.dali_writer.specs.Follows.{Follows}
 use Rattle.dali_drive.specs.Lines.{link_line, reply_line, TakesLine}
@@ -123,7 +123,7 @@ BrokenOff start past rest fault old new =
 
 -- from this start all these orders were asked in their order, each at this moment, and nothing more is to be done,
 -- and the trace describes the writer
-pub record IsDrive (start : Start) (orders : List Contents) (moment : ℕ) (first : Streams) (writer : Held)
+pub record IsDrive (start : Start) (orders : List Contents) (moment : ℕ) (first : Streams) (writer : WriterState)
     (last : Streams) : Type 0 where
   pub past : List Happening
   pub driven : IsDriven start past first last

@@ -33,7 +33,7 @@ use Rattle.dali_trace.specs.Trace.{Start, records_of, sent_of, sent_since_taken,
 use Rattle.dali_trace.specs.Grounds.{Grounds}
 use Rattle.dali_trace.specs.Legal.{IsDue, MayKeep}
 use Rattle.dali_writer.specs.Phases.{want_of, closing_of, check_record, write_code}
-use Rattle.dali_writer.specs.Held.{Held, IsReady, IsAfterCheck}
+use Rattle.dali_writer.specs.WriterState.{WriterState, IsReady, IsAfterCheck}
 use Rattle.dali_writer.specs.WorkLeft.{work_left}
 use Rattle.dali_writer.specs.Describes.{IsAt, Describes}
 use Rattle.dali_laws.proofs.StandingLemmas.{begun_order, open_order}
@@ -61,7 +61,7 @@ come_length progress [] = refl
 come_length progress (newest ∷ older) = refl
 
 -- the record of an order that is at work
-goes_on : (start : Start) (past : List Happening) (w : Held) (entry : Record) (stands : Standing)
+goes_on : (start : Start) (past : List Happening) (w : WriterState) (entry : Record) (stands : Standing)
     → Describes start past w → standing_of w.journal.records ≡ stands
     → Allows stands entry → IsNew entry (records_of start past)
     → length (orders_of (entry ∷ records_of start past)) ≡ length (orders_of (records_of start past))

@@ -8,7 +8,7 @@ use Rattle.dali_trace.specs.declared.happening.Happening.{Happening}
 use Rattle.dali_trace.specs.declared.happening.Happening.TheVariants.{Stopped}
 use Rattle.dali_trace.specs.Trace.{Start, sent_of, is_unsaid}
 use Rattle.dali_writer.specs.declared.phase.Phase.{Phase}
-use Rattle.dali_writer.specs.Held.{Held, IsReady, IsResumed}
+use Rattle.dali_writer.specs.WriterState.{WriterState, IsReady, IsResumed}
 use Rattle.dali_writer.specs.Describes.{IsAt, Describes}
 use Rattle.dali_writer.specs.Follows.{Follows}
 use Rattle.dali_laws.proofs.AgreeLemmas.{may_follow}
@@ -55,7 +55,7 @@ resumed_follows start journal stands phase resumed =
     record { planned = tt; told = resumed_told stands phase resumed }
 
 -- so it is after a stop of a writer that had the same records
-pub stopped_described : (start : Start) (past : List Happening) (before : Held) (journal : JournalState)
+pub stopped_described : (start : Start) (past : List Happening) (before : WriterState) (journal : JournalState)
     (stands : Standing) (phase : Phase) → IsResumed stands phase → Describes start past before
     → before.journal.records ≡ journal.records → before.journal.limit ≡ journal.limit
     → Describes start (Stopped ∷ past) (record { journal = journal; phase = phase })
@@ -67,7 +67,7 @@ stopped_described start past before journal stands phase resumed d records limit
   place = resumed_at (Stopped ∷ past) stands phase refl refl resumed;
 }
 
-pub stopped_follows : (start : Start) (past : List Happening) (before : Held) (journal : JournalState)
+pub stopped_follows : (start : Start) (past : List Happening) (before : WriterState) (journal : JournalState)
     (stands : Standing) (phase : Phase) → IsResumed stands phase → Follows start past before
     → Follows start (Stopped ∷ past) (record { journal = journal; phase = phase })
 stopped_follows start past before journal stands phase resumed f =

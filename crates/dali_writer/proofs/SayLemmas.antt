@@ -22,7 +22,7 @@ use Rattle.dali_writer.specs.declared.phase.Phase.TheVariants.{Idle, Begins, Che
 use Rattle.dali_trace.specs.Trace.{Start, records_of, sent_since_taken, waiting, is_unsaid}
 use Rattle.dali_trace.specs.Legal.{MaySay, HasNumber, EndsAs, IsFinished}
 use Rattle.dali_writer.specs.Phases.{want_of, check_of, write_of, closing_of}
-use Rattle.dali_writer.specs.Held.{IsReady}
+use Rattle.dali_writer.specs.WriterState.{IsReady}
 use Rattle.dali_writer.specs.Describes.{Describes}
 use Rattle.dali_laws.proofs.AgreeLemmas.{may_follow}
 use Rattle.dali_writer.proofs.StepLemmas.{stands_so}

@@ -32,7 +32,7 @@ use Rattle.dali_trace.specs.Trace.{Start, standing_at, sent_of, sent_since_taken
 use Rattle.dali_trace.specs.Trace.{is_busy, course_of}
 use Rattle.dali_trace.specs.Legal.{MayPut, MaySend, MayHappen, MayFollow, IsFinished}
 use Rattle.dali_writer.specs.Phases.{want_of, check_of, write_of, closing_of, is_wanting}
-use Rattle.dali_writer.specs.Held.{Held, IsReady}
+use Rattle.dali_writer.specs.WriterState.{WriterState, IsReady}
 use Rattle.dali_writer.specs.Describes.{ToldNewest, IsAt, Describes}
 use Rattle.dali_laws.proofs.TakenLemmas.{waits, ended_unsaid, waits_unsaid}
 
@@ -51,7 +51,7 @@ closing_wants id unit (asks.Ended verdicts.Closed) = refl
 closing_wants id unit (asks.Ended _) = refl
 
 -- the records of a trace stand as the journal that it describes
-pub stands_so : (start : Start) (past : List Happening) (w : Held) (stands : Standing) → Describes start past w
+pub stands_so : (start : Start) (past : List Happening) (w : WriterState) (stands : Standing) → Describes start past w
     → standing_of w.journal.records ≡ stands → standing_at start past ≡ stands
 stands_so start past w stands d at = ap standing_of d.same ∙ at
 

@@ -28,7 +28,7 @@ use Rattle.dali_trace.specs.Trace.{waiting_since}
 use Rattle.dali_trace.specs.Trace.{Start, standing_at, sent_of, sent_since_taken, waiting}
 use Rattle.dali_trace.specs.Legal.{Legal, MaySend, MayKeep}
 use Rattle.dali_writer.specs.Phases.{want_of, check_of, write_of, check_record, write_code}
-use Rattle.dali_writer.specs.Held.{IsReady}
+use Rattle.dali_writer.specs.WriterState.{IsReady}
 use Rattle.dali_writer.specs.Describes.{Describes}
 use Rattle.dali_trace.specs.Grounds.{EndsIn}
 use Rattle.dali_trace.specs.ByPlan.{told_in, Asks, IsPlanned}

@@ -1,14 +1,8 @@
--- How chains grow, what holds along them, and which chains they show.
-use Rattle.std.proofs.Common.{List, [], ◌∷◌, ◌++◌, map, reverse, refl, ap, sym, subst}
-use Rattle.std.proofs.lemmas.List.{reverse-append}
-use Rattle.dali_bus.specs.Chain.{IsChain, AtEachMoment, Chain}
+-- Which chains a chain of states shows, as a bus's states show worlds, and what holds along it.
+use Rattle.std.proofs.Common.{List, [], ◌∷◌, map, ap}
+use Rattle.dali_bus.specs.Chain.{IsChain, AtEachMoment}
 
--- a chain goes on by one step
-pub chain_on : {S E : Type 0} {step : S → E → S → Type 0} {first mid last : S} {past : List E} (newest : E)
-    → Chain step first past mid → step mid newest last → Chain step first (newest ∷ past) last
-chain_on {mid = mid} newest chain here = record { states = mid ∷ chain.states; steps = (here, chain.steps) }
-
--- A chain of states shows a chain of what they show, as a bus's states show worlds.
+-- a chain of states shows a chain of what they show
 pub shown_chain : {S W E : Type 0} (step : S → E → S → Type 0) (shown_step : W → E → W → Type 0) (shows : S → W)
     → ((old : S) (event : E) (new : S) → step old event new → shown_step (shows old) event (shows new))
     → (first : S) (past : List E) (last : S) (states : List S) → IsChain step first past last states

@@ -3,17 +3,7 @@ use Rattle.std.proofs.Common.{◌≡◌, refl, ap, Bool, true, false, List, [], 
 use Rattle.dali_trace.specs.declared.happening.Reply.TheVariants as replies
 use Rattle.dali_trace.specs.declared.happening.Happening.{Happening}
 use Rattle.dali_trace.specs.declared.happening.Happening.TheVariants.{Answered, Sent}
-use Rattle.dali_trace.specs.Cut.{since, up_to, is_stop, is_start, frames_in}
-
--- the two parts are the trace
-pub parts_joined : (ends : Happening → Bool) (past : List Happening) → since ends past ++ up_to ends past ≡ past
-parts_joined ends [] = refl
-parts_joined ends (next ∷ past) = by (ends next) (parts_joined ends past)
-  where
-    by : (b : Bool) → since ends past ++ up_to ends past ≡ past
-        → (if b then [] else next ∷ since ends past) ++ (if b then next ∷ past else up_to ends past) ≡ next ∷ past
-    by true rest = refl
-    by false rest = ap (λ (t : List Happening). next ∷ t) rest
+use Rattle.dali_trace.specs.Cut.{since, is_stop, is_start, frames_in}
 
 -- it ends at the last happening of the older of two joined traces, where that is an end
 pub since_joined : (ends : Happening → Bool) (last : Happening) (past more : List Happening) → ends last ≡ true

@@ -1,4 +1,5 @@
 pub mod CutLemmas
+pub mod WorkedCutLemmas
 pub mod WorkedLemmas
 pub mod WorkedPlanLemmas
 pub mod WorkedWorkLemmas

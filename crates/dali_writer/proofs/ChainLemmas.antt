@@ -6,6 +6,7 @@ use Rattle.dali_bus.specs.Carry.{BusEvent, Carried, WorldStep}
 use Rattle.dali_bus.specs.Carry as bus
 use Rattle.dali_bus.specs.Chain.{IsChain, AtEachMoment, Chain}
 use Rattle.dali_bus.specs.Unenabled.{NoneEnabled}
+use Rattle.dali_bus.proofs.ChainLemmas.{shown_chain, shown_moments}
 use Rattle.dali_trace.specs.declared.happening.Happening.{Happening}
 use Rattle.dali_trace.specs.declared.happening.Happening.TheVariants.{Asked, Answered, Sent, Kept, Stopped, Powered}
 use Rattle.dali_trace.specs.Trace.{Start}
@@ -66,22 +67,6 @@ module _ {S : Type 0} (world : S → World) (step : S → BusEvent → S → Typ
     moves old (Powered address) new moved = allowed old (bus.Powered address) new moved
     moves old _ new same = ap world same
 
-    worlds : (first last : S) (past : List Happening) (states : List S) → IsChain (MovesBy step) first past last states
-        → IsChain Moves (world first) past (world last) (map world states)
-    worlds first last [] [] same = ap world same
-    worlds first last [] (state ∷ states) wrong = absurd wrong
-    worlds first last (next ∷ past) [] wrong = absurd wrong
-    worlds first last (next ∷ past) (state ∷ states) chain =
-        (moves state next last chain.0, worlds first state past states chain.1)
-
-    moments : (P : List Happening → World → Type 0) (last : S) (past : List Happening) (states : List S)
-        → AtEachMoment P past (world last) (map world states)
-        → AtEachMoment (λ moment now. P moment (world now)) past last states
-    moments P last [] [] here = here
-    moments P last [] (state ∷ states) wrong = absurd wrong
-    moments P last (next ∷ past) [] wrong = absurd wrong
-    moments P last (next ∷ past) (state ∷ states) each = (each.0, moments P state past states each.1)
-
     -- each moment of a chain along a legal trace is right
     pub right : (limit : ℕ) (first last : S) (past : List Happening) → Legal (fresh limit) past
         → Chain (MovesBy step) first past last
@@ -89,11 +74,11 @@ module _ {S : Type 0} (world : S → World) (step : S → BusEvent → S → Typ
     right limit first last past legal chain = record {
       states = chain.states;
       chain = chain.steps;
-      kept = moments (WhenKept (fresh limit)) last past chain.states
+      kept = shown_moments world (WhenKept (fresh limit)) past last chain.states
           (each_kept (fresh limit) (world first) past (world last) (map world chain.states) legal
-          (worlds first last past chain.states chain.steps)).1;
+          (shown_chain (MovesBy step) Moves world moves first past last chain.states chain.steps)).1;
       right = λ none locked.
-          moments (IsRight (world first) [] (fresh limit)) last past chain.states (each none locked);
+          shown_moments world (IsRight (world first) [] (fresh limit)) past last chain.states (each none locked);
     } where
       fits : Fits (world first) [] [] (world first)
       fits = record {
@@ -115,5 +100,5 @@ module _ {S : Type 0} (world : S → World) (step : S → BusEvent → S → Typ
             locked = locked;
             fits = fits;
             only = only none;
-            chain = worlds first last past chain.states chain.steps;
+            chain = shown_chain (MovesBy step) Moves world moves first past last chain.states chain.steps;
           })

@@ -1,6 +1,6 @@
 use Rattle.std.proofs.Common.{inl, inr, refl, sym, subst, ◌∷◌}
 use Rattle.dali_trace.specs.declared.happening.Happening.TheVariants.{Kept}
-use Rattle.dali_writer.specs.Held.{Held}
+use Rattle.dali_writer.specs.WriterState.{WriterState}
 use Rattle.dali_writer.specs.Describes.{Describes}
 use Rattle.dali_writer.specs.Follows.{Follows}
 use Rattle.dali_writer.proofs.StopLemmas.{cut_of_none}
@@ -25,9 +25,9 @@ returns-in-Ok-cut_off c =
     let same = c.in-None.ensures.same refl in
     record {
       described = λ start past d.
-          c.in-Ok-cut_off.ensures.described start past (subst (λ (w : Held). Describes start past w) (sym same) d);
+          c.in-Ok-cut_off.ensures.described start past (subst (λ (w : WriterState). Describes start past w) (sym same) d);
       follows = λ start past d f.
-          c.in-Ok-cut_off.ensures.follows start past (subst (λ (w : Held). Follows start past w) (sym same) f);
+          c.in-Ok-cut_off.ensures.follows start past (subst (λ (w : WriterState). Follows start past w) (sym same) f);
       part = λ start past d f.
           inl (
             refl,

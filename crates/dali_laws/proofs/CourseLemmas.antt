@@ -231,8 +231,6 @@ after_began first standings.Idle order moment (Some other) next ended orders oth
 
 pub on_course : (start : Start) (past : List Happening) → Legal start past → ByPlan start past → IsOnCourse start past
 on_course start [] legal planned = begins_anew (standing_of start.records) (orders_of start.records)
-on_course start (Asked order moment ∷ past) legal planned = on_course start past legal.0 planned.0
-on_course start (Powered address ∷ past) legal planned = on_course start past legal.0 planned.0
 on_course start (Answered id replies.Taken ∷ Asked order moment ∷ past) legal planned =
     let rest = neither (is_at_work (standing_at start past)) (is_unsaid past) legal.1.1.1 in
     begins_taken (standing_at start past) order false (orders_of (records_of start past)) rest.0
@@ -284,3 +282,4 @@ on_course start (Kept (Closed unit) ∷ past) legal planned =
     (on_course start past legal.0 planned.0)
 on_course start (Stopped ∷ past) legal planned =
     begins_anew (standing_at start past) (orders_of (records_of start past))
+on_course start (_ ∷ past) legal planned = on_course start past legal.0 planned.0

@@ -86,25 +86,10 @@ pub stays_still : (start : Start) (past more : List Happening) → Legal start (
     → NoneTaken more
     → IsStill start (more ++ past) × NoneSent more × (records_of start (more ++ past) ≡ records_of start past)
 stays_still start past [] legal e none = (is_still start past legal e, refl, refl)
-stays_still start past (Asked order moment ∷ more) legal e none =
-    let before = stays_still start past more legal.0 e none in
-    (record { idle = before.0.idle; said = before.0.said; none = before.0.none }, before.1, before.2)
 stays_still start past (Answered id replies.Taken ∷ more) legal e none = absurd none
-stays_still start past (Answered id (replies.Kept code) ∷ more) legal e none =
+stays_still start past (Answered id reply ∷ more) legal e none =
     let before = stays_still start past more legal.0 e none in
-    (after_answer start (more ++ past) id (replies.Kept code) legal before.0 (λ same. cc), before.1, before.2)
-stays_still start past (Answered id replies.IdReused ∷ more) legal e none =
-    let before = stays_still start past more legal.0 e none in
-    (after_answer start (more ++ past) id replies.IdReused legal before.0 (λ same. cc), before.1, before.2)
-stays_still start past (Answered id replies.Busy ∷ more) legal e none =
-    let before = stays_still start past more legal.0 e none in
-    (after_answer start (more ++ past) id replies.Busy legal before.0 (λ same. cc), before.1, before.2)
-stays_still start past (Answered id replies.Full ∷ more) legal e none =
-    let before = stays_still start past more legal.0 e none in
-    (after_answer start (more ++ past) id replies.Full legal before.0 (λ same. cc), before.1, before.2)
-stays_still start past (Answered id (replies.Blocked unit) ∷ more) legal e none =
-    let before = stays_still start past more legal.0 e none in
-    (after_answer start (more ++ past) id (replies.Blocked unit) legal before.0 (λ same. cc), before.1, before.2)
+    (after_answer start (more ++ past) id reply legal before.0 (λ same. cc), before.1, before.2)
 stays_still start past (Sent frame answer ∷ more) legal e none =
     let before = stays_still start past more legal.0 e none in
     sends_none (more ++ past) (standing_at start (more ++ past)) frame before.0.idle before.0.none
@@ -115,6 +100,6 @@ stays_still start past (Kept entry ∷ more) legal e none =
 stays_still start past (Stopped ∷ more) legal e none =
     let before = stays_still start past more legal.0 e none in
     (record { idle = before.0.idle; said = refl; none = refl }, before.1, before.2)
-stays_still start past (Powered address ∷ more) legal e none =
+stays_still start past (_ ∷ more) legal e none =
     let before = stays_still start past more legal.0 e none in
     (record { idle = before.0.idle; said = before.0.said; none = before.0.none }, before.1, before.2)

@@ -74,13 +74,8 @@ said_due : (start : Start) (id : ℕ) (reply : Reply) (past : List Happening) (l
     → IsFinished past → IsSpared start (Answered id reply ∷ past) last (state ∷ states)
     → (order : Contents) (bank : BankState) → order_at_hand start past ≡ Some order
     → LosesLittle start order bank past state states → EndsAsDue start order bank past states reply
-said_due start id reply [] last state states finished spared = spared
 said_due start id reply (Asked order moment ∷ past) last state states finished spared = absurd finished
-said_due start id reply (Answered other final ∷ past) last state states finished spared = spared
-said_due start id reply (Sent frame answer ∷ past) last state states finished spared = spared
-said_due start id reply (Kept entry ∷ past) last state states finished spared = spared
-said_due start id reply (Stopped ∷ past) last state states finished spared = spared
-said_due start id reply (Powered address ∷ past) last state states finished spared = spared
+said_due start id reply _ last state states finished spared = spared
 
 as_due : (start : Start) (order : Contents) (before behind more trace : List Happening) (last : SimState)
     (states : List SimState)

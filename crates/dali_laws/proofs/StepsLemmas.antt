@@ -412,16 +412,12 @@ part_finished start (Submit order moment) before after (reply, same) finished = 
 part_finished start Step before after (inl (due, (work, is, same))) finished = subst IsFinished (sym same) (by work is)
   where
     by : (work : Happening) → IsWork work → IsFinished (work ∷ before)
-    by (Sent frame answer) is = tt
-    by (Kept entry) is = tt
-    by (Answered id reply) is = tt
     by (Asked other moment) is = absurd is
-    by Stopped is = absurd is
-    by (Powered address) is = absurd is
+    by _ is = tt
 part_finished start Step before after (inr (due, same)) finished = subst IsFinished (sym same) finished
 part_finished start (Stop bytes) before after (inl (same, none)) finished = subst IsFinished (sym same) tt
 part_finished start (Stop bytes) before after (inr (entry, next, few, same)) finished = subst IsFinished (sym same) tt
-part_finished start (Power address) before after same finished = subst IsFinished (sym same) tt
+part_finished start _ before after same finished = subst IsFinished (sym same) tt
 
 parts_finished : (start : Start) (events : List Event) (trace : List Happening) → AreParts start events trace
     → IsFinished trace

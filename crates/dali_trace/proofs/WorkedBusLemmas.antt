@@ -61,10 +61,7 @@ stays_whole first (Powered address ∷ past) apart banks =
     let old = bus_after first past in
     let before = stays_whole first past apart banks in
     (AreApart-map _ (power_keeps address) old.units before.0, banks_after _ (power_bank address) old.units before.1)
-stays_whole first (Asked order moment ∷ past) apart banks = stays_whole first past apart banks
-stays_whole first (Answered id reply ∷ past) apart banks = stays_whole first past apart banks
-stays_whole first (Kept entry ∷ past) apart banks = stays_whole first past apart banks
-stays_whole first (Stopped ∷ past) apart banks = stays_whole first past apart banks
+stays_whole first (_ ∷ past) apart banks = stays_whole first past apart banks
 
 pub bus_chain : (first : SimState) (past : List Happening) → AreApart first.units → AreBanks first.units
     → are_answers first past ≡ true
@@ -87,10 +84,7 @@ bus_chain first (Powered address ∷ past) apart banks answers =
       record { apart = whole.0; banks = whole.1; units = refl; fates = refl },
       bus_chain first past apart banks answers,
     )
-bus_chain first (Asked order moment ∷ past) apart banks answers = (refl, bus_chain first past apart banks answers)
-bus_chain first (Answered id reply ∷ past) apart banks answers = (refl, bus_chain first past apart banks answers)
-bus_chain first (Kept entry ∷ past) apart banks answers = (refl, bus_chain first past apart banks answers)
-bus_chain first (Stopped ∷ past) apart banks answers = (refl, bus_chain first past apart banks answers)
+bus_chain first (_ ∷ past) apart banks answers = (refl, bus_chain first past apart banks answers)
 
 -- where no fate of the bus refuses, none does that comes next
 abbrev pub none_refuse : List Fate → Bool
@@ -115,11 +109,7 @@ kind_after : (first : SimState) (past : List Happening) → none_refuse first.fa
 kind_after first [] kind = kind
 kind_after first (Sent frame answer ∷ past) kind =
     (next_kind (bus_after first past).fates (kind_after first past kind)).1
-kind_after first (Powered address ∷ past) kind = kind_after first past kind
-kind_after first (Asked order moment ∷ past) kind = kind_after first past kind
-kind_after first (Answered id reply ∷ past) kind = kind_after first past kind
-kind_after first (Kept entry ∷ past) kind = kind_after first past kind
-kind_after first (Stopped ∷ past) kind = kind_after first past kind
+kind_after first (_ ∷ past) kind = kind_after first past kind
 
 pub none_refused : (first : SimState) (past : List Happening) → none_refuse first.fates ≡ true
     → UnrefusedSince past (buses_along first past)
@@ -128,14 +118,7 @@ none_refused first (Answered id replies.Taken ∷ past) kind = tt
 none_refused first (Stopped ∷ past) kind = tt
 none_refused first (Sent frame answer ∷ past) kind =
     ((next_kind (bus_after first past).fates (kind_after first past kind)).0, none_refused first past kind)
-none_refused first (Powered address ∷ past) kind = none_refused first past kind
-none_refused first (Asked order moment ∷ past) kind = none_refused first past kind
-none_refused first (Kept entry ∷ past) kind = none_refused first past kind
-none_refused first (Answered id (replies.Kept code) ∷ past) kind = none_refused first past kind
-none_refused first (Answered id replies.IdReused ∷ past) kind = none_refused first past kind
-none_refused first (Answered id replies.Busy ∷ past) kind = none_refused first past kind
-none_refused first (Answered id replies.Full ∷ past) kind = none_refused first past kind
-none_refused first (Answered id (replies.Blocked unit) ∷ past) kind = none_refused first past kind
+none_refused first (_ ∷ past) kind = none_refused first past kind
 
 -- units that are new: none is enabled, and the lock bytes of the banks from 2 up are FFh
 abbrev pub AreNew : List UnitState → Type 0

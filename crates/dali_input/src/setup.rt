@@ -125,7 +125,9 @@ fn unit_fault(number: u64, fault: GearFault) -> SetupFault
 {
     match fault {
         GearFault::NoMemory => SetupFault::Input(InputFault::Memory),
-        _ => SetupFault::Unit(number, fault),
+        GearFault::Address | GearFault::Size | GearFault::Fixed | GearFault::SameAddress => {
+            SetupFault::Unit(number, fault)
+        }
     }
 }
 

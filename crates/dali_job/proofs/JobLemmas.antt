@@ -12,7 +12,7 @@ use Rattle.clap.specs.declared.builder.command.Command.{Command}
 use Rattle.clap.specs.declared.builder.command.Command.TheViews.{out-Command as fields_of}
 use Rattle.clap.specs.declared.parser.matches.ArgMatches.{ArgMatches}
 use Rattle.clap.proofs.OnLiterals.{clap_on_literals}
-use Rattle.dali_job.specs.Jobs.{HasFlag, HasNumber, HasValue, IsJob, IsNoJob, IsNumber, bench_app}
+use Rattle.dali_job.specs.Jobs.{HasFlag, HasOption, HasValue, IsJob, IsNoJob, IsNumber, bench_app}
 use Rattle.dali_job.specs.declared.job.Job.{Job}
 use Rattle.dali_job.specs.declared.job.Job.TheVariants.{Check, Run, Frame, Show, Journal, Drive}
 
@@ -90,11 +90,11 @@ pub number_found : (E : Type 0) (G : Text → Result ℕ E → Type 0) (entered 
     → ((t : Text) (r : Result ℕ E) → G t r → ParsesUnsigned 64 10 t r)
     → entered ≡ Some (command, rows)
     → (one_of id rows ≡ None → o ≡ None) → ((t : Text) → one_of id rows ≡ Some t → ReadsOne G t o)
-    → IfSome o (HasNumber entered command id)
+    → IfSome o (HasOption entered command id)
 number_found E G entered command id rows o only e none value = found (one_of id rows) o refl none value
   where
     found : (text : Option Text) (o : Option ℕ) → one_of id rows ≡ text → (text ≡ None → o ≡ None)
-        → ((t : Text) → text ≡ Some t → ReadsOne G t o) → IfSome o (HasNumber entered command id)
+        → ((t : Text) → text ≡ Some t → ReadsOne G t o) → IfSome o (HasOption entered command id)
     found text None is none value = tt
     found None (Some n) is none value = let clash : Some n ≡ None = none refl in cc
     found (Some t) (Some n) is none value = (rows, t, e, is, number_read E G t n only (value t refl))
@@ -104,12 +104,12 @@ pub number_none : (E : Type 0) (G : Text → Result ℕ E → Type 0) (entered :
     → ((t : Text) (r : Result ℕ E) → G t r → ParsesUnsigned 64 10 t r)
     → entered ≡ Some (command, rows)
     → ((t : Text) → one_of id rows ≡ Some t → ReadsOne G t o)
-    → IfNone o ((number : ℕ) → ¬ HasNumber entered command id number)
+    → IfNone o ((number : ℕ) → ¬ HasOption entered command id number)
 number_none E G entered command id rows o only e value = not_found (one_of id rows) o refl value
   where
     not_found : (text : Option Text) (o : Option ℕ) → one_of id rows ≡ text
         → ((t : Text) → text ≡ Some t → ReadsOne G t o)
-        → IfNone o ((number : ℕ) → ¬ HasNumber entered command id number)
+        → IfNone o ((number : ℕ) → ¬ HasOption entered command id number)
     not_found text (Some n) is value = tt
     not_found None None is value =
         λ number has. no_value (one_of id) command has.1 entered rows has.0 e is has.2 has.3

@@ -70,8 +70,8 @@ pub record IsNumber (text : Text) (number : ℕ) : Type 0 where
   pub fits : number < 2 ^ 64
 
 -- a parse entered the command, and its option has the number
-abbrev pub HasNumber : Option (Text × List Row) → Text → Text → ℕ → Type 0
-HasNumber entered command id number = (rows : List Row) × (text : Text) × (entered ≡ Some (command, rows))
+abbrev pub HasOption : Option (Text × List Row) → Text → Text → ℕ → Type 0
+HasOption entered command id number = (rows : List Row) × (text : Text) × (entered ≡ Some (command, rows))
     × (one_of id rows ≡ Some text) × IsNumber text number
 
 -- the job is the command that a parse entered, with its values, flags and numbers
@@ -86,7 +86,7 @@ IsJob entered (Journal records) = HasValue entered (codes "journal") (codes "FIL
 IsJob entered (Drive orders journal moment) =
     HasValue entered (codes "drive") (codes "ORDERS") orders.now
     × HasValue entered (codes "drive") (codes "JOURNAL") journal.now
-    × HasNumber entered (codes "drive") (codes "moment") moment
+    × HasOption entered (codes "drive") (codes "moment") moment
 
 -- no job is that of the command that a parse entered
 abbrev pub IsNoJob : Option (Text × List Row) → Type 0

@@ -2,7 +2,7 @@ ghost use Rattle.std.specs.Prelude.{◌≡◌, ◌⊎◌, List, ℕ, IfOk, IfErr
 ghost use Rattle.clap.specs.declared.builder.command.Command.TheViews.{out-Command as fields_of};
 ghost use Rattle.std.specs.Bool.{Decides};
 ghost use Rattle.clap.specs.Words.{HasKind, app_of, fault_of, rule_of, subcommand_rows_of, AddsSubcommand};
-ghost use Rattle.dali_job.specs.Jobs.{HasFlag, HasNumber, HasValue, IsJob, IsJobOf, IsNoJob, NamesNoJob};
+ghost use Rattle.dali_job.specs.Jobs.{HasFlag, HasOption, HasValue, IsJob, IsJobOf, IsNoJob, NamesNoJob};
 ghost use Rattle.dali_job.specs.Jobs.{bench_app, command_app, drive_app, flag_rule};
 ghost use Rattle.dali_job.specs.Jobs.{number_rule, run_app, value_rule};
 ghost use Rattle.dali_job.specs.declared.job.Job.TheVariants.{Drive};
@@ -248,9 +248,9 @@ fn value_of<'a>(matches: &ArgMatches<'a>, command: &str, id: &str) -> Option<&'a
 
 // The number that a command's option has, where a parse entered that command.
 fn number_of(matches: &ArgMatches<'_>, command: &str, id: &str) -> Option<u64>
-    ensures found { IfSome result (HasNumber (subcommand_rows_of matches.now) command.now id.now) }
+    ensures found { IfSome result (HasOption (subcommand_rows_of matches.now) command.now id.now) }
     ensures none { IfNone result
-        ((number : ℕ) → ¬ HasNumber (subcommand_rows_of matches.now) command.now id.now number) }
+        ((number : ℕ) → ¬ HasOption (subcommand_rows_of matches.now) command.now id.now number) }
 {
     match matches.subcommand_matches(command) {
         Some(found) => found.get_one(id),

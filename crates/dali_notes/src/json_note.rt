@@ -8,7 +8,11 @@ use std::alloc::Global;
 pub fn note_of_orders(alloc: Global, input: &[u8], fault: InputFault) -> Note {
     match fault {
         InputFault::Document => no_list_note(alloc, input),
-        _ => note_of_json(alloc, input, fault),
+        InputFault::Json
+        | InputFault::TooBig
+        | InputFault::Hex
+        | InputFault::Memory
+        | InputFault::File => note_of_json(alloc, input, fault),
     }
 }
 
@@ -24,7 +28,14 @@ pub fn note_of_json(alloc: Global, input: &[u8], fault: InputFault) -> Note {
             note.add("the input is in UTF-16, and has to be in UTF-8")
         }
         (InputFault::Json, _) => note_place(alloc, &mut note, input),
-        _ => {}
+        (
+            InputFault::Document
+            | InputFault::TooBig
+            | InputFault::Hex
+            | InputFault::Memory
+            | InputFault::File,
+            _,
+        ) => {}
     }
     note
 }

@@ -4,7 +4,7 @@ ghost use Rattle.dali_notes.specs.Notes.{ArePlain, AreLines, IsLine, SomeAbout, 
 
 use crate::first_lines::MOST_LINES;
 use crate::front::Front;
-use dali_text::{Output, Unwritten};
+use dali_text::{Output, OutputFailed};
 use std::alloc::Global;
 use std::fmt::Display;
 use std::io::Write;
@@ -81,7 +81,7 @@ fn tell_all<N: Write>(
     notes: &mut Output<N>,
     front: Front<'_>,
     lines: &[String],
-) -> Result<(), Unwritten>
+) -> Result<(), OutputFailed>
     ensures told { OnOk result ((text : List ℕ) × SomeLines (front_text front.entry) text
         × Takes N.contents notes.old notes.new text) }
     ensures failed { TellsFailure result notes.old notes.new }
@@ -97,7 +97,7 @@ fn tell_lines<N: Write>(
     notes: &mut Output<N>,
     front: Front<'_>,
     lines: &[String],
-) -> Result<(), Unwritten>
+) -> Result<(), OutputFailed>
     ensures told { OnOk result ((text : List ℕ) × AreLines (front_text front.entry) (length lines.now) text
         × Takes N.contents notes.old notes.new text) }
     ensures failed { TellsFailure result notes.old notes.new }
@@ -113,7 +113,7 @@ fn tell_line<N: Write>(
     notes: &mut Output<N>,
     front: Front<'_>,
     words: &str,
-) -> Result<(), Unwritten>
+) -> Result<(), OutputFailed>
     ensures told { OnOk result ((line : List ℕ) × IsLine (front_text front.entry) line
         × Takes N.contents notes.old notes.new line) }
     ensures failed { TellsFailure result notes.old notes.new }

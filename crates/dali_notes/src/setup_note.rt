@@ -43,7 +43,7 @@ fn note_unit(note: &mut Note, unit: &UnitPlan, fault: GearFault) {
             "bank: {length} bytes, and it has 17 to 255, the first of which is the last location"
         )),
         GearFault::Fixed => note.add("fixed: the locations rise, from 03h to the last of the bank"),
-        _ => {}
+        GearFault::NoMemory | GearFault::SameAddress => {}
     }
 }
 

@@ -34,7 +34,7 @@ all_forward (newest ∷ older) all =
     (all_apart (IsRecord Two) (reverse older) newest (all_forward older all.1) all.0)
 
 -- so many of the records are told, and the rest of the bytes are those of the others
-pub record Told (records : List Record) (rest : List ℕ) (before now : Option (List ℕ)) : Type 0 where
+pub record WrittenSoFar (records : List Record) (rest : List ℕ) (before now : Option (List ℕ)) : Type 0 where
   pub done : List Record
   pub left : List Record
   pub split : records ≡ done ++ left
@@ -48,7 +48,7 @@ appends_nothing (Some bytes) = sym (append-nil bytes)
 
 -- before the first
 pub none_told : (records : List Record) (bytes : List ℕ) (before : Option (List ℕ)) → AllByRecursion (IsRecord Two) records
-    → bytes ≡ flat_map (spelling Two) records → Told records bytes before before
+    → bytes ≡ flat_map (spelling Two) records → WrittenSoFar records bytes before before
 none_told records bytes before all are =
     record { done = []; left = records; split = refl; in_range = all; bytes = are; appended = appends_nothing before }
 
@@ -58,7 +58,7 @@ read_off : (records done left : List Record) (rest : List ℕ) (entry : Record) 
     → IsRead Two rest (Whole entry len)
     → records ≡ done ++ left → AllByRecursion (IsRecord Two) left → rest ≡ flat_map (spelling Two) left
     → Appends before mid (flat_map record_line done)
-    → Appends mid now (record_line entry) → Told records (drop len rest) before now
+    → Appends mid now (record_line entry) → WrittenSoFar records (drop len rest) before now
 read_off records done [] rest entry len before mid now reads split all bytes told line =
     let long = ap length (sym bytes ∙ reads.0.2) ∙ length-append (spelling Two entry) reads.0.1 in
     absurd (omega (arith, long, some_bytes Two entry))
@@ -83,7 +83,7 @@ read_off records done (first ∷ others) rest entry len before mid now reads spl
 
 pub told_more : (records : List Record) (rest : List ℕ) (entry : Record) (len : ℕ) (before mid now : Option (List ℕ))
     → IsRead Two rest (Whole entry len)
-    → Told records rest before mid → Appends mid now (record_line entry) → Told records (drop len rest) before now
+    → WrittenSoFar records rest before mid → Appends mid now (record_line entry) → WrittenSoFar records (drop len rest) before now
 told_more records rest entry len before mid now reads told line =
     read_off records told.done told.left rest entry len before mid now reads told.split told.in_range told.bytes
     told.appended line
@@ -102,7 +102,7 @@ none_left records done (first ∷ others) rest piece before now reads other spli
 
 pub all_told : (records : List Record) (rest : List ℕ) (piece : Piece) (before now : Option (List ℕ))
     → IsRead Two rest piece → ((entry : Record) (len : ℕ) → ¬ (piece ≡ Whole entry len))
-    → Told records rest before now → Appends before now (flat_map record_line records)
+    → WrittenSoFar records rest before now → Appends before now (flat_map record_line records)
 all_told records rest piece before now reads other told =
     none_left records told.done told.left rest piece before now reads other told.split told.in_range
     told.bytes told.appended

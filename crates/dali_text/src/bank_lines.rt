@@ -6,7 +6,7 @@ ghost use Rattle.dali_text.specs.BankLines.{word_of as row_word};
 ghost use Rattle.dali_text.specs.Output.{TellsFailure, Takes};
 
 use crate::digits::write_bytes;
-use crate::output::{Output, Unwritten};
+use crate::output::{Output, OutputFailed};
 use dali_bank::{Field, Shown, read_field};
 use std::io::Write;
 
@@ -51,7 +51,7 @@ const ROWS: [Row; 18] = [
 /// location, with the row's word and what the bank has there.
 ///
 /// A bank of any length will do. A row that it ends before is absent.
-pub fn write_bank<W: Write>(output: &mut Output<W>, bank: &[u8]) -> Result<(), Unwritten>
+pub fn write_bank<W: Write>(output: &mut Output<W>, bank: &[u8]) -> Result<(), OutputFailed>
     ensures text { OnOk result ((text : List ℕ) × AreLines bank.now rows text
         × Takes W.contents output.old output.new text) }
     ensures failed { TellsFailure result output.old output.new }
@@ -64,7 +64,7 @@ pub fn write_bank<W: Write>(output: &mut Output<W>, bank: &[u8]) -> Result<(), U
 
 // Writes a row.
 #[tactic(auto, using(crate::proofs::StreamLemmas::appends_both))]
-fn write_row<W: Write>(output: &mut Output<W>, bank: &[u8], row: Row) -> Result<(), Unwritten>
+fn write_row<W: Write>(output: &mut Output<W>, bank: &[u8], row: Row) -> Result<(), OutputFailed>
     ensures text { OnOk result ((text : List ℕ) × IsRowText bank.now row text
         × Takes W.contents output.old output.new (row_word row ++ codes " " ++ text ++ codes "\n")) }
     ensures failed { TellsFailure result output.old output.new }
@@ -89,7 +89,7 @@ fn word_of(row: Row) -> &'static str
 }
 
 // Writes what a row says of the bank.
-fn write_text<W: Write>(output: &mut Output<W>, bank: &[u8], row: Row) -> Result<(), Unwritten>
+fn write_text<W: Write>(output: &mut Output<W>, bank: &[u8], row: Row) -> Result<(), OutputFailed>
     ensures text { OnOk result ((text : List ℕ) × IsRowText bank.now row text
         × Takes W.contents output.old output.new text) }
     ensures failed { TellsFailure result output.old output.new }
@@ -109,7 +109,7 @@ fn write_plain<W: Write>(
     bank: &[u8],
     first: u8,
     count: u8,
-) -> Result<(), Unwritten>
+) -> Result<(), OutputFailed>
     ensures text { OnOk result ((text : List ℕ) × IsPlainText bank.now first count text
         × Takes W.contents output.old output.new text) }
     ensures failed { TellsFailure result output.old output.new }
@@ -128,7 +128,7 @@ fn write_field<W: Write>(
     bank: &[u8],
     field: Field,
     shown: Shown,
-) -> Result<(), Unwritten>
+) -> Result<(), OutputFailed>
     requires { IsShown bank.now field shown }
     ensures text { OnOk result (Takes W.contents output.old output.new
         (shown_text field (part_of field bank.now) shown)) }
@@ -164,7 +164,7 @@ fn write_number<W: Write>(
     output: &mut Output<W>,
     field: Field,
     number: u64,
-) -> Result<(), Unwritten>
+) -> Result<(), OutputFailed>
     ensures text { OnOk result (Takes W.contents output.old output.new (number_text field number)) }
     ensures failed { TellsFailure result output.old output.new }
 {

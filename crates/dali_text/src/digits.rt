@@ -2,7 +2,7 @@ ghost use Rattle.std.specs.Prelude.{OnOk};
 ghost use Rattle.dali_text.specs.Digits.{bytes_digits};
 ghost use Rattle.dali_text.specs.Output.{TellsFailure, Takes};
 
-use crate::output::{Output, Unwritten};
+use crate::output::{Output, OutputFailed};
 use std::fmt;
 use std::io::Write;
 
@@ -41,7 +41,7 @@ impl fmt::Display for WordDigits {
 
 /// Writes the two upper-case hexadecimal digits of each byte, with nothing between them.
 #[tactic(auto, using(crate::proofs::StreamLemmas::appends_both))]
-pub fn write_bytes<W: Write>(output: &mut Output<W>, bytes: &[u8]) -> Result<(), Unwritten>
+pub fn write_bytes<W: Write>(output: &mut Output<W>, bytes: &[u8]) -> Result<(), OutputFailed>
     ensures text { OnOk result (Takes W.contents output.old output.new (bytes_digits bytes.now)) }
     ensures failed { TellsFailure result output.old output.new }
 {

@@ -2,7 +2,7 @@ ghost use Rattle.std.specs.Prelude.{IfSome, OnOk};
 ghost use Rattle.dali_text.specs.FaultLines.{counted_line, fault_line, placed_line, single_line};
 ghost use Rattle.dali_text.specs.Output.{TellsFailure, Takes};
 
-use crate::output::{Output, Unwritten};
+use crate::output::{Output, OutputFailed};
 use std::fmt::Display;
 use std::io::Write;
 
@@ -12,7 +12,7 @@ pub fn write_fault<W: Write, F: Display>(
     output: &mut Output<W>,
     number: u8,
     name: &F,
-) -> Result<(), Unwritten>
+) -> Result<(), OutputFailed>
     ensures text { OnOk result (IfSome (F.output name.now) (λ name_text.
         Takes W.contents output.old output.new (fault_line number name_text))) }
     ensures failed { TellsFailure result output.old output.new }
@@ -27,7 +27,7 @@ pub fn write_single_fault<W: Write, F: Display>(
     what: &str,
     number: u8,
     name: &F,
-) -> Result<(), Unwritten>
+) -> Result<(), OutputFailed>
     ensures text { OnOk result (IfSome (F.output name.now) (λ name_text.
         Takes W.contents output.old output.new (single_line what.now number name_text))) }
     ensures failed { TellsFailure result output.old output.new }
@@ -43,7 +43,7 @@ pub fn write_counted_fault<W: Write, F: Display>(
     count: u64,
     number: u8,
     name: &F,
-) -> Result<(), Unwritten>
+) -> Result<(), OutputFailed>
     ensures text { OnOk result (IfSome (F.output name.now) (λ name_text.
         Takes W.contents output.old output.new (counted_line what.now count number name_text))) }
     ensures failed { TellsFailure result output.old output.new }
@@ -59,7 +59,7 @@ pub fn write_placed_fault<W: Write, F: Display>(
     number: u8,
     name: &F,
     place: usize,
-) -> Result<(), Unwritten>
+) -> Result<(), OutputFailed>
     ensures text { OnOk result (IfSome (F.output name.now) (λ name_text.
         Takes W.contents output.old output.new (placed_line what.now number name_text place))) }
     ensures failed { TellsFailure result output.old output.new }

@@ -5,13 +5,13 @@ ghost use Rattle.dali_text.specs.FrameLine.{command_line, frame_line, special_li
 ghost use Rattle.dali_text.specs.Output.{TellsFailure, Takes};
 
 use crate::digits::{ByteDigits, WordDigits};
-use crate::output::{Output, Unwritten};
+use crate::output::{Output, OutputFailed};
 use dali_frame::{Frame, frame_of};
 use std::io::Write;
 
 /// Writes a word and the forward frame that it spells (profile): the word, the standard's name of
 /// the frame, and its operand or its short address.
-pub fn write_frame<W: Write>(output: &mut Output<W>, word: u16) -> Result<(), Unwritten>
+pub fn write_frame<W: Write>(output: &mut Output<W>, word: u16) -> Result<(), OutputFailed>
     ensures text { OnOk result ((frame : Frame) × Spells frame word
         × Takes W.contents output.old output.new (frame_line word frame)) }
     ensures failed { TellsFailure result output.old output.new }
@@ -39,7 +39,7 @@ fn write_special<W: Write>(
     word: u16,
     name: &str,
     operand: u8,
-) -> Result<(), Unwritten>
+) -> Result<(), OutputFailed>
     ensures text { OnOk result (Takes W.contents output.old output.new
         (special_line word name.now operand)) }
     ensures failed { TellsFailure result output.old output.new }
@@ -54,7 +54,7 @@ fn write_command<W: Write>(
     word: u16,
     name: &str,
     address: u8,
-) -> Result<(), Unwritten>
+) -> Result<(), OutputFailed>
     ensures text { OnOk result (Takes W.contents output.old output.new
         (command_line word name.now address)) }
     ensures failed { TellsFailure result output.old output.new }
@@ -64,7 +64,7 @@ fn write_command<W: Write>(
 }
 
 // Writes a word that spells no other frame.
-fn write_other<W: Write>(output: &mut Output<W>, word: u16) -> Result<(), Unwritten>
+fn write_other<W: Write>(output: &mut Output<W>, word: u16) -> Result<(), OutputFailed>
     ensures text { OnOk result (Takes W.contents output.old output.new
         (frame_line word (Frame.Other word))) }
     ensures failed { TellsFailure result output.old output.new }

@@ -7,7 +7,7 @@ ghost use Rattle.dali_text.specs.JournalLines.{counts_line, journal_text, record
 ghost use Rattle.dali_text.specs.JournalLines.{version_line};
 ghost use Rattle.dali_text.specs.Output.{TellsFailure, Takes};
 
-use crate::output::{Output, Unwritten};
+use crate::output::{Output, OutputFailed};
 use crate::record_text::RecordText;
 use dali_journal::{Journal, Piece, Record, Standing, Version};
 use std::fmt;
@@ -42,7 +42,7 @@ pub fn write_journal<W: Write>(
     version: Version,
     counted: usize,
     total: usize,
-) -> Result<(), Unwritten>
+) -> Result<(), OutputFailed>
     ensures text { OnOk result (Takes W.contents output.old output.new
         (journal_text version journal.now.records counted total)) }
     ensures failed { TellsFailure result output.old output.new }
@@ -58,7 +58,7 @@ fn write_told<W: Write>(
     journal: &Journal,
     counted: usize,
     total: usize,
-) -> Result<(), Unwritten>
+) -> Result<(), OutputFailed>
     ensures text { OnOk result (Takes W.contents output.old output.new
         (records_text journal.now.records counted total)) }
     ensures failed { TellsFailure result output.old output.new }
@@ -69,7 +69,7 @@ fn write_told<W: Write>(
 }
 
 // Writes the version of a journal's file.
-fn write_version<W: Write>(output: &mut Output<W>, version: Version) -> Result<(), Unwritten>
+fn write_version<W: Write>(output: &mut Output<W>, version: Version) -> Result<(), OutputFailed>
     ensures text { OnOk result (Takes W.contents output.old output.new (version_line version)) }
     ensures failed { TellsFailure result output.old output.new }
 {
@@ -78,7 +78,7 @@ fn write_version<W: Write>(output: &mut Output<W>, version: Version) -> Result<(
 }
 
 // Writes a line for each record of a journal, the oldest first.
-fn write_records<W: Write>(output: &mut Output<W>, journal: &Journal) -> Result<(), Unwritten>
+fn write_records<W: Write>(output: &mut Output<W>, journal: &Journal) -> Result<(), OutputFailed>
     ensures text { OnOk result (Takes W.contents output.old output.new
         (flat_map record_line (reverse journal.now.records))) }
     ensures failed { TellsFailure result output.old output.new }
@@ -89,7 +89,7 @@ fn write_records<W: Write>(output: &mut Output<W>, journal: &Journal) -> Result<
 }
 
 // Writes a line for each record that the bytes are.
-fn write_each<W: Write>(output: &mut Output<W>, bytes: &[u8]) -> Result<(), Unwritten>
+fn write_each<W: Write>(output: &mut Output<W>, bytes: &[u8]) -> Result<(), OutputFailed>
     ensures text { (records : List Entry) → AllByRecursion (IsRecord Two) records
         → bytes.now ≡ flat_map (spelling Two) records
         → OnOk result (Takes W.contents output.old output.new (flat_map record_line records)) }
@@ -112,7 +112,7 @@ fn behind(bytes: &[u8], count: usize) -> &[u8]
 }
 
 // Writes a record by itself.
-fn write_record<W: Write>(output: &mut Output<W>, entry: &Record) -> Result<(), Unwritten>
+fn write_record<W: Write>(output: &mut Output<W>, entry: &Record) -> Result<(), OutputFailed>
     ensures text { OnOk result (Takes W.contents output.old output.new (record_line entry.now)) }
     ensures failed { TellsFailure result output.old output.new }
 {
@@ -127,7 +127,7 @@ fn write_counts<W: Write>(
     total: usize,
     orders: u32,
     standing: &Standing,
-) -> Result<(), Unwritten>
+) -> Result<(), OutputFailed>
     ensures text { OnOk result (Takes W.contents output.old output.new
         (counts_line counted total orders standing.now)) }
     ensures failed { TellsFailure result output.old output.new }

@@ -22,6 +22,6 @@ pub use fault_lines::{write_counted_fault, write_fault, write_placed_fault, writ
 pub use frame_line::write_frame;
 pub use journal_lines::write_journal;
 pub use order_lines::{write_order, write_tally};
-pub use output::{Output, Unwritten};
+pub use output::{Output, OutputFailed};
 pub use record_text::RecordText;
 pub use run_lines::write_run;

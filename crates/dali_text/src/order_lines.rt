@@ -3,7 +3,7 @@ ghost use Rattle.std.specs.List.{flat_map};
 ghost use Rattle.dali_text.specs.OrderLines.{order_line, order_lines, tally_line, update_line};
 ghost use Rattle.dali_text.specs.Output.{TellsFailure, Takes};
 
-use crate::output::{Output, Unwritten};
+use crate::output::{Output, OutputFailed};
 use arrayvec::ArrayVec;
 use dali_bank::{MOST_UPDATES, Order};
 use dali_frame::byte_digits;
@@ -17,7 +17,7 @@ pub fn write_order<W: Write>(
     output: &mut Output<W>,
     number: u64,
     order: &Order,
-) -> Result<(), Unwritten>
+) -> Result<(), OutputFailed>
     ensures text { OnOk result (Takes W.contents output.old output.new (order_lines number order.now)) }
     ensures failed { TellsFailure result output.old output.new }
 {
@@ -30,7 +30,7 @@ fn write_heading<W: Write>(
     output: &mut Output<W>,
     number: u64,
     order: &Order,
-) -> Result<(), Unwritten>
+) -> Result<(), OutputFailed>
     ensures text { OnOk result (Takes W.contents output.old output.new (order_line number order.now)) }
     ensures failed { TellsFailure result output.old output.new }
 {
@@ -41,7 +41,7 @@ fn write_heading<W: Write>(
 }
 
 // Writes the updates at once, which takes much less time than line by line.
-fn write_updates<W: Write>(output: &mut Output<W>, updates: &[(u8, u8)]) -> Result<(), Unwritten>
+fn write_updates<W: Write>(output: &mut Output<W>, updates: &[(u8, u8)]) -> Result<(), OutputFailed>
     requires { length updates.now ≤ 115 }
     ensures text { OnOk result (Takes W.contents output.old output.new
         (flat_map update_line updates.now)) }
@@ -67,7 +67,7 @@ pub fn write_tally<W: Write>(
     output: &mut Output<W>,
     accepted: u64,
     refused: u64,
-) -> Result<(), Unwritten>
+) -> Result<(), OutputFailed>
     ensures text { OnOk result (Takes W.contents output.old output.new (tally_line accepted refused)) }
     ensures failed { TellsFailure result output.old output.new }
 {

@@ -9,9 +9,9 @@ use std::{fmt, io};
 
 /// That an output has failed: a write or a flush of it, in this call or before.
 #[derive(Clone, Copy, Debug, PartialEq, Eq)]
-pub struct Unwritten;
+pub struct OutputFailed;
 
-impl fmt::Display for Unwritten {
+impl fmt::Display for OutputFailed {
     ghost use Rattle.std.specs.Prelude.{Some, codes};
 
     ghost output = { λ _. Some (codes "the output can't be written") };
@@ -21,7 +21,7 @@ impl fmt::Display for Unwritten {
     }
 }
 
-impl Error for Unwritten {}
+impl Error for OutputFailed {}
 
 /// A writer that knows whether it has failed. Later calls take nothing more then, and leave its writer alone.
 #[derive(Drop)]
@@ -54,7 +54,7 @@ impl<W: Write> Output<W> {
     /// often that no program lives to see the end of it. Where the output has failed before, it stays as it is.
     ///
     /// There has to be a byte.
-    pub fn write(&mut self, bytes: &[u8]) -> Result<usize, Unwritten>
+    pub fn write(&mut self, bytes: &[u8]) -> Result<usize, OutputFailed>
         requires { 0 < length bytes.now }
         ensures some { IfOk result (λ count. (0 < count) × (count ≤ length bytes.now)) }
         ensures bytes { WriteAppends (held W.contents self.old) (held W.contents self.new) result bytes.now }
@@ -76,11 +76,11 @@ impl<W: Write> Output<W> {
             }
         }
         self.cause = Some(cause);
-        Err(Unwritten)
+        Err(OutputFailed)
     }
 
     /// Writes all the bytes. Where the output has failed before, it stays as it is.
-    pub fn write_all(&mut self, bytes: &[u8]) -> Result<(), Unwritten>
+    pub fn write_all(&mut self, bytes: &[u8]) -> Result<(), OutputFailed>
         ensures bytes { OnOk result (Takes W.contents self.old self.new bytes.now) }
         ensures failed { TellsFailure result self.old self.new }
         ensures unfailed { OnOk result (has_failed self.new ≡ false) }
@@ -92,7 +92,7 @@ impl<W: Write> Output<W> {
     }
 
     /// Writes a text, which is what `write!` calls. Where the output has failed before, it stays as it is.
-    pub fn write_fmt<D: Display + Drop>(&mut self, text: D) -> Result<(), Unwritten>
+    pub fn write_fmt<D: Display + Drop>(&mut self, text: D) -> Result<(), OutputFailed>
         ensures bytes { OnOk result (IfSome (D.output text) (Takes W.contents self.old self.new)) }
         ensures failed { TellsFailure result self.old self.new }
         ensures unfailed { OnOk result (has_failed self.new ≡ false) }
@@ -105,7 +105,7 @@ impl<W: Write> Output<W> {
 
     /// Writes a text and a line feed, which is what `writeln!` calls. Where the output has failed before, it stays as
     /// it is.
-    pub fn writeln<D: Display + Drop>(&mut self, text: D) -> Result<(), Unwritten>
+    pub fn writeln<D: Display + Drop>(&mut self, text: D) -> Result<(), OutputFailed>
         ensures bytes { OnOk result (IfSome (with_newline (D.output text))
             (Takes W.contents self.old self.new)) }
         ensures failed { TellsFailure result self.old self.new }
@@ -118,7 +118,7 @@ impl<W: Write> Output<W> {
     }
 
     /// Flushes what was written. Where the output has failed before, it stays as it is.
-    pub fn flush(&mut self) -> Result<(), Unwritten>
+    pub fn flush(&mut self) -> Result<(), OutputFailed>
         ensures bytes { Keeps (held W.contents self.old) (held W.contents self.new) }
         ensures flushed { OnOk result (is_flushed self.new ≡ true) }
         ensures failed { TellsFailure result self.old self.new }
@@ -147,18 +147,18 @@ impl<W: Write> Output<W> {
     }
 
     // An error where the output has failed, before its writer is called.
-    fn unfailed(&self) -> Result<(), Unwritten>
+    fn unfailed(&self) -> Result<(), OutputFailed>
         ensures ok { OnOk result (has_failed self.now ≡ false) }
         ensures err { OnErr result (has_failed self.now ≡ true) }
     {
         if self.cause.is_some() {
-            return Err(Unwritten);
+            return Err(OutputFailed);
         }
         Ok(())
     }
 
     // Keeps in mind how a call of the writer ended, behind which something may be unflushed.
-    fn note(&mut self, ended: io::Result<()>) -> Result<(), Unwritten>
+    fn note(&mut self, ended: io::Result<()>) -> Result<(), OutputFailed>
         requires { has_failed self.old ≡ false }
         ensures held { held W.contents self.new ≡ held W.contents self.old }
         ensures ended { IsOk result ↔ IsOk ended }
@@ -170,7 +170,7 @@ impl<W: Write> Output<W> {
             Ok(()) => Ok(()),
             Err(error) => {
                 self.cause = Some(error.kind());
-                Err(Unwritten)
+                Err(OutputFailed)
             }
         }
     }

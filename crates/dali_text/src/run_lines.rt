@@ -8,7 +8,7 @@ ghost use Rattle.dali_text.specs.UnitLines.{unit_text};
 ghost use Rattle.dali_text.specs.Output.{TellsFailure, Takes};
 
 use crate::digits::{ByteDigits, WordDigits};
-use crate::output::{Output, Unwritten};
+use crate::output::{Output, OutputFailed};
 use crate::record_text::RecordText;
 use crate::unit_lines::write_unit;
 use dali_frame::{Frame, word_of};
@@ -27,7 +27,7 @@ pub fn write_run<W: Write>(
     trace: &[Happening],
     journal: usize,
     units: &[Unit],
-) -> Result<(), Unwritten>
+) -> Result<(), OutputFailed>
     requires { SendsAllProper (reverse trace.now) }
     ensures text { OnOk result (Takes W.contents output.old output.new
         (run_text single_frames trace.now journal units.now)) }
@@ -46,7 +46,7 @@ fn write_trace<W: Write>(
     output: &mut Output<W>,
     single_frames: bool,
     trace: &[Happening],
-) -> Result<(), Unwritten>
+) -> Result<(), OutputFailed>
     requires { SendsAllProper (reverse trace.now) }
     ensures text { OnOk result (Takes W.contents output.old output.new
         (trace_text single_frames trace.now)) }
@@ -61,7 +61,7 @@ fn write_trace<W: Write>(
 
 // Writes each happening by itself.
 #[tactic(auto, using(crate::proofs::StreamLemmas::appends_both))]
-fn write_each<W: Write>(output: &mut Output<W>, trace: &[Happening]) -> Result<(), Unwritten>
+fn write_each<W: Write>(output: &mut Output<W>, trace: &[Happening]) -> Result<(), OutputFailed>
     requires { AllByRecursion SendsProper trace.now }
     ensures text { OnOk result (Takes W.contents output.old output.new
         (flat_map happening_line trace.now)) }
@@ -75,7 +75,7 @@ fn write_each<W: Write>(output: &mut Output<W>, trace: &[Happening]) -> Result<(
 
 // Writes each happening but sent frames, of which each run is told by its length where it ends.
 #[tactic(auto, using(crate::proofs::RunTextLemmas::sum_other, crate::proofs::RunTextLemmas::not_sent))]
-fn write_summary<W: Write>(output: &mut Output<W>, trace: &[Happening]) -> Result<(), Unwritten>
+fn write_summary<W: Write>(output: &mut Output<W>, trace: &[Happening]) -> Result<(), OutputFailed>
     ensures text { OnOk result (Takes W.contents output.old output.new (summary false trace.now)) }
     ensures failed { TellsFailure result output.old output.new }
 {
@@ -93,7 +93,7 @@ fn write_summary<W: Write>(output: &mut Output<W>, trace: &[Happening]) -> Resul
 }
 
 // Writes how many frames a run has, where there is one.
-fn write_frames<W: Write>(output: &mut Output<W>, frames: usize) -> Result<(), Unwritten>
+fn write_frames<W: Write>(output: &mut Output<W>, frames: usize) -> Result<(), OutputFailed>
     ensures text { OnOk result (Takes W.contents output.old output.new (run_line frames)) }
     ensures failed { TellsFailure result output.old output.new }
 {
@@ -104,7 +104,10 @@ fn write_frames<W: Write>(output: &mut Output<W>, frames: usize) -> Result<(), U
 }
 
 // Writes a happening by itself.
-fn write_happening<W: Write>(output: &mut Output<W>, happening: &Happening) -> Result<(), Unwritten>
+fn write_happening<W: Write>(
+    output: &mut Output<W>,
+    happening: &Happening,
+) -> Result<(), OutputFailed>
     requires { SendsProper happening.now }
     ensures text { OnOk result (Takes W.contents output.old output.new (happening_line happening.now)) }
     ensures failed { TellsFailure result output.old output.new }
@@ -130,7 +133,7 @@ fn write_sent<W: Write>(
     output: &mut Output<W>,
     frame: &Frame,
     answer: Option<u8>,
-) -> Result<(), Unwritten>
+) -> Result<(), OutputFailed>
     requires { IsProper frame.now }
     ensures text { OnOk result (Takes W.contents output.old output.new
         (happening_line (Sent frame.now answer))) }
@@ -158,7 +161,7 @@ fn total_of(trace: &[Happening]) -> usize
 
 // Writes each unit.
 #[tactic(auto, using(crate::proofs::StreamLemmas::appends_both))]
-fn write_units<W: Write>(output: &mut Output<W>, units: &[Unit]) -> Result<(), Unwritten>
+fn write_units<W: Write>(output: &mut Output<W>, units: &[Unit]) -> Result<(), OutputFailed>
     ensures text { OnOk result (Takes W.contents output.old output.new (flat_map unit_text units.now)) }
     ensures failed { TellsFailure result output.old output.new }
 {

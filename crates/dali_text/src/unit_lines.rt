@@ -5,7 +5,7 @@ ghost use Rattle.dali_text.specs.UnitLines.{yes_or_no as word_of};
 ghost use Rattle.dali_text.specs.Output.{TellsFailure, Takes};
 
 use crate::digits::{ByteDigits, write_bytes};
-use crate::output::{Output, Unwritten};
+use crate::output::{Output, OutputFailed};
 use dali_gear::Unit;
 use std::io::Write;
 
@@ -18,7 +18,7 @@ const MOST_GROUPS: u8 = 16;
 /// Writes a unit (profile): its short address, DTR0, DTR1 and DTR2, whether it is write-enabled, and
 /// bank 1 in groups of 16 locations, without those whose bytes are all FFh.
 #[tactic(auto, using(crate::proofs::StreamLemmas::appends_both))]
-pub fn write_unit<W: Write>(output: &mut Output<W>, unit: &Unit) -> Result<(), Unwritten>
+pub fn write_unit<W: Write>(output: &mut Output<W>, unit: &Unit) -> Result<(), OutputFailed>
     ensures text { OnOk result (Takes W.contents output.old output.new (unit_text unit.now)) }
     ensures failed { TellsFailure result output.old output.new }
 {
@@ -28,7 +28,7 @@ pub fn write_unit<W: Write>(output: &mut Output<W>, unit: &Unit) -> Result<(), U
 
 // Writes a unit without its bank.
 #[tactic(auto, using(crate::proofs::StreamLemmas::appends_both))]
-fn write_registers<W: Write>(output: &mut Output<W>, unit: &Unit) -> Result<(), Unwritten>
+fn write_registers<W: Write>(output: &mut Output<W>, unit: &Unit) -> Result<(), OutputFailed>
     ensures text { OnOk result (Takes W.contents output.old output.new (registers_line unit.now)) }
     ensures failed { TellsFailure result output.old output.new }
 {
@@ -40,7 +40,7 @@ fn write_registers<W: Write>(output: &mut Output<W>, unit: &Unit) -> Result<(), 
 }
 
 // Writes DTR0, DTR1 and DTR2 of a unit.
-fn write_dtrs<W: Write>(output: &mut Output<W>, unit: &Unit) -> Result<(), Unwritten>
+fn write_dtrs<W: Write>(output: &mut Output<W>, unit: &Unit) -> Result<(), OutputFailed>
     ensures text { OnOk result (Takes W.contents output.old output.new (dtrs_text unit.now)) }
     ensures failed { TellsFailure result output.old output.new }
 {
@@ -62,7 +62,7 @@ fn write_groups<W: Write>(
     output: &mut Output<W>,
     address: u8,
     bytes: &[u8],
-) -> Result<(), Unwritten>
+) -> Result<(), OutputFailed>
     ensures text { OnOk result (Takes W.contents output.old output.new (bank_lines address bytes.now)) }
     ensures failed { TellsFailure result output.old output.new }
 {
@@ -79,7 +79,7 @@ fn write_group<W: Write>(
     address: u8,
     number: u8,
     bytes: &[u8],
-) -> Result<(), Unwritten>
+) -> Result<(), OutputFailed>
     requires { number < 16 }
     ensures text { OnOk result (Takes W.contents output.old output.new
         (group_line address number bytes.now)) }

@@ -4,13 +4,13 @@ use Rattle.dali_journal.specs.declared.version.Version.TheVariants.{Two}
 use Rattle.dali_journal.specs.declared.record.Record.{Record}
 use Rattle.dali_journal.specs.Spelling.{IsRecord, spelling}
 use Rattle.dali_text.specs.Output.{has_failed}
-use Rattle.dali_text.proofs.JournalLinesLemmas.{Told}
+use Rattle.dali_text.proofs.JournalLinesLemmas.{WrittenSoFar}
 use Rattle.dali_text.proofs.journal_lines.write_each.Given as goal
 
 abbrev pub invariant-loop-entry : goal.invariant-loop-entry
 invariant-loop-entry g l = record {
   text : (records : List Record) → AllByRecursion (IsRecord Two) records → l.bytes ≡ flat_map (spelling Two) records
-      → Told records l.rest (g.W.Write.contents l.initial.output.writer) (g.W.Write.contents l.output.writer);
+      → WrittenSoFar records l.rest (g.W.Write.contents l.initial.output.writer) (g.W.Write.contents l.output.writer);
   failed : has_failed l.output ≡ has_failed l.initial.output;
 }
 

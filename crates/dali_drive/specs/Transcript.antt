@@ -5,7 +5,8 @@ use Rattle.dali_journal.specs.declared.version.Version.TheVariants.{Two}
 use Rattle.dali_journal.specs.Spelling.{spelling}
 use Rattle.dali_trace.specs.declared.happening.Happening.{Happening}
 use Rattle.dali_trace.specs.declared.happening.Happening.TheVariants.{Answered, Sent, Kept}
-use Rattle.dali_drive.specs.Lines.{link_line, reply_line, IsAnswerLine}
+use Rattle.dali_drive.specs.Lines.{link_line, IsAnswerLine}
+use Rattle.dali_trace.specs.Replies.{reply_line}
 
 -- the bytes of the records that were kept
 abbrev pub recorded : List Happening → List ℕ

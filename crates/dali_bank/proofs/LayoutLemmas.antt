@@ -286,9 +286,3 @@ pub no_number : (draft : Drafted) (field : Field)
     → IfSome (found_of field draft) (λ bytes. length bytes ≡ length_of field)
     → bytes_of field draft ≡ replicate (length (bytes_of field draft)) 0xFF → (n : ℕ) → ¬ GivesNumber field draft n
 no_number draft field sized same = no_number_found (found_of field draft) (length_of field) sized same
-
--- a field that is set has as many bytes as the layout says
-pub found_sized : (draft : Drafted) (field : Field) → AreFound draft.found
-    → IfSome (found_of field draft) (λ bytes. length bytes ≡ length_of field)
-found_sized draft field found =
-    at_each (λ f. IfSome (found_of f draft) (λ bytes. length bytes ≡ length_of f)) found field

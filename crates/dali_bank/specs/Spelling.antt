@@ -63,10 +63,6 @@ ShowsText size bytes k = (k ≤ length bytes) × AreFormBytes form.Text size (te
 abbrev pub HasFormBytes : Form → ℕ → Plain → Type 0
 HasFormBytes form size value = (bytes : List ℕ) × AreFormBytes form size value bytes
 
--- the field takes values of this kind
-abbrev pub TakesKind : Field → Plain → Type 0
-TakesKind field value = FormTakes (row_of field).form value
-
 -- the bytes stand for the value in the field
 abbrev pub AreFieldBytes : Field → Plain → List ℕ → Type 0
 AreFieldBytes field value bytes = AreFormBytes (row_of field).form (length_of field) value bytes

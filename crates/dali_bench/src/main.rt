@@ -151,7 +151,7 @@ fn on_input<R: Read, W: Write>(
         return out_of_memory(rt, Place::Output);
     };
     let mut notes = Output::new(FirstLines::new(writer));
-    let status = command.carry_out_noting(rt.alloc(), input, output, &mut notes);
+    let status = command.carry_out(rt.alloc(), input, output, &mut notes);
     let _ = notes.flush();
     let name = Escaped::whole(name);
     let _ = match input.cause() {

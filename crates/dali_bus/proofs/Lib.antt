@@ -1,3 +1,4 @@
 pub mod ChainLemmas
 pub mod UnenabledLemmas
 pub mod WorkedFrameLemmas
+pub mod WorkedChainLemmas

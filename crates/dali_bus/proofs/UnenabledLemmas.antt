@@ -8,7 +8,7 @@ use Rattle.dali_frame.specs.declared.forward.Frame.{Frame}
 use Rattle.dali_frame.specs.declared.forward.Frame.TheVariants.{Dtr0, Dtr1, Dtr2, Write, WriteSilent, Enable, AskDtr0}
 use Rattle.dali_frame.specs.declared.forward.Frame.TheVariants.{AskDtr1, AskDtr2, Read, Other}
 use Rattle.dali_bus.specs.World.{Gear, World, byte_in, byte_at, is_open, SameAddresses}
-use Rattle.dali_bus.specs.Hears.{Obeys, MayEnd, PassesBy, Stores, Ignores, Tells}
+use Rattle.dali_bus.specs.Hears.{Obeys, MayEnd, PassesBy, Stores, Ignores, AnswersRegister}
 use Rattle.dali_bus.specs.Power.{relocked, PowersUp, MayPowerUp, LosesPower}
 use Rattle.dali_bus.specs.Carry.{BusEvent, Carried, Powered, WorldStep, MayHear, HasLostPower}
 use Rattle.dali_bus.specs.Chain.{IsChain, AtEachMoment}
@@ -36,7 +36,7 @@ MayEnableAt at (Other word) = Unit {0}
 MayEnableAt at _ = ⊥
 
 kept_asked : (to at register : ℕ) (old : Gear) (answer : Option ℕ) (new : Gear) → old.enabled ≡ false
-    → ((to ≡ at) × Tells register old answer new) ⊎ ((to ≢ at) × Ignores old answer new) → Kept old new
+    → ((to ≡ at) × AnswersRegister register old answer new) ⊎ ((to ≢ at) × Ignores old answer new) → Kept old new
 kept_asked to at register old answer new shut (inl (mine, tells)) = kept_same old new shut tells.0
 kept_asked to at register old answer new shut (inr (other, ignores)) = kept_same old new shut ignores.0
 

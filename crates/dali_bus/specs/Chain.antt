@@ -8,13 +8,17 @@ IsChain step first (newest ∷ past) last (state ∷ states) = step state newest
 IsChain step first [] last (state ∷ states) = ⊥
 IsChain step first (newest ∷ past) last [] = ⊥
 
--- it holds at each moment: of what happened up to there, and the state there
+-- it holds at each moment: of what happened up to there, the state there, and those before it
+abbrev pub AtEachState : {S E : Type 0} → (List E → S → List S → Type 0) → List E → S → List S → Type 0
+AtEachState holds [] last [] = holds [] last []
+AtEachState holds (newest ∷ past) last (state ∷ states) =
+    holds (newest ∷ past) last (state ∷ states) × AtEachState holds past state states
+AtEachState holds [] last (state ∷ states) = ⊥
+AtEachState holds (newest ∷ past) last [] = ⊥
+
+-- the same, of what happened up to there and the state there alone
 abbrev pub AtEachMoment : {S E : Type 0} → (List E → S → Type 0) → List E → S → List S → Type 0
-AtEachMoment holds [] last [] = holds [] last
-AtEachMoment holds (newest ∷ past) last (state ∷ states) =
-    holds (newest ∷ past) last × AtEachMoment holds past state states
-AtEachMoment holds [] last (state ∷ states) = ⊥
-AtEachMoment holds (newest ∷ past) last [] = ⊥
+AtEachMoment holds = AtEachState (λ past state states. holds past state)
 
 -- the happenings lead from the first state to the last one, through some states
 pub record Chain {S E : Type 0} (step : S → E → S → Type 0) (first : S) (past : List E) (last : S) : Type 0 where

@@ -26,8 +26,8 @@ abbrev pub Ignores : Gear → Option ℕ → Gear → Type 0
 Ignores old answer new = (new ≡ old) × (answer ≡ None)
 
 -- it stays as it was and answers this register
-abbrev pub Tells : ℕ → Gear → Option ℕ → Gear → Type 0
-Tells register old answer new = (new ≡ old) × (answer ≡ Some register)
+abbrev pub AnswersRegister : ℕ → Gear → Option ℕ → Gear → Type 0
+AnswersRegister register old answer new = (new ≡ old) × (answer ≡ Some register)
 
 -- it doesn't carry the command out, and doesn't answer: DTR0 may move on
 abbrev pub PassesBy : Gear → Option ℕ → Gear → Type 0
@@ -58,11 +58,11 @@ Obeys at old (WriteSilent byte) answer new = (Stores byte old new ⊎ PassesBy o
 Obeys at old (Enable to) answer new =
     ((to ≡ at) × (new ≡ record old { enabled = true }) × (answer ≡ None)) ⊎ Ignores old answer new
 Obeys at old (AskDtr0 to) answer new =
-    ((to ≡ at) × Tells old.dtr0 old answer new) ⊎ ((to ≢ at) × Ignores old answer new)
+    ((to ≡ at) × AnswersRegister old.dtr0 old answer new) ⊎ ((to ≢ at) × Ignores old answer new)
 Obeys at old (AskDtr1 to) answer new =
-    ((to ≡ at) × Tells old.dtr1 old answer new) ⊎ ((to ≢ at) × Ignores old answer new)
+    ((to ≡ at) × AnswersRegister old.dtr1 old answer new) ⊎ ((to ≢ at) × Ignores old answer new)
 Obeys at old (AskDtr2 to) answer new =
-    ((to ≡ at) × Tells old.dtr2 old answer new) ⊎ ((to ≢ at) × Ignores old answer new)
+    ((to ≡ at) × AnswersRegister old.dtr2 old answer new) ⊎ ((to ≢ at) × Ignores old answer new)
 Obeys at old (Read to) answer new =
     ((to ≡ at) × (ReadsByte old answer new ⊎ ReadsNothing old answer new)) ⊎ ((to ≢ at) × Ignores old answer new)
 Obeys at old (Other word) answer new = ⊤

@@ -42,7 +42,3 @@ is_enabled world address = is_open (world address)
 -- the worlds have units at the same addresses
 abbrev pub SameAddresses : World → World → Type 0
 SameAddresses old new = (address : ℕ) → is_some (new address) ≡ is_some (old address)
-
--- each place holds in both what it holds in one, or exists in neither
-abbrev pub SameBytes : World → World → Type 0
-SameBytes old new = (address bank location : ℕ) → byte_at new address bank location ≡ byte_at old address bank location

@@ -28,9 +28,9 @@ const NO_WORDS: &str = "|A3|A303 |A30311|A3G3|+A30|-A30|éé";
 
 // Whether the command ends so over an argument, and writes this, where there is this room.
 fn does(alloc: Global, argument: &str, room: Option<usize>, status: Status, text: &[u8]) -> bool {
-    let mut output = Output::new(TestWriter::new(alloc, room));
-    let ended = frame(argument, &mut output);
-    ended == status && output.into_writer().held.as_slice() == text
+    let mut writer = TestWriter::new(alloc, room);
+    let ended = frame(argument, &mut Output::new(&mut writer));
+    ended == status && writer.held.as_slice() == text
 }
 
 #[test]

@@ -178,9 +178,10 @@ fn writes(
 ) -> bool
     requires { SendsAllProper (reverse trace.now) }
 {
-    let mut output = Output::new(TestWriter::new(alloc, room));
+    let mut writer = TestWriter::new(alloc, room);
+    let mut output = Output::new(&mut writer);
     let is_whole = write_run(&mut output, single_frames, trace, journal, units).is_ok();
-    is_whole == room.is_none() && output.into_writer().held.as_slice() == text
+    is_whole == room.is_none() && writer.held.as_slice() == text
 }
 
 // Whether each happening has a line for each frame or one for each run of frames, what happened, so many bytes of a

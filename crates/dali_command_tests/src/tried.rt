@@ -6,20 +6,23 @@ use dali_commands::{FileCommand, Status};
 use dali_input::Input;
 use dali_text::Output;
 use std::alloc::Global;
+use std::io;
+use std::io::Read;
 use std::test::Fail;
 
 // Whether a command ends so over what a reader has, and writes this, where there is this room.
-fn does(
+fn does<R: Read>(
     alloc: Global,
     command: FileCommand,
-    input: &mut Input<TestReader<'_>>,
+    input: &mut Input<R>,
     room: Option<usize>,
     status: Status,
     text: &[u8],
 ) -> bool {
-    let mut output = Output::new(TestWriter::new(alloc, room));
-    let ended = command.carry_out(alloc, input, &mut output);
-    ended == status && output.into_writer().held.as_slice() == text
+    let mut writer = TestWriter::new(alloc, room);
+    let mut output = Output::new(&mut writer);
+    let ended = command.carry_out(alloc, input, &mut output, &mut Output::new(io::sink()));
+    ended == status && writer.held.as_slice() == text
 }
 
 /// Tests how a command ends over an input, and what it writes. A failure tells the input, where that is a text, or else
@@ -67,11 +70,11 @@ pub fn answers_lines(
 
 /// Tests that spaces without end are refused, once one more than the limit was read.
 pub fn refuses_past(alloc: Global, command: FileCommand, limit: u64) -> Result<(), Fail> {
-    let mut input = Input::new(TestReader::new(&[], Behind::SpacesWithoutEnd));
+    let mut reader = TestReader::new(&[], Behind::SpacesWithoutEnd);
+    let mut input = Input::new(&mut reader);
     let told = b"fault 13 TooBig\n";
     let is_refused = does(alloc, command, &mut input, None, Status::Refused, told);
-    let is_read = input.into_reader().spaces == limit;
-    expect_that(is_refused && is_read, "an input that is too big")
+    expect_that(is_refused && reader.spaces == limit, "an input that is too big")
 }
 
 // Whether the command tells that the reader fails behind these bytes.

@@ -12,7 +12,7 @@ use Rattle.dali_drive.specs.declared.fault.DriveFault.{DriveFault}
 use Rattle.dali_drive.specs.declared.fault.DriveFault.TheVariants as drives
 use Rattle.dali_drive.specs.Streams.{PutsFirst}
 use Rattle.dali_drive.specs.Driven.{IsDrive, IsBrokenDrive}
-use Rattle.dali_writer.specs.Held.{Held, start_of}
+use Rattle.dali_writer.specs.WriterState.{WriterState, start_of}
 use Rattle.dali_trace.specs.Trace.{Start}
 use Rattle.dali_drive.specs.Transcript.{Streams}
 use Rattle.dali_commands.specs.declared.fault.Status.{Status}
@@ -23,7 +23,8 @@ use Rattle.dali_commands.specs.Faults.{item_line, status_of, told_line}
 use Rattle.dali_text.proofs.StreamLemmas.{appends_both, appends_kept}
 
 -- the drive of a writer that was made from the journal came to its end
-pub ends_well : (journal : JournalState) (made : Held) (orders : List Contents) (moment : ℕ) (first last : Streams) (writer : Held)
+pub ends_well : (journal : JournalState) (made : WriterState) (orders : List Contents) (moment : ℕ)
+    (first last : Streams) (writer : WriterState)
     (status : Status)
     → made.journal ≡ journal
     → IsDrive (start_of made.journal) orders moment first writer last → status ≡ Good
@@ -35,7 +36,8 @@ ends_well journal made orders moment first last writer status is driven good = i
 })
 
 -- it broke off, and its fault was told
-pub ends_broken : (journal : JournalState) (made : Held) (orders : List Contents) (moment : ℕ) (first last : Streams)
+pub ends_broken : (journal : JournalState) (made : WriterState) (orders : List Contents) (moment : ℕ)
+    (first last : Streams)
     (replies : Option (List ℕ)) (fault : DriveFault) (status : Status)
     → made.journal ≡ journal
     → IsBrokenDrive (start_of made.journal) orders moment fault first (record last { out = replies })

@@ -14,10 +14,10 @@ no_lines front (suc count, some, (lines, line, are, (words, plain, is), split)) 
     omega (arith, size, tail)
 
 -- a refused item is told
-refused_is_told : (number : ℕ) (fault : ItemFault) → ¬ IsItemNote number (Err fault) []
+pub refused_is_told : (number : ℕ) (fault : ItemFault) → ¬ IsItemNote number (Err fault) []
 refused_is_told number fault (inl lines) = no_lines (number_front (codes "item") number) lines
 refused_is_told number fault (inr (order, lines)) = no_lines (order_front (codes "item") number order) lines
 
 -- the character that begins a terminal's orders is never told
-no_escape : ¬ ArePlain (0x1B ∷ [])
+pub no_escape : ¬ ArePlain (0x1B ∷ [])
 no_escape ((least, most), rest) = omega (arith, least)

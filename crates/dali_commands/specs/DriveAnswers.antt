@@ -12,7 +12,7 @@ use Rattle.dali_drive.specs.declared.fault.DriveFault.{DriveFault}
 use Rattle.dali_drive.specs.declared.fault.DriveFault.TheVariants.{Out}
 use Rattle.dali_drive.specs.Streams.{PutsFirst}
 use Rattle.dali_drive.specs.Driven.{IsDrive, IsBrokenDrive}
-use Rattle.dali_writer.specs.Held.{Held}
+use Rattle.dali_writer.specs.WriterState.{WriterState}
 use Rattle.dali_trace.specs.Trace.{Start}
 use Rattle.dali_drive.specs.Transcript.{Streams}
 use Rattle.dali_commands.specs.declared.fault.Fault.{Fault}
@@ -62,7 +62,7 @@ IsFaultTold fault status before after =
 -- all the orders were asked at this moment, and nothing more is to be done
 pub record EndsWell (start : Start) (orders : List Contents) (moment : ℕ) (first : Streams) (status : Status)
     (last : Streams) : Type 0 where
-  pub writer : Held
+  pub writer : WriterState
   pub driven : IsDrive start orders moment first writer last
   pub status_is : status ≡ Good
 

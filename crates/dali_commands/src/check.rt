@@ -19,7 +19,6 @@ use dali_notes::{Note, Repeats, note_of_item, note_of_orders};
 use dali_text::{Output, Unwritten, write_order, write_tally};
 use serde_json::Value;
 use std::alloc::Global;
-use std::io;
 use std::io::{Read, Write};
 
 /// Reads a JSON list of orders, and writes what becomes of each: the updates of an accepted item,
@@ -29,25 +28,11 @@ use std::io::{Read, Write};
 /// 11 Json, 12 Document, 20 Memory or 21 File.
 ///
 /// Where a call of the output fails later ones write nothing more to it, and it ends as `Unwritten`.
-pub fn check<R: Read, W: Write>(
-    alloc: Global,
-    input: &mut Input<R>,
-    output: &mut Output<W>,
-) -> Status
-    ensures checked { result ≢ Status.Unwritten → (text : List ℕ)
-        × IsChecked orders_limit (state_of R.remaining input.old) (state_of R.remaining input.new) result text
-        × Takes W.contents output.old output.new text }
-    ensures read { ReadsAtMost orders_limit (state_of R.remaining input.old) (state_of R.remaining input.new) }
-    ensures unwritten { result ≡ Status.Unwritten ↔ has_failed output.new ≡ true }
-    ensures flushed { result ≢ Status.Unwritten → is_flushed output.new ≡ true }
-{
-    check_noting(alloc, input, output, &mut Output::new(io::sink()))
-}
-
-/// The same, and tells a person in `notes` where the input or an item is wrong and what its rule is, and which items
-/// have the number of an earlier one that is another order (the writer replies `reused`). Whatever becomes of the
-/// notes, the answer is the same.
-pub fn check_noting<R: Read, W: Write, N: Write>(
+///
+/// A person is told in `notes` where the input or an item is wrong and what its rule is, and which items have the number
+/// of an earlier one that is another order (the writer replies `reused`). Whatever becomes of the notes, the answer is
+/// the same.
+pub fn check<R: Read, W: Write, N: Write>(
     alloc: Global,
     input: &mut Input<R>,
     output: &mut Output<W>,

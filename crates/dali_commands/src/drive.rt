@@ -2,7 +2,7 @@ ghost use Rattle.std.specs.Prelude.{◌≡◌, ◌≢◌, ◌↔◌, IfOk, IfErr
 ghost use Rattle.dali_drive.specs.Transcript.{shown};
 ghost use Rattle.dali_text.specs.Output.{TellsFailure, Takes, has_failed, held, is_flushed};
 ghost use Rattle.dali_commands.specs.Ends.{TellsEnd};
-ghost use Rattle.dali_writer.specs.Held.{start_of};
+ghost use Rattle.dali_writer.specs.WriterState.{start_of};
 ghost use Rattle.dali_commands.specs.DriveAnswers.{IsDriveAnswer, IsFaultTold, is_out, refused_lines};
 
 use crate::fault::{Fault, Status};

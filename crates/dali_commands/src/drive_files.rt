@@ -1,7 +1,7 @@
 ghost use Rattle.std.specs.Prelude.{◌≤◌, ◌+◌, ℕ, List, IfErr, IfOk, length};
 ghost use Rattle.dali_input.specs.Orders.{AreOrdersIn, AreRefusedIn, orders_limit};
 
-use crate::check::check_noting;
+use crate::check::check;
 use crate::drive::{drive_over, tell_refused, told};
 use crate::fault::{Fault, Status};
 use crate::fault_lines::write_failure;
@@ -108,7 +108,7 @@ fn orders_of<O: Write>(
 fn is_told<O: Write>(alloc: Global, input: &[u8], lines: &mut O) -> bool {
     let (mut again, mut none) = (Input::new(input), Output::new(io::sink()));
     let mut notes = Output::new(FirstLines::new(lines));
-    let _ = check_noting(alloc, &mut again, &mut none, &mut notes);
+    let _ = check(alloc, &mut again, &mut none, &mut notes);
     let _ = notes.flush();
     matches!(notes.cause(), None | Some(ErrorKind::QuotaExceeded))
 }

@@ -5,15 +5,14 @@ ghost use Rattle.dali_notes.specs.Notes.{Tells};
 ghost use Rattle.dali_commands.specs.FileCommands.{IsCarriedOut, limit_of};
 ghost use Rattle.dali_commands.specs.Notes.{IsNoted};
 
-use crate::check::check_noting;
+use crate::check::check;
 use crate::fault::Status;
 use crate::journal::journal;
-use crate::run_scenario::run_scenario_noting;
+use crate::run_scenario::run_scenario;
 use crate::show::show;
 use dali_input::Input;
 use dali_text::Output;
 use std::alloc::Global;
-use std::io;
 use std::io::{Read, Write};
 
 /// A command over what one file has (profile).
@@ -32,26 +31,10 @@ pub enum FileCommand {
 impl FileCommand {
     /// Carries the command out over what the reader has, and writes its text. It ends as `Unwritten` where the text
     /// can't be written.
-    pub fn carry_out<R: Read, W: Write>(
-        &self,
-        alloc: Global,
-        input: &mut Input<R>,
-        output: &mut Output<W>,
-    ) -> Status
-        ensures carried_out { result ≢ Status.Unwritten → (text : List ℕ)
-            × IsCarriedOut self.now (state_of R.remaining input.old) (state_of R.remaining input.new) result text
-            × Takes W.contents output.old output.new text }
-        ensures read { ReadsAtMost (limit_of self.now) (state_of R.remaining input.old)
-            (state_of R.remaining input.new) }
-        ensures unwritten { result ≡ Status.Unwritten ↔ has_failed output.new ≡ true }
-        ensures flushed { result ≢ Status.Unwritten → is_flushed output.new ≡ true }
-    {
-        self.carry_out_noting(alloc, input, output, &mut Output::new(io::sink()))
-    }
-
-    /// The same, and tells a person in `notes` where the input is wrong and what its rule is. Whatever becomes of the
-    /// notes, the answer is the same.
-    pub fn carry_out_noting<R: Read, W: Write, N: Write>(
+    ///
+    /// A person is told in `notes` where the input is wrong and what its rule is. Whatever becomes of the notes, the
+    /// answer is the same.
+    pub fn carry_out<R: Read, W: Write, N: Write>(
         &self,
         alloc: Global,
         input: &mut Input<R>,
@@ -69,9 +52,9 @@ impl FileCommand {
             × Tells N.contents notes.old notes.new (IsNoted self.now result text) }
     {
         match *self {
-            FileCommand::Check => check_noting(alloc, input, output, notes),
+            FileCommand::Check => check(alloc, input, output, notes),
             FileCommand::Run { single_frames } => {
-                run_scenario_noting(alloc, input, output, single_frames, notes)
+                run_scenario(alloc, input, output, single_frames, notes)
             }
             FileCommand::Show => show(alloc, input, output),
             FileCommand::Journal => journal(alloc, input, output),

@@ -23,7 +23,6 @@ use dali_text::{Output, Unwritten, write_run};
 use dali_writer::{Outcome, RunFault, run_sim};
 use serde_json::Value;
 use std::alloc::Global;
-use std::io;
 use std::io::{Read, Write};
 
 /// The most bytes of a scenario.
@@ -46,31 +45,10 @@ struct Ran {
 /// File where the memory or the reader failed.
 ///
 /// Where a call of the output fails later ones write nothing more to it, and it ends as `Unwritten`.
-pub fn run_scenario<R: Read, W: Write>(
-    alloc: Global,
-    input: &mut Input<R>,
-    output: &mut Output<W>,
-    single_frames: bool,
-) -> Status
-    ensures ran { result ≢ Status.Unwritten → (text : List ℕ)
-        × IsRunAnswer single_frames (state_of R.remaining input.old) (state_of R.remaining input.new) result text
-        × Takes W.contents output.old output.new text }
-    ensures read { ReadsAtMost scenario_limit (state_of R.remaining input.old) (state_of R.remaining input.new) }
-    ensures unwritten { result ≡ Status.Unwritten ↔ has_failed output.new ≡ true }
-    ensures flushed { result ≢ Status.Unwritten → is_flushed output.new ≡ true }
-{
-    run_scenario_noting(
-        alloc,
-        input,
-        output,
-        single_frames,
-        &mut Output::new(io::sink()),
-    )
-}
-
-/// The same, and tells a person in `notes` where the scenario is wrong and what its rule is. Whatever becomes of the
-/// notes, the answer is the same.
-pub fn run_scenario_noting<R: Read, W: Write, N: Write>(
+///
+/// A person is told in `notes` where the scenario is wrong and what its rule is. Whatever becomes of the notes, the answer
+/// is the same.
+pub fn run_scenario<R: Read, W: Write, N: Write>(
     alloc: Global,
     input: &mut Input<R>,
     output: &mut Output<W>,

@@ -20,7 +20,7 @@ use Rattle.dali_trace.specs.Replies.{IsReply, reply_line}
 use Rattle.dali_trace.specs.Legal.{Legal, IsFinished}
 use Rattle.dali_trace.specs.ByPlan.{ByPlan}
 use Rattle.dali_trace.specs.Next.{IsNext}
-use Rattle.dali_writer.specs.Held.{Held}
+use Rattle.dali_writer.specs.WriterState.{WriterState}
 use Rattle.dali_writer.specs.Describes.{Describes}
 use Rattle.dali_writer.specs.Follows.{Follows}
 use Rattle.dali_drive.specs.WorkedOn.{IsDrivenAt}
@@ -46,7 +46,7 @@ driven_nothing start j l a o legal = record {
   };
 }
 
-pub begun_at : (start : Start) (writer : Held) (j l a o : Option (List ℕ)) → Describes start [] writer
+pub begun_at : (start : Start) (writer : WriterState) (j l a o : Option (List ℕ)) → Describes start [] writer
     → Follows start [] writer
     → IsDrivenAt start [] writer (shown j l a o) (shown j l a o)
 begun_at start writer j l a o described follows =
@@ -140,7 +140,7 @@ pub reply_next : (start : Start) (past : List Happening) (order : Contents) (mom
     → IsNext start (Asked order moment ∷ past) (Answered order.id reply)
 reply_next start past order moment reply legal planned = record { work = tt; may = legal.1; planned = planned.1 }
 
-pub replied_at : (start : Start) (past : List Happening) (old new : Held) (first : Streams)
+pub replied_at : (start : Start) (past : List Happening) (old new : WriterState) (first : Streams)
     (j l a o more : Option (List ℕ)) (order : Contents) (moment : ℕ) (reply : Reply)
     → IsDrivenAt start past old first (shown j l a o) → is_busy start past ≡ false
     → Describes start (Answered order.id reply ∷ Asked order moment ∷ past) new

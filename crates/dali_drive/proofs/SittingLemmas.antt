@@ -23,7 +23,7 @@ use Rattle.dali_trace.specs.Trace.{Start, records_of}
 use Rattle.dali_trace.specs.Legal.{Legal, IsFinished}
 use Rattle.dali_trace.specs.ByPlan.{ByPlan}
 use Rattle.dali_trace.specs.Next.{IsNext}
-use Rattle.dali_writer.specs.Held.{Held}
+use Rattle.dali_writer.specs.WriterState.{WriterState}
 use Rattle.dali_drive.specs.Transcript.{Streams, recorded}
 use Rattle.dali_drive.specs.Driven.{KeepsRecords, IsDriven, IsDrive, IsBrokenDrive, BrokenOff, AppendsPart, CutFrame}
 use Rattle.dali_drive.specs.Driven.{Unanswered}
@@ -46,25 +46,17 @@ happened start trace past legal planned (inr (next, is, same)) = rw same ((legal
 journal_recorded : (start : Start) (past : List Happening)
     → journal_spelling Two (records_of start past) ≡ journal_spelling Two start.records ++ recorded past
 journal_recorded start [] = sym (append-nil (journal_spelling Two start.records))
-journal_recorded start (Asked order moment ∷ past) = journal_recorded start past
-journal_recorded start (Answered id reply ∷ past) = journal_recorded start past
-journal_recorded start (Sent frame answer ∷ past) = journal_recorded start past
-journal_recorded start (Stopped ∷ past) = journal_recorded start past
-journal_recorded start (Powered address ∷ past) = journal_recorded start past
 journal_recorded start (Kept entry ∷ past) =
     ap (λ (b : List ℕ). b ++ spelling Two entry) (journal_recorded start past)
     ∙ append_assoc (journal_spelling Two start.records) (recorded past) (spelling Two entry)
+journal_recorded start (_ ∷ past) = journal_recorded start past
 
 -- the records of a driven trace are kept ones
 in_range : (start : Start) (past : List Happening) → AllByRecursion (IsRecord Two) start.records → KeepsRecords past
     → AllByRecursion (IsRecord Two) (records_of start past)
 in_range start [] all keeps = all
-in_range start (Asked order moment ∷ past) all keeps = in_range start past all keeps
-in_range start (Answered id reply ∷ past) all keeps = in_range start past all keeps
-in_range start (Sent frame answer ∷ past) all keeps = in_range start past all keeps
-in_range start (Stopped ∷ past) all keeps = in_range start past all keeps
-in_range start (Powered address ∷ past) all keeps = in_range start past all keeps
 in_range start (Kept entry ∷ past) all keeps = (keeps.0, in_range start past all keeps.1)
+in_range start (_ ∷ past) all keeps = in_range start past all keeps
 
 kept_so : (start : Start) (past : List Happening) → AreKept Two start.limit start.records → Legal start past
     → KeepsRecords past → AreKept Two start.limit (records_of start past)
@@ -178,27 +170,17 @@ left_record start trace old new entry kept legal keeps finished is next range pa
 -- where a frame or a record is next, no reply is due
 frame_finished : (start : Start) (past : List Happening) (frame : Frame) (answer : Option ℕ)
     → IsNext start past (Sent frame answer) → IsFinished past
-frame_finished start [] frame answer next = tt
 frame_finished start (Asked order moment ∷ past) frame answer next = absurd next.may
-frame_finished start (Answered id reply ∷ past) frame answer next = tt
-frame_finished start (Sent last heard ∷ past) frame answer next = tt
-frame_finished start (Kept entry ∷ past) frame answer next = tt
-frame_finished start (Stopped ∷ past) frame answer next = tt
-frame_finished start (Powered address ∷ past) frame answer next = tt
+frame_finished start _ frame answer next = tt
 
 record_finished : (start : Start) (past : List Happening) (entry : Record) → IsNext start past (Kept entry)
     → IsFinished past
-record_finished start [] entry next = tt
 record_finished start (Asked order moment ∷ past) entry next = absurd next.may
-record_finished start (Answered id reply ∷ past) entry next = tt
-record_finished start (Sent last heard ∷ past) entry next = tt
-record_finished start (Kept last ∷ past) entry next = tt
-record_finished start (Stopped ∷ past) entry next = tt
-record_finished start (Powered address ∷ past) entry next = tt
+record_finished start _ entry next = tt
 
 -- the file that a drive leaves
 
-pub drive_leaves : (start : Start) (orders : List Contents) (moment : ℕ) (writer : Held) (first last : Streams)
+pub drive_leaves : (start : Start) (orders : List Contents) (moment : ℕ) (writer : WriterState) (first last : Streams)
     (d : IsDrive start orders moment first writer last)
     → AreKept Two start.limit start.records
     → first.journal ≡ Some (journal_spelling Two start.records) → LeavesFile start d.past last
@@ -274,12 +256,8 @@ joined_after : (start : Start) (newest : Sitting) (older : List Sitting)
 joined_after start newest [] same = by newest.past where
   by : (past : List Happening) → records_of start past ≡ records_of newest.start past
   by [] = sym same
-  by (Asked order moment ∷ past) = by past
-  by (Answered id reply ∷ past) = by past
-  by (Sent frame answer ∷ past) = by past
   by (Kept entry ∷ past) = ap (λ (records : List Record). entry ∷ records) (by past)
-  by (Stopped ∷ past) = by past
-  by (Powered address ∷ past) = by past
+  by (_ ∷ past) = by past
 joined_after start newest (last ∷ older) same =
     joined_records start newest.start (joined (last ∷ older)) newest.past same
 

@@ -13,12 +13,14 @@ use Rattle.dali_trace.specs.declared.happening.Happening.{Happening}
 use Rattle.dali_trace.specs.declared.happening.Happening.TheVariants.{Asked, Answered, Sent, Kept, Stopped, Powered}
 use Rattle.dali_drive.specs.declared.fault.DriveFault.{DriveFault}
 use Rattle.dali_drive.specs.declared.fault.DriveFault.TheVariants.{Journal, Link, NoMemory, Out}
+use Rattle.std.specs.List.{AllByRecursion}
+use Rattle.dali_trace.specs.Cut.{kept_in}
 use Rattle.dali_trace.specs.Trace.{Start, is_busy}
 use Rattle.dali_trace.specs.Replies.{IsReply, reply_line}
 use Rattle.dali_trace.specs.Legal.{Legal, IsFinished}
 use Rattle.dali_trace.specs.ByPlan.{ByPlan}
 use Rattle.dali_trace.specs.Next.{IsNext}
-use Rattle.dali_writer.specs.Held.{Held}
+use Rattle.dali_writer.specs.WriterState.{WriterState}
 use Rattle.dali_writer.specs.Describes.{Describes}
 use Rattle.dali_writer.specs.Follows.{Follows}
 use Rattle.dali_drive.specs.Lines.{link_line, TakesLine}
@@ -45,9 +47,7 @@ IsInTurn start (other ∷ past) = IsInTurn start past
 
 -- the numbers of each record that was kept are in their ranges
 abbrev pub KeepsRecords : List Happening → Type 0
-KeepsRecords [] = Unit {0}
-KeepsRecords (Kept entry ∷ past) = IsRecord Two entry × KeepsRecords past
-KeepsRecords (other ∷ past) = KeepsRecords past
+KeepsRecords past = AllByRecursion (IsRecord Two) (kept_in past)
 
 -- this trace was driven: each happening was one that might follow those before it and that the plan asked for, and
 -- the trace's text was written and read
@@ -123,7 +123,7 @@ BrokenOff start past rest fault old new =
 
 -- from this start all these orders were asked in their order, each at this moment, and nothing more is to be done,
 -- and the trace describes the writer
-pub record IsDrive (start : Start) (orders : List Contents) (moment : ℕ) (first : Streams) (writer : Held)
+pub record IsDrive (start : Start) (orders : List Contents) (moment : ℕ) (first : Streams) (writer : WriterState)
     (last : Streams) : Type 0 where
   pub past : List Happening
   pub driven : IsDriven start past first last

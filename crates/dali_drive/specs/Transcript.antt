@@ -2,17 +2,16 @@
 use Rattle.std.specs.Prelude.{◌≡◌, ℕ, List, [], ◌∷◌, ◌++◌, Option}
 use Rattle.std.specs.Io.KnownBytes.{Appends, Consumes}
 use Rattle.dali_journal.specs.declared.version.Version.TheVariants.{Two}
-use Rattle.dali_journal.specs.Spelling.{spelling}
+use Rattle.dali_journal.specs.Spelling.{records_spelling}
 use Rattle.dali_trace.specs.declared.happening.Happening.{Happening}
-use Rattle.dali_trace.specs.declared.happening.Happening.TheVariants.{Answered, Sent, Kept}
+use Rattle.dali_trace.specs.declared.happening.Happening.TheVariants.{Answered, Sent}
+use Rattle.dali_trace.specs.Cut.{kept_in}
 use Rattle.dali_drive.specs.Lines.{link_line, IsAnswerLine}
 use Rattle.dali_trace.specs.Replies.{reply_line}
 
 -- the bytes of the records that were kept
 abbrev pub recorded : List Happening → List ℕ
-recorded [] = []
-recorded (Kept entry ∷ past) = recorded past ++ spelling Two entry
-recorded (other ∷ past) = recorded past
+recorded past = records_spelling Two (kept_in past)
 
 -- the lines of the frames that were sent
 abbrev pub sent_lines : List Happening → List ℕ

@@ -4,21 +4,23 @@ use Rattle.dali_bank.specs.Order.{Contents}
 use Rattle.dali_trace.specs.declared.happening.Happening.{Happening}
 use Rattle.dali_drive.specs.declared.fault.DriveFault.{DriveFault}
 use Rattle.dali_trace.specs.Trace.{Start}
-use Rattle.dali_writer.specs.Held.{Held}
+use Rattle.dali_writer.specs.WriterState.{WriterState}
 use Rattle.dali_writer.specs.Describes.{Describes}
 use Rattle.dali_writer.specs.Follows.{Follows}
 use Rattle.dali_drive.specs.Transcript.{Streams}
 use Rattle.dali_drive.specs.Driven.{IsDriven, BrokenOff, orders_asked}
 
 -- this trace was driven, and describes the writer
-pub record IsDrivenAt (start : Start) (past : List Happening) (writer : Held) (first last : Streams) : Type 0 where
+pub record IsDrivenAt (start : Start) (past : List Happening) (writer : WriterState) (first last : Streams)
+    : Type 0 where
   pub driven : IsDriven start past first last
   pub described : Describes start past writer
   pub follows : Follows start past writer
 
 -- after work in which no order was asked, so that just these were: a trace that was driven, or a step that was broken
 -- off
-abbrev pub WorkedOn : {A : Type 0} → Start → List (Contents × ℕ) → Streams → Result A DriveFault → Held → Streams → Type 0
+abbrev pub WorkedOn : {A : Type 0} → Start → List (Contents × ℕ) → Streams → Result A DriveFault → WriterState
+    → Streams → Type 0
 WorkedOn start asked first (Ok done) writer last =
     (past : List Happening) × IsDrivenAt start past writer first last × (orders_asked past ≡ asked)
 WorkedOn start asked first (Err fault) writer last =

@@ -8,8 +8,8 @@ ghost use Rattle.dali_journal.specs.declared.version.Version.TheVariants.{Two};
 ghost use Rattle.dali_journal.specs.Spelling.{journal_spelling};
 ghost use Rattle.dali_journal.specs.JournalState.{AreKept};
 ghost use Rattle.dali_trace.specs.Trace.{Start};
-ghost use Rattle.dali_writer.specs.Held.{Held};
 ghost use Rattle.dali_trace.specs.Moments.{Along};
+ghost use Rattle.dali_writer.specs.WriterState.{WriterState};
 ghost use Rattle.dali_trace.specs.declared.happening.Happening.{Happening};
 ghost use Rattle.dali_laws.specs.Powered.{unpowered, IsPowerApart};
 ghost use Rattle.dali_laws.specs.Joined.{Sitting, joined, FollowOn};
@@ -22,7 +22,7 @@ ghost use Rattle.dali_drive.specs.Sittings.{IsFileOf, AreSittings, LeavesFile, A
 /// them at most a cut one: those of its trace, or of that and one step more which was next there. Where it came to its
 /// end none is.
 pub fn drives_leave_their_journal()
-    ensures driven { (start : Start) (orders : List Contents) (moment : ℕ) (writer : Held)
+    ensures driven { (start : Start) (orders : List Contents) (moment : ℕ) (writer : WriterState)
         (first last : Streams) (d : IsDrive start orders moment first writer last)
         → AreKept Two start.limit start.records → first.journal ≡ Some (journal_spelling Two start.records)
         → LeavesFile start d.past last }

@@ -16,7 +16,8 @@ use Rattle.dali_gear.specs.UnitState.{carries_out, stores, selected_byte, after_
 use Rattle.dali_gear.specs.UnitState.{powered_up, locked_bank}
 use Rattle.dali_bus.specs.Power.{relocked, PowersUp}
 use Rattle.dali_bus.specs.World.{Gear, stored}
-use Rattle.dali_bus.specs.Hears.{Hears, MayEnd, Obeys, Ignores, Tells, PassesBy, Stores, ReadsByte, ReadsNothing}
+use Rattle.dali_bus.specs.Hears.{Hears, MayEnd, Obeys, Ignores, AnswersRegister, PassesBy, Stores, ReadsByte}
+use Rattle.dali_bus.specs.Hears.{ReadsNothing}
 use Rattle.dali_bus.specs.Hears.{selected, up}
 
 -- a byte after a write
@@ -35,7 +36,7 @@ is_some-within xs i within = rw (slice_get-get_or xs i 0 within) refl
 -- a question is answered by the unit that it is put to
 asked : (to at register : ℕ) (old : Gear) (b : Bool) → (to == at) ≡ b
     → let answer = if b then Some register else None in
-    ((to ≡ at) × Tells register old answer old) ⊎ ((to ≢ at) × Ignores old answer old)
+    ((to ≡ at) × AnswersRegister register old answer old) ⊎ ((to ≢ at) × Ignores old answer old)
 asked to at register old true e = inl (eqb-true to at e, (refl, refl))
 asked to at register old false e = inr (eqb-false to at e, (refl, refl))
 

@@ -29,10 +29,6 @@ above_63 unit far = grind arith
 
 -- ---- the fields of a draft
 
-is_not_none : {X : Type 0} (found : Option X) → found ≡ None → IsSome found → ⊥
-is_not_none None none some = cc
-is_not_none (Some x) none some = cc
-
 -- each field stands at the place of its rank, from this rank on
 RanksFrom : ℕ → List Field → Type 0
 RanksFrom rank [] = ⊤
@@ -136,18 +132,6 @@ all_set source count before now full so_far = record {
       all_of (λ field. IsFoundIn source field (found_of field now)) fields
       (λ field. let within = rank_within field in so_far.done field (omega (arith, within, full)));
 }
-
--- a field that isn't set is refused for its value alone
-pub value_fault : (field : Field) (value : Plain) (draft : Drafted) (fault : BankFault) → found_of field draft ≡ None
-    → IsSetFault field value draft fault → IsValueFault field value fault
-value_fault field value draft bank.Twice none refused = absurd (is_not_none (found_of field draft) none refused.1)
-value_fault field value draft bank.Unit none refused = refused
-value_fault field value draft bank.Kind none refused = refused
-value_fault field value draft bank.Range none refused = refused
-value_fault field value draft bank.Gtin none refused = refused
-value_fault field value draft bank.Text none refused = refused
-value_fault field value draft bank.Voltage none refused = refused
-value_fault field value draft bank.Empty none refused = refused
 
 found_acceptable : (source : Data) (field : Field) (found : Option (List ℕ)) → IsFoundIn source field found
     → IsAcceptable source field

@@ -30,9 +30,6 @@ pub record SoFar (items : List Value) (orders : List Contents) (refused : List (
   pub refused_are : refused ≡ refused_from 1 outcomes
   pub orders_are : refused ≡ [] → outcomes ≡ map Ok orders
 
-pub nothing_yet : SoFar [] [] [] 0
-nothing_yet = record { outcomes = []; judged = tt; many = refl; refused_are = refl; orders_are = λ none. refl }
-
 pub judges_one_more : (ds : List Data) (xs : List Outcome) (d : Data) (x : Outcome) → JudgesEach (items_of ds) xs
     → Judges d x → JudgesEach (items_of (ds ++ d ∷ [])) (xs ++ x ∷ [])
 judges_one_more [] [] d x js j = (j, tt)

@@ -194,30 +194,6 @@ first_order_fault plans i number plan all source moment fault within is counted 
 
 -- ---- why nothing is set up
 
-pub units_refused : (planned : Planned) (fault : SetupFault) → IsSmall planned → IsUnitRefusal planned.units fault
-    → IsSetupRefused planned fault
-units_refused planned (faults.Input Json) small refused = absurd refused
-units_refused planned (faults.Input Document) small refused = absurd refused
-units_refused planned (faults.Input TooBig) small refused = absurd refused
-units_refused planned (faults.Input Hex) small refused = absurd refused
-units_refused planned (faults.Input Memory) small refused = tt
-units_refused planned (faults.Input File) small refused = absurd refused
-units_refused planned (faults.Unit number fault) small refused = (small, refused)
-units_refused planned faults.SameAddress small refused = (small, refused)
-units_refused planned (faults.Order number fault) small refused = absurd refused
-
-pub orders_refused : (planned : Planned) (fault : SetupFault) → HasBus planned → IsOrderRefusal planned.events fault
-    → IsSetupRefused planned fault
-orders_refused planned (faults.Input Json) bus refused = absurd refused
-orders_refused planned (faults.Input Document) bus refused = absurd refused
-orders_refused planned (faults.Input TooBig) bus refused = absurd refused
-orders_refused planned (faults.Input Hex) bus refused = absurd refused
-orders_refused planned (faults.Input Memory) bus refused = tt
-orders_refused planned (faults.Input File) bus refused = absurd refused
-orders_refused planned (faults.Unit number fault) bus refused = absurd refused
-orders_refused planned faults.SameAddress bus refused = absurd refused
-orders_refused planned (faults.Order number fault) bus refused = (bus, refused)
-
 -- ---- units at first
 
 none_at : (unit : PlannedUnit) (here : Bool) (rest : Option Gear) → is_open rest ≡ false

@@ -89,9 +89,6 @@ pub record KnownSoFar (is_known : List ℕ → Bool) (all left : List Entry) : T
   pub whole : all ≡ done ++ left
   pub known : list_all is_known (keys_of (members_view done)) ≡ true
 
-pub known_at_first : (is_known : List ℕ → Bool) (all : List Entry) → KnownSoFar is_known all all
-known_at_first is_known all = record { done = []; whole = refl; known = refl }
-
 pub one_more_known : (is_known : List ℕ → Bool) (all left : List Entry) (e : Entry) → KnownSoFar is_known all (e ∷ left)
     → is_known (string_bytes e.0) ≡ true → KnownSoFar is_known all left
 one_more_known is_known all left e so_far known = record {
@@ -99,11 +96,6 @@ one_more_known is_known all left e so_far known = record {
   whole = so_far.whole ∙ sym (append_assoc so_far.done (e ∷ []) left);
   known = known_more is_known so_far.done e ∙ rw (so_far.known, known) refl;
 }
-
-pub all_known : (is_known : List ℕ → Bool) (all : List Entry) → KnownSoFar is_known all []
-    → list_all is_known (keys_of (members_view all)) ≡ true
-all_known is_known all so_far =
-    ap (λ es. list_all is_known (keys_of (members_view es))) (so_far.whole ∙ append-nil so_far.done) ∙ so_far.known
 
 one_unknown : (is_known : List ℕ → Bool) (done left : List Entry) (e : Entry) → is_known (string_bytes e.0) ≡ false
     → list_all is_known (keys_of (members_view (done ++ e ∷ left))) ≡ false
@@ -121,13 +113,6 @@ pub not_all_known : (is_known : List ℕ → Bool) (all left : List Entry) (e : 
 not_all_known is_known all left e so_far unknown =
     ap (λ es. list_all is_known (keys_of (members_view es))) so_far.whole
     ∙ one_unknown is_known so_far.done left e unknown
-
--- the keys of an object are known, each of them
-pub only_known : (keys : List (List ℕ)) (json : Data) (all : List Entry) → as_object json ≡ Some (members_view all)
-    → KnownSoFar (λ key. list_any (bytes_eq key) keys) all [] → has_only_keys keys json ≡ true
-only_known keys json all is so_far =
-    ap (λ o. option_map_or (λ members. list_all (λ key. list_any (bytes_eq key) keys) (keys_of members)) o false) is
-    ∙ all_known (λ key. list_any (bytes_eq key) keys) all so_far
 
 -- or one of them isn't
 pub not_only_known : (keys : List (List ℕ)) (json : Data) (all left : List Entry) (e : Entry)
@@ -155,14 +140,6 @@ pub same_length_of : {X : Type 0} (Says : Data → X → Type 0) (json : Data) (
 same_length_of Says json xs ys one other =
     same_length Says one.items xs ys one.each (subst (λ items. AreEach Says items ys)
     (some_items (as_array json) other.items one.items other.array one.array) other.each)
-
-pub three : (bytes : List ℕ) (d : ℕ) → length bytes ≡ 3
-    → bytes ≡ get_or bytes 0 d ∷ get_or bytes 1 d ∷ get_or bytes 2 d ∷ []
-three [] d is = absurd (omega (arith, is))
-three (a ∷ []) d is = absurd (omega (arith, is))
-three (a ∷ b ∷ []) d is = absurd (omega (arith, is))
-three (a ∷ b ∷ c ∷ []) d is = refl
-three (a ∷ b ∷ c ∷ e ∷ more) d is = absurd (omega (arith, is))
 
 -- ---- sets of short addresses
 

@@ -12,11 +12,8 @@ pub record InputState : Type 0 where
   pub left : Option (List ℕ)
   pub failed : Bool
 
-abbrev pub reader_of : {R : Type 0} → Input R → R
-reader_of input = input.reader
-
 abbrev pub state_of : {R : Type 0} → (R → Option (List ℕ)) → Input R → InputState
-state_of remaining input = record { left = remaining (reader_of input); failed = is_some input.cause }
+state_of remaining input = record { left = remaining input.reader; failed = is_some input.cause }
 
 -- at most one byte past the limit is read
 pub record ReadsAtMost (limit : ℕ) (before after : InputState) : Type 0 where

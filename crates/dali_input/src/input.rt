@@ -21,7 +21,7 @@ pub struct Input<R> {
 
 impl<R: Read> Input<R> {
     ghost use Rattle.std.specs.Prelude.{is_some};
-    ghost use Rattle.dali_input.specs.Input.{IsReadFailure, reader_of, state_of};
+    ghost use Rattle.dali_input.specs.Input.{IsReadFailure, state_of};
 
     /// An input from the reader, which hasn't failed.
     pub fn new(reader: R) -> Input<R>
@@ -39,13 +39,6 @@ impl<R: Read> Input<R> {
         ensures { is_some result ≡ (state_of R.remaining self.now).failed }
     {
         self.cause
-    }
-
-    /// The reader, with what it has left.
-    pub fn into_reader(self) -> R
-        ensures { result ≡ reader_of self }
-    {
-        self.reader
     }
 
     // Reads once, over the chunk. A read that a signal interrupts is made again, so often that no program lives to

@@ -7,8 +7,8 @@ use Rattle.dali_journal.specs.declared.kept.Progress.{Progress}
 use Rattle.dali_journal.specs.declared.kept.Progress.TheVariants as reached
 use Rattle.dali_journal.specs.declared.kept.Kept.{Kept}
 use Rattle.dali_journal.specs.declared.kept.Kept.TheVariants as kepts
-use Rattle.dali_journal.specs.declared.index.Place.{Place}
-use Rattle.dali_journal.specs.declared.index.Place.TheVariants as places
+use Rattle.dali_journal.specs.declared.index.IndexEntry.{IndexEntry}
+use Rattle.dali_journal.specs.declared.index.IndexEntry.TheVariants as index_entries
 use Rattle.dali_journal.specs.Sentence.{is_begun}
 use Rattle.dali_journal.specs.Orders.{come_to, orders_of, kept_at, kept_among, kept_of, moment_of}
 use Rattle.dali_journal.specs.Index.{is_begun_at, Agrees}
@@ -51,14 +51,14 @@ among_kept id (newest ∷ older) = by (newest.0.id == id) (among_kept id older)
 pub kept_where_begun : (id : ℕ) (records : List Record) → is_begun id records ≡ is_kept (kept_of id records)
 kept_where_begun id records = begun_among id records ∙ among_kept id (orders_of records)
 
-agrees_begun : (bytes : List ℕ) (place : Place) (kept : Kept) (since : Option ℕ) → Agrees bytes place kept since
-    → is_begun_at place ≡ is_kept kept
-agrees_begun bytes places.NotBegun kept since a = sym (ap is_kept a.0)
-agrees_begun bytes (places.Begun at) kept since a = sym (ap is_kept a.2)
-agrees_begun bytes (places.Ended at code) kept since a = sym (ap is_kept a.2)
+agrees_begun : (bytes : List ℕ) (known : IndexEntry) (kept : Kept) (since : Option ℕ) → Agrees bytes known kept since
+    → is_begun_at known ≡ is_kept kept
+agrees_begun bytes index_entries.NotBegun kept since a = sym (ap is_kept a.0)
+agrees_begun bytes (index_entries.Begun at) kept since a = sym (ap is_kept a.2)
+agrees_begun bytes (index_entries.Ended at code) kept since a = sym (ap is_kept a.2)
 
-pub begun_told : (id : ℕ) (bytes : List ℕ) (place : Place) (records : List Record)
-    → Agrees bytes place (kept_of id records) (moment_of id records)
-    → is_begun_at place ≡ is_begun id records
-begun_told id bytes place records a =
-    agrees_begun bytes place (kept_of id records) (moment_of id records) a ∙ sym (kept_where_begun id records)
+pub begun_told : (id : ℕ) (bytes : List ℕ) (known : IndexEntry) (records : List Record)
+    → Agrees bytes known (kept_of id records) (moment_of id records)
+    → is_begun_at known ≡ is_begun id records
+begun_told id bytes known records a =
+    agrees_begun bytes known (kept_of id records) (moment_of id records) a ∙ sym (kept_where_begun id records)

@@ -15,8 +15,8 @@ use Rattle.dali_journal.specs.declared.standing.Standing.TheVariants as standing
 use Rattle.dali_journal.specs.declared.kept.Progress.TheVariants as reached
 use Rattle.dali_journal.specs.declared.kept.Kept.{Kept}
 use Rattle.dali_journal.specs.declared.kept.Kept.TheVariants as kepts
-use Rattle.dali_journal.specs.declared.index.Place.{Place}
-use Rattle.dali_journal.specs.declared.index.Place.TheVariants as places
+use Rattle.dali_journal.specs.declared.index.IndexEntry.{IndexEntry}
+use Rattle.dali_journal.specs.declared.index.IndexEntry.TheVariants as index_entries
 use Rattle.dali_journal.specs.declared.fault.JournalFault.TheVariants as faults
 use Rattle.dali_journal.specs.declared.version.Version.TheVariants.{Two}
 use Rattle.dali_journal.specs.Sentence.{Allows, next_standing, standing_of, is_begun, IsSentence}
@@ -25,7 +25,7 @@ use Rattle.dali_journal.specs.Spelling.{spelling, records_spelling, header, IsRe
 use Rattle.dali_journal.specs.Decoding.{records_in}
 use Rattle.dali_journal.specs.JournalState.{bytes_due, IsLimit}
 use Rattle.dali_journal.specs.Loading.{IsLoadFault}
-use Rattle.dali_journal.specs.Index.{place_of, is_begun_at, Agrees, IsSound}
+use Rattle.dali_journal.specs.Index.{index_entry, is_begun_at, Agrees, IsSound}
 use Rattle.dali_journal.specs.GroupAhead.{HasGroup, IsFront, end_records}
 use Rattle.dali_journal.proofs.DecodeLemmas.{AreRecords, spelling_read}
 use Rattle.dali_journal.proofs.IndexLemmas.{agrees_more}
@@ -37,7 +37,8 @@ abbrev pub group_of : Contents → ℕ → Code → List Record
 group_of order moment code = end_records order.unit code ++ Began order moment ∷ []
 
 -- behind a group nothing is left to be done
-group_idle : (order : Contents) (moment : ℕ) (code : Code) (records : List Record) → standing_of records ≡ standings.Idle
+group_idle : (order : Contents) (moment : ℕ) (code : Code) (records : List Record)
+    → standing_of records ≡ standings.Idle
     → standing_of (group_of order moment code ++ records) ≡ standings.Idle
 group_idle order moment Short records idle =
     ap (λ (st : Standing). next_standing (next_standing st (Began order moment)) (Ended Short)) idle
@@ -53,7 +54,8 @@ group_idle order moment Doubt records idle =
     next_standing (next_standing (next_standing st (Began order moment)) (Opened order.unit)) (Ended Doubt)) idle
 group_idle order moment DoubtOpen records idle =
     ap (λ (st : Standing).
-    next_standing (next_standing (next_standing (next_standing st (Began order moment)) (Opened order.unit)) (Ended DoubtOpen))
+    next_standing (next_standing (next_standing (next_standing st (Began order moment)) (Opened order.unit))
+    (Ended DoubtOpen))
     (Closed order.unit)) idle
 
 -- each record of a group may come
@@ -100,7 +102,8 @@ group_sentence order moment code records s idle fresh = by code
     by DoubtOpen = (
       done DoubtOpen tt,
       subst (λ (st : Standing).
-          Allows (next_standing (next_standing (next_standing st (Began order moment)) (Opened order.unit)) (Ended DoubtOpen))
+          Allows (next_standing (next_standing (next_standing st (Began order moment)) (Opened order.unit))
+          (Ended DoubtOpen))
           (Closed order.unit)) (sym idle) refl,
       tt,
     )
@@ -123,7 +126,8 @@ group_moment order moment Done records id = refl
 group_moment order moment Doubt records id = refl
 group_moment order moment DoubtOpen records id = refl
 
-group_records : (order : Contents) (moment : ℕ) (code : Code) (records : List Record) → IsRecord Two (Began order moment) → AreRecords Two records
+group_records : (order : Contents) (moment : ℕ) (code : Code) (records : List Record)
+    → IsRecord Two (Began order moment) → AreRecords Two records
     → AreRecords Two (group_of order moment code ++ records)
 group_records order moment Short records is are = (tt, (is, are))
 group_records order moment Format records is are = (tt, (is, are))
@@ -134,11 +138,11 @@ group_records order moment DoubtOpen records is are = (is.1, (tt, (is.1, (is, ar
 
 -- what the index tells of the order of a group, and of others
 group_known : (bytes : List ℕ) (order : Contents) (moment : ℕ) (code : Code) (records : List Record) (id at : ℕ)
-    (found new_found : Option Place) (test : Bool)
+    (found new_found : Option IndexEntry) (test : Bool)
     → IsRecord Two (Began order moment) → at ≡ length bytes → (order.id == id) ≡ test
-    → new_found ≡ cond test (Some (places.Ended at code)) found
-    → Agrees bytes (place_of found) (kept_of id records) (moment_of id records)
-    → Agrees (bytes ++ records_spelling Two (group_of order moment code)) (place_of new_found)
+    → new_found ≡ cond test (Some (index_entries.Ended at code)) found
+    → Agrees bytes (index_entry found) (kept_of id records) (moment_of id records)
+    → Agrees (bytes ++ records_spelling Two (group_of order moment code)) (index_entry new_found)
     (kept_of id (group_of order moment code ++ records)) (moment_of id (group_of order moment code ++ records))
 group_known bytes order moment code records id at found new_found true is there t new a =
     let ends : List ℕ = records_spelling Two (end_records order.unit code) in
@@ -149,30 +153,32 @@ group_known bytes order moment code records id at found new_found true is there 
     let behind : drop at (bytes ++ whole) ≡ spelling Two (Began order moment) ++ ends =
     ap (λ n. drop n (bytes ++ whole)) there ∙ drop-append_seam bytes whole
     ∙ spelling_append (end_records order.unit code) (Began order moment ∷ []) in
-    subst (λ (p : Place). Agrees (bytes ++ whole) p (kept_of id (group_of order moment code ++ records))
+    subst (λ (p : IndexEntry). Agrees (bytes ++ whole) p (kept_of id (group_of order moment code ++ records))
     (moment_of id (group_of order moment code ++ records)))
-    (sym (ap place_of new))
+    (sym (ap index_entry new))
     (order, moment, kept, since, (let n = length-append bytes whole in omega arith, (is, ends, behind)))
 group_known bytes order moment code records id at found new_found false is there t new a =
     let whole : List ℕ = records_spelling Two (group_of order moment code) in
     let kept = ap (kept_among id) (group_orders order moment code records)
     ∙ ap (λ b. cond b (kepts.Ended order code) (kept_of id records)) t in
     let since = group_moment order moment code records id ∙ ap (λ b. cond b (Some moment) (moment_of id records)) t in
-    subst (λ (p : Place). Agrees (bytes ++ whole) p (kept_of id (group_of order moment code ++ records))
+    subst (λ (p : IndexEntry). Agrees (bytes ++ whole) p (kept_of id (group_of order moment code ++ records))
     (moment_of id (group_of order moment code ++ records)))
-    (sym (ap place_of new))
-    (subst (λ (k : Kept). Agrees (bytes ++ whole) (place_of found) k
+    (sym (ap index_entry new))
+    (subst (λ (k : Kept). Agrees (bytes ++ whole) (index_entry found) k
     (moment_of id (group_of order moment code ++ records))) (sym kept)
-    (subst (λ (m : Option ℕ). Agrees (bytes ++ whole) (place_of found) (kept_of id records) m) (sym since)
-    (agrees_more bytes whole (place_of found) (kept_of id records) (moment_of id records) a)))
+    (subst (λ (m : Option ℕ). Agrees (bytes ++ whole) (index_entry found) (kept_of id records) m) (sym since)
+    (agrees_more bytes whole (index_entry found) (kept_of id records) (moment_of id records) a)))
 
-group_sound : (bytes : List ℕ) (records : List Record) (orders limit at : ℕ) (index new_index : List (ℕ × Place))
+group_sound : (bytes : List ℕ) (records : List Record) (orders limit at : ℕ) (index new_index : List (ℕ × IndexEntry))
     (order : Contents) (moment : ℕ) (code : Code)
     → IsSound bytes records standings.Idle orders limit 0 0 index → orders < limit → IsRecord Two (Began order moment)
     → at ≡ length bytes → is_begun order.id records ≡ false
     → ((id : ℕ)
-    → lookup (nat_eq id) new_index ≡ cond (order.id == id) (Some (places.Ended at code)) (lookup (nat_eq id) index))
-    → IsSound (bytes ++ records_spelling Two (group_of order moment code)) (group_of order moment code ++ records) standings.Idle
+    → lookup (nat_eq id) new_index ≡ cond (order.id == id) (Some (index_entries.Ended at code))
+    (lookup (nat_eq id) index))
+    → IsSound (bytes ++ records_spelling Two (group_of order moment code)) (group_of order moment code ++ records)
+    standings.Idle
     (orders + 1) limit 0 0 new_index
 group_sound bytes records orders limit at index new_index order moment code sound more is there fresh found =
     let kept = sound.journal.kept in
@@ -208,32 +214,36 @@ take_group bytes front group rest at len a n whole behind =
     ∙ ap (λ bs. front ++ bs) (take-append_seam group rest)
 
 -- whether an order was begun, by the index
-front_begun : (limit : ℕ) (bytes : List ℕ) (at orders id : ℕ) (index : List (ℕ × Place)) (found : Option Place)
+front_begun : (limit : ℕ) (bytes : List ℕ) (at orders id : ℕ) (index : List (ℕ × IndexEntry))
+    (found : Option IndexEntry)
     → IsFront limit bytes at orders index → lookup (nat_eq id) index ≡ found
-    → is_begun id (records_in Two (take at bytes)) ≡ is_begun_at (place_of found)
+    → is_begun id (records_in Two (take at bytes)) ≡ is_begun_at (index_entry found)
 front_begun limit bytes at orders id index found front same =
-    sym (begun_told id (take at bytes) (place_of (lookup (nat_eq id) index)) (records_in Two (take at bytes))
+    sym (begun_told id (take at bytes) (index_entry (lookup (nat_eq id) index)) (records_in Two (take at bytes))
     (front.sound.known id))
-    ∙ ap (λ f. is_begun_at (place_of f)) same
+    ∙ ap (λ f. is_begun_at (index_entry f)) same
 
-begun_more : (index new_index : List (ℕ × Place)) (at id : ℕ) (code : Code)
-    → ((other : ℕ) (place : Place) → lookup (nat_eq other) index ≡ Some place → is_begun_at place ≡ true)
+begun_more : (index new_index : List (ℕ × IndexEntry)) (at id : ℕ) (code : Code)
+    → ((other : ℕ) (known : IndexEntry) → lookup (nat_eq other) index ≡ Some known → is_begun_at known ≡ true)
     → ((other : ℕ)
-    → lookup (nat_eq other) new_index ≡ cond (id == other) (Some (places.Ended at code)) (lookup (nat_eq other) index))
-    → (other : ℕ) (place : Place) → lookup (nat_eq other) new_index ≡ Some place → is_begun_at place ≡ true
-begun_more index new_index at id code begun found other place e = by (id == other) (sym (found other) ∙ e)
+    → lookup (nat_eq other) new_index ≡ cond (id == other) (Some (index_entries.Ended at code))
+    (lookup (nat_eq other) index))
+    → (other : ℕ) (known : IndexEntry) → lookup (nat_eq other) new_index ≡ Some known → is_begun_at known ≡ true
+begun_more index new_index at id code begun found other known e = by (id == other) (sym (found other) ∙ e)
   where
-    by : (test : Bool) → cond test (Some (places.Ended at code)) (lookup (nat_eq other) index) ≡ Some place
-        → is_begun_at place ≡ true
-    by true same = let ended : places.Ended at code ≡ place = cc in ap is_begun_at (sym ended)
-    by false same = begun other place same
+    by : (test : Bool) → cond test (Some (index_entries.Ended at code)) (lookup (nat_eq other) index) ≡ Some known
+        → is_begun_at known ≡ true
+    by true same = let ended : index_entries.Ended at code ≡ known = cc in ap is_begun_at (sym ended)
+    by false same = begun other known same
 
 -- one group more
-pub front_more : (limit : ℕ) (bytes : List ℕ) (at len orders id : ℕ) (code : Code) (index new_index : List (ℕ × Place))
+pub front_more : (limit : ℕ) (bytes : List ℕ) (at len orders id : ℕ) (code : Code)
+    (index new_index : List (ℕ × IndexEntry))
     → IsFront limit bytes at orders index → orders < limit → HasGroup id code len (drop at bytes)
     → lookup (nat_eq id) index ≡ None
     → ((other : ℕ)
-    → lookup (nat_eq other) new_index ≡ cond (id == other) (Some (places.Ended at code)) (lookup (nat_eq other) index))
+    → lookup (nat_eq other) new_index ≡ cond (id == other) (Some (index_entries.Ended at code))
+    (lookup (nat_eq other) index))
     → IsFront limit bytes (at + len) (orders + 1) new_index
 front_more limit bytes at len orders id code index new_index front more has none found =
     let order = has.order in
@@ -246,11 +256,12 @@ front_more limit bytes at len orders id code index new_index front more has none
     let sound = group_sound (take at bytes) records orders limit at index new_index order moment code front.sound more
     has.begins.0 there fresh
     (λ other. found other
-    ∙ ap (λ n. cond (n == other) (Some (places.Ended at code)) (lookup (nat_eq other) index)) (sym has.named)) in
+    ∙ ap (λ n. cond (n == other) (Some (index_entries.Ended at code)) (lookup (nat_eq other) index)) (sym has.named)) in
     let taken : take (at + len) bytes ≡ take at bytes ++ group =
     take_group bytes (take at bytes) group has.rest at len there has.counted whole has.spelled in
     let read : records_in Two (take at bytes ++ group) ≡ group_of order moment code ++ records =
-    ap (records_in Two) sound.spelled ∙ spelling_read Two (group_of order moment code ++ records) sound.journal.kept.in_range in
+    ap (records_in Two) sound.spelled ∙ spelling_read Two (group_of order moment code ++ records)
+    sound.journal.kept.in_range in
     record {
       within =
           (let all = ap length (whole ∙ ap (λ bs. take at bytes ++ bs) has.spelled) in
@@ -258,18 +269,19 @@ front_more limit bytes at len orders id code index new_index front more has none
           let rest = length-append group has.rest in
           let n = has.counted in omega arith);
       sound =
-          subst (λ (bs : List ℕ). IsSound bs (records_in Two bs) standings.Idle (orders + 1) limit 0 0 new_index) (sym taken)
+          subst (λ (bs : List ℕ). IsSound bs (records_in Two bs) standings.Idle (orders + 1) limit 0 0 new_index)
+          (sym taken)
           (subst (λ (rs : List Record).
           IsSound (take at bytes ++ group) rs standings.Idle (orders + 1) limit 0 0 new_index) (sym read) sound);
       begun = begun_more index new_index at id code front.begun found;
     }
 
 -- a number that is in the index is repeated
-pub front_repeated : (limit : ℕ) (bytes : List ℕ) (at len orders id : ℕ) (code : Code) (index : List (ℕ × Place))
-    (place : Place)
+pub front_repeated : (limit : ℕ) (bytes : List ℕ) (at len orders id : ℕ) (code : Code) (index : List (ℕ × IndexEntry))
+    (known : IndexEntry)
     → IsLimit limit → IsFront limit bytes at orders index → HasGroup id code len (drop at bytes)
-    → lookup (nat_eq id) index ≡ Some place → IsLoadFault limit (header Two ++ bytes) (faults.Repeated (4 + at))
-front_repeated limit bytes at len orders id code index place is front has found =
+    → lookup (nat_eq id) index ≡ Some known → IsLoadFault limit (header Two ++ bytes) (faults.Repeated (4 + at))
+front_repeated limit bytes at len orders id code index known is front has found =
     let records : List Record = records_in Two (take at bytes) in
     let sound = front.sound in
     let there = sym (length-take-le at bytes front.within) ∙ ap length sound.spelled in (
@@ -289,8 +301,8 @@ front_repeated limit bytes at len orders id code index place is front has found 
           (
             (let e = there in let n = length-append (header Two) (records_spelling Two records) in omega arith),
             subst (λ (st : Standing). Allows st (Began has.order has.moment)) sound.standing_is tt,
-            ap (λ n. is_begun n records) has.named ∙ front_begun limit bytes at orders id index (Some place) front found
-                ∙ front.begun id place found,
+            ap (λ n. is_begun n records) has.named ∙ front_begun limit bytes at orders id index (Some known) front found
+                ∙ front.begun id known found,
           ),
         );
       },

@@ -16,8 +16,8 @@ use Rattle.dali_journal.specs.declared.kept.Progress.{Progress}
 use Rattle.dali_journal.specs.declared.kept.Progress.TheVariants as reached
 use Rattle.dali_journal.specs.declared.kept.Kept.{Kept}
 use Rattle.dali_journal.specs.declared.kept.Kept.TheVariants as kepts
-use Rattle.dali_journal.specs.declared.index.Place.{Place}
-use Rattle.dali_journal.specs.declared.index.Place.TheVariants as places
+use Rattle.dali_journal.specs.declared.index.IndexEntry.{IndexEntry}
+use Rattle.dali_journal.specs.declared.index.IndexEntry.TheVariants as index_entries
 use Rattle.dali_journal.specs.declared.read.Piece.{Piece}
 use Rattle.dali_journal.specs.declared.read.Piece.TheVariants.{Whole}
 use Rattle.dali_journal.specs.declared.version.Version.TheVariants.{Two}
@@ -25,7 +25,7 @@ use Rattle.dali_journal.specs.Sentence.{Allows, next_standing, standing_of, IsSe
 use Rattle.dali_journal.specs.Orders.{come_to, orders_of, kept_at, kept_among, kept_of, moment_of}
 use Rattle.dali_journal.specs.Spelling.{spelling, IsRecord}
 use Rattle.dali_journal.specs.Reading.{IsRead}
-use Rattle.dali_journal.specs.Index.{IsRecordAt, Agrees, ended_place, place_after}
+use Rattle.dali_journal.specs.Index.{IsRecordAt, Agrees, ended_index_entry, index_entry_after}
 use Rattle.dali_journal.proofs.DecodeLemmas.{read_is}
 
 -- the order that is at work is the newest, and hasn't ended
@@ -72,58 +72,60 @@ stands_more bytes more at entry stands = (
   ),
 )
 
-pub agrees_more : (bytes more : List ℕ) (place : Place) (kept : Kept) (since : Option ℕ) → Agrees bytes place kept since
-    → Agrees (bytes ++ more) place kept since
-agrees_more bytes more places.NotBegun kept since a = a
-agrees_more bytes more (places.Begun at) kept since a =
+pub agrees_more : (bytes more : List ℕ) (known : IndexEntry) (kept : Kept) (since : Option ℕ)
+    → Agrees bytes known kept since
+    → Agrees (bytes ++ more) known kept since
+agrees_more bytes more index_entries.NotBegun kept since a = a
+agrees_more bytes more (index_entries.Begun at) kept since a =
     (a.0, a.1, a.2, a.3, stands_more bytes more at (Began a.0 a.1) a.4)
-agrees_more bytes more (places.Ended at code) kept since a =
+agrees_more bytes more (index_entries.Ended at code) kept since a =
     (a.0, a.1, a.2, a.3, stands_more bytes more at (Began a.0 a.1) a.4)
 
 -- an end is noted where the order was begun
-ended_agrees : (bytes : List ℕ) (place : Place) (code : Code) (order : Contents) (since : Option ℕ)
-    → Agrees bytes place (kepts.Unfinished order) since
-    → Agrees bytes (ended_place code place) (kepts.Ended order code) since
-ended_agrees bytes places.NotBegun code order since a = let e = a.0 in cc
-ended_agrees bytes (places.Begun at) code order since a =
+ended_agrees : (bytes : List ℕ) (known : IndexEntry) (code : Code) (order : Contents) (since : Option ℕ)
+    → Agrees bytes known (kepts.Unfinished order) since
+    → Agrees bytes (ended_index_entry code known) (kepts.Ended order code) since
+ended_agrees bytes index_entries.NotBegun code order since a = let e = a.0 in cc
+ended_agrees bytes (index_entries.Begun at) code order since a =
     let same : order ≡ a.0 = let e = a.2 in cc in
     (a.0, a.1, ap (λ (o : Contents). kepts.Ended o code) same, a.3, a.4)
-ended_agrees bytes (places.Ended at other) code order since a = let e = a.2 in cc
+ended_agrees bytes (index_entries.Ended at other) code order since a = let e = a.2 in cc
 
 -- an end changes what is kept of the order at work, which is the newest, and of no other
-end_agrees : (bytes : List ℕ) (place : Place) (code : Code) (order : Contents) (progress : Progress)
+end_agrees : (bytes : List ℕ) (known : IndexEntry) (code : Code) (order : Contents) (progress : Progress)
     (orders older : List (Contents × Progress)) (id : ℕ) (since : Option ℕ) (test : Bool)
     → (order.id == id) ≡ test → kept_at order progress ≡ kepts.Unfinished order → orders ≡ (order, progress) ∷ older
-    → Agrees bytes place (kept_among id orders) since
-    → Agrees bytes (cond test (ended_place code place) place) (kept_among id (come_to (reached.Ended code) orders)) since
-end_agrees bytes place code order progress orders older id since true t begun is a =
+    → Agrees bytes known (kept_among id orders) since
+    → Agrees bytes (cond test (ended_index_entry code known) known)
+    (kept_among id (come_to (reached.Ended code) orders)) since
+end_agrees bytes known code order progress orders older id since true t begun is a =
     let before : kept_among id orders ≡ kepts.Unfinished order =
     ap (kept_among id) is ∙ ap (λ b. cond b (kept_at order progress) (kept_among id older)) t ∙ begun in
     let after : kept_among id (come_to (reached.Ended code) orders) ≡ kepts.Ended order code =
     ap (λ os. kept_among id (come_to (reached.Ended code) os)) is
     ∙ ap (λ b. cond b (kepts.Ended order code) (kept_among id older)) t in
-    subst (λ (k : Kept). Agrees bytes (ended_place code place) k since) (sym after)
-    (ended_agrees bytes place code order since (subst (λ (k : Kept). Agrees bytes place k since) before a))
-end_agrees bytes place code order progress orders older id since false t begun is a =
+    subst (λ (k : Kept). Agrees bytes (ended_index_entry code known) k since) (sym after)
+    (ended_agrees bytes known code order since (subst (λ (k : Kept). Agrees bytes known k since) before a))
+end_agrees bytes known code order progress orders older id since false t begun is a =
     let before : kept_among id orders ≡ kept_among id older =
     ap (kept_among id) is ∙ ap (λ b. cond b (kept_at order progress) (kept_among id older)) t in
     let after : kept_among id (come_to (reached.Ended code) orders) ≡ kept_among id older =
     ap (λ os. kept_among id (come_to (reached.Ended code) os)) is
     ∙ ap (λ b. cond b (kepts.Ended order code) (kept_among id older)) t in
-    subst (λ (k : Kept). Agrees bytes place k since) (before ∙ sym after) a
+    subst (λ (k : Kept). Agrees bytes known k since) (before ∙ sym after) a
 
-ended_by : (bytes : List ℕ) (standing : Standing) (code : Code) (older : List Record) (id : ℕ) (place : Place)
+ended_by : (bytes : List ℕ) (standing : Standing) (code : Code) (older : List Record) (id : ℕ) (known : IndexEntry)
     → Allows standing (Ended code) → IsNewest standing (orders_of older)
-    → Agrees bytes place (kept_of id older) (moment_of id older)
-    → Agrees bytes (place_after standing (Ended code) (length bytes) id place) (kept_of id (Ended code ∷ older))
+    → Agrees bytes known (kept_of id older) (moment_of id older)
+    → Agrees bytes (index_entry_after standing (Ended code) (length bytes) id known) (kept_of id (Ended code ∷ older))
     (moment_of id older)
-ended_by bytes (standings.Began order) code older id place a n k =
-    end_agrees bytes place code order reached.Begun (orders_of older) n.0 id (moment_of id older) (order.id == id) refl
+ended_by bytes (standings.Began order) code older id known a n k =
+    end_agrees bytes known code order reached.Begun (orders_of older) n.0 id (moment_of id older) (order.id == id) refl
     refl n.1 k
-ended_by bytes (standings.Opened order) code older id place a n k =
-    end_agrees bytes place code order reached.Open (orders_of older) n.0 id (moment_of id older) (order.id == id) refl
+ended_by bytes (standings.Opened order) code older id known a n k =
+    end_agrees bytes known code order reached.Open (orders_of older) n.0 id (moment_of id older) (order.id == id) refl
     refl n.1 k
-ended_by bytes _ code older id place a n k = absurd a
+ended_by bytes _ code older id known a n k = absurd a
 
 -- an order that is opened stays unfinished
 pub opened_same : (standing : Standing) (unit : ℕ) (older : List Record) (id : ℕ) → Allows standing (Opened unit)
@@ -141,41 +143,42 @@ stands_new bytes entry is = (
   (is, [], drop-append_seam bytes (spelling Two entry) ∙ sym (append-nil (spelling Two entry))),
 )
 
-began_agrees : (bytes : List ℕ) (order : Contents) (moment : ℕ) (older : List Record) (id : ℕ) (place : Place)
+began_agrees : (bytes : List ℕ) (order : Contents) (moment : ℕ) (older : List Record) (id : ℕ) (known : IndexEntry)
     (test : Bool) → IsRecord Two (Began order moment)
-    → (order.id == id) ≡ test → Agrees bytes place (kept_of id older) (moment_of id older)
-    → Agrees (bytes ++ spelling Two (Began order moment)) (cond test (places.Begun (length bytes)) place)
+    → (order.id == id) ≡ test → Agrees bytes known (kept_of id older) (moment_of id older)
+    → Agrees (bytes ++ spelling Two (Began order moment)) (cond test (index_entries.Begun (length bytes)) known)
     (kept_of id (Began order moment ∷ older)) (moment_of id (Began order moment ∷ older))
-began_agrees bytes order moment older id place true is t a = (
+began_agrees bytes order moment older id known true is t a = (
   order,
   moment,
   ap (λ b. cond b (kepts.Unfinished order) (kept_of id older)) t,
   ap (λ b. cond b (Some moment) (moment_of id older)) t,
   stands_new bytes (Began order moment) is,
 )
-began_agrees bytes order moment older id place false is t a =
-    subst (λ (b : Bool). Agrees (bytes ++ spelling Two (Began order moment)) place
+began_agrees bytes order moment older id known false is t a =
+    subst (λ (b : Bool). Agrees (bytes ++ spelling Two (Began order moment)) known
     (cond b (kepts.Unfinished order) (kept_of id older)) (cond b (Some moment) (moment_of id older))) (sym t)
-    (agrees_more bytes (spelling Two (Began order moment)) place (kept_of id older) (moment_of id older) a)
+    (agrees_more bytes (spelling Two (Began order moment)) known (kept_of id older) (moment_of id older) a)
 
 -- what the index tells with one record more is what is then kept
-pub place_next : (bytes : List ℕ) (older : List Record) (entry : Record) (id : ℕ) (place : Place)
+pub index_entry_next : (bytes : List ℕ) (older : List Record) (entry : Record) (id : ℕ) (known : IndexEntry)
     → IsRecord Two entry → IsSentence older
-    → Allows (standing_of older) entry → Agrees bytes place (kept_of id older) (moment_of id older)
-    → Agrees (bytes ++ spelling Two entry) (place_after (standing_of older) entry (length bytes) id place)
+    → Allows (standing_of older) entry → Agrees bytes known (kept_of id older) (moment_of id older)
+    → Agrees (bytes ++ spelling Two entry) (index_entry_after (standing_of older) entry (length bytes) id known)
     (kept_of id (entry ∷ older)) (moment_of id (entry ∷ older))
-place_next bytes older (Began order moment) id place is s a k =
-    began_agrees bytes order moment older id place (order.id == id) is refl k
-place_next bytes older (Opened unit) id place is s a k =
-    subst (λ (kept : Kept). Agrees (bytes ++ spelling Two (Opened unit)) place kept (moment_of id older))
+index_entry_next bytes older (Began order moment) id known is s a k =
+    began_agrees bytes order moment older id known (order.id == id) is refl k
+index_entry_next bytes older (Opened unit) id known is s a k =
+    subst (λ (kept : Kept). Agrees (bytes ++ spelling Two (Opened unit)) known kept (moment_of id older))
     (opened_same (standing_of older) unit older id a (newest older s))
-    (agrees_more bytes (spelling Two (Opened unit)) place (kept_of id older) (moment_of id older) k)
-place_next bytes older (Ended code) id place is s a k =
-    agrees_more bytes (spelling Two (Ended code)) (place_after (standing_of older) (Ended code) (length bytes) id place)
+    (agrees_more bytes (spelling Two (Opened unit)) known (kept_of id older) (moment_of id older) k)
+index_entry_next bytes older (Ended code) id known is s a k =
+    agrees_more bytes (spelling Two (Ended code))
+    (index_entry_after (standing_of older) (Ended code) (length bytes) id known)
     (kept_of id (Ended code ∷ older)) (moment_of id older)
-    (ended_by bytes (standing_of older) code older id place a (newest older s) k)
-place_next bytes older (Closed unit) id place is s a k =
-    agrees_more bytes (spelling Two (Closed unit)) place (kept_of id older) (moment_of id older) k
+    (ended_by bytes (standing_of older) code older id known a (newest older s) k)
+index_entry_next bytes older (Closed unit) id known is s a k =
+    agrees_more bytes (spelling Two (Closed unit)) known (kept_of id older) (moment_of id older) k
 
 -- a slice from a place to the end is what is left there
 pub slice_rest : (at : ℕ) (bytes : List ℕ) → take (length bytes - at) (drop at bytes) ≡ drop at bytes
@@ -204,37 +207,37 @@ nothing_there : (bytes : List ℕ) (at : ℕ) (o : Contents) (m : ℕ) → Finds
     → IsRecordAt bytes at (Began o m) → ⊥
 nothing_there bytes at o m finds there = let e = finds o m there in cc
 
--- what is told of an order whose place agrees with what was kept
-pub told_unfinished : (bytes : List ℕ) (place : Place) (at : ℕ) (kept : Kept) (since : Option ℕ) (order : Contents)
-    (moment : ℕ) → place ≡ places.Begun at
+-- what is told of an order whose entry in the index agrees with what was kept
+pub told_unfinished : (bytes : List ℕ) (known : IndexEntry) (at : ℕ) (kept : Kept) (since : Option ℕ) (order : Contents)
+    (moment : ℕ) → known ≡ index_entries.Begun at
     → Finds bytes at (Some (order, moment))
-    → Agrees bytes place kept since → (kepts.Unfinished order ≡ kept) × (Some moment ≡ since)
-told_unfinished bytes place at kept since order moment is found agrees =
-    let a = subst (λ (p : Place). Agrees bytes p kept since) is agrees in
+    → Agrees bytes known kept since → (kepts.Unfinished order ≡ kept) × (Some moment ≡ since)
+told_unfinished bytes known at kept since order moment is found agrees =
+    let a = subst (λ (p : IndexEntry). Agrees bytes p kept since) is agrees in
     let same = found_same bytes at order a.0 moment a.1 found a.4 in
     (ap kepts.Unfinished same.0 ∙ sym a.2, ap Some same.1 ∙ sym a.3)
 
-pub told_ended : (bytes : List ℕ) (place : Place) (at : ℕ) (code : Code) (kept : Kept) (since : Option ℕ)
-    (order : Contents) (moment : ℕ) → place ≡ places.Ended at code
+pub told_ended : (bytes : List ℕ) (known : IndexEntry) (at : ℕ) (code : Code) (kept : Kept) (since : Option ℕ)
+    (order : Contents) (moment : ℕ) → known ≡ index_entries.Ended at code
     → Finds bytes at (Some (order, moment))
-    → Agrees bytes place kept since → (kepts.Ended order code ≡ kept) × (Some moment ≡ since)
-told_ended bytes place at code kept since order moment is found agrees =
-    let a = subst (λ (p : Place). Agrees bytes p kept since) is agrees in
+    → Agrees bytes known kept since → (kepts.Ended order code ≡ kept) × (Some moment ≡ since)
+told_ended bytes known at code kept since order moment is found agrees =
+    let a = subst (λ (p : IndexEntry). Agrees bytes p kept since) is agrees in
     let same = found_same bytes at order a.0 moment a.1 found a.4 in
     (ap (λ (o : Contents). kepts.Ended o code) same.0 ∙ sym a.2, ap Some same.1 ∙ sym a.3)
 
-pub found_unfinished : (bytes : List ℕ) (place : Place) (at : ℕ) (kept : Kept) (since : Option ℕ)
-    → place ≡ places.Begun at
+pub found_unfinished : (bytes : List ℕ) (known : IndexEntry) (at : ℕ) (kept : Kept) (since : Option ℕ)
+    → known ≡ index_entries.Begun at
     → Finds bytes at None
-    → Agrees bytes place kept since → ⊥
-found_unfinished bytes place at kept since is found agrees =
-    let a = subst (λ (p : Place). Agrees bytes p kept since) is agrees in
+    → Agrees bytes known kept since → ⊥
+found_unfinished bytes known at kept since is found agrees =
+    let a = subst (λ (p : IndexEntry). Agrees bytes p kept since) is agrees in
     nothing_there bytes at a.0 a.1 found a.4
 
-pub found_ended : (bytes : List ℕ) (place : Place) (at : ℕ) (code : Code) (kept : Kept) (since : Option ℕ)
-    → place ≡ places.Ended at code
+pub found_ended : (bytes : List ℕ) (known : IndexEntry) (at : ℕ) (code : Code) (kept : Kept) (since : Option ℕ)
+    → known ≡ index_entries.Ended at code
     → Finds bytes at None
-    → Agrees bytes place kept since → ⊥
-found_ended bytes place at code kept since is found agrees =
-    let a = subst (λ (p : Place). Agrees bytes p kept since) is agrees in
+    → Agrees bytes known kept since → ⊥
+found_ended bytes known at code kept since is found agrees =
+    let a = subst (λ (p : IndexEntry). Agrees bytes p kept since) is agrees in
     nothing_there bytes at a.0 a.1 found a.4

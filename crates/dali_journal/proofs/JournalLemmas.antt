@@ -13,18 +13,19 @@ use Rattle.dali_journal.specs.declared.standing.Standing.{Standing}
 use Rattle.dali_journal.specs.declared.standing.Standing.TheVariants as standings
 use Rattle.dali_journal.specs.declared.kept.Progress.{Progress}
 use Rattle.dali_journal.specs.declared.kept.Progress.TheVariants as reached
-use Rattle.dali_journal.specs.declared.index.Place.{Place}
+use Rattle.dali_journal.specs.declared.index.IndexEntry.{IndexEntry}
 use Rattle.dali_journal.specs.declared.version.Version.TheVariants.{Two}
 use Rattle.dali_journal.specs.Sentence.{Allows, next_standing, standing_of, IsSentence, IsNew, HasShortUnit}
 use Rattle.dali_journal.specs.Orders.{come_to, orders_of, kept_of, moment_of}
 use Rattle.dali_journal.specs.Spelling.{spelling, pairs_spelling, NamesShortUnit, IsRecord}
 use Rattle.dali_journal.specs.Decoding.{records_in}
 use Rattle.dali_journal.specs.JournalState.{JournalState, bytes_due, HasRoom, MayBegin, KeepsRoom}
-use Rattle.dali_journal.specs.Index.{place_of, place_after, Agrees, EntersNumber, BeginsInRange, orders_begun, IsSound}
+use Rattle.dali_journal.specs.Index.{index_entry, index_entry_after, Agrees, EntersNumber, BeginsInRange, orders_begun}
+use Rattle.dali_journal.specs.Index.{IsSound}
 use Rattle.dali_journal.proofs.PairLemmas.{AreBytes}
 use Rattle.dali_journal.proofs.PieceLemmas.{bytes-drop}
 use Rattle.dali_journal.proofs.DecodeLemmas.{AreRecords, spelling_read}
-use Rattle.dali_journal.proofs.IndexLemmas.{place_next}
+use Rattle.dali_journal.proofs.IndexLemmas.{index_entry_next}
 
 -- what a standing names is in range
 abbrev IsNamed : Standing → Type 0
@@ -68,17 +69,20 @@ allowed_record _ _ a o n = absurd a
 due_next : (standing : Standing) (entry : Record) (records : List Record) (limit room new_room index_room : ℕ)
     (numbers : List ℕ)
     → standing ≡ standing_of records → Allows standing entry
-    → MayBegin (record { records = records; limit = limit; room = room; numbers = numbers; index_room = index_room }) entry
+    → MayBegin (record { records = records; limit = limit; room = room; numbers = numbers; index_room = index_room })
+    entry
     → bytes_due standing ≤ room → room ≤ new_room + length (spelling Two entry)
     → bytes_due (next_standing standing entry) ≤ new_room
-due_next standings.Idle (Began order moment) records limit room new_room index_room numbers s a may d r = let h = may.0.0 in omega arith
+due_next standings.Idle (Began order moment) records limit room new_room index_room numbers s a may d r = let h =
+    may.0.0 in omega arith
 due_next (standings.Began order) (Opened unit) records limit room new_room index_room numbers s a may d r = omega arith
 due_next (standings.Began order) (Ended Short) records limit room new_room index_room numbers s a may d r = omega arith
 due_next (standings.Began order) (Ended Format) records limit room new_room index_room numbers s a may d r = omega arith
 due_next (standings.Began order) (Ended Silent) records limit room new_room index_room numbers s a may d r = omega arith
 due_next (standings.Opened order) (Ended Done) records limit room new_room index_room numbers s a may d r = omega arith
 due_next (standings.Opened order) (Ended Doubt) records limit room new_room index_room numbers s a may d r = omega arith
-due_next (standings.Opened order) (Ended DoubtOpen) records limit room new_room index_room numbers s a may d r = omega arith
+due_next (standings.Opened order) (Ended DoubtOpen) records limit room new_room index_room numbers s a may d r = omega
+    arith
 due_next (standings.Left unit) (Closed closed) records limit room new_room index_room numbers s a may d r = omega arith
 due_next _ _ records limit room new_room index_room numbers s a may d r = absurd a
 
@@ -110,8 +114,9 @@ new_next journal (Closed unit) may = tt
 
 -- a record that comes is in range
 pub entry_record : (bytes : List ℕ) (records : List Record) (standing : Standing) (orders limit room index_room : ℕ)
-    (index : List (ℕ × Place)) (entry : Record)
-    → IsSound bytes records standing orders limit room index_room index → Allows (standing_of records) entry → BeginsInRange entry
+    (index : List (ℕ × IndexEntry)) (entry : Record)
+    → IsSound bytes records standing orders limit room index_room index → Allows (standing_of records) entry
+    → BeginsInRange entry
     → IsRecord Two entry
 entry_record bytes records standing orders limit room index_room index entry sound a o =
     allowed_record (standing_of records) entry a o
@@ -119,8 +124,9 @@ entry_record bytes records standing orders limit room index_room index entry sou
 
 sound_more : (bytes : List ℕ) (records : List Record) (standing : Standing)
     (orders limit room new_room index_room new_index_room : ℕ)
-    (index new_index : List (ℕ × Place)) (entry : Record)
-    → IsSound bytes records standing orders limit room index_room index → Allows (standing_of records) entry → BeginsInRange entry
+    (index new_index : List (ℕ × IndexEntry)) (entry : Record)
+    → IsSound bytes records standing orders limit room index_room index → Allows (standing_of records) entry
+    → BeginsInRange entry
     → MayBegin (record {
       records = records;
       limit = limit;
@@ -129,12 +135,14 @@ sound_more : (bytes : List ℕ) (records : List Record) (standing : Standing)
       index_room = index_room;
     }) entry
     → ((id : ℕ)
-    → place_of (lookup (nat_eq id) new_index)
-    ≡ place_after standing entry (length bytes) id (place_of (lookup (nat_eq id) index)))
+    → index_entry (lookup (nat_eq id) new_index)
+    ≡ index_entry_after standing entry (length bytes) id (index_entry (lookup (nat_eq id) index)))
     → HasShortUnit (next_standing standing entry) → room ≤ new_room + length (spelling Two entry)
-    → IsSound (bytes ++ spelling Two entry) (entry ∷ records) (next_standing standing entry) (orders + orders_begun entry)
+    → IsSound (bytes ++ spelling Two entry) (entry ∷ records) (next_standing standing entry)
+    (orders + orders_begun entry)
     limit new_room new_index_room new_index
-sound_more bytes records standing orders limit room new_room index_room new_index_room index new_index entry sound a o may wrote short rest =
+sound_more bytes records standing orders limit room new_room index_room new_index_room index new_index entry sound a o
+    may wrote short rest =
     let journal : JournalState = record {
       records = records;
       limit = limit;
@@ -161,20 +169,22 @@ sound_more bytes records standing orders limit room new_room index_room new_inde
             sound.journal.due rest;
       };
       known = λ id.
-          subst (λ (place : Place).
-          Agrees (bytes ++ spelling Two entry) place (kept_of id (entry ∷ records)) (moment_of id (entry ∷ records)))
-          (ap (λ (st : Standing). place_after st entry (length bytes) id (place_of (lookup (nat_eq id) index)))
+          subst (λ (known : IndexEntry).
+          Agrees (bytes ++ spelling Two entry) known (kept_of id (entry ∷ records)) (moment_of id (entry ∷ records)))
+          (ap (λ (st : Standing). index_entry_after st entry (length bytes) id (index_entry (lookup (nat_eq id) index)))
           (sym sound.standing_is)
           ∙ sym (wrote id))
-          (place_next bytes records entry id (place_of (lookup (nat_eq id) index)) is sound.journal.kept.whole.0 a
+          (index_entry_next bytes records entry id (index_entry (lookup (nat_eq id) index)) is
+          sound.journal.kept.whole.0 a
           (sound.known id));
     }
 
 -- the bytes of one record more are read as one record more
 pub records_more : (bytes : List ℕ) (standing : Standing) (orders limit room index_room : ℕ)
-    (index : List (ℕ × Place))
+    (index : List (ℕ × IndexEntry))
     (entry : Record)
-    → IsSound bytes (records_in Two bytes) standing orders limit room index_room index → Allows (standing_of (records_in Two bytes)) entry
+    → IsSound bytes (records_in Two bytes) standing orders limit room index_room index
+    → Allows (standing_of (records_in Two bytes)) entry
     → BeginsInRange entry
     → records_in Two (bytes ++ spelling Two entry) ≡ entry ∷ records_in Two bytes
 records_more bytes standing orders limit room index_room index entry sound a o =
@@ -186,8 +196,9 @@ records_more bytes standing orders limit room index_room index entry sound a o =
 
 pub sound_next : (bytes : List ℕ) (standing : Standing)
     (orders limit room new_room index_room new_index_room at : ℕ)
-    (index new_index : List (ℕ × Place)) (entry : Record)
-    → IsSound bytes (records_in Two bytes) standing orders limit room index_room index → Allows (standing_of (records_in Two bytes)) entry
+    (index new_index : List (ℕ × IndexEntry)) (entry : Record)
+    → IsSound bytes (records_in Two bytes) standing orders limit room index_room index
+    → Allows (standing_of (records_in Two bytes)) entry
     → BeginsInRange entry
     → MayBegin (record {
       records = records_in Two bytes;
@@ -197,20 +208,25 @@ pub sound_next : (bytes : List ℕ) (standing : Standing)
       index_room = index_room;
     }) entry
     → ((id : ℕ)
-    → place_of (lookup (nat_eq id) new_index) ≡ place_after standing entry at id (place_of (lookup (nat_eq id) index)))
+    → index_entry (lookup (nat_eq id) new_index) ≡ index_entry_after standing entry at id
+    (index_entry (lookup (nat_eq id) index)))
     → at ≡ length bytes → HasShortUnit (next_standing standing entry) → room ≤ new_room + length (spelling Two entry)
-    → IsSound (bytes ++ spelling Two entry) (records_in Two (bytes ++ spelling Two entry)) (next_standing standing entry)
+    → IsSound (bytes ++ spelling Two entry) (records_in Two (bytes ++ spelling Two entry))
+    (next_standing standing entry)
     (orders + orders_begun entry) limit new_room new_index_room new_index
-sound_next bytes standing orders limit room new_room index_room new_index_room at index new_index entry sound a o may wrote there short rest =
+sound_next bytes standing orders limit room new_room index_room new_index_room at index new_index entry sound a o may
+    wrote there short rest =
     subst (λ (those : List Record).
     IsSound (bytes ++ spelling Two entry) those (next_standing standing entry) (orders + orders_begun entry) limit
     new_room new_index_room new_index)
     (sym (records_more bytes standing orders limit room index_room index entry sound a o))
-    (sound_more bytes (records_in Two bytes) standing orders limit room new_room index_room new_index_room index new_index
-    entry sound a o may (λ id. wrote id ∙ ap (λ n. place_after standing entry n id (place_of (lookup (nat_eq id) index))) there) short rest)
+    (sound_more bytes (records_in Two bytes) standing orders limit room new_room index_room new_index_room index
+    new_index
+    entry sound a o may (λ id. wrote id ∙ ap
+    (λ n. index_entry_after standing entry n id (index_entry (lookup (nat_eq id) index))) there) short rest)
 
 -- a number that has room is in the index
-pub entered : (journal : JournalState) (index : List (ℕ × Place)) (entry : Record) → MayBegin journal entry
+pub entered : (journal : JournalState) (index : List (ℕ × IndexEntry)) (entry : Record) → MayBegin journal entry
     → journal.numbers ≡ keys_of index → EntersNumber index entry
 entered journal index (Began order moment) may same =
     is_some-lookup (nat_eq order.id) index ∙ ap (list_any (nat_eq order.id)) (sym same) ∙ may.0.1
@@ -242,14 +258,16 @@ room_left : (journal new : JournalState) (entry : Record) → Allows (standing_o
     → journal.room ≤ new.room + length (spelling Two entry)
     → (order : Contents) → HasRoom journal order → HasRoom new order
 room_left journal new entry a later records numbers rest = λ order room. (
-  rw records (due_falls (standing_of journal.records) entry journal.room new.room (length (spelling Two (Began order 0))) a
+  rw records (due_falls (standing_of journal.records) entry journal.room new.room
+      (length (spelling Two (Began order 0))) a
       later rest room.0),
   rw numbers room.1,
 )
 
 pub keeps_room : (journal new : JournalState) (entry : Record) → Allows (standing_of journal.records) entry
     → new.records ≡ entry ∷ journal.records
-    → new.numbers ≡ journal.numbers → journal.room ≤ new.room + length (spelling Two entry) → KeepsRoom entry journal new
+    → new.numbers ≡ journal.numbers → journal.room ≤ new.room + length (spelling Two entry)
+    → KeepsRoom entry journal new
 keeps_room journal new (Began order moment) a records numbers rest = tt
 keeps_room journal new (Opened unit) a records numbers rest =
     room_left journal new (Opened unit) a tt records numbers rest
@@ -279,7 +297,7 @@ begins_in_range (Ended code) tells = tt
 begins_in_range (Closed unit) tells = tt
 
 -- a number is in the index where a look-up finds it
-pub found_in : (id : ℕ) (index : List (ℕ × Place))
+pub found_in : (id : ℕ) (index : List (ℕ × IndexEntry))
     → is_some (lookup (nat_eq id) index) ≡ list_any (nat_eq id) (keys_of index)
 found_in id index = is_some-lookup (nat_eq id) index
 
@@ -293,11 +311,18 @@ reserved bytes new standing order wanted len capacity same stands w h =
     let due = ap bytes_due (stands ∙ ap (λ bs. standing_of (records_in Two bs)) (sym same)) in omega arith
 
 -- with the same bytes, no less room and no number less there is room still
-pub room_kept : (journal : JournalState) (bytes new : List ℕ) (room : ℕ) (index new_index : List (ℕ × Place))
+pub room_kept : (journal : JournalState) (bytes new : List ℕ) (room : ℕ) (index new_index : List (ℕ × IndexEntry))
     → new ≡ bytes → records_in Two bytes ≡ journal.records → keys_of index ≡ journal.numbers → journal.room ≤ room
     → ((id : ℕ) → is_some (lookup (nat_eq id) index) ≡ true → is_some (lookup (nat_eq id) new_index) ≡ true)
     → (order : Contents) → HasRoom journal order
-    → HasRoom (record { records = records_in Two new; limit = 0; room = room; numbers = keys_of new_index; index_room = 0 }) order
+    → HasRoom (record {
+      records = records_in Two new;
+      limit = 0;
+      room = room;
+      numbers = keys_of new_index;
+      index_room =
+          0;
+    }) order
 room_kept journal bytes new room index new_index same records numbers more stays order h = (
   let due = ap (λ (those : List Record). bytes_due (standing_of those)) (ap (records_in Two) same ∙ records) in
       let enough = h.0 in omega arith,

@@ -84,32 +84,10 @@ kept_more version limit journal records entry is same more in_range kept = recor
   whole = subst (λ (most : ℕ). IsSentenceWithin most journal.records) same is.kept.whole;
 }
 
--- what refuses a new journal refuses a load
-pub new_fault : (fault : JournalFault) (limit : ℕ) (bytes : List ℕ) → IsNewFault limit fault
-    → IsLoadFault limit bytes fault
-new_fault faults.Limit limit bytes f = f
-new_fault faults.NoMemory limit bytes f = f
-new_fault faults.Header limit bytes f = absurd f
-new_fault (faults.Record place) limit bytes f = absurd f
-new_fault (faults.Sequence place) limit bytes f = absurd f
-new_fault (faults.Repeated place) limit bytes f = absurd f
-new_fault (faults.Full place) limit bytes f = absurd f
-
 -- a journal's records are those of a journal with its limit
 pub journal_kept : (journal : JournalState) (limit : ℕ) → IsJournal journal → journal.limit ≡ limit
     → AreKept Two limit journal.records
 journal_kept journal limit is same = subst (λ (most : ℕ). AreKept Two most journal.records) same is.kept
-
--- no records are those of a journal
-pub none_kept : (version : Version) (limit : ℕ) → AreKept version limit []
-none_kept version limit = record { in_range = tt; whole = (tt, omega arith) }
-
--- a torn journal of bytes that have a version may be loaded
-pub loadable : (version : Version) (bytes : List ℕ) (records : List Record) (len : ℕ) → HasVersion version bytes
-    → IsTorn version bytes records len → IsLoadable version bytes records len
-loadable One [] records len has torn = let e = has.2 in cc
-loadable Two [] records len has torn = let e = has.1 in cc
-loadable version (first ∷ bytes) records len has torn = torn
 
 -- what a journal's bytes were, with a cut behind them, loads again
 pub loads_again : JournalsLoadAgain

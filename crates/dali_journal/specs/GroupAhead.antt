@@ -10,7 +10,7 @@ use Rattle.dali_journal.specs.declared.version.Version.TheVariants.{Two}
 use Rattle.dali_journal.specs.declared.record.Record.{Record}
 use Rattle.dali_journal.specs.declared.record.Record.TheVariants.{Began, Opened, Ended, Closed}
 use Rattle.dali_journal.specs.declared.standing.Standing.TheVariants as standings
-use Rattle.dali_journal.specs.declared.index.Place.{Place}
+use Rattle.dali_journal.specs.declared.index.IndexEntry.{IndexEntry}
 use Rattle.dali_journal.specs.Spelling.{spelling, pairs_spelling, records_spelling}
 use Rattle.dali_journal.specs.Reading.{BeginsWith}
 use Rattle.dali_journal.specs.Decoding.{records_in}
@@ -76,7 +76,7 @@ pub record HasGroup (id : ℕ) (code : Code) (len : ℕ) (bytes : List ℕ) : Ty
 
 -- so many bytes in front are those of a journal that is idle, with so many orders; the index tells of each of these,
 -- and of no other
-pub record IsFront (limit : ℕ) (bytes : List ℕ) (len orders : ℕ) (index : List (ℕ × Place)) : Type 0 where
+pub record IsFront (limit : ℕ) (bytes : List ℕ) (len orders : ℕ) (index : List (ℕ × IndexEntry)) : Type 0 where
   pub within : len ≤ length bytes
   pub sound : IsSound (take len bytes) (records_in Two (take len bytes)) standings.Idle orders limit 0 0 index
-  pub begun : (id : ℕ) (place : Place) → lookup (nat_eq id) index ≡ Some place → is_begun_at place ≡ true
+  pub begun : (id : ℕ) (known : IndexEntry) → lookup (nat_eq id) index ≡ Some known → is_begun_at known ≡ true

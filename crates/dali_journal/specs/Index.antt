@@ -5,13 +5,13 @@ use Rattle.std.specs.Map.{lookup, keys_of}
 use Rattle.dali_bank.specs.Order.{Contents}
 use Rattle.dali_journal.specs.declared.record.Code.{Code}
 use Rattle.dali_journal.specs.declared.record.Record.{Record}
-use Rattle.dali_journal.specs.declared.record.Record.TheVariants.{Began, Ended}
+use Rattle.dali_journal.specs.declared.record.Record.TheVariants.{Began, Opened, Ended, Closed}
 use Rattle.dali_journal.specs.declared.standing.Standing.{Standing}
 use Rattle.dali_journal.specs.declared.standing.Standing.TheVariants as standings
 use Rattle.dali_journal.specs.declared.kept.Kept.{Kept}
 use Rattle.dali_journal.specs.declared.kept.Kept.TheVariants as kepts
-use Rattle.dali_journal.specs.declared.index.Place.{Place}
-use Rattle.dali_journal.specs.declared.index.Place.TheVariants as places
+use Rattle.dali_journal.specs.declared.index.IndexEntry.{IndexEntry}
+use Rattle.dali_journal.specs.declared.index.IndexEntry.TheVariants as index_entries
 use Rattle.dali_journal.specs.declared.read.Piece.{Piece}
 use Rattle.dali_journal.specs.declared.read.Piece.TheVariants.{Whole}
 use Rattle.dali_journal.specs.Sentence.{standing_of, HasShortUnit}
@@ -22,49 +22,53 @@ use Rattle.dali_journal.specs.Reading.{BeginsWith}
 use Rattle.dali_journal.specs.JournalState.{IsJournal}
 
 -- a number that isn't in the index isn't begun
-abbrev pub place_of : Option Place → Place
-place_of None = places.NotBegun
-place_of (Some place) = place
+abbrev pub index_entry : Option IndexEntry → IndexEntry
+index_entry None = index_entries.NotBegun
+index_entry (Some known) = known
 
 -- an order was begun
-abbrev pub is_begun_at : Place → Bool
-is_begun_at places.NotBegun = false
-is_begun_at (places.Begun at) = true
-is_begun_at (places.Ended at code) = true
+abbrev pub is_begun_at : IndexEntry → Bool
+is_begun_at index_entries.NotBegun = false
+is_begun_at (index_entries.Begun at) = true
+is_begun_at (index_entries.Ended at code) = true
 
 -- a record's bytes stand there
 abbrev pub IsRecordAt : List ℕ → ℕ → Record → Type 0
 IsRecordAt bytes at entry = (at ≤ length bytes) × BeginsWith Two (drop at bytes) entry
 
 -- what the index tells of a number is what the journal has kept of it, and its moment
-abbrev pub Agrees : List ℕ → Place → Kept → Option ℕ → Type 0
-Agrees bytes places.NotBegun kept since = (kept ≡ kepts.Absent) × (since ≡ None)
-Agrees bytes (places.Begun at) kept since =
+abbrev pub Agrees : List ℕ → IndexEntry → Kept → Option ℕ → Type 0
+Agrees bytes index_entries.NotBegun kept since = (kept ≡ kepts.Absent) × (since ≡ None)
+Agrees bytes (index_entries.Begun at) kept since =
     (order : Contents) × (moment : ℕ) × (kept ≡ kepts.Unfinished order) × (since ≡ Some moment)
     × IsRecordAt bytes at (Began order moment)
-Agrees bytes (places.Ended at code) kept since =
+Agrees bytes (index_entries.Ended at code) kept since =
     (order : Contents) × (moment : ℕ) × (kept ≡ kepts.Ended order code) × (since ≡ Some moment)
     × IsRecordAt bytes at (Began order moment)
 
--- what an end makes of an order's place
-abbrev pub ended_place : Code → Place → Place
-ended_place code (places.Begun at) = places.Ended at code
-ended_place code other = other
+-- what an end makes of an order's entry in the index
+abbrev pub ended_index_entry : Code → IndexEntry → IndexEntry
+ended_index_entry code (index_entries.Begun at) = index_entries.Ended at code
+ended_index_entry code index_entries.NotBegun = index_entries.NotBegun
+ended_index_entry code (index_entries.Ended at other) = index_entries.Ended at other
 
 -- the order that is at work has this number
 abbrev pub works_on : Standing → ℕ → Bool
 works_on (standings.Began order) id = order.id == id
 works_on (standings.Opened order) id = order.id == id
-works_on other id = false
+works_on standings.Idle id = false
+works_on (standings.Left unit) id = false
 
--- what a record that stands there makes of a number's place
-abbrev pub place_after : Standing → Record → ℕ → ℕ → Place → Place
-place_after standing (Began order moment) at id place = if order.id == id then places.Begun at else place
-place_after standing (Ended code) at id place = if works_on standing id then ended_place code place else place
-place_after standing other at id place = place
+-- what a record that stands there makes of a number's entry in the index
+abbrev pub index_entry_after : Standing → Record → ℕ → ℕ → IndexEntry → IndexEntry
+index_entry_after standing (Began order moment) at id known = if order.id == id then index_entries.Begun at else known
+index_entry_after standing (Ended code) at id known =
+    if works_on standing id then ended_index_entry code known else known
+index_entry_after standing (Opened unit) at id known = known
+index_entry_after standing (Closed unit) at id known = known
 
 -- an order's number is in the index before it begins
-abbrev pub EntersNumber : List (ℕ × Place) → Record → Type 0
+abbrev pub EntersNumber : List (ℕ × IndexEntry) → Record → Type 0
 EntersNumber index (Began order moment) = IsSome (lookup (nat_eq order.id) index)
 EntersNumber index other = ⊤
 
@@ -81,11 +85,13 @@ BeginsInRange other = ⊤
 -- how many orders a record begins
 abbrev pub orders_begun : Record → ℕ
 orders_begun (Began order moment) = 1
-orders_begun other = 0
+orders_begun (Opened unit) = 0
+orders_begun (Ended code) = 0
+orders_begun (Closed unit) = 0
 
 -- what is so of a journal's parts: the bytes are those of the records, and the rest tells of the records
 pub record IsSound (bytes : List ℕ) (records : List Record) (standing : Standing)
-    (orders limit room index_room : ℕ) (index : List (ℕ × Place)) : Type 0 where
+    (orders limit room index_room : ℕ) (index : List (ℕ × IndexEntry)) : Type 0 where
   pub spelled : bytes ≡ records_spelling Two records
   pub standing_is : standing ≡ standing_of records
   pub short : HasShortUnit standing
@@ -97,4 +103,5 @@ pub record IsSound (bytes : List ℕ) (records : List Record) (standing : Standi
     numbers = keys_of index;
     index_room = index_room;
   })
-  pub known : (id : ℕ) → Agrees bytes (place_of (lookup (nat_eq id) index)) (kept_of id records) (moment_of id records)
+  pub known : (id : ℕ) → Agrees bytes (index_entry (lookup (nat_eq id) index)) (kept_of id records)
+      (moment_of id records)

@@ -25,7 +25,9 @@ abbrev pub next_standing : Standing → Record → Standing
 next_standing standing (Began order moment) = standings.Began order
 next_standing (standings.Began order) (Opened unit) = standings.Opened order
 next_standing (standings.Opened order) (Ended DoubtOpen) = standings.Left order.unit
-next_standing standing other = standings.Idle
+next_standing standing (Opened unit) = standings.Idle
+next_standing standing (Ended code) = standings.Idle
+next_standing standing (Closed unit) = standings.Idle
 
 -- the standing after these records
 abbrev pub standing_of : List Record → Standing
@@ -42,7 +44,9 @@ named_unit (standings.Left unit) = Some unit
 -- a unit that was left has a short address
 abbrev pub HasShortUnit : Standing → Type 0
 HasShortUnit (standings.Left unit) = unit ≤ 63
-HasShortUnit other = ⊤
+HasShortUnit standings.Idle = ⊤
+HasShortUnit (standings.Began order) = ⊤
+HasShortUnit (standings.Opened order) = ⊤
 
 -- an order of this number was begun
 abbrev pub is_begun : ℕ → List Record → Bool

@@ -7,7 +7,7 @@ ghost use Rattle.dali_journal.specs.Loading.{IsLoadFault};
 ghost use Rattle.dali_journal.specs.GroupAhead.{AreUpdatesAbove, HasUpdates, HasBegan, HasEnd, HasGroup, IsFront};
 
 use crate::fault::JournalFault;
-use crate::index::Place;
+use crate::index::IndexEntry;
 use crate::record::Code;
 use crate::version::{HEADER, Version};
 use indexmap::IndexMap;
@@ -22,7 +22,7 @@ const LEAST_BYTES: usize = 23;
 pub(crate) struct Groups {
     pub(crate) len: usize,
     pub(crate) orders: u32,
-    pub(crate) index: IndexMap<u64, Place>,
+    pub(crate) index: IndexMap<u64, IndexEntry>,
 }
 
 // The group of an order: its number, how it ended, and how many bytes it takes.
@@ -59,7 +59,7 @@ pub(crate) fn groups_ahead(alloc: Global, limit: u32, bytes: &[u8]) -> Result<Gr
         let Some(group) = group_ahead(&bytes[at..]) else {
             break;
         };
-        match index.insert(group.id, Place::Ended(at, group.code)) {
+        match index.insert(group.id, IndexEntry::Ended(at, group.code)) {
             Ok(None) => {}
             Ok(Some(_)) => return Err(JournalFault::Repeated(HEADER.len() + at)),
             Err(_) => return Err(JournalFault::NoMemory),

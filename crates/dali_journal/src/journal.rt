@@ -15,7 +15,7 @@ ghost use Rattle.dali_journal.specs.Loading.{IsLoadFault, IsRecordRefused};
 
 use crate::fault::{JournalFault, NoMemory};
 use crate::group::groups_ahead;
-use crate::index::{Place, enter, kept_at, moment_at, note, place_of};
+use crate::index::{IndexEntry, enter, index_entry, kept_at, moment_at, note};
 use crate::kept::Kept;
 use crate::read::Piece;
 use crate::record::Record;
@@ -45,7 +45,7 @@ pub struct Journal {
     // the records' bytes in version 2, the oldest first, without the header
     bytes: Vec<u8>,
     // where the order of each number began, and how it ended; a number is here before its order begins
-    index: IndexMap<u64, Place>,
+    index: IndexMap<u64, IndexEntry>,
 }
 
 // A function of its own, which is called wherever a journal goes: what is derived is written out at each such place.
@@ -299,7 +299,7 @@ impl Journal {
     fn has_begun(&self, id: u64) -> bool
         ensures { result ≡ is_begun id self.now.records }
     {
-        place_of(&self.index, id).is_begun()
+        index_entry(&self.index, id).is_begun()
     }
 
     /// The most orders that the journal may hold, 1 to 100000.
@@ -337,14 +337,14 @@ impl Journal {
     pub fn kept(&self, id: u64) -> Kept
         ensures { result ≡ kept_of id self.now.records }
     {
-        kept_at(&self.bytes, place_of(&self.index, id))
+        kept_at(&self.bytes, index_entry(&self.index, id))
     }
 
     /// The moment at which the order of this number was submitted, where it was begun.
     pub fn moment(&self, id: u64) -> Option<u64>
         ensures { result ≡ moment_of id self.now.records }
     {
-        moment_at(&self.bytes, place_of(&self.index, id))
+        moment_at(&self.bytes, index_entry(&self.index, id))
     }
 
     /// Whether there is room for a `Closed` of the unit that is left, for what else is due, and for
@@ -461,7 +461,7 @@ fn orders_begun(entry: &Record) -> u32
 {
     match entry {
         Record::Began(_, _) => 1,
-        _ => 0,
+        Record::Opened(_) | Record::Ended(_) | Record::Closed(_) => 0,
     }
 }
 

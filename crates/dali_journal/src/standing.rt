@@ -58,7 +58,7 @@ impl Standing {
             (Standing::Opened(order), Record::Ended(Code::DoubtOpen)) => Standing::Left(
                 order.unit(),
             ),
-            _ => Standing::Idle,
+            (_, Record::Opened(_) | Record::Ended(_) | Record::Closed(_)) => Standing::Idle,
         }
     }
 

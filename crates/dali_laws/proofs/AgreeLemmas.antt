@@ -11,15 +11,15 @@ use Rattle.dali_write.specs.Worlds.{Selects}
 use Rattle.dali_trace.specs.declared.happening.Reply.{Reply}
 use Rattle.dali_trace.specs.declared.happening.Reply.TheVariants as replies
 use Rattle.dali_trace.specs.declared.happening.Happening.{Happening}
-use Rattle.dali_trace.specs.declared.happening.Happening.TheVariants.{Asked, Answered, Sent, Kept, Stopped, Powered}
+use Rattle.dali_trace.specs.declared.happening.Happening.TheVariants.{Asked, Answered, Sent, Kept}
+use Rattle.dali_trace.specs.Cut.{since, is_stop, is_start, is_turn, frames_in}
+use Rattle.dali_trace.proofs.CutLemmas.{frames_on}
 use Rattle.dali_trace.specs.Trace.{waiting_since, since_in}
 use Rattle.dali_trace.specs.Trace.{Start, records_of, standing_at, sent_of, sent_since_taken, waiting, course_of}
 use Rattle.dali_trace.specs.Trace.{waits_in, replied, next_course, Course, Quiet}
 use Rattle.dali_trace.specs.Legal.{Serves, IsGuardedWrite, MaySend, IsDue, MayKeep, MaySay, MayHappen, Replies}
 use Rattle.dali_trace.specs.Legal.{MayFollow, IsFinished}
 use Rattle.dali_trace.specs.ByPlan.{told_in, IsPlanned}
-use Rattle.dali_trace.specs.Worked.{empty, second_order, begun, busy_while_at_work}
-use Rattle.dali_trace.specs.WorkedPlans.{first_frame}
 use Rattle.dali_laws.specs.Law.{RefusedOrdersChangeNothing}
 
 -- two traces, each from its start, that tell the same
@@ -89,24 +89,18 @@ says_too start next whole more id reply agree may = absurd may
 pub happens_too : (start next : Start) (whole more : List Happening) (newest : Happening) → Agree start next whole more
     → MayHappen next more newest
     → MayHappen start whole newest
-happens_too start next whole more (Asked order moment) agree may = tt
 happens_too start next whole more (Answered id reply) agree may = says_too start next whole more id reply agree may
 happens_too start next whole more (Sent frame answer) agree may =
     rw agree.records (sends_too whole more (standing_at next more) frame (ap waits_in agree.course) agree.sent may)
 happens_too start next whole more (Kept entry) agree may = keeps_too start next whole more entry agree may
-happens_too start next whole more Stopped agree may = tt
-happens_too start next whole more (Powered address) agree may = tt
+happens_too start next whole more _ agree may = tt
 
 pub replies_too : (start next : Start) (whole more : List Happening) (order : Contents) (newest : Happening)
     → Agree start next whole more
     → Replies next more order newest → Replies start whole order newest
 replies_too start next whole more order (Answered id reply) agree due =
     (due.0, rw (agree.records, agree.course, agree.limit) due.1)
-replies_too start next whole more order (Asked other moment) agree due = absurd due
-replies_too start next whole more order (Sent frame answer) agree due = absurd due
-replies_too start next whole more order (Kept entry) agree due = absurd due
-replies_too start next whole more order Stopped agree due = absurd due
-replies_too start next whole more order (Powered address) agree due = absurd due
+replies_too start next whole more order _ agree due = absurd due
 
 pub planned_too : (start next : Start) (whole more : List Happening) (newest : Happening)
     → records_of start whole ≡ records_of next more
@@ -142,26 +136,19 @@ turned agree = record {
 -- where no reply is due, what may follow is what may happen
 pub may_happen : (start : Start) (past : List Happening) (next : Happening) → IsFinished past
     → MayFollow start past next → MayHappen start past next
-may_happen start [] next finished may = may
 may_happen start (Asked order moment ∷ past) next finished may = absurd finished
-may_happen start (other ∷ past) next finished may = may
+may_happen start _ next finished may = may
 
-may_follow : (start : Start) (past : List Happening) (next : Happening) → IsFinished past → MayHappen start past next
+pub may_follow : (start : Start) (past : List Happening) (next : Happening) → IsFinished past → MayHappen start past next
     → MayFollow start past next
-may_follow start [] next finished may = may
 may_follow start (Asked order moment ∷ past) next finished may = absurd finished
-may_follow start (other ∷ past) next finished may = may
+may_follow start _ next finished may = may
 
 -- and an answer is a saying
 pub said_quiet : (id : ℕ) (reply : Reply) (past : List Happening) → IsFinished past
     → Quiet ≡ course_of (Answered id reply ∷ past)
-said_quiet id reply [] finished = refl
 said_quiet id reply (Asked order moment ∷ past) finished = absurd finished
-said_quiet id reply (Answered other last ∷ past) finished = refl
-said_quiet id reply (Sent frame answer ∷ past) finished = refl
-said_quiet id reply (Kept entry ∷ past) finished = refl
-said_quiet id reply (Stopped ∷ past) finished = refl
-said_quiet id reply (Powered address ∷ past) finished = refl
+said_quiet id reply _ finished = refl
 
 -- two traces behind which the same comes
 course_on : (more whole past : List Happening) → IsFinished whole → IsFinished past → course_of whole ≡ course_of past
@@ -171,71 +158,22 @@ course_on (Answered id reply ∷ []) whole past ends finished same =
     sym (said_quiet id reply whole ends) ∙ said_quiet id reply past finished
 course_on (Answered id reply ∷ Asked order moment ∷ more) whole past ends finished same =
     ap (replied order moment reply) (course_on more whole past ends finished same)
-course_on (Answered id reply ∷ Answered other last ∷ more) whole past ends finished same = refl
-course_on (Answered id reply ∷ Sent frame answer ∷ more) whole past ends finished same = refl
-course_on (Answered id reply ∷ Kept entry ∷ more) whole past ends finished same = refl
-course_on (Answered id reply ∷ Stopped ∷ more) whole past ends finished same = refl
-course_on (Answered id reply ∷ Powered address ∷ more) whole past ends finished same = refl
-course_on (Asked order moment ∷ more) whole past ends finished same =
-    ap (λ (before : Course). next_course before (Asked order moment)) (course_on more whole past ends finished same)
-course_on (Sent frame answer ∷ more) whole past ends finished same =
-    ap (λ (before : Course). next_course before (Sent frame answer)) (course_on more whole past ends finished same)
-course_on (Kept entry ∷ more) whole past ends finished same =
-    ap (λ (before : Course). next_course before (Kept entry)) (course_on more whole past ends finished same)
-course_on (Stopped ∷ more) whole past ends finished same = refl
-course_on (Powered address ∷ more) whole past ends finished same =
-    ap (λ (before : Course). next_course before (Powered address)) (course_on more whole past ends finished same)
+course_on (newest ∷ more) whole past ends finished same =
+    ap (λ (before : Course). next_course before newest) (course_on more whole past ends finished same)
 
 records_on : (start : Start) (more whole past : List Happening) → records_of start whole ≡ records_of start past
     → records_of start (more ++ whole) ≡ records_of start (more ++ past)
 records_on start [] whole past same = same
 records_on start (Kept entry ∷ more) whole past same = ap (◌∷◌ entry) (records_on start more whole past same)
-records_on start (Asked order moment ∷ more) whole past same = records_on start more whole past same
-records_on start (Answered id reply ∷ more) whole past same = records_on start more whole past same
-records_on start (Sent frame answer ∷ more) whole past same = records_on start more whole past same
-records_on start (Stopped ∷ more) whole past same = records_on start more whole past same
-records_on start (Powered address ∷ more) whole past same = records_on start more whole past same
-
-sent_on : (more whole past : List Happening) → sent_of whole ≡ sent_of past → sent_of (more ++ whole) ≡ sent_of (more ++ past)
-sent_on [] whole past same = same
-sent_on (Sent frame answer ∷ more) whole past same =
-    ap (◌∷◌ (record { frame = frame; answer = answer })) (sent_on more whole past same)
-sent_on (Stopped ∷ more) whole past same = refl
-sent_on (Kept entry ∷ more) whole past same = sent_on more whole past same
-sent_on (Asked order moment ∷ more) whole past same = sent_on more whole past same
-sent_on (Answered id reply ∷ more) whole past same = sent_on more whole past same
-sent_on (Powered address ∷ more) whole past same = sent_on more whole past same
-
-since_on : (more whole past : List Happening) → sent_since_taken whole ≡ sent_since_taken past
-    → sent_since_taken (more ++ whole) ≡ sent_since_taken (more ++ past)
-since_on [] whole past same = same
-since_on (Sent frame answer ∷ more) whole past same =
-    ap (◌∷◌ (record { frame = frame; answer = answer })) (since_on more whole past same)
-since_on (Answered id replies.Taken ∷ more) whole past same = refl
-since_on (Stopped ∷ more) whole past same = refl
-since_on (Kept entry ∷ more) whole past same = since_on more whole past same
-since_on (Asked order moment ∷ more) whole past same = since_on more whole past same
-since_on (Powered address ∷ more) whole past same = since_on more whole past same
-since_on (Answered id other ∷ more) whole past same = since_on more whole past same
-
-told_on : (more whole past : List Happening) → told_in whole ≡ told_in past → told_in (more ++ whole) ≡ told_in (more ++ past)
-told_on [] whole past same = same
-told_on (Sent frame answer ∷ more) whole past same =
-    ap (◌∷◌ (record { frame = frame; answer = answer })) (told_on more whole past same)
-told_on (Answered id replies.Taken ∷ more) whole past same = refl
-told_on (Kept entry ∷ more) whole past same = refl
-told_on (Stopped ∷ more) whole past same = refl
-told_on (Asked order moment ∷ more) whole past same = told_on more whole past same
-told_on (Powered address ∷ more) whole past same = told_on more whole past same
-told_on (Answered id other ∷ more) whole past same = told_on more whole past same
+records_on start (_ ∷ more) whole past same = records_on start more whole past same
 
 agree_on : (start : Start) (whole past : List Happening) → IsFinished whole → IsFinished past
     → Agree start start whole past → (more : List Happening) → Agree start start (more ++ whole) (more ++ past)
 agree_on start whole past ends finished agree more = record {
   limit = refl;
   records = records_on start more whole past agree.records;
-  sent = sent_on more whole past agree.sent;
-  since = since_on more whole past agree.since;
+  sent = frames_on is_stop more whole past agree.sent;
+  since = frames_on is_start more whole past agree.since;
   course = course_on more whole past ends finished agree.course;
 }
 
@@ -249,23 +187,15 @@ follow_on start whole past ends finished agree [] next may =
     (may_happen start past next finished may))
 follow_on start whole past ends finished agree (Asked order moment ∷ more) next may =
     replies_too start start (more ++ whole) (more ++ past) order next (agree more) may
-follow_on start whole past ends finished agree (Answered id reply ∷ more) next may =
-    happens_too start start _ _ next (agree (Answered id reply ∷ more)) may
-follow_on start whole past ends finished agree (Sent frame answer ∷ more) next may =
-    happens_too start start _ _ next (agree (Sent frame answer ∷ more)) may
-follow_on start whole past ends finished agree (Kept entry ∷ more) next may =
-    happens_too start start _ _ next (agree (Kept entry ∷ more)) may
-follow_on start whole past ends finished agree (Stopped ∷ more) next may =
-    happens_too start start _ _ next (agree (Stopped ∷ more)) may
-follow_on start whole past ends finished agree (Powered address ∷ more) next may =
-    happens_too start start _ _ next (agree (Powered address ∷ more)) may
+follow_on start whole past ends finished agree (last ∷ more) next may =
+    happens_too start start (last ∷ more ++ whole) (last ∷ more ++ past) next (agree (last ∷ more)) may
 
 pub nothing_changed : RefusedOrdersChangeNothing
 nothing_changed start past more order moment reply next finished other =
     let whole : List Happening = Answered order.id reply ∷ Asked order moment ∷ past in
     let one = passed_over start past order moment reply other in
     let agree = agree_on start whole past tt finished one in
-    let told = told_on more whole past (told_still past order moment reply other) in (
+    let told = frames_on is_turn more whole past (told_still past order moment reply other) in (
       (
         follow_on start past whole finished tt (agree_on start past whole finished tt (turned one)) more next,
         follow_on start whole past tt finished agree more next,
@@ -275,10 +205,3 @@ nothing_changed start past more order moment reply next finished other =
         planned_too start start (more ++ whole) (more ++ past) next (agree more).records told,
       ),
     )
-
--- so a frame behind a refused order leaves what may come behind the frame without it
-pub behind_a_refused_order : RefusedOrdersChangeNothing → (next : Happening)
-    → (MayFollow empty (Sent (Dtr1 1) None ∷ busy_while_at_work) next ↔ MayFollow empty first_frame next)
-    × (IsPlanned empty (Sent (Dtr1 1) None ∷ busy_while_at_work) next ↔ IsPlanned empty first_frame next)
-behind_a_refused_order law next =
-    law empty begun (Sent (Dtr1 1) None ∷ []) second_order 9 replies.Busy next tt (λ same. cc)

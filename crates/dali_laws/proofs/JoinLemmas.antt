@@ -1,15 +1,16 @@
 -- A trace that begins anew from the records of the one before it tells what it would tell after that one and a stop.
 -- So the two are one trace.
 use Rattle.std.proofs.Common.{◌≡◌, refl, sym, ap, subst, List, [], ◌∷◌, ◌++◌}
-use Rattle.dali_trace.specs.declared.happening.Reply.TheVariants as replies
 use Rattle.dali_trace.specs.declared.happening.Happening.{Happening}
-use Rattle.dali_trace.specs.declared.happening.Happening.TheVariants.{Asked, Answered, Sent, Kept, Stopped}
-use Rattle.dali_trace.specs.Trace.{Start, records_of, sent_of, sent_since_taken, Course, replied, next_course}
+use Rattle.dali_trace.specs.declared.happening.Happening.TheVariants.{Asked, Answered, Kept, Stopped}
+use Rattle.dali_trace.specs.Cut.{is_stop, is_start, is_turn, frames_in}
+use Rattle.dali_trace.specs.Trace.{Start, records_of, Course, replied, next_course}
 use Rattle.dali_trace.specs.Trace.{course_of}
 use Rattle.dali_trace.specs.Legal.{MayFollow, Legal, IsFinished}
-use Rattle.dali_trace.specs.ByPlan.{told_in, ByPlan}
+use Rattle.dali_trace.specs.ByPlan.{ByPlan}
+use Rattle.dali_trace.proofs.CutLemmas.{since_joined}
 use Rattle.dali_laws.specs.Joined.{Sitting, joined, FollowOn, IsOneTrace, SittingsAreRight}
-use Rattle.dali_laws.proofs.AgreeLemmas.{Agree, happens_too, replies_too, planned_too}
+use Rattle.dali_laws.proofs.AgreeLemmas.{Agree, happens_too, replies_too, planned_too, may_follow}
 use Rattle.dali_laws.proofs.PoweredLemmas.{powered_legal}
 use Rattle.dali_laws.proofs.MomentLemmas.{every_moment}
 
@@ -20,30 +21,6 @@ pub joined_records : (start next : Start) (past more : List Happening) → next.
 joined_records start next past [] same = sym same
 joined_records start next past (Kept entry ∷ more) same = ap (◌∷◌ entry) (joined_records start next past more same)
 joined_records start next past (other ∷ more) same = joined_records start next past more same
-
-joined_sent : (past more : List Happening) → sent_of (more ++ Stopped ∷ past) ≡ sent_of more
-joined_sent past [] = refl
-joined_sent past (Sent frame answer ∷ more) =
-    ap (◌∷◌ (record { frame = frame; answer = answer })) (joined_sent past more)
-joined_sent past (Stopped ∷ more) = refl
-joined_sent past (other ∷ more) = joined_sent past more
-
-joined_since : (past more : List Happening) → sent_since_taken (more ++ Stopped ∷ past) ≡ sent_since_taken more
-joined_since past [] = refl
-joined_since past (Sent frame answer ∷ more) =
-    ap (◌∷◌ (record { frame = frame; answer = answer })) (joined_since past more)
-joined_since past (Answered id replies.Taken ∷ more) = refl
-joined_since past (Stopped ∷ more) = refl
-joined_since past (other ∷ more) = joined_since past more
-
-joined_told : (past more : List Happening) → told_in (more ++ Stopped ∷ past) ≡ told_in more
-joined_told past [] = refl
-joined_told past (Sent frame answer ∷ more) =
-    ap (◌∷◌ (record { frame = frame; answer = answer })) (joined_told past more)
-joined_told past (Answered id replies.Taken ∷ more) = refl
-joined_told past (Kept entry ∷ more) = refl
-joined_told past (Stopped ∷ more) = refl
-joined_told past (other ∷ more) = joined_told past more
 
 joined_course : (past more : List Happening) → course_of (more ++ Stopped ∷ past) ≡ course_of more
 joined_course past [] = refl
@@ -56,8 +33,8 @@ joined_agree : (start next : Start) (past more : List Happening) → next.record
 joined_agree start next past more records limit = record {
   limit = sym limit;
   records = joined_records start next past more records;
-  sent = joined_sent past more;
-  since = joined_since past more;
+  sent = ap frames_in (since_joined is_stop Stopped past more refl);
+  since = ap frames_in (since_joined is_start Stopped past more refl);
   course = joined_course past more;
 }
 
@@ -73,16 +50,10 @@ follows_too start next past (last ∷ more) newest records limit may =
     happens_too start next (last ∷ more ++ Stopped ∷ past) (last ∷ more) newest
     (joined_agree start next past (last ∷ more) records limit) may
 
--- a program may be stopped where no reply is due
-may_stop : (start : Start) (past : List Happening) → IsFinished past → MayFollow start past Stopped
-may_stop start (Asked order moment ∷ past) finished = absurd finished
-may_stop start [] finished = tt
-may_stop start (other ∷ past) finished = tt
-
 pub joined_legal : (start next : Start) (past more : List Happening) → Legal start past → IsFinished past
     → next.records ≡ records_of start past
     → next.limit ≡ start.limit → Legal next more → Legal start (more ++ Stopped ∷ past)
-joined_legal start next past [] legal finished records limit after = (legal, may_stop start past finished)
+joined_legal start next past [] legal finished records limit after = (legal, may_follow start past Stopped finished tt)
 joined_legal start next past (newest ∷ more) legal finished records limit after = (
   joined_legal start next past more legal finished records limit after.0,
   follows_too start next past more newest records limit after.1,
@@ -95,7 +66,7 @@ joined_planned start next past [] planned same after = (planned, tt)
 joined_planned start next past (newest ∷ more) planned same after = (
   joined_planned start next past more planned same after.0,
   planned_too start next (more ++ Stopped ∷ past) more newest (joined_records start next past more same)
-      (joined_told past more) after.1,
+      (ap frames_in (since_joined is_turn Stopped past more refl)) after.1,
 )
 
 pub joined_finished : (past more : List Happening) → IsFinished more → IsFinished (more ++ Stopped ∷ past)

@@ -60,31 +60,17 @@ rests_so now start past entry told may =
 pub may_keep : (start : Start) (past : List Happening) (entry : Record) → MayFollow start past (Kept entry)
     → MayKeep start past entry
 may_keep start (Asked order moment ∷ past) entry may = absurd may
-may_keep start [] entry may = may
-may_keep start (Answered id reply ∷ past) entry may = may
-may_keep start (Sent frame answer ∷ past) entry may = may
-may_keep start (Kept last ∷ past) entry may = may
-may_keep start (Stopped ∷ past) entry may = may
-may_keep start (Powered address ∷ past) entry may = may
+may_keep start _ entry may = may
 
 pub may_send : (start : Start) (past : List Happening) (frame : Frame) (answer : Option ℕ)
     → MayFollow start past (Sent frame answer)
     → MaySend past (standing_at start past) frame
 may_send start (Asked order moment ∷ past) frame answer may = absurd may
-may_send start [] frame answer may = may
-may_send start (Answered id reply ∷ past) frame answer may = may
-may_send start (Sent last heard ∷ past) frame answer may = may
-may_send start (Kept last ∷ past) frame answer may = may
-may_send start (Stopped ∷ past) frame answer may = may
-may_send start (Powered address ∷ past) frame answer may = may
+may_send start _ frame answer may = may
 
 told_step : (old new : World) (start : Start) (past : List Happening) (next : Happening) → MayFollow start past next
     → Moves old next new
     → IsTold start past old → IsTold start (next ∷ past) new × WhenKept start (next ∷ past) new
-told_step old new start past (Asked order moment) may same told =
-    (told_quiet old new start past (Asked order moment) refl refl refl same told, tt)
-told_step old new start past (Answered id reply) may same told =
-    (told_quiet old new start past (Answered id reply) refl refl refl same told, tt)
 told_step old new start past (Sent frame answer) may carry told =
     (record { sentence = told.sentence; since = told.since; run = (old, new, told.run, carry, Stays) }, tt)
 told_step old new start past (Kept entry) may same told =
@@ -105,6 +91,7 @@ told_step old new start past (Powered address) may lost told = (
   },
   tt,
 )
+told_step old new start past next may same told = (told_quiet old new start past next refl refl refl same told, tt)
 
 -- each record is true when it is kept, whichever units were enabled at first
 pub each_kept : (start : Start) (first : World) (past : List Happening) (last : World) (states : List World)
@@ -123,11 +110,7 @@ among_all : (lost : List ℕ) (past : List Happening) (address : ℕ) → IsAmon
 among_all lost [] address among = absurd among
 among_all lost (Powered at ∷ past) address (inl is) = inl is
 among_all lost (Powered at ∷ past) address (inr before) = inr (among_all lost past address before)
-among_all lost (Asked order moment ∷ past) address among = among_all lost past address among
-among_all lost (Answered id reply ∷ past) address among = among_all lost past address among
-among_all lost (Sent frame answer ∷ past) address among = among_all lost past address among
-among_all lost (Kept entry ∷ past) address among = among_all lost past address among
-among_all lost (Stopped ∷ past) address among = among_all lost past address among
+among_all lost (_ ∷ past) address among = among_all lost past address among
 
 -- the world is fine where these units have lost their power by now
 abbrev FineAt : World → List ℕ → Start → List Happening → World → Type 0
@@ -136,10 +119,6 @@ FineAt zero lost start past now = IsFine zero (records_of start past) (powered_o
 fine_step : (zero old new : World) (lost : List ℕ) (start : Start) (past : List Happening) (next : Happening)
     → IsLockedAbove zero → MayFollow start past next → Moves old next new
     → IsTold start past old → FineAt zero lost start past old → FineAt zero lost start (next ∷ past) new
-fine_step zero old new lost start past (Asked order moment) locked may same told fine =
-    subst (FineAt zero lost start past) (sym same) fine
-fine_step zero old new lost start past (Answered id reply) locked may same told fine =
-    subst (FineAt zero lost start past) (sym same) fine
 fine_step zero old new lost start past (Sent frame answer) locked may carry told fine =
     after_sent zero old new told.since (records_of start past) (powered_of lost past) past frame answer told.sentence
     (run_among WorldStep (sent_of past) told.since old (among_all lost past) told.run)
@@ -156,10 +135,9 @@ fine_step zero old new lost start past (Kept entry) locked may same told fine =
           so still.fits;
       only = keeps_only (powered_of [] past) new (standing_at start past) entry kept.whole.0.1 so still.only;
     }
-fine_step zero old new lost start past Stopped locked may same told fine =
-    subst (FineAt zero lost start past) (sym same) fine
 fine_step zero old new lost start past (Powered address) locked may loses told fine =
     after_loss zero old new (records_of start past) (powered_of lost past) address locked loses fine
+fine_step zero old new lost start past _ locked may same told fine = subst (FineAt zero lost start past) (sym same) fine
 
 every_fine : (zero : World) (lost : List ℕ) (start : Start) (first : World) (past : List Happening) (last : World)
     (states : List World)

@@ -27,7 +27,7 @@ use Rattle.dali_trace.specs.Trace.{waiting_since}
 use Rattle.dali_trace.specs.Trace.{Start, records_of, standing_at, waiting, has_ended, is_at_work, is_busy, is_full}
 use Rattle.dali_trace.specs.Trace.{course_of}
 use Rattle.dali_trace.specs.Legal.{EndsAs, HasNumber, IsDue, MaySend, MayHappen, Replies, Legal}
-use Rattle.dali_trace.specs.Grounds.{verdict_told, EndsIn}
+use Rattle.dali_trace.specs.Grounds.{verdict_of, EndsIn}
 use Rattle.dali_trace.specs.ByPlan.{told_in, Asks, IsPlanned}
 use Rattle.dali_trace.specs.Parts.{IsWork}
 use Rattle.dali_trace.specs.Next.{IsNext, IsSameBut}
@@ -62,28 +62,43 @@ asks_one (standings.Left unit) told one other first second =
     wants_one told unit (close verdicts.Closed verdicts.NotClosed) one other first second
 
 -- no code tells that an order may be opened
-not_opened : (order : Contents) (code : Code)
-    → verdict_told (standings.Began order) (Ended code) ≡ Some verdicts.MayOpen → ⊥
-not_opened order codes.Short e = cc
-not_opened order codes.Format e = cc
-not_opened order codes.Silent e = cc
-not_opened order _ e = cc
+not_opened : (code : Code) → verdict_of (Ended code) ≡ Some verdicts.MayOpen → ⊥
+not_opened codes.Done e = cc
+not_opened codes.Short e = cc
+not_opened codes.Format e = cc
+not_opened codes.Silent e = cc
+not_opened codes.Doubt e = cc
+not_opened codes.DoubtOpen e = cc
 
 -- one record tells of a verdict
 ends_one : (stands : Standing) (verdict : Verdict) (one other : Record) → EndsIn stands verdict one
     → EndsIn stands verdict other → other ≡ one
 ends_one (standings.Began order) verdict (Opened unit) (Opened left) first second =
     let is = first.0 in let same = second.0 in cc
+ends_one (standings.Left unit) verdict (Closed one) (Closed other) first second =
+    let is = first.0 in let same = second.0 in cc
 ends_one (standings.Began order) verdict (Opened unit) (Ended code) first second =
-    absurd (not_opened order code (second.1 ∙ sym first.1))
+    absurd (not_opened code (second.1 ∙ sym first.1))
 ends_one (standings.Began order) verdict (Ended codes.Short) (Ended codes.Short) first second = refl
 ends_one (standings.Began order) verdict (Ended codes.Format) (Ended codes.Format) first second = refl
 ends_one (standings.Began order) verdict (Ended codes.Silent) (Ended codes.Silent) first second = refl
 ends_one (standings.Opened order) verdict (Ended codes.Done) (Ended codes.Done) first second = refl
 ends_one (standings.Opened order) verdict (Ended codes.Doubt) (Ended codes.Doubt) first second = refl
 ends_one (standings.Opened order) verdict (Ended codes.DoubtOpen) (Ended codes.DoubtOpen) first second = refl
-ends_one (standings.Left unit) verdict (Closed one) (Closed other) first second =
-    let is = first.0 in let same = second.0 in cc
+ends_one standings.Idle verdict (Began order moment) _ first second = let told = first.1 in cc
+ends_one standings.Idle verdict _ _ first second = absurd first.0
+ends_one (standings.Began order) verdict (Closed unit) _ first second = absurd first.0
+ends_one (standings.Began order) verdict (Ended codes.Done) _ first second = absurd first.0
+ends_one (standings.Began order) verdict (Ended codes.Doubt) _ first second = absurd first.0
+ends_one (standings.Began order) verdict (Ended codes.DoubtOpen) _ first second = absurd first.0
+ends_one (standings.Opened order) verdict (Opened unit) _ first second = absurd first.0
+ends_one (standings.Opened order) verdict (Closed unit) _ first second = absurd first.0
+ends_one (standings.Opened order) verdict (Ended codes.Short) _ first second = absurd first.0
+ends_one (standings.Opened order) verdict (Ended codes.Format) _ first second = absurd first.0
+ends_one (standings.Opened order) verdict (Ended codes.Silent) _ first second = absurd first.0
+ends_one (standings.Left unit) verdict (Opened left) _ first second = absurd first.0
+ends_one (standings.Left unit) verdict (Ended code) _ first second = absurd first.0
+ends_one (standings.Left unit) verdict (Closed one) (Ended code) first second = absurd second.0
 ends_one _ verdict _ _ first second = let told = first.1 in let other = second.1 in cc
 
 number_one : (one other : ℕ) (waits : Option Contents) → HasNumber one waits → HasNumber other waits → other ≡ one
@@ -116,11 +131,12 @@ data Due (start : Start) (past : List Happening) (next : Happening) : Type 0 whe
       → Due start past next
   Begins : (order : Contents) → standing_at start past ≡ standings.Idle → waiting past ≡ Some order
       → next ≡ Kept (Began order (waiting_since past)) → Due start past next
-  GoesOn : (ask : Ask) → Asks (standing_at start past) (told_in past) ask
+  Continues : (ask : Ask) → Asks (standing_at start past) (told_in past) ask
       → IsAtHand (standing_at start past) (waiting past)
       → Does (standing_at start past) (waiting past) ask next → Due start past next
 
-idle_began : (stands : Standing) (order : Contents) (moment : ℕ) → Allows stands (Began order moment) → stands ≡ standings.Idle
+idle_began : (stands : Standing) (order : Contents) (moment : ℕ) → Allows stands (Began order moment)
+    → stands ≡ standings.Idle
 idle_began standings.Idle order moment allowed = refl
 idle_began stands order moment allowed = absurd allowed
 
@@ -134,7 +150,8 @@ sent_at_hand past stands told frame may asked = tt
 kept_at_hand : (past : List Happening) (stands : Standing) (verdict : Verdict) (entry : Record) → IsDue past entry
     → EndsIn stands verdict entry
     → IsAtHand stands (waiting past)
-kept_at_hand past standings.Idle verdict entry due ends = let none = ends.1 in cc
+kept_at_hand past standings.Idle verdict (Began order moment) due ends = let none = ends.1 in cc
+kept_at_hand past standings.Idle verdict entry due ends = absurd ends.0
 kept_at_hand past (standings.Left unit) verdict entry due ends =
     let is = (closed_verdict unit verdict entry ends).1 in (rw is at due).0
 kept_at_hand past stands verdict entry due ends = tt
@@ -152,7 +169,7 @@ kept_due : (start : Start) (past : List Happening) (entry : Record) → IsDue pa
     × EndsIn (standing_at start past) verdict entry
     → Due start past (Kept entry)
 kept_due start past entry due (verdict, asked, ends) =
-    GoesOn (asks.Ended verdict) asked (kept_at_hand past (standing_at start past) verdict entry due ends)
+    Continues (asks.Ended verdict) asked (kept_at_hand past (standing_at start past) verdict entry due ends)
     (does_keep (standing_at start past) (waiting past) verdict entry ends)
 
 some_waits : (id : ℕ) (waits : Option Contents) → HasNumber id waits → IsSome waits
@@ -163,11 +180,11 @@ due : (start : Start) (past : List Happening) (next : Happening) → IsWork next
     → IsPlanned start past next → Due start past next
 due start past (Answered id (replies.Kept code)) work may planned = Says id code may.0 may.1 refl
 due start past (Answered id (replies.Blocked unit)) work may planned =
-    GoesOn (asks.Ended verdicts.NotClosed) planned (rw may.0 (some_waits id (waiting past) may.1))
+    Continues (asks.Ended verdicts.NotClosed) planned (rw may.0 (some_waits id (waiting past) may.1))
     (rw may.0 (id, may.1, refl))
 due start past (Answered id reply) work may planned = absurd may
 due start past (Sent frame answer) work may planned =
-    GoesOn (asks.Send frame) planned (sent_at_hand past (standing_at start past) (told_in past) frame may planned)
+    Continues (asks.Send frame) planned (sent_at_hand past (standing_at start past) (told_in past) frame may planned)
     (answer, refl)
 due start past (Kept (Began order moment)) work may planned =
     Begins order (idle_began (standing_at start past) order moment may.whole.0.1) may.due.0
@@ -214,20 +231,20 @@ one_due start past one other legal (Says id code ended ends is) (Says number las
     rw is (same ∙ ends_as_one id number code last (orders_of (records_of start past)) ends so)
 one_due start past one other legal (Begins order idle waits is) (Begins waiter _ so same) =
     let begun : waiter ≡ order = cc in rw is (same ∙ ap (λ o. Kept (Began o (waiting_since past))) begun)
-one_due start past one other legal (GoesOn ask asked hand does) (GoesOn wish wished _ did) =
+one_due start past one other legal (Continues ask asked hand does) (Continues wish wished _ did) =
     let same = asks_one (standing_at start past) (told_in past) wish ask wished asked in
     does_one (standing_at start past) (waiting past) ask one other does (rw same at did)
 one_due start past one other legal (Says id code ended ends is) (Begins order idle waits same) =
     ended_not_waiting start past order legal ended waits
 one_due start past one other legal (Begins order idle waits is) (Says id code ended ends same) =
     ended_not_waiting start past order legal ended waits
-one_due start past one other legal (Says id code ended ends is) (GoesOn ask asked hand does) =
+one_due start past one other legal (Says id code ended ends is) (Continues ask asked hand does) =
     ended_not_on start past legal ended hand
-one_due start past one other legal (GoesOn ask asked hand does) (Says id code ended ends same) =
+one_due start past one other legal (Continues ask asked hand does) (Says id code ended ends same) =
     ended_not_on start past legal ended hand
-one_due start past one other legal (Begins order idle waits is) (GoesOn ask asked hand does) =
+one_due start past one other legal (Begins order idle waits is) (Continues ask asked hand does) =
     idle_not_on (standing_at start past) (waiting past) idle hand
-one_due start past one other legal (GoesOn ask asked hand does) (Begins order idle waits same) =
+one_due start past one other legal (Continues ask asked hand does) (Begins order idle waits same) =
     idle_not_on (standing_at start past) (waiting past) idle hand
 
 one_reply : (start : Start) (past : List Happening) (order : Contents) (one other : Happening)

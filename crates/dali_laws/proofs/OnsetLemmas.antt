@@ -3,7 +3,7 @@ use Rattle.std.proofs.Common.{◌≡◌, ◌≢◌, inl, inr, refl, sym, ap, ◌
 use Rattle.std.proofs.Common.{List, [], ◌∷◌, ◌++◌, Option, Some, None, is_some, arith}
 use Rattle.std.proofs.lemmas.Bool.{eqb-true}
 use Rattle.dali_bank.specs.Order.{Contents}
-use Rattle.dali_bus.specs.Chain.{IsChain, AtEachMoment}
+use Rattle.dali_bus.specs.Chain.{IsChain, AtEachMoment, AtEachState}
 use Rattle.dali_bus.specs.World.{World, Gear, byte_in, byte_at, is_open}
 use Rattle.dali_gear.specs.UnitState.{BankState, UnitState, gear_of}
 use Rattle.dali_gear.specs.SimState.{SimState, SimStep, AreApart, AreBanks, world_of}
@@ -35,7 +35,7 @@ use Rattle.dali_trace.specs.Moments.{IsRight}
 use Rattle.dali_trace.specs.Work.{stood_at, kept_since}
 use Rattle.dali_laws.proofs.RecordLemmas.{not_lock}
 use Rattle.dali_laws.proofs.Courses.{EndedBy}
-use Rattle.dali_trace.specs.Spared.{state_at_start, IsSpared, AtEachState}
+use Rattle.dali_trace.specs.Spared.{state_at_start, IsSpared}
 use Rattle.dali_laws.proofs.StandingLemmas.{named_opened}
 use Rattle.dali_laws.proofs.RepeatLemmas.{legal_sentence}
 use Rattle.dali_laws.proofs.RunLossLemmas.{IsAnother, since_start}
@@ -250,11 +250,6 @@ said_spared : (start : Start) (zero : World) (first : SimState) (past : List Hap
     → IsChain (MovesBy SimStep) first past last states → AsksAllProper past → RightAlong zero start past last states
     → IsSpared start past last states
 said_spared start zero first [] last states none legal planned chain asks each = tt
-said_spared start zero first (Asked order moment ∷ past) last states none legal planned chain asks each = tt
-said_spared start zero first (Sent frame answer ∷ past) last states none legal planned chain asks each = tt
-said_spared start zero first (Kept entry ∷ past) last states none legal planned chain asks each = tt
-said_spared start zero first (Stopped ∷ past) last states none legal planned chain asks each = tt
-said_spared start zero first (Powered address ∷ past) last states none legal planned chain asks each = tt
 said_spared start zero first (Answered id reply ∷ Asked order moment ∷ past) last states none legal planned chain asks each =
     tt
 said_spared start zero first (Answered id reply ∷ past) last [] none legal planned chain asks each = absurd chain
@@ -291,6 +286,7 @@ said_spared start zero first (Answered id (replies.Blocked left) ∷ past) last 
     little.few)
 said_spared start zero first (Answered id reply ∷ past) last (state ∷ states) none legal planned chain asks each =
     absurd legal.1
+said_spared start zero first (_ ∷ past) last states none legal planned chain asks each = tt
 
 pub all_spared : (start : Start) (zero : World) (first : SimState) (past : List Happening) (last : SimState)
     (states : List SimState)

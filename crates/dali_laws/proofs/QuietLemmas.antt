@@ -85,7 +85,7 @@ after_answer start past id reply legal still not = says_none start past id reply
 pub stays_still : (start : Start) (past more : List Happening) → Legal start (more ++ past) → is_busy start past ≡ false
     → NoneTaken more
     → IsStill start (more ++ past) × NoneSent more × (records_of start (more ++ past) ≡ records_of start past)
-stays_still start past [] legal e none = (is_still start past legal e, tt, refl)
+stays_still start past [] legal e none = (is_still start past legal e, refl, refl)
 stays_still start past (Asked order moment ∷ more) legal e none =
     let before = stays_still start past more legal.0 e none in
     (record { idle = before.0.idle; said = before.0.said; none = before.0.none }, before.1, before.2)

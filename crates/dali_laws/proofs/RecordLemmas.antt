@@ -17,8 +17,8 @@ use Rattle.dali_write.specs.Findings.{ShowsAll, IsWritten}
 use Rattle.dali_write.specs.Worlds.{IsAmong, MayRelock, Shows}
 use Rattle.dali_write.specs.declared.ask.Verdict.{Verdict}
 use Rattle.dali_write.specs.declared.ask.Verdict.TheVariants as verdicts
-use Rattle.dali_write.proofs.RestLemmas.{Shown, rests_too}
-use Rattle.dali_trace.specs.Grounds.{verdict_told, RestsIfTold, Grounds}
+use Rattle.dali_write.proofs.RestLemmas.{Shown, rests_on_too}
+use Rattle.dali_trace.specs.Grounds.{verdict_of, IsSeen, RestsIfAny, Grounds}
 use Rattle.dali_trace.specs.Possible.{Applied, Untouched, InDoubt, byte_for, MayHold, IsPossible}
 use Rattle.dali_trace.specs.Fits.{Fits, HasBeenOpened, IsLockByte}
 use Rattle.dali_trace.specs.WhenKept.{Holds}
@@ -209,22 +209,19 @@ keeps_only lost now _ _ allowed grounds only address on = absurd allowed
 
 -- what a record rests on is so of one way of showing where it is so of another that shows no less
 told_too : (P Q : ℕ → ℕ → Type 0) (updates : List (ℕ × ℕ)) (told : Option Verdict) → Shown P Q
-    → RestsIfTold P updates told
-    → RestsIfTold Q updates told
+    → RestsIfAny P updates told
+    → RestsIfAny Q updates told
 told_too P Q updates None f rests = tt
-told_too P Q updates (Some verdicts.Doubt) f rests = (rests.0, rests.1, f rests.0 rests.1 rests.2)
-told_too P Q updates (Some verdicts.Closed) f rests = (rests.0, rests.1, f rests.0 rests.1 rests.2)
-told_too P Q updates (Some verdict) f rests = rests_too P Q updates verdict f rests
+told_too P Q updates (Some verdict) f rests =
+    rests_on_too P Q (IsSeen P) (IsSeen Q) updates verdict f (λ seen. (seen.0, seen.1, f seen.0 seen.1 seen.2)) rests
 
 pub grounds_too : (P Q : ℕ → ℕ → ℕ → Type 0) → ((unit : ℕ) → Shown (P unit) (Q unit))
     → (stands : Standing) (entry : Record)
     → Grounds P stands entry → Grounds Q stands entry
 grounds_too P Q f standings.Idle entry grounds = tt
 grounds_too P Q f (standings.Began order) entry grounds =
-    told_too (P order.unit) (Q order.unit) order.updates (verdict_told (standings.Began order) entry)
-    (f order.unit) grounds
+    told_too (P order.unit) (Q order.unit) order.updates (verdict_of entry) (f order.unit) grounds
 grounds_too P Q f (standings.Opened order) entry grounds =
-    told_too (P order.unit) (Q order.unit) order.updates (verdict_told (standings.Opened order) entry)
-    (f order.unit) grounds
+    told_too (P order.unit) (Q order.unit) order.updates (verdict_of entry) (f order.unit) grounds
 grounds_too P Q f (standings.Left unit) entry grounds =
-    told_too (P unit) (Q unit) [] (verdict_told (standings.Left unit) entry) (f unit) grounds
+    told_too (P unit) (Q unit) [] (verdict_of entry) (f unit) grounds

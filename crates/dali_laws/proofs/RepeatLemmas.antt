@@ -101,12 +101,8 @@ ended_kept records order code sentence among =
 pub legal_sentence : (start : Start) (past : List Happening) → Legal start past
     → IsSentence (records_of start past) × (length (orders_of (records_of start past)) ≤ start.limit)
 legal_sentence start [] legal = legal
-legal_sentence start (Asked order moment ∷ past) legal = legal_sentence start past legal.0
-legal_sentence start (Answered id reply ∷ past) legal = legal_sentence start past legal.0
-legal_sentence start (Sent frame answer ∷ past) legal = legal_sentence start past legal.0
 legal_sentence start (Keeps entry ∷ past) legal = let may = may_keep start past entry legal.1 in may.whole
-legal_sentence start (Stopped ∷ past) legal = legal_sentence start past legal.0
-legal_sentence start (Powered address ∷ past) legal = legal_sentence start past legal.0
+legal_sentence start (_ ∷ past) legal = legal_sentence start past legal.0
 
 -- what follows a repeat at once
 answered : (start : Start) (past : List Happening) (order : Contents) (code : Code) (next : Happening)
@@ -117,11 +113,7 @@ answered start past order code (Answered id reply) ended (same, due) =
     only_due order (kept_of order.id (records_of start past)) (is_busy start past) (is_full start past)
     (replies.Kept code) reply ended due in
     λ i. Answered (same i) (is i)
-answered start past order code (Asked other moment) ended due = absurd due
-answered start past order code (Sent frame answer) ended due = absurd due
-answered start past order code (Keeps entry) ended due = absurd due
-answered start past order code Stopped ended due = absurd due
-answered start past order code (Powered address) ended due = absurd due
+answered start past order code _ ended due = absurd due
 
 pub repeat_answered : (start : Start) (past : List Happening) (order : Contents) (moment : ℕ) (code : Code)
     (next : Happening)
@@ -139,17 +131,8 @@ legal_before start past (next ∷ more) legal = legal_before start past more leg
 -- a kept reply takes no order
 none_more : (more older : List Happening) → NoneTaken more → NoneTaken older → NoneTaken (more ++ older)
 none_more [] older none before = before
-none_more (Asked order moment ∷ more) older none before = none_more more older none before
 none_more (Answered id replies.Taken ∷ more) older none before = absurd none
-none_more (Answered id (replies.Kept code) ∷ more) older none before = none_more more older none before
-none_more (Answered id replies.IdReused ∷ more) older none before = none_more more older none before
-none_more (Answered id replies.Busy ∷ more) older none before = none_more more older none before
-none_more (Answered id replies.Full ∷ more) older none before = none_more more older none before
-none_more (Answered id (replies.Blocked unit) ∷ more) older none before = none_more more older none before
-none_more (Sent frame answer ∷ more) older none before = none_more more older none before
-none_more (Keeps entry ∷ more) older none before = none_more more older none before
-none_more (Stopped ∷ more) older none before = none_more more older none before
-none_more (Powered address ∷ more) older none before = none_more more older none before
+none_more (_ ∷ more) older none before = none_more more older none before
 
 pub repeat_quiet : (start : Start) (past more : List Happening) (order : Contents) (moment : ℕ) (code : Code)
     (next : Happening)

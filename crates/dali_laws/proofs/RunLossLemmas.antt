@@ -1,5 +1,5 @@
 -- The run of the simulated bus behind a trace, what of it is lost, and its halves.
-use Rattle.std.proofs.Common.{◌≡◌, ◌≢◌, refl, sym, ap, subst, ℕ, ◌+◌, ◌≤◌, Bool, true, false, ◌||◌}
+use Rattle.std.proofs.Common.{◌≡◌, ◌≢◌, refl, sym, ap, subst, ℕ, ◌+◌, ◌≤◌, Bool, true, false, ◌||◌, ◌∙◌, length}
 use Rattle.std.proofs.Common.{if◌then◌else◌, List, [], ◌∷◌, ◌++◌, Option, Some, None, arith}
 use Rattle.dali_frame.specs.declared.forward.Frame.{Frame}
 use Rattle.dali_bus.specs.Chain.{IsChain}
@@ -8,7 +8,7 @@ use Rattle.dali_write.specs.Exchanges.{Exchange}
 use Rattle.dali_write.specs.Losses.{is_loss}
 use Rattle.dali_trace.specs.declared.happening.Reply.TheVariants as replies
 use Rattle.dali_trace.specs.declared.happening.Happening.{Happening}
-use Rattle.dali_trace.specs.declared.happening.Happening.TheVariants.{Asked, Answered, Sent, Kept, Stopped, Powered}
+use Rattle.dali_trace.specs.declared.happening.Happening.TheVariants.{Answered, Sent, Stopped, Powered}
 use Rattle.dali_trace.specs.Trace.{sent_since_taken}
 use Rattle.dali_trace.specs.Moves.{MovesBy}
 use Rattle.dali_trace.specs.Spared.{is_lost_to, state_at_start, losses_since, UnrefusedSince, KeepsPowerSince}
@@ -65,6 +65,11 @@ drifts_on unit left (x ∷ told) first last state count Kind address is lost sin
       kind = since.kind;
     }
 
+one_more : (lost : Bool) (sent : Frame × SimState) (older : List (Frame × SimState))
+    → (if lost then 1 else 0) + length older ≡ length (if lost then sent ∷ older else older)
+one_more true sent older = omega arith
+one_more false sent older = omega arith
+
 pub since_start : (unit : ℕ) (left : Option ℕ) (first : SimState) (past : List Happening) (last : SimState)
     (states : List SimState)
     → IsChain (MovesBy SimStep) first past last states → KeepsPowerSince unit left past
@@ -76,28 +81,18 @@ since_start unit left first (Answered id replies.Taken ∷ past) last (state ∷
     begins_run unit left last
 since_start unit left first (Stopped ∷ past) last (state ∷ states) chain kept = begins_run unit left last
 since_start unit left first (Powered address ∷ past) last (state ∷ states) chain kept =
-    drifts_on unit left _ _ last state _ _ address (kept.0, kept.1) chain.0
-    (since_start unit left first past state states chain.1 kept.2)
+    drifts_on unit left _ _ last state _ _ address kept.0 chain.0
+    (since_start unit left first past state states chain.1 kept.1)
 since_start unit left first (Sent frame answer ∷ past) last (state ∷ states) chain kept =
     let before = since_start unit left first past state states chain.1 kept in
     record {
       run = (state, last, before.run, chain.0, Stays);
-      losses = ap (λ (n : ℕ). (if is_lost_to unit left state frame then 1 else 0) + n) before.losses;
+      losses =
+          ap (λ (n : ℕ). (if is_lost_to unit left state frame then 1 else 0) + n) before.losses
+          ∙ one_more (is_lost_to unit left state frame) (frame, state) _;
       kind = λ kind. (kind.0, before.kind kind.1);
     }
-since_start unit left first (Asked order moment ∷ past) last (state ∷ states) chain kept =
-    stays unit left _ _ last state _ _ chain.0 (since_start unit left first past state states chain.1 kept)
-since_start unit left first (Kept entry ∷ past) last (state ∷ states) chain kept =
-    stays unit left _ _ last state _ _ chain.0 (since_start unit left first past state states chain.1 kept)
-since_start unit left first (Answered id (replies.Kept code) ∷ past) last (state ∷ states) chain kept =
-    stays unit left _ _ last state _ _ chain.0 (since_start unit left first past state states chain.1 kept)
-since_start unit left first (Answered id replies.IdReused ∷ past) last (state ∷ states) chain kept =
-    stays unit left _ _ last state _ _ chain.0 (since_start unit left first past state states chain.1 kept)
-since_start unit left first (Answered id replies.Busy ∷ past) last (state ∷ states) chain kept =
-    stays unit left _ _ last state _ _ chain.0 (since_start unit left first past state states chain.1 kept)
-since_start unit left first (Answered id replies.Full ∷ past) last (state ∷ states) chain kept =
-    stays unit left _ _ last state _ _ chain.0 (since_start unit left first past state states chain.1 kept)
-since_start unit left first (Answered id (replies.Blocked other) ∷ past) last (state ∷ states) chain kept =
+since_start unit left first (_ ∷ past) last (state ∷ states) chain kept =
     stays unit left _ _ last state _ _ chain.0 (since_start unit left first past state states chain.1 kept)
 
 -- losses to the one unit, or to the one that was left, are losses to either

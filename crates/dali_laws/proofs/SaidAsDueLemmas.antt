@@ -14,7 +14,8 @@ use Rattle.dali_trace.specs.ByPlan.{ByPlan}
 use Rattle.dali_trace.specs.Parts.{AreParts}
 use Rattle.dali_trace.specs.Work.{order_at_hand}
 use Rattle.dali_trace.specs.Steps.{IsSaid}
-use Rattle.dali_trace.specs.Spared.{IsSpared, AtEachState, LosesLittle, EndsAsDue, IsSaidAsDue, SaysAsDue}
+use Rattle.dali_bus.specs.Chain.{AtEachState}
+use Rattle.dali_trace.specs.Spared.{IsSpared, LosesLittle, EndsAsDue, IsSaidAsDue, SaysAsDue}
 use Rattle.dali_laws.proofs.StepsLemmas.{cut_of, parts_add, says_in_cut}
 
 -- an earlier moment of a chain: the states along it, and what is so there

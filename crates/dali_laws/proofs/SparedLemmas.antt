@@ -23,7 +23,7 @@ use Rattle.dali_write.specs.declared.ask.Verdict.TheVariants as verdicts
 use Rattle.dali_write.specs.Plans.{greatest, read_length, unlock, close}
 use Rattle.dali_write.specs.Tries.{most_tries, Wants}
 use Rattle.dali_write.specs.Worlds.{IsOff, OnlyEnabled}
-use Rattle.dali_write.specs.Losses.{IsAlone, OnlyDiffers}
+use Rattle.dali_write.specs.Losses.{IsAlone, OnlyDiffers, losses}
 use Rattle.dali_write.specs.Misses.{misses_in}
 use Rattle.dali_write.specs.Successes.{HasBank, TakesAll, has_format, found_verdict}
 use Rattle.dali_write.proofs.RunLemmas.{sim_run}
@@ -211,41 +211,31 @@ told_code order codes.Format verdict ends = let is = ends.1 in let same : verdic
 told_code order codes.Silent verdict ends = let is = ends.1 in let same : verdict ≡ verdicts.Silent = cc in rw same refl
 told_code order _ verdict ends = absurd ends.0
 
+-- the code that is due is that of the verdict which a fresh session finds
+due_told : (bytes : List ℕ) (updates : List (ℕ × ℕ)) → due_code bytes updates ≡ code_told (found_verdict bytes updates)
+due_told bytes updates =
+    by (nat_lt (slice_index bytes 0) (greatest updates)) (nat_lt (greatest updates) 0x13) (has_format bytes)
+  where
+    by : (short low format : Bool)
+        → (if short then codes.Short else (if low then codes.Done else (if format then codes.Done else codes.Format)))
+        ≡ code_told (if short
+        then verdicts.Short
+        else (if low then verdicts.MayOpen else (if format then verdicts.MayOpen else verdicts.Format)))
+    by true low format = refl
+    by false true format = refl
+    by false false true = refl
+    by false false false = refl
+
 -- how a fresh session that ended an order says its code
 short_code : (order : Contents) (code : Code) (bytes : List ℕ) (updates : List (ℕ × ℕ))
     → EndsIn (standings.Began order) (found_verdict bytes updates) (Ended code) → code ≡ due_code bytes updates
 short_code order code bytes updates e =
-    by (nat_lt (slice_index bytes 0) (greatest updates)) (nat_lt (greatest updates) 0x13) (has_format bytes) e
-  where
-    by : (short low format : Bool)
-        → EndsIn (standings.Began order) (if short
-        then verdicts.Short
-        else (if low then verdicts.MayOpen else (if format then verdicts.MayOpen else verdicts.Format)))
-        (Ended code)
-        → code
-        ≡ (if short then codes.Short else (if low then codes.Done else (if format then codes.Done else codes.Format)))
-    by true low format e = told_code order code verdicts.Short e
-    by false true format e = told_code order code verdicts.MayOpen e
-    by false false true e = told_code order code verdicts.MayOpen e
-    by false false false e = told_code order code verdicts.Format e
+    told_code order code (found_verdict bytes updates) e ∙ sym (due_told bytes updates)
 
 -- where the order may be opened, it is to be done
 open_due : (bytes : List ℕ) (updates : List (ℕ × ℕ)) → verdicts.MayOpen ≡ found_verdict bytes updates
     → due_code bytes updates ≡ codes.Done
-open_due bytes updates e =
-    by (nat_lt (slice_index bytes 0) (greatest updates)) (nat_lt (greatest updates) 0x13) (has_format bytes) e
-  where
-    by : (short low format : Bool)
-        → verdicts.MayOpen
-        ≡ (if short
-        then verdicts.Short
-        else (if low then verdicts.MayOpen else (if format then verdicts.MayOpen else verdicts.Format)))
-        → (if short then codes.Short else (if low then codes.Done else (if format then codes.Done else codes.Format)))
-        ≡ codes.Done
-    by true low format e = cc
-    by false true format e = refl
-    by false false true e = refl
-    by false false false e = cc
+open_due bytes updates e = due_told bytes updates ∙ ap code_told (sym e)
 
 done_code : (order : Contents) (code : Code) → EndsIn (standings.Opened order) verdicts.Done (Ended code)
     → code ≡ codes.Done

@@ -26,6 +26,7 @@ use Rattle.dali_trace.specs.Parts.{IsWork, Part, AreParts}
 use Rattle.dali_trace.specs.Work.{stood_at, kept_since, work_limit, order_at, order_at_hand, IsWithinLimit}
 use Rattle.dali_trace.specs.Steps.{steps_in, NoneStops, IsSaid, PartsSince, IsSaidInTime, SaysInTime, IsCut}
 use Rattle.dali_trace.specs.Steps.{HasStepsEnough}
+use Rattle.dali_laws.proofs.AgreeLemmas.{may_happen}
 use Rattle.dali_laws.proofs.TakenLemmas.{ended_unsaid, waits_unsaid}
 use Rattle.dali_laws.proofs.MomentLemmas.{may_keep}
 use Rattle.dali_laws.proofs.StandingLemmas.{begun_order, open_order}
@@ -117,7 +118,8 @@ still_kept : (start : Start) (past : List Happening) (entry : Record) (order : C
     → order_at_hand start (Kept entry ∷ past) ≡ Some order
 still_kept start past (Began begun moment) order legal hand =
     let may = may_keep start past (Began begun moment) legal.1 in
-    still_began (standing_at start past) begun moment (waiting past) (has_ended past) (orders_of (records_of start past)) order
+    still_began (standing_at start past) begun moment (waiting past) (has_ended past)
+    (orders_of (records_of start past)) order
     may.whole.0.1 may.due.0 hand
 still_kept start past (Opened unit) order legal hand =
     let may = may_keep start past (Opened unit) legal.1 in
@@ -170,8 +172,8 @@ record IsAtHand (start : Start) (before after : List Happening) (order : Content
   start_is : stood_at start after ≡ stood_at start before
   work : steps ≤ length (sent_since_taken after) + kept_since after
 
-abbrev GoesOn : Start → List Happening → List Happening → Contents → ℕ → Type 0
-GoesOn start before after order steps = IsSaid start order before after ⊎ IsAtHand start before after order steps
+abbrev SaidOrAtHand : Start → List Happening → List Happening → Contents → ℕ → Type 0
+SaidOrAtHand start before after order steps = IsSaid start order before after ⊎ IsAtHand start before after order steps
 
 -- what was said stays said
 said_more : (start : Start) (order : Contents) (before after : List Happening) (next : Happening)
@@ -187,20 +189,9 @@ said_more start order before after next said =
       start_is = said.start_is;
     }
 
--- a saying where no reply is due
-may_say : (start : Start) (past : List Happening) (id : ℕ) (reply : Reply) → IsFinished past
-    → Legal start (Answered id reply ∷ past) → MaySay start past id reply
-may_say start [] id reply finished legal = legal.1
-may_say start (Asked order moment ∷ past) id reply finished legal = absurd finished
-may_say start (Answered other last ∷ past) id reply finished legal = legal.1
-may_say start (Sent frame answer ∷ past) id reply finished legal = legal.1
-may_say start (Kept entry ∷ past) id reply finished legal = legal.1
-may_say start (Stopped ∷ past) id reply finished legal = legal.1
-may_say start (Powered address ∷ past) id reply finished legal = legal.1
-
 one_step : (start : Start) (before mid : List Happening) (order : Contents) (steps : ℕ) (work : Happening) → IsWork work
     → Legal start (work ∷ mid) → ByPlan start (work ∷ mid)
-    → IsAtHand start before mid order steps → GoesOn start before (work ∷ mid) order (suc steps)
+    → IsAtHand start before mid order steps → SaidOrAtHand start before (work ∷ mid) order (suc steps)
 one_step start before mid order steps (Sent frame answer) is legal planned at =
     let some = at.work in
     inr (record {
@@ -223,7 +214,7 @@ one_step start before mid order steps (Kept entry) is legal planned at =
     })
 one_step start before mid order steps (Answered id reply) is legal planned at =
     let number =
-    said_number start mid id reply order legal.0 planned.0 (may_say start mid id reply at.finished legal) at.hand in
+    said_number start mid id reply order legal.0 planned.0 (may_happen start mid (Answered id reply) at.finished legal.1) at.hand in
     inl (record {
       later = [];
       reply = reply;
@@ -235,33 +226,31 @@ one_step start before mid order steps (Answered id reply) is legal planned at =
       hand = subst (λ (t : List Happening). order_at_hand start t ≡ Some order) at.parts at.hand;
       start_is = subst (λ (t : List Happening). stood_at start t ≡ stood_at start before) at.parts at.start_is;
     })
-one_step start before mid order steps (Asked other moment) is legal planned at = absurd is
-one_step start before mid order steps Stopped is legal planned at = absurd is
-one_step start before mid order steps (Powered address) is legal planned at = absurd is
+one_step start before mid order steps _ is legal planned at = absurd is
 
 not_idle : {A : Type 0} (b : Bool) → b ≡ true → b ≡ false → A
 not_idle b one two = let both : true ≡ false = sym one ∙ two in cc
 
 after_step : (start : Start) (before mid after : List Happening) (order : Contents) (steps : ℕ)
     → Part start Step mid after → Legal start after → ByPlan start after
-    → (Legal start mid → ByPlan start mid → GoesOn start before mid order steps)
-    → GoesOn start before after order (suc steps)
+    → (Legal start mid → ByPlan start mid → SaidOrAtHand start before mid order steps)
+    → SaidOrAtHand start before after order (suc steps)
 after_step start before mid after order steps (inl (work_due, (work, is, same))) legal planned rest =
     let legal_now : Legal start (work ∷ mid) = subst (Legal start) same legal in
     let planned_now : ByPlan start (work ∷ mid) = subst (ByPlan start) same planned in
-    subst (λ (t : List Happening). GoesOn start before t order (suc steps)) (sym same)
+    subst (λ (t : List Happening). SaidOrAtHand start before t order (suc steps)) (sym same)
     (by legal_now planned_now (rest legal_now.0 planned_now.0))
   where
-    by : Legal start (work ∷ mid) → ByPlan start (work ∷ mid) → GoesOn start before mid order steps
-        → GoesOn start before (work ∷ mid) order (suc steps)
+    by : Legal start (work ∷ mid) → ByPlan start (work ∷ mid) → SaidOrAtHand start before mid order steps
+        → SaidOrAtHand start before (work ∷ mid) order (suc steps)
     by legal planned (inl said) = inl (said_more start order before mid work said)
     by legal planned (inr at) = one_step start before mid order steps work is legal planned at
 after_step start before mid after order steps (inr (none_due, same)) legal planned rest =
     let legal_now : Legal start mid = subst (Legal start) same legal in
-    subst (λ (t : List Happening). GoesOn start before t order (suc steps)) (sym same)
+    subst (λ (t : List Happening). SaidOrAtHand start before t order (suc steps)) (sym same)
     (by legal_now (rest legal_now (subst (ByPlan start) same planned)))
   where
-    by : Legal start mid → GoesOn start before mid order steps → GoesOn start before mid order (suc steps)
+    by : Legal start mid → SaidOrAtHand start before mid order steps → SaidOrAtHand start before mid order (suc steps)
     by legal (inl said) = inl said
     by legal (inr at) = not_idle (is_busy start mid) (busy start mid order legal at.hand) none_due
 
@@ -282,15 +271,17 @@ reply_on start before mid order asked moment steps reply legal at = record {
 
 after_submit : (start : Start) (before mid after : List Happening) (order asked : Contents) (moment steps : ℕ)
     → Part start (Submit asked moment) mid after → Legal start after → ByPlan start after
-    → (Legal start mid → ByPlan start mid → GoesOn start before mid order steps) → GoesOn start before after order steps
+    → (Legal start mid → ByPlan start mid → SaidOrAtHand start before mid order steps)
+    → SaidOrAtHand start before after order steps
 after_submit start before mid after order asked moment steps (reply, same) legal planned rest =
     let legal_now : Legal start (Answered asked.id reply ∷ Asked asked moment ∷ mid) = subst (Legal start) same legal in
-    let planned_now : ByPlan start (Answered asked.id reply ∷ Asked asked moment ∷ mid) = subst (ByPlan start) same planned in
-    subst (λ (t : List Happening). GoesOn start before t order steps) (sym same)
+    let planned_now : ByPlan start (Answered asked.id reply ∷ Asked asked moment ∷ mid) = subst (ByPlan start) same
+    planned in
+    subst (λ (t : List Happening). SaidOrAtHand start before t order steps) (sym same)
     (by legal_now (rest legal_now.0.0 planned_now.0.0))
   where
-    by : Legal start (Answered asked.id reply ∷ Asked asked moment ∷ mid) → GoesOn start before mid order steps
-        → GoesOn start before (Answered asked.id reply ∷ Asked asked moment ∷ mid) order steps
+    by : Legal start (Answered asked.id reply ∷ Asked asked moment ∷ mid) → SaidOrAtHand start before mid order steps
+        → SaidOrAtHand start before (Answered asked.id reply ∷ Asked asked moment ∷ mid) order steps
     by legal (inl said) =
         inl (said_more start order before (Asked asked moment ∷ mid) (Answered asked.id reply)
         (said_more start order before mid (Asked asked moment) said))
@@ -298,7 +289,7 @@ after_submit start before mid after order asked moment steps (reply, same) legal
 
 -- a loss of power changes nothing of what is at hand
 after_loss : (start : Start) (before mid : List Happening) (order : Contents) (steps address : ℕ)
-    → GoesOn start before mid order steps → GoesOn start before (Powered address ∷ mid) order steps
+    → SaidOrAtHand start before mid order steps → SaidOrAtHand start before (Powered address ∷ mid) order steps
 after_loss start before mid order steps address (inl said) =
     inl (said_more start order before mid (Powered address) said)
 after_loss start before mid order steps address (inr at) =
@@ -311,11 +302,12 @@ after_loss start before mid order steps address (inr at) =
       work = at.work;
     })
 
-goes_on : (start : Start) (before : List Happening) (order : Contents) (events : List Event) (after : List Happening)
+said_or_at_hand : (start : Start) (before : List Happening) (order : Contents) (events : List Event)
+    (after : List Happening)
     → IsFinished before → order_at_hand start before ≡ Some order
     → PartsSince start events before after → NoneStops events → Legal start after → ByPlan start after
-    → GoesOn start before after order (steps_in events)
-goes_on start before order [] after finished hand same none legal planned =
+    → SaidOrAtHand start before after order (steps_in events)
+said_or_at_hand start before order [] after finished hand same none legal planned =
     inr (record {
       more = [];
       parts = same;
@@ -324,19 +316,20 @@ goes_on start before order [] after finished hand same none legal planned =
       start_is = ap (stood_at start) same;
       work = omega arith;
     })
-goes_on start before order (Step ∷ events) after finished hand (mid, part, rest) none legal planned =
+said_or_at_hand start before order (Step ∷ events) after finished hand (mid, part, rest) none legal planned =
     after_step start before mid after order (steps_in events) part legal planned
-    (λ legal planned. goes_on start before order events mid finished hand rest none legal planned)
-goes_on start before order (Submit asked moment ∷ events) after finished hand (mid, part, rest) none legal planned =
+    (λ legal planned. said_or_at_hand start before order events mid finished hand rest none legal planned)
+said_or_at_hand start before order (Submit asked moment ∷ events) after finished hand (mid, part, rest) none legal
+    planned =
     after_submit start before mid after order asked moment (steps_in events) part legal planned
-    (λ legal planned. goes_on start before order events mid finished hand rest none legal planned)
-goes_on start before order (Stop bytes ∷ events) after finished hand parts none legal planned = absurd none
-goes_on start before order (Power address ∷ events) after finished hand (mid, same, rest) none legal planned =
+    (λ legal planned. said_or_at_hand start before order events mid finished hand rest none legal planned)
+said_or_at_hand start before order (Stop bytes ∷ events) after finished hand parts none legal planned = absurd none
+said_or_at_hand start before order (Power address ∷ events) after finished hand (mid, same, rest) none legal planned =
     let legal_now : Legal start (Powered address ∷ mid) = subst (Legal start) same legal in
     let planned_now : ByPlan start (Powered address ∷ mid) = subst (ByPlan start) same planned in
-    subst (λ (t : List Happening). GoesOn start before t order (steps_in events)) (sym same)
+    subst (λ (t : List Happening). SaidOrAtHand start before t order (steps_in events)) (sym same)
     (after_loss start before mid order (steps_in events) address
-    (goes_on start before order events mid finished hand rest none legal_now.0 planned_now.0))
+    (said_or_at_hand start before order events mid finished hand rest none legal_now.0 planned_now.0))
 
 within_at : (start : Start) (past : List Happening) (order : Contents) → IsWithinLimit start past
     → order_at_hand start past ≡ Some order
@@ -356,10 +349,11 @@ within_at start past order within hand = by (order_at_hand start past) hand with
 pub said_in_time : (start : Start) (before after : List Happening) → Legal start after → ByPlan start after
     → IsFinished before → IsSaidInTime start before after
 said_in_time start before after legal planned finished = λ events order parts enough.
-    by events order enough.2 (goes_on start before order events after finished enough.0 parts enough.1 legal planned)
+    by events order enough.2 (said_or_at_hand start before order events after finished enough.0 parts enough.1 legal
+    planned)
   where
     by : (events : List Event) (order : Contents) → work_limit (length order.updates) + 5 ≤ steps_in events
-        → GoesOn start before after order (steps_in events)
+        → SaidOrAtHand start before after order (steps_in events)
         → IsSaid start order before after
     by events order many (inl said) = said
     by events order many (inr at) =
@@ -441,7 +435,8 @@ cut_of start events newer middle older trace parts same =
     cut_parts start newer middle older trace (subst (λ (es : List Event). AreParts start es trace) same parts)
 
 -- the trace behind the middle ones is legal and by plan, as the whole is
-pub older_rules : (start : Start) (more past : List Happening) → Legal start (more ++ past) → ByPlan start (more ++ past)
+pub older_rules : (start : Start) (more past : List Happening) → Legal start (more ++ past)
+    → ByPlan start (more ++ past)
     → Legal start past × ByPlan start past
 older_rules start [] past legal planned = (legal, planned)
 older_rules start (next ∷ more) past legal planned = older_rules start more past legal.0 planned.0

@@ -84,22 +84,12 @@ no_ended (standings.Left left) code idle allowed = absurd allowed
 pub waits : (start : Start) (past : List Happening) (order : Contents) → Legal start past → waiting past ≡ Some order
     → Waits start past order
 waits start [] order legal e = cc
-waits start (Asked other moment ∷ past) order legal e =
-    let w = waits start past order legal.0 e in record { older = w.older; taken = w.taken; idle = w.idle }
 waits start (Answered id replies.Taken ∷ Asked other moment ∷ past) order legal e =
     let same : other ≡ order = cc in rw (← same) (newly start past id other moment legal.1.1.1)
-waits start (Answered id (replies.Kept code) ∷ Asked other moment ∷ past) order legal e =
-    let w = waits start past order legal.0.0 e in record { older = w.older; taken = w.taken; idle = w.idle }
-waits start (Answered id replies.IdReused ∷ Asked other moment ∷ past) order legal e =
-    let w = waits start past order legal.0.0 e in record { older = w.older; taken = w.taken; idle = w.idle }
-waits start (Answered id replies.Busy ∷ Asked other moment ∷ past) order legal e =
-    let w = waits start past order legal.0.0 e in record { older = w.older; taken = w.taken; idle = w.idle }
-waits start (Answered id replies.Full ∷ Asked other moment ∷ past) order legal e =
-    let w = waits start past order legal.0.0 e in record { older = w.older; taken = w.taken; idle = w.idle }
 waits start (Answered id (replies.Blocked unit) ∷ Asked other moment ∷ past) order legal e = absurd legal.1.1
+waits start (Answered id reply ∷ Asked other moment ∷ past) order legal e =
+    let w = waits start past order legal.0.0 e in record { older = w.older; taken = w.taken; idle = w.idle }
 waits start (Answered id reply ∷ past) order legal e = cc
-waits start (Sent frame answer ∷ past) order legal e =
-    let w = waits start past order legal.0 e in record { older = w.older; taken = w.taken; idle = w.idle }
 waits start (Kept (Began other moment) ∷ past) order legal e = cc
 waits start (Kept (Opened unit) ∷ past) order legal e =
     no_opened (standing_at start past) unit (waits start past order legal.0 e).idle
@@ -108,7 +98,7 @@ waits start (Kept (Ended code) ∷ past) order legal e = cc
 waits start (Kept (Closed unit) ∷ past) order legal e =
     let w = waits start past order legal.0 e in record { older = w.older; taken = w.taken; idle = refl }
 waits start (Stopped ∷ past) order legal e = cc
-waits start (Powered address ∷ past) order legal e =
+waits start (_ ∷ past) order legal e =
     let w = waits start past order legal.0 e in record { older = w.older; taken = w.taken; idle = w.idle }
 
 -- nor where one ends
@@ -141,24 +131,19 @@ stays waiter taken begun first none e = rw none at e
 pub kept_are_taken : (start : Start) (past : List Happening) → Legal start past
     → begun_orders (records_of start past) ≡ taken_orders past ++ begun_orders start.records
 kept_are_taken start [] legal = refl
-kept_are_taken start (Asked order moment ∷ past) legal = kept_are_taken start past legal.0
 kept_are_taken start (Answered id replies.Taken ∷ Asked order moment ∷ past) legal =
     let both = neither (is_at_work (standing_at start past)) (is_unsaid past) legal.1.1.1 in
     let none = none_waits (course_of past) both.1 in
     stays (waiting past) (taken_or_waiting past) (begun_orders (records_of start past))
     (begun_orders start.records) none
     (kept_are_taken start past legal.0.0)
-kept_are_taken start (Answered id (replies.Kept code) ∷ Asked order moment ∷ past) legal = kept_are_taken start past legal.0.0
-kept_are_taken start (Answered id replies.IdReused ∷ Asked order moment ∷ past) legal = kept_are_taken start past legal.0.0
-kept_are_taken start (Answered id replies.Busy ∷ Asked order moment ∷ past) legal = kept_are_taken start past legal.0.0
-kept_are_taken start (Answered id replies.Full ∷ Asked order moment ∷ past) legal = kept_are_taken start past legal.0.0
 kept_are_taken start (Answered id (replies.Blocked unit) ∷ Asked order moment ∷ past) legal = absurd legal.1.1
+kept_are_taken start (Answered id reply ∷ Asked order moment ∷ past) legal = kept_are_taken start past legal.0.0
 kept_are_taken start (Answered id (replies.Kept code) ∷ past) legal =
     stays (waiting past) (taken_or_waiting past) (begun_orders (records_of start past)) (begun_orders start.records)
     (none_waits_ended (course_of past) legal.1.0) (kept_are_taken start past legal.0)
 kept_are_taken start (Answered id (replies.Blocked unit) ∷ past) legal = kept_are_taken start past legal.0
 kept_are_taken start (Answered id reply ∷ past) legal = absurd legal.1
-kept_are_taken start (Sent frame answer ∷ past) legal = kept_are_taken start past legal.0
 kept_are_taken start (Kept (Began order moment) ∷ past) legal =
     let due = (may_keep start past (Began order moment) legal.1).due.0 in
     let w = waits start past order legal.0 due in
@@ -173,9 +158,7 @@ kept_are_taken start (Kept (Ended code) ∷ past) legal =
     ∙ stays (waiting past) (taken_or_waiting past) (begun_orders (records_of start past))
     (begun_orders start.records) none
     (kept_are_taken start past legal.0)
-kept_are_taken start (Kept (Closed unit) ∷ past) legal = kept_are_taken start past legal.0
-kept_are_taken start (Stopped ∷ past) legal = kept_are_taken start past legal.0
-kept_are_taken start (Powered address ∷ past) legal = kept_are_taken start past legal.0
+kept_are_taken start (_ ∷ past) legal = kept_are_taken start past legal.0
 
 pub taken_from_none : (start : Start) (past : List Happening) → start.records ≡ [] → Legal start past
     → begun_orders (records_of start past) ≡ taken_orders past

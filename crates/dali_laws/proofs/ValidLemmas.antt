@@ -41,32 +41,18 @@ come_valid progress (newest ∷ older) valid = valid
 waiting_valid : (past : List Happening) (order : Contents) → AsksAllProper past → waiting past ≡ Some order
     → AreUpdates order.updates
 waiting_valid [] order asks e = cc
-waiting_valid (Asked other moment ∷ past) order asks e = waiting_valid past order asks.1 e
 waiting_valid (Answered id replies.Taken ∷ Asked other moment ∷ past) order asks e =
     let same : other ≡ order = cc in subst (λ (o : Contents). AreUpdates o.updates) same asks.1.0
-waiting_valid (Answered id (replies.Kept code) ∷ Asked other moment ∷ past) order asks e = waiting_valid past order asks.1.1 e
-waiting_valid (Answered id replies.IdReused ∷ Asked other moment ∷ past) order asks e = waiting_valid past order asks.1.1 e
-waiting_valid (Answered id replies.Busy ∷ Asked other moment ∷ past) order asks e = waiting_valid past order asks.1.1 e
-waiting_valid (Answered id replies.Full ∷ Asked other moment ∷ past) order asks e = waiting_valid past order asks.1.1 e
-waiting_valid (Answered id (replies.Blocked unit) ∷ Asked other moment ∷ past) order asks e =
-    waiting_valid past order asks.1.1 e
+waiting_valid (Answered id reply ∷ Asked other moment ∷ past) order asks e = waiting_valid past order asks.1.1 e
 waiting_valid (Answered id reply ∷ past) order asks e = cc
-waiting_valid (Sent frame answer ∷ past) order asks e = waiting_valid past order asks.1 e
 waiting_valid (Kept (Began other moment) ∷ past) order asks e = cc
-waiting_valid (Kept (Opened unit) ∷ past) order asks e = waiting_valid past order asks.1 e
 waiting_valid (Kept (Ended code) ∷ past) order asks e = cc
-waiting_valid (Kept (Closed unit) ∷ past) order asks e = waiting_valid past order asks.1 e
 waiting_valid (Stopped ∷ past) order asks e = cc
-waiting_valid (Powered address ∷ past) order asks e = waiting_valid past order asks.1 e
+waiting_valid (_ ∷ past) order asks e = waiting_valid past order asks.1 e
 
 orders_valid : (start : Start) (past : List Happening) → start.records ≡ [] → Legal start past → AsksAllProper past
     → AllValid (orders_of (records_of start past))
 orders_valid start [] none legal asks = subst (λ (r : List Record). AllValid (orders_of r)) (sym none) tt
-orders_valid start (Asked order moment ∷ past) none legal asks = orders_valid start past none legal.0 asks.1
-orders_valid start (Answered id reply ∷ past) none legal asks = orders_valid start past none legal.0 asks.1
-orders_valid start (Sent frame answer ∷ past) none legal asks = orders_valid start past none legal.0 asks.1
-orders_valid start (Stopped ∷ past) none legal asks = orders_valid start past none legal.0 asks.1
-orders_valid start (Powered address ∷ past) none legal asks = orders_valid start past none legal.0 asks.1
 orders_valid start (Kept (Began order moment) ∷ past) none legal asks = (
   waiting_valid past order asks.1 (may_keep start past (Began order moment) legal.1).due.0,
   orders_valid start past none legal.0 asks.1,
@@ -75,7 +61,7 @@ orders_valid start (Kept (Opened unit) ∷ past) none legal asks =
     come_valid reached.Open (orders_of (records_of start past)) (orders_valid start past none legal.0 asks.1)
 orders_valid start (Kept (Ended code) ∷ past) none legal asks =
     come_valid (reached.Ended code) (orders_of (records_of start past)) (orders_valid start past none legal.0 asks.1)
-orders_valid start (Kept (Closed unit) ∷ past) none legal asks = orders_valid start past none legal.0 asks.1
+orders_valid start (_ ∷ past) none legal asks = orders_valid start past none legal.0 asks.1
 
 newest_valid : (order : Contents) (progress : Progress) (orders : List (Contents × Progress))
     → (older : List (Contents × Progress)) × (orders ≡ (order, progress) ∷ older) → AllValid orders

@@ -74,18 +74,12 @@ next_in (standings.Left unit) told frame answer asked =
 in_session : (start : Start) (past : List Happening) → ByPlan start past
     → InSession (standing_at start past) (told_in past)
 in_session start [] planned = begins_session (standing_of start.records)
-in_session start (Asked order moment ∷ past) planned = in_session start past planned.0
 in_session start (Answered id replies.Taken ∷ past) planned = begins_session (standing_at start past)
-in_session start (Answered id (replies.Kept code) ∷ past) planned = in_session start past planned.0
-in_session start (Answered id replies.IdReused ∷ past) planned = in_session start past planned.0
-in_session start (Answered id replies.Busy ∷ past) planned = in_session start past planned.0
-in_session start (Answered id replies.Full ∷ past) planned = in_session start past planned.0
-in_session start (Answered id (replies.Blocked unit) ∷ past) planned = in_session start past planned.0
 in_session start (Sent frame answer ∷ past) planned =
     next_in (standing_at start past) (told_in past) frame answer planned.1
 in_session start (Kept entry ∷ past) planned = begins_session (standing_at start (Kept entry ∷ past))
 in_session start (Stopped ∷ past) planned = begins_session (standing_at start past)
-in_session start (Powered address ∷ past) planned = in_session start past planned.0
+in_session start (_ ∷ past) planned = in_session start past planned.0
 
 -- lengths
 
@@ -291,11 +285,9 @@ ended_earned first order code sent (verdict, told, older, parts, inr (ends, want
 pub ended_idle : (start : Start) (past : List Happening) → Legal start past → has_ended past ≡ true
     → is_at_work (standing_at start past) ≡ false
 ended_idle start [] legal e = cc
-ended_idle start (Asked order moment ∷ past) legal e = ended_idle start past legal.0 e
 ended_idle start (Answered id replies.Taken ∷ Asked order moment ∷ past) legal e = cc
 ended_idle start (Answered id reply ∷ Asked order moment ∷ past) legal e = ended_idle start past legal.0.0 e
 ended_idle start (Answered id reply ∷ past) legal e = cc
-ended_idle start (Sent frame answer ∷ past) legal e = ended_idle start past legal.0 e
 ended_idle start (Kept (Ended code) ∷ past) legal e =
     idle_next (standing_at start past) code (may_keep start past (Ended code) legal.1).whole.0.1
 ended_idle start (Kept (Began order moment) ∷ past) legal e = cc
@@ -304,7 +296,7 @@ ended_idle start (Kept (Opened unit) ∷ past) legal e =
     (may_keep start past (Opened unit) legal.1).whole.0.1
 ended_idle start (Kept (Closed unit) ∷ past) legal e = refl
 ended_idle start (Stopped ∷ past) legal e = cc
-ended_idle start (Powered address ∷ past) legal e = ended_idle start past legal.0 e
+ended_idle start (_ ∷ past) legal e = ended_idle start past legal.0 e
 
 -- the newest order, that has ended so
 abbrev SaidEnd : Standing → Standing → Option Contents → Bool → List (Contents × Progress) → List Exchange → ℕ → Code
@@ -368,7 +360,6 @@ blocked_by first (standings.Opened order) waiter ended orders sent told kept id 
 
 said_so : (start : Start) (past : List Happening) → Legal start past → ByPlan start past → IsSaidSo start past
 said_so start [] legal planned = tt
-said_so start (Asked order moment ∷ past) legal planned = tt
 said_so start (Answered id reply ∷ Asked order moment ∷ past) legal planned = tt
 said_so start (Answered id (replies.Kept code) ∷ past) legal planned =
     let said = said_end start past id code legal.0 planned.0 legal.1 in
@@ -378,10 +369,7 @@ said_so start (Answered id (replies.Blocked unit) ∷ past) legal planned =
     (orders_of (records_of start past)) (sent_since_taken past) (told_in past) (kept_since past) id unit
     legal.1.0 legal.1.1 planned.1 (on_course start past legal.0 planned.0)
 said_so start (Answered id reply ∷ past) legal planned = absurd legal.1
-said_so start (Sent frame answer ∷ past) legal planned = tt
-said_so start (Kept entry ∷ past) legal planned = tt
-said_so start (Stopped ∷ past) legal planned = tt
-said_so start (Powered address ∷ past) legal planned = tt
+said_so start (_ ∷ past) legal planned = tt
 
 pub worked : (start : Start) (past : List Happening) → Legal start past → ByPlan start past → IsWorked start past
 worked start [] legal planned = (within_limit start [] legal planned, tt)

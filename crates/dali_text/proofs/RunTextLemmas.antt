@@ -53,11 +53,6 @@ abbrev pub left_text : ℕ → List Happening → List ℕ
 left_text zero rest = summary false rest
 left_text (suc k) rest = frames_line (frames_ahead rest + suc k) ++ summary true rest
 
-left_sent : (frames : ℕ) (frame : Frame) (answer : Option ℕ) (rest : List Happening)
-    → left_text frames (Sent frame answer ∷ rest) ≡ left_text (suc frames) rest
-left_sent zero frame answer rest = refl
-left_sent (suc k) frame answer rest = ap (λ n. frames_line n ++ summary true rest) (omega arith)
-
 run_some : (k : ℕ) → run_line (suc k) ≡ frames_line (suc k)
 run_some k = search rules
 
@@ -69,24 +64,9 @@ told_before k line rest =
 
 left_other : (frames : ℕ) (happening : Happening) (rest : List Happening) → is_sent happening ≡ false
     → left_text frames (happening ∷ rest) ≡ (run_line frames ++ happening_line happening) ++ left_text 0 rest
-left_other zero (Asked order moment) rest other = refl
-left_other zero (Answered id reply) rest other = refl
-left_other zero (Sent frame answer) rest other = cc
-left_other zero (Kept entry) rest other = refl
-left_other zero Stopped rest other = refl
-left_other zero (Powered address) rest other = refl
-left_other (suc k) (Asked order moment) rest other = told_before k (happening_line (Asked order moment)) (summary false rest)
-left_other (suc k) (Answered id reply) rest other =
-    told_before k (happening_line (Answered id reply)) (summary false rest)
-left_other (suc k) (Sent frame answer) rest other = cc
-left_other (suc k) (Kept entry) rest other = told_before k (happening_line (Kept entry)) (summary false rest)
-left_other (suc k) Stopped rest other = told_before k (happening_line Stopped) (summary false rest)
-left_other (suc k) (Powered address) rest other =
-    told_before k (happening_line (Powered address)) (summary false rest)
-
-left_nothing : (frames : ℕ) → left_text frames [] ≡ run_line frames
-left_nothing zero = refl
-left_nothing (suc k) = append-nil (frames_line (0 + suc k)) ∙ ap frames_line (omega arith) ∙ sym (run_some k)
+left_other frames (Sent frame answer) rest other = cc
+left_other zero _ rest other = refl
+left_other (suc k) happening rest other = told_before k (happening_line happening) (summary false rest)
 
 -- so much of a trace is told, and so many frames of a run that stands before the rest are not
 pub record Summing (trace : List Happening) (index frames : ℕ) (before now : Option (List ℕ)) : Type 0 where
@@ -100,23 +80,6 @@ next : (trace : List Happening) (i : ℕ) (happening : Happening) → i < length
 next trace i happening within is =
     drop-cons trace i happening within ∙ ap (λ h. h ∷ drop (suc i) trace) (sym is)
     ∙ ap (λ k. happening ∷ drop k trace) (sym (add-one i))
-
-pub sum_sent : (trace : List Happening) (i frames : ℕ) (frame : Frame) (answer : Option ℕ) (happening : Happening)
-    (before now : Option (List ℕ))
-    → i < length trace
-    → happening ≡ get_or trace i happening → happening ≡ Sent frame answer → Summing trace i frames before now
-    → Summing trace (i + 1) (frames + 1) before now
-sum_sent trace i frames frame answer happening before now within is sent s = record {
-  few = omega (arith, s.few);
-  text = s.text;
-  appended = s.appended;
-  whole =
-      let split : drop i trace ≡ Sent frame answer ∷ drop (i + 1) trace =
-      next trace i happening within is ∙ ap (λ h. h ∷ drop (i + 1) trace) sent in
-      ap (λ n. s.text ++ left_text n (drop (i + 1) trace)) (add-one frames)
-      ∙ ap (λ t. s.text ++ t) (sym (left_sent frames frame answer (drop (i + 1) trace)))
-      ∙ ap (λ r. s.text ++ left_text frames r) (sym split) ∙ s.whole;
-}
 
 pub sum_other : (trace : List Happening) (i frames : ℕ) (happening : Happening) (before mid told now : Option (List ℕ))
     → i < length trace → happening ≡ get_or trace i happening
@@ -132,23 +95,10 @@ sum_other trace i frames happening before mid told now within is other s run lin
       ∙ ap (λ r. s.text ++ left_text frames r) (sym (next trace i happening within is)) ∙ s.whole;
 }
 
-pub summed : (trace : List Happening) (i frames : ℕ) (before mid now : Option (List ℕ)) → length trace ≤ i
-    → Summing trace i frames before mid → Appends mid now (run_line frames)
-    → Appends before now (summary false trace)
-summed trace i frames before mid now all s run =
-    let whole : s.text ++ run_line frames ≡ summary false trace =
-    ap (λ t. s.text ++ t) (sym (left_nothing frames))
-    ∙ ap (λ r. s.text ++ left_text frames r) (sym (drop_of_length-le trace all)) ∙ s.whole in
-    subst (λ t. Appends before now t) whole (appends_both before mid now s.text (run_line frames) s.appended run)
-
 pub not_sent : (happening : Happening) → ((frame : Frame) (answer : Option ℕ) → ¬ (happening ≡ Sent frame answer))
     → is_sent happening ≡ false
-not_sent (Asked order moment) other = refl
-not_sent (Answered id reply) other = refl
 not_sent (Sent frame answer) other = absurd (other frame answer refl)
-not_sent (Kept entry) other = refl
-not_sent Stopped other = refl
-not_sent (Powered address) other = refl
+not_sent _ other = refl
 
 -- ---- units
 

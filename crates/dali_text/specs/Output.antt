@@ -3,12 +3,9 @@ use Rattle.std.specs.Prelude.{◌≡◌, ℕ, Bool, true, List, Option, Result, 
 use Rattle.std.specs.Io.KnownBytes.{Appends}
 use Rattle.dali_text.specs.declared.output.Output.{Output}
 
-abbrev pub writer_of : {W : Type 0} → Output W → W
-writer_of output = output.writer
-
 -- the bytes that its writer holds, where they are known
 abbrev pub held : {W : Type 0} → (W → Option (List ℕ)) → Output W → Option (List ℕ)
-held contents output = contents (writer_of output)
+held contents output = contents output.writer
 
 -- it took these bytes: they stand behind those that its writer held
 abbrev pub Takes : {W : Type 0} → (W → Option (List ℕ)) → Output W → Output W → List ℕ → Type 0

@@ -35,7 +35,7 @@ pub struct Output<W> {
 
 impl<W: Write> Output<W> {
     ghost use Rattle.std.specs.Prelude.{is_some};
-    ghost use Rattle.dali_text.specs.Output.{TellsFailure, Takes, has_failed, held, is_flushed, writer_of};
+    ghost use Rattle.dali_text.specs.Output.{TellsFailure, Takes, has_failed, held, is_flushed};
 
     /// An output into the writer, which hasn't failed, and of which nothing is known to be flushed.
     pub fn new(writer: W) -> Output<W>
@@ -144,13 +144,6 @@ impl<W: Write> Output<W> {
         ensures { is_some result ≡ has_failed self.now }
     {
         self.cause
-    }
-
-    /// The writer, with what it holds.
-    pub fn into_writer(self) -> W
-        ensures { result ≡ writer_of self }
-    {
-        self.writer
     }
 
     // An error where the output has failed, before its writer is called.

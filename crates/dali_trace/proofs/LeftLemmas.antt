@@ -13,21 +13,21 @@ use Rattle.dali_trace.proofs.WorkedLemmas.{next, enable_legal, read_legal, write
 use Rattle.dali_trace.proofs.RefusedLemmas.{has_none}
 
 -- A trace on which eight tries more may be made: it is legal, serves unit 5, and a frame to it may follow.
-record GoesOn (past : List Happening) : Type 0 where
+record TakesTries (past : List Happening) : Type 0 where
   legal : Legal left_open past
   serves : Serves past (standing_at left_open past) 5
   names : named_unit (standing_at left_open past) ≡ Some 5
   set : MayFollow left_open past (Sent (Dtr1 1) None)
   enable : MayFollow left_open past (Sent (Enable 5) None)
 
-read_try_on : (past : List Happening) → GoesOn past → GoesOn (read_try past)
+read_try_on : (past : List Happening) → TakesTries past → TakesTries (read_try past)
 read_try_on past on =
     let stands = standing_at left_open past in
     let s1 = next past (Dtr1 1) None stands 5 on.serves in
     let s2 = next (Sent (Dtr1 1) None ∷ past) (AskDtr1 5) None stands 5 s1 in
     record { legal = ((on.legal, on.set), s1); serves = s2; names = on.names; set = (5, s2); enable = (s2, on.names) }
 
-lock_try_on : (past : List Happening) → GoesOn past → GoesOn (lock_try past)
+lock_try_on : (past : List Happening) → TakesTries past → TakesTries (lock_try past)
 lock_try_on past on =
     let enabled = enable_legal left_open past 5 on.legal on.enable on.serves on.names in
     read_try_on (enable_twice 5 past)
@@ -39,9 +39,9 @@ lock_try_on past on =
       enable = (enabled.1, on.names);
     })
 
-eight_on : (try : List Happening → List Happening) → ((past : List Happening) → GoesOn past → GoesOn (try past))
-    → (past : List Happening) → GoesOn past
-    → GoesOn (eight_times try past)
+eight_on : (try : List Happening → List Happening) → ((past : List Happening) → TakesTries past → TakesTries (try past))
+    → (past : List Happening) → TakesTries past
+    → TakesTries (eight_times try past)
 eight_on try f past on =
     let p1 = try past in let p2 = try p1 in let p3 = try p2 in let p4 = try p3 in
     let p5 = try p4 in let p6 = try p5 in let p7 = try p6 in
@@ -50,7 +50,7 @@ eight_on try f past on =
 pub second_taken_legal : Legal left_open second_taken
 second_taken_legal = (((((((tt, tt, refl), refl, tt), tt, tt), omega arith), tt), (refl, (tt, refl, refl))))
 
-second_taken_on : GoesOn second_taken
+second_taken_on : TakesTries second_taken
 second_taken_on = record {
   legal = second_taken_legal;
   serves = (refl, refl);
@@ -59,7 +59,7 @@ second_taken_on = record {
   enable = ((refl, refl), refl);
 }
 
-unreached_on : GoesOn unreached
+unreached_on : TakesTries unreached
 unreached_on =
     eight_on read_try read_try_on (eight_times lock_try second_taken)
     (eight_on lock_try lock_try_on second_taken second_taken_on)

@@ -1,3 +1,4 @@
+pub mod CutLemmas
 pub mod WorkedLemmas
 pub mod WorkedPlanLemmas
 pub mod WorkedWorkLemmas
@@ -9,7 +10,7 @@ pub mod WorkedEndLemmas
 pub mod RefusedLemmas
 pub mod LeftLemmas
 pub mod BlankLemmas
-pub mod PartLemmas
+pub mod WorkedPartLemmas
 pub mod EndingLemmas
 pub mod WorkedWorldLemmas
 pub mod WorkedHappeningLemmas

@@ -80,7 +80,7 @@ ends_short = record {
     taken = refl;
     there = inl (refl, refl);
     unrefused = none_refused short_bus short_order_ended refl;
-    powered = (λ same. cc, λ same. cc, tt);
+    powered = ((λ same. cc, λ same. cc), tt);
     few = omega arith;
     free = λ due. cc;
   };

@@ -20,26 +20,26 @@ one_frame = Sent (Dtr0 3) None ∷ []
 
 -- none is sent where all else happens
 pub none_sent : NoneSent (Powered 5 ∷ Kept (Closed 5) ∷ Stopped ∷ begun)
-none_sent = tt
+none_sent = refl
 
 pub not_none_sent : NoneSent one_frame → ⊥
-not_none_sent none = none
+not_none_sent none = cc
 
 pub not_none_sent_with_an_answer : NoneSent (Sent (Read 5) (Some 7) ∷ []) → ⊥
-not_none_sent_with_an_answer none = none
+not_none_sent_with_an_answer none = cc
 
 -- one is sent behind each other happening
 pub sent_behind_a_record : NoneSent (Kept (Opened 5) ∷ one_frame) → ⊥
-sent_behind_a_record none = none
+sent_behind_a_record none = cc
 
 pub sent_behind_a_stop : NoneSent (Stopped ∷ one_frame) → ⊥
-sent_behind_a_stop none = none
+sent_behind_a_stop none = cc
 
 pub sent_behind_a_loss_of_power : NoneSent (Powered 5 ∷ one_frame) → ⊥
-sent_behind_a_loss_of_power none = none
+sent_behind_a_loss_of_power none = cc
 
 pub sent_behind_a_refused_order : NoneSent (Answered 1 replies.Busy ∷ Asked first_order 7 ∷ one_frame) → ⊥
-sent_behind_a_refused_order none = none
+sent_behind_a_refused_order none = cc
 
 -- Orders
 

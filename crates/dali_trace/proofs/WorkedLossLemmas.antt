@@ -4,7 +4,7 @@ use Rattle.std.proofs.Common.{None, arith}
 use Rattle.dali_frame.specs.declared.forward.Frame.TheVariants.{Dtr1}
 use Rattle.dali_gear.specs.SimState.{SimState, SimStep}
 use Rattle.dali_gear.specs.SimState.{world_of}
-use Rattle.dali_bus.specs.Chain.{IsChain}
+use Rattle.dali_bus.specs.Chain.{IsChain, AtEachState}
 use Rattle.dali_bus.specs.Unenabled.{NoneEnabled}
 use Rattle.dali_journal.specs.declared.record.Code.TheVariants as codes
 use Rattle.dali_trace.specs.declared.happening.Event.{Event}
@@ -15,7 +15,7 @@ use Rattle.dali_trace.specs.Fits.{IsLockedAbove}
 use Rattle.dali_trace.specs.Moves.{MovesBy}
 use Rattle.dali_trace.specs.Runs.{fresh}
 use Rattle.dali_trace.specs.Spared.{state_at_start, losses_since, UnrefusedSince, due_code, NoneFixed, IsSpared}
-use Rattle.dali_trace.specs.Spared.{KeepsPowerSince, AtEachState, LosesLittle, IsSaidAsDue, LeadsSpared}
+use Rattle.dali_trace.specs.Spared.{KeepsPowerSince, LosesLittle, IsSaidAsDue, LeadsSpared}
 use Rattle.dali_trace.specs.Steps.{IsCut, HasStepsEnough}
 use Rattle.dali_trace.specs.declared.happening.Reply.TheVariants as replies
 use Rattle.dali_bank.specs.Order.{Contents}
@@ -56,13 +56,13 @@ pub keeps_power_since_a_stop : KeepsPowerSince 5 (Some 6) (one_since Stopped ++ 
 keeps_power_since_a_stop = tt
 
 pub its_unit_powered : KeepsPowerSince 5 None (Sent (Dtr1 1) None ∷ Powered 5 ∷ one_since Stopped) → ⊥
-its_unit_powered kept = kept.0 refl
+its_unit_powered kept = kept.0.0 refl
 
 pub left_powered : KeepsPowerSince 5 (Some 6) (Sent (Dtr1 1) None ∷ Powered 6 ∷ one_since Stopped) → ⊥
-left_powered kept = kept.1 refl
+left_powered kept = kept.0.1 refl
 
 pub another_powered : KeepsPowerSince 5 (Some 6) (Sent (Dtr1 1) None ∷ Powered 7 ∷ one_since Stopped)
-another_powered = (λ same. cc, λ same. cc, tt)
+another_powered = ((λ same. cc, λ same. cc), tt)
 
 -- the state at the start
 pub state_then : state_at_start (one_since start_taken) clear (losing 1 ∷ losing 2 ∷ losing 3 ∷ []) ≡ losing 1

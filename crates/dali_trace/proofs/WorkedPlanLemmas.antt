@@ -14,7 +14,7 @@ use Rattle.dali_write.specs.Tries.{plan_requests, Wants}
 use Rattle.dali_write.proofs.StandingLemmas.{stands_at_first}
 use Rattle.dali_write.proofs.NextLemmas.{next_wanted}
 use Rattle.dali_write.proofs.AskLemmas.{ask_shown}
-use Rattle.dali_write.proofs.DeterminedLemmas.{place_after, ask_from, ask_is}
+use Rattle.dali_write.proofs.DeterminedLemmas.{plan_state_after, ask_from, ask_is}
 use Rattle.dali_trace.specs.declared.happening.Happening.{Happening}
 use Rattle.dali_trace.specs.declared.happening.Happening.TheVariants.{Sent}
 use Rattle.dali_trace.specs.Trace.{Start, records_of, standing_at}
@@ -34,10 +34,10 @@ use Rattle.dali_trace.proofs.LeftLemmas.{second_taken_legal, blocked_legal}
 -- each of the frames is the one that was wanted after those before it
 abbrev pub Keeps : ℕ → Plan → List Exchange → Type 0
 Keeps unit plan [] = Unit {0}
-Keeps unit plan (x ∷ told) = Keeps unit plan told × (ask_from (place_after unit plan told) ≡ asks.Send x.frame)
+Keeps unit plan (x ∷ told) = Keeps unit plan told × (ask_from (plan_state_after unit plan told) ≡ asks.Send x.frame)
 
 keeps_wants : (unit : ℕ) (plan : Plan) (told : List Exchange) → Keeps unit plan told
-    → Wants unit plan told (ask_from (place_after unit plan told))
+    → Wants unit plan told (ask_from (plan_state_after unit plan told))
 keeps_wants unit plan [] keeps = record {
   now = plan;
   misses = 0;
@@ -52,7 +52,7 @@ keeps_wants unit plan (x ∷ told) keeps =
     subst (λ (a : Ask). Wants unit plan (x ∷ told) a) (sym (ask_is unit plan (x ∷ told) next.0 next.1)) next.1
 
 pub wants_so : (unit : ℕ) (plan : Plan) (told : List Exchange) (ask : Ask) → Keeps unit plan told
-    → ask_from (place_after unit plan told) ≡ ask → Wants unit plan told ask
+    → ask_from (plan_state_after unit plan told) ≡ ask → Wants unit plan told ask
 wants_so unit plan told ask keeps is = subst (λ (a : Ask). Wants unit plan told a) is (keeps_wants unit plan told keeps)
 
 -- frames more, the newest first

@@ -17,18 +17,14 @@ use Rattle.dali_write.specs.Plans.{read_length, unlock, close}
 use Rattle.dali_write.specs.Tries.{Wants}
 use Rattle.dali_trace.specs.declared.happening.Reply.TheVariants as replies
 use Rattle.dali_trace.specs.declared.happening.Happening.{Happening}
-use Rattle.dali_trace.specs.declared.happening.Happening.TheVariants.{Answered, Sent, Kept, Stopped}
+use Rattle.dali_trace.specs.declared.happening.Happening.TheVariants.{Answered, Sent, Kept}
+use Rattle.dali_trace.specs.Cut.{since, is_turn, frames_in}
 use Rattle.dali_trace.specs.Trace.{Start, standing_at}
 use Rattle.dali_trace.specs.Grounds.{EndsIn}
 
 -- the frames of the session at hand: those since an order was taken, a record was kept or a stop, whichever is latest
 abbrev pub told_in : List Happening → List Exchange
-told_in [] = []
-told_in (Sent frame answer ∷ past) = record { frame = frame; answer = answer } ∷ told_in past
-told_in (Answered id replies.Taken ∷ past) = []
-told_in (Kept entry ∷ past) = []
-told_in (Stopped ∷ past) = []
-told_in (other ∷ past) = told_in past
+told_in past = frames_in (since is_turn past)
 
 -- where the records stand so, the session at hand asks this after these frames: a fresh one of the order that was
 -- begun, an opened one of the order that was opened, one that closes the left unit

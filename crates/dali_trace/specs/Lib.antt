@@ -1,3 +1,4 @@
+pub mod Cut
 pub mod Trace
 pub mod Replies
 pub mod Grounds

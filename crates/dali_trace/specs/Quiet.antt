@@ -1,8 +1,9 @@
 -- What does not stand in a part of a trace.
-use Rattle.std.specs.Prelude.{List, [], ◌∷◌}
+use Rattle.std.specs.Prelude.{◌≡◌, List, [], ◌∷◌}
 use Rattle.dali_trace.specs.declared.happening.Reply.TheVariants as replies
 use Rattle.dali_trace.specs.declared.happening.Happening.{Happening}
-use Rattle.dali_trace.specs.declared.happening.Happening.TheVariants.{Answered, Sent}
+use Rattle.dali_trace.specs.declared.happening.Happening.TheVariants.{Answered}
+use Rattle.dali_trace.specs.Cut.{frames_in}
 
 -- no order is taken
 abbrev pub NoneTaken : List Happening → Type 0
@@ -12,6 +13,4 @@ NoneTaken (other ∷ past) = NoneTaken past
 
 -- no frame is sent
 abbrev pub NoneSent : List Happening → Type 0
-NoneSent [] = Unit {0}
-NoneSent (Sent frame answer ∷ past) = ⊥
-NoneSent (other ∷ past) = NoneSent past
+NoneSent past = frames_in past ≡ []

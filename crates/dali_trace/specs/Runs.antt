@@ -1,5 +1,6 @@
 -- What is promised of a run over a bus.
-use Rattle.std.specs.Prelude.{◌≡◌, ℕ, List, [], ◌∷◌, ◌++◌, reverse, take}
+use Rattle.std.specs.Prelude.{◌≡◌, ℕ, List, [], ◌++◌, reverse, take}
+use Rattle.std.specs.List.{AllByRecursion}
 use Rattle.dali_frame.specs.Frame.{IsProper}
 use Rattle.dali_bus.specs.World.{World}
 use Rattle.dali_bus.specs.Carry.{BusEvent}
@@ -45,8 +46,7 @@ SendsProper other = Unit {0}
 
 -- and so is each of a trace
 abbrev pub SendsAllProper : List Happening → Type 0
-SendsAllProper [] = Unit {0}
-SendsAllProper (newest ∷ past) = SendsProper newest × SendsAllProper past
+SendsAllProper past = AllByRecursion SendsProper past
 
 -- an order that was asked for holds what an order may hold
 abbrev pub AsksProper : Happening → Type 0
@@ -55,8 +55,7 @@ AsksProper other = Unit {0}
 
 -- and so does each of a trace
 abbrev pub AsksAllProper : List Happening → Type 0
-AsksAllProper [] = Unit {0}
-AsksAllProper (newest ∷ past) = AsksProper newest × AsksAllProper past
+AsksAllProper past = AllByRecursion AsksProper past
 
 -- What a run of these events is, from the first state of a bus to the last: its trace, the oldest happening first,
 -- and the journal's bytes.

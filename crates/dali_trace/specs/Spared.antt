@@ -1,28 +1,28 @@
 -- Over the simulated bus: what is lost of an order's frames since its start, and how an order ends that loses little.
-use Rattle.std.specs.Prelude.{◌≡◌, ◌≢◌, ◌<◌, ◌≤◌, ℕ, ◌+◌, Bool, false, ◌||◌, ◌==◌, nat_lt, List, [], ◌∷◌, ◌++◌}
-use Rattle.std.specs.Prelude.{Option, Some, None, length, slice_index, reverse, if◌then◌else◌}
-use Rattle.std.specs.List.{list_any}
+use Rattle.std.specs.Prelude.{◌≡◌, ◌≢◌, ◌<◌, ◌≤◌, ℕ, Bool, false, ◌||◌, List, [], ◌∷◌, ◌++◌, Option, Some, None}
+use Rattle.std.specs.Prelude.{length, reverse}
+use Rattle.std.specs.List.{filter, AllByRecursion}
 use Rattle.dali_frame.specs.declared.forward.Frame.{Frame}
 use Rattle.dali_bank.specs.Order.{Contents}
-use Rattle.dali_bus.specs.Chain.{IsChain}
+use Rattle.dali_bus.specs.Chain.{IsChain, AtEachState}
 use Rattle.dali_gear.specs.Fate.{next_fate}
 use Rattle.dali_gear.specs.UnitState.{BankState}
 use Rattle.dali_gear.specs.SimState.{SimState, SimStep, world_of}
 use Rattle.dali_bus.specs.Unenabled.{NoneEnabled}
 use Rattle.dali_journal.specs.declared.record.Code.{Code}
 use Rattle.dali_journal.specs.declared.record.Code.TheVariants as codes
-use Rattle.dali_write.specs.Plans.{greatest}
 use Rattle.dali_write.specs.Tries.{most_tries}
 use Rattle.dali_write.specs.Losses.{is_loss}
-use Rattle.dali_write.specs.Successes.{HasBank, has_format}
+use Rattle.dali_write.specs.Successes.{HasBank, IsFree, by_bank}
 use Rattle.dali_write.specs.Misses.{misses_in}
 use Rattle.dali_trace.specs.declared.happening.Reply.{Reply}
 use Rattle.dali_trace.specs.declared.happening.Reply.TheVariants as replies
 use Rattle.dali_trace.specs.declared.happening.Event.{Event}
 use Rattle.dali_trace.specs.declared.happening.Happening.{Happening}
-use Rattle.dali_trace.specs.declared.happening.Happening.TheVariants.{Asked, Answered, Sent, Stopped, Powered}
+use Rattle.dali_trace.specs.declared.happening.Happening.TheVariants.{Asked, Answered, Sent}
 use Rattle.dali_journal.specs.Sentence.{named_unit}
-use Rattle.dali_trace.specs.Trace.{Start, sent_since_taken, is_at_work}
+use Rattle.dali_trace.specs.Cut.{since, is_start}
+use Rattle.dali_trace.specs.Trace.{Start, sent_since_taken, powered_of, is_at_work}
 use Rattle.dali_trace.specs.Fits.{IsLockedAbove}
 use Rattle.dali_trace.specs.Moves.{MovesBy}
 use Rattle.dali_trace.specs.Runs.{fresh, IsRun}
@@ -36,56 +36,44 @@ is_lost_to unit (Some left) state frame = is_loss unit state frame || is_loss le
 
 -- The states of the bus along a trace are listed newest first, each the one before its happening.
 
+-- the state from which so many happenings led to the last one
+abbrev pub led_from : List Happening → SimState → List SimState → SimState
+led_from (next ∷ past) last (state ∷ states) = led_from past state states
+led_from past last states = last
+
+-- the frames among them, each with the state that it was sent in
+abbrev pub sent_among : List Happening → List SimState → List (Frame × SimState)
+sent_among [] states = []
+sent_among (Sent frame answer ∷ past) (state ∷ states) = (frame, state) ∷ sent_among past states
+sent_among (other ∷ past) (state ∷ states) = sent_among past states
+sent_among (other ∷ past) [] = []
+
 -- the state at the last start: when an order was taken, or the program stopped
 abbrev pub state_at_start : List Happening → SimState → List SimState → SimState
-state_at_start [] last states = last
-state_at_start (Answered id replies.Taken ∷ past) last states = last
-state_at_start (Stopped ∷ past) last states = last
-state_at_start (other ∷ past) last [] = last
-state_at_start (other ∷ past) last (state ∷ states) = state_at_start past state states
+state_at_start past last states = led_from (since is_start past) last states
 
 -- so many of the frames since then were losses
 abbrev pub losses_since : ℕ → Option ℕ → List Happening → List SimState → ℕ
-losses_since unit left [] states = 0
-losses_since unit left (Answered id replies.Taken ∷ past) states = 0
-losses_since unit left (Stopped ∷ past) states = 0
-losses_since unit left (Sent frame answer ∷ past) (state ∷ states) =
-    (if is_lost_to unit left state frame then 1 else 0) + losses_since unit left past states
-losses_since unit left (other ∷ past) (state ∷ states) = losses_since unit left past states
-losses_since unit left (other ∷ past) [] = 0
+losses_since unit left past states =
+    length (filter (λ sent. is_lost_to unit left sent.1 sent.0) (sent_among (since is_start past) states))
 
 -- no fate since then refuses
 abbrev pub UnrefusedSince : List Happening → List SimState → Type 0
-UnrefusedSince [] states = Unit {0}
-UnrefusedSince (Answered id replies.Taken ∷ past) states = Unit {0}
-UnrefusedSince (Stopped ∷ past) states = Unit {0}
-UnrefusedSince (Sent frame answer ∷ past) (state ∷ states) =
-    ((next_fate state.fates).refuse ≡ false) × UnrefusedSince past states
-UnrefusedSince (other ∷ past) (state ∷ states) = UnrefusedSince past states
-UnrefusedSince (other ∷ past) [] = Unit {0}
+UnrefusedSince past states =
+    AllByRecursion (λ sent. (next_fate sent.1.fates).refuse ≡ false) (sent_among (since is_start past) states)
 
 -- neither the unit nor the left one has lost its power since then
 abbrev pub KeepsPowerSince : ℕ → Option ℕ → List Happening → Type 0
-KeepsPowerSince unit left [] = Unit {0}
-KeepsPowerSince unit left (Answered id replies.Taken ∷ past) = Unit {0}
-KeepsPowerSince unit left (Stopped ∷ past) = Unit {0}
-KeepsPowerSince unit left (Powered address ∷ past) =
-    (address ≢ unit) × (left ≢ Some address) × KeepsPowerSince unit left past
-KeepsPowerSince unit left (other ∷ past) = KeepsPowerSince unit left past
+KeepsPowerSince unit left past =
+    AllByRecursion (λ address. (address ≢ unit) × (left ≢ Some address)) (powered_of [] (since is_start past))
 
--- how an order of these updates is to end where bank 1 has these bytes: Short where it ends before the greatest
--- location, Format where an update is at 13h or above and the content format isn't 0003h, else Done
+-- how an order of these updates is to end where bank 1 has these bytes
 abbrev pub due_code : List ℕ → List (ℕ × ℕ) → Code
-due_code bytes updates =
-    if nat_lt (slice_index bytes 0) (greatest updates) then codes.Short
-    else (if nat_lt (greatest updates) 0x13
-    then codes.Done
-    else (if has_format bytes then codes.Done else codes.Format))
+due_code bytes updates = by_bank codes.Short codes.Format codes.Done bytes updates
 
 -- none of the updates is at a fixed location
 abbrev pub NoneFixed : BankState → List (ℕ × ℕ) → Type 0
-NoneFixed bank [] = Unit {0}
-NoneFixed bank (update ∷ updates) = (list_any (λ fixed. fixed == update.0) bank.fixed ≡ false) × NoneFixed bank updates
+NoneFixed bank updates = AllByRecursion (λ update. IsFree bank update.0) updates
 
 -- Little befell an order since its start: none was at work then, so it was taken and no stop came since. Its unit had
 -- this bank 1 then, no fate refused since, its unit and a left one kept their power, at most seven frames were losses
@@ -113,15 +101,6 @@ IsSpared start (Answered id reply ∷ past) last (state ∷ states) =
     (order : Contents) (bank : BankState) → order_at_hand start past ≡ Some order
     → LosesLittle start order bank past state states → EndsAsDue start order bank past states reply
 IsSpared start other last states = Unit {0}
-
--- it holds at each moment of a chain: of what happened up to there, the state there, and those before it
-abbrev pub AtEachState : (List Happening → SimState → List SimState → Type 0) → List Happening → SimState
-    → List SimState → Type 0
-AtEachState holds [] last [] = holds [] last []
-AtEachState holds (next ∷ past) last (state ∷ states) =
-    holds (next ∷ past) last (state ∷ states) × AtEachState holds past state states
-AtEachState holds [] last (state ∷ states) = ⊥
-AtEachState holds (next ∷ past) last [] = ⊥
 
 -- The order is said in what came to the trace since it was like this before; and if little befell it up to then, it is
 -- said as it is to end. The states along the whole of it are the later ones, the one when it was said, and those before.

@@ -1,5 +1,5 @@
 -- What a trace tells of a writer. A trace is a list of happenings, the newest first.
-use Rattle.std.specs.Prelude.{◌||◌, ℕ, Bool, true, false, List, [], ◌∷◌, Option, Some, None, length, nat_le}
+use Rattle.std.specs.Prelude.{◌||◌, ℕ, Bool, true, false, List, [], ◌∷◌, ◌++◌, Option, Some, None, length, nat_le}
 use Rattle.dali_bank.specs.Order.{Contents}
 use Rattle.dali_journal.specs.declared.record.Record.{Record}
 use Rattle.dali_journal.specs.declared.record.Record.TheVariants.{Began, Ended}
@@ -11,7 +11,8 @@ use Rattle.dali_write.specs.Exchanges.{Exchange}
 use Rattle.dali_trace.specs.declared.happening.Reply.{Reply}
 use Rattle.dali_trace.specs.declared.happening.Reply.TheVariants as replies
 use Rattle.dali_trace.specs.declared.happening.Happening.{Happening}
-use Rattle.dali_trace.specs.declared.happening.Happening.TheVariants.{Asked, Answered, Sent, Kept, Stopped, Powered}
+use Rattle.dali_trace.specs.declared.happening.Happening.TheVariants.{Asked, Answered, Kept, Stopped, Powered}
+use Rattle.dali_trace.specs.Cut.{since, is_stop, is_start, frames_in, kept_in}
 
 -- what a trace starts from: the records of a journal, the newest first, and the most orders that it may hold
 pub record Start : Type 0 where
@@ -20,9 +21,7 @@ pub record Start : Type 0 where
 
 -- the records so far: those of the start, and those that were kept
 abbrev pub records_of : Start → List Happening → List Record
-records_of start [] = start.records
-records_of start (Kept entry ∷ past) = entry ∷ records_of start past
-records_of start (other ∷ past) = records_of start past
+records_of start past = kept_in past ++ start.records
 
 -- where the records so far stand
 abbrev pub standing_at : Start → List Happening → Standing
@@ -30,18 +29,11 @@ standing_at start past = standing_of (records_of start past)
 
 -- the frames since the last stop, with what came back
 abbrev pub sent_of : List Happening → List Exchange
-sent_of [] = []
-sent_of (Sent frame answer ∷ past) = record { frame = frame; answer = answer } ∷ sent_of past
-sent_of (Stopped ∷ past) = []
-sent_of (other ∷ past) = sent_of past
+sent_of past = frames_in (since is_stop past)
 
 -- the frames since the last order was taken, or since the last stop, whichever is later
 abbrev pub sent_since_taken : List Happening → List Exchange
-sent_since_taken [] = []
-sent_since_taken (Sent frame answer ∷ past) = record { frame = frame; answer = answer } ∷ sent_since_taken past
-sent_since_taken (Answered id replies.Taken ∷ past) = []
-sent_since_taken (Stopped ∷ past) = []
-sent_since_taken (other ∷ past) = sent_since_taken past
+sent_since_taken past = frames_in (since is_start past)
 
 -- the units that have lost their power by now, where these had before
 abbrev pub powered_of : List ℕ → List Happening → List ℕ

@@ -1,5 +1,5 @@
 -- How much work an order takes. An order starts when it is taken, and when a stop leaves it begun or opened.
-use Rattle.std.specs.Prelude.{◌≡◌, ◌⊎◌, ◌≤◌, ℕ, suc, ◌+◌, ◌*◌, nat_lt, Bool, true, List, [], ◌∷◌, ◌++◌, length, Option}
+use Rattle.std.specs.Prelude.{◌≡◌, ◌⊎◌, ◌≤◌, ℕ, ◌+◌, ◌*◌, nat_lt, Bool, true, List, [], ◌∷◌, ◌++◌, length, Option}
 use Rattle.std.specs.Prelude.{Some, None, IfSome, if◌then◌else◌}
 use Rattle.dali_bank.specs.Order.{Contents}
 use Rattle.dali_journal.specs.declared.record.Code.{Code}
@@ -7,7 +7,6 @@ use Rattle.dali_journal.specs.declared.record.Code.TheVariants as codes
 use Rattle.dali_journal.specs.declared.standing.Standing.{Standing}
 use Rattle.dali_journal.specs.declared.standing.Standing.TheVariants as standings
 use Rattle.dali_journal.specs.declared.kept.Progress.{Progress}
-use Rattle.dali_journal.specs.Sentence.{standing_of}
 use Rattle.dali_journal.specs.Orders.{orders_of}
 use Rattle.dali_write.specs.Exchanges.{Exchange}
 use Rattle.dali_write.specs.Plans.{greatest, unlock}
@@ -17,23 +16,17 @@ use Rattle.dali_write.specs.Misses.{IsLong}
 use Rattle.dali_write.specs.Doubts.{HasFailed, EndsUnread, EndsUnlooked, read_backs, FoundAnother}
 use Rattle.dali_trace.specs.declared.happening.Reply.TheVariants as replies
 use Rattle.dali_trace.specs.declared.happening.Happening.{Happening}
-use Rattle.dali_trace.specs.declared.happening.Happening.TheVariants.{Asked, Answered, Kept, Stopped}
+use Rattle.dali_trace.specs.declared.happening.Happening.TheVariants.{Asked, Answered}
+use Rattle.dali_trace.specs.Cut.{since, up_to, is_start, kept_in}
 use Rattle.dali_trace.specs.Trace.{Start, records_of, standing_at, sent_since_taken, waiting, has_ended}
 
 -- where the records stood at the last start
 abbrev pub stood_at : Start → List Happening → Standing
-stood_at start [] = standing_of start.records
-stood_at start (Answered id replies.Taken ∷ past) = standing_at start past
-stood_at start (Stopped ∷ past) = standing_at start past
-stood_at start (other ∷ past) = stood_at start past
+stood_at start past = standing_at start (up_to is_start past)
 
 -- so many records were kept since then
 abbrev pub kept_since : List Happening → ℕ
-kept_since [] = 0
-kept_since (Kept entry ∷ past) = suc (kept_since past)
-kept_since (Answered id replies.Taken ∷ past) = 0
-kept_since (Stopped ∷ past) = 0
-kept_since (other ∷ past) = kept_since past
+kept_since past = length (kept_in (since is_start past))
 
 -- from a start of an order with so many updates no more frames are sent, a left unit's closing included
 abbrev pub work_limit : ℕ → ℕ
@@ -98,11 +91,11 @@ IsSaidSo start (Answered id (replies.Blocked unit) ∷ past) = EndsUnread unit 0
 IsSaidSo start other = Unit {0}
 
 -- it holds at each moment of a trace
-abbrev pub AtEach : (List Happening → Type 0) → List Happening → Type 0
-AtEach holds [] = holds []
-AtEach holds (newest ∷ past) = holds (newest ∷ past) × AtEach holds past
+abbrev pub AtEachPast : (List Happening → Type 0) → List Happening → Type 0
+AtEachPast holds [] = holds []
+AtEachPast holds (newest ∷ past) = holds (newest ∷ past) × AtEachPast holds past
 
 -- at each moment the frames and records since the start of the order at hand are within the limit, and what is said
 -- was earned
 abbrev pub IsWorked : Start → List Happening → Type 0
-IsWorked start past = AtEach (λ moment. IsWithinLimit start moment × IsSaidSo start moment) past
+IsWorked start past = AtEachPast (λ moment. IsWithinLimit start moment × IsSaidSo start moment) past

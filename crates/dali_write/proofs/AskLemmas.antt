@@ -5,7 +5,7 @@ use Rattle.dali_write.specs.declared.ask.Ask.{Ask}
 use Rattle.dali_write.specs.declared.ask.Ask.TheVariants.{Send, Ended}
 use Rattle.dali_write.specs.declared.ask.Verdict.TheVariants.{Silent}
 use Rattle.dali_write.specs.Plans.{Plan, Finish, Make}
-use Rattle.dali_write.specs.Tries.{GoesOn, ask_at}
+use Rattle.dali_write.specs.Tries.{IsGoing, ask_at}
 
 -- the same without the proof that there is a next frame; where there is none it is no matter what is asked
 abbrev pub shown_ask : Plan → List Request → Ask
@@ -13,7 +13,7 @@ shown_ask (Finish verdict) left = Ended verdict
 shown_ask (Make access after) [] = Ended Silent
 shown_ask (Make access after) (next ∷ left) = Send next.frame
 
-pub ask_shown : (plan : Plan) (left : List Request) (going : GoesOn plan left)
+pub ask_shown : (plan : Plan) (left : List Request) (going : IsGoing plan left)
     → shown_ask plan left ≡ ask_at plan left going
 ask_shown (Finish verdict) left going = refl
 ask_shown (Make access after) [] going = cc

@@ -7,12 +7,12 @@ use Rattle.dali_write.specs.declared.request.Request.{Request}
 use Rattle.dali_write.specs.declared.access.Access.{Access}
 use Rattle.dali_write.specs.declared.access.Access.TheVariants.{ReadFrom, WriteTo}
 use Rattle.dali_write.specs.declared.ask.Verdict.{Verdict}
-use Rattle.dali_write.specs.declared.stage.Job.{Job}
-use Rattle.dali_write.specs.declared.stage.Job.TheVariants.{Fresh, Opened, Closing, Reading}
+use Rattle.dali_write.specs.declared.stage.Task.{Task}
+use Rattle.dali_write.specs.declared.stage.Task.TheVariants.{Fresh, Opened, Closing, Reading}
 use Rattle.dali_write.specs.declared.session.Session.{Session}
 use Rattle.dali_write.specs.Requests.{request, access_requests}
 use Rattle.dali_write.specs.Frames.{read_frames, write_frames}
-use Rattle.dali_write.specs.Plans.{Plan, Finish, Make, goes_on, plan_after, greatest, read_format, judge_length}
+use Rattle.dali_write.specs.Plans.{Plan, Finish, Make, next_plan, plan_after, greatest, read_format, judge_length}
 use Rattle.dali_write.specs.Plans.{read_length, close, give_up, expect, read_back, read_lock, write_on, unlock, read_on}
 use Rattle.dali_write.specs.Tries.{most_tries, Trying, Missed, Misses, Succeeds, Fails, AccessEnds, AccessesEnd}
 use Rattle.dali_write.specs.Tries.{plan_requests}
@@ -75,7 +75,7 @@ access_length unit access outcome told (inr failed) =
 
 one_takes : (unit : ℕ) (plan : Plan) (outcome : Option ℕ) (newer : List Exchange) (limit : ℕ)
     → AccessEnds unit plan outcome newer → TakesAtMost limit plan
-    → (rest : ℕ) × TakesAtMost rest (goes_on plan outcome) × (length newer + rest ≤ limit)
+    → (rest : ℕ) × TakesAtMost rest (next_plan plan outcome) × (length newer + rest ≤ limit)
 one_takes unit (Finish verdict) outcome newer limit ends takes = absurd ends
 one_takes unit (Make access after) outcome newer limit ends takes =
     let few = access_length unit access outcome newer ends in
@@ -221,7 +221,7 @@ read_on_takes limit location (suc left) le = (
       (λ byte. read_on_takes (limit - most_read) (suc location) left (omega arith)),
 )
 
-plan_takes : (job : Job) → TakesAtMost (frame_limit job) (plan_of job)
+plan_takes : (task : Task) → TakesAtMost (frame_limit task) (plan_of task)
 plan_takes (Fresh order) = read_length_takes order.updates
 plan_takes (Opened order) = unlock_takes (frame_limit (Opened order)) order.updates (omega arith)
 plan_takes Closing = close_takes most_close _ _ (omega arith)
@@ -231,6 +231,7 @@ plan_takes Reading = (
       (λ last. read_on_takes (254 * most_read) 1 (min last 0xFE) (omega arith)),
 )
 
-pub told_length : (told : List Exchange) (s : Session) → Told told s → length told ≤ frame_limit s.job
+pub told_length : (told : List Exchange) (s : Session) → Told told s → length told ≤ frame_limit s.task
 unfolding Told
-told_length told s was = stands_takes _ (plan_of s.job) told _ _ _ _ (frame_limit s.job) was.stands (plan_takes s.job)
+told_length told s was = stands_takes _ (plan_of s.task) told _ _ _ _ (frame_limit s.task) was.stands
+    (plan_takes s.task)

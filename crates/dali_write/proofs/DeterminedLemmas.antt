@@ -11,8 +11,8 @@ use Rattle.dali_write.specs.declared.access.Access.TheVariants.{ReadFrom, WriteT
 use Rattle.dali_write.specs.declared.ask.Ask.{Ask}
 use Rattle.dali_write.specs.declared.ask.Ask.TheVariants.{Send}
 use Rattle.dali_write.specs.Requests.{Meets, request, access_requests, byte_after}
-use Rattle.dali_write.specs.Plans.{Plan, Finish, Make, goes_on, plan_after}
-use Rattle.dali_write.specs.Tries.{Trying, Missed, Misses, byte_of, AccessEnds, AccessesEnd, plan_requests, GoesOn}
+use Rattle.dali_write.specs.Plans.{Plan, Finish, Make, next_plan, plan_after}
+use Rattle.dali_write.specs.Tries.{Trying, Missed, Misses, byte_of, AccessEnds, AccessesEnd, plan_requests, IsGoing}
 use Rattle.dali_write.specs.Tries.{Stands}
 use Rattle.dali_write.specs.Tries.{Wants}
 use Rattle.dali_write.proofs.AskLemmas.{shown_ask, ask_shown}
@@ -20,14 +20,14 @@ use Rattle.dali_write.proofs.ShapeLemmas.{none_left}
 
 -- where a session stands: its plan from the access at hand on, the missed tries of that access, what is left of the try
 -- at hand, and its byte
-pub record Place : Type 0 where
+pub record PlanState : Type 0 where
   pub now : Plan
   pub misses : ℕ
   pub left : List Request
   pub byte : Option ℕ
 
 -- before the first frame of a try
-abbrev pub begins : ℕ → Plan → ℕ → Place
+abbrev pub begins : ℕ → Plan → ℕ → PlanState
 begins unit now misses = record { now = now; misses = misses; left = plan_requests unit now; byte = None }
 
 -- whether the answer is as wished
@@ -38,17 +38,17 @@ is_met (Exactly byte) (Some other) = other == byte
 is_met Anything answer = is_some answer
 
 -- the answer was as wished: the next frame of the try, or the next access of the plan
-abbrev pub met_then : ℕ → Plan → ℕ → List Request → Option ℕ → Place
-met_then unit now misses [] byte = begins unit (goes_on now byte) 0
+abbrev pub met_then : ℕ → Plan → ℕ → List Request → Option ℕ → PlanState
+met_then unit now misses [] byte = begins unit (next_plan now byte) 0
 met_then unit now misses (next ∷ left) byte = record { now = now; misses = misses; left = next ∷ left; byte = byte }
 
 -- the answer was not as wished: another try of the access, or after the eighth the next access of the plan
-abbrev pub missed_then : ℕ → Plan → ℕ → Place
+abbrev pub missed_then : ℕ → Plan → ℕ → PlanState
 missed_then unit now misses =
-    if nat_lt (suc misses) 8 then begins unit now (suc misses) else begins unit (goes_on now None) 0
+    if nat_lt (suc misses) 8 then begins unit now (suc misses) else begins unit (next_plan now None) 0
 
 -- where one more exchange leads (from an ended plan, which has no frame left, it stays)
-abbrev pub moved : ℕ → Exchange → Plan → ℕ → List Request → Option ℕ → Place
+abbrev pub moved : ℕ → Exchange → Plan → ℕ → List Request → Option ℕ → PlanState
 moved unit x now misses [] byte = record { now = now; misses = misses; left = []; byte = byte }
 moved unit x now misses (next ∷ left) byte =
     if is_met next.wish x.answer
@@ -56,9 +56,10 @@ moved unit x now misses (next ∷ left) byte =
     else missed_then unit now misses
 
 -- where the exchanges lead
-abbrev pub place_after : ℕ → Plan → List Exchange → Place
-place_after unit plan [] = begins unit plan 0
-place_after unit plan (x ∷ told) = let at = place_after unit plan told in moved unit x at.now at.misses at.left at.byte
+abbrev pub plan_state_after : ℕ → Plan → List Exchange → PlanState
+plan_state_after unit plan [] = begins unit plan 0
+plan_state_after unit plan (x ∷ told) =
+    let at = plan_state_after unit plan told in moved unit x at.now at.misses at.left at.byte
 
 meets_is : (wish : Wish) (answer : Option ℕ) → Meets wish answer → is_met wish answer ≡ true
 meets_is Nothing answer meets = refl
@@ -79,7 +80,7 @@ some_requests unit (ReadFrom location) none = cc
 some_requests unit (WriteTo location byte) none = cc
 
 -- The newest exchange was of the frame that was wanted, and it led from where the session stood.
-record Peeled (unit : ℕ) (plan : Plan) (told : List Exchange) (place : Place) : Type 0 where
+record Peeled (unit : ℕ) (plan : Plan) (told : List Exchange) (state : PlanState) : Type 0 where
   pub newest : Exchange
   pub older : List Exchange
   pub told_is : told ≡ newest ∷ older
@@ -90,11 +91,11 @@ record Peeled (unit : ℕ) (plan : Plan) (told : List Exchange) (place : Place) 
   pub byte : Option ℕ
   pub before : Stands unit plan older now misses (request newest.frame wish ∷ left) byte
   pub sends : shown_ask now (request newest.frame wish ∷ left) ≡ Send newest.frame
-  pub leads : moved unit newest now misses (request newest.frame wish ∷ left) byte ≡ place
+  pub leads : moved unit newest now misses (request newest.frame wish ∷ left) byte ≡ state
 
 -- nothing was told yet, or there is a newest exchange
-abbrev Peels : ℕ → Plan → List Exchange → Place → Type 0
-Peels unit plan told place = ((told ≡ []) × (begins unit plan 0 ≡ place)) ⊎ Peeled unit plan told place
+abbrev Peels : ℕ → Plan → List Exchange → PlanState → Type 0
+Peels unit plan told state = ((told ≡ []) × (begins unit plan 0 ≡ state)) ⊎ Peeled unit plan told state
 
 -- whole accesses after which the plan goes on so
 abbrev Reaches : ℕ → Plan → Plan → List Exchange → Type 0
@@ -103,15 +104,15 @@ Reaches unit plan now ended =
 
 -- what was told, split before its newest exchange
 peeled : (unit : ℕ) (plan : Plan) (told ended missed tried : List Exchange) (now : Plan) (misses : ℕ) (x : Exchange)
-    (wish : Wish) (left : List Request) (place : Place)
+    (wish : Wish) (left : List Request) (state : PlanState)
     → told ≡ (x ∷ tried) ++ (missed ++ ended) → Reaches unit plan now ended → misses < 8
     → Misses (plan_requests unit now) misses missed
     → Trying (plan_requests unit now) tried (request x.frame wish ∷ left)
-    → moved unit x now misses (request x.frame wish ∷ left) (byte_of tried) ≡ place
-    → Peeled unit plan told place
-peeled unit plan told ended missed tried (Finish verdict) misses x wish left place parts reaches few are try leads =
+    → moved unit x now misses (request x.frame wish ∷ left) (byte_of tried) ≡ state
+    → Peeled unit plan told state
+peeled unit plan told ended missed tried (Finish verdict) misses x wish left state parts reaches few are try leads =
     absurd (none_left tried (request x.frame wish) left try)
-peeled unit plan told ended missed tried (Make access after) misses x wish left place parts reaches few are try leads =
+peeled unit plan told ended missed tried (Make access after) misses x wish left state parts reaches few are try leads =
     record {
       newest = x;
       older = tried ++ (missed ++ ended);
@@ -172,7 +173,7 @@ peel_end unit plan told (x ∷ tried) older ended access after misses parts reac
 -- the newest exchange is the last of a whole access
 peel_access : (unit : ℕ) (plan : Plan) (told newer ended : List Exchange) (now : Plan) (outcome : Option ℕ)
     → told ≡ newer ++ ended → Reaches unit plan now ended → AccessEnds unit now outcome newer
-    → Peeled unit plan told (begins unit (goes_on now outcome) 0)
+    → Peeled unit plan told (begins unit (next_plan now outcome) 0)
 peel_access unit plan told newer ended (Finish verdict) outcome parts reaches ends = absurd ends
 peel_access unit plan told newer ended (Make access after) outcome parts reaches (inl done) =
     subst (λ (o : Option ℕ). Peeled unit plan told (begins unit (after o) 0)) (sym done.5)
@@ -204,14 +205,14 @@ peel_misses unit plan told missed ended now zero parts reaches few are =
     reaches.1 reaches.2
 peel_misses unit plan told missed ended now (suc misses) parts reaches few are =
     let another : missed_then unit now misses ≡ begins unit now (suc misses) = rw (lt-ltb (suc misses) 8 few) refl in
-    inr (subst (λ (p : Place). Peeled unit plan told p) another
+    inr (subst (λ (p : PlanState). Peeled unit plan told p) another
     (peel_miss unit plan told are.0 are.1 ended now misses (regroup told missed are.1 ended are.0 parts are.2) reaches
     (omega arith) are.4 are.3))
 
 -- the frame at hand was not the last of its try
 goes_right : (unit : ℕ) (now : Plan) (misses : ℕ) (left : List Request) (byte : Option ℕ) (tried : List Exchange)
     (next : Request)
-    → GoesOn now left
+    → IsGoing now left
     → Trying (plan_requests unit now) tried (next ∷ left)
     → met_then unit now misses left byte ≡ record { now = now; misses = misses; left = left; byte = byte }
 goes_right unit (Finish verdict) misses left byte tried next going try = absurd (none_left tried next left try)
@@ -223,7 +224,7 @@ peel_try : (unit : ℕ) (plan : Plan) (told ended missed tried : List Exchange) 
     (left : List Request) (byte : Option ℕ)
     → told ≡ tried ++ (missed ++ ended) → Reaches unit plan now ended → misses < 8
     → Misses (plan_requests unit now) misses missed
-    → Trying (plan_requests unit now) tried left → byte_of tried ≡ byte → GoesOn now left
+    → Trying (plan_requests unit now) tried left → byte_of tried ≡ byte → IsGoing now left
     → Peels unit plan told (record { now = now; misses = misses; left = left; byte = byte })
 peel_try unit plan told ended missed [] now misses left byte parts reaches few are try is going =
     rw (try, sym is) (peel_misses unit plan told missed ended now misses parts reaches few are)
@@ -243,13 +244,13 @@ peel unit plan told now misses left byte s =
     s.few
     s.misses_are s.try s.byte_is s.going
 
--- so there is one place alone
-place_is : (unit : ℕ) (plan : Plan) (told : List Exchange) (place : Place) → Peels unit plan told place
-    → place_after unit plan told ≡ place
-place_is unit plan [] place (inl first) = first.1
-place_is unit plan [] place (inr p) = let no = p.told_is in cc
-place_is unit plan (x ∷ told) place (inl first) = let no = first.0 in cc
-place_is unit plan (x ∷ told) place (inr p) =
+-- so there is one state alone
+plan_state_is : (unit : ℕ) (plan : Plan) (told : List Exchange) (state : PlanState) → Peels unit plan told state
+    → plan_state_after unit plan told ≡ state
+plan_state_is unit plan [] state (inl first) = first.1
+plan_state_is unit plan [] state (inr p) = let no = p.told_is in cc
+plan_state_is unit plan (x ∷ told) state (inl first) = let no = first.0 in cc
+plan_state_is unit plan (x ∷ told) state (inr p) =
     let is = p.told_is in
     let newest : x ≡ p.newest = cc in
     let older : p.older ≡ told = cc in
@@ -257,20 +258,20 @@ place_is unit plan (x ∷ told) place (inr p) =
     subst (λ (t : List Exchange). Stands unit plan t p.now p.misses (request p.newest.frame p.wish ∷ p.left) p.byte)
     older p.before in
     let same =
-    place_is unit plan told _
+    plan_state_is unit plan told _
     (peel unit plan told p.now p.misses (request p.newest.frame p.wish ∷ p.left) p.byte before) in
-    ap (λ (at : Place). moved unit x at.now at.misses at.left at.byte) same
+    ap (λ (at : PlanState). moved unit x at.now at.misses at.left at.byte) same
     ∙ ap (λ (y : Exchange). moved unit y p.now p.misses (request p.newest.frame p.wish ∷ p.left) p.byte) newest
     ∙ p.leads
 
--- what is wanted at a place
-abbrev pub ask_from : Place → Ask
+-- what is wanted in a state
+abbrev pub ask_from : PlanState → Ask
 ask_from at = shown_ask at.now at.left
 
 pub ask_is : (unit : ℕ) (plan : Plan) (told : List Exchange) (ask : Ask) → Wants unit plan told ask
-    → ask_from (place_after unit plan told) ≡ ask
+    → ask_from (plan_state_after unit plan told) ≡ ask
 ask_is unit plan told ask w =
-    ap ask_from (place_is unit plan told _ (peel unit plan told w.now w.misses w.left w.byte w.stands))
+    ap ask_from (plan_state_is unit plan told _ (peel unit plan told w.now w.misses w.left w.byte w.stands))
     ∙ ask_shown w.now w.left w.stands.going ∙ w.ask_is
 
 -- so one thing alone is wanted
@@ -280,10 +281,10 @@ wants_one told unit plan one other first second =
     sym (ask_is unit plan told one first) ∙ ask_is unit plan told other second
 
 -- the newest exchange is of the frame that was wanted before it
-wanted : (unit : ℕ) (plan : Plan) (told : List Exchange) (x : Exchange) (place : Place)
-    → Peels unit plan (x ∷ told) place → Wants unit plan told (Send x.frame)
-wanted unit plan told x place (inl first) = let no = first.0 in cc
-wanted unit plan told x place (inr p) =
+wanted : (unit : ℕ) (plan : Plan) (told : List Exchange) (x : Exchange) (state : PlanState)
+    → Peels unit plan (x ∷ told) state → Wants unit plan told (Send x.frame)
+wanted unit plan told x state (inl first) = let no = first.0 in cc
+wanted unit plan told x state (inr p) =
     let is = p.told_is in
     let newest : p.newest ≡ x = cc in
     let older : p.older ≡ told = cc in

@@ -4,7 +4,7 @@ use Rattle.std.proofs.Common.{Some, None, IsSome, arith}
 use Rattle.std.proofs.lemmas.Nat.{mul-le}
 use Rattle.std.proofs.lemmas.Option.{slice_get_within}
 use Rattle.dali_write.specs.declared.request.Request.{Request}
-use Rattle.dali_write.specs.declared.stage.Job.{Job}
+use Rattle.dali_write.specs.declared.stage.Task.{Task}
 use Rattle.dali_write.specs.declared.session.Session.{Session}
 use Rattle.dali_write.specs.declared.stage.Stage.{Stage}
 use Rattle.dali_write.specs.declared.stage.Stage.TheVariants.{ReadLength, ReadFormat, ReadFormatLow, Unlock, WriteOn}
@@ -30,21 +30,21 @@ read_on_requests unit location zero = omega arith
 read_on_requests unit location (suc left) = omega arith
 
 -- the limit of a stage has room for eight tries of the access at hand
-pub tries_fit : (unit : ℕ) (job : Job) (stage : Stage)
-    → 8 * length (plan_requests unit (plan_at job stage)) ≤ limit_at job stage
-tries_fit unit job ReadLength = omega arith
-tries_fit unit job ReadFormat = omega arith
-tries_fit unit job (ReadFormatLow high) = omega arith
-tries_fit unit job Unlock = omega arith
-tries_fit unit job (WriteOn index) =
-    omega (arith, write_on_requests unit (updates_for job) (drop index (updates_for job)))
-tries_fit unit job ReadLock = omega arith
-tries_fit unit job (ReadBack index) = omega (arith, read_back_requests unit (drop index (updates_for job)))
-tries_fit unit job (Close answered unanswered) = omega arith
-tries_fit unit job (ReadClosed answered unanswered) = omega arith
-tries_fit unit job ReadAll = omega arith
-tries_fit unit job (ReadOn location last) = read_on_requests unit location (suc last - location)
-tries_fit unit job (Over verdict) = omega arith
+pub tries_fit : (unit : ℕ) (task : Task) (stage : Stage)
+    → 8 * length (plan_requests unit (plan_at task stage)) ≤ limit_at task stage
+tries_fit unit task ReadLength = omega arith
+tries_fit unit task ReadFormat = omega arith
+tries_fit unit task (ReadFormatLow high) = omega arith
+tries_fit unit task Unlock = omega arith
+tries_fit unit task (WriteOn index) =
+    omega (arith, write_on_requests unit (updates_for task) (drop index (updates_for task)))
+tries_fit unit task ReadLock = omega arith
+tries_fit unit task (ReadBack index) = omega (arith, read_back_requests unit (drop index (updates_for task)))
+tries_fit unit task (Close answered unanswered) = omega arith
+tries_fit unit task (ReadClosed answered unanswered) = omega arith
+tries_fit unit task ReadAll = omega arith
+tries_fit unit task (ReadOn location last) = read_on_requests unit location (suc last - location)
+tries_fit unit task (Over verdict) = omega arith
 
 -- the frames of the tries so far are fewer than those of eight
 within_tries : (misses requests number : ℕ) → misses < 8 → number < requests → misses * requests + number < 8 * requests
@@ -65,10 +65,10 @@ falls_again limit requests misses number fit few below =
 
 -- while a frame is at hand, its number is below that of the requests
 pub number_below : (s : Session) → IsSome (request_at_hand s)
-    → s.number < length (plan_requests s.unit (plan_at s.job s.stage))
+    → s.number < length (plan_requests s.unit (plan_at s.task s.stage))
 number_below s some = by (request_at_hand s) refl some
   where
     by : (next : Option Request) → request_at_hand s ≡ next → IsSome next
-        → s.number < length (plan_requests s.unit (plan_at s.job s.stage))
+        → s.number < length (plan_requests s.unit (plan_at s.task s.stage))
     by None at some = cc
-    by (Some next) at some = slice_get_within (plan_requests s.unit (plan_at s.job s.stage)) s.number next at
+    by (Some next) at some = slice_get_within (plan_requests s.unit (plan_at s.task s.stage)) s.number next at

@@ -5,7 +5,7 @@ use Rattle.dali_write.specs.Exchanges.{Exchange}
 use Rattle.dali_write.specs.declared.access.Access.TheVariants.{ReadFrom, WriteTo}
 use Rattle.dali_write.specs.declared.ask.Ask.{Ask}
 use Rattle.dali_write.specs.declared.ask.Verdict.TheVariants.{MayOpen, Short, Silent}
-use Rattle.dali_write.specs.Plans.{Plan, Finish, Make, goes_on, plan_after, greatest, judge_length, read_format}
+use Rattle.dali_write.specs.Plans.{Plan, Finish, Make, next_plan, plan_after, greatest, judge_length, read_format}
 use Rattle.dali_write.specs.Plans.{read_format_low, read_length, read_on, read_all}
 use Rattle.dali_write.specs.Tries.{AccessEnds, AccessesEnd, Wants, plan_requests}
 use Rattle.dali_write.specs.Worlds.{KeepsAt}
@@ -25,7 +25,7 @@ OnlyReads (Make (WriteTo location byte) after) = ⊥
 
 access_quiet : (address unit : ℕ) (plan : Plan) (outcome : Option ℕ) (told : List Exchange) → OnlyReads plan
     → AccessEnds unit plan outcome told
-    → AllQuiet address told × OnlyReads (goes_on plan outcome)
+    → AllQuiet address told × OnlyReads (next_plan plan outcome)
 unfolding OnlyReads
 access_quiet address unit (Finish verdict) outcome told reads ends = absurd ends
 access_quiet address unit (Make (ReadFrom location) after) outcome told reads ends =

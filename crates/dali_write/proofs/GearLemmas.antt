@@ -5,7 +5,7 @@ use Rattle.dali_frame.specs.declared.forward.Frame.{Frame}
 use Rattle.dali_frame.specs.declared.forward.Frame.TheVariants.{Dtr0, Dtr1, Dtr2, Write, WriteSilent, Enable, AskDtr0}
 use Rattle.dali_frame.specs.declared.forward.Frame.TheVariants.{AskDtr1, AskDtr2, Read, Other}
 use Rattle.dali_bus.specs.World.{World, Gear, Memory, byte_in, is_open}
-use Rattle.dali_bus.specs.Hears.{Hears, Obeys, MayEnd, Tells, Ignores, PassesBy}
+use Rattle.dali_bus.specs.Hears.{Hears, Obeys, MayEnd, AnswersRegister, Ignores, PassesBy}
 use Rattle.dali_bus.specs.Carry.{Carry, MayHear, Heard}
 use Rattle.dali_write.specs.Worlds.{memory_of, memory_at, IsOff}
 
@@ -192,7 +192,7 @@ carry_dtr1 old frame answer new leaves carry unit =
 answers_ask1 : (at : ℕ) (old : Gear) (to v : ℕ) (new : Gear) → Hears at old (AskDtr1 to) (Some v) new
     → (to ≡ at) × (old.dtr1 ≡ v) × Steady old new
 answers_ask1 at old to v new h = told h.obeys where
-  told : ((to ≡ at) × Tells old.dtr1 old (Some v) h.obeyed) ⊎ ((to ≢ at) × Ignores old (Some v) h.obeyed)
+  told : ((to ≡ at) × AnswersRegister old.dtr1 old (Some v) h.obeyed) ⊎ ((to ≢ at) × Ignores old (Some v) h.obeyed)
       → (to ≡ at) × (old.dtr1 ≡ v) × Steady old new
   told (inl (is, tells)) = let value = tells.1 in (is, cc, rw tells.0 at (end_steady h.obeyed new h.ends))
   told (inr (isnt, ignores)) = let never = ignores.1 in cc
@@ -200,7 +200,7 @@ answers_ask1 at old to v new h = told h.obeys where
 answers_ask0 : (at : ℕ) (old : Gear) (to v : ℕ) (new : Gear) → Hears at old (AskDtr0 to) (Some v) new
     → (to ≡ at) × (old.dtr0 ≡ v) × Steady old new
 answers_ask0 at old to v new h = told h.obeys where
-  told : ((to ≡ at) × Tells old.dtr0 old (Some v) h.obeyed) ⊎ ((to ≢ at) × Ignores old (Some v) h.obeyed)
+  told : ((to ≡ at) × AnswersRegister old.dtr0 old (Some v) h.obeyed) ⊎ ((to ≢ at) × Ignores old (Some v) h.obeyed)
       → (to ≡ at) × (old.dtr0 ≡ v) × Steady old new
   told (inl (is, tells)) = let value = tells.1 in (is, cc, rw tells.0 at (end_steady h.obeyed new h.ends))
   told (inr (isnt, ignores)) = let never = ignores.1 in cc

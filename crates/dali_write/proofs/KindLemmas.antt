@@ -7,10 +7,10 @@ use Rattle.dali_write.specs.declared.ask.Ask.TheVariants.{Ended}
 use Rattle.dali_write.specs.declared.ask.Verdict.{Verdict}
 use Rattle.dali_write.specs.declared.ask.Verdict.TheVariants.{MayOpen, Short, Format, Silent, Doubt, DoubtOpen, Closed}
 use Rattle.dali_write.specs.declared.ask.Verdict.TheVariants.{NotClosed}
-use Rattle.dali_write.specs.Plans.{Plan, Finish, Make, goes_on, plan_after, greatest, judge_length, read_format}
+use Rattle.dali_write.specs.Plans.{Plan, Finish, Make, next_plan, plan_after, greatest, judge_length, read_format}
 use Rattle.dali_write.specs.Plans.{read_format_low, read_length, close, give_up, expect, read_back, read_lock, write_on}
 use Rattle.dali_write.specs.Plans.{unlock, read_on, read_all}
-use Rattle.dali_write.specs.Tries.{GoesOn, Wants}
+use Rattle.dali_write.specs.Tries.{IsGoing, Wants}
 use Rattle.dali_write.proofs.AskLemmas.{shown_ask, ask_shown}
 use Rattle.dali_write.specs.Verdicts.{EndsFresh, EndsOpened, EndsClosing, EndsReading}
 use Rattle.dali_write.proofs.PlanLemmas.{either_all, if_all}
@@ -20,7 +20,7 @@ abbrev EndsSo : (Verdict → Type 0) → Plan → Type 0
 EndsSo P (Finish verdict) = P verdict
 EndsSo P (Make access after) = (outcome : Option ℕ) → EndsSo P (after outcome)
 
-on : (P : Verdict → Type 0) (plan : Plan) (outcome : Option ℕ) → EndsSo P plan → EndsSo P (goes_on plan outcome)
+on : (P : Verdict → Type 0) (plan : Plan) (outcome : Option ℕ) → EndsSo P plan → EndsSo P (next_plan plan outcome)
 on P (Finish verdict) outcome ends = ends
 on P (Make access after) outcome ends = ends outcome
 
@@ -30,7 +30,7 @@ after_all P plan [] ends = ends
 after_all P plan (outcome ∷ outcomes) ends = on P (plan_after plan outcomes) outcome (after_all P plan outcomes ends)
 
 -- the plan that is left has ended
-over : (P : Verdict → Type 0) (now : Plan) (left : List Request) (verdict : Verdict) → EndsSo P now → GoesOn now left
+over : (P : Verdict → Type 0) (now : Plan) (left : List Request) (verdict : Verdict) → EndsSo P now → IsGoing now left
     → shown_ask now left ≡ Ended verdict → P verdict
 over P (Finish end) left verdict ends going is = let same : end ≡ verdict = cc in subst P same ends
 over P (Make access after) [] verdict ends going is = cc

@@ -1,4 +1,4 @@
--- What the unit of the small worked world may do; and why a checked read has a seventh frame.
+-- What the unit of the small worked world may do.
 use Rattle.std.proofs.Common.{◌≡◌, ◌≢◌, refl, sym, ap, ◌∙◌, ℕ, Bool, true, false, inl, inr, List, [], ◌∷◌, Option}
 use Rattle.std.proofs.Common.{Some, None, arith}
 use Rattle.std.proofs.lemmas.Bool.{eqb-true, ne_eqb}
@@ -100,65 +100,3 @@ pub keeps_power : (dtr1 dtr0 address : ℕ) → address ≢ 9
     → LosesPower (lone_unit dtr1 dtr0) address (lone_unit dtr1 dtr0)
 keeps_power dtr1 dtr0 address other =
     record { there = rw (ne_eqb address 9 other) tt; others = λ other apart. refl }
-
--- six frames of a checked read were answered as they want, and one is left
-
-pub six_are_answered : Trying (read_requests 9 0) six_frames (request (AskDtr1 9) (Exactly 1) ∷ [])
-six_are_answered =
-    (Exactly 1, refl, (Anything, refl, (Exactly 0, refl, (Nothing, tt, (Exactly 1, refl, (Nothing, tt, refl))))))
-
--- the lone unit may have answered them so, where it lost its power before the read
-
-select_frames : List Exchange
-select_frames =
-    sent (AskDtr0 9) (Some 0) ∷ sent (Dtr0 0) None ∷ sent (AskDtr1 9) (Some 1) ∷ sent (Dtr1 1) None ∷ []
-
-selected_then_off : Leads WorldStep (IsAmong (9 ∷ [])) select_frames (lone_unit 0 0) (lone_unit 0 0)
-unfolding select_frames
-selected_then_off = (
-  lone_unit 1 0,
-  lone_unit 1 0,
-  (
-    lone_unit 1 0,
-    lone_unit 1 0,
-    (
-      lone_unit 1 0,
-      lone_unit 1 0,
-      (lone_unit 0 0, lone_unit 1 0, Stays, hears_dtr1 0 0 1, Stays),
-      tells_dtr1 1 0 9 refl,
-      Stays,
-    ),
-    hears_dtr0 1 0 0,
-    Stays,
-  ),
-  tells_dtr0 1 0 9 refl,
-  Loses 9 (inl refl) Stays (loses_power 1 0),
-)
-
-six_lead : Leads WorldStep (IsAmong (9 ∷ [])) six_frames (lone_unit 0 0) (lone_unit 0 1)
-unfolding select_frames
-six_lead = (
-  lone_unit 0 1,
-  lone_unit 0 1,
-  (lone_unit 0 0, lone_unit 0 1, selected_then_off, reads_bank_0, Stays),
-  tells_dtr0 0 1 9 refl,
-  Stays,
-)
-
-pub six_may_be : Run WorldStep (IsAmong (9 ∷ [])) six_frames (lone_unit 0 0) (lone_unit 0 1)
-six_may_be = run_of six_frames (lone_unit 0 0) (lone_unit 0 1) six_lead
-
--- and bank 1 doesn't hold the byte at 00h: without the seventh frame it would be told so
-
-byte_is : (one other : ℕ) → Some one ≡ Some other → one ≡ other
-byte_is one other e = cc
-
-its_byte : (gear : Gear) → Some (small_gear 0 1) ≡ Some gear → gear.memory 1 0 ≡ Some 0x77
-its_byte gear is = let same : gear ≡ small_gear 0 1 = cc in ap (λ (g : Gear). g.memory 1 0) same
-
-not_that : (now : Option ℕ) → now ≡ Some 0x77 → MayRelock (IsAmong (9 ∷ []) 9) 1 0 (Some 0x02) now → ⊥
-not_that now holds (inl same) = omega (arith, byte_is 0x77 0x02 (sym holds ∙ same))
-not_that now holds (inr relocks) = omega (arith, relocks.2)
-
-pub six_show_nothing : Shows (IsAmong (9 ∷ [])) (lone_unit 0 1) 9 0 0x02 → ⊥
-six_show_nothing shows = not_that (shows.gear.memory 1 0) (its_byte shows.gear shows.is) shows.byte_is

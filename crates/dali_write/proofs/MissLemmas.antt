@@ -11,7 +11,7 @@ use Rattle.dali_write.specs.declared.access.Access.{Access}
 use Rattle.dali_write.specs.declared.access.Access.TheVariants.{ReadFrom, WriteTo}
 use Rattle.dali_write.specs.declared.ask.Verdict.{Verdict}
 use Rattle.dali_write.specs.Requests.{Meets, request, access_requests}
-use Rattle.dali_write.specs.Plans.{Plan, Finish, Make, goes_on}
+use Rattle.dali_write.specs.Plans.{Plan, Finish, Make, next_plan}
 use Rattle.dali_write.specs.Tries.{most_tries, Trying, Missed, Misses, AccessEnds}
 use Rattle.dali_write.specs.Walks.{Walk, access_misses, misses_of, Took}
 use Rattle.dali_write.specs.Doubts.{EndsInFailure, HasFailed}
@@ -101,7 +101,7 @@ pub walk_misses : (unit : ℕ) (plan : Plan) (outcomes : List (Option ℕ)) (tol
 walk_misses unit plan [] told end older walk = rw walk.0 (omega arith)
 walk_misses unit plan (outcome ∷ outcomes) told end older walk =
     let here = access_ends unit plan outcome walk.1 older walk.3 in
-    let rest = walk_misses unit (goes_on plan outcome) outcomes walk.0 end (walk.1 ++ older) walk.4 in
+    let rest = walk_misses unit (next_plan plan outcome) outcomes walk.0 end (walk.1 ++ older) walk.4 in
     let joined = append_assoc walk.0 walk.1 older in
     let same : misses_in (told ++ older) ≡ misses_in (walk.0 ++ (walk.1 ++ older)) = rw walk.2 (ap misses_in joined) in
     omega arith

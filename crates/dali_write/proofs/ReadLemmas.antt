@@ -10,11 +10,11 @@ use Rattle.dali_bus.specs.World.{World, Gear, byte_in, byte_at}
 use Rattle.dali_write.specs.Exchanges.{Exchange}
 use Rattle.dali_write.specs.declared.request.Request.{Request}
 use Rattle.dali_write.specs.declared.session.Session.{Session}
-use Rattle.dali_write.specs.declared.stage.Job.{Job}
-use Rattle.dali_write.specs.declared.stage.Job.TheVariants.{Reading}
+use Rattle.dali_write.specs.declared.stage.Task.{Task}
+use Rattle.dali_write.specs.declared.stage.Task.TheVariants.{Reading}
 use Rattle.dali_write.specs.declared.ask.Verdict.TheVariants.{Silent, Read}
 use Rattle.dali_write.specs.declared.ask.Ask.TheVariants.{Ended}
-use Rattle.dali_write.specs.Plans.{Plan, Finish, Make, goes_on, plan_after, either_way, read_on, read_all}
+use Rattle.dali_write.specs.Plans.{Plan, Finish, Make, next_plan, plan_after, either_way, read_on, read_all}
 use Rattle.dali_write.specs.Tries.{AccessEnds, AccessesEnd, plan_requests}
 use Rattle.dali_write.proofs.AskLemmas.{shown_ask, ask_shown}
 use Rattle.dali_write.specs.Found.{StandsWith, found}
@@ -65,7 +65,7 @@ reads_more mid last unit byte bytes each keeps here location below =
 -- the first read, of location 00h
 first_read : (unit : ℕ) (outcome : Option ℕ) (newer : List Exchange) (mid last : List Exchange)
     → AccessEnds unit read_all outcome newer → After newer mid last
-    → Reached (goes_on read_all outcome) (found (outcome ∷ [])) unit last
+    → Reached (next_plan read_all outcome) (found (outcome ∷ [])) unit last
 first_read unit None newer mid last ends run = inr (inr refl)
 first_read unit (Some byte) newer mid last ends run =
     let after_first = either_way (Finish Silent) (λ top. read_on 1 (min top 0xFE)) in
@@ -87,8 +87,8 @@ next_read : (unit left : ℕ) (outcome : Option ℕ) (bytes : List ℕ) (newer :
     → length bytes + left ≡ suc (min (get_or bytes 0 0) 0xFE) → ReadsEach mid unit bytes
     → AccessEnds unit (read_on (length bytes) left) outcome newer → After newer mid last
     → ((byte : ℕ) × (outcome ≡ Some byte)
-    × ReadSoFar (goes_on (read_on (length bytes) left) outcome) (bytes ++ byte ∷ []) unit last)
-    ⊎ (goes_on (read_on (length bytes) left) outcome ≡ Finish Silent)
+    × ReadSoFar (next_plan (read_on (length bytes) left) outcome) (bytes ++ byte ∷ []) unit last)
+    ⊎ (next_plan (read_on (length bytes) left) outcome ≡ Finish Silent)
 next_read unit zero outcome bytes newer mid last some count each ends run = absurd ends
 next_read unit (suc left) None bytes newer mid last some count each ends run = inr refl
 next_read unit (suc left) (Some byte) bytes newer mid last some count each ends run =
@@ -114,22 +114,22 @@ access_reaches : (unit : ℕ) (plan : Plan) (outcomes : List (Option ℕ)) (outc
     (newer : List Exchange)
     (mid last : List Exchange)
     → Reached plan (found outcomes) unit mid → AccessEnds unit plan outcome newer → After newer mid last
-    → Reached (goes_on plan outcome) (found (outcome ∷ outcomes)) unit last
+    → Reached (next_plan plan outcome) (found (outcome ∷ outcomes)) unit last
 access_reaches unit plan outcomes outcome newer mid last (inl (is, none)) ends run =
     let first =
     first_read unit outcome newer mid last (subst (λ (p : Plan). AccessEnds unit p outcome newer) is ends) run in
-    subst (λ (p : Plan). Reached (goes_on p outcome) (found (outcome ∷ outcomes)) unit last) (sym is)
-    (subst (λ (bytes : List ℕ). Reached (goes_on read_all outcome) (bytes ++ option_to_list outcome) unit last)
+    subst (λ (p : Plan). Reached (next_plan p outcome) (found (outcome ∷ outcomes)) unit last) (sym is)
+    (subst (λ (bytes : List ℕ). Reached (next_plan read_all outcome) (bytes ++ option_to_list outcome) unit last)
     (sym none) first)
 access_reaches unit plan outcomes outcome newer mid last (inr (inl so_far)) ends run =
     let is = so_far.plan_is in
     let bytes = found outcomes in
-    subst (λ (p : Plan). Reached (goes_on p outcome) (bytes ++ option_to_list outcome) unit last) (sym is)
+    subst (λ (p : Plan). Reached (next_plan p outcome) (bytes ++ option_to_list outcome) unit last) (sym is)
     (elim (next_read unit so_far.left outcome bytes newer mid last so_far.some so_far.count so_far.each
     (subst (λ (p : Plan). AccessEnds unit p outcome newer) is ends) run) [
       | inl read ↦
           inr (inl (subst (λ (o : Option ℕ).
-          ReadSoFar (goes_on (read_on (length bytes) so_far.left) outcome) (bytes ++ option_to_list o) unit last)
+          ReadSoFar (next_plan (read_on (length bytes) so_far.left) outcome) (bytes ++ option_to_list o) unit last)
           (sym read.1) read.2))
       | inr failed ↦ inr (inr failed)
     ])
@@ -184,15 +184,15 @@ ended_reads unit told (Finish v) misses left byte bytes s ask =
 ended_reads unit told (Make access after) misses [] byte bytes s ask = let none = s.stands.going in cc
 ended_reads unit told (Make access after) misses (next ∷ left) byte bytes s ask = cc
 
-pub bytes_are_read : (told : List Exchange) (s : Session) → Told told s → s.job ≡ Reading → aim_of s ≡ Ended Read
+pub bytes_are_read : (told : List Exchange) (s : Session) → Told told s → s.task ≡ Reading → aim_of s ≡ Ended Read
     → ReadsBank told s.unit s.bytes.items
 unfolding Told
 bytes_are_read told s was reading ended =
-    ended_reads s.unit told (plan_at s.job s.stage) s.misses _ s.byte s.bytes.items
-    (subst (λ (job : Job). StandsWith job s.unit (plan_of job) told (plan_at s.job s.stage) s.misses
-    (drop s.number (plan_requests s.unit (plan_at s.job s.stage))) s.byte s.bytes.items)
+    ended_reads s.unit told (plan_at s.task s.stage) s.misses _ s.byte s.bytes.items
+    (subst (λ (task : Task). StandsWith task s.unit (plan_of task) told (plan_at s.task s.stage) s.misses
+    (drop s.number (plan_requests s.unit (plan_at s.task s.stage))) s.byte s.bytes.items)
     reading was)
-    (ask_shown (plan_at s.job s.stage) (drop s.number (plan_requests s.unit (plan_at s.job s.stage))) s.going ∙ ended)
+    (ask_shown (plan_at s.task s.stage) (drop s.number (plan_requests s.unit (plan_at s.task s.stage))) s.going ∙ ended)
 
 -- the byte that a unit shows stands at its place, or it is the lock byte
 byte_shown : {loses : ℕ → Type 0} (world : World) (unit location byte : ℕ) → Shows loses world unit location byte
@@ -207,7 +207,7 @@ not_lock location old new other (inl same) = same
 not_lock location old new other (inr relocks) = absurd (other relocks.2)
 
 pub bytes_are_true : {loses : ℕ → Type 0} (told : List Exchange) (s : Session) (first last : World) → Told told s
-    → s.job ≡ Reading
+    → s.task ≡ Reading
     → aim_of s ≡ Ended Read → Leads WorldStep loses told first last
     → ShowsBank loses last s.unit s.bytes.items
 bytes_are_true {loses} told s first last was reading ended run =

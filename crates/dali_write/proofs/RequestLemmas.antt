@@ -6,8 +6,8 @@ use Rattle.dali_write.specs.declared.access.Access.{Access}
 use Rattle.dali_write.specs.declared.ask.Verdict.{Verdict}
 use Rattle.dali_write.specs.declared.ask.Ask.TheVariants.{Send, Ended}
 use Rattle.dali_write.specs.Requests.{access_requests}
-use Rattle.dali_write.specs.Plans.{Plan, Finish, Make, write_on, read_on, goes_on, either_way, give_up}
-use Rattle.dali_write.specs.Tries.{plan_requests, GoesOn, ask_at}
+use Rattle.dali_write.specs.Plans.{Plan, Finish, Make, write_on, read_on, next_plan, either_way, give_up}
+use Rattle.dali_write.specs.Tries.{plan_requests, IsGoing, ask_at}
 use Rattle.dali_write.proofs.AskLemmas.{ask_shown}
 use Rattle.dali_write.specs.Stages.{access_of}
 
@@ -26,7 +26,7 @@ drop_end (y ∷ ys) (suc i) e = drop_end ys i e
 pub wants_request : (unit : ℕ) (plan : Plan) (number : ℕ) (access : Access) (request : Request)
     → access_of plan ≡ Ok access
     → slice_get (access_requests unit access) number ≡ Some request
-    → (going : GoesOn plan (drop number (plan_requests unit plan)))
+    → (going : IsGoing plan (drop number (plan_requests unit plan)))
     → ask_at plan (drop number (plan_requests unit plan)) going ≡ Send request.frame
 wants_request unit (Finish verdict) number access request is at going = cc
 wants_request unit (Make s after) number access request is at going =
@@ -35,25 +35,14 @@ wants_request unit (Make s after) number access request is at going =
     ∙ rw same (rw (drop_at (access_requests unit access) number request at) refl)
 
 pub wants_nothing : (plan : Plan) (left : List Request) (verdict : Verdict) → access_of plan ≡ Err verdict
-    → (going : GoesOn plan left)
+    → (going : IsGoing plan left)
     → ask_at plan left going ≡ Ended verdict
 wants_nothing (Finish ended) left verdict is going = let same : ended ≡ verdict = cc in ap Ended same
 wants_nothing (Make access after) left verdict is going = cc
 
--- an access at hand has a next frame
-pub has_request : (unit : ℕ) (plan : Plan) (number : ℕ) (access : Access) → access_of plan ≡ Ok access
-    → GoesOn plan (drop number (plan_requests unit plan))
-    → slice_get (access_requests unit access) number ≡ None → ⊥
-has_request unit (Finish verdict) number access is going none = cc
-has_request unit (Make s after) number access is going none =
-    let same : s ≡ access = cc in
-    let end : drop number (access_requests unit s) ≡ [] =
-    rw same (drop_end (access_requests unit access) number none) in
-    let still : GoesOn (Make s after) [] = subst (λ (left : List Request). GoesOn (Make s after) left) end going in cc
-
 -- one more location to read
 pub read_on_next : (location last : ℕ) (outcome : Option ℕ) → location < last → is_some outcome ≡ true
-    → read_on (location + 1) (suc last - (location + 1)) ≡ goes_on (read_on location (suc last - location)) outcome
+    → read_on (location + 1) (suc last - (location + 1)) ≡ next_plan (read_on location (suc last - location)) outcome
 read_on_next location last None below some = cc
 read_on_next location last (Some byte) below some =
     let one : suc last - location ≡ suc (last - location) = omega arith in
@@ -64,7 +53,7 @@ read_on_next location last (Some byte) below some =
 -- one more update to write
 pub write_on_next : (updates : List (ℕ × ℕ)) (index : ℕ) (outcome : Option ℕ) → index < length updates
     → either_way give_up (λ byte. write_on updates (drop (index + 1) updates)) outcome
-    ≡ goes_on (write_on updates (drop index updates)) outcome
+    ≡ next_plan (write_on updates (drop index updates)) outcome
 write_on_next updates index outcome below = rw (drop-cons updates index (0, 0), add-one) refl
 
 pub none_of : (o : Option Request) → is_some o ≡ false → o ≡ None

@@ -15,7 +15,7 @@ use Rattle.dali_write.specs.declared.ask.Verdict.TheVariants.{Closed, NotClosed,
 use Rattle.dali_write.specs.Plans.{Plan, Finish, Make, either_way, read_closed, close, give_up, expect, read_back}
 use Rattle.dali_write.specs.Plans.{read_lock, write_on, unlock}
 use Rattle.dali_write.specs.Tries.{AccessEnds, Wants}
-use Rattle.dali_write.specs.Findings.{Suits, IsTooShort, HasOtherFormat, ShowsAll, IsWritten, Rests}
+use Rattle.dali_write.specs.Findings.{Suits, IsTooShort, HasOtherFormat, ShowsAll, IsWritten, RestsOn, Rests}
 use Rattle.dali_write.specs.Reads.{IsPassive, EndsInRead, StillRead}
 use Rattle.dali_write.specs.Walks.{Walk}
 use Rattle.dali_write.proofs.GearLemmas.{IsQuiet}
@@ -317,15 +317,21 @@ pub written_too : (P Q : ℕ → ℕ → Type 0) (updates : List (ℕ × ℕ)) �
     → IsWritten Q updates
 written_too P Q updates f done = (f 2 0xFF done.0, all_too P Q updates f done.1)
 
+pub rests_on_too : (P Q : ℕ → ℕ → Type 0) (A B : Type 0) (updates : List (ℕ × ℕ)) (verdict : Verdict) → Shown P Q
+    → (A → B) → RestsOn P A updates verdict → RestsOn Q B updates verdict
+rests_on_too P Q A B updates MayOpen f answered rests = suits_too P Q updates f rests
+rests_on_too P Q A B updates Done f answered rests = written_too P Q updates f rests
+rests_on_too P Q A B updates Short f answered rests = short_too P Q updates f rests
+rests_on_too P Q A B updates Format f answered rests = format_too P Q updates f rests
+rests_on_too P Q A B updates Silent f answered rests = tt
+rests_on_too P Q A B updates Doubt f answered rests = answered rests
+rests_on_too P Q A B updates DoubtOpen f answered rests = tt
+rests_on_too P Q A B updates Closed f answered rests = answered rests
+rests_on_too P Q A B updates NotClosed f answered rests = tt
+rests_on_too P Q A B updates _ f answered rests = tt
+
 pub rests_too : (P Q : ℕ → ℕ → Type 0) (updates : List (ℕ × ℕ)) (verdict : Verdict) → Shown P Q
     → Rests P updates verdict → Rests Q updates verdict
-rests_too P Q updates MayOpen f rests = suits_too P Q updates f rests
-rests_too P Q updates Done f rests = written_too P Q updates f rests
-rests_too P Q updates Short f rests = short_too P Q updates f rests
-rests_too P Q updates Format f rests = format_too P Q updates f rests
-rests_too P Q updates Silent f rests = tt
-rests_too P Q updates Doubt f rests = (rests.0, f 2 rests.0 rests.1)
-rests_too P Q updates DoubtOpen f rests = tt
-rests_too P Q updates Closed f rests = (rests.0, f 2 rests.0 rests.1)
-rests_too P Q updates NotClosed f rests = tt
-rests_too P Q updates ReadAll f rests = tt
+rests_too P Q updates verdict f rests =
+    rests_on_too P Q ((byte : ℕ) × P 2 byte) ((byte : ℕ) × Q 2 byte) updates verdict f
+    (λ lock. (lock.0, f 2 lock.0 lock.1)) rests

@@ -4,11 +4,11 @@ use Rattle.std.proofs.Common.{length-append, Option, Some, None, arith}
 use Rattle.std.specs.Option.{option_to_list}
 use Rattle.dali_write.specs.Exchanges.{Exchange}
 use Rattle.dali_write.specs.declared.request.Request.{Request}
-use Rattle.dali_write.specs.declared.stage.Job.{Job}
-use Rattle.dali_write.specs.declared.stage.Job.TheVariants.{Fresh, Opened, Closing, Reading}
+use Rattle.dali_write.specs.declared.stage.Task.{Task}
+use Rattle.dali_write.specs.declared.stage.Task.TheVariants.{Fresh, Opened, Closing, Reading}
 use Rattle.dali_write.specs.declared.ask.Verdict.TheVariants.{Silent}
 use Rattle.dali_write.specs.declared.access.Access.{Access}
-use Rattle.dali_write.specs.Plans.{Plan, Finish, Make, goes_on, plan_after, read_on, read_all}
+use Rattle.dali_write.specs.Plans.{Plan, Finish, Make, next_plan, plan_after, read_on, read_all}
 use Rattle.dali_write.specs.Found.{StandsWith, found}
 use Rattle.dali_write.specs.Stages.{plan_of}
 use Rattle.dali_write.proofs.PlanLemmas.{either_all}
@@ -33,7 +33,7 @@ read_all_has =
 
 -- one access less
 one_less : (most : ℕ) (plan : Plan) (outcome : Option ℕ) → HasAtMost most plan
-    → HasAtMost (most - 1) (goes_on plan outcome)
+    → HasAtMost (most - 1) (next_plan plan outcome)
 one_less most (Finish verdict) outcome has = tt
 one_less zero (Make access after) outcome has = absurd has
 one_less (suc most) (Make access after) outcome has =
@@ -46,7 +46,7 @@ accesses_left most plan [] has =
     let all : most - 0 ≡ most = omega arith in subst (λ (n : ℕ). HasAtMost n plan) (sym all) has
 accesses_left most plan (outcome ∷ outcomes) has =
     let less : most - length outcomes - 1 ≡ most - suc (length outcomes) = omega arith in
-    subst (λ (n : ℕ). HasAtMost n (goes_on (plan_after plan outcomes) outcome)) less
+    subst (λ (n : ℕ). HasAtMost n (next_plan (plan_after plan outcomes) outcome)) less
     (one_less (most - length outcomes) (plan_after plan outcomes) outcome (accesses_left most plan outcomes has))
 
 pub some_left : (most : ℕ) (plan : Plan) (access : Access) (after : Option ℕ → Plan) → plan ≡ Make access after
@@ -64,11 +64,11 @@ found_few (outcome ∷ outcomes) =
     at_most_one (Some byte) = omega arith
 
 -- while an access is at hand, a session has kept fewer bytes than there can be
-pub room_for_one : (job : Job) (unit : ℕ) (told : List Exchange) (now : Plan) (access : Access)
+pub room_for_one : (task : Task) (unit : ℕ) (told : List Exchange) (now : Plan) (access : Access)
     (after : Option ℕ → Plan)
     (misses : ℕ) (left : List Request)
     (byte : Option ℕ) (bytes : List ℕ) → now ≡ Make access after
-    → StandsWith job unit (plan_of job) told now misses left byte bytes → length bytes < 255
+    → StandsWith task unit (plan_of task) told now misses left byte bytes → length bytes < 255
 room_for_one Reading unit told now access after misses left byte bytes is s =
     let outcomes = s.stands.outcomes in
     let some =

@@ -27,17 +27,17 @@ use Rattle.dali_write.proofs.UnreachedLemmas.{closing_unread}
 pub fresh_wants : (order : Contents) (told : List Exchange) (s : Session) (ask : Ask) → IsFresh order s → Told told s
     → aim_of s ≡ ask → Wants order.unit (read_length order.updates) told ask
 fresh_wants order told s ask is is_told aim =
-    rw (← is.0, ← aim) (subst (λ job. Wants s.unit (plan_of job) told (aim_of s)) is.1 (told_wants told s is_told))
+    rw (← is.0, ← aim) (subst (λ task. Wants s.unit (plan_of task) told (aim_of s)) is.1 (told_wants told s is_told))
 
 pub opened_wants : (order : Contents) (told : List Exchange) (s : Session) (ask : Ask) → IsOpened order s → Told told s
     → aim_of s ≡ ask → Wants order.unit (unlock order.updates) told ask
 opened_wants order told s ask is is_told aim =
-    rw (← is.0, ← aim) (subst (λ job. Wants s.unit (plan_of job) told (aim_of s)) is.1 (told_wants told s is_told))
+    rw (← is.0, ← aim) (subst (λ task. Wants s.unit (plan_of task) told (aim_of s)) is.1 (told_wants told s is_told))
 
 pub closing_wants : (unit : ℕ) (told : List Exchange) (s : Session) (ask : Ask) → IsClosing unit s → Told told s
     → aim_of s ≡ ask → Wants unit (close Closed NotClosed) told ask
 closing_wants unit told s ask is is_told aim =
-    rw (← is.0, ← aim) (subst (λ job. Wants s.unit (plan_of job) told (aim_of s)) is.1 (told_wants told s is_told))
+    rw (← is.0, ← aim) (subst (λ task. Wants s.unit (plan_of task) told (aim_of s)) is.1 (told_wants told s is_told))
 
 pub fresh_sends : (order : Contents) (told : List Exchange) (s : Session) (frame : Frame) → IsFresh order s
     → Told told s → aim_of s ≡ Send frame → IsGuarded [] order.unit told frame

@@ -3,8 +3,8 @@ use Rattle.std.proofs.Common.{◌≡◌, refl, ap, subst, arith, ℕ, ◌≤◌,
 use Rattle.dali_write.specs.Exchanges.{Exchange}
 use Rattle.dali_write.specs.declared.request.Request.{Request}
 use Rattle.dali_write.specs.declared.session.Session.{Session}
-use Rattle.dali_write.specs.declared.stage.Job.{Job}
-use Rattle.dali_write.specs.declared.stage.Job.TheVariants.{Fresh, Opened, Closing, Reading}
+use Rattle.dali_write.specs.declared.stage.Task.{Task}
+use Rattle.dali_write.specs.declared.stage.Task.TheVariants.{Fresh, Opened, Closing, Reading}
 use Rattle.dali_write.specs.Found.{StandsWith, ReadsSoFar}
 use Rattle.dali_write.specs.Plans.{Plan, Finish, Make, plan_after, read_all}
 use Rattle.dali_write.specs.Stages.{plan_of, plan_at}
@@ -38,17 +38,17 @@ so_far unit told now misses left byte bytes s = record {
   bytes_are = s.bytes_are;
 }
 
-pub reads_so_far : (told : List Exchange) (s : Session) → Told told s → s.job ≡ Reading
+pub reads_so_far : (told : List Exchange) (s : Session) → Told told s → s.task ≡ Reading
     → ReadsSoFar told s.unit s.bytes.items
 unfolding Told
 reads_so_far told s was reading =
-    so_far s.unit told (plan_at s.job s.stage) s.misses _ s.byte s.bytes.items
-    (subst (λ (job : Job). StandsWith job s.unit (plan_of job) told (plan_at s.job s.stage) s.misses
-    (drop s.number (plan_requests s.unit (plan_at s.job s.stage))) s.byte s.bytes.items)
+    so_far s.unit told (plan_at s.task s.stage) s.misses _ s.byte s.bytes.items
+    (subst (λ (task : Task). StandsWith task s.unit (plan_of task) told (plan_at s.task s.stage) s.misses
+    (drop s.number (plan_requests s.unit (plan_at s.task s.stage))) s.byte s.bytes.items)
     reading was)
 
-few : (job : Job) (unit : ℕ) (told : List Exchange) (now : Plan) (misses : ℕ) (left : List Request) (byte : Option ℕ)
-    (bytes : List ℕ) → StandsWith job unit (plan_of job) told now misses left byte bytes → length bytes ≤ 255
+few : (task : Task) (unit : ℕ) (told : List Exchange) (now : Plan) (misses : ℕ) (left : List Request) (byte : Option ℕ)
+    (bytes : List ℕ) → StandsWith task unit (plan_of task) told now misses left byte bytes → length bytes ≤ 255
 few Reading unit told now misses left byte bytes s =
     let count = ap (λ (kept : List ℕ). length kept) s.bytes_are in
     omega (
@@ -65,16 +65,16 @@ few Closing unit told now misses left byte bytes s =
 
 pub few_read : (told : List Exchange) (s : Session) → Told told s → length s.bytes.items ≤ 255
 unfolding Told
-few_read told s was = few s.job s.unit told (plan_at s.job s.stage) s.misses _ s.byte s.bytes.items was
+few_read told s was = few s.task s.unit told (plan_at s.task s.stage) s.misses _ s.byte s.bytes.items was
 
-none : (job : Job) (unit : ℕ) (told : List Exchange) (now : Plan) (misses : ℕ) (left : List Request) (byte : Option ℕ)
-    (bytes : List ℕ) → StandsWith job unit (plan_of job) told now misses left byte bytes → (job ≡ Reading → ⊥)
+none : (task : Task) (unit : ℕ) (told : List Exchange) (now : Plan) (misses : ℕ) (left : List Request) (byte : Option ℕ)
+    (bytes : List ℕ) → StandsWith task unit (plan_of task) told now misses left byte bytes → (task ≡ Reading → ⊥)
     → bytes ≡ []
 none Reading unit told now misses left byte bytes s other = absurd (other refl)
 none (Fresh order) unit told now misses left byte bytes s other = s.bytes_are
 none (Opened order) unit told now misses left byte bytes s other = s.bytes_are
 none Closing unit told now misses left byte bytes s other = s.bytes_are
 
-pub none_read : (told : List Exchange) (s : Session) → Told told s → (s.job ≡ Reading → ⊥) → s.bytes.items ≡ []
+pub none_read : (told : List Exchange) (s : Session) → Told told s → (s.task ≡ Reading → ⊥) → s.bytes.items ≡ []
 unfolding Told
-none_read told s was other = none s.job s.unit told (plan_at s.job s.stage) s.misses _ s.byte s.bytes.items was other
+none_read told s was other = none s.task s.unit told (plan_at s.task s.stage) s.misses _ s.byte s.bytes.items was other

@@ -7,12 +7,12 @@ use Rattle.dali_write.specs.declared.request.Request.{Request}
 use Rattle.dali_write.specs.declared.request.Wish.{Wish}
 use Rattle.dali_write.specs.declared.access.Access.TheVariants.{ReadFrom, WriteTo}
 use Rattle.dali_write.specs.Requests.{Meets, request, byte_after}
-use Rattle.dali_write.specs.Plans.{Plan, Finish, Make, goes_on, plan_after}
-use Rattle.dali_write.specs.Tries.{most_tries, Trying, Misses, byte_of, AccessEnds, AccessesEnd, plan_requests, GoesOn}
+use Rattle.dali_write.specs.Plans.{Plan, Finish, Make, next_plan, plan_after}
+use Rattle.dali_write.specs.Tries.{most_tries, Trying, Misses, byte_of, AccessEnds, AccessesEnd, plan_requests, IsGoing}
 use Rattle.dali_write.specs.Tries.{Stands}
 use Rattle.dali_write.proofs.ShapeLemmas.{none_left}
 
-pub goes_first : (unit : ℕ) (plan : Plan) → GoesOn plan (plan_requests unit plan)
+pub goes_first : (unit : ℕ) (plan : Plan) → IsGoing plan (plan_requests unit plan)
 goes_first unit (Finish verdict) = refl
 goes_first unit (Make (ReadFrom location) after) = refl
 goes_first unit (Make (WriteTo location byte) after) = refl
@@ -39,7 +39,7 @@ stands_at_first unit plan =
 unfoldable pub stands_on : (unit : ℕ) (plan : Plan) (told : List Exchange) (now : Plan) (misses : ℕ)
     (left : List Request)
     (byte : Option ℕ) (frame : Frame) (answer : Option ℕ) (wish : Wish)
-    → Stands unit plan told now misses (request frame wish ∷ left) byte → Meets wish answer → GoesOn now left
+    → Stands unit plan told now misses (request frame wish ∷ left) byte → Meets wish answer → IsGoing now left
     → Stands unit plan (record { frame = frame; answer = answer } ∷ told) now misses left (byte_after frame answer byte)
 stands_on unit plan told now misses left byte frame answer wish s meets going =
     let x : Exchange = record { frame = frame; answer = answer } in
@@ -85,7 +85,7 @@ unfoldable pub ends_access : (unit : ℕ) (plan : Plan) (told : List Exchange) (
     (ended newer : List Exchange) (outcome : Option ℕ)
     → told ≡ newer ++ ended → AccessesEnd unit plan outcomes ended → plan_after plan outcomes ≡ now
     → AccessEnds unit now outcome newer
-    → Stands unit plan told (goes_on now outcome) 0 (plan_requests unit (goes_on now outcome)) None
+    → Stands unit plan told (next_plan now outcome) 0 (plan_requests unit (next_plan now outcome)) None
 ends_access unit plan told now outcomes ended newer outcome parts accesses now_is ends =
     record {
       outcomes = outcome ∷ outcomes;
@@ -100,12 +100,12 @@ ends_access unit plan told now outcomes ended newer outcome parts accesses now_i
         subst (λ (p : Plan). AccessEnds unit p outcome newer) (sym now_is) ends,
         accesses,
       );
-      now_is = ap (λ (p : Plan). goes_on p outcome) now_is;
+      now_is = ap (λ (p : Plan). next_plan p outcome) now_is;
       few = omega arith;
       misses_are = refl;
       try = refl;
       byte_is = refl;
-      going = goes_first unit (goes_on now outcome);
+      going = goes_first unit (next_plan now outcome);
     }
 
 pub done_ends : (unit : ℕ) (now : Plan) (misses : ℕ) (tried missed : List Exchange) (byte : Option ℕ) (frame : Frame)
@@ -143,8 +143,9 @@ failed_ends unit (Make access after) tried missed frame answer wish left are try
 unfoldable pub stands_done : (unit : ℕ) (plan : Plan) (told : List Exchange) (now : Plan) (misses : ℕ) (byte : Option ℕ)
     (frame : Frame) (answer : Option ℕ) (wish : Wish)
     → Stands unit plan told now misses (request frame wish ∷ []) byte → Meets wish answer
-    → Stands unit plan (record { frame = frame; answer = answer } ∷ told) (goes_on now (byte_after frame answer byte)) 0
-    (plan_requests unit (goes_on now (byte_after frame answer byte))) None
+    → Stands unit plan (record { frame = frame; answer = answer } ∷ told) (next_plan now (byte_after frame answer byte))
+    0
+    (plan_requests unit (next_plan now (byte_after frame answer byte))) None
 stands_done unit plan told now misses byte frame answer wish s meets =
     let x : Exchange = record { frame = frame; answer = answer } in
     ends_access unit plan (x ∷ told) now s.outcomes s.ended ((x ∷ s.tried) ++ s.missed) (byte_after frame answer byte)
@@ -155,8 +156,8 @@ stands_done unit plan told now misses byte frame answer wish s meets =
 unfoldable pub stands_failed : (unit : ℕ) (plan : Plan) (told : List Exchange) (now : Plan) (misses : ℕ)
     (left : List Request) (byte : Option ℕ) (frame : Frame) (answer : Option ℕ) (wish : Wish)
     → Stands unit plan told now misses (request frame wish ∷ left) byte → ¬ Meets wish answer → 7 ≤ misses
-    → Stands unit plan (record { frame = frame; answer = answer } ∷ told) (goes_on now None) 0
-    (plan_requests unit (goes_on now None)) None
+    → Stands unit plan (record { frame = frame; answer = answer } ∷ told) (next_plan now None) 0
+    (plan_requests unit (next_plan now None)) None
 stands_failed unit plan told now misses left byte frame answer wish s misses_it many =
     let x : Exchange = record { frame = frame; answer = answer } in
     let seven : misses ≡ 7 = let few = s.few in omega arith in

@@ -9,7 +9,7 @@ use Rattle.dali_write.specs.declared.ask.Ask.{Ask}
 use Rattle.dali_write.specs.declared.ask.Verdict.{Verdict}
 use Rattle.dali_write.specs.declared.ask.Verdict.TheVariants.{Doubt, DoubtOpen, Closed, NotClosed}
 use Rattle.dali_write.specs.Requests.{request}
-use Rattle.dali_write.specs.Plans.{Plan, Finish, Make, goes_on, plan_after, close, give_up, expect, read_back}
+use Rattle.dali_write.specs.Plans.{Plan, Finish, Make, next_plan, plan_after, close, give_up, expect, read_back}
 use Rattle.dali_write.specs.Plans.{read_lock, write_on, unlock}
 use Rattle.dali_write.specs.Tries.{Trying, Missed, Misses, AccessEnds, AccessesEnd, Wants, plan_requests}
 use Rattle.dali_write.specs.Worlds.{OnlyEnabled}
@@ -102,7 +102,7 @@ OnlyWrites writes (Make (WriteTo location byte) after) =
 
 -- after an outcome the plan makes only these writes, too
 pub goes_on_writes : (writes : List (ℕ × ℕ)) (plan : Plan) (outcome : Option ℕ) → OnlyWrites writes plan
-    → OnlyWrites writes (goes_on plan outcome)
+    → OnlyWrites writes (next_plan plan outcome)
 goes_on_writes writes (Finish verdict) outcome only = tt
 goes_on_writes writes (Make (ReadFrom location) after) outcome only = only outcome
 goes_on_writes writes (Make (WriteTo location byte) after) outcome only = only.1 outcome

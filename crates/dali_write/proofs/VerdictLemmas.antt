@@ -75,15 +75,6 @@ read_access_quiet address unit location after outcome told (inr failed) =
     misses_quiet address (read_requests unit location) most_tries told (read_quiet_requests address unit location)
     failed.1
 
-pub read_access_keeps : {loses : ℕ → Type 0} (unit location : ℕ) (after : Option ℕ → Plan) (outcome : Option ℕ)
-    (told : List Exchange)
-    (first last : World)
-    → AccessEnds unit (Make (ReadFrom location) after) outcome told → Leads WorldStep loses told first last
-    → (address : ℕ)
-    → KeepsAt loses first last address
-read_access_keeps unit location after outcome told first last ends run address =
-    run_keeps told first last address (read_access_quiet address unit location after outcome told ends) run
-
 -- a read access that didn't fail shows its byte
 pub read_access_shows : {loses : ℕ → Type 0} (unit location byte : ℕ) (after : Option ℕ → Plan) (told : List Exchange)
     (first last : World)

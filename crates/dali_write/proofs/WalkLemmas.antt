@@ -6,7 +6,7 @@ use Rattle.dali_write.specs.Exchanges.{Exchange}
 use Rattle.dali_write.specs.declared.request.Request.{Request}
 use Rattle.dali_write.specs.declared.ask.Verdict.{Verdict}
 use Rattle.dali_write.specs.declared.ask.Ask.TheVariants.{Ended}
-use Rattle.dali_write.specs.Plans.{Plan, Finish, Make, goes_on, plan_after}
+use Rattle.dali_write.specs.Plans.{Plan, Finish, Make, next_plan, plan_after}
 use Rattle.dali_write.specs.Tries.{Trying, Misses, AccessEnds, AccessesEnd, Stands, Wants}
 use Rattle.dali_write.proofs.AskLemmas.{shown_ask, ask_shown}
 use Rattle.dali_write.specs.Walks.{Walk}
@@ -17,20 +17,20 @@ use Rattle.dali_write.proofs.CountLemmas.{misses_length}
 walk_on : (unit : ℕ) (plan : Plan) (outcomes : List (Option ℕ)) (told : List Exchange) (end : Plan) (outcome : Option ℕ)
     (more : List Exchange)
     → Walk unit plan outcomes told end → AccessEnds unit end outcome more
-    → Walk unit plan (outcomes ++ outcome ∷ []) (more ++ told) (goes_on end outcome)
+    → Walk unit plan (outcomes ++ outcome ∷ []) (more ++ told) (next_plan end outcome)
 walk_on unit plan [] told end outcome more walk ends = (
   [],
   more,
   rw walk.0 (append-nil more),
   subst (λ (p : Plan). AccessEnds unit p outcome more) (sym walk.1) ends,
-  (refl, ap (λ (p : Plan). goes_on p outcome) walk.1),
+  (refl, ap (λ (p : Plan). next_plan p outcome) walk.1),
 )
 walk_on unit plan (o ∷ outcomes) told end outcome more walk ends = (
   more ++ walk.0,
   walk.1,
   ap (λ (t : List Exchange). more ++ t) walk.2 ∙ sym (append_assoc more walk.0 walk.1),
   walk.3,
-  walk_on unit (goes_on plan o) outcomes walk.0 end outcome more walk.4 ends,
+  walk_on unit (next_plan plan o) outcomes walk.0 end outcome more walk.4 ends,
 )
 
 pub walks : (unit : ℕ) (plan : Plan) (outcomes : List (Option ℕ)) (told : List Exchange)
@@ -41,7 +41,7 @@ walks unit plan (outcome ∷ outcomes) told ends =
     let before = walks unit plan outcomes ends.1 ends.4 in (
       before.0 ++ outcome ∷ [],
       subst (λ (t : List Exchange).
-          Walk unit plan (before.0 ++ outcome ∷ []) t (goes_on (plan_after plan outcomes) outcome))
+          Walk unit plan (before.0 ++ outcome ∷ []) t (next_plan (plan_after plan outcomes) outcome))
           (sym ends.2)
           (walk_on unit plan before.0 ends.1 (plan_after plan outcomes) outcome ends.0 before.1 ends.3),
     )

@@ -12,7 +12,7 @@ use Rattle.dali_write.specs.declared.ask.Ask.TheVariants.{Ended}
 use Rattle.dali_write.specs.declared.ask.Verdict.{Verdict}
 use Rattle.dali_write.specs.declared.ask.Verdict.TheVariants.{Doubt}
 use Rattle.dali_write.specs.Requests.{request, read_requests}
-use Rattle.dali_write.specs.Plans.{Plan, Finish, goes_on, plan_after, expect, give_up}
+use Rattle.dali_write.specs.Plans.{Plan, Finish, next_plan, plan_after, expect, give_up}
 use Rattle.dali_write.specs.Tries.{Trying, Missed, AccessEnds, AccessesEnd, Wants}
 use Rattle.dali_write.specs.Walks.{Walk}
 use Rattle.dali_write.specs.Misses.{is_missed, misses_in, IsLong}
@@ -201,7 +201,7 @@ walk_then unit plan mid end [] others older newer (none, same) later =
           (subst (λ (p : Plan). Walk unit p others newer end) (sym same) later),
     )
 walk_then unit plan mid end (outcome ∷ outcomes) others older newer (after, before, parts, ends, walk) later =
-    let rest = walk_then unit (goes_on plan outcome) mid end outcomes others after newer walk later in (
+    let rest = walk_then unit (next_plan plan outcome) mid end outcomes others after newer walk later in (
       outcome ∷ rest.0,
       (
         newer ++ after,
@@ -227,8 +227,8 @@ walk_accesses unit plan now end done (outcome ∷ outcomes) ended told accesses 
     let one : AccessesEnd unit plan (outcome ∷ done) (older ++ ended) =
     (older, ended, refl, subst (λ (p : Plan). AccessEnds unit p outcome older) (sym comes) ends, accesses) in
     let all =
-    walk_accesses unit plan (goes_on now outcome) end (outcome ∷ done) outcomes (older ++ ended) newer one
-    (ap (λ (p : Plan). goes_on p outcome) comes) walk in
+    walk_accesses unit plan (next_plan now outcome) end (outcome ∷ done) outcomes (older ++ ended) newer one
+    (ap (λ (p : Plan). next_plan p outcome) comes) walk in
     let same : newer ++ (older ++ ended) ≡ told ++ ended =
     sym (append_assoc newer older ended) ∙ ap (λ (t : List Exchange). t ++ ended) (sym parts) in
     subst (λ (t : List Exchange). Accesses unit plan t end) same all
@@ -266,7 +266,7 @@ pub found_doubts : (unit : ℕ) (plan : Plan) (expected : List (ℕ × ℕ)) (to
     → FoundAnother unit plan expected told → Wants unit plan told (Ended Doubt)
 found_doubts unit plan expected told f =
     let differs = ne_eqb f.found f.byte f.another in
-    let goes : goes_on (expect f.location f.byte f.after) (Some f.found) ≡ give_up = rw differs refl in
+    let goes : next_plan (expect f.location f.byte f.after) (Some f.found) ≡ give_up = rw differs refl in
     let gave = subst (λ (p : Plan). Walk unit p f.later f.newer (Finish Doubt)) (sym goes) f.gave_up in
     let later : Walk unit (expect f.location f.byte f.after) (Some f.found ∷ f.later) (f.newer ++ f.read)
     (Finish Doubt) =

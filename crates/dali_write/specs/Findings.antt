@@ -33,15 +33,20 @@ abbrev pub IsWritten : (ℕ → ℕ → Type 0) → List (ℕ × ℕ) → Type 0
 IsWritten shows updates = shows 0x02 0xFF × ShowsAll shows updates
 
 -- The one table of grounds. MayOpen: bank 1 suits the updates. Short, Format: it doesn't. Done: they are written.
--- Doubt and Closed: the lock byte is told, whatever it is. Other verdicts rest on nothing.
+-- Doubt and Closed: 'answered' is so, that the unit has answered a read; whatever it answered, it isn't write-enabled
+-- then. Other verdicts rest on nothing.
+abbrev pub RestsOn : (ℕ → ℕ → Type 0) → Type 0 → List (ℕ × ℕ) → Verdict → Type 0
+RestsOn shows answered updates MayOpen = Suits shows updates
+RestsOn shows answered updates Done = IsWritten shows updates
+RestsOn shows answered updates Short = IsTooShort shows updates
+RestsOn shows answered updates Format = HasOtherFormat shows updates
+RestsOn shows answered updates Silent = Unit {0}
+RestsOn shows answered updates Doubt = answered
+RestsOn shows answered updates DoubtOpen = Unit {0}
+RestsOn shows answered updates Closed = answered
+RestsOn shows answered updates NotClosed = Unit {0}
+RestsOn shows answered updates Read = Unit {0}
+
+-- what the verdict of a session rests on: the read that was answered is that of the lock byte
 abbrev pub Rests : (ℕ → ℕ → Type 0) → List (ℕ × ℕ) → Verdict → Type 0
-Rests shows updates MayOpen = Suits shows updates
-Rests shows updates Done = IsWritten shows updates
-Rests shows updates Short = IsTooShort shows updates
-Rests shows updates Format = HasOtherFormat shows updates
-Rests shows updates Silent = Unit {0}
-Rests shows updates Doubt = (byte : ℕ) × shows 0x02 byte
-Rests shows updates DoubtOpen = Unit {0}
-Rests shows updates Closed = (byte : ℕ) × shows 0x02 byte
-Rests shows updates NotClosed = Unit {0}
-Rests shows updates Read = Unit {0}
+Rests shows updates verdict = RestsOn shows ((byte : ℕ) × shows 0x02 byte) updates verdict

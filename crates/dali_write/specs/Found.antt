@@ -3,8 +3,8 @@ use Rattle.std.specs.Prelude.{◌≡◌, ℕ, List, [], ◌++◌, ◌∷◌, Opt
 use Rattle.std.specs.Option.{option_to_list}
 use Rattle.dali_write.specs.Exchanges.{Exchange}
 use Rattle.dali_write.specs.declared.request.Request.{Request}
-use Rattle.dali_write.specs.declared.stage.Job.{Job}
-use Rattle.dali_write.specs.declared.stage.Job.TheVariants.{Reading}
+use Rattle.dali_write.specs.declared.stage.Task.{Task}
+use Rattle.dali_write.specs.declared.stage.Task.TheVariants.{Fresh, Opened, Closing, Reading}
 use Rattle.dali_write.specs.Plans.{Plan, read_all}
 use Rattle.dali_write.specs.Tries.{Stands}
 
@@ -14,20 +14,24 @@ found [] = []
 found (newest ∷ older) = found older ++ option_to_list newest
 
 -- the bytes that a session keeps that had these outcomes: a reading one keeps all that it read, others none
-abbrev pub kept_bytes : Job → List (Option ℕ) → List ℕ
+abbrev pub kept_bytes : Task → List (Option ℕ) → List ℕ
 kept_bytes Reading outcomes = found outcomes
-kept_bytes job outcomes = []
+kept_bytes (Fresh order) outcomes = []
+kept_bytes (Opened order) outcomes = []
+kept_bytes Closing outcomes = []
 
 -- the bytes kept after one more outcome
-abbrev pub kept_after : Job → List ℕ → Option ℕ → List ℕ
+abbrev pub kept_after : Task → List ℕ → Option ℕ → List ℕ
 kept_after Reading bytes outcome = bytes ++ option_to_list outcome
-kept_after job bytes outcome = bytes
+kept_after (Fresh order) bytes outcome = bytes
+kept_after (Opened order) bytes outcome = bytes
+kept_after Closing bytes outcome = bytes
 
 -- what was told is so, and these bytes were kept of it
-pub record StandsWith (job : Job) (unit : ℕ) (plan : Plan) (told : List Exchange) (now : Plan) (misses : ℕ)
+pub record StandsWith (task : Task) (unit : ℕ) (plan : Plan) (told : List Exchange) (now : Plan) (misses : ℕ)
     (left : List Request) (byte : Option ℕ) (bytes : List ℕ) : Type 0 where
   pub stands : Stands unit plan told now misses left byte
-  pub bytes_are : bytes ≡ kept_bytes job stands.outcomes
+  pub bytes_are : bytes ≡ kept_bytes task stands.outcomes
 
 -- What a reading session has read after these exchanges: they are whole accesses, then missed tries of the access at
 -- hand, then the try at hand, and the bytes are those that the whole accesses told, in their order.

@@ -1,6 +1,6 @@
 -- How many frames a session may still send: a number that falls with each of them.
 use Rattle.std.specs.Prelude.{ℕ, suc, ◌+◌, ◌-◌, ◌*◌, length}
-use Rattle.dali_write.specs.declared.stage.Job.{Job}
+use Rattle.dali_write.specs.declared.stage.Task.{Task}
 use Rattle.dali_write.specs.declared.stage.Stage.{Stage}
 use Rattle.dali_write.specs.declared.stage.Stage.TheVariants.{ReadLength, ReadFormat, ReadFormatLow, Unlock, WriteOn}
 use Rattle.dali_write.specs.declared.stage.Stage.TheVariants.{ReadLock, ReadBack, Close, ReadClosed, ReadAll, ReadOn}
@@ -28,16 +28,16 @@ abbrev pub write_on_limit : ℕ → ℕ → ℕ
 write_on_limit count index = write_limit * (count - index) + write_limit + read_limit + read_back_limit count 0
 
 -- the most frames from a stage on
-abbrev pub limit_at : Job → Stage → ℕ
-limit_at job ReadLength = 3 * read_limit
-limit_at job ReadFormat = 2 * read_limit
-limit_at job (ReadFormatLow high) = read_limit
-limit_at job Unlock = write_limit + write_on_limit (length (updates_for job)) 0
-limit_at job (WriteOn index) = write_on_limit (length (updates_for job)) index
-limit_at job ReadLock = read_limit + read_back_limit (length (updates_for job)) 0
-limit_at job (ReadBack index) = read_back_limit (length (updates_for job)) index
-limit_at job (Close answered unanswered) = close_limit
-limit_at job (ReadClosed answered unanswered) = read_limit
-limit_at job ReadAll = 255 * read_limit
-limit_at job (ReadOn location last) = read_limit * (suc last - location)
-limit_at job (Over verdict) = 0
+abbrev pub limit_at : Task → Stage → ℕ
+limit_at task ReadLength = 3 * read_limit
+limit_at task ReadFormat = 2 * read_limit
+limit_at task (ReadFormatLow high) = read_limit
+limit_at task Unlock = write_limit + write_on_limit (length (updates_for task)) 0
+limit_at task (WriteOn index) = write_on_limit (length (updates_for task)) index
+limit_at task ReadLock = read_limit + read_back_limit (length (updates_for task)) 0
+limit_at task (ReadBack index) = read_back_limit (length (updates_for task)) index
+limit_at task (Close answered unanswered) = close_limit
+limit_at task (ReadClosed answered unanswered) = read_limit
+limit_at task ReadAll = 255 * read_limit
+limit_at task (ReadOn location last) = read_limit * (suc last - location)
+limit_at task (Over verdict) = 0

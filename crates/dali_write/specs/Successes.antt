@@ -13,10 +13,13 @@ use Rattle.dali_write.specs.Losses.{losses, Unrefused, IsAlone}
 use Rattle.dali_write.specs.Worlds.{Run}
 use Rattle.dali_write.specs.Misses.{misses_in}
 
+-- the location isn't fixed
+abbrev pub IsFree : BankState → ℕ → Type 0
+IsFree bank location = list_any (λ fixed. fixed == location) bank.fixed ≡ false
+
 -- the bank has the location, past the lock byte, and it isn't fixed
 abbrev pub MayStoreAt : BankState → ℕ → Type 0
-MayStoreAt bank location =
-    (3 ≤ location) × (location < length bank.bytes) × (list_any (λ fixed. fixed == location) bank.fixed ≡ false)
+MayStoreAt bank location = (3 ≤ location) × (location < length bank.bytes) × IsFree bank location
 
 -- and so it is of each update
 abbrev pub TakesAll : BankState → List (ℕ × ℕ) → Type 0
@@ -31,12 +34,16 @@ HasBank address bank (unit ∷ units) = ((unit.address ≡ address) × (unit.ban
 abbrev pub has_format : List ℕ → Bool
 has_format bytes = (slice_index bytes 0x11 == 0x00) && (slice_index bytes 0x12 == 0x03)
 
--- What a fresh session finds of a bank with these bytes. Short: it ends before the greatest location. Format: an
--- update is at 13h or above, and the content format isn't 0003h.
+-- What is so of an order of these updates where bank 1 has these bytes: the first of three where it ends before the
+-- greatest location, the second where an update is at 13h or above and the content format isn't 0003h, else the third.
+abbrev pub by_bank : {A : Type 0} → A → A → A → List ℕ → List (ℕ × ℕ) → A
+by_bank short format suits bytes updates =
+    if nat_lt (slice_index bytes 0) (greatest updates) then short
+    else (if nat_lt (greatest updates) 0x13 then suits else (if has_format bytes then suits else format))
+
+-- what a fresh session finds
 abbrev pub found_verdict : List ℕ → List (ℕ × ℕ) → Verdict
-found_verdict bytes updates =
-    if nat_lt (slice_index bytes 0) (greatest updates) then Short
-    else (if nat_lt (greatest updates) 0x13 then MayOpen else (if has_format bytes then MayOpen else Format))
+found_verdict bytes updates = by_bank Short Format MayOpen bytes updates
 
 -- Along the simulated bus, where units of these addresses may lose their power, from a unit that is alone at its
 -- address and keeps its power: no fate refuses, and it loses less than an access has tries.

@@ -4,8 +4,8 @@ use Rattle.dali_write.specs.Exchanges.{Exchange}
 use Rattle.dali_write.specs.declared.request.Request.{Request}
 use Rattle.dali_write.specs.declared.ask.Ask.{Ask}
 use Rattle.dali_bank.specs.Order.{Contents}
-use Rattle.dali_write.specs.declared.stage.Job.{Job}
-use Rattle.dali_write.specs.declared.stage.Job.TheVariants.{Fresh, Opened, Closing}
+use Rattle.dali_write.specs.declared.stage.Task.{Task}
+use Rattle.dali_write.specs.declared.stage.Task.TheVariants.{Fresh, Opened, Closing}
 use Rattle.dali_write.specs.declared.session.Session.{Session}
 use Rattle.dali_write.specs.Tries.{plan_requests, ask_at}
 use Rattle.dali_write.specs.Found.{StandsWith}
@@ -16,29 +16,29 @@ use Rattle.dali_write.specs.Stages.{plan_of, plan_at}
 abbrev pub unit_of : Session → ℕ
 unit_of s = s.unit
 
-abbrev pub job_of : Session → Job
-job_of s = s.job
+abbrev pub task_of : Session → Task
+task_of s = s.task
 
 abbrev pub bytes_read : Session → List ℕ
 bytes_read s = s.bytes.items
 
 -- The session looks whether the order suits its unit; it carries the order out; it closes the unit.
 abbrev pub IsFresh : Contents → Session → Type 0
-IsFresh order s = (unit_of s ≡ order.unit) × (job_of s ≡ Fresh order)
+IsFresh order s = (unit_of s ≡ order.unit) × (task_of s ≡ Fresh order)
 
 abbrev pub IsOpened : Contents → Session → Type 0
-IsOpened order s = (unit_of s ≡ order.unit) × (job_of s ≡ Opened order)
+IsOpened order s = (unit_of s ≡ order.unit) × (task_of s ≡ Opened order)
 
 abbrev pub IsClosing : ℕ → Session → Type 0
-IsClosing unit s = (unit_of s ≡ unit) × (job_of s ≡ Closing)
+IsClosing unit s = (unit_of s ≡ unit) × (task_of s ≡ Closing)
 
 -- what the session wants
 abbrev pub aim_of : Session → Ask
-aim_of s = ask_at (plan_at s.job s.stage) (drop s.number (plan_requests s.unit (plan_at s.job s.stage))) s.going
+aim_of s = ask_at (plan_at s.task s.stage) (drop s.number (plan_requests s.unit (plan_at s.task s.stage))) s.going
 
 -- the frame at hand, with the answer that it wants
 abbrev pub request_at_hand : Session → Option Request
-request_at_hand s = slice_get (plan_requests (s.unit) (plan_at s.job s.stage)) s.number
+request_at_hand s = slice_get (plan_requests (s.unit) (plan_at s.task s.stage)) s.number
 
 -- an access begins, with its first try
 abbrev pub BeginsTry : Session → Type 0
@@ -47,10 +47,10 @@ BeginsTry s = (s.misses ≡ 0) × (s.number ≡ 0) × (s.byte ≡ None)
 -- A session was told these.
 unfoldable pub Told : List Exchange → Session → Type 0
 Told told s =
-    StandsWith s.job (s.unit) (plan_of s.job) told (plan_at s.job s.stage) s.misses
-    (drop s.number (plan_requests (s.unit) (plan_at s.job s.stage))) s.byte s.bytes.items
+    StandsWith s.task (s.unit) (plan_of s.task) told (plan_at s.task s.stage) s.misses
+    (drop s.number (plan_requests (s.unit) (plan_at s.task s.stage))) s.byte s.bytes.items
 
 -- the most frames that are still to come: those from the stage on, less those of the access at hand that its tries so
 -- far used up
 abbrev pub frames_left : Session → ℕ
-frames_left s = limit_at s.job s.stage - (s.misses * length (plan_requests s.unit (plan_at s.job s.stage)) + s.number)
+frames_left s = limit_at s.task s.stage - (s.misses * length (plan_requests s.unit (plan_at s.task s.stage)) + s.number)

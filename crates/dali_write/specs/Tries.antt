@@ -72,8 +72,8 @@ is_going (Finish verdict) left = true
 is_going (Make access after) [] = false
 is_going (Make access after) (next ∷ left) = true
 
-abbrev pub GoesOn : Plan → List Request → Type 0
-GoesOn plan left = is_going plan left ≡ true
+abbrev pub IsGoing : Plan → List Request → Type 0
+IsGoing plan left = is_going plan left ≡ true
 
 -- What was told is whole accesses, then missed tries of the access at hand, then the try at hand.
 pub record Stands (unit : ℕ) (plan : Plan) (told : List Exchange) (now : Plan) (misses : ℕ) (left : List Request)
@@ -89,10 +89,10 @@ pub record Stands (unit : ℕ) (plan : Plan) (told : List Exchange) (now : Plan)
   pub misses_are : Misses (plan_requests unit now) misses missed
   pub try : Trying (plan_requests unit now) tried left
   pub byte_is : byte_of tried ≡ byte
-  pub going : GoesOn now left
+  pub going : IsGoing now left
 
 -- the next frame of the try, or the end
-abbrev pub ask_at : (plan : Plan) (left : List Request) → GoesOn plan left → Ask
+abbrev pub ask_at : (plan : Plan) (left : List Request) → IsGoing plan left → Ask
 ask_at (Finish verdict) left going = Ended verdict
 ask_at (Make access after) [] going = absurd (both_ways false refl going)
 ask_at (Make access after) (next ∷ left) going = Send next.frame

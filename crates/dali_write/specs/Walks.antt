@@ -6,7 +6,7 @@ use Rattle.dali_write.specs.declared.ask.Verdict.{Verdict}
 use Rattle.dali_write.specs.declared.ask.Verdict.TheVariants.{Read}
 use Rattle.dali_write.specs.Frames.{try_frames}
 use Rattle.dali_write.specs.Counts.{read_all_frames}
-use Rattle.dali_write.specs.Plans.{Plan, Finish, Make, goes_on, read_all}
+use Rattle.dali_write.specs.Plans.{Plan, Finish, Make, next_plan, read_all}
 use Rattle.dali_write.specs.Tries.{most_tries, AccessEnds}
 
 -- whole accesses lead from the plan to what is left of it
@@ -14,7 +14,7 @@ abbrev pub Walk : ℕ → Plan → List (Option ℕ) → List Exchange → Plan 
 Walk unit plan [] told end = (told ≡ []) × (plan ≡ end)
 Walk unit plan (outcome ∷ outcomes) told end =
     (newer : List Exchange) × (older : List Exchange) × (told ≡ newer ++ older) × AccessEnds unit plan outcome older
-    × Walk unit (goes_on plan outcome) outcomes newer end
+    × Walk unit (next_plan plan outcome) outcomes newer end
 
 -- so many tries of an access missed
 abbrev pub access_misses : (unit : ℕ) (plan : Plan) (outcome : Option ℕ) (told : List Exchange)
@@ -27,7 +27,7 @@ abbrev pub misses_of : (unit : ℕ) (plan : Plan) (outcomes : List (Option ℕ))
     → Walk unit plan outcomes told end → ℕ
 misses_of unit plan [] told end walk = 0
 misses_of unit plan (outcome ∷ outcomes) told end walk =
-    access_misses unit plan outcome walk.1 walk.3 + misses_of unit (goes_on plan outcome) outcomes walk.0 end walk.4
+    access_misses unit plan outcome walk.1 walk.3 + misses_of unit (next_plan plan outcome) outcomes walk.0 end walk.4
 
 -- The plan ended so. It took this many frames where no try missed, and for each that did at most the frames of a try
 -- more.

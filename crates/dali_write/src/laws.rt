@@ -13,9 +13,9 @@ ghost use Rattle.dali_write.specs.declared.ask.Verdict.{Verdict};
 ghost use Rattle.dali_write.specs.Plans.{Plan, greatest, unlock, close, read_length, read_all};
 ghost use Rattle.dali_write.specs.Tries.{Wants};
 ghost use Rattle.dali_write.specs.Verdicts.{Says, ShowsBank, EndsFresh, EndsOpened, EndsClosing, EndsReading};
-ghost use Rattle.dali_write.specs.declared.stage.Job.{Job};
+ghost use Rattle.dali_write.specs.declared.stage.Task.{Task};
 ghost use Rattle.dali_write.specs.Stages.{plan_of};
-ghost use Rattle.dali_write.specs.Told.{Told, unit_of, job_of, bytes_read, aim_of};
+ghost use Rattle.dali_write.specs.Told.{Told, unit_of, task_of, bytes_read, aim_of};
 ghost use Rattle.dali_write.specs.Frames.{read_frames, write_frames};
 ghost use Rattle.dali_write.specs.Counts.{done_frames, frame_limit};
 ghost use Rattle.dali_gear.specs.SimState.{SimState, SimStep, AreApart, world_of};
@@ -41,12 +41,12 @@ ghost use Rattle.dali_write.specs.WhenRead.{WhenRead};
 /// A session wants what its plan asks after what it was told, and ends so.
 pub fn sessions_follow_their_plans()
     ensures { (told : List Exchange) (s : Session) → Told told s
-        → Wants (unit_of s) (plan_of (job_of s)) told (aim_of s) }
+        → Wants (unit_of s) (plan_of (task_of s)) told (aim_of s) }
 {}
 
 /// No session sends more frames than its limit.
 pub fn sessions_send_few_frames()
-    ensures { (told : List Exchange) (s : Session) → Told told s → length told ≤ frame_limit (job_of s) }
+    ensures { (told : List Exchange) (s : Session) → Told told s → length told ≤ frame_limit (task_of s) }
 {}
 
 /// A checked read tells the byte at its place, and then the unit isn't enabled; no memory changes but lock bytes of
@@ -107,17 +107,17 @@ pub fn verdicts_rest_on_reads()
     ensures closing { (told : List Exchange) (unit : ℕ) (verdict : Verdict)
         → Wants unit (close Verdict.Closed Verdict.NotClosed) told (Ask.Ended verdict)
         → Rests (StillRead told unit) [] verdict }
-    ensures reading { (told : List Exchange) (s : Session) → Told told s → job_of s ≡ Job.Reading
+    ensures reading { (told : List Exchange) (s : Session) → Told told s → task_of s ≡ Task.Reading
         → aim_of s ≡ Ask.Ended Verdict.Read → ReadsBank told (unit_of s) (bytes_read s) }
 {}
 
 /// What a reading session has read at each moment: the bytes that its accesses so far told, in their order, at most
 /// 255. The others have read nothing.
 pub fn sessions_keep_what_they_read()
-    ensures reading { (told : List Exchange) (s : Session) → Told told s → job_of s ≡ Job.Reading
+    ensures reading { (told : List Exchange) (s : Session) → Told told s → task_of s ≡ Task.Reading
         → ReadsSoFar told (unit_of s) (bytes_read s) }
     ensures few { (told : List Exchange) (s : Session) → Told told s → length (bytes_read s) ≤ 255 }
-    ensures others { (told : List Exchange) (s : Session) → Told told s → job_of s ≢ Job.Reading
+    ensures others { (told : List Exchange) (s : Session) → Told told s → task_of s ≢ Task.Reading
         → bytes_read s ≡ [] }
 {}
 
@@ -136,7 +136,7 @@ pub fn verdicts_are_true()
         → Wants unit (close Verdict.Closed Verdict.NotClosed) told (Ask.Ended verdict)
         → Says (IsAmong loses) unit [] last verdict }
     ensures reading { (loses : List ℕ) (told : List Exchange) (s : Session) (first last : World) → Told told s
-        → job_of s ≡ Job.Reading → aim_of s ≡ Ask.Ended Verdict.Read
+        → task_of s ≡ Task.Reading → aim_of s ≡ Ask.Ended Verdict.Read
         → Run WorldStep (IsAmong loses) told first last → ShowsBank (IsAmong loses) last (unit_of s) (bytes_read s) }
 {}
 
@@ -225,10 +225,10 @@ pub fn accesses_outlive_losses()
 /// The limits and the exact counts of sessions, as numbers.
 pub fn counts_are_these()
     ensures tries { most_tries ≡ 8 }
-    ensures fresh { (order : Contents) → frame_limit (Job.Fresh order) ≡ 168 }
-    ensures opened { (order : Contents) → frame_limit (Job.Opened order) ≡ 112 * length order.updates + 280 }
-    ensures closing { frame_limit Job.Closing ≡ 112 }
-    ensures reading { frame_limit Job.Reading ≡ 14280 }
+    ensures fresh { (order : Contents) → frame_limit (Task.Fresh order) ≡ 168 }
+    ensures opened { (order : Contents) → frame_limit (Task.Opened order) ≡ 112 * length order.updates + 280 }
+    ensures closing { frame_limit Task.Closing ≡ 112 }
+    ensures reading { frame_limit Task.Reading ≡ 14280 }
     ensures done { (updates : ℕ) → done_frames updates ≡ 14 * updates + 21 }
     ensures frames { (read_frames ≡ 7) × (write_frames ≡ 7) }
 {}

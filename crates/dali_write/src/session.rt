@@ -4,11 +4,11 @@ ghost use Rattle.dali_frame.specs.declared.forward.Frame.{Frame};
 ghost use Rattle.dali_frame.specs.Frame.{IsProper};
 ghost use Rattle.dali_write.specs.Exchanges.{Exchange};
 ghost use Rattle.dali_write.specs.Requests.{Meets, request, access_requests};
-ghost use Rattle.dali_write.specs.Plans.{goes_on};
-ghost use Rattle.dali_write.specs.Tries.{most_tries, plan_requests, GoesOn};
+ghost use Rattle.dali_write.specs.Plans.{next_plan};
+ghost use Rattle.dali_write.specs.Tries.{most_tries, plan_requests, IsGoing};
 ghost use Rattle.dali_write.specs.declared.request.Wish.{Wish};
 ghost use Rattle.dali_write.specs.declared.ask.Verdict.{Verdict};
-ghost use Rattle.dali_write.specs.declared.stage.Job.{Job};
+ghost use Rattle.dali_write.specs.declared.stage.Task.{Task};
 ghost use Rattle.dali_write.specs.Stages.{plan_of, order_for, plan_at, access_of};
 ghost use Rattle.dali_write.specs.Found.{kept_after};
 ghost use Rattle.dali_write.specs.FramesLeft.{limit_at};
@@ -16,7 +16,7 @@ ghost use Rattle.dali_write.specs.Counts.{fresh_limit, opened_limit, closing_lim
 
 use crate::ask::{Ask, Verdict};
 use crate::request::{Request, byte_after};
-use crate::stage::{Job, Stage};
+use crate::stage::{Stage, Task};
 use arrayvec::ArrayVec;
 use dali_bank::Order;
 use dali_frame::Frame;
@@ -36,7 +36,7 @@ const MOST_TRIES: u8 = 8;
 #[derive(Drop)]
 pub struct Session {
     unit: u8,
-    job: Job,
+    task: Task,
     stage: Stage,
     // the tries of the access at hand that missed
     misses: u8,
@@ -48,22 +48,22 @@ pub struct Session {
     bytes: ArrayVec<u8, 255>,
     ghost short: { unit ≤ 63 },
     ghost few: { misses < most_tries },
-    ghost going: { GoesOn (plan_at job stage) (drop number (plan_requests unit (plan_at job stage))) },
+    ghost going: { IsGoing (plan_at task stage) (drop number (plan_requests unit (plan_at task stage))) },
 }
 
 impl Session {
-    ghost use Rattle.dali_write.specs.Told.{Told, unit_of, job_of, bytes_read, aim_of, request_at_hand, frames_left};
+    ghost use Rattle.dali_write.specs.Told.{Told, unit_of, task_of, bytes_read, aim_of, request_at_hand, frames_left};
     ghost use Rattle.dali_write.specs.Told.{BeginsTry};
 
     /// Looks whether bank 1 of the order's unit suits the order: its last location, and the content
     /// format where the order writes from 13h on. Ends as `MayOpen`, `Short`, `Format` or `Silent`.
     pub fn fresh(order: Order) -> Session
         ensures unit { unit_of result ≡ order.unit }
-        ensures job { job_of result ≡ Job.Fresh order }
+        ensures task { task_of result ≡ Task.Fresh order }
         ensures told { Told [] result }
         ensures left { frames_left result ≡ fresh_limit }
     {
-        Session::begun(order.unit(), Job::Fresh(order), Stage::ReadLength)
+        Session::begun(order.unit(), Task::Fresh(order), Stage::ReadLength)
     }
 
     /// Carries the order out: unlocks bank 1, writes each update, locks it and reads all back. Where
@@ -71,11 +71,11 @@ impl Session {
     /// `DoubtOpen`.
     pub fn opened(order: Order) -> Session
         ensures unit { unit_of result ≡ order.unit }
-        ensures job { job_of result ≡ Job.Opened order }
+        ensures task { task_of result ≡ Task.Opened order }
         ensures told { Told [] result }
         ensures left { frames_left result ≡ opened_limit (length order.updates) }
     {
-        Session::begun(order.unit(), Job::Opened(order), Stage::Unlock)
+        Session::begun(order.unit(), Task::Opened(order), Stage::Unlock)
     }
 
     /// Closes the unit at a short address, at most 63: locks bank 1, whether or not that succeeds,
@@ -83,13 +83,13 @@ impl Session {
     pub fn closing(unit: u8) -> Session
         requires { unit ≤ 63 }
         ensures unit { unit_of result ≡ unit }
-        ensures job { job_of result ≡ Job.Closing }
+        ensures task { task_of result ≡ Task.Closing }
         ensures told { Told [] result }
         ensures left { frames_left result ≡ closing_limit }
     {
         Session::begun(
             unit,
-            Job::Closing,
+            Task::Closing,
             Stage::Close(Verdict::Closed, Verdict::NotClosed),
         )
     }
@@ -99,24 +99,24 @@ impl Session {
     pub fn reading(unit: u8) -> Session
         requires { unit ≤ 63 }
         ensures unit { unit_of result ≡ unit }
-        ensures job { job_of result ≡ Job.Reading }
+        ensures task { task_of result ≡ Task.Reading }
         ensures told { Told [] result }
         ensures left { frames_left result ≡ reading_limit }
     {
-        Session::begun(unit, Job::Reading, Stage::ReadAll)
+        Session::begun(unit, Task::Reading, Stage::ReadAll)
     }
 
-    fn begun(unit: u8, job: Job, stage: Stage) -> Session
+    fn begun(unit: u8, task: Task, stage: Stage) -> Session
         requires short { unit ≤ 63 }
-        requires stage { plan_at job stage ≡ plan_of job }
+        requires stage { plan_at task stage ≡ plan_of task }
         ensures unit { unit_of result ≡ unit }
-        ensures job { job_of result ≡ job }
+        ensures task { task_of result ≡ task }
         ensures told { Told [] result }
-        ensures left { frames_left result ≡ limit_at job stage }
+        ensures left { frames_left result ≡ limit_at task stage }
     {
         Session {
             unit,
-            job,
+            task,
             stage,
             misses: 0,
             number: 0,
@@ -130,7 +130,7 @@ impl Session {
         ensures aim { result ≡ aim_of self.now }
         ensures proper { (frame : Frame) → result ≡ Ask.Send frame → IsProper frame }
     {
-        match self.stage.access(&self.job) {
+        match self.stage.access(&self.task) {
             Ok(access) => match access.request(self.unit, self.number) {
                 Some(request) => Ask::Send(request.frame),
                 // an access at hand has a next frame
@@ -150,12 +150,12 @@ impl Session {
 
     /// The order of a fresh or an opened session.
     pub fn order(&self) -> Option<&Order>
-        ensures some { IfSome result (λ order. order_for (job_of self.now) ≡ Some order.now) }
-        ensures none { IsNone result → order_for (job_of self.now) ≡ None }
+        ensures some { IfSome result (λ order. order_for (task_of self.now) ≡ Some order.now) }
+        ensures none { IsNone result → order_for (task_of self.now) ≡ None }
     {
-        match &self.job {
-            Job::Fresh(order) | Job::Opened(order) => Some(order),
-            Job::Closing | Job::Reading => None,
+        match &self.task {
+            Task::Fresh(order) | Task::Opened(order) => Some(order),
+            Task::Closing | Task::Reading => None,
         }
     }
 
@@ -172,7 +172,7 @@ impl Session {
     /// was.
     pub fn heard(&mut self, answer: Option<u8>)
         ensures unit { unit_of self.new ≡ unit_of self.old }
-        ensures job { job_of self.new ≡ job_of self.old }
+        ensures task { task_of self.new ≡ task_of self.old }
         ensures told { (told : List Exchange) (frame : Frame) → aim_of self.old ≡ Ask.Send frame → Told told self.old
             → Told (record { frame = frame; answer = answer } ∷ told) self.new }
         ensures ended { (verdict : Verdict) → aim_of self.old ≡ Ask.Ended verdict → self.new ≡ self.old }
@@ -197,9 +197,9 @@ impl Session {
 
     // The frame of this number of the access at hand, with the answer that it wants.
     fn request_at(&self, number: usize) -> Option<Request>
-        ensures { result ≡ slice_get (plan_requests self.now.unit (plan_at self.now.job self.now.stage)) number }
+        ensures { result ≡ slice_get (plan_requests self.now.unit (plan_at self.now.task self.now.stage)) number }
     {
-        match self.stage.access(&self.job) {
+        match self.stage.access(&self.task) {
             Ok(access) => access.request(self.unit, number),
             Err(_) => None,
         }
@@ -209,7 +209,7 @@ impl Session {
     fn go_on(&mut self, frame: &Frame, answer: Option<u8>)
         requires { IsSome (request_at_hand self.old) }
         ensures unit { self.new.unit ≡ self.old.unit }
-        ensures job { self.new.job ≡ self.old.job }
+        ensures task { self.new.task ≡ self.old.task }
         ensures told { (told : List Exchange) (wish : Wish) → request_at_hand self.old ≡ Some (request frame.now wish)
             → Meets wish answer → Told told self.old
             → Told (record { frame = frame.now; answer = answer } ∷ told) self.new }
@@ -227,7 +227,7 @@ impl Session {
     // The frame at hand got another answer, and the try ends.
     fn miss(&mut self)
         ensures unit { self.new.unit ≡ self.old.unit }
-        ensures job { self.new.job ≡ self.old.job }
+        ensures task { self.new.task ≡ self.old.task }
         ensures told { (told : List Exchange) (frame : Frame) (answer : Option ℕ) (wish : Wish)
             → request_at_hand self.old ≡ Some (request frame wish) → ¬ Meets wish answer
             → Told told self.old → Told (record { frame = frame; answer = answer } ∷ told) self.new }
@@ -245,17 +245,17 @@ impl Session {
     // The access at hand ended with this outcome, and the next one begins.
     fn advance(&mut self, outcome: Option<u8>)
         ensures unit { self.new.unit ≡ self.old.unit }
-        ensures job { self.new.job ≡ self.old.job }
-        ensures plan { plan_at self.new.job self.new.stage ≡ goes_on (plan_at self.old.job self.old.stage) outcome }
+        ensures task { self.new.task ≡ self.old.task }
+        ensures plan { plan_at self.new.task self.new.stage ≡ next_plan (plan_at self.old.task self.old.stage) outcome }
         ensures begins { BeginsTry self.new }
-        ensures limit { IfOk (access_of (plan_at self.old.job self.old.stage)) (λ access.
-            limit_at self.new.job self.new.stage + most_tries * length (access_requests self.old.unit access)
-            ≤ limit_at self.old.job self.old.stage) }
+        ensures limit { IfOk (access_of (plan_at self.old.task self.old.stage)) (λ access.
+            limit_at self.new.task self.new.stage + most_tries * length (access_requests self.old.unit access)
+            ≤ limit_at self.old.task self.old.stage) }
         ensures bytes { length self.old.bytes.items < 255
-            → self.new.bytes.items ≡ kept_after self.old.job self.old.bytes.items outcome }
+            → self.new.bytes.items ≡ kept_after self.old.task self.old.bytes.items outcome }
     {
-        let stage = self.stage.next(&self.job, outcome);
-        keep_byte(&mut self.bytes, &self.job, outcome);
+        let stage = self.stage.next(&self.task, outcome);
+        keep_byte(&mut self.bytes, &self.task, outcome);
         self.stage = stage;
         self.misses = 0;
         self.number = 0;
@@ -264,10 +264,10 @@ impl Session {
 }
 
 // Keeps the byte that a reading session has read.
-fn keep_byte(bytes: &mut ArrayVec<u8, 255>, job: &Job, outcome: Option<u8>)
-    ensures { length bytes.old.items < 255 → bytes.new.items ≡ kept_after job.now bytes.old.items outcome }
+fn keep_byte(bytes: &mut ArrayVec<u8, 255>, task: &Task, outcome: Option<u8>)
+    ensures { length bytes.old.items < 255 → bytes.new.items ≡ kept_after task.now bytes.old.items outcome }
 {
-    if let (Job::Reading, Some(byte)) = (job, outcome) {
+    if let (Task::Reading, Some(byte)) = (task, outcome) {
         let _ = bytes.try_push(byte);
     }
 }

@@ -1,8 +1,8 @@
 ghost use Rattle.std.specs.Prelude.{◌≡◌, ◌≤◌, ◌+◌, ◌*◌, ℕ, IfOk, ◌==◌, if◌then◌else◌, length};
 ghost use Rattle.dali_write.specs.Requests.{access_requests};
-ghost use Rattle.dali_write.specs.Plans.{greatest, goes_on, either_way, give_up};
+ghost use Rattle.dali_write.specs.Plans.{greatest, next_plan, either_way, give_up};
 ghost use Rattle.dali_write.specs.Tries.{most_tries};
-ghost use Rattle.dali_write.specs.declared.stage.Job.{Job};
+ghost use Rattle.dali_write.specs.declared.stage.Task.{Task};
 ghost use Rattle.dali_write.specs.declared.stage.Stage.TheVariants.{ReadOn};
 ghost use Rattle.dali_write.specs.Stages.{plan_at, access_of, updates_for};
 ghost use Rattle.dali_write.specs.FramesLeft.{limit_at, read_limit, close_limit};
@@ -13,21 +13,21 @@ use dali_bank::Order;
 
 /// What a session is for.
 #[derive(Drop)]
-pub(crate) enum Job {
+pub(crate) enum Task {
     Fresh(Order),
     Opened(Order),
     Closing,
     Reading,
 }
 
-impl Job {
+impl Task {
     // The updates of its order.
     pub(crate) fn updates(&self) -> &[(u8, u8)]
         ensures { result.now ≡ updates_for self.now }
     {
         match self {
-            Job::Fresh(order) | Job::Opened(order) => order.updates(),
-            Job::Closing | Job::Reading => &[],
+            Task::Fresh(order) | Task::Opened(order) => order.updates(),
+            Task::Closing | Task::Reading => &[],
         }
     }
 }
@@ -56,20 +56,20 @@ pub(crate) enum Stage {
 
 impl Stage {
     // The access at hand, or how the session ended.
-    pub(crate) fn access(self, job: &Job) -> Result<Access, Verdict>
-        ensures { result ≡ access_of (plan_at job.now self) }
+    pub(crate) fn access(self, task: &Task) -> Result<Access, Verdict>
+        ensures { result ≡ access_of (plan_at task.now self) }
     {
         match self {
             Stage::ReadLength | Stage::ReadAll => Ok(Access::ReadFrom(0x00)),
             Stage::ReadFormat => Ok(Access::ReadFrom(0x11)),
             Stage::ReadFormatLow(_) => Ok(Access::ReadFrom(0x12)),
             Stage::Unlock => Ok(Access::WriteTo(0x02, 0x55)),
-            Stage::WriteOn(index) => match job.updates().get(index).copied() {
+            Stage::WriteOn(index) => match task.updates().get(index).copied() {
                 Some((location, byte)) => Ok(Access::WriteTo(location, byte)),
                 None => Ok(Access::WriteTo(0x02, 0xFF)),
             },
             Stage::ReadLock | Stage::ReadClosed(_, _) => Ok(Access::ReadFrom(0x02)),
-            Stage::ReadBack(index) => match job.updates().get(index).copied() {
+            Stage::ReadBack(index) => match task.updates().get(index).copied() {
                 Some((location, _)) => Ok(Access::ReadFrom(location)),
                 None => Err(Verdict::Done),
             },
@@ -86,13 +86,13 @@ impl Stage {
     }
 
     // The stage after this one, whose access had this outcome: its byte, or none where it failed.
-    pub(crate) fn next(self, job: &Job, outcome: Option<u8>) -> Stage
-        ensures plan { plan_at job.now result ≡ goes_on (plan_at job.now self) outcome }
-        ensures limit { (unit : ℕ) → IfOk (access_of (plan_at job.now self)) (λ access.
-            limit_at job.now result + most_tries * length (access_requests unit access) ≤ limit_at job.now self) }
+    pub(crate) fn next(self, task: &Task, outcome: Option<u8>) -> Stage
+        ensures plan { plan_at task.now result ≡ next_plan (plan_at task.now self) outcome }
+        ensures limit { (unit : ℕ) → IfOk (access_of (plan_at task.now self)) (λ access.
+            limit_at task.now result + most_tries * length (access_requests unit access) ≤ limit_at task.now self) }
     {
         match self {
-            Stage::ReadLength => judge_length(job.updates(), outcome),
+            Stage::ReadLength => judge_length(task.updates(), outcome),
             Stage::ReadFormat => match outcome {
                 Some(high) => Stage::ReadFormatLow(high),
                 None => Stage::Over(Verdict::Silent),
@@ -100,14 +100,14 @@ impl Stage {
             Stage::ReadFormatLow(high) => judge_format(high, outcome),
             Stage::Unlock => after_write(outcome, Stage::WriteOn(0)),
             Stage::WriteOn(index) => {
-                if index < job.updates().len() {
+                if index < task.updates().len() {
                     after_write(outcome, Stage::WriteOn(index + 1))
                 } else {
                     after_write(outcome, Stage::ReadLock)
                 }
             }
             Stage::ReadLock => after_read(outcome, 0xFF, Stage::ReadBack(0)),
-            Stage::ReadBack(index) => match job.updates().get(index).copied() {
+            Stage::ReadBack(index) => match task.updates().get(index).copied() {
                 Some((_, byte)) => after_read(outcome, byte, Stage::ReadBack(index + 1)),
                 None => self,
             },
@@ -129,9 +129,9 @@ impl Stage {
 
 // What follows the read of the last location.
 fn judge_length(updates: &[(u8, u8)], outcome: Option<u8>) -> Stage
-    ensures plan { (job : Job) → updates_for job ≡ updates.now
-        → plan_at job result ≡ goes_on (plan_at job Stage.ReadLength) outcome }
-    ensures limit { (job : Job) → limit_at job result ≤ 2 * read_limit }
+    ensures plan { (task : Task) → updates_for task ≡ updates.now
+        → plan_at task result ≡ next_plan (plan_at task Stage.ReadLength) outcome }
+    ensures limit { (task : Task) → limit_at task result ≤ 2 * read_limit }
 {
     let Some(last) = outcome else {
         return Stage::Over(Verdict::Silent);
@@ -161,8 +161,8 @@ fn greatest_location(updates: &[(u8, u8)]) -> u8
 
 // What follows the read of the content format's second byte.
 fn judge_format(high: u8, outcome: Option<u8>) -> Stage
-    ensures plan { (job : Job) → plan_at job result ≡ goes_on (plan_at job (Stage.ReadFormatLow high)) outcome }
-    ensures limit { (job : Job) → limit_at job result ≡ 0 }
+    ensures plan { (task : Task) → plan_at task result ≡ next_plan (plan_at task (Stage.ReadFormatLow high)) outcome }
+    ensures limit { (task : Task) → limit_at task result ≡ 0 }
 {
     Stage::Over(match outcome {
         Some(low) if high == 0x00 && low == 0x03 => Verdict::MayOpen,
@@ -173,8 +173,8 @@ fn judge_format(high: u8, outcome: Option<u8>) -> Stage
 
 // What follows a write in an opened unit.
 fn after_write(outcome: Option<u8>, next: Stage) -> Stage
-    ensures plan { (job : Job) → plan_at job result ≡ either_way give_up (λ byte. plan_at job next) outcome }
-    ensures limit { (job : Job) → close_limit ≤ limit_at job next → limit_at job result ≤ limit_at job next }
+    ensures plan { (task : Task) → plan_at task result ≡ either_way give_up (λ byte. plan_at task next) outcome }
+    ensures limit { (task : Task) → close_limit ≤ limit_at task next → limit_at task result ≤ limit_at task next }
 {
     match outcome {
         Some(_) => next,
@@ -184,10 +184,10 @@ fn after_write(outcome: Option<u8>, next: Stage) -> Stage
 
 // What follows a read in an opened unit, where the byte has to be this one.
 fn after_read(outcome: Option<u8>, byte: u8, next: Stage) -> Stage
-    ensures plan { (job : Job)
-        → plan_at job result
-        ≡ either_way give_up (λ found. if found == byte then plan_at job next else give_up) outcome }
-    ensures limit { (job : Job) → close_limit ≤ limit_at job next → limit_at job result ≤ limit_at job next }
+    ensures plan { (task : Task)
+        → plan_at task result
+        ≡ either_way give_up (λ found. if found == byte then plan_at task next else give_up) outcome }
+    ensures limit { (task : Task) → close_limit ≤ limit_at task next → limit_at task result ≤ limit_at task next }
 {
     match outcome {
         Some(found) if found == byte => next,
@@ -198,9 +198,9 @@ fn after_read(outcome: Option<u8>, byte: u8, next: Stage) -> Stage
 // What follows the read of a location, where those up to the last one are to be read.
 #[tactic(auto, using(crate::proofs::RequestLemmas::read_on_next))]
 fn read_next(location: u8, last: u8, outcome: Option<u8>) -> Stage
-    ensures plan { (job : Job) → plan_at job result ≡ goes_on (plan_at job (Stage.ReadOn location last)) outcome }
-    ensures limit { (job : Job) → location ≤ last
-        → limit_at job result + read_limit ≤ limit_at job (Stage.ReadOn location last) }
+    ensures plan { (task : Task) → plan_at task result ≡ next_plan (plan_at task (Stage.ReadOn location last)) outcome }
+    ensures limit { (task : Task) → location ≤ last
+        → limit_at task result + read_limit ≤ limit_at task (Stage.ReadOn location last) }
 {
     if location > last {
         return Stage::Over(Verdict::Read);

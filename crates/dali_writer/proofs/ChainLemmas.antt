@@ -14,26 +14,26 @@ use Rattle.dali_trace.specs.Moves.{MovesBy, Moves}
 use Rattle.dali_trace.specs.Fits.{Fits, IsLockedAbove, OnlyNamed}
 use Rattle.dali_trace.specs.Moments.{IsRight}
 use Rattle.dali_trace.specs.Runs.{fresh, LeadsRight}
-use Rattle.dali_writer.specs.Held.{Held}
+use Rattle.dali_writer.specs.WriterState.{WriterState}
 use Rattle.dali_writer.specs.declared.phase.Phase.{Phase}
 use Rattle.dali_writer.specs.declared.phase.Phase.TheVariants.{Idle, Begins, Checks, Writes, Closes, Says}
 use Rattle.dali_writer.specs.Describes.{IsAt, Describes}
 use Rattle.dali_writer.specs.Follows.{Follows}
-use Rattle.dali_writer.proofs.StepLemmas.{may_next}
+use Rattle.dali_laws.proofs.AgreeLemmas.{may_follow}
 use Rattle.dali_trace.specs.WhenKept.{WhenKept}
 use Rattle.dali_laws.proofs.MomentLemmas.{every_moment, each_kept}
 
 -- a longer trace that is written oldest first describes the same writer
-pub onto : (start : Start) (w : Held) (trace new : List Happening) (next : Happening) → new ≡ trace ++ next ∷ []
+pub onto : (start : Start) (w : WriterState) (trace new : List Happening) (next : Happening) → new ≡ trace ++ next ∷ []
     → Describes start (next ∷ reverse trace) w → Describes start (reverse new) w
 onto start w trace new next is d =
     subst (λ (t : List Happening). Describes start t w) (sym (ap reverse is ∙ reverse-append trace (next ∷ []))) d
 
 -- so does one that is longer by a loss of power
-pub onto_power : (start : Start) (w : Held) (trace new : List Happening) (address : ℕ)
+pub onto_power : (start : Start) (w : WriterState) (trace new : List Happening) (address : ℕ)
     → new ≡ trace ++ Powered address ∷ [] → Describes start (reverse trace) w → Describes start (reverse new) w
 onto_power start w trace new address is d = onto start w trace new (Powered address) is (record {
-  legal = (d.legal, may_next start (reverse trace) (Powered address) d.finished tt);
+  legal = (d.legal, may_follow start (reverse trace) (Powered address) d.finished tt);
   finished = tt;
   same = d.same;
   limit = d.limit;
@@ -47,7 +47,7 @@ onto_power start w trace new address is d = onto start w trace new (Powered addr
   place (Closes order moment s) at = at
   place (Says id code) at = at
 
-pub follows_power : (start : Start) (w : Held) (trace new : List Happening) (address : ℕ)
+pub follows_power : (start : Start) (w : WriterState) (trace new : List Happening) (address : ℕ)
     → new ≡ trace ++ Powered address ∷ [] → Follows start (reverse trace) w → Follows start (reverse new) w
 follows_power start w trace new address is follows =
     subst (λ (t : List Happening). Follows start t w)
@@ -62,12 +62,9 @@ module _ {S : Type 0} (world : S → World) (step : S → BusEvent → S → Typ
   module _ (allowed : (old : S) (event : BusEvent) (new : S) → step old event new
       → WorldStep (world old) event (world new)) where
     moves : (old : S) (next : Happening) (new : S) → MovesBy step old next new → Moves (world old) next (world new)
-    moves old (Asked order moment) new same = ap world same
-    moves old (Answered id reply) new same = ap world same
     moves old (Sent frame answer) new moved = allowed old (Carried frame answer) new moved
-    moves old (Kept entry) new same = ap world same
-    moves old Stopped new same = ap world same
     moves old (Powered address) new moved = allowed old (bus.Powered address) new moved
+    moves old _ new same = ap world same
 
     worlds : (first last : S) (past : List Happening) (states : List S) → IsChain (MovesBy step) first past last states
         → IsChain Moves (world first) past (world last) (map world states)

@@ -27,7 +27,7 @@ use Rattle.dali_writer.specs.declared.phase.Phase.TheVariants.{Idle, Begins, Che
 use Rattle.dali_trace.specs.Trace.{Start, standing_at}
 use Rattle.dali_trace.specs.Replies.{IsKnownReply}
 use Rattle.dali_writer.specs.Phases.{want_of, check_record, write_code}
-use Rattle.dali_writer.specs.Held.{Held, IsReady, IsAfterCheck, IsFirst, IsResumed}
+use Rattle.dali_writer.specs.WriterState.{WriterState, IsReady, IsAfterCheck, IsFirst, IsResumed}
 use Rattle.dali_writer.specs.Describes.{Describes}
 use Rattle.dali_trace.specs.Grounds.{EndsIn}
 use Rattle.dali_trace.specs.ByPlan.{told_in, Asks, IsPlanned}
@@ -53,14 +53,16 @@ first_told standings.Idle order moment phase is = subst (λ (p : Phase). WasTold
 first_told (standings.Began other) order moment phase is = subst (λ (p : Phase). WasTold p []) (sym is) tt
 first_told (standings.Opened other) order moment phase is = subst (λ (p : Phase). WasTold p []) (sym is) tt
 
-pub taken_follows : (start : Start) (past : List Happening) (old new : Held) (order : Contents) (moment : ℕ) (stands : Standing)
+pub taken_follows : (start : Start) (past : List Happening) (old new : WriterState) (order : Contents) (moment : ℕ)
+    (stands : Standing)
     → Follows start past old → IsFirst stands order moment new.phase
     → Follows start (Answered order.id replies.Taken ∷ Asked order moment ∷ past) new
 taken_follows start past old new order moment stands f first =
     record { planned = ((f.planned, tt), tt); told = first_told stands order moment new.phase first }
 
 -- other replies
-pub known_follows : (start : Start) (past : List Happening) (w : Held) (order : Contents) (moment : ℕ) (kept : KeptOf)
+pub known_follows : (start : Start) (past : List Happening) (w : WriterState) (order : Contents) (moment : ℕ)
+    (kept : KeptOf)
     (reply : Reply)
     → Follows start past w → IsKnownReply order kept reply
     → Follows start (Answered order.id reply ∷ Asked order moment ∷ past) w

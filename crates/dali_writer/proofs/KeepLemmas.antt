@@ -33,12 +33,13 @@ use Rattle.dali_trace.specs.Trace.{Start, records_of, sent_of, sent_since_taken,
 use Rattle.dali_trace.specs.Grounds.{Grounds}
 use Rattle.dali_trace.specs.Legal.{IsDue, MayKeep}
 use Rattle.dali_writer.specs.Phases.{want_of, closing_of, check_record, write_code}
-use Rattle.dali_writer.specs.Held.{Held, IsReady, IsAfterCheck}
+use Rattle.dali_writer.specs.WriterState.{WriterState, IsReady, IsAfterCheck}
 use Rattle.dali_writer.specs.WorkLeft.{work_left}
 use Rattle.dali_writer.specs.Describes.{IsAt, Describes}
 use Rattle.dali_laws.proofs.StandingLemmas.{begun_order, open_order}
 use Rattle.dali_laws.proofs.RepeatLemmas.{legal_sentence}
-use Rattle.dali_writer.proofs.StepLemmas.{may_next, stands_so, since_part}
+use Rattle.dali_laws.proofs.AgreeLemmas.{may_follow}
+use Rattle.dali_writer.proofs.StepLemmas.{stands_so, since_part}
 
 -- a record that may be kept
 kept_on : (start : Start) (past : List Happening) (journal new : JournalState) (old next : Phase) (entry : Record)
@@ -46,7 +47,7 @@ kept_on : (start : Start) (past : List Happening) (journal new : JournalState) (
     → new.records ≡ entry ∷ journal.records → new.limit ≡ journal.limit
     → IsAt next (Kept entry ∷ past) → Describes start (Kept entry ∷ past) (record { journal = new; phase = next })
 kept_on start past journal new old next entry d may records limit place = record {
-  legal = (d.legal, may_next start past (Kept entry) d.finished may);
+  legal = (d.legal, may_follow start past (Kept entry) d.finished may);
   finished = tt;
   same = ap (λ (r : List Record). entry ∷ r) d.same ∙ sym records;
   limit = d.limit ∙ sym limit;
@@ -60,7 +61,7 @@ come_length progress [] = refl
 come_length progress (newest ∷ older) = refl
 
 -- the record of an order that is at work
-goes_on : (start : Start) (past : List Happening) (w : Held) (entry : Record) (stands : Standing)
+goes_on : (start : Start) (past : List Happening) (w : WriterState) (entry : Record) (stands : Standing)
     → Describes start past w → standing_of w.journal.records ≡ stands
     → Allows stands entry → IsNew entry (records_of start past)
     → length (orders_of (entry ∷ records_of start past)) ≡ length (orders_of (records_of start past))
@@ -119,11 +120,6 @@ pub check_allowed : (order : Contents) (verdict : Verdict)
     → Allows (standings.Began order) (check_record order.unit verdict)
 check_allowed order verdicts.MayOpen = refl
 check_allowed order _ = tt
-
-pub check_begins : (journal : JournalState) (unit : ℕ) (verdict : Verdict)
-    → MayBegin journal (check_record unit verdict)
-check_begins journal unit verdicts.MayOpen = tt
-check_begins journal unit _ = tt
 
 check_new : (unit : ℕ) (verdict : Verdict) (records : List Record) → IsNew (check_record unit verdict) records
 check_new unit verdicts.MayOpen records = tt
@@ -233,12 +229,6 @@ closed_on start past journal new order moment s d ready aim records limit =
     (waits, stands_read (sent_since_taken past) unit 2 over.1.0 over.1.1) (2, all.0, all.1) in
     kept_on start past journal new (Closes order moment s) (Begins order moment) (Closed unit) d may records limit
     (place.0, place.1)
-
--- the journal is ready for what comes next
-pub ready_begun : (new : JournalState) (records : List Record) (order : Contents) (moment : ℕ) (s : Session) → IsFresh order s
-    → AreUpdates order.updates
-    → new.records ≡ Began order moment ∷ records → IsReady (Checks order s) new
-ready_begun new records order moment s fresh valid is = (rw is refl, fresh, valid)
 
 said_ready : (journal new : JournalState) (order : Contents) (code : Code) (progress : Progress)
     → (older : List (Contents × Progress)) × orders_of journal.records ≡ (order, progress) ∷ older

@@ -8,10 +8,10 @@ use Rattle.dali_trace.specs.declared.happening.Happening.{Happening}
 use Rattle.dali_trace.specs.declared.happening.Happening.TheVariants.{Stopped}
 use Rattle.dali_trace.specs.Trace.{Start, sent_of, is_unsaid}
 use Rattle.dali_writer.specs.declared.phase.Phase.{Phase}
-use Rattle.dali_writer.specs.Held.{Held, IsReady, IsResumed}
+use Rattle.dali_writer.specs.WriterState.{WriterState, IsReady, IsResumed}
 use Rattle.dali_writer.specs.Describes.{IsAt, Describes}
 use Rattle.dali_writer.specs.Follows.{Follows}
-use Rattle.dali_writer.proofs.StepLemmas.{may_next}
+use Rattle.dali_laws.proofs.AgreeLemmas.{may_follow}
 use Rattle.dali_writer.proofs.FollowLemmas.{resumed_told}
 
 pub resumed_ready : (journal : JournalState) (stands : Standing) (phase : Phase) → stands ≡ standing_of journal.records
@@ -55,19 +55,19 @@ resumed_follows start journal stands phase resumed =
     record { planned = tt; told = resumed_told stands phase resumed }
 
 -- so it is after a stop of a writer that had the same records
-pub stopped_described : (start : Start) (past : List Happening) (before : Held) (journal : JournalState)
+pub stopped_described : (start : Start) (past : List Happening) (before : WriterState) (journal : JournalState)
     (stands : Standing) (phase : Phase) → IsResumed stands phase → Describes start past before
     → before.journal.records ≡ journal.records → before.journal.limit ≡ journal.limit
     → Describes start (Stopped ∷ past) (record { journal = journal; phase = phase })
 stopped_described start past before journal stands phase resumed d records limit = record {
-  legal = (d.legal, may_next start past Stopped d.finished tt);
+  legal = (d.legal, may_follow start past Stopped d.finished tt);
   finished = tt;
   same = d.same ∙ records;
   limit = d.limit ∙ limit;
   place = resumed_at (Stopped ∷ past) stands phase refl refl resumed;
 }
 
-pub stopped_follows : (start : Start) (past : List Happening) (before : Held) (journal : JournalState)
+pub stopped_follows : (start : Start) (past : List Happening) (before : WriterState) (journal : JournalState)
     (stands : Standing) (phase : Phase) → IsResumed stands phase → Follows start past before
     → Follows start (Stopped ∷ past) (record { journal = journal; phase = phase })
 stopped_follows start past before journal stands phase resumed f =

@@ -12,7 +12,7 @@ use Rattle.dali_trace.specs.declared.happening.Event.{Event}
 use Rattle.dali_trace.specs.declared.happening.Happening.{Happening}
 use Rattle.dali_trace.specs.Trace.{Start}
 use Rattle.dali_trace.specs.Runs.{fresh, IsRun, IsCutShort}
-use Rattle.dali_writer.specs.Held.{Held}
+use Rattle.dali_writer.specs.WriterState.{WriterState}
 use Rattle.dali_writer.specs.Describes.{Describes}
 use Rattle.dali_writer.specs.Follows.{Follows}
 use Rattle.dali_writer.specs.Served.{IsServed, AreServed}
@@ -31,7 +31,7 @@ on_err (Ok a) P Q f p = tt
 on_err (Err e) P Q f p = f e p
 
 -- no event was served yet
-pub none_served : {S : Type 0} (step : S → BusEvent → S → Type 0) (bus : S) (writer : Held)
+pub none_served : {S : Type 0} (step : S → BusEvent → S → Type 0) (bus : S) (writer : WriterState)
     → AreServed step [] bus writer bus writer []
 none_served step bus writer = record {
   described = λ start d. d;
@@ -44,7 +44,7 @@ none_served step bus writer = record {
 
 -- one event more was served
 pub one_more_served : {S : Type 0} (step : S → BusEvent → S → Type 0) (events : List Event) (i : ℕ) (d : Event)
-    (bus mid_bus new_bus : S) (writer mid new : Held) (past new_past : List Happening) → i < length events
+    (bus mid_bus new_bus : S) (writer mid new : WriterState) (past new_past : List Happening) → i < length events
     → AreServed step (take i events) bus writer mid_bus mid past
     → IsServed step (get_or events i d) mid_bus mid past new_bus new new_past
     → AreServed step (take (i + 1) events) bus writer new_bus new new_past
@@ -73,7 +73,7 @@ module _ {S : Type 0} (world : S → World) (step : S → BusEvent → S → Typ
   }
 
   -- the first of the events were served
-  pub cut_short : (limit : ℕ) (events : List Event) (served : ℕ) (bus new_bus : S) (writer new : Held)
+  pub cut_short : (limit : ℕ) (events : List Event) (served : ℕ) (bus new_bus : S) (writer new : WriterState)
       (past : List Happening) → Describes (fresh limit) [] writer → Follows (fresh limit) [] writer
       → AreServed step (take served events) bus writer new_bus new past
       → IsCutShort world step limit events bus new_bus
@@ -89,7 +89,7 @@ module _ {S : Type 0} (world : S → World) (step : S → BusEvent → S → Typ
       }
 
   -- all were served
-  pub ran : (limit : ℕ) (events : List Event) (bus new_bus : S) (writer new : Held) (trace : List Happening)
+  pub ran : (limit : ℕ) (events : List Event) (bus new_bus : S) (writer new : WriterState) (trace : List Happening)
       (journal : List ℕ) → Describes (fresh limit) [] writer → Follows (fresh limit) [] writer
       → AreServed step events bus writer new_bus new (reverse trace)
       → journal ≡ journal_spelling Two new.journal.records

@@ -22,9 +22,10 @@ use Rattle.dali_writer.specs.declared.phase.Phase.TheVariants.{Idle, Begins, Che
 use Rattle.dali_trace.specs.Trace.{Start, records_of, sent_since_taken, waiting, is_unsaid}
 use Rattle.dali_trace.specs.Legal.{MaySay, HasNumber, EndsAs, IsFinished}
 use Rattle.dali_writer.specs.Phases.{want_of, check_of, write_of, closing_of}
-use Rattle.dali_writer.specs.Held.{IsReady}
+use Rattle.dali_writer.specs.WriterState.{IsReady}
 use Rattle.dali_writer.specs.Describes.{Describes}
-use Rattle.dali_writer.proofs.StepLemmas.{may_next, stands_so}
+use Rattle.dali_laws.proofs.AgreeLemmas.{may_follow}
+use Rattle.dali_writer.proofs.StepLemmas.{stands_so}
 
 -- what a writer may say
 abbrev IsSaying : Reply → Type 0
@@ -35,27 +36,16 @@ IsSaying _ = ⊥
 -- after a saying nothing is unsaid
 all_said : (past : List Happening) (id : ℕ) (reply : Reply) → IsSaying reply → IsFinished past
     → is_unsaid (Answered id reply ∷ past) ≡ false
-all_said [] id (replies.Kept code) saying finished = refl
-all_said (Asked order moment ∷ past) id (replies.Kept code) saying finished = absurd finished
-all_said (Answered last other ∷ past) id (replies.Kept code) saying finished = refl
-all_said (Sent frame answer ∷ past) id (replies.Kept code) saying finished = refl
-all_said (Kept entry ∷ past) id (replies.Kept code) saying finished = refl
-all_said (Stopped ∷ past) id (replies.Kept code) saying finished = refl
-all_said (Powered address ∷ past) id (replies.Kept code) saying finished = refl
-all_said [] id (replies.Blocked unit) saying finished = refl
-all_said (Asked order moment ∷ past) id (replies.Blocked unit) saying finished = absurd finished
-all_said (Answered last other ∷ past) id (replies.Blocked unit) saying finished = refl
-all_said (Sent frame answer ∷ past) id (replies.Blocked unit) saying finished = refl
-all_said (Kept entry ∷ past) id (replies.Blocked unit) saying finished = refl
-all_said (Stopped ∷ past) id (replies.Blocked unit) saying finished = refl
-all_said (Powered address ∷ past) id (replies.Blocked unit) saying finished = refl
+all_said (Asked order moment ∷ past) id reply saying finished = absurd finished
+all_said past id (replies.Kept code) saying finished = refl
+all_said past id (replies.Blocked unit) saying finished = refl
 all_said past id _ saying finished = absurd saying
 
 said : (start : Start) (past : List Happening) (journal : JournalState) (phase : Phase) (id : ℕ) (reply : Reply)
     → Describes start past (record { journal = journal; phase = phase }) → IsSaying reply → MaySay start past id reply
     → Describes start (Answered id reply ∷ past) (record { journal = journal; phase = Idle })
 said start past journal phase id reply d saying may = record {
-  legal = (d.legal, may_next start past (Answered id reply) d.finished may);
+  legal = (d.legal, may_follow start past (Answered id reply) d.finished may);
   finished = tt;
   same = d.same;
   limit = d.limit;

@@ -14,7 +14,7 @@ use Rattle.dali_trace.specs.Trace.{Start, is_busy}
 use Rattle.dali_trace.specs.Parts.{IsWork}
 use Rattle.dali_trace.specs.Moves.{MovesBy}
 use Rattle.dali_trace.specs.Runs.{SendsProper, SendsAllProper, AsksProper, AsksAllProper}
-use Rattle.dali_writer.specs.Held.{Held}
+use Rattle.dali_writer.specs.WriterState.{WriterState}
 use Rattle.dali_writer.specs.Describes.{Describes}
 use Rattle.dali_writer.specs.Follows.{Follows}
 use Rattle.dali_writer.specs.Served.{stopped_after, IsStop, IsServed}
@@ -32,7 +32,8 @@ two_more trace mid new next last one two =
 
 module _ {S : Type 0} (step : S → BusEvent → S → Type 0) where
   -- an order was taken, or was refused
-  pub submitted : (event : Event) (bus : S) (old new : Held) (trace mid after : List Happening) (order : Contents)
+  pub submitted : (event : Event) (bus : S) (old new : WriterState) (trace mid after : List Happening)
+      (order : Contents)
       (moment : ℕ) (reply : Reply) → event ≡ events.Submit order moment → AreUpdates order.updates
       → mid ≡ trace ++ Asked order moment ∷ [] → after ≡ mid ++ Answered order.id reply ∷ []
       → ((start : Start) (past : List Happening) → Describes start past old
@@ -55,7 +56,8 @@ module _ {S : Type 0} (step : S → BusEvent → S → Type 0) where
       }))
 
   -- a piece of work was done
-  pub stepped : (event : Event) (bus new_bus : S) (old new : Held) (trace after : List Happening) (next : Happening)
+  pub stepped : (event : Event) (bus new_bus : S) (old new : WriterState) (trace after : List Happening)
+      (next : Happening)
       → event ≡ events.Step → after ≡ trace ++ next ∷ [] → IsWork next → SendsProper next → AsksProper next
       → MovesBy step bus next new_bus
       → ((start : Start) (past : List Happening) → Describes start past old → is_busy start past ≡ true)
@@ -77,7 +79,7 @@ module _ {S : Type 0} (step : S → BusEvent → S → Type 0) where
       }))
 
   -- the writer was stopped and began anew
-  pub stopped : (event : Event) (bytes : ℕ) (bus : S) (old new : Held) (trace after : List Happening)
+  pub stopped : (event : Event) (bytes : ℕ) (bus : S) (old new : WriterState) (trace after : List Happening)
       (kept : Option Record) → event ≡ events.Stop bytes → reverse after ≡ stopped_after kept (reverse trace)
       → IsStop bytes old kept new → IsServed step event bus old (reverse trace) bus new (reverse after)
   stopped event bytes bus old new trace after kept is longer stop =
@@ -110,7 +112,7 @@ module _ {S : Type 0} (step : S → BusEvent → S → Type 0) where
       leads None first chain = record { states = bus ∷ chain.states; steps = (refl, chain.steps) }
 
   -- a unit lost its power
-  pub lost_power : (event : Event) (bus new_bus : S) (writer : Held) (trace after : List Happening) (address : ℕ)
+  pub lost_power : (event : Event) (bus new_bus : S) (writer : WriterState) (trace after : List Happening) (address : ℕ)
       → event ≡ events.Power address → after ≡ trace ++ Powered address ∷ []
       → MovesBy step bus (Powered address) new_bus
       → IsServed step event bus writer (reverse trace) new_bus writer (reverse after)

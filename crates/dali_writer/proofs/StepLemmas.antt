@@ -20,30 +20,21 @@ use Rattle.dali_write.specs.Touches.{Has, writes_of}
 use Rattle.dali_write.specs.Guards.{IsGuarded as IsGuardedFrame}
 use Rattle.dali_write.proofs.GuardLemmas.{older_guarded}
 use Rattle.dali_write.proofs.SessionLemmas.{fresh_sends, opened_sends, closing_sends}
-use Rattle.dali_trace.specs.declared.happening.Reply.TheVariants as replies
 use Rattle.dali_trace.specs.declared.happening.Happening.{Happening}
 use Rattle.dali_trace.specs.declared.happening.Happening.TheVariants.{Asked, Answered, Sent, Kept, Stopped, Powered}
 use Rattle.dali_trace.specs.declared.happening.Want.TheVariants as wants
 use Rattle.dali_writer.specs.declared.phase.Phase.{Phase}
 use Rattle.dali_writer.specs.declared.phase.Phase.TheVariants.{Idle, Begins, Checks, Writes, Closes, Says}
+use Rattle.dali_trace.specs.Cut.{since, is_stop, is_start, frames_in}
+use Rattle.dali_trace.proofs.CutLemmas.{since_sooner, stop_starts, frames_joined}
+use Rattle.dali_laws.proofs.AgreeLemmas.{may_follow}
 use Rattle.dali_trace.specs.Trace.{Start, standing_at, sent_of, sent_since_taken, waiting, is_unsaid, is_at_work}
 use Rattle.dali_trace.specs.Trace.{is_busy, course_of}
 use Rattle.dali_trace.specs.Legal.{MayPut, MaySend, MayHappen, MayFollow, IsFinished}
 use Rattle.dali_writer.specs.Phases.{want_of, check_of, write_of, closing_of, is_wanting}
-use Rattle.dali_writer.specs.Held.{Held, IsReady}
+use Rattle.dali_writer.specs.WriterState.{WriterState, IsReady}
 use Rattle.dali_writer.specs.Describes.{ToldNewest, IsAt, Describes}
 use Rattle.dali_laws.proofs.TakenLemmas.{waits, ended_unsaid, waits_unsaid}
-
--- what may happen may follow where no reply is due
-pub may_next : (start : Start) (past : List Happening) (next : Happening) → IsFinished past → MayHappen start past next
-    → MayFollow start past next
-may_next start [] next finished may = may
-may_next start (Asked order moment ∷ past) next finished may = absurd finished
-may_next start (Answered id reply ∷ past) next finished may = may
-may_next start (Sent frame answer ∷ past) next finished may = may
-may_next start (Kept entry ∷ past) next finished may = may
-may_next start (Stopped ∷ past) next finished may = may
-may_next start (Powered address ∷ past) next finished may = may
 
 -- a session always wants something
 pub check_wants : (unit : ℕ) (ask : Ask) → is_wanting (check_of unit ask) ≡ true
@@ -60,7 +51,7 @@ closing_wants id unit (asks.Ended verdicts.Closed) = refl
 closing_wants id unit (asks.Ended _) = refl
 
 -- the records of a trace stand as the journal that it describes
-pub stands_so : (start : Start) (past : List Happening) (w : Held) (stands : Standing) → Describes start past w
+pub stands_so : (start : Start) (past : List Happening) (w : WriterState) (stands : Standing) → Describes start past w
     → standing_of w.journal.records ≡ stands → standing_at start past ≡ stands
 stands_so start past w stands d at = ap standing_of d.same ∙ at
 
@@ -177,20 +168,9 @@ closing_may past unit (Other word) waits guarded = absurd guarded
 
 -- the frames since an order was taken are the newest of those since the last stop
 pub since_part : (past : List Happening) → (older : List Exchange) × (sent_of past ≡ sent_since_taken past ++ older)
-since_part [] = ([], refl)
-since_part (Asked order moment ∷ past) = since_part past
-since_part (Answered id replies.Taken ∷ past) = (sent_of past, refl)
-since_part (Answered id (replies.Kept code) ∷ past) = since_part past
-since_part (Answered id replies.IdReused ∷ past) = since_part past
-since_part (Answered id replies.Busy ∷ past) = since_part past
-since_part (Answered id replies.Full ∷ past) = since_part past
-since_part (Answered id (replies.Blocked unit) ∷ past) = since_part past
-since_part (Sent frame answer ∷ past) =
-    let part = since_part past in
-    (part.0, ap (λ (t : List Exchange). record { frame = frame; answer = answer } ∷ t) part.1)
-since_part (Kept entry ∷ past) = since_part past
-since_part (Stopped ∷ past) = ([], refl)
-since_part (Powered address ∷ past) = since_part past
+since_part past =
+    let part = since_sooner is_start is_stop stop_starts past in
+    (frames_in part.0, ap frames_in part.1 ∙ frames_joined (since is_start past) part.0)
 
 -- one frame more, that may be sent
 sent_on : (start : Start) (past : List Happening) (journal : JournalState) (old new : Phase) (frame : Frame)
@@ -199,7 +179,7 @@ sent_on : (start : Start) (past : List Happening) (journal : JournalState) (old 
     → IsAt new (Sent frame answer ∷ past)
     → Describes start (Sent frame answer ∷ past) (record { journal = journal; phase = new })
 sent_on start past journal old new frame answer d may place = record {
-  legal = (d.legal, may_next start past (Sent frame answer) d.finished may);
+  legal = (d.legal, may_follow start past (Sent frame answer) d.finished may);
   finished = tt;
   same = d.same;
   limit = d.limit;

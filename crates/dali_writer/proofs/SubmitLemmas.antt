@@ -28,10 +28,11 @@ use Rattle.dali_writer.specs.declared.phase.Phase.TheVariants.{Idle, Begins, Che
 use Rattle.dali_trace.specs.Trace.{Start, records_of, is_at_work, is_busy, is_full}
 use Rattle.dali_trace.specs.Replies.{IsNotEnded, IsReplyBy, IsReply, IsKnownReply}
 use Rattle.dali_writer.specs.Phases.{want_of, is_idle, is_wanting}
-use Rattle.dali_writer.specs.Held.{Held, IsReady, IsFirst}
+use Rattle.dali_writer.specs.WriterState.{WriterState, IsReady, IsFirst}
 use Rattle.dali_writer.specs.Describes.{IsAt, Describes}
 use Rattle.dali_laws.proofs.RepeatLemmas.{never_absent}
-use Rattle.dali_writer.proofs.StepLemmas.{may_next, busy_at, check_wants, write_wants, closing_wants}
+use Rattle.dali_laws.proofs.AgreeLemmas.{may_follow}
+use Rattle.dali_writer.proofs.StepLemmas.{busy_at, check_wants, write_wants, closing_wants}
 
 -- the replies by which nothing is taken
 abbrev pub IsRefusal : Reply → Type 0
@@ -51,20 +52,20 @@ stays Idle past order moment id _ refused at = at
 stays _ past order moment id _ refused at = at
 
 -- an order moment and its reply
-asked : (start : Start) (past : List Happening) (old new : Held) (order : Contents) (moment : ℕ) (reply : Reply)
+asked : (start : Start) (past : List Happening) (old new : WriterState) (order : Contents) (moment : ℕ) (reply : Reply)
     → Describes start past old → IsReply start past order reply
     → new.journal.records ≡ old.journal.records → new.journal.limit ≡ old.journal.limit
     → IsAt new.phase (Answered order.id reply ∷ Asked order moment ∷ past)
     → Describes start (Answered order.id reply ∷ Asked order moment ∷ past) new
 asked start past old new order moment reply d due records limit place = record {
-  legal = ((d.legal, may_next start past (Asked order moment) d.finished tt), (refl, due));
+  legal = ((d.legal, may_follow start past (Asked order moment) d.finished tt), (refl, due));
   finished = tt;
   same = d.same ∙ sym records;
   limit = d.limit ∙ sym limit;
   place = place;
 }
 
-pub refused : (start : Start) (past : List Happening) (w : Held) (order : Contents) (moment : ℕ) (reply : Reply)
+pub refused : (start : Start) (past : List Happening) (w : WriterState) (order : Contents) (moment : ℕ) (reply : Reply)
     → Describes start past w → IsRefusal reply → IsReply start past order reply
     → Describes start (Answered order.id reply ∷ Asked order moment ∷ past) w
 refused start past w order moment reply d refusal due =
@@ -82,7 +83,7 @@ known_refusal order kept (replies.Kept code) known = tt
 known_refusal order kept replies.IdReused known = tt
 known_refusal order kept _ known = absurd known
 
-pub known_on : (start : Start) (past : List Happening) (w : Held) (order : Contents) (moment : ℕ) (reply : Reply)
+pub known_on : (start : Start) (past : List Happening) (w : WriterState) (order : Contents) (moment : ℕ) (reply : Reply)
     → Describes start past w
     → IsKnownReply order (kept_of order.id w.journal.records) reply
     → Describes start (Answered order.id reply ∷ Asked order moment ∷ past) w

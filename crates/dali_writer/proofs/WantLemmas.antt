@@ -28,14 +28,15 @@ use Rattle.dali_trace.specs.Trace.{waiting_since}
 use Rattle.dali_trace.specs.Trace.{Start, standing_at, sent_of, sent_since_taken, waiting}
 use Rattle.dali_trace.specs.Legal.{Legal, MaySend, MayKeep}
 use Rattle.dali_writer.specs.Phases.{want_of, check_of, write_of, check_record, write_code}
-use Rattle.dali_writer.specs.Held.{IsReady}
+use Rattle.dali_writer.specs.WriterState.{IsReady}
 use Rattle.dali_writer.specs.Describes.{Describes}
 use Rattle.dali_trace.specs.Grounds.{EndsIn}
 use Rattle.dali_trace.specs.ByPlan.{told_in, Asks, IsPlanned}
 use Rattle.dali_writer.specs.Follows.{Follows}
 use Rattle.dali_trace.specs.Parts.{NextRecord, IsKeptNext}
 use Rattle.dali_trace.specs.Next.{IsNext, IsDone}
-use Rattle.dali_writer.proofs.StepLemmas.{may_next, stands_so, since_part, fresh_may, opened_may, closing_may}
+use Rattle.dali_laws.proofs.AgreeLemmas.{may_follow}
+use Rattle.dali_writer.proofs.StepLemmas.{stands_so, since_part, fresh_may, opened_may, closing_may}
 use Rattle.dali_writer.proofs.SayLemmas.{check_sends, write_sends, closing_sends_it, said_on}
 use Rattle.dali_writer.proofs.KeepLemmas.{begun_may, checked_may, written_on, closed_on, same_entry, closing_keeps}
 use Rattle.dali_writer.proofs.FollowLemmas.{said_follows}
@@ -82,7 +83,7 @@ may_keep start past journal (Says id code) entry d ready e = cc
 may_keep start past journal (Begins order moment) entry d ready e =
     let may : MayKeep start past entry =
     rw (← same_entry (Began order moment) entry e) (begun_may start past journal order moment d ready) in
-    (d.legal, may_next start past (Kept entry) d.finished may)
+    (d.legal, may_follow start past (Kept entry) d.finished may)
 may_keep start past journal (Checks order s) entry d ready e = by (aim_of s) refl e where
   by : (ask : Ask) → aim_of s ≡ ask → check_of order.unit ask ≡ Keep entry → Legal start (Kept entry ∷ past)
   by (asks.Send frame) aim e = cc
@@ -90,7 +91,7 @@ may_keep start past journal (Checks order s) entry d ready e = by (aim_of s) ref
       let may : MayKeep start past entry =
       rw (← same_entry (check_record order.unit verdict) entry e)
       (checked_may start past journal order s verdict d ready aim) in
-      (d.legal, may_next start past (Kept entry) d.finished may)
+      (d.legal, may_follow start past (Kept entry) d.finished may)
 may_keep start past journal (Writes order s) entry d ready e = by (aim_of s) refl e where
   by : (ask : Ask) → aim_of s ≡ ask → write_of ask ≡ Keep entry → Legal start (Kept entry ∷ past)
   by (asks.Send frame) aim e = cc
@@ -175,7 +176,7 @@ done_next start past journal phase (Keep entry) next d f ready want done =
 done_next start past journal phase (Send frame) next d f ready want (answer, done) =
     subst (IsNext start past) (sym done) (record {
       work = tt;
-      may = may_next start past (Sent frame answer) d.finished (may_send start past journal phase frame d ready want);
+      may = may_follow start past (Sent frame answer) d.finished (may_send start past journal phase frame d ready want);
       planned = asks_send start past journal phase frame d f ready want;
     })
 done_next start past journal phase (Say id reply) next d f ready want done =

@@ -8,7 +8,7 @@ use Rattle.dali_writer.specs.declared.phase.Phase.{Phase}
 use Rattle.dali_writer.specs.declared.phase.Phase.TheVariants.{Idle, Begins, Checks, Writes, Closes, Says}
 use Rattle.dali_trace.specs.Trace.{Start, records_of, sent_of, sent_since_taken, waiting, waiting_since, is_unsaid, has_ended}
 use Rattle.dali_trace.specs.Legal.{Legal, IsFinished}
-use Rattle.dali_writer.specs.Held.{Held}
+use Rattle.dali_writer.specs.WriterState.{WriterState}
 
 -- the session was told the newest of these exchanges
 abbrev pub ToldNewest : List Exchange → Session → Type 0
@@ -26,7 +26,7 @@ IsAt (Says id code) past = has_ended past ≡ true
 
 -- a legal trace from the start, with no reply due, describes the writer: its records and its limit are the journal's,
 -- and it shows what the writer is about to do
-pub record Describes (start : Start) (past : List Happening) (writer : Held) : Type 0 where
+pub record Describes (start : Start) (past : List Happening) (writer : WriterState) : Type 0 where
   pub legal : Legal start past
   pub finished : IsFinished past
   pub same : records_of start past ≡ writer.journal.records

@@ -7,7 +7,7 @@ use Rattle.dali_writer.specs.declared.phase.Phase.{Phase}
 use Rattle.dali_writer.specs.declared.phase.Phase.TheVariants.{Idle, Begins, Checks, Writes, Closes, Says}
 use Rattle.dali_trace.specs.Trace.{Start}
 use Rattle.dali_trace.specs.ByPlan.{told_in, ByPlan}
-use Rattle.dali_writer.specs.Held.{Held}
+use Rattle.dali_writer.specs.WriterState.{WriterState}
 
 -- the session of the phase was told these
 abbrev pub WasTold : Phase → List Exchange → Type 0
@@ -19,6 +19,6 @@ WasTold (Closes order moment s) told = Told told s
 WasTold (Says id code) told = Unit {0}
 
 -- the trace keeps to the plans, and its newest frames are those of the writer's session
-pub record Follows (start : Start) (past : List Happening) (writer : Held) : Type 0 where
+pub record Follows (start : Start) (past : List Happening) (writer : WriterState) : Type 0 where
   pub planned : ByPlan start past
   pub told : WasTold writer.phase (told_in past)

@@ -1,9 +1,9 @@
 -- What a writer keeps inside.
 use Rattle.dali_writer.specs.declared.writer.Writer.TheInside.{Inside}
-use Rattle.dali_writer.specs.Held.{Held, IsReady}
+use Rattle.dali_writer.specs.WriterState.{WriterState, IsReady}
 
-abbrev pub held_by : Inside → Held
-held_by w = record { journal = w.journal; phase = w.phase }
+abbrev pub writer_state : Inside → WriterState
+writer_state w = record { journal = w.journal; phase = w.phase }
 
 -- the journal is ready for what the writer is about to do
 pub record IsConsistent (w : Inside) : Type 0 where

@@ -1,6 +1,6 @@
 pub mod Faults
 pub mod Phases
-pub mod Held
+pub mod WriterState
 pub mod Inside
 pub mod Describes
 pub mod Follows

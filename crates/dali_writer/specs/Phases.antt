@@ -16,22 +16,36 @@ use Rattle.dali_trace.specs.declared.happening.Want.TheVariants as wants
 use Rattle.dali_writer.specs.declared.phase.Phase.{Phase}
 use Rattle.dali_writer.specs.declared.phase.Phase.TheVariants.{Idle, Begins, Checks, Writes, Closes, Says}
 
--- how an order ends whose fresh session ended so (it ends as MayOpen, Short, Format or Silent)
+-- how an order ends whose fresh session ended so: it ends as Short, Format or Silent, where it doesn't as MayOpen
 abbrev pub check_code : Verdict → Code
 check_code verdicts.Short = codes.Short
 check_code verdicts.Format = codes.Format
-check_code _ = codes.Silent
+check_code verdicts.Silent = codes.Silent
+check_code verdicts.MayOpen = codes.Silent
+check_code verdicts.Done = codes.Silent
+check_code verdicts.Doubt = codes.Silent
+check_code verdicts.DoubtOpen = codes.Silent
+check_code verdicts.Closed = codes.Silent
+check_code verdicts.NotClosed = codes.Silent
+check_code verdicts.Read = codes.Silent
 
 -- the record by which a fresh session is followed
 abbrev pub check_record : ℕ → Verdict → Record
 check_record unit verdicts.MayOpen = Opened unit
 check_record unit verdict = Ended (check_code verdict)
 
--- how an order ends whose opened session ended so (it ends as Done, Doubt or DoubtOpen)
+-- how an order ends whose opened session ended so: it ends as Done, Doubt or DoubtOpen
 abbrev pub write_code : Verdict → Code
 write_code verdicts.Done = codes.Done
 write_code verdicts.Doubt = codes.Doubt
-write_code _ = codes.DoubtOpen
+write_code verdicts.DoubtOpen = codes.DoubtOpen
+write_code verdicts.MayOpen = codes.DoubtOpen
+write_code verdicts.Short = codes.DoubtOpen
+write_code verdicts.Format = codes.DoubtOpen
+write_code verdicts.Silent = codes.DoubtOpen
+write_code verdicts.Closed = codes.DoubtOpen
+write_code verdicts.NotClosed = codes.DoubtOpen
+write_code verdicts.Read = codes.DoubtOpen
 
 -- while a session goes on its frame is wanted, and then the record
 abbrev pub check_of : ℕ → Ask → Want
@@ -42,11 +56,20 @@ abbrev pub write_of : Ask → Want
 write_of (asks.Send frame) = Send frame
 write_of (asks.Ended verdict) = Keep (Ended (write_code verdict))
 
--- the same of a session that closes a unit for the order of this number: Closed, or that the order is blocked
+-- the same of a session that closes a unit for the order of this number: it ends as Closed or NotClosed, and then the
+-- order is blocked
 abbrev pub closing_of : ℕ → ℕ → Ask → Want
 closing_of id unit (asks.Send frame) = Send frame
 closing_of id unit (asks.Ended verdicts.Closed) = Keep (Closed unit)
-closing_of id unit (asks.Ended other) = Say id (replies.Blocked unit)
+closing_of id unit (asks.Ended verdicts.NotClosed) = Say id (replies.Blocked unit)
+closing_of id unit (asks.Ended verdicts.MayOpen) = Say id (replies.Blocked unit)
+closing_of id unit (asks.Ended verdicts.Done) = Say id (replies.Blocked unit)
+closing_of id unit (asks.Ended verdicts.Short) = Say id (replies.Blocked unit)
+closing_of id unit (asks.Ended verdicts.Format) = Say id (replies.Blocked unit)
+closing_of id unit (asks.Ended verdicts.Silent) = Say id (replies.Blocked unit)
+closing_of id unit (asks.Ended verdicts.Doubt) = Say id (replies.Blocked unit)
+closing_of id unit (asks.Ended verdicts.DoubtOpen) = Say id (replies.Blocked unit)
+closing_of id unit (asks.Ended verdicts.Read) = Say id (replies.Blocked unit)
 
 -- what a phase wants
 abbrev pub want_of : Phase → Want

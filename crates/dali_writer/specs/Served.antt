@@ -11,7 +11,7 @@ use Rattle.dali_trace.specs.Trace.{Start}
 use Rattle.dali_trace.specs.Parts.{Part, AreParts}
 use Rattle.dali_trace.specs.Moves.{MovesBy}
 use Rattle.dali_trace.specs.Runs.{SendsAllProper, AsksAllProper}
-use Rattle.dali_writer.specs.Held.{Held}
+use Rattle.dali_writer.specs.WriterState.{WriterState}
 use Rattle.dali_writer.specs.Describes.{Describes}
 use Rattle.dali_writer.specs.Follows.{Follows}
 
@@ -22,7 +22,7 @@ stopped_after None past = Stopped ∷ past
 
 -- A stop that lets through so many bytes, and this record whole, if one: a trace that describes the writer, and
 -- that it follows, goes on by the stop's part, and then describes the writer that began anew, and is followed by it.
-pub record IsStop (bytes : ℕ) (old : Held) (kept : Option Record) (new : Held) : Type 0 where
+pub record IsStop (bytes : ℕ) (old : WriterState) (kept : Option Record) (new : WriterState) : Type 0 where
   pub described : (start : Start) (past : List Happening) → Describes start past old
       → Describes start (stopped_after kept past) new
   pub follows : (start : Start) (past : List Happening) → Describes start past old → Follows start past old
@@ -33,8 +33,8 @@ pub record IsStop (bytes : ℕ) (old : Held) (kept : Option Record) (new : Held)
 -- An event that was served, from a bus, a writer and a trace to those after it: the trace went on by the event's part,
 -- and describes the writer, is followed by it and leads to the bus, sends proper frames and asks for proper orders,
 -- where it did before.
-pub record IsServed {S : Type 0} (step : S → BusEvent → S → Type 0) (event : Event) (bus : S) (writer : Held)
-    (past : List Happening) (new_bus : S) (new_writer : Held) (new_past : List Happening) : Type 0 where
+pub record IsServed {S : Type 0} (step : S → BusEvent → S → Type 0) (event : Event) (bus : S) (writer : WriterState)
+    (past : List Happening) (new_bus : S) (new_writer : WriterState) (new_past : List Happening) : Type 0 where
   pub described : (start : Start) → Describes start past writer → Describes start new_past new_writer
   pub follows : (start : Start) → Describes start past writer → Follows start past writer
       → Follows start new_past new_writer
@@ -47,8 +47,8 @@ pub record IsServed {S : Type 0} (step : S → BusEvent → S → Type 0) (event
 -- Events that were served, from a bus and a writer to those after them and to the trace that they make: it is the
 -- joined parts of the events, describes the writer, is followed by it and leads to the bus, where the empty trace
 -- described the writer before them and was followed by it.
-pub record AreServed {S : Type 0} (step : S → BusEvent → S → Type 0) (events : List Event) (bus : S) (writer : Held)
-    (new_bus : S) (new_writer : Held) (past : List Happening) : Type 0 where
+pub record AreServed {S : Type 0} (step : S → BusEvent → S → Type 0) (events : List Event) (bus : S)
+    (writer : WriterState) (new_bus : S) (new_writer : WriterState) (past : List Happening) : Type 0 where
   pub described : (start : Start) → Describes start [] writer → Describes start past new_writer
   pub follows : (start : Start) → Describes start [] writer → Follows start [] writer → Follows start past new_writer
   pub parts : (start : Start) → Describes start [] writer → Follows start [] writer

@@ -5,7 +5,7 @@ ghost use Rattle.dali_trace.specs.declared.happening.Want.{Want};
 ghost use Rattle.dali_journal.specs.declared.record.Record.{Record};
 ghost use Rattle.dali_journal.specs.Spelling.{NamesShortUnit};
 ghost use Rattle.dali_writer.specs.Phases.{want_of, check_record, check_code, write_code, is_idle};
-ghost use Rattle.dali_writer.specs.Held.{IsAfterCheck, IsResumed};
+ghost use Rattle.dali_writer.specs.WriterState.{IsAfterCheck, IsResumed};
 
 use dali_bank::Order;
 use dali_journal::{Code, Record, Standing};
@@ -56,7 +56,18 @@ impl Phase {
             Phase::Closes(order, _, session) => match session.want() {
                 Ask::Send(frame) => Want::Send(frame),
                 Ask::Ended(Verdict::Closed) => Want::Keep(Record::Closed(session.unit())),
-                Ask::Ended(_) => Want::Say(order.id(), Reply::Blocked(session.unit())),
+                // It ends as `NotClosed`, and as none of the others.
+                Ask::Ended(
+                    Verdict::NotClosed
+                    | Verdict::MayOpen
+                    | Verdict::Done
+                    | Verdict::Short
+                    | Verdict::Format
+                    | Verdict::Silent
+                    | Verdict::Doubt
+                    | Verdict::DoubtOpen
+                    | Verdict::Read,
+                ) => Want::Say(order.id(), Reply::Blocked(session.unit())),
             },
             Phase::Says(id, code) => Want::Say(*id, Reply::Kept(*code)),
         }
@@ -81,7 +92,15 @@ fn check_code(verdict: Verdict) -> Code
     match verdict {
         Verdict::Short => Code::Short,
         Verdict::Format => Code::Format,
-        _ => Code::Silent,
+        Verdict::Silent => Code::Silent,
+        // As none of these it ends.
+        Verdict::MayOpen
+        | Verdict::Done
+        | Verdict::Doubt
+        | Verdict::DoubtOpen
+        | Verdict::Closed
+        | Verdict::NotClosed
+        | Verdict::Read => Code::Silent,
     }
 }
 
@@ -92,7 +111,15 @@ pub(crate) fn write_code(verdict: Verdict) -> Code
     match verdict {
         Verdict::Done => Code::Done,
         Verdict::Doubt => Code::Doubt,
-        _ => Code::DoubtOpen,
+        Verdict::DoubtOpen => Code::DoubtOpen,
+        // As none of these it ends.
+        Verdict::MayOpen
+        | Verdict::Short
+        | Verdict::Format
+        | Verdict::Silent
+        | Verdict::Closed
+        | Verdict::NotClosed
+        | Verdict::Read => Code::DoubtOpen,
     }
 }
 

@@ -11,7 +11,7 @@ ghost use Rattle.dali_trace.specs.Moves.{MovesBy};
 ghost use Rattle.dali_trace.specs.Runs.{fresh, IsRun, IsCutShort, SendsProper, AsksProper};
 ghost use Rattle.dali_writer.specs.Describes.{Describes};
 ghost use Rattle.dali_writer.specs.Follows.{Follows};
-ghost use Rattle.dali_writer.specs.Held.{Held};
+ghost use Rattle.dali_writer.specs.WriterState.{WriterState};
 ghost use Rattle.dali_writer.specs.Served.{IsServed, AreServed};
 ghost use Rattle.dali_trace.specs.Spared.{IsSimRun};
 ghost use Rattle.dali_gear.specs.SimState.{SimStep, world_of};
@@ -158,7 +158,7 @@ fn serve_all<B: Bus>(
         bus.new writer.new (reverse outcome.trace.items)) }
     ensures journal { IfOk result
         (λ outcome. outcome.journal.items ≡ journal_spelling Two writer.new.journal.records) }
-    ensures err { IfErr result (λ fault. (fault ≡ faults.NoMemory) × ((served : ℕ) × (last : Held)
+    ensures err { IfErr result (λ fault. (fault ≡ faults.NoMemory) × ((served : ℕ) × (last : WriterState)
         × (past : List Happening) × AreServed B.step (take served events.now) bus.old writer.old bus.new last past)) }
 {
     let mut trace = Vec::new(alloc);

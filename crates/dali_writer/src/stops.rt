@@ -64,7 +64,7 @@ fn keep_within(writer: &mut Writer, bytes: u16) -> Option<Record>
                 None
             }
         }
-        _ => None,
+        Want::Idle | Want::Send(_) | Want::Say(_, _) => None,
     }
 }
 
@@ -82,7 +82,7 @@ fn cut_off(alloc: Global, writer: &mut Writer, bytes: u16) -> Result<(), NoMemor
             let spelled = entry.bytes();
             begin_anew(alloc, writer, &spelled[..usize::from(bytes)])
         }
-        _ => begin_anew(alloc, writer, &[]),
+        Want::Idle | Want::Send(_) | Want::Say(_, _) => begin_anew(alloc, writer, &[]),
     }
 }
 

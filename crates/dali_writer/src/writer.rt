@@ -13,7 +13,7 @@ ghost use Rattle.dali_trace.specs.declared.happening.Want.{Want};
 ghost use Rattle.dali_trace.specs.Trace.{Start, is_busy};
 ghost use Rattle.dali_writer.specs.Phases.{want_of, is_wanting, IsKeep, IsSend, IsSay};
 ghost use Rattle.dali_trace.specs.Replies.{IsNotEnded, IsKnownReply, IsReply};
-ghost use Rattle.dali_writer.specs.Held.{Held, start_of, IsFirst, IsAtRest};
+ghost use Rattle.dali_writer.specs.WriterState.{WriterState, start_of, IsFirst, IsAtRest};
 ghost use Rattle.dali_trace.specs.Parts.{IsKeptNext};
 ghost use Rattle.dali_journal.specs.Spelling.{NamesShortUnit};
 ghost use Rattle.dali_writer.specs.WorkLeft.{work_left};
@@ -49,12 +49,12 @@ impl Drop for Writer {
 }
 
 impl Model for Writer {
-    ghost use Rattle.dali_writer.specs.Held.{Held};
-    ghost use Rattle.dali_writer.specs.Inside.{held_by, IsConsistent};
+    ghost use Rattle.dali_writer.specs.WriterState.{WriterState};
+    ghost use Rattle.dali_writer.specs.Inside.{writer_state, IsConsistent};
 
-    ghost Value = { Held };
+    ghost Value = { WriterState };
 
-    ghost view = { held_by };
+    ghost view = { writer_state };
 
     ghost invariant = { IsConsistent };
 }
@@ -69,10 +69,10 @@ impl Writer {
         ensures follows { (start : Start) → Follows start [] result }
         ensures journal { result.journal ≡ journal }
         ensures rest { IsAtRest result }
-        ensures stopped { (start : Start) (past : List Happening) (before : Held) → Describes start past before
+        ensures stopped { (start : Start) (past : List Happening) (before : WriterState) → Describes start past before
             → before.journal.records ≡ journal.records → before.journal.limit ≡ journal.limit
             → Describes start (happenings.Stopped ∷ past) result }
-        ensures stopped_follows { (start : Start) (past : List Happening) (before : Held) → Follows start past before
+        ensures stopped_follows { (start : Start) (past : List Happening) (before : WriterState) → Follows start past before
             → Follows start (happenings.Stopped ∷ past) result }
     {
         let phase = resumed_phase(journal.standing());
@@ -267,6 +267,6 @@ fn first_phase(standing: Standing, order: Order, moment: u64) -> Phase
 {
     match standing {
         Standing::Left(unit) => Phase::Closes(order, moment, Session::closing(unit)),
-        _ => Phase::Begins(order, moment),
+        Standing::Idle | Standing::Began(_) | Standing::Opened(_) => Phase::Begins(order, moment),
     }
 }

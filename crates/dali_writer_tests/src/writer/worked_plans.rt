@@ -2,7 +2,7 @@ ghost use Rattle.std.specs.Prelude.{◌≡◌, ◌≤◌, ◌↔◌, ℕ, replic
 ghost use Rattle.std.specs.Prelude.{Some, None};
 ghost use Rattle.dali_bank.specs.Order.{Contents};
 ghost use Rattle.dali_gear.specs.UnitState.{BankState};
-ghost use Rattle.dali_bus.specs.Chain.{IsChain};
+ghost use Rattle.dali_bus.specs.Chain.{IsChain, AtEachState};
 ghost use Rattle.dali_gear.specs.SimState.{SimState, SimStep, world_of};
 ghost use Rattle.dali_bus.specs.Unenabled.{NoneEnabled};
 ghost use Rattle.dali_journal.specs.declared.record.Code.TheVariants as Code;
@@ -24,7 +24,7 @@ ghost use Rattle.dali_trace.specs.Work.{IsWorked};
 ghost use Rattle.dali_trace.specs.Steps.{steps_in, NoneStops, IsSaid, PartsSince, IsSaidInTime, SaysInTime};
 ghost use Rattle.dali_trace.specs.Steps.{IsCut, HasStepsEnough};
 ghost use Rattle.dali_trace.specs.Spared.{losses_since, UnrefusedSince, state_at_start, due_code, NoneFixed};
-ghost use Rattle.dali_trace.specs.Spared.{KeepsPowerSince, IsSpared, AtEachState, LeadsSpared, LosesLittle};
+ghost use Rattle.dali_trace.specs.Spared.{KeepsPowerSince, IsSpared, LeadsSpared, LosesLittle};
 ghost use Rattle.dali_trace.specs.Spared.{IsSaidAsDue};
 ghost use Rattle.dali_trace.specs.Worked.{empty, left_open, first_order, second_order, short_ended, silent_ended};
 ghost use Rattle.dali_trace.specs.Worked.{blocked, third_order, format_ended};

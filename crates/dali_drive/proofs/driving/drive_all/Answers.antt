@@ -3,7 +3,7 @@ use Rattle.std.proofs.lemmas.Result.{err_from_is_err_and}
 use Rattle.std.specs.Io.KnownBytes.{Appends}
 use Rattle.dali_bank.specs.Order.{Contents}
 use Rattle.dali_trace.specs.Replies.{reply_line}
-use Rattle.dali_writer.specs.Held.{start_of}
+use Rattle.dali_writer.specs.WriterState.{start_of}
 use Rattle.dali_drive.specs.Driven.{orders_asked}
 use Rattle.dali_trace.specs.declared.happening.Happening.TheVariants.{Asked}
 use Rattle.dali_drive.proofs.DriveLemmas.{begun_at, replied_at, reply_next, breaks_saying, breaks_memory, IsCut}

@@ -5,7 +5,7 @@ pub returns-in-Began : goal.returns-in-Began
 returns-in-Began c = rw c.in-Began.is (
   c.fresh-session.result,
   refl,
-  (rw c.copy.ensures.value at c.fresh-session.ensures.unit, rw c.copy.ensures.value at c.fresh-session.ensures.job),
+  (rw c.copy.ensures.value at c.fresh-session.ensures.unit, rw c.copy.ensures.value at c.fresh-session.ensures.task),
   c.fresh-session.ensures.told,
   rw c.copy.ensures.value at c.copy.ensures.valid,
 )
@@ -16,7 +16,7 @@ returns-in-Opened c = rw c.in-Opened.is (
   refl,
   (
     rw c.copy-in-Opened.ensures.value at c.opened-session.ensures.unit,
-    rw c.copy-in-Opened.ensures.value at c.opened-session.ensures.job,
+    rw c.copy-in-Opened.ensures.value at c.opened-session.ensures.task,
   ),
   c.opened-session.ensures.told,
   rw c.copy-in-Opened.ensures.value at c.copy-in-Opened.ensures.valid,

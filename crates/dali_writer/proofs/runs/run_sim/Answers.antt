@@ -6,7 +6,8 @@ use Rattle.dali_trace.specs.declared.happening.Event.{Event}
 use Rattle.dali_trace.specs.declared.happening.Happening.{Happening}
 use Rattle.dali_trace.specs.Fits.{IsLockedAbove}
 use Rattle.dali_trace.specs.Runs.{fresh, IsRun}
-use Rattle.dali_trace.specs.Spared.{IsSpared, AtEachState, IsSimRun}
+use Rattle.dali_bus.specs.Chain.{AtEachState}
+use Rattle.dali_trace.specs.Spared.{IsSpared, IsSimRun}
 use Rattle.dali_laws.proofs.OnsetLemmas.{all_spared}
 use Rattle.dali_laws.proofs.SaidAsDueLemmas.{says_as_due}
 use Rattle.dali_writer.proofs.runs.run_sim.Goals as goal

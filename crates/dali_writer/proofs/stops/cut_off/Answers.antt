@@ -10,5 +10,5 @@ begin_anew-requires c =
     (c.bytes-spelled.ensures.in_range (c.want.ensures.short c.in-Keep.entry c.in-Keep.is))
     (omega (arith, few, c.from.ensures))
 
-pub begin_anew-requires-in_default : goal.begin_anew-requires-in_default
-begin_anew-requires-in_default c = cut_of_none
+pub begin_anew-requires-in-Idle : goal.begin_anew-requires-in-Idle
+begin_anew-requires-in-Idle c = cut_of_none

@@ -1,5 +1,8 @@
-use Rattle.std.proofs.Common.{inr, refl, ◌∷◌}
+use Rattle.std.proofs.Common.{inl, inr, refl, sym, subst, ◌∷◌}
 use Rattle.dali_trace.specs.declared.happening.Happening.TheVariants.{Kept}
+use Rattle.dali_writer.specs.WriterState.{WriterState}
+use Rattle.dali_writer.specs.Describes.{Describes}
+use Rattle.dali_writer.specs.Follows.{Follows}
 use Rattle.dali_writer.proofs.StopLemmas.{cut_of_none}
 use Rattle.dali_writer.proofs.stops.stop.Goals as goal
 
@@ -16,3 +19,19 @@ returns-in-Ok c = record {
       let next = c.in-Some.ensures.next start past d f c.in-Some.entry in
       inr (c.in-Some.entry, next.0 c.in-Some.ensures.wanted, c.in-Some.ensures.few, refl);
 }
+
+pub returns-in-Ok-cut_off : goal.returns-in-Ok-cut_off
+returns-in-Ok-cut_off c =
+    let same = c.in-None.ensures.same refl in
+    record {
+      described = λ start past d.
+          c.in-Ok-cut_off.ensures.described start past (subst (λ (w : WriterState). Describes start past w) (sym same) d);
+      follows = λ start past d f.
+          c.in-Ok-cut_off.ensures.follows start past (subst (λ (w : WriterState). Follows start past w) (sym same) f);
+      part = λ start past d f.
+          inl (
+            refl,
+            λ entry next.
+                c.in-None.ensures.cut refl entry ((c.in-None.ensures.next start past d f entry).1 next),
+          );
+    }

@@ -6,6 +6,6 @@ returns-in-Left c = rw c.in-Left.is (
   c.closing.result,
   refl,
   c.closing.ensures.unit,
-  (c.closing.ensures.unit, c.closing.ensures.job),
+  (c.closing.ensures.unit, c.closing.ensures.task),
   c.closing.ensures.told,
 )

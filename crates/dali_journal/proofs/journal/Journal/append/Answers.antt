@@ -31,7 +31,7 @@ invariant_of-self c =
     (subst (λ (j : JournalState). Allows (standing_of j.records) c.args.entry) (sym c.self.view_is) c.requires.allowed)
     (begins_in_range c.args.entry c.bytes-bytes.ensures.in_range)
     (subst (λ (j : JournalState). MayBegin j c.args.entry) (sym c.self.view_is) c.requires.may_begin)
-    c.note.ensures.places
+    c.note.ensures.index_entries
     (c.len.ensures ∙ inside.bytes.ok.0)
     (rw (← c.replace-standing.ensures.value, ← after.value) after.short)
     (omega (arith, put.len, put.capacity, more)))

@@ -4,7 +4,7 @@ use Rattle.dali_write.specs.Told.{unit_of, aim_of}
 use Rattle.dali_trace.specs.declared.happening.Want.TheVariants.{Send}
 use Rattle.dali_writer.specs.declared.phase.Phase.TheVariants.{Checks, Writes, Closes}
 use Rattle.dali_writer.specs.Phases.{check_of, write_of, closing_of}
-use Rattle.dali_writer.specs.Held.{IsReady}
+use Rattle.dali_writer.specs.WriterState.{IsReady}
 use Rattle.dali_writer.specs.Describes.{Describes}
 use Rattle.dali_writer.proofs.StepLemmas.{checks_on, writes_on, closes_on}
 use Rattle.dali_writer.proofs.SayLemmas.{check_sends, write_sends, closing_sends_it}

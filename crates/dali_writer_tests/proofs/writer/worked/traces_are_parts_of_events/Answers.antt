@@ -3,7 +3,7 @@ use Rattle.dali_journal.specs.declared.record.Record.TheVariants.{Began}
 use Rattle.dali_trace.specs.declared.happening.Happening.TheVariants.{Kept}
 use Rattle.dali_trace.specs.declared.happening.Reply.TheVariants as replies
 use Rattle.dali_trace.specs.Worked.{first_order, taken, begun}
-use Rattle.dali_trace.proofs.PartLemmas.{not_cut, not_lost, none_begun, not_idle}
+use Rattle.dali_trace.proofs.WorkedPartLemmas.{not_cut, not_lost, none_begun, not_idle}
 use Rattle.dali_writer_tests.proofs.writer.worked.traces_are_parts_of_events.Goals as goal
 
 pub returns-clause-stepped : goal.returns-clause-stepped

@@ -19,7 +19,7 @@ use Rattle.dali_trace.specs.Legal.{EndsAs}
 use Rattle.dali_writer.specs.Phases.{check_code}
 
 -- its journal, and what it is about to do
-pub record Held : Type 0 where
+pub record WriterState : Type 0 where
   pub journal : JournalState
   pub phase : Phase
 
@@ -53,17 +53,20 @@ IsAfterCheck order verdict phase = phase ≡ Says order.id (check_code verdict)
 abbrev pub IsFirst : Standing → Contents → ℕ → Phase → Type 0
 IsFirst (standings.Left unit) order moment phase =
     (s : Session) × (phase ≡ Closes order moment s) × (unit_of s ≡ unit) × IsClosing unit s × Told [] s
-IsFirst other order moment phase = phase ≡ Begins order moment
+IsFirst standings.Idle order moment phase = phase ≡ Begins order moment
+IsFirst (standings.Began other) order moment phase = phase ≡ Begins order moment
+IsFirst (standings.Opened other) order moment phase = phase ≡ Begins order moment
 
 -- what comes first where the journal stands so: an order that was begun is looked at anew, one that was opened is
--- carried out anew
+-- carried out anew, and a unit that was left waits for an order
 abbrev pub IsResumed : Standing → Phase → Type 0
 IsResumed (standings.Began order) phase =
     (s : Session) × (phase ≡ Checks order s) × IsFresh order s × Told [] s × AreUpdates order.updates
 IsResumed (standings.Opened order) phase =
     (s : Session) × (phase ≡ Writes order s) × IsOpened order s × Told [] s × AreUpdates order.updates
-IsResumed other phase = phase ≡ Idle
+IsResumed standings.Idle phase = phase ≡ Idle
+IsResumed (standings.Left unit) phase = phase ≡ Idle
 
 -- the writer is at rest: nothing is to be done, or it is as it was made from its journal
-abbrev pub IsAtRest : Held → Type 0
+abbrev pub IsAtRest : WriterState → Type 0
 IsAtRest w = (w.phase ≡ Idle) ⊎ IsResumed (standing_of w.journal.records) w.phase

@@ -2,3 +2,4 @@ pub mod ChainLemmas
 pub mod UnenabledLemmas
 pub mod WorkedFrameLemmas
 pub mod WorkedChainLemmas
+pub mod WorkedRelockLemmas

@@ -7,9 +7,9 @@ use Rattle.std.specs.List.{AllByRecursion}
 use Rattle.dali_frame.specs.declared.forward.Frame.{Frame}
 use Rattle.dali_frame.specs.declared.forward.Frame.TheVariants.{Dtr0, Dtr1, Dtr2, Write, WriteSilent, Enable, AskDtr0}
 use Rattle.dali_frame.specs.declared.forward.Frame.TheVariants.{AskDtr1, AskDtr2, Read, Other}
-use Rattle.dali_bus.specs.World.{Gear, World, byte_in, byte_at, is_open, SameAddresses}
+use Rattle.dali_bus.specs.World.{Gear, World, byte_in, byte_at, is_open, SameAddresses, IfThere}
 use Rattle.dali_bus.specs.Hears.{Obeys, MayEnd, PassesBy, Stores, Ignores, AnswersRegister}
-use Rattle.dali_bus.specs.Power.{relocked, PowersUp, MayPowerUp, LosesPower}
+use Rattle.dali_bus.specs.Power.{relocked, PowersUp, LosesPower}
 use Rattle.dali_bus.specs.Carry.{BusEvent, Carried, Powered, WorldStep, MayHear, HasLostPower}
 use Rattle.dali_bus.specs.Chain.{IsChain, AtEachMoment}
 use Rattle.dali_bus.specs.Unenabled.{NoneEnabled, MayEnable, EnablesNone, HoldsAsBefore, UnenabledMemoryStays}
@@ -149,7 +149,7 @@ unpowered : (at address : ℕ) (old new : Option Gear) → new ≡ old → Power
 unpowered at address old new same =
     rw same record { shut = λ off. off; some = refl; bytes = λ bank location. inl refl }
 
-powered_there : (at : ℕ) (old new : Option Gear) → MayPowerUp old new → PoweredAt at at old new
+powered_there : (at : ℕ) (old new : Option Gear) → IfThere PowersUp old new → PoweredAt at at old new
 powered_there at None None powers = unpowered at at None None refl
 powered_there at (Some old) (Some new) powers =
     record {
@@ -171,8 +171,8 @@ powered_at old address new loses at = by (at == address) refl
     by false e = unpowered at address (old at) (new at) (loses.others at (eqb-false at address e))
     by true e =
         let here : at ≡ address = eqb-true at address e in
-        let there : MayPowerUp (old at) (new at) =
-        subst (λ (a : ℕ). MayPowerUp (old a) (new a)) (sym here) loses.there in
+        let there : IfThere PowersUp (old at) (new at) =
+        subst (λ (a : ℕ). IfThere PowersUp (old a) (new a)) (sym here) loses.there in
         subst (λ (a : ℕ). PoweredAt at a (old at) (new at)) here (powered_there at (old at) (new at) there)
 
 -- the world at a moment: no unit is write-enabled, units are where they were first, and bytes as they may be

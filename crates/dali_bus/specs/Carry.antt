@@ -1,7 +1,7 @@
 -- What a bus may do to the units that it reaches, and what else may happen to them.
 use Rattle.std.specs.Prelude.{◌≡◌, ℕ, ◌⊎◌, List, [], ◌∷◌, Option, Some, None, ⊤}
 use Rattle.dali_frame.specs.declared.forward.Frame.{Frame}
-use Rattle.dali_bus.specs.World.{Gear, World}
+use Rattle.dali_bus.specs.World.{Gear, World, IfThere}
 use Rattle.dali_bus.specs.Hears.{Hears}
 use Rattle.dali_bus.specs.Power.{LosesPower}
 
@@ -11,10 +11,7 @@ Heard at old frame new = (answer : Option ℕ) × Hears at old frame answer new
 
 -- a unit didn't hear the frame and is as it was, or it heard the frame. No unit comes or goes
 abbrev pub MayHear : ℕ → Option Gear → Frame → Option Gear → Type 0
-MayHear at None frame None = ⊤
-MayHear at (Some old) frame (Some new) = (new ≡ old) ⊎ Heard at old frame new
-MayHear at None frame (Some new) = ⊥
-MayHear at (Some old) frame None = ⊥
+MayHear at old frame new = IfThere (λ before after. (after ≡ before) ⊎ Heard at before frame after) old new
 
 -- the byte is the answer of a unit that heard the frame
 pub record Answered (old : World) (frame : Frame) (byte : ℕ) (new : World) : Type 0 where

@@ -1,11 +1,16 @@
 -- What a loss of power does to a unit that gets it back, and to a world.
-use Rattle.std.specs.Prelude.{◌≡◌, ◌≢◌, ℕ, ◌≤◌, false, ◌⊎◌, Option, Some, None, ⊤}
-use Rattle.dali_bus.specs.World.{Gear, World}
+use Rattle.std.specs.Prelude.{◌≡◌, ◌≢◌, ℕ, ◌≤◌, false, ◌⊎◌, Option, Some, None}
+use Rattle.dali_bus.specs.World.{Gear, World, IfThere}
 
 -- a lock byte after power-up: FFh, where the place exists
 abbrev pub relocked : Option ℕ → Option ℕ
 relocked None = None
 relocked (Some byte) = Some 0xFF
+
+-- the byte is as it was; or its place is a lock byte, the unit has lost its power, and the byte is FFh since then
+abbrev pub MayRelock : Type 0 → ℕ → ℕ → Option ℕ → Option ℕ → Type 0
+MayRelock lost bank location old new =
+    (new ≡ old) ⊎ (lost × (1 ≤ bank) × (location ≡ 2) × (new ≡ relocked old))
 
 -- A unit after power-up: its registers are 0, it isn't write-enabled, and the lock byte of bank 1 is FFh. That of a
 -- bank from 2 up is FFh or as before. All else in its memory is as before, a bank 0 too.
@@ -19,14 +24,7 @@ pub record PowersUp (old new : Gear) : Type 0 where
       → (new.memory bank 2 ≡ relocked (old.memory bank 2)) ⊎ (new.memory bank 2 ≡ old.memory bank 2)
   pub rest : (bank location : ℕ) → (bank ≡ 0) ⊎ (location ≢ 2) → new.memory bank location ≡ old.memory bank location
 
--- the unit there, if one is: none comes or goes
-abbrev pub MayPowerUp : Option Gear → Option Gear → Type 0
-MayPowerUp None None = ⊤
-MayPowerUp (Some old) (Some new) = PowersUp old new
-MayPowerUp None (Some new) = ⊥
-MayPowerUp (Some old) None = ⊥
-
 -- The unit at the address loses its power and gets it back. Where there is none, nothing changes.
 pub record LosesPower (old : World) (address : ℕ) (new : World) : Type 0 where
-  pub there : MayPowerUp (old address) (new address)
+  pub there : IfThere PowersUp (old address) (new address)
   pub others : (other : ℕ) → other ≢ address → new other ≡ old other

@@ -1,10 +1,10 @@
 -- Memory that nothing can write: where no unit is write-enabled and none is told to be.
-use Rattle.std.specs.Prelude.{◌≡◌, ℕ, ◌≤◌, ◌⊎◌, false, List, IsSome, ⊤}
+use Rattle.std.specs.Prelude.{◌≡◌, ℕ, false, List, IsSome, ⊤}
 use Rattle.std.specs.List.{AllByRecursion}
 use Rattle.dali_frame.specs.declared.forward.Frame.{Frame}
 use Rattle.dali_frame.specs.declared.forward.Frame.TheVariants.{Enable, Other}
 use Rattle.dali_bus.specs.World.{World, is_enabled, byte_at}
-use Rattle.dali_bus.specs.Power.{relocked}
+use Rattle.dali_bus.specs.Power.{MayRelock}
 use Rattle.dali_bus.specs.Carry.{BusEvent, Carried, Powered, WorldStep, HasLostPower}
 use Rattle.dali_bus.specs.Chain.{IsChain, AtEachMoment}
 
@@ -27,9 +27,8 @@ EnablesNone world (Powered address) = ⊤
 abbrev pub HoldsAsBefore : World → List BusEvent → World → Type 0
 HoldsAsBefore first happened world =
     (address bank location : ℕ)
-    → (byte_at world address bank location ≡ byte_at first address bank location)
-    ⊎ (HasLostPower address happened × (1 ≤ bank) × (location ≡ 2)
-    × (byte_at world address bank location ≡ relocked (byte_at first address bank location)))
+    → MayRelock (HasLostPower address happened) bank location (byte_at first address bank location)
+    (byte_at world address bank location)
 
 -- Along each chain of worlds in which no unit is write-enabled at first and none is told to be, each place holds at
 -- each moment what it held at first, lock bytes apart where the unit lost power.

@@ -1,5 +1,5 @@
 -- The control gear that a bus reaches, as memory access sees it.
-use Rattle.std.specs.Prelude.{◌≡◌, ℕ, Bool, false, is_some, Option, Some, None, ◌&&◌, ◌==◌, if◌then◌else◌}
+use Rattle.std.specs.Prelude.{◌≡◌, ⊤, ℕ, Bool, false, is_some, Option, Some, None, ◌&&◌, ◌==◌, if◌then◌else◌}
 
 -- the byte at a location of a memory bank, by bank and location: none where the place doesn't exist
 abbrev pub Memory : Type 0
@@ -20,6 +20,13 @@ World = ℕ → Option Gear
 -- the memory with this byte at that place, and all else as it was
 abbrev pub stored : Memory → ℕ → ℕ → ℕ → Memory
 stored memory bank location byte b l = if (b == bank) && (l == location) then Some byte else memory b l
+
+-- no unit comes or goes at an address, and of one that is there this is so, before and after
+abbrev pub IfThere : (Gear → Gear → Type 0) → Option Gear → Option Gear → Type 0
+IfThere so None None = ⊤
+IfThere so (Some old) (Some new) = so old new
+IfThere so None (Some new) = ⊥
+IfThere so (Some old) None = ⊥
 
 -- the byte at a place of the unit, if there is a unit and it has the place
 abbrev pub byte_in : Option Gear → ℕ → ℕ → Option ℕ

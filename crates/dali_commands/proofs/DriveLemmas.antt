@@ -17,7 +17,7 @@ use Rattle.dali_trace.specs.Trace.{Start}
 use Rattle.dali_drive.specs.Transcript.{Streams}
 use Rattle.dali_commands.specs.declared.fault.Status.{Status}
 use Rattle.dali_commands.specs.declared.fault.Status.TheVariants.{Good, Unwritten}
-use Rattle.dali_commands.specs.DriveAnswers.{IsDriveAnswer, IsFaultTold, is_out, refused_lines, start_at}
+use Rattle.dali_commands.specs.DriveAnswers.{IsDriveAnswer, IsFaultTold, is_out, refused_lines}
 use Rattle.dali_commands.specs.declared.fault.Fault.TheVariants.{Drive}
 use Rattle.dali_commands.specs.Faults.{item_line, status_of, told_line}
 use Rattle.dali_text.proofs.StreamLemmas.{appends_both, appends_kept}
@@ -27,11 +27,11 @@ pub ends_well : (journal : JournalState) (made : WriterState) (orders : List Con
     (first last : Streams) (writer : WriterState)
     (status : Status)
     → made.journal ≡ journal
-    → IsDrive (start_of made) orders moment first writer last → status ≡ Good
-    → IsDriveAnswer (start_at journal) orders moment first status last
+    → IsDrive (start_of made.journal) orders moment first writer last → status ≡ Good
+    → IsDriveAnswer (start_of journal) orders moment first status last
 ends_well journal made orders moment first last writer status is driven good = inl (record {
   writer = writer;
-  driven = subst (λ (start : Start). IsDrive start orders moment first writer last) (ap start_at is) driven;
+  driven = subst (λ (j : JournalState). IsDrive (start_of j) orders moment first writer last) is driven;
   status_is = good;
 })
 
@@ -40,14 +40,14 @@ pub ends_broken : (journal : JournalState) (made : WriterState) (orders : List C
     (first last : Streams)
     (replies : Option (List ℕ)) (fault : DriveFault) (status : Status)
     → made.journal ≡ journal
-    → IsBrokenDrive (start_of made) orders moment fault first (record last { out = replies })
-    → IsFaultTold fault status replies last.out → IsDriveAnswer (start_at journal) orders moment first status last
+    → IsBrokenDrive (start_of made.journal) orders moment fault first (record last { out = replies })
+    → IsFaultTold fault status replies last.out → IsDriveAnswer (start_of journal) orders moment first status last
 ends_broken journal made orders moment first last replies fault status is broken told = inr (record {
   fault = fault;
   replies = replies;
   broken =
-      subst (λ (start : Start). IsBrokenDrive start orders moment fault first (record last { out = replies }))
-      (ap start_at is) broken;
+      subst (λ (j : JournalState). IsBrokenDrive (start_of j) orders moment fault first (record last { out = replies }))
+      is broken;
   told = told;
 })
 

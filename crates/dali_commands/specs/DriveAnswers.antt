@@ -46,10 +46,6 @@ HasNoJournal before after fault =
 
 -- ---- the drive
 
--- the records and the limit of a journal
-abbrev pub start_at : JournalState → Start
-start_at journal = record { records = journal.records; limit = journal.limit }
-
 -- the fault is that the replies can't be written
 abbrev pub is_out : DriveFault → Bool
 is_out Out = true

@@ -2,7 +2,8 @@ ghost use Rattle.std.specs.Prelude.{◌≡◌, ◌≢◌, ◌↔◌, IfOk, IfErr
 ghost use Rattle.dali_drive.specs.Transcript.{shown};
 ghost use Rattle.dali_text.specs.Output.{TellsFailure, Takes, has_failed, held, is_flushed};
 ghost use Rattle.dali_commands.specs.Ends.{TellsEnd};
-ghost use Rattle.dali_commands.specs.DriveAnswers.{IsDriveAnswer, IsFaultTold, is_out, refused_lines, start_at};
+ghost use Rattle.dali_writer.specs.WriterState.{start_of};
+ghost use Rattle.dali_commands.specs.DriveAnswers.{IsDriveAnswer, IsFaultTold, is_out, refused_lines};
 
 use crate::fault::{Fault, Status};
 use crate::fault_lines::{drive_line, write_refused_item};
@@ -32,7 +33,7 @@ pub fn drive_over<I: Source, L: Sink, J: Sink, W: Write>(
     requires link_out { L.failed link_out.old ≡ false }
     requires link_in { I.failed link_in.old ≡ false }
     requires lines { has_failed lines.old.output ≡ false }
-    ensures answer { IsDriveAnswer (start_at journal) orders.now moment
+    ensures answer { IsDriveAnswer (start_of journal) orders.now moment
         (shown (J.held journal_out.old) (L.held link_out.old) (I.left link_in.old) (held W.contents lines.old.output))
         result
         (shown (J.held journal_out.new) (L.held link_out.new) (I.left link_in.new) (held W.contents lines.new.output)) }

@@ -16,7 +16,7 @@ use Rattle.dali_trace.specs.declared.happening.Happening.TheVariants.{Asked, Ans
 use Rattle.dali_drive.specs.declared.fault.DriveFault.{DriveFault}
 use Rattle.dali_drive.specs.declared.fault.DriveFault.TheVariants.{Journal, Link, Line, End, NoMemory, TooLong, Out}
 use Rattle.dali_trace.specs.Trace.{Start, is_busy}
-use Rattle.dali_trace.specs.Replies.{IsReply}
+use Rattle.dali_trace.specs.Replies.{IsReply, reply_line}
 use Rattle.dali_trace.specs.Legal.{Legal, IsFinished}
 use Rattle.dali_trace.specs.ByPlan.{ByPlan}
 use Rattle.dali_trace.specs.Next.{IsNext}
@@ -24,7 +24,7 @@ use Rattle.dali_writer.specs.WriterState.{WriterState}
 use Rattle.dali_writer.specs.Describes.{Describes}
 use Rattle.dali_writer.specs.Follows.{Follows}
 use Rattle.dali_drive.specs.WorkedOn.{IsDrivenAt}
-use Rattle.dali_drive.specs.Lines.{link_line, reply_line, TakesLine}
+use Rattle.dali_drive.specs.Lines.{link_line, TakesLine}
 use Rattle.dali_drive.specs.Transcript.{Streams, Transcript, shown}
 use Rattle.dali_drive.specs.Driven.{at_moment, IsInTurn, KeepsRecords, IsDriven, IsNextFrame, BrokenOff, AppendsPart}
 

@@ -17,7 +17,8 @@ use Rattle.dali_trace.specs.declared.happening.Happening.TheVariants.{Asked, Sen
 use Rattle.dali_drive.specs.declared.fault.DriveFault.TheVariants as faults
 use Rattle.dali_frame.specs.declared.fault.LineFault.{LineFault}
 use Rattle.dali_trace.specs.Next.{IsNext}
-use Rattle.dali_drive.specs.Lines.{reply_line, IsAnswerLine}
+use Rattle.dali_drive.specs.Lines.{IsAnswerLine}
+use Rattle.dali_trace.specs.Replies.{reply_line}
 use Rattle.dali_drive.specs.Transcript.{Streams}
 use Rattle.dali_drive.specs.Driven.{IsDriven, BrokenOff, IsInTurn, NoneFailed, FailedAs}
 use Rattle.dali_drive.specs.Faults.{drive_number}

@@ -16,14 +16,14 @@ use Rattle.dali_drive.specs.declared.fault.DriveFault.TheVariants.{Journal, Link
 use Rattle.std.specs.List.{AllByRecursion}
 use Rattle.dali_trace.specs.Cut.{kept_in}
 use Rattle.dali_trace.specs.Trace.{Start, is_busy}
-use Rattle.dali_trace.specs.Replies.{IsReply}
+use Rattle.dali_trace.specs.Replies.{IsReply, reply_line}
 use Rattle.dali_trace.specs.Legal.{Legal, IsFinished}
 use Rattle.dali_trace.specs.ByPlan.{ByPlan}
 use Rattle.dali_trace.specs.Next.{IsNext}
 use Rattle.dali_writer.specs.WriterState.{WriterState}
 use Rattle.dali_writer.specs.Describes.{Describes}
 use Rattle.dali_writer.specs.Follows.{Follows}
-use Rattle.dali_drive.specs.Lines.{link_line, reply_line, TakesLine}
+use Rattle.dali_drive.specs.Lines.{link_line, TakesLine}
 use Rattle.dali_drive.specs.Transcript.{Streams, Transcript}
 
 -- the orders that were asked, each with its moment, the newest first

@@ -1,6 +1,6 @@
--- The lines that are written and read while a writer is driven: of frames, of replies, and of answers.
-use Rattle.std.specs.Prelude.{◌≡◌, ◌≢◌, ◌≤◌, ◌++◌, ℕ, List, [], ◌∷◌, Option, Result, Ok, Err, length, All, codes}
-use Rattle.std.specs.Prelude.{decimal}
+-- The lines that are written and read while a writer is driven: of frames and of answers. That of a reply is
+-- `reply_line` of `dali_trace`.
+use Rattle.std.specs.Prelude.{◌≡◌, ◌≢◌, ◌≤◌, ◌++◌, ℕ, List, [], ◌∷◌, Option, Result, Ok, Err, length, All}
 use Rattle.std.specs.Io.BufRead.{strip_last}
 use Rattle.std.specs.Io.KnownBytes.{Consumes, IsAtEnd}
 use Rattle.dali_frame.specs.declared.forward.Frame.{Frame}
@@ -8,16 +8,10 @@ use Rattle.dali_frame.specs.Frame.{frame_word}
 use Rattle.dali_frame.specs.Line.{word_line, SpellsAnswer, IsLineFault}
 use Rattle.dali_drive.specs.declared.fault.DriveFault.{DriveFault}
 use Rattle.dali_drive.specs.declared.fault.DriveFault.TheVariants.{Link, Line, End, TooLong}
-use Rattle.dali_trace.specs.declared.happening.Reply.{Reply}
-use Rattle.dali_trace.specs.Replies.{reply_text}
 
 -- the line of a frame: the four upper-case hexadecimal digits of its word
 abbrev pub link_line : Frame → List ℕ
 link_line frame = word_line (frame_word frame)
-
--- the line of a reply to the order of this number, or of a saying
-abbrev pub reply_line : ℕ → Reply → List ℕ
-reply_line id reply = codes "reply " ++ decimal id ++ codes " " ++ reply_text reply ++ codes "\n"
 
 -- no line feed stands in it
 abbrev pub IsInLine : List ℕ → Type 0

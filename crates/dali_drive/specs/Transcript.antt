@@ -6,7 +6,8 @@ use Rattle.dali_journal.specs.Spelling.{records_spelling}
 use Rattle.dali_trace.specs.declared.happening.Happening.{Happening}
 use Rattle.dali_trace.specs.declared.happening.Happening.TheVariants.{Answered, Sent}
 use Rattle.dali_trace.specs.Cut.{kept_in}
-use Rattle.dali_drive.specs.Lines.{link_line, reply_line, IsAnswerLine}
+use Rattle.dali_drive.specs.Lines.{link_line, IsAnswerLine}
+use Rattle.dali_trace.specs.Replies.{reply_line}
 
 -- the bytes of the records that were kept
 abbrev pub recorded : List Happening → List ℕ

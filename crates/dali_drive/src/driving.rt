@@ -123,13 +123,13 @@ pub fn drive<I: Source, L: Sink, J: Sink, O: Sink>(
     requires link_out { L.failed link_out.old ≡ false }
     requires link_in { I.failed link_in.old ≡ false }
     requires out { O.failed out.old ≡ false }
-    ensures driven { IfOk result (λ driven. IsDrive (start_of writer) orders.now moment
+    ensures driven { IfOk result (λ driven. IsDrive (start_of writer.journal) orders.now moment
         (shown (J.held journal_out.old) (L.held link_out.old) (I.left link_in.old) (O.held out.old))
         driven (shown (J.held journal_out.new) (L.held link_out.new) (I.left link_in.new) (O.held out.new))) }
     ensures rests { IfOk result IsAtRest }
     ensures ok { OnOk result
         (NoneFailed (J.failed journal_out.new) (L.failed link_out.new) (I.failed link_in.new) (O.failed out.new)) }
-    ensures broken { IfErr result (λ fault. IsBrokenDrive (start_of writer) orders.now moment fault
+    ensures broken { IfErr result (λ fault. IsBrokenDrive (start_of writer.journal) orders.now moment fault
         (shown (J.held journal_out.old) (L.held link_out.old) (I.left link_in.old) (O.held out.old))
         (shown (J.held journal_out.new) (L.held link_out.new) (I.left link_in.new) (O.held out.new))) }
     ensures err { IfErr result (λ fault.
@@ -165,13 +165,13 @@ fn drive_all<I: Source, L: Sink, J: Sink, O: Sink>(
     requires link_out { L.failed link_out.old ≡ false }
     requires link_in { I.failed link_in.old ≡ false }
     requires out { O.failed out.old ≡ false }
-    ensures driven { OnOk result (IsDrive (start_of writer.old) orders.now moment
+    ensures driven { OnOk result (IsDrive (start_of writer.old.journal) orders.now moment
         (shown (J.held journal_out.old) (L.held link_out.old) (I.left link_in.old) (O.held out.old))
         writer.new (shown (J.held journal_out.new) (L.held link_out.new) (I.left link_in.new) (O.held out.new))) }
     ensures rests { OnOk result (IsAtRest writer.new) }
     ensures ok { OnOk result
         (NoneFailed (J.failed journal_out.new) (L.failed link_out.new) (I.failed link_in.new) (O.failed out.new)) }
-    ensures broken { IfErr result (λ fault. IsBrokenDrive (start_of writer.old) orders.now moment fault
+    ensures broken { IfErr result (λ fault. IsBrokenDrive (start_of writer.old.journal) orders.now moment fault
         (shown (J.held journal_out.old) (L.held link_out.old) (I.left link_in.old) (O.held out.old))
         (shown (J.held journal_out.new) (L.held link_out.new) (I.left link_in.new) (O.held out.new))) }
     ensures err { IfErr result (λ fault.

@@ -3,7 +3,8 @@ ghost use Rattle.std.specs.Prelude.{◌≡◌, ◌||◌, ◌+◌, ◌≤◌, ◌
 ghost use Rattle.std.specs.Io.BufRead.{strip_last};
 ghost use Rattle.arrayvec.specs.ArrayVec.{array_vec_len};
 ghost use Rattle.dali_frame.specs.Line.{SpellsAnswer, IsLineFault};
-ghost use Rattle.dali_drive.specs.Lines.{reply_line, TakesLine};
+ghost use Rattle.dali_drive.specs.Lines.{TakesLine};
+ghost use Rattle.dali_trace.specs.Replies.{reply_line};
 ghost use Rattle.dali_drive.specs.Driven.{is_link_failure};
 
 use crate::fault::DriveFault;

@@ -1,6 +1,7 @@
 -- What becomes of a frame on the simulated bus.
-use Rattle.std.specs.Prelude.{ℕ, Bool, false, ◌==◌, List, [], ◌∷◌}
+use Rattle.std.specs.Prelude.{ℕ, Bool, false, ◌==◌, List}
 use Rattle.std.specs.Int.{bit_at}
+use Rattle.std.specs.Prelude.{get_or}
 use Rattle.dali_gear.specs.declared.fate.Fate.{Fate}
 
 -- every unit hears the frame, none refuses, and the answer comes through
@@ -13,10 +14,4 @@ is_lost fate address = bit_at fate.lost address == 1
 
 -- the fate of the next frame: where all are used up, frames go through whole
 abbrev pub next_fate : List Fate → Fate
-next_fate [] = whole
-next_fate (fate ∷ fates) = fate
-
--- the fates that are left after it
-abbrev pub fates_after : List Fate → List Fate
-fates_after [] = []
-fates_after (fate ∷ fates) = fates
+next_fate fates = get_or fates 0 whole

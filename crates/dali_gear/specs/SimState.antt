@@ -1,9 +1,10 @@
 -- What the simulated bus holds, and what it does with each frame and at a loss of power.
 use Rattle.std.specs.Prelude.{◌≡◌, ℕ, ◌==◌, List, [], ◌∷◌, map, length, slice_get, Option, Some, None, ⊤, if◌then◌else◌}
-use Rattle.std.specs.List.{filter_map}
+use Rattle.std.specs.List.{filter_map, AllByRecursion}
+use Rattle.std.specs.Prelude.{drop}
 use Rattle.dali_frame.specs.declared.forward.Frame.{Frame}
 use Rattle.dali_gear.specs.declared.fate.Fate.{Fate}
-use Rattle.dali_gear.specs.Fate.{is_lost, next_fate, fates_after}
+use Rattle.dali_gear.specs.Fate.{is_lost, next_fate}
 use Rattle.dali_gear.specs.UnitState.{UnitState, after_frame, answer_to, gear_of, powered_up}
 use Rattle.dali_gear.specs.Faults.{IsBank}
 use Rattle.dali_bus.specs.World.{World}
@@ -26,8 +27,7 @@ AreApart (unit ∷ units) = (world_of units unit.address ≡ None) × AreApart u
 
 -- bank 1 of each of the units has bytes that it may have
 abbrev pub AreBanks : List UnitState → Type 0
-AreBanks [] = ⊤
-AreBanks (unit ∷ units) = IsBank unit.bank1.bytes × AreBanks units
+AreBanks units = AllByRecursion (λ unit. IsBank unit.bank1.bytes) units
 
 -- a unit after a frame of this fate
 abbrev pub unit_after : Fate → Frame → UnitState → UnitState
@@ -50,7 +50,7 @@ pub record SimCarry (old : SimState) (frame : Frame) (answer : Option ℕ) (new 
   pub apart : AreApart old.units
   pub banks : AreBanks old.units
   pub units : new.units ≡ map (unit_after (next_fate old.fates) frame) old.units
-  pub fates : new.fates ≡ fates_after old.fates
+  pub fates : new.fates ≡ drop 1 old.fates
   pub answers : answer
       ≡ bus_answer (next_fate old.fates) (filter_map (unit_answer (next_fate old.fates) frame) old.units)
 

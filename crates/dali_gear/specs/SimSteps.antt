@@ -16,8 +16,8 @@ use Rattle.dali_gear.specs.UnitState.{gear_of, powered_up}
 use Rattle.dali_bus.specs.Hears.{Hears, up}
 use Rattle.dali_gear.specs.SimState.{SimState, SimCarry, SimStep, world_of, AreApart, unit_after, unit_answer}
 use Rattle.dali_gear.specs.SimState.{bus_answer, unit_powered}
-use Rattle.dali_bus.specs.World.{Gear}
-use Rattle.dali_bus.specs.Power.{LosesPower, MayPowerUp}
+use Rattle.dali_bus.specs.World.{Gear, IfThere}
+use Rattle.dali_bus.specs.Power.{LosesPower, PowersUp}
 use Rattle.dali_bus.specs.Carry.{BusEvent, Carried, Powered, WorldStep, Carry, MayHear, Answered, MayAnswer}
 use Rattle.dali_gear.specs.UnitHears.{unit_hears, unit_powers_up}
 
@@ -219,15 +219,15 @@ power_keeps address unit =
 
 -- the unit at the address, if it is among these
 powered_there : (address : ℕ) (units : List UnitState)
-    → MayPowerUp (world_of units address) (world_of (map (unit_powered address) units) address)
+    → IfThere PowersUp (world_of units address) (world_of (map (unit_powered address) units) address)
 powered_there address [] = tt
 powered_there address (unit ∷ units) =
     rw (power_keeps address unit)
     (by (unit.address == address) (address == unit.address) refl refl (powered_there address units))
   where
     by : (mine same : Bool) → (unit.address == address) ≡ mine → (address == unit.address) ≡ same
-        → MayPowerUp (world_of units address) (world_of (map (unit_powered address) units) address)
-        → MayPowerUp (if same then Some (gear_of unit) else world_of units address)
+        → IfThere PowersUp (world_of units address) (world_of (map (unit_powered address) units) address)
+        → IfThere PowersUp (if same then Some (gear_of unit) else world_of units address)
         (if same
         then Some (gear_of (if mine then powered_up unit else unit))
         else world_of (map (unit_powered address) units) address)

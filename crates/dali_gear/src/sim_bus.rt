@@ -1,7 +1,8 @@
 ghost use Rattle.std.specs.Prelude.{◌≡◌, ◌↔◌, map, length, if◌then◌else◌, IfOk, IsOk, IsTrue, IfErr};
 ghost use Rattle.std.specs.List.{filter_map};
 ghost use Rattle.std.specs.Vec.Iter.{into_iter_items};
-ghost use Rattle.dali_gear.specs.Fate.{next_fate, fates_after};
+ghost use Rattle.std.specs.Prelude.{drop};
+ghost use Rattle.dali_gear.specs.Fate.{next_fate};
 ghost use Rattle.dali_gear.specs.SimState.{unit_after, unit_answer, only_answer, unit_powered, AreApart, AreBanks};
 ghost use Rattle.dali_gear.specs.SimState.{world_of};
 
@@ -126,7 +127,7 @@ pub fn is_free(units: &[Unit], address: u8) -> bool
 // The next frame's fate, which is then used up.
 fn take_fate(fates: &mut IntoIter<Fate, Global>) -> Fate
     ensures fate { result ≡ next_fate (into_iter_items fates.old) }
-    ensures after { into_iter_items fates.new ≡ fates_after (into_iter_items fates.old) }
+    ensures after { into_iter_items fates.new ≡ drop 1 (into_iter_items fates.old) }
 {
     fates.next().unwrap_or_default()
 }

@@ -9,7 +9,7 @@ use Rattle.dali_frame.specs.declared.forward.Frame.TheVariants.{AskDtr1, AskDtr2
 use Rattle.dali_bus.specs.World.{World, Gear, byte_at, is_open, is_enabled}
 use Rattle.dali_bank.specs.Order.{Contents, update_at}
 use Rattle.dali_bus.specs.Carry.{Carry}
-use Rattle.dali_bus.specs.Power.{relocked, LosesPower}
+use Rattle.dali_bus.specs.Power.{relocked, LosesPower, MayRelock}
 use Rattle.dali_bus.proofs.UnenabledLemmas.{powered_at, relocked_twice}
 use Rattle.dali_journal.specs.declared.kept.Progress.{Progress}
 use Rattle.dali_journal.specs.declared.record.Record.{Record}
@@ -18,9 +18,9 @@ use Rattle.dali_journal.specs.declared.standing.Standing.TheVariants as standing
 use Rattle.dali_journal.specs.Sentence.{standing_of, named_unit, IsSentence}
 use Rattle.dali_journal.specs.Orders.{orders_of}
 use Rattle.dali_write.specs.Reads.{IsPassive}
-use Rattle.dali_write.specs.Worlds.{IsAmong, MayRelock, IsOff, OnlyEnabled}
+use Rattle.dali_write.specs.Worlds.{IsAmong, OnlyEnabled}
 use Rattle.dali_write.specs.Touches.{Has}
-use Rattle.dali_write.proofs.GearLemmas.{StaysAt, carry_stays, off_where, same_byte, dtr1_in}
+use Rattle.dali_write.proofs.GearLemmas.{StaysAt, carry_stays, same_byte, dtr1_in, IsOff}
 use Rattle.dali_write.proofs.PowerLemmas.{relock_then, after_power}
 use Rattle.dali_write.proofs.StillReadLemmas.{passive_quiet}
 use Rattle.dali_write.proofs.PutLemmas.{NowOldOrNew, Puts, enable_safe, guarded_safe}
@@ -39,7 +39,7 @@ pub record IsFine (zero : World) (records : List Record) (lost : List ℕ) (now 
   pub only : OnlyNamed records now
 
 off_unless : (gear : Option Gear) → (is_open gear ≡ true → ⊥) → IsOff gear
-off_unless None never = tt
+off_unless None never = refl
 off_unless (Some gear) never = by gear.enabled refl where
   by : (on : Bool) → gear.enabled ≡ on → gear.enabled ≡ false
   by true e = absurd (never e)
@@ -54,7 +54,7 @@ was_open : (old new : Option Gear) → (IsOff old → IsOff new) → is_open new
 was_open old new keeps on = by (is_open old) refl where
   by : (was : Bool) → is_open old ≡ was → is_open old ≡ true
   by true e = e
-  by false e = absurd (not_both new (keeps (off_where old e)) on)
+  by false e = absurd (not_both new (keeps e) on)
 
 -- no unit but the named one is enabled
 others_off : (records : List Record) (unit : ℕ) (now : World) → named_unit (standing_of records) ≡ Some unit

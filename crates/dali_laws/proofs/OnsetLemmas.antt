@@ -18,13 +18,14 @@ use Rattle.dali_write.specs.declared.ask.Verdict.{Verdict}
 use Rattle.dali_write.specs.declared.ask.Verdict.TheVariants as verdicts
 use Rattle.dali_write.specs.Plans.{read_length, unlock, close}
 use Rattle.dali_write.specs.Tries.{Wants}
-use Rattle.dali_write.specs.Worlds.{IsAmong, IsOff}
+use Rattle.dali_write.specs.Worlds.{IsAmong}
+use Rattle.dali_write.proofs.GearLemmas.{IsOff}
 use Rattle.dali_write.specs.Successes.{HasBank}
 use Rattle.dali_write.proofs.NextLemmas.{none_ended}
 use Rattle.dali_write.proofs.SuccessLemmas.{starts_whole}
 use Rattle.dali_trace.specs.declared.happening.Reply.TheVariants as replies
 use Rattle.dali_trace.specs.declared.happening.Happening.{Happening}
-use Rattle.dali_trace.specs.declared.happening.Happening.TheVariants.{Asked, Answered, Sent, Kept, Stopped, Powered}
+use Rattle.dali_trace.specs.declared.happening.Happening.TheVariants.{Asked, Answered, Kept, Stopped}
 use Rattle.dali_trace.specs.WhenKept.{TellsTruth}
 use Rattle.dali_journal.specs.declared.standing.Standing.TheVariants as standings
 use Rattle.dali_trace.specs.Trace.{Start, records_of, standing_at, powered_of, sent_since_taken, waiting, has_ended}
@@ -139,7 +140,7 @@ at_start holds start (_ ∷ past) last (state ∷ states) legal each =
 -- no unit but the named one is on
 off_or_named : (o : Option Gear) (left : Option ℕ) (address : ℕ) → left ≢ Some address
     → (is_open o ≡ true → left ≡ Some address) → IsOff o
-off_or_named None left address other named = tt
+off_or_named None left address other named = refl
 off_or_named (Some gear) left address other named = by gear.enabled refl named
   where
     by : (b : Bool) → gear.enabled ≡ b → (gear.enabled ≡ true → left ≡ Some address) → gear.enabled ≡ false

@@ -2,6 +2,7 @@
 use Rattle.std.proofs.Common.{◌≡◌, ◌⊎◌, inl, inr, refl, sym, ap, subst, ◌∙◌, ℕ, Bool, true, false, ◌==◌, List, [], ◌∷◌}
 use Rattle.std.proofs.Common.{Option, Some, None}
 use Rattle.std.proofs.lemmas.Bool.{eqb-true}
+use Rattle.std.specs.List.{AllByRecursion}
 use Rattle.dali_bank.specs.Order.{Contents, update_at}
 use Rattle.dali_bus.specs.World.{World, byte_at, byte_in, is_open, is_enabled}
 use Rattle.dali_journal.specs.declared.record.Code.TheVariants.{Done, Short, Format, Silent, Doubt, DoubtOpen}
@@ -13,10 +14,10 @@ use Rattle.dali_journal.specs.declared.kept.Progress.{Progress}
 use Rattle.dali_journal.specs.declared.kept.Progress.TheVariants as reached
 use Rattle.dali_journal.specs.Sentence.{Allows, next_standing, standing_of, named_unit}
 use Rattle.dali_journal.specs.Orders.{orders_of, come_to}
-use Rattle.dali_write.specs.Findings.{ShowsAll, IsWritten}
-use Rattle.dali_write.specs.Worlds.{IsAmong, MayRelock, Shows}
+use Rattle.dali_write.specs.Findings.{IsWritten}
+use Rattle.dali_write.specs.Worlds.{IsAmong, Shows}
+use Rattle.dali_bus.specs.Power.{MayRelock}
 use Rattle.dali_write.specs.declared.ask.Verdict.{Verdict}
-use Rattle.dali_write.specs.declared.ask.Verdict.TheVariants as verdicts
 use Rattle.dali_write.proofs.RestLemmas.{Shown, rests_on_too}
 use Rattle.dali_trace.specs.Grounds.{verdict_of, IsSeen, RestsIfAny, Grounds}
 use Rattle.dali_trace.specs.Possible.{Applied, Untouched, InDoubt, byte_for, MayHold, IsPossible}
@@ -42,7 +43,8 @@ not_lock lost location old new other (inl same) = same
 not_lock lost location old new other (inr relocks) = absurd (other relocks.2)
 
 -- what all updates show, the one for a location shows
-at_update : (P : ℕ → ℕ → Type 0) (updates : List (ℕ × ℕ)) (location byte : ℕ) → ShowsAll P updates
+at_update : (P : ℕ → ℕ → Type 0) (updates : List (ℕ × ℕ)) (location byte : ℕ)
+    → AllByRecursion (λ update. P update.0 update.1) updates
     → update_at updates location ≡ Some byte → P location byte
 at_update P [] location byte all e = cc
 at_update P (update ∷ updates) location byte all e =

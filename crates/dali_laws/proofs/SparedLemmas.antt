@@ -22,8 +22,9 @@ use Rattle.dali_write.specs.declared.ask.Verdict.{Verdict}
 use Rattle.dali_write.specs.declared.ask.Verdict.TheVariants as verdicts
 use Rattle.dali_write.specs.Plans.{greatest, read_length, unlock, close}
 use Rattle.dali_write.specs.Tries.{most_tries, Wants}
-use Rattle.dali_write.specs.Worlds.{IsOff, OnlyEnabled}
-use Rattle.dali_write.specs.Losses.{IsAlone, OnlyDiffers, losses}
+use Rattle.dali_write.specs.Worlds.{OnlyEnabled}
+use Rattle.dali_write.proofs.GearLemmas.{IsOff}
+use Rattle.dali_write.specs.Losses.{IsAlone, OnlyDiffers}
 use Rattle.dali_write.specs.Misses.{misses_in}
 use Rattle.dali_write.specs.Successes.{HasBank, TakesAll, has_format, found_verdict}
 use Rattle.dali_write.proofs.RunLemmas.{sim_run}

@@ -7,7 +7,7 @@ use Rattle.dali_frame.specs.Hex.{byte_digits, word_digits}
 use Rattle.dali_gear.specs.UnitState.{UnitState}
 use Rattle.dali_trace.specs.declared.happening.Happening.{Happening}
 use Rattle.dali_trace.specs.declared.happening.Happening.TheVariants.{Asked, Answered, Sent, Kept, Stopped, Powered}
-use Rattle.dali_trace.specs.Replies.{reply_text}
+use Rattle.dali_trace.specs.Replies.{reply_line}
 use Rattle.dali_text.specs.RecordText.{record_text}
 use Rattle.dali_text.specs.UnitLines.{unit_text}
 
@@ -21,7 +21,7 @@ answer_text (Some byte) = byte_digits byte
 -- a happening by itself
 abbrev pub happening_line : Happening → List ℕ
 happening_line (Asked order moment) = codes "ask " ++ decimal order.id ++ codes "\n"
-happening_line (Answered id reply) = codes "reply " ++ decimal id ++ codes " " ++ reply_text reply ++ codes "\n"
+happening_line (Answered id reply) = reply_line id reply
 happening_line (Sent frame answer) =
     codes "send " ++ word_digits (frame_word frame) ++ codes " " ++ answer_text answer ++ codes "\n"
 happening_line (Kept entry) = codes "keep " ++ record_text entry ++ codes "\n"

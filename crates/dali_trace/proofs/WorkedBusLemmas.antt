@@ -4,11 +4,12 @@ use Rattle.std.proofs.Common.{List, [], ◌∷◌, Option, Some, None}
 use Rattle.std.proofs.lemmas.Bool.{eqb-true}
 use Rattle.std.specs.Prelude.{replicate}
 use Rattle.std.specs.List.{filter_map}
+use Rattle.std.specs.Prelude.{drop}
 use Rattle.dali_bus.specs.Chain.{IsChain}
 use Rattle.dali_bus.specs.World.{is_open, byte_in}
 use Rattle.dali_bus.specs.Unenabled.{NoneEnabled}
 use Rattle.dali_gear.specs.declared.fate.Fate.{Fate}
-use Rattle.dali_gear.specs.Fate.{next_fate, fates_after}
+use Rattle.dali_gear.specs.Fate.{next_fate}
 use Rattle.dali_gear.specs.SimState.{SimState, SimStep, AreApart, AreBanks, unit_answer, bus_answer, world_of}
 use Rattle.dali_gear.specs.SimSteps.{fate_keeps, power_keeps}
 use Rattle.dali_gear.specs.UnitState.{UnitState, gear_of}
@@ -99,7 +100,7 @@ not_refused fate kind = by fate.refuse kind
     by false kind = refl
 
 next_kind : (fates : List Fate) → none_refuse fates ≡ true
-    → ((next_fate fates).refuse ≡ false) × (none_refuse (fates_after fates) ≡ true)
+    → ((next_fate fates).refuse ≡ false) × (none_refuse (drop 1 fates) ≡ true)
 next_kind [] kind = (refl, refl)
 next_kind (fate ∷ fates) kind =
     let both = both_true (not fate.refuse) (none_refuse fates) kind in (not_refused fate both.0, both.1)

@@ -1,6 +1,7 @@
 -- The worked traces are legal, and what may not happen on the way isn't.
 use Rattle.std.proofs.Common.{◌≡◌, inl, inr, refl, sym, ap, ℕ, List, [], ◌∷◌, Option, Some, None, arith}
 use Rattle.std.specs.Prelude.{◌≢◌}
+use Rattle.std.specs.List.{AllByRecursion}
 use Rattle.dali_frame.specs.declared.forward.Frame.{Frame}
 use Rattle.dali_frame.specs.declared.forward.Frame.TheVariants.{Dtr0, Dtr1, Enable, AskDtr0, AskDtr1, Read}
 use Rattle.dali_bus.specs.Hears.{up}
@@ -8,7 +9,6 @@ use Rattle.dali_bank.specs.Order.{Contents, update_at}
 use Rattle.dali_journal.specs.declared.standing.Standing.{Standing}
 use Rattle.dali_journal.specs.declared.standing.Standing.TheVariants as standings
 use Rattle.dali_journal.specs.Sentence.{named_unit}
-use Rattle.dali_write.specs.Findings.{ShowsAll}
 use Rattle.dali_write.specs.Reads.{StillRead}
 use Rattle.dali_write.proofs.EndLemmas.{selects_by, reads_by}
 use Rattle.dali_trace.specs.declared.happening.Happening.{Happening}
@@ -137,7 +137,7 @@ reads_behind unit location byte (update ∷ updates) other past stands =
     (behind_read past unit location byte other update.0 update.1 stands)
 
 pub reads_stand : (unit : ℕ) (updates : List (ℕ × ℕ)) (past : List Happening)
-    → ShowsAll (StillRead (sent_of (reads_of unit updates past)) unit) updates
+    → AllByRecursion (λ update. StillRead (sent_of (reads_of unit updates past)) unit update.0 update.1) updates
 reads_stand unit [] past = tt
 reads_stand unit (update ∷ updates) past = (
   reads_behind unit update.0 update.1 updates unit (read_at unit update.0 update.1 past)

@@ -11,7 +11,8 @@ use Rattle.dali_journal.specs.declared.standing.Standing.{Standing}
 use Rattle.dali_journal.specs.declared.standing.Standing.TheVariants as standings
 use Rattle.dali_journal.specs.Sentence.{named_unit}
 use Rattle.dali_write.specs.Findings.{IsWritten}
-use Rattle.dali_write.specs.Worlds.{IsAmong, MayRelock}
+use Rattle.dali_write.specs.Worlds.{IsAmong}
+use Rattle.dali_bus.specs.Power.{MayRelock}
 use Rattle.dali_trace.specs.declared.happening.Happening.TheVariants.{Kept, Powered}
 use Rattle.dali_trace.specs.Possible.{IsPossible, IsSettled, applied}
 use Rattle.dali_trace.specs.Fits.{HasBeenOpened, IsLockByte, Fits, OnlyNamed, IsApplied}

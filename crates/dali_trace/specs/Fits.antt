@@ -5,7 +5,8 @@ use Rattle.dali_journal.specs.declared.record.Record.{Record}
 use Rattle.dali_journal.specs.declared.record.Record.TheVariants.{Opened}
 use Rattle.dali_journal.specs.Sentence.{standing_of, named_unit}
 use Rattle.dali_journal.specs.Orders.{orders_of}
-use Rattle.dali_write.specs.Worlds.{IsAmong, MayRelock}
+use Rattle.dali_write.specs.Worlds.{IsAmong}
+use Rattle.dali_bus.specs.Power.{MayRelock}
 use Rattle.dali_trace.specs.Possible.{IsPossible, IsSettled, applied}
 
 -- a unit was opened

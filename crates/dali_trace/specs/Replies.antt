@@ -61,3 +61,7 @@ reply_text replies.IdReused = codes "reused"
 reply_text replies.Busy = codes "busy"
 reply_text replies.Full = codes "full"
 reply_text (replies.Blocked unit) = codes "blocked " ++ decimal unit
+
+-- the line of a reply to the order of this number, or of a saying
+abbrev pub reply_line : ℕ → Reply → List ℕ
+reply_line id reply = codes "reply " ++ decimal id ++ codes " " ++ reply_text reply ++ codes "\n"

@@ -4,7 +4,8 @@ use Rattle.dali_bus.specs.World.{World, byte_at, is_enabled}
 use Rattle.dali_journal.specs.declared.record.Record.{Record}
 use Rattle.dali_journal.specs.declared.standing.Standing.{Standing}
 use Rattle.dali_journal.specs.Sentence.{Allows, next_standing, named_unit}
-use Rattle.dali_write.specs.Worlds.{IsAmong, MayRelock}
+use Rattle.dali_write.specs.Worlds.{IsAmong}
+use Rattle.dali_bus.specs.Power.{MayRelock}
 use Rattle.dali_trace.specs.declared.happening.Happening.{Happening}
 use Rattle.dali_trace.specs.declared.happening.Happening.TheVariants.{Kept}
 use Rattle.dali_trace.specs.Trace.{Start, standing_at, powered_of}

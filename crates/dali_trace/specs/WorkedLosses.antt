@@ -1,9 +1,10 @@
 -- Small buses and banks near the edges of what is promised where little is lost.
 use Rattle.std.specs.Prelude.{◌≡◌, ◌≤◌, ℕ, true, false, replicate, map, List, [], ◌∷◌, ◌++◌, Option, Some, None}
+use Rattle.std.specs.Prelude.{drop}
 use Rattle.dali_frame.specs.declared.forward.Frame.{Frame}
 use Rattle.dali_frame.specs.declared.forward.Frame.TheVariants.{Dtr1, Write}
 use Rattle.dali_bank.specs.Order.{Contents, AreUpdates}
-use Rattle.dali_gear.specs.Fate.{whole, next_fate, fates_after}
+use Rattle.dali_gear.specs.Fate.{whole, next_fate}
 use Rattle.dali_gear.specs.SimState.{SimState, SimStep, unit_after, unit_powered, world_of}
 use Rattle.dali_bus.specs.Chain.{IsChain}
 use Rattle.dali_bus.specs.Unenabled.{NoneEnabled}
@@ -62,7 +63,7 @@ abbrev pub bus_after : SimState → List Happening → SimState
 bus_after first [] = first
 bus_after first (Sent frame answer ∷ past) =
     let old = bus_after first past in
-    record { units = map (unit_after (next_fate old.fates) frame) old.units; fates = fates_after old.fates }
+    record { units = map (unit_after (next_fate old.fates) frame) old.units; fates = drop 1 old.fates }
 bus_after first (Powered address ∷ past) =
     let old = bus_after first past in
     record { units = map (unit_powered address) old.units; fates = old.fates }

@@ -2,11 +2,12 @@
 use Rattle.std.proofs.Common.{◌≡◌, ◌≢◌, inl, inr, sym, ap, subst, ◌∙◌, refl, ℕ, Bool, true, false, List, [], ◌∷◌, map}
 use Rattle.std.specs.Prelude.{◌==◌, if◌then◌else◌}
 use Rattle.std.proofs.lemmas.Bool.{ne_eqb}
+use Rattle.std.specs.List.{AllByRecursion}
 use Rattle.dali_gear.specs.UnitState.{BankState, UnitState, powered_up}
 use Rattle.dali_gear.specs.SimState.{SimState, AreApart, AreBanks, unit_powered}
 use Rattle.dali_gear.specs.SimSteps.{power_keeps}
 use Rattle.dali_gear.proofs.SimLemmas.{AreApart-map}
-use Rattle.dali_write.specs.Losses.{IsElse, AllElse, IsAlone}
+use Rattle.dali_write.specs.Losses.{IsElse, IsAlone}
 use Rattle.dali_write.specs.Successes.{HasBank}
 use Rattle.dali_write.proofs.RunLemmas.{Drifts, Stays, Loses}
 use Rattle.dali_gear.specs.SimState.{SimStep}
@@ -22,8 +23,8 @@ else_powered address at unit other = (rw (power_keeps address unit) other.0, by 
     by true = refl
     by false = other.1
 
-all_else_powered : (address at : ℕ) (units : List UnitState) → AllElse at units
-    → AllElse at (map (unit_powered address) units)
+all_else_powered : (address at : ℕ) (units : List UnitState) → AllByRecursion (IsElse at) units
+    → AllByRecursion (IsElse at) (map (unit_powered address) units)
 all_else_powered address at [] all = tt
 all_else_powered address at (unit ∷ units) all =
     (else_powered address at unit all.0, all_else_powered address at units all.1)

@@ -3,6 +3,7 @@ use Rattle.std.proofs.Common.{◌≡◌, ◌≢◌, inl, inr, refl, sym, ap, sub
 use Rattle.std.proofs.Common.{Some}
 use Rattle.std.specs.Prelude.{◌==◌, if◌then◌else◌}
 use Rattle.std.proofs.lemmas.Bool.{eqb-false, ne_eqb}
+use Rattle.std.specs.List.{AllByRecursion}
 use Rattle.dali_frame.specs.declared.forward.Frame.{Frame}
 use Rattle.dali_frame.specs.declared.forward.Frame.TheVariants.{Dtr0, Dtr1, Dtr2, Write, WriteSilent, Enable, AskDtr0}
 use Rattle.dali_frame.specs.declared.forward.Frame.TheVariants.{AskDtr1, AskDtr2, Read, Other}
@@ -19,9 +20,10 @@ use Rattle.dali_write.specs.declared.ask.Ask.TheVariants.{Send}
 use Rattle.dali_write.specs.declared.ask.Verdict.TheVariants.{Closed, NotClosed}
 use Rattle.dali_write.specs.Plans.{close}
 use Rattle.dali_write.specs.Tries.{Wants}
-use Rattle.dali_write.specs.Worlds.{IsOff, OnlyEnabled}
+use Rattle.dali_write.specs.Worlds.{OnlyEnabled}
+use Rattle.dali_write.proofs.GearLemmas.{IsOff}
 use Rattle.dali_write.specs.Guards.{IsGuarded}
-use Rattle.dali_write.specs.Losses.{IsElse, AllElse, IsAlone}
+use Rattle.dali_write.specs.Losses.{IsElse, IsAlone}
 use Rattle.dali_write.specs.Successes.{HasBank}
 use Rattle.dali_write.proofs.OneFrameLemmas.{IsFor, alone_then}
 use Rattle.dali_write.proofs.DriftLemmas.{drifts_alone, drifts_bank, drifts_apart}
@@ -55,7 +57,7 @@ fate_bank fate at unit frame is other = by (is_lost fate unit.address)
     by false = else_bank fate.refuse at unit frame is other.0 other.1
 
 all_banks : (fate : Fate) (at address : ℕ) (bank : BankState) (units : List UnitState) (frame : Frame) → IsFor at frame
-    → AllElse at units → HasBank address bank units
+    → AllByRecursion (IsElse at) units → HasBank address bank units
     → HasBank address bank (map (unit_after fate frame) units)
 all_banks fate at address bank [] frame is all has = absurd has
 all_banks fate at address bank (unit ∷ units) frame is all (inl here) =
@@ -155,8 +157,8 @@ run_apart loses (x ∷ told) first last run apart =
     (run_apart loses told first run.0 run.2 apart)))
 
 -- where the one isn't enabled either, none is
-all_off : (at address : ℕ) (units : List UnitState) → AllElse at units → IsOff (world_of units address)
-all_off at address [] all = tt
+all_off : (at address : ℕ) (units : List UnitState) → AllByRecursion (IsElse at) units → IsOff (world_of units address)
+all_off at address [] all = refl
 all_off at address (unit ∷ units) all = by (address == unit.address) (all_off at address units all.1)
   where
     by : (b : Bool) → IsOff (world_of units address) → IsOff (if b then Some (gear_of unit) else world_of units address)
@@ -192,7 +194,8 @@ there address bank (unit ∷ units) has = by (λ later. there address bank units
     by more false e (inl here) = absurd (eqb-false address unit.address e (sym here.0))
     by more false e (inr later) = let rest = more later in (rest.0, rw e rest.1)
 
-not_else : {A : Type 0} (address : ℕ) (bank : BankState) (units : List UnitState) → AllElse address units
+not_else : {A : Type 0} (address : ℕ) (bank : BankState) (units : List UnitState)
+    → AllByRecursion (IsElse address) units
     → HasBank address bank units → A
 not_else address bank [] all has = absurd has
 not_else address bank (unit ∷ units) all (inl here) = absurd (all.0.0 here.0)

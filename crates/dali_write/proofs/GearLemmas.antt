@@ -7,7 +7,11 @@ use Rattle.dali_frame.specs.declared.forward.Frame.TheVariants.{AskDtr1, AskDtr2
 use Rattle.dali_bus.specs.World.{World, Gear, Memory, byte_in, is_open}
 use Rattle.dali_bus.specs.Hears.{Hears, Obeys, MayEnd, AnswersRegister, Ignores, PassesBy}
 use Rattle.dali_bus.specs.Carry.{Carry, MayHear, Heard}
-use Rattle.dali_write.specs.Worlds.{memory_of, memory_at, IsOff}
+use Rattle.dali_write.specs.Worlds.{memory_of, memory_at}
+
+-- there is no unit, or it isn't write-enabled
+abbrev pub IsOff : Option Gear → Type 0
+IsOff gear = is_open gear ≡ false
 
 -- the memory stays, and it isn't newly enabled
 pub record Keeps (old new : Gear) : Type 0 where
@@ -127,15 +131,6 @@ same_there None None same = refl
 same_there None (Some new) same = cc
 same_there (Some old) None same = cc
 same_there (Some old) (Some new) same = refl
-
--- a unit, or none, is open or off
-pub off_where : (gear : Option Gear) → is_open gear ≡ false → IsOff gear
-off_where None e = tt
-off_where (Some gear) e = e
-
-pub shut_where : (gear : Option Gear) → IsOff gear → is_open gear ≡ false
-shut_where None off = refl
-shut_where (Some gear) off = off
 
 -- What a unit has in its registers
 

@@ -1,23 +1,15 @@
 -- What the unit of the small worked world may do.
-use Rattle.std.proofs.Common.{◌≡◌, ◌≢◌, refl, sym, ap, ◌∙◌, ℕ, Bool, true, false, inl, inr, List, [], ◌∷◌, Option}
-use Rattle.std.proofs.Common.{Some, None, arith}
+use Rattle.std.proofs.Common.{◌≡◌, ◌≢◌, refl, ℕ, Bool, true, false, inl, inr, Option}
+use Rattle.std.proofs.Common.{Some, None}
 use Rattle.std.proofs.lemmas.Bool.{eqb-true, ne_eqb}
 use Rattle.std.specs.Prelude.{◌==◌, if◌then◌else◌}
 use Rattle.dali_frame.specs.declared.forward.Frame.{Frame}
 use Rattle.dali_frame.specs.declared.forward.Frame.TheVariants.{Dtr0, Dtr1, AskDtr0, AskDtr1, Read}
-use Rattle.dali_bus.specs.World.{Gear}
+use Rattle.dali_bus.specs.World.{IfThere}
 use Rattle.dali_bus.specs.Hears.{Hears}
 use Rattle.dali_bus.specs.Carry.{Carry, MayHear, MayAnswer}
-use Rattle.dali_bus.specs.Power.{MayPowerUp, LosesPower}
-use Rattle.dali_write.specs.declared.request.Wish.TheVariants.{Nothing, Exactly, Anything}
-use Rattle.dali_write.specs.Requests.{request, read_requests}
-use Rattle.dali_write.specs.Tries.{Trying}
-use Rattle.dali_write.specs.Worlds.{IsAmong, Run, Shows, MayRelock}
-use Rattle.dali_write.specs.Exchanges.{Exchange}
-use Rattle.dali_write.specs.WorkedAccesses.{sent}
-use Rattle.dali_write.specs.LoneUnit.{small_gear, lone_unit, six_frames}
-use Rattle.dali_write.proofs.RunLemmas.{run_of, Leads, Stays, Loses}
-use Rattle.dali_bus.specs.Carry.{WorldStep}
+use Rattle.dali_bus.specs.Power.{LosesPower, PowersUp}
+use Rattle.dali_write.specs.LoneUnit.{small_gear, lone_unit}
 
 -- the unit heard a frame
 heard : (dtr1 dtr0 now1 now0 : ℕ) (frame : Frame) (answer : Option ℕ)
@@ -79,7 +71,8 @@ reads_bank_1 =
 
 -- after power-up both registers are 0, and there is no lock byte
 powers_up : (dtr1 dtr0 : ℕ) (here : Bool)
-    → MayPowerUp (if here then Some (small_gear dtr1 dtr0) else None) (if here then Some (small_gear 0 0) else None)
+    → IfThere PowersUp (if here then Some (small_gear dtr1 dtr0) else None)
+    (if here then Some (small_gear 0 0) else None)
 powers_up dtr1 dtr0 true =
     record {
       dtr0 = refl;

@@ -4,6 +4,7 @@ use Rattle.std.proofs.Common.{◌∷◌, map, Option, Some, None}
 use Rattle.std.specs.Prelude.{◌==◌, if◌then◌else◌}
 use Rattle.std.specs.List.{filter_map, cons_option}
 use Rattle.std.proofs.lemmas.Bool.{eq-eqb, ne_eqb}
+use Rattle.std.specs.List.{AllByRecursion}
 use Rattle.dali_frame.specs.declared.forward.Frame.{Frame}
 use Rattle.dali_frame.specs.declared.forward.Frame.TheVariants.{Dtr0, Dtr1, Dtr2, Write, WriteSilent, Enable, AskDtr0}
 use Rattle.dali_frame.specs.declared.forward.Frame.TheVariants.{AskDtr1, AskDtr2, Read, Other}
@@ -12,7 +13,7 @@ use Rattle.dali_gear.specs.Fate.{is_lost, next_fate}
 use Rattle.dali_gear.specs.UnitState.{UnitState, after_frame, answer_to}
 use Rattle.dali_gear.specs.SimState.{SimState, SimCarry, unit_after, unit_answer, only_answer}
 use Rattle.dali_gear.specs.SimSteps.{fate_keeps}
-use Rattle.dali_write.specs.Losses.{answers_at, is_loss, IsElse, AllElse, IsAlone}
+use Rattle.dali_write.specs.Losses.{answers_at, is_loss, IsElse, IsAlone}
 
 -- no other unit is enabled or asked by the frame
 abbrev pub IsFor : ℕ → Frame → Type 0
@@ -81,13 +82,15 @@ else_silent fate at unit frame is other = by (is_lost fate unit.address)
     by true = refl
     by false = silent fate.refuse at unit frame is other.0 other.1
 
-all_else_after : (fate : Fate) (at : ℕ) (units : List UnitState) (frame : Frame) → IsFor at frame → AllElse at units
-    → AllElse at (map (unit_after fate frame) units)
+all_else_after : (fate : Fate) (at : ℕ) (units : List UnitState) (frame : Frame) → IsFor at frame
+    → AllByRecursion (IsElse at) units
+    → AllByRecursion (IsElse at) (map (unit_after fate frame) units)
 all_else_after fate at [] frame is all = tt
 all_else_after fate at (unit ∷ units) frame is all =
     (else_after fate at unit frame is all.0, all_else_after fate at units frame is all.1)
 
-all_else_silent : (fate : Fate) (at : ℕ) (units : List UnitState) (frame : Frame) → IsFor at frame → AllElse at units
+all_else_silent : (fate : Fate) (at : ℕ) (units : List UnitState) (frame : Frame) → IsFor at frame
+    → AllByRecursion (IsElse at) units
     → filter_map (unit_answer fate frame) units ≡ []
 all_else_silent fate at [] frame is all = refl
 all_else_silent fate at (unit ∷ units) frame is all =

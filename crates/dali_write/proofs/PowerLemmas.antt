@@ -3,11 +3,11 @@ use Rattle.std.proofs.Common.{◌≡◌, ◌⊎◌, inl, inr, refl, sym, ap, sub
 use Rattle.std.proofs.Common.{Some}
 use Rattle.std.proofs.Common.{None, is_some}
 use Rattle.std.proofs.lemmas.Bool.{eqb-true, eqb-false}
-use Rattle.dali_bus.specs.World.{World, Gear, byte_in, byte_at, is_open}
-use Rattle.dali_bus.specs.Power.{relocked, MayPowerUp, LosesPower}
+use Rattle.dali_bus.specs.World.{World, Gear, byte_in, byte_at, is_open, IfThere}
+use Rattle.dali_bus.specs.Power.{relocked, LosesPower, MayRelock, PowersUp}
 use Rattle.dali_bus.proofs.UnenabledLemmas.{powered_at, relocked_twice}
-use Rattle.dali_write.specs.Worlds.{MayRelock, KeepsAt, Shows, IsOff}
-use Rattle.dali_write.proofs.GearLemmas.{StaysAt, dtr1_in, off_where, shut_where, same_byte, same_there}
+use Rattle.dali_write.specs.Worlds.{KeepsAt, Shows}
+use Rattle.dali_write.proofs.GearLemmas.{StaysAt, dtr1_in, same_byte, same_there, IsOff}
 use Rattle.dali_write.proofs.RunLemmas.{Drifts, Stays, Loses}
 use Rattle.dali_bus.specs.Carry.{WorldStep}
 
@@ -52,7 +52,7 @@ power_keeps {loses} old address new of_these lost unit =
         | inl same ↦ inl same
         | inr (here, above, lock, is) ↦ inr (subst loses here of_these, above, lock, is)
       ];
-      off = λ off. off_where (new unit) (after.shut (shut_where (old unit) off));
+      off = λ off. after.shut off;
     }
 
 pub drifts_keep : {loses : ℕ → Type 0} (first last : World) → Drifts WorldStep loses first last → (address : ℕ)
@@ -64,7 +64,7 @@ drifts_keep first last (Loses {mid = mid} at of_these drifts lost) address =
     (power_keeps mid at last of_these lost address)
 
 -- a unit that lost its power isn't enabled, and has lost the bank
-there_after : (old new : Option Gear) → MayPowerUp old new
+there_after : (old new : Option Gear) → IfThere PowersUp old new
     → (new ≡ old) ⊎ ((is_open new ≡ false) × (dtr1_in new ≡ Some 1 → ⊥))
 there_after None None powers = inl refl
 there_after (Some old) (Some new) powers =
@@ -82,7 +82,7 @@ after_power old address new lost unit = by (unit == address) refl
     by true e =
         let here : unit ≡ address = eqb-true unit address e in
         there_after (old unit) (new unit)
-        (subst (λ (a : ℕ). MayPowerUp (old a) (new a)) (sym here) lost.there)
+        (subst (λ (a : ℕ). IfThere PowersUp (old a) (new a)) (sym here) lost.there)
 
 -- what a unit has that holds of one without its bank goes on to hold
 pub drifts_have : {loses : ℕ → Type 0} (P : Option Gear → Type 0)

@@ -6,7 +6,7 @@ use Rattle.std.proofs.lemmas.Bool.{eqb-true}
 use Rattle.dali_frame.specs.declared.forward.Frame.{Frame}
 use Rattle.dali_frame.specs.declared.forward.Frame.TheVariants.{Dtr0, Dtr1, AskDtr0, AskDtr1, Enable, Write}
 use Rattle.dali_bus.specs.World.{World, Gear, Memory, stored, byte_in}
-use Rattle.dali_bus.specs.Power.{relocked}
+use Rattle.dali_bus.specs.Power.{relocked, MayRelock}
 use Rattle.dali_bus.specs.Hears.{Hears, Ignores, PassesBy, Stores}
 use Rattle.dali_bus.specs.Carry.{Carry, MayHear, Heard}
 use Rattle.dali_write.specs.Exchanges.{Exchange}
@@ -15,9 +15,9 @@ use Rattle.dali_write.specs.declared.request.Wish.{Wish}
 use Rattle.dali_write.specs.declared.request.Wish.TheVariants.{Nothing, Exactly}
 use Rattle.dali_write.specs.Requests.{request, select_requests, read_requests, write_requests}
 use Rattle.dali_write.specs.Tries.{Trying}
-use Rattle.dali_write.specs.Worlds.{MayRelock, KeepsAt, Selects, OnlyEnabled, IsOff, memory_of, Written}
+use Rattle.dali_write.specs.Worlds.{KeepsAt, Selects, OnlyEnabled, memory_of, Written}
 use Rattle.dali_write.specs.Touches.{Has, OldOrNew, Touches}
-use Rattle.dali_write.proofs.GearLemmas.{end_steady, carry_stays, StaysAt, IsQuiet, same_byte}
+use Rattle.dali_write.proofs.GearLemmas.{end_steady, carry_stays, StaysAt, IsQuiet, same_byte, IsOff}
 use Rattle.dali_write.proofs.PowerLemmas.{relock_then, keeps_then, stays_keeps}
 use Rattle.dali_write.proofs.ShapeLemmas.{trying_length}
 use Rattle.dali_write.proofs.TruthLemmas.{write_safe}

@@ -19,7 +19,8 @@ use Rattle.dali_write.specs.Tries.{AccessEnds, AccessesEnd, plan_requests}
 use Rattle.dali_write.proofs.AskLemmas.{shown_ask, ask_shown}
 use Rattle.dali_write.specs.Found.{StandsWith, found}
 use Rattle.dali_write.specs.Reads.{StillRead, ReadsBank}
-use Rattle.dali_write.specs.Worlds.{MayRelock, Shows}
+use Rattle.dali_write.specs.Worlds.{Shows}
+use Rattle.dali_bus.specs.Power.{MayRelock}
 use Rattle.dali_write.specs.Verdicts.{ShowsBank}
 use Rattle.dali_write.specs.Stages.{plan_of, plan_at}
 use Rattle.dali_write.specs.Told.{Told, aim_of}

@@ -3,6 +3,7 @@ use Rattle.std.proofs.Common.{◌≡◌, ◌⊎◌, inl, inr, refl, sym, subst, 
 use Rattle.std.proofs.Common.{List, [], ◌∷◌, ◌++◌, Option, Some, None}
 use Rattle.std.proofs.lemmas.Bool.{eqb-true}
 use Rattle.std.proofs.lemmas.List.{append_assoc, append-nil}
+use Rattle.std.specs.List.{AllByRecursion}
 use Rattle.dali_frame.specs.declared.forward.Frame.{Frame}
 use Rattle.dali_frame.specs.declared.forward.Frame.TheVariants.{Dtr0, Dtr1, Dtr2, Write, WriteSilent, Enable, AskDtr0}
 use Rattle.dali_frame.specs.declared.forward.Frame.TheVariants.{AskDtr1, AskDtr2, Read, Other}
@@ -11,11 +12,11 @@ use Rattle.dali_write.specs.declared.access.Access.TheVariants.{ReadFrom}
 use Rattle.dali_write.specs.declared.ask.Ask.TheVariants.{Ended}
 use Rattle.dali_write.specs.declared.ask.Verdict.{Verdict}
 use Rattle.dali_write.specs.declared.ask.Verdict.TheVariants.{MayOpen, Done, Short, Format, Silent, Doubt, DoubtOpen}
-use Rattle.dali_write.specs.declared.ask.Verdict.TheVariants.{Closed, NotClosed, Read as ReadAll}
+use Rattle.dali_write.specs.declared.ask.Verdict.TheVariants.{Closed, NotClosed}
 use Rattle.dali_write.specs.Plans.{Plan, Finish, Make, either_way, read_closed, close, give_up, expect, read_back}
 use Rattle.dali_write.specs.Plans.{read_lock, write_on, unlock}
 use Rattle.dali_write.specs.Tries.{AccessEnds, Wants}
-use Rattle.dali_write.specs.Findings.{Suits, IsTooShort, HasOtherFormat, ShowsAll, IsWritten, RestsOn, Rests}
+use Rattle.dali_write.specs.Findings.{Suits, IsTooShort, HasOtherFormat, IsWritten, RestsOn, Rests}
 use Rattle.dali_write.specs.Reads.{IsPassive, EndsInRead, StillRead}
 use Rattle.dali_write.specs.Walks.{Walk}
 use Rattle.dali_write.proofs.GearLemmas.{IsQuiet}
@@ -198,7 +199,7 @@ expect_rests unit location byte after verdict (Some found ∷ outcomes) told fir
 -- all bytes were read back
 record Held (unit : ℕ) (updates : List (ℕ × ℕ)) (verdict : Verdict) (first last : List Exchange) : Type 0 where
   done : verdict ≡ Done
-  shows : ShowsAll (StillRead last unit) updates
+  shows : AllByRecursion (λ update. StillRead last unit update.0 update.1) updates
   keeps : KeepsReads first last
 
 read_back_rests : (unit : ℕ) (updates : List (ℕ × ℕ)) (verdict : Verdict) (outcomes : List (Option ℕ))
@@ -309,7 +310,8 @@ pub format_too : (P Q : ℕ → ℕ → Type 0) (updates : List (ℕ × ℕ)) �
     → HasOtherFormat Q updates
 format_too P Q updates f other = (other.0, other.1, f 0x11 other.0 other.2, f 0x12 other.1 other.3, other.4, other.5)
 
-all_too : (P Q : ℕ → ℕ → Type 0) (updates : List (ℕ × ℕ)) → Shown P Q → ShowsAll P updates → ShowsAll Q updates
+all_too : (P Q : ℕ → ℕ → Type 0) (updates : List (ℕ × ℕ)) → Shown P Q
+    → AllByRecursion (λ update. P update.0 update.1) updates → AllByRecursion (λ update. Q update.0 update.1) updates
 all_too P Q [] f all = tt
 all_too P Q (update ∷ updates) f all = (f update.0 update.1 all.0, all_too P Q updates f all.1)
 

@@ -25,7 +25,7 @@ use Rattle.dali_write.specs.Losses.{IsAlone, CanDo, OnlyDiffers}
 use Rattle.dali_write.specs.Misses.{misses_in}
 use Rattle.dali_write.specs.Touches.{Has}
 use Rattle.dali_write.specs.Successes.{MayStoreAt, TakesAll, has_format, found_verdict}
-use Rattle.dali_write.specs.Worlds.{MayRelock}
+use Rattle.dali_bus.specs.Power.{MayRelock}
 use Rattle.dali_write.proofs.RunLemmas.{sim_run}
 use Rattle.dali_write.proofs.VerdictLemmas.{read_access_shows}
 use Rattle.dali_write.proofs.DriftLemmas.{drifts_alone, whole_before}

@@ -13,10 +13,10 @@ use Rattle.dali_bus.specs.Carry.{Carry, MayHear, Heard}
 use Rattle.dali_write.specs.Exchanges.{Exchange}
 use Rattle.dali_write.specs.Requests.{select_requests, byte_after}
 use Rattle.dali_write.specs.Tries.{Trying, byte_of}
-use Rattle.dali_write.specs.Worlds.{IsCheckedRead, Shows, KeepsAt, Selects, OnlyEnabled, MayWrite, IsOff}
+use Rattle.dali_write.specs.Worlds.{IsCheckedRead, Shows, KeepsAt, Selects, OnlyEnabled, MayWrite}
 use Rattle.dali_write.specs.Worlds.{memory_of, memory_at, Written}
 use Rattle.dali_write.proofs.GearLemmas.{asked1, asked0, carry_dtr1, carry_stays, IsQuiet, passing_keeps, end_steady}
-use Rattle.dali_write.proofs.GearLemmas.{dtr0_in, dtr1_in, off_where, shut_where, same_byte}
+use Rattle.dali_write.proofs.GearLemmas.{dtr0_in, dtr1_in, same_byte, IsOff}
 use Rattle.dali_write.proofs.PowerLemmas.{drifts_have, drifts_keep, keeps_then, stays_keeps, shows_kept}
 use Rattle.dali_write.proofs.ShapeLemmas.{WasRead, selected, was_read}
 use Rattle.dali_write.proofs.RunLemmas.{Leads, Stays}
@@ -71,8 +71,8 @@ was_on old new frame answer unit quiet carry on = by (is_open (old unit)) refl w
   by : (b : Bool) → is_open (old unit) ≡ b → is_open (old unit) ≡ true
   by true e = e
   by false e =
-      let off = (carry_stays old frame answer new unit quiet carry).off (off_where (old unit) e) in
-      let never = shut_where (new unit) off in cc
+      let off = (carry_stays old frame answer new unit quiet carry).off e in
+      let never = off in cc
 
 -- after the four frames the unit has selected the location
 pub selects_run : (loses : ℕ → Type 0) (unit location : ℕ) (tried : List Exchange) (first last : World)
@@ -158,7 +158,7 @@ quiet_byte : (old : World) (frame : Frame) (answer : Option ℕ) (new : World) (
 quiet_byte old frame answer new unit location byte quiet carry holds =
     let stays = carry_stays old frame answer new unit quiet carry in (
       same_byte (old unit) (new unit) stays.memory 1 location ∙ holds.0,
-      shut_where (new unit) (stays.off (off_where (old unit) holds.1)),
+      stays.off holds.1,
     )
 
 shows_now : {loses : ℕ → Type 0} (world : World) (unit location byte : ℕ) (gear : Option Gear) → world unit ≡ gear

@@ -2,8 +2,8 @@
 use Rattle.std.proofs.Common.{◌≡◌, refl, sym, ap, subst, ◌∙◌, inl, inr, ℕ, List, [], ◌∷◌, ◌++◌, Option, Some, None}
 use Rattle.dali_frame.specs.declared.forward.Frame.{Frame}
 use Rattle.dali_frame.specs.declared.forward.Frame.TheVariants.{Dtr0, AskDtr0, AskDtr1, Read}
-use Rattle.dali_bus.specs.World.{World, Gear}
-use Rattle.dali_bus.specs.Power.{MayPowerUp}
+use Rattle.dali_bus.specs.Power.{PowersUp}
+use Rattle.dali_bus.specs.World.{World, Gear, IfThere}
 use Rattle.dali_write.specs.Exchanges.{Exchange}
 use Rattle.dali_write.specs.Reads.{StillRead}
 use Rattle.dali_write.specs.Worlds.{IsCheckedRead}
@@ -15,7 +15,7 @@ use Rattle.dali_write.proofs.RunLemmas.{leads_of, run_of, Leads, Drifts, Stays, 
 use Rattle.dali_bus.specs.Carry.{WorldStep}
 
 -- a unit that lost its power has not bank 1 selected
-gone : (old new : Option Gear) → MayPowerUp old new → dtr1_in new ≡ Some 1 → ⊥
+gone : (old new : Option Gear) → IfThere PowersUp old new → dtr1_in new ≡ Some 1 → ⊥
 gone None None powers bank = cc
 gone (Some old) (Some new) powers bank = let zero = powers.dtr1 in let one : new.dtr1 ≡ 1 = cc in cc
 gone None (Some new) powers bank = absurd powers
@@ -27,7 +27,7 @@ drifts_apart : {loses : ℕ → Type 0} (unit : ℕ) (first last : World) → Dr
 drifts_apart unit first last Stays bank = (Stays, bank)
 drifts_apart unit first last (Loses {mid = mid} at of_these drifts lost) bank = elim (same_or_not at unit) [
   | inl same ↦ absurd (gone (mid unit) (last unit)
-      (subst (λ (a : ℕ). MayPowerUp (mid a) (last a)) same lost.there) bank)
+      (subst (λ (a : ℕ). IfThere PowersUp (mid a) (last a)) same lost.there) bank)
   | inr other ↦
       let still = lost.others unit (λ e. other (sym e)) in
       let earlier = drifts_apart unit first mid drifts (sym (ap dtr1_in still) ∙ bank) in

@@ -1,40 +1,14 @@
 -- What losses of power may change and what not, near the edges: what a weaker definition would let through.
-use Rattle.std.proofs.Common.{◌≡◌, ◌≢◌, inl, inr, refl, sym, ◌∙◌, ℕ, [], ◌∷◌, Option, Some, None, arith}
+use Rattle.std.proofs.Common.{◌≡◌, ◌≢◌, inl, inr, refl, sym, ◌∙◌, ℕ, [], ◌∷◌, Option, arith}
 use Rattle.dali_frame.specs.declared.forward.Frame.{Frame}
 use Rattle.dali_bus.specs.World.{World}
 use Rattle.dali_gear.specs.SimState.{SimState, SimCarry, SimPower, world_of}
-use Rattle.dali_write.specs.Worlds.{IsAmong, Run, MayRelock}
+use Rattle.dali_write.specs.Worlds.{IsAmong, Run}
 use Rattle.dali_write.specs.WhenRead.{AllBut}
 use Rattle.dali_write.proofs.RunLemmas.{leads_of, shown_run}
 use Rattle.dali_write.proofs.RunLemmas.{Drifts, Stays, Loses}
 use Rattle.dali_bus.specs.Carry.{WorldStep, Carried, Powered}
 use Rattle.dali_gear.specs.SimState.{SimStep}
-
-byte_is : (one other : ℕ) → Some one ≡ Some other → one ≡ other
-byte_is one other e = cc
-
-pub relocked_in_bank_1 : MayRelock (Unit {0}) 1 2 (Some 0x55) (Some 0xFF)
-relocked_in_bank_1 = inr (tt, omega arith, refl, refl)
-
-pub not_relocked_in_bank_0 : MayRelock (Unit {0}) 0 2 (Some 0x55) (Some 0xFF) → ⊥
-not_relocked_in_bank_0 (inl same) = omega (arith, byte_is 0xFF 0x55 same)
-not_relocked_in_bank_0 (inr relocks) = omega (arith, relocks.1)
-
-pub not_relocked_at_03h : MayRelock (Unit {0}) 1 3 (Some 0x55) (Some 0xFF) → ⊥
-not_relocked_at_03h (inl same) = omega (arith, byte_is 0xFF 0x55 same)
-not_relocked_at_03h (inr relocks) = omega (arith, relocks.2)
-
-pub not_another_lock_byte : MayRelock (Unit {0}) 1 2 (Some 0x55) (Some 0x12) → ⊥
-not_another_lock_byte (inl same) = omega (arith, byte_is 0x12 0x55 same)
-not_another_lock_byte (inr relocks) = omega (arith, byte_is 0x12 0xFF relocks.3)
-
-pub no_lock_byte_comes : MayRelock (Unit {0}) 1 2 None (Some 0xFF) → ⊥
-no_lock_byte_comes (inl same) = cc
-no_lock_byte_comes (inr relocks) = let never : Some 0xFF ≡ None = relocks.3 in cc
-
-pub not_relocked_with_its_power : MayRelock ⊥ 1 2 (Some 0x55) (Some 0xFF) → ⊥
-not_relocked_with_its_power (inl same) = omega (arith, byte_is 0xFF 0x55 same)
-not_relocked_with_its_power (inr relocks) = relocks.0
 
 -- where the unit at 5 alone loses its power, that at 6 stays as it is
 other_than : (address : ℕ) → IsAmong (5 ∷ []) address → 6 ≢ address

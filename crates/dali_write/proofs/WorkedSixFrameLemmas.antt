@@ -6,7 +6,8 @@ use Rattle.dali_bus.specs.Carry.{WorldStep}
 use Rattle.dali_write.specs.declared.request.Wish.TheVariants.{Nothing, Exactly, Anything}
 use Rattle.dali_write.specs.Requests.{request, read_requests}
 use Rattle.dali_write.specs.Tries.{Trying}
-use Rattle.dali_write.specs.Worlds.{IsAmong, Run, Shows, MayRelock}
+use Rattle.dali_write.specs.Worlds.{IsAmong, Run, Shows}
+use Rattle.dali_bus.specs.Power.{MayRelock}
 use Rattle.dali_write.specs.Exchanges.{Exchange}
 use Rattle.dali_write.specs.WorkedAccesses.{sent}
 use Rattle.dali_write.specs.LoneUnit.{small_gear, lone_unit, six_frames}

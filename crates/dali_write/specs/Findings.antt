@@ -2,7 +2,8 @@
 --
 -- What a byte is shown by is left open: the verdict of a session asks it of the world, a record of the journal of the
 -- frames that were sent, and the promises of the writer of the world again.
-use Rattle.std.specs.Prelude.{◌≡◌, ℕ, ◌<◌, ◌≤◌, List, [], ◌∷◌}
+use Rattle.std.specs.Prelude.{◌≡◌, ℕ, ◌<◌, ◌≤◌, List}
+use Rattle.std.specs.List.{AllByRecursion}
 use Rattle.dali_write.specs.declared.ask.Verdict.{Verdict}
 use Rattle.dali_write.specs.declared.ask.Verdict.TheVariants.{MayOpen, Done, Short, Format, Silent, Doubt, DoubtOpen}
 use Rattle.dali_write.specs.declared.ask.Verdict.TheVariants.{Closed, NotClosed, Read}
@@ -23,14 +24,9 @@ HasOtherFormat shows updates =
     (high : ℕ) × (low : ℕ) × shows 0x11 high × shows 0x12 low × (0x13 ≤ greatest updates)
     × ((high ≡ 0x00) × (low ≡ 0x03) → ⊥)
 
--- each update's location shows its byte
-abbrev pub ShowsAll : (ℕ → ℕ → Type 0) → List (ℕ × ℕ) → Type 0
-ShowsAll shows [] = Unit {0}
-ShowsAll shows (update ∷ updates) = shows update.0 update.1 × ShowsAll shows updates
-
 -- the lock byte is FFh, and each update's location shows its byte
 abbrev pub IsWritten : (ℕ → ℕ → Type 0) → List (ℕ × ℕ) → Type 0
-IsWritten shows updates = shows 0x02 0xFF × ShowsAll shows updates
+IsWritten shows updates = shows 0x02 0xFF × AllByRecursion (λ update. shows update.0 update.1) updates
 
 -- The one table of grounds. MayOpen: bank 1 suits the updates. Short, Format: it doesn't. Done: they are written.
 -- Doubt and Closed: 'answered' is so, that the unit has answered a read; whatever it answered, it isn't write-enabled

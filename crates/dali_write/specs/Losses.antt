@@ -1,7 +1,7 @@
 -- What the simulated bus loses of the frames that are meant for one unit.
 use Rattle.std.specs.Prelude.{◌≡◌, ◌≢◌, ℕ, ◌+◌, ◌==◌, Bool, false, ◌&&◌, ◌||◌, is_some, IsSome, IsTrue, ◌⊎◌, List, []}
 use Rattle.std.specs.Prelude.{◌∷◌, length, slice_get, if◌then◌else◌}
-use Rattle.std.specs.List.{list_any}
+use Rattle.std.specs.List.{list_any, AllByRecursion}
 use Rattle.dali_frame.specs.declared.forward.Frame.{Frame}
 use Rattle.dali_bus.specs.Carry.{BusEvent, Carried, Powered}
 use Rattle.dali_gear.specs.declared.fate.Fate.{Fate}
@@ -40,15 +40,11 @@ Unrefused past states = Unit {0}
 abbrev pub IsElse : ℕ → UnitState → Type 0
 IsElse address unit = (unit.address ≢ address) × (unit.enabled ≡ false)
 
-abbrev pub AllElse : ℕ → List UnitState → Type 0
-AllElse address [] = Unit {0}
-AllElse address (unit ∷ units) = IsElse address unit × AllElse address units
-
 -- this is the unit at the address; no other is there, and no other is enabled
 abbrev pub IsAlone : ℕ → UnitState → List UnitState → Type 0
 IsAlone address unit [] = ⊥
 IsAlone address unit (first ∷ units) =
-    ((first ≡ unit) × (unit.address ≡ address) × AllElse address units)
+    ((first ≡ unit) × (unit.address ≡ address) × AllByRecursion (IsElse address) units)
     ⊎ (IsElse address first × IsAlone address unit units)
 
 -- the unit has the location to read, or can write it

@@ -1,7 +1,8 @@
 -- What a session may have changed.
 use Rattle.std.specs.Prelude.{◌≡◌, ◌≢◌, ◌⊎◌, ℕ, List, [], ◌∷◌, Option, Some, IsSome}
 use Rattle.dali_bus.specs.World.{World, Gear, byte_in}
-use Rattle.dali_write.specs.Worlds.{KeepsAt, MayRelock}
+use Rattle.dali_write.specs.Worlds.{KeepsAt}
+use Rattle.dali_bus.specs.Power.{MayRelock}
 
 -- one of the writes puts this byte at this location
 abbrev pub Has : List (ℕ × ℕ) → ℕ → ℕ → Type 0

@@ -1,7 +1,7 @@
 -- What exchanges do to a world of units.
-use Rattle.std.specs.Prelude.{◌≡◌, ◌≢◌, ◌≤◌, ◌⊎◌, ℕ, false, List, [], ◌∷◌, ◌++◌, Option, Some, None, IsSome, is_some}
-use Rattle.dali_bus.specs.World.{World, Gear, Memory, stored, byte_at}
-use Rattle.dali_bus.specs.Power.{relocked}
+use Rattle.std.specs.Prelude.{◌≡◌, ◌≢◌, ◌⊎◌, ℕ, false, List, [], ◌∷◌, ◌++◌, Option, Some, None, IsSome, is_some}
+use Rattle.dali_bus.specs.World.{World, Gear, Memory, stored, byte_at, is_enabled}
+use Rattle.dali_bus.specs.Power.{MayRelock}
 use Rattle.dali_bus.specs.Carry.{BusEvent, HasLostPower}
 use Rattle.dali_bus.specs.Chain.{Chain}
 use Rattle.dali_write.specs.Exchanges.{Exchange, exchanges_of}
@@ -22,11 +22,6 @@ pub record Run {S : Type 0} (step : S → BusEvent → S → Type 0) (loses : �
   pub among : (address : ℕ) → HasLostPower address past → loses address
   pub chain : Chain step first past last
 
--- the byte is as it was; or its place is a lock byte, the unit has lost its power, and the byte is FFh since then
-abbrev pub MayRelock : Type 0 → ℕ → ℕ → Option ℕ → Option ℕ → Type 0
-MayRelock lost bank location old new =
-    (new ≡ old) ⊎ (lost × (1 ≤ bank) × (location ≡ 2) × (new ≡ relocked old))
-
 abbrev pub memory_of : Option Gear → Option Memory
 memory_of None = None
 memory_of (Some gear) = Some gear.memory
@@ -35,10 +30,6 @@ memory_of (Some gear) = Some gear.memory
 abbrev pub memory_at : World → ℕ → Option Memory
 memory_at world address = memory_of (world address)
 
-abbrev pub IsOff : Option Gear → Type 0
-IsOff None = Unit {0}
-IsOff (Some gear) = gear.enabled ≡ false
-
 -- the unit stays there, keeps its memory but for lock bytes where it is one that loses its power, and isn't newly
 -- enabled
 pub record KeepsAt (loses : ℕ → Type 0) (first last : World) (address : ℕ) : Type 0 where
@@ -46,7 +37,7 @@ pub record KeepsAt (loses : ℕ → Type 0) (first last : World) (address : ℕ)
   pub memory : (bank location : ℕ)
       → MayRelock (loses address) bank location (byte_at first address bank location)
       (byte_at last address bank location)
-  pub off : IsOff (first address) → IsOff (last address)
+  pub off : is_enabled first address ≡ false → is_enabled last address ≡ false
 
 -- a checked read, answered by the byte
 abbrev pub IsCheckedRead : ℕ → ℕ → ℕ → List Exchange → Type 0
@@ -68,7 +59,7 @@ Selects unit location told =
 
 -- no unit but this one is enabled
 abbrev pub OnlyEnabled : ℕ → World → Type 0
-OnlyEnabled unit world = (address : ℕ) → address ≢ unit → IsOff (world address)
+OnlyEnabled unit world = (address : ℕ) → address ≢ unit → is_enabled world address ≡ false
 
 -- the memory has the location of bank 1, and the new one holds the byte there and is otherwise the same
 abbrev pub Written : ℕ → ℕ → Option Memory → Option Memory → Type 0

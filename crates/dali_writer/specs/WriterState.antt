@@ -23,9 +23,9 @@ pub record WriterState : Type 0 where
   pub journal : JournalState
   pub phase : Phase
 
--- the records and the limit that the writer has now
-abbrev pub start_of : WriterState → Start
-start_of writer = record { records = writer.journal.records; limit = writer.journal.limit }
+-- the records and the limit of a journal
+abbrev pub start_of : JournalState → Start
+start_of journal = record { records = journal.records; limit = journal.limit }
 
 -- the journal stands as the phase needs it: it may begin the order that waits, the order at work is that of the
 -- session, the unit that is closed is the one that was left, and the order that ended is the newest

@@ -89,8 +89,8 @@ impl Writer {
     /// Does nothing. A writer at rest is described by the empty trace from the records that it has, and follows it.
     pub fn rest(&self)
         requires { IsAtRest self.now }
-        ensures described { Describes (start_of self.now) [] self.now }
-        ensures follows { Follows (start_of self.now) [] self.now }
+        ensures described { Describes (start_of self.now.journal) [] self.now }
+        ensures follows { Follows (start_of self.now.journal) [] self.now }
     {
         let _limit = self.journal.limit();
     }

@@ -10,7 +10,8 @@ ghost use Rattle.dali_drive.specs.declared.fault.DriveFault.TheVariants as fault
 ghost use Rattle.dali_trace.specs.declared.happening.Reply.TheVariants as replies;
 ghost use Rattle.dali_trace.specs.declared.happening.Happening.TheVariants.{Asked, Answered, Sent, Kept, Stopped};
 ghost use Rattle.dali_trace.specs.Next.{IsNext};
-ghost use Rattle.dali_drive.specs.Lines.{reply_line, IsShort, IsAnswerLine, TakesLine};
+ghost use Rattle.dali_drive.specs.Lines.{IsShort, IsAnswerLine, TakesLine};
+ghost use Rattle.dali_trace.specs.Replies.{reply_line};
 ghost use Rattle.dali_drive.specs.Transcript.{Streams, Transcript};
 ghost use Rattle.dali_drive.specs.Driven.{IsInTurn, KeepsRecords, IsDriven, BrokenOff};
 ghost use Rattle.dali_laws.specs.Joined.{FollowOn};

@@ -2,7 +2,7 @@ use Rattle.std.proofs.Common.{◌∙◌, ◌∷◌, refl, sym, subst}
 use Rattle.std.proofs.lemmas.Result.{err_from_is_err_and}
 use Rattle.std.specs.Io.KnownBytes.{Appends}
 use Rattle.dali_trace.specs.declared.happening.Happening.TheVariants.{Kept, Sent, Answered}
-use Rattle.dali_drive.specs.Lines.{reply_line}
+use Rattle.dali_trace.specs.Replies.{reply_line}
 use Rattle.dali_drive.proofs.DriveLemmas.{keeps_on, sends_on, says_on, breaks_record, breaks_frame, breaks_saying}
 use Rattle.dali_drive.proofs.DriveLemmas.{breaks_reading, IsCut}
 use Rattle.dali_drive.proofs.driving.advance.Goals as goal

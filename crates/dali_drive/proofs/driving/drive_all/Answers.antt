@@ -2,7 +2,7 @@ use Rattle.std.proofs.Common.{◌∙◌, ◌+◌, ◌∷◌, ℕ, suc, List, [],
 use Rattle.std.proofs.lemmas.Result.{err_from_is_err_and}
 use Rattle.std.specs.Io.KnownBytes.{Appends}
 use Rattle.dali_bank.specs.Order.{Contents}
-use Rattle.dali_drive.specs.Lines.{reply_line}
+use Rattle.dali_trace.specs.Replies.{reply_line}
 use Rattle.dali_writer.specs.WriterState.{start_of}
 use Rattle.dali_drive.specs.Driven.{orders_asked}
 use Rattle.dali_trace.specs.declared.happening.Happening.TheVariants.{Asked}
@@ -13,8 +13,9 @@ use Rattle.dali_drive.proofs.driving.drive_all.Goals as goal
 pub loop-order-init : goal.loop-order-init
 loop-order-init g c =
     let w =
-    c.in_ok-work.ensures.worked (start_of c.args.writer.now) [] _
-    (begun_at (start_of c.args.writer.now) c.args.writer.now _ _ _ _ c.rest.ensures.described c.rest.ensures.follows) in
+    c.in_ok-work.ensures.worked (start_of c.args.writer.now.journal) [] _
+    (begun_at (start_of c.args.writer.now.journal) c.args.writer.now _ _ _ _ c.rest.ensures.described
+    c.rest.ensures.follows) in
     record {
       past = w.0;
       driven = w.1;
@@ -43,8 +44,9 @@ returns-clause-driven g c =
 pub returns-in_err-work-clause-broken : goal.returns-in_err-work-clause-broken
 returns-in_err-work-clause-broken g c =
     let w =
-    c.in_err-work.ensures.worked (start_of c.args.writer.now) [] _
-    (begun_at (start_of c.args.writer.now) c.args.writer.now _ _ _ _ c.rest.ensures.described c.rest.ensures.follows) in
+    c.in_err-work.ensures.worked (start_of c.args.writer.now.journal) [] _
+    (begun_at (start_of c.args.writer.now.journal) c.args.writer.now _ _ _ _ c.rest.ensures.described
+    c.rest.ensures.follows) in
     let p = err_from_is_err_and c.from_residual.result c.from_residual.ensures.1 in
     let all : List Contents = c.args.orders.now in
     rw (p.1, p.2) (record {
@@ -59,7 +61,7 @@ returns-in_err-work-clause-broken g c =
 pub returns-in_default-clause-broken : goal.returns-in_default-clause-broken
 returns-in_default-clause-broken g c =
     let i = c.loop-order.invariant in
-    let start = start_of c.args.writer.now in
+    let start = start_of c.args.writer.now.journal in
     let due = rw c.copy.ensures.value at (c.in_default.ensures.due start i.past i.driven.described) in
     let order : Contents = c.order-item.result in
     let all : List Contents = c.args.orders.now in
@@ -81,7 +83,7 @@ returns-then-not-put_all-clause-broken g c =
     let described = rw c.copy.ensures.value at (c.in-Ok.ensures.described _ i.past i.driven.described) in
     let follows = rw c.copy.ensures.value at (c.in-Ok.ensures.follows _ i.past i.driven.follows) in
     let line = c.deref.ensures.0 ∙ c.reply_line.ensures ∙ ap (λ (n : ℕ). reply_line n c.in-Ok.reply) c.id.ensures in
-    let start = start_of c.args.writer.now in
+    let start = start_of c.args.writer.now.journal in
     let order : Contents = c.order-item.result in
     let all : List Contents = c.args.orders.now in
     let rest = drop (c.loop-order.order-index + 1) all in

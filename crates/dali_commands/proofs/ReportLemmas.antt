@@ -17,8 +17,8 @@ use Rattle.dali_commands.specs.Report.{item_lines, lines_from, refused_count, re
 use Rattle.dali_text.proofs.StreamLemmas.{appends_both}
 use Rattle.dali_commands.proofs.NoteLemmas.{appends_nothing}
 
--- the items so far, what became of them, what was written of them, and what was told of them beside
-pub record SoFar (ds : Items) (n accepted refused : ℕ) (before now : Option (List ℕ)) (Told : List Outcome → Type 0)
+-- the items so far, what became of them, what was written of them, and what was noted of them beside
+pub record SoFar (ds : Items) (n accepted refused : ℕ) (before now : Option (List ℕ)) (Noted : List Outcome → Type 0)
     : Type 0 where
   pub outcomes : List Outcome
   pub judged : JudgesEach ds outcomes
@@ -27,12 +27,12 @@ pub record SoFar (ds : Items) (n accepted refused : ℕ) (before now : Option (L
   pub good : count_by is_ok outcomes ≡ accepted
   pub bad : refused_count outcomes ≡ refused
   pub written : Appends before now (lines_from 1 outcomes)
-  pub told : Told outcomes
+  pub noted : Noted outcomes
 
 -- before the first item
-pub none_yet : (before : Option (List ℕ)) (Told : List Outcome → Type 0)
-    → Told [] → SoFar no_items 0 0 0 before before Told
-none_yet before Told told = record {
+pub none_yet : (before : Option (List ℕ)) (Noted : List Outcome → Type 0)
+    → Noted [] → SoFar no_items 0 0 0 before before Noted
+none_yet before Noted noted = record {
   outcomes = [];
   judged = tt;
   many = refl;
@@ -40,7 +40,7 @@ none_yet before Told told = record {
   good = refl;
   bad = refl;
   written = appends_nothing before;
-  told = told;
+  noted = noted;
 }
 
 lines_from_one_more : (i : ℕ) (xs : List Outcome) (x : Outcome)
@@ -59,12 +59,12 @@ count_one_more p xs x =
 
 -- the step of the loop: one more item, its outcome, and its lines
 pub accepted_more : (done : List Value) (v : Value) (a r : ℕ) (before mid now : Option (List ℕ)) (x : Outcome)
-    (Told ToldNow : List Outcome → Type 0)
-    → SoFar (items_view done) (length done) a r before mid Told
+    (Noted NotedNow : List Outcome → Type 0)
+    → SoFar (items_view done) (length done) a r before mid Noted
     → Judges (view v) x → is_ok x ≡ true → Appends mid now (item_lines (a + r + 1) x)
-    → ((xs : List Outcome) → a + r + 1 ≡ 1 + length xs → Told xs → ToldNow (xs ++ x ∷ []))
-    → SoFar (items_view (done ++ v ∷ [])) (length (done ++ v ∷ [])) (a + 1) r before now ToldNow
-accepted_more done v a r before mid now x Told ToldNow s judged good written more =
+    → ((xs : List Outcome) → a + r + 1 ≡ 1 + length xs → Noted xs → NotedNow (xs ++ x ∷ []))
+    → SoFar (items_view (done ++ v ∷ [])) (length (done ++ v ∷ [])) (a + 1) r before now NotedNow
+accepted_more done v a r before mid now x Noted NotedNow s judged good written more =
     let size : length (done ++ v ∷ []) ≡ length done + 1 = length-append done (v ∷ []) in
     let number : a + r + 1 ≡ 1 + length s.outcomes = omega (arith, s.many, s.all) in
     record {
@@ -77,16 +77,16 @@ accepted_more done v a r before mid now x Told ToldNow s judged good written mor
       good = count_one_more is_ok s.outcomes x ∙ rw good (ap (λ n. n + 1) s.good);
       bad = count_one_more (λ y. not (is_ok y)) s.outcomes x ∙ rw good (add-zero _ ∙ s.bad);
       written = rw lines_from_one_more (appends_both before mid now _ _ s.written (rw number at written));
-      told = more s.outcomes number s.told;
+      noted = more s.outcomes number s.noted;
     }
 
 pub refused_more : (done : List Value) (v : Value) (a r : ℕ) (before mid now : Option (List ℕ)) (x : Outcome)
-    (Told ToldNow : List Outcome → Type 0)
-    → SoFar (items_view done) (length done) a r before mid Told
+    (Noted NotedNow : List Outcome → Type 0)
+    → SoFar (items_view done) (length done) a r before mid Noted
     → Judges (view v) x → is_ok x ≡ false → Appends mid now (item_lines (a + r + 1) x)
-    → ((xs : List Outcome) → a + r + 1 ≡ 1 + length xs → Told xs → ToldNow (xs ++ x ∷ []))
-    → SoFar (items_view (done ++ v ∷ [])) (length (done ++ v ∷ [])) a (r + 1) before now ToldNow
-refused_more done v a r before mid now x Told ToldNow s judged bad written more =
+    → ((xs : List Outcome) → a + r + 1 ≡ 1 + length xs → Noted xs → NotedNow (xs ++ x ∷ []))
+    → SoFar (items_view (done ++ v ∷ [])) (length (done ++ v ∷ [])) a (r + 1) before now NotedNow
+refused_more done v a r before mid now x Noted NotedNow s judged bad written more =
     let size : length (done ++ v ∷ []) ≡ length done + 1 = length-append done (v ∷ []) in
     let number : a + r + 1 ≡ 1 + length s.outcomes = omega (arith, s.many, s.all) in
     record {
@@ -99,7 +99,7 @@ refused_more done v a r before mid now x Told ToldNow s judged bad written more 
       good = count_one_more is_ok s.outcomes x ∙ rw bad (add-zero _ ∙ s.good);
       bad = count_one_more (λ y. not (is_ok y)) s.outcomes x ∙ rw bad (ap (λ n. n + 1) s.bad);
       written = rw lines_from_one_more (appends_both before mid now _ _ s.written (rw number at written));
-      told = more s.outcomes number s.told;
+      noted = more s.outcomes number s.noted;
     }
 
 -- the status where an item is refused

@@ -2,12 +2,12 @@
 use Rattle.std.specs.Prelude.{◌≡◌, ◌⊎◌, ◌+◌, ℕ, List, [], ◌∷◌, ◌++◌, Ok, Err, codes}
 use Rattle.dali_notes.specs.Notes.{SomeAbout, SomeLines}
 use Rattle.dali_input.specs.declared.fault.InputFault.{InputFault}
-use Rattle.dali_input.specs.declared.fault.InputFault.TheVariants.{Json, Document}
+use Rattle.dali_input.specs.declared.fault.InputFault.TheVariants.{Json, Document, TooBig, Hex, Memory, File}
 use Rattle.dali_input.specs.declared.setup.SetupFault.TheVariants as setup
 use Rattle.dali_input.specs.Orders.{Outcome}
-use Rattle.dali_writer.specs.declared.fault.RunFault.TheVariants.{Limit}
+use Rattle.dali_writer.specs.declared.fault.RunFault.TheVariants.{Limit, NoMemory}
 use Rattle.dali_commands.specs.declared.fault.Fault.{Fault}
-use Rattle.dali_commands.specs.declared.fault.Fault.TheVariants.{Input, Setup, Run}
+use Rattle.dali_commands.specs.declared.fault.Fault.TheVariants.{Input, Setup, Run, Journal, Drive}
 use Rattle.dali_commands.specs.declared.fault.Status.{Status}
 use Rattle.dali_commands.specs.declared.fault.Status.TheVariants.{Good}
 use Rattle.dali_commands.specs.declared.file_command.FileCommand.{FileCommand}
@@ -31,7 +31,10 @@ AreItemNotes number (outcome ∷ outcomes) note = (here : List ℕ) × (later : 
 abbrev pub IsInputNote : InputFault → List ℕ → Type 0
 IsInputNote Json note = SomeLines [] note
 IsInputNote Document note = SomeLines [] note
-IsInputNote _ note = note ≡ []
+IsInputNote TooBig note = note ≡ []
+IsInputNote Hex note = note ≡ []
+IsInputNote Memory note = note ≡ []
+IsInputNote File note = note ≡ []
 
 -- of a fault that a command gave up at, the same for the same line: of a unit or an order of a scenario, lines with the
 -- number that its line has too; of two units at one address and of the limit, lines
@@ -42,7 +45,9 @@ IsFaultNote (Setup (setup.Unit number fault)) note = SomeAbout (codes "unit") nu
 IsFaultNote (Setup (setup.Order number fault)) note = SomeAbout (codes "event") number note
 IsFaultNote (Setup setup.SameAddress) note = SomeLines [] note
 IsFaultNote (Run Limit) note = SomeLines [] note
-IsFaultNote _ note = note ≡ []
+IsFaultNote (Run NoMemory) note = note ≡ []
+IsFaultNote (Journal fault) note = note ≡ []
+IsFaultNote (Drive fault) note = note ≡ []
 
 -- a command wrote a fault's line alone, and this note is of that fault
 abbrev pub IsNotedFault : List ℕ → List ℕ → Type 0

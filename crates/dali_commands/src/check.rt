@@ -16,7 +16,7 @@ use crate::notes::write_noted_failure;
 use dali_bank::Order;
 use dali_input::{Input, ItemFault, ORDERS_LIMIT, items_of, order_of, read_input};
 use dali_notes::{Note, Repeats, note_of_item, note_of_orders};
-use dali_text::{Output, Unwritten, write_order, write_tally};
+use dali_text::{Output, OutputFailed, write_order, write_tally};
 use serde_json::Value;
 use std::alloc::Global;
 use std::io::{Read, Write};
@@ -59,7 +59,7 @@ fn try_check<R: Read, W: Write, N: Write>(
     input: &mut Input<R>,
     output: &mut Output<W>,
     notes: &mut Output<N>,
-) -> Result<Status, Unwritten>
+) -> Result<Status, OutputFailed>
     ensures checked { IfOk result (λ status. (text : List ℕ)
         × IsChecked orders_limit (state_of R.remaining input.old) (state_of R.remaining input.new) status text
         × Takes W.contents output.old output.new text) }
@@ -80,7 +80,7 @@ fn write_checked<W: Write, N: Write>(
     input: &[u8],
     output: &mut Output<W>,
     notes: &mut Output<N>,
-) -> Result<Status, Unwritten>
+) -> Result<Status, OutputFailed>
     ensures answered { IfOk result (λ status. (text : List ℕ) × IsAnswered orders_limit input.now status text
         × Takes W.contents output.old output.new text) }
     ensures noted { IfOk result (λ _. (text : List ℕ) × Takes W.contents output.old output.new text
@@ -103,7 +103,7 @@ fn write_report<W: Write, N: Write>(
     items: Vec<Value>,
     output: &mut Output<W>,
     notes: &mut Output<N>,
-) -> Result<Status, Unwritten>
+) -> Result<Status, OutputFailed>
     ensures report { IfOk result (λ status. (outcomes : List Outcome) × JudgesEach (items_view items.items) outcomes
         × (status ≡ report_status outcomes)
         × Takes W.contents output.old output.new (report outcomes)
@@ -126,7 +126,7 @@ fn write_items<W: Write, N: Write>(
     items: Vec<Value>,
     output: &mut Output<W>,
     notes: &mut Output<N>,
-) -> Result<(u64, u64), Unwritten>
+) -> Result<(u64, u64), OutputFailed>
     ensures lines { IfOk result (λ counted. (outcomes : List Outcome) × JudgesEach (items_view items.items) outcomes
         × (accepted_count outcomes ≡ counted.0) × (refused_count outcomes ≡ counted.1)
         × Takes W.contents output.old output.new (lines_from 1 outcomes)
@@ -162,7 +162,7 @@ fn write_item<W: Write, N: Write>(
     item: Value,
     notes: &mut Output<N>,
     repeats: &mut Repeats,
-) -> Result<bool, Unwritten>
+) -> Result<bool, OutputFailed>
     ensures lines { IfOk result (λ accepted. (outcome : Outcome) × Judges (view item) outcome
         × (is_ok outcome ≡ accepted)
         × Takes W.contents output.old output.new (item_lines number outcome)

@@ -12,7 +12,7 @@ use dali_bank::Order;
 use dali_drive::{DriveFault, Sink, Source, drive, put_all};
 use dali_input::ItemFault;
 use dali_journal::Journal;
-use dali_text::{Output, Unwritten};
+use dali_text::{Output, OutputFailed};
 use dali_writer::Writer;
 use std::io::Write;
 
@@ -82,7 +82,7 @@ pub fn tell_refused<W: Write>(output: &mut Output<W>, refused: &[(u64, ItemFault
     ensures unwritten { result ≡ Status.Unwritten ↔ has_failed output.new ≡ true }
     ensures flushed { result ≢ Status.Unwritten → is_flushed output.new ≡ true }
 {
-    told(write_refused(output, refused))
+    written_status(write_refused(output, refused))
 }
 
 // The same, or that the output has failed.
@@ -90,7 +90,7 @@ pub fn tell_refused<W: Write>(output: &mut Output<W>, refused: &[(u64, ItemFault
 fn write_refused<W: Write>(
     output: &mut Output<W>,
     refused: &[(u64, ItemFault)],
-) -> Result<Status, Unwritten>
+) -> Result<Status, OutputFailed>
     ensures told { IfOk result (λ status. (status ≡ Status.Refused)
         × Takes W.contents output.old output.new (refused_lines refused.now)) }
     ensures end { TellsEnd result output.new }
@@ -105,7 +105,7 @@ fn write_refused<W: Write>(
 fn write_items<W: Write>(
     output: &mut Output<W>,
     refused: &[(u64, ItemFault)],
-) -> Result<(), Unwritten>
+) -> Result<(), OutputFailed>
     ensures lines { OnOk result (Takes W.contents output.old output.new (refused_lines refused.now)) }
     ensures failed { TellsFailure result output.old output.new }
 {
@@ -116,7 +116,7 @@ fn write_items<W: Write>(
 }
 
 /// How a command ended that wrote what it tells, or couldn't.
-pub fn told(written: Result<Status, Unwritten>) -> Status
+pub fn written_status(written: Result<Status, OutputFailed>) -> Status
     ensures ok { IfOk written (λ status. result ≡ status) }
     ensures err { IfErr written (λ _. result ≡ Status.Unwritten) }
 {

@@ -2,7 +2,7 @@ ghost use Rattle.std.specs.Prelude.{◌≤◌, ◌+◌, ℕ, List, IfErr, IfOk, 
 ghost use Rattle.dali_input.specs.Orders.{AreOrdersIn, AreRefusedIn, orders_limit};
 
 use crate::check::check;
-use crate::drive::{drive_over, tell_refused, told};
+use crate::drive::{drive_over, tell_refused, written_status};
 use crate::fault::{Fault, Status};
 use crate::fault_lines::write_failure;
 use crate::journal_file::{Hindrance, open_journal};
@@ -11,7 +11,7 @@ use dali_bank::Order;
 use dali_drive::{StdSink, StdSource};
 use dali_input::{Input, InputFault, ItemFault, ORDERS_LIMIT, read_input, read_orders};
 use dali_notes::{Escaped, FirstLines};
-use dali_text::{Output, Unwritten};
+use dali_text::{Output, OutputFailed};
 use std::alloc::Global;
 use std::fs::{File, Files};
 use std::io::{ErrorKind, Read, Write};
@@ -48,7 +48,11 @@ pub fn drive_files<
             lines,
         ),
         Ok(Err(refused)) => tell_refused(&mut Output::new(lines), refused.as_slice()),
-        Err(hindrance) => told(write_hindrance(&mut Output::new(lines), orders, hindrance)),
+        Err(hindrance) => written_status(write_hindrance(
+            &mut Output::new(lines),
+            orders,
+            hindrance,
+        )),
     }
 }
 
@@ -93,13 +97,13 @@ fn orders_of<O: Write>(
             if is_told(alloc, input, lines) {
                 Ok(Err(refused))
             } else {
-                Err(Hindrance::Unwritten)
+                Err(Hindrance::Untold)
             }
         }
         Err(fault) => Err(if is_told(alloc, input, lines) {
             Hindrance::from(fault)
         } else {
-            Hindrance::Unwritten
+            Hindrance::Untold
         }),
     }
 }
@@ -132,7 +136,7 @@ fn on_journal<
                 output: Output::new(lines),
             },
         ),
-        Err(hindrance) => told(write_hindrance(&mut Output::new(lines), name, hindrance)),
+        Err(hindrance) => written_status(write_hindrance(&mut Output::new(lines), name, hindrance)),
     }
 }
 
@@ -141,11 +145,11 @@ fn write_hindrance<W: Write>(
     output: &mut Output<W>,
     name: &str,
     hindrance: Hindrance,
-) -> Result<Status, Unwritten> {
+) -> Result<Status, OutputFailed> {
     let fault = Fault::Input(InputFault::File);
     let name = Escaped::whole(name);
     match hindrance {
-        Hindrance::Unwritten => Err(Unwritten),
+        Hindrance::Untold => Err(OutputFailed),
         Hindrance::Fault(fault) => {
             if fault == Fault::Input(InputFault::Memory) {
                 writeln!(output, "error: memory ran out: {name}")?;

@@ -9,13 +9,15 @@ use dali_drive::DriveFault;
 use dali_gear::GearFault;
 use dali_input::{InputFault, ItemFault, SetupFault};
 use dali_journal::JournalFault;
-use dali_text::{Output, Unwritten, write_counted_fault, write_placed_fault, write_single_fault};
+use dali_text::{
+    Output, OutputFailed, write_counted_fault, write_placed_fault, write_single_fault,
+};
 use dali_writer::RunFault;
 use std::io::Write;
 
 /// Writes why a command gave up, and nothing after it; the status is that of the fault.
 #[tactic(auto, using(dali_text::proofs::StreamLemmas::appends_kept))]
-pub fn write_failure<W: Write>(output: &mut Output<W>, fault: Fault) -> Result<Status, Unwritten>
+pub fn write_failure<W: Write>(output: &mut Output<W>, fault: Fault) -> Result<Status, OutputFailed>
     ensures told { OnOk result (Takes W.contents output.old output.new (told_line fault)) }
     ensures status { IfOk result (λ status. status ≡ status_of fault) }
     ensures end { fault ≢ Fault.Drive DriveFault.Out → TellsEnd result output.new }
@@ -26,7 +28,7 @@ pub fn write_failure<W: Write>(output: &mut Output<W>, fault: Fault) -> Result<S
 }
 
 /// Writes the line of a fault.
-pub fn write_fault<W: Write>(output: &mut Output<W>, fault: Fault) -> Result<(), Unwritten>
+pub fn write_fault<W: Write>(output: &mut Output<W>, fault: Fault) -> Result<(), OutputFailed>
     ensures line { OnOk result (Takes W.contents output.old output.new (told_line fault)) }
     ensures failed { TellsFailure result output.old output.new }
 {
@@ -44,7 +46,10 @@ pub fn write_fault<W: Write>(output: &mut Output<W>, fault: Fault) -> Result<(),
 }
 
 // Writes the fault of a whole input.
-fn write_input_fault<W: Write>(output: &mut Output<W>, fault: InputFault) -> Result<(), Unwritten>
+fn write_input_fault<W: Write>(
+    output: &mut Output<W>,
+    fault: InputFault,
+) -> Result<(), OutputFailed>
     ensures line { OnOk result (Takes W.contents output.old output.new (input_line fault)) }
     ensures failed { TellsFailure result output.old output.new }
 {
@@ -52,7 +57,10 @@ fn write_input_fault<W: Write>(output: &mut Output<W>, fault: InputFault) -> Res
 }
 
 // Writes why a scenario can't be set up.
-fn write_setup_fault<W: Write>(output: &mut Output<W>, fault: SetupFault) -> Result<(), Unwritten>
+fn write_setup_fault<W: Write>(
+    output: &mut Output<W>,
+    fault: SetupFault,
+) -> Result<(), OutputFailed>
     ensures line { OnOk result (Takes W.contents output.old output.new (setup_line fault)) }
     ensures failed { TellsFailure result output.old output.new }
 {
@@ -75,7 +83,7 @@ fn write_setup_fault<W: Write>(output: &mut Output<W>, fault: SetupFault) -> Res
 fn write_journal_fault<W: Write>(
     output: &mut Output<W>,
     fault: JournalFault,
-) -> Result<(), Unwritten>
+) -> Result<(), OutputFailed>
     ensures line { OnOk result (Takes W.contents output.old output.new (journal_line fault)) }
     ensures failed { TellsFailure result output.old output.new }
 {
@@ -114,7 +122,10 @@ pub fn drive_line(fault: DriveFault) -> &'static str
 }
 
 // Writes the fault of a journal as a whole.
-fn write_whole_fault<W: Write>(output: &mut Output<W>, fault: JournalFault) -> Result<(), Unwritten>
+fn write_whole_fault<W: Write>(
+    output: &mut Output<W>,
+    fault: JournalFault,
+) -> Result<(), OutputFailed>
     ensures line { OnOk result (Takes W.contents output.old output.new (whole_line fault)) }
     ensures failed { TellsFailure result output.old output.new }
 {
@@ -126,7 +137,7 @@ fn write_record_fault<W: Write>(
     output: &mut Output<W>,
     fault: JournalFault,
     place: usize,
-) -> Result<(), Unwritten>
+) -> Result<(), OutputFailed>
     ensures line { OnOk result (Takes W.contents output.old output.new (place_line fault place)) }
     ensures failed { TellsFailure result output.old output.new }
 {
@@ -138,7 +149,7 @@ pub fn write_refused_item<W: Write>(
     output: &mut Output<W>,
     item: u64,
     fault: ItemFault,
-) -> Result<(), Unwritten>
+) -> Result<(), OutputFailed>
     ensures line { OnOk result (Takes W.contents output.old output.new (item_line item fault)) }
     ensures failed { TellsFailure result output.old output.new }
 {

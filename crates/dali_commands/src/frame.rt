@@ -10,7 +10,7 @@ ghost use Rattle.dali_commands.specs.FrameAnswers.{AreFourDigits, IsFrameAnswer}
 use crate::fault::{Fault, Status};
 use crate::fault_lines::write_failure;
 use dali_input::InputFault;
-use dali_text::{Output, Unwritten, write_frame};
+use dali_text::{Output, OutputFailed, write_frame};
 use std::io::Write;
 
 /// Prints what the word of a forward frame means: the word, the standard's name of the frame, and its
@@ -32,7 +32,7 @@ pub fn frame<W: Write>(argument: &str, output: &mut Output<W>) -> Status
 }
 
 // The same, or that the output has failed.
-fn try_frame<W: Write>(argument: &str, output: &mut Output<W>) -> Result<Status, Unwritten>
+fn try_frame<W: Write>(argument: &str, output: &mut Output<W>) -> Result<Status, OutputFailed>
     ensures told { IfOk result (λ status. (text : List ℕ) × IsFrameAnswer argument.now status text
         × Takes W.contents output.old output.new text) }
     ensures end { TellsEnd result output.new }
@@ -60,7 +60,7 @@ fn word_in(argument: &str) -> Option<u16>
 
 // Writes a word and the frame that it spells, and nothing after it.
 #[tactic(auto, using(dali_text::proofs::StreamLemmas::appends_kept))]
-fn write_word<W: Write>(output: &mut Output<W>, word: u16) -> Result<Status, Unwritten>
+fn write_word<W: Write>(output: &mut Output<W>, word: u16) -> Result<Status, OutputFailed>
     ensures line { IfOk result (λ status. (status ≡ Status.Good) × (frame : Frame) × Spells frame word
         × Takes W.contents output.old output.new (frame_line word frame)) }
     ensures end { TellsEnd result output.new }

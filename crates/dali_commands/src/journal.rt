@@ -10,7 +10,7 @@ use crate::fault::{Fault, Status};
 use crate::fault_lines::write_failure;
 use dali_input::{Input, InputFault, read_input};
 use dali_journal::{Journal, Version};
-use dali_text::{Output, Unwritten, write_journal};
+use dali_text::{Output, OutputFailed, write_journal};
 use std::alloc::Global;
 use std::io::{Read, Write};
 
@@ -52,7 +52,7 @@ fn try_journal<R: Read, W: Write>(
     alloc: Global,
     input: &mut Input<R>,
     output: &mut Output<W>,
-) -> Result<Status, Unwritten>
+) -> Result<Status, OutputFailed>
     ensures told { IfOk result (λ status. (text : List ℕ)
         × IsJournalAnswer (state_of R.remaining input.old) (state_of R.remaining input.new) status text
         × Takes W.contents output.old output.new text) }
@@ -70,7 +70,7 @@ fn write_input<W: Write>(
     alloc: Global,
     input: Vec<u8>,
     output: &mut Output<W>,
-) -> Result<Status, Unwritten>
+) -> Result<Status, OutputFailed>
     ensures told { IfOk result (λ status. (text : List ℕ) × TellsInput input.items status text
         × Takes W.contents output.old output.new text) }
     ensures end { TellsEnd result output.new }

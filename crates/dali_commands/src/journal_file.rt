@@ -22,7 +22,7 @@ pub enum Hindrance {
     /// Another drive has it.
     InUse,
     /// What is wrong with it can't be told.
-    Unwritten,
+    Untold,
 }
 
 impl Hindrance {

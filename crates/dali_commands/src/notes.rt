@@ -10,7 +10,7 @@ use crate::fault_lines::write_failure;
 use dali_drive::DriveFault;
 use dali_input::{InputFault, SetupFault};
 use dali_notes::Note;
-use dali_text::{Output, Unwritten};
+use dali_text::{Output, OutputFailed};
 use dali_writer::RunFault;
 use std::io::Write;
 
@@ -20,7 +20,7 @@ pub fn write_noted_failure<W: Write, N: Write>(
     fault: Fault,
     notes: &mut Output<N>,
     note: &Note,
-) -> Result<Status, Unwritten>
+) -> Result<Status, OutputFailed>
     ensures told { OnOk result (Takes W.contents output.old output.new (told_line fault)) }
     ensures status { IfOk result (λ status. status ≡ status_of fault) }
     ensures end { fault ≢ Fault.Drive DriveFault.Out → TellsEnd result output.new }
@@ -42,6 +42,14 @@ fn note_fault<N: Write>(notes: &mut Output<N>, fault: Fault, note: &Note)
         | Fault::Run(RunFault::Limit) => note.tell(notes),
         Fault::Setup(SetupFault::Unit(number, _)) => note.tell_about(notes, "unit", number),
         Fault::Setup(SetupFault::Order(number, _)) => note.tell_about(notes, "event", number),
-        _ => {}
+        Fault::Input(InputFault::TooBig | InputFault::Hex | InputFault::Memory | InputFault::File)
+        | Fault::Setup(
+            SetupFault::Input(
+                InputFault::TooBig | InputFault::Hex | InputFault::Memory | InputFault::File,
+            ),
+        )
+        | Fault::Run(RunFault::NoMemory)
+        | Fault::Journal(_)
+        | Fault::Drive(_) => {}
     }
 }

@@ -19,7 +19,7 @@ use dali_input::{
     Input, InputFault, Scenario, Setup, SetupFault, json_of, read_input, scenario_of, setup_of,
 };
 use dali_notes::{Note, note_of_json, note_of_scenario, note_of_setup};
-use dali_text::{Output, Unwritten, write_run};
+use dali_text::{Output, OutputFailed, write_run};
 use dali_writer::{Outcome, RunFault, run_sim};
 use serde_json::Value;
 use std::alloc::Global;
@@ -77,7 +77,7 @@ fn try_run<R: Read, W: Write, N: Write>(
     output: &mut Output<W>,
     single_frames: bool,
     notes: &mut Output<N>,
-) -> Result<Status, Unwritten>
+) -> Result<Status, OutputFailed>
     ensures ran { IfOk result (λ status. (text : List ℕ)
         × IsRunAnswer single_frames (state_of R.remaining input.old) (state_of R.remaining input.new) status text
         × Takes W.contents output.old output.new text) }
@@ -182,7 +182,7 @@ fn write_ran<W: Write>(
     output: &mut Output<W>,
     single_frames: bool,
     ran: &Ran,
-) -> Result<Status, Unwritten>
+) -> Result<Status, OutputFailed>
     requires { SendsAllProper (reverse ran.now.outcome.trace.items) }
     ensures told { IfOk result (λ status. (status ≡ Status.Good) × Takes W.contents output.old output.new
         (run_text single_frames ran.now.outcome.trace.items (length ran.now.outcome.journal.items) ran.now.bus.units)) }

@@ -9,7 +9,7 @@ ghost use Rattle.dali_commands.specs.Ends.{TellsEnd};
 use crate::fault::{Fault, Status};
 use crate::fault_lines::write_failure;
 use dali_input::{Input, TEXT_LIMIT, bank_of, read_input};
-use dali_text::{Output, Unwritten, write_bank};
+use dali_text::{Output, OutputFailed, write_bank};
 use std::alloc::Global;
 use std::io::{Read, Write};
 
@@ -42,7 +42,7 @@ fn try_show<R: Read, W: Write>(
     alloc: Global,
     input: &mut Input<R>,
     output: &mut Output<W>,
-) -> Result<Status, Unwritten>
+) -> Result<Status, OutputFailed>
     ensures shown { IfOk result (λ status. (text : List ℕ)
         × ShowsInput (state_of R.remaining input.old) (state_of R.remaining input.new) status text
         × Takes W.contents output.old output.new text) }
@@ -60,7 +60,7 @@ fn write_shown<W: Write>(
     alloc: Global,
     input: Vec<u8>,
     output: &mut Output<W>,
-) -> Result<Status, Unwritten>
+) -> Result<Status, OutputFailed>
     ensures answered { IfOk result (λ status. (text : List ℕ) × IsShowAnswer input.items status text
         × Takes W.contents output.old output.new text) }
     ensures end { TellsEnd result output.new }
@@ -73,7 +73,7 @@ fn write_shown<W: Write>(
 
 // Writes each row of a bank, and nothing after them.
 #[tactic(auto, using(dali_text::proofs::StreamLemmas::appends_kept))]
-fn write_rows<W: Write>(output: &mut Output<W>, bank: &[u8]) -> Result<Status, Unwritten>
+fn write_rows<W: Write>(output: &mut Output<W>, bank: &[u8]) -> Result<Status, OutputFailed>
     ensures rows { IfOk result (λ status. (status ≡ Status.Good) × (text : List ℕ) × AreLines bank.now rows text
         × Takes W.contents output.old output.new text) }
     ensures end { TellsEnd result output.new }

@@ -55,13 +55,13 @@ begun_at start writer j l a o described follows =
 -- what is next was done, and its text written and read
 goes_on : (start : Start) (past : List Happening) (next : Happening) (first old new : Streams)
     → IsDriven start past first old → IsNext start past next
-    → (IsInTurn start past → IsInTurn start (next ∷ past)) → (KeepsRecords past → KeepsRecords (next ∷ past))
+    → IsInTurn start (next ∷ past) → (KeepsRecords past → KeepsRecords (next ∷ past))
     → Transcript (next ∷ past) first new → IsDriven start (next ∷ past) first new
 goes_on start past next first old new d is turn range text =
     record {
       legal = (d.legal, is.may);
       planned = (d.planned, is.planned);
-      in_turn = turn d.in_turn;
+      in_turn = (turn, d.in_turn);
       in_range = range d.in_range;
       text = text;
     }
@@ -72,7 +72,7 @@ pub keeps_on : (start : Start) (past : List Happening) (first : Streams) (j more
     → IsNext start past (Kept entry) → IsRecord Two entry → Appends j more (spelling Two entry)
     → IsDriven start (Kept entry ∷ past) first (shown more l a o)
 keeps_on start past first j more l a o entry d next range added =
-    goes_on start past (Kept entry) first (shown j l a o) (shown more l a o) d next (λ t. t) (λ t. (range, t))
+    goes_on start past (Kept entry) first (shown j l a o) (shown more l a o) d next tt (λ t. (range, t))
     (record {
       heard = d.text.heard;
       lines = d.text.lines;
@@ -88,7 +88,7 @@ pub sends_on : (start : Start) (past : List Happening) (first : Streams) (j l mo
     → Appends l more (link_line frame) → TakesLine a less (Ok answer)
     → IsDriven start (Sent frame answer ∷ past) first (shown j more less o)
 sends_on start past first j l more a less o frame answer d next added taken =
-    goes_on start past (Sent frame answer) first (shown j l a o) (shown j more less o) d next (λ t. t) (λ t. t)
+    goes_on start past (Sent frame answer) first (shown j l a o) (shown j more less o) d next tt (λ t. t)
     (record {
       heard = d.text.heard ++ taken.0;
       lines = (d.text.heard, taken.0, d.text.lines, taken.1, refl);
@@ -104,7 +104,7 @@ pub says_on : (start : Start) (past : List Happening) (first : Streams) (j l a o
     → IsNext start past (Answered id reply) → Appends o more (reply_line id reply)
     → IsDriven start (Answered id reply ∷ past) first (shown j l a more)
 says_on start past first j l a o more id reply d next added =
-    goes_on start past (Answered id reply) first (shown j l a o) (shown j l a more) d next (λ t. t) (λ t. t)
+    goes_on start past (Answered id reply) first (shown j l a o) (shown j l a more) d next tt (λ t. t)
     (record {
       heard = d.text.heard;
       lines = d.text.lines;

@@ -16,7 +16,7 @@ use Rattle.dali_journal.specs.Spelling.{spelling, journal_spelling, IsRecord}
 use Rattle.dali_journal.specs.JournalState.{AreKept}
 use Rattle.dali_journal.proofs.TornLemmas.{torn_no_fault}
 use Rattle.dali_trace.specs.declared.happening.Happening.{Happening}
-use Rattle.dali_trace.specs.declared.happening.Happening.TheVariants.{Asked, Answered, Sent, Kept, Stopped, Powered}
+use Rattle.dali_trace.specs.declared.happening.Happening.TheVariants.{Asked, Answered, Sent, Kept}
 use Rattle.dali_drive.specs.declared.fault.DriveFault.{DriveFault}
 use Rattle.dali_drive.specs.declared.fault.DriveFault.TheVariants.{Journal, Link, Line, End, NoMemory, TooLong, Out}
 use Rattle.dali_trace.specs.Trace.{Start, records_of}

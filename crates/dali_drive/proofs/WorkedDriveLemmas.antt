@@ -16,6 +16,7 @@ use Rattle.dali_trace.specs.declared.happening.Reply.TheVariants as replies
 use Rattle.dali_trace.specs.declared.happening.Happening.TheVariants.{Asked, Sent, Kept, Stopped, Powered}
 use Rattle.dali_drive.specs.declared.fault.DriveFault.TheVariants as faults
 use Rattle.dali_frame.specs.declared.fault.LineFault.{LineFault}
+use Rattle.dali_trace.specs.Work.{AtEachPast}
 use Rattle.dali_trace.specs.Next.{IsNext}
 use Rattle.dali_drive.specs.Lines.{IsAnswerLine}
 use Rattle.dali_trace.specs.Replies.{reply_line}
@@ -88,7 +89,7 @@ pub two_driven : IsDriven empty half_tried before_two after_two
 two_driven = record {
   legal = ((begun_legal, (5, refl)), refl);
   planned = next_frame_planned.0;
-  in_turn = (refl, tt);
+  in_turn = (tt, (tt, (tt, (tt, (refl, tt)))));
   in_range = (first_is_record, tt);
   text = record {
     heard = codes "--\n01\r\n";
@@ -135,20 +136,20 @@ no_record_broken rest old new (entry, next, cut) = no_record entry next
 
 -- Which happenings a drive makes
 
-pub asked_in_turn : IsInTurn empty (Asked first_order 7 ∷ [])
+pub asked_in_turn : AtEachPast (IsInTurn empty) (Asked first_order 7 ∷ [])
 asked_in_turn = (refl, tt)
 
-pub not_asked_at_work : IsInTurn empty (Asked first_order 8 ∷ begun) → ⊥
+pub not_asked_at_work : AtEachPast (IsInTurn empty) (Asked first_order 8 ∷ begun) → ⊥
 not_asked_at_work turn = let busy : true ≡ false = turn.0 in cc
 
-pub not_stopped_in_turn : IsInTurn empty (Stopped ∷ begun) → ⊥
-not_stopped_in_turn turn = turn
+pub not_stopped_in_turn : AtEachPast (IsInTurn empty) (Stopped ∷ begun) → ⊥
+not_stopped_in_turn turn = turn.0
 
-pub no_loss_of_power_in_turn : IsInTurn empty (Powered 5 ∷ begun) → ⊥
-no_loss_of_power_in_turn turn = turn
+pub no_loss_of_power_in_turn : AtEachPast (IsInTurn empty) (Powered 5 ∷ begun) → ⊥
+no_loss_of_power_in_turn turn = turn.0
 
-pub no_loss_of_power_before : IsInTurn empty (Sent (Dtr1 1) None ∷ Powered 5 ∷ begun) → ⊥
-no_loss_of_power_before turn = turn
+pub no_loss_of_power_before : AtEachPast (IsInTurn empty) (Sent (Dtr1 1) None ∷ Powered 5 ∷ begun) → ⊥
+no_loss_of_power_before turn = turn.1.0
 
 -- Which streams have failed where a fault comes: its own, and no other
 

@@ -1,6 +1,6 @@
 -- Which traces a drive makes, and where a fault leaves one.
 use Rattle.std.specs.Prelude.{◌≡◌, ◌≤◌, ◌⊎◌, ◌++◌, ℕ, Bool, true, false, List, [], ◌∷◌, Option, Result, Err, length}
-use Rattle.std.specs.Prelude.{take, reverse}
+use Rattle.std.specs.Prelude.{take, reverse, map}
 use Rattle.std.specs.Io.KnownBytes.{Appends, Keeps}
 use Rattle.dali_frame.specs.declared.forward.Frame.{Frame}
 use Rattle.dali_bank.specs.Order.{Contents}
@@ -20,6 +20,7 @@ use Rattle.dali_trace.specs.Replies.{IsReply, reply_line}
 use Rattle.dali_trace.specs.Legal.{Legal, IsFinished}
 use Rattle.dali_trace.specs.ByPlan.{ByPlan}
 use Rattle.dali_trace.specs.Next.{IsNext}
+use Rattle.dali_trace.specs.Work.{AtEachPast}
 use Rattle.dali_writer.specs.WriterState.{WriterState}
 use Rattle.dali_writer.specs.Describes.{Describes}
 use Rattle.dali_writer.specs.Follows.{Follows}
@@ -34,16 +35,15 @@ orders_asked (other ∷ past) = orders_asked past
 
 -- these orders, each at the same moment
 abbrev pub at_moment : ℕ → List Contents → List (Contents × ℕ)
-at_moment moment [] = []
-at_moment moment (order ∷ orders) = (order, moment) ∷ at_moment moment orders
+at_moment moment orders = map (λ order. (order, moment)) orders
 
--- each order is asked where nothing is to be done, and the program isn't stopped, nor does it know of losses of power
+-- an order is asked last where nothing is to be done, and what came last is no stop, nor a loss of power, of which the
+-- program doesn't know
 abbrev pub IsInTurn : Start → List Happening → Type 0
-IsInTurn start [] = Unit {0}
-IsInTurn start (Asked order moment ∷ past) = (is_busy start past ≡ false) × IsInTurn start past
+IsInTurn start (Asked order moment ∷ past) = is_busy start past ≡ false
 IsInTurn start (Stopped ∷ past) = ⊥
 IsInTurn start (Powered address ∷ past) = ⊥
-IsInTurn start (other ∷ past) = IsInTurn start past
+IsInTurn start other = Unit {0}
 
 -- the numbers of each record that was kept are in their ranges
 abbrev pub KeepsRecords : List Happening → Type 0
@@ -54,7 +54,7 @@ KeepsRecords past = AllByRecursion (IsRecord Two) (kept_in past)
 pub record IsDriven (start : Start) (past : List Happening) (first last : Streams) : Type 0 where
   pub legal : Legal start past
   pub planned : ByPlan start past
-  pub in_turn : IsInTurn start past
+  pub in_turn : AtEachPast (IsInTurn start) past
   pub in_range : KeepsRecords past
   pub text : Transcript past first last
 

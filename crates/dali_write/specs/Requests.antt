@@ -1,8 +1,7 @@
 -- The frames of a checked read and of a checked write, each with the answer that it wants.
 use Rattle.std.specs.Prelude.{◌≡◌, ℕ, List, [], ◌∷◌, ◌++◌, Option, Some, IsSome}
 use Rattle.dali_frame.specs.declared.forward.Frame.{Frame}
-use Rattle.dali_frame.specs.declared.forward.Frame.TheVariants.{Dtr0, Dtr1, Dtr2, Write, WriteSilent, Enable, AskDtr0}
-use Rattle.dali_frame.specs.declared.forward.Frame.TheVariants.{AskDtr1, AskDtr2, Read, Other}
+use Rattle.dali_frame.specs.declared.forward.Frame.TheVariants.{Dtr0, Dtr1, Write, Enable, AskDtr0, AskDtr1, Read}
 use Rattle.dali_bus.specs.Hears.{up}
 use Rattle.dali_write.specs.declared.request.Wish.{Wish}
 use Rattle.dali_write.specs.declared.request.Wish.TheVariants.{Nothing, Exactly, Anything}
@@ -50,14 +49,6 @@ access_requests unit (WriteTo location byte) = write_requests unit location byte
 
 -- the byte that a try has read or written, after one more answer
 abbrev pub byte_after : Frame → Option ℕ → Option ℕ → Option ℕ
-byte_after (Dtr0 b) answer byte = byte
-byte_after (Dtr1 b) answer byte = byte
-byte_after (Dtr2 b) answer byte = byte
 byte_after (Write b) answer byte = answer
-byte_after (WriteSilent b) answer byte = byte
-byte_after (Enable a) answer byte = byte
-byte_after (AskDtr0 a) answer byte = byte
-byte_after (AskDtr1 a) answer byte = byte
-byte_after (AskDtr2 a) answer byte = byte
 byte_after (Read a) answer byte = answer
-byte_after (Other w) answer byte = byte
+byte_after other answer byte = byte

@@ -20,9 +20,12 @@ fn main(rt: HostRuntime) -> ExitCode {
     let status = match std::env::args(&rt) {
         Ok(words) => match words.collect(rt.alloc()) {
             Ok(words) => run(&rt, &words),
-            Err(_) => out_of_memory(&rt, Place::Output),
+            Err(_) => out_of_memory(&rt, FaultStream::Output),
         },
-        Err(error) if error.kind() == ErrorKind::OutOfMemory => out_of_memory(&rt, Place::Output),
+        Err(error) if error.kind() == ErrorKind::OutOfMemory => out_of_memory(
+            &rt,
+            FaultStream::Output,
+        ),
         Err(_) => {
             let _ = eprintln!(&rt; "error: an argument is no text in UTF-8");
             Status::Refused
@@ -33,16 +36,16 @@ fn main(rt: HostRuntime) -> ExitCode {
 
 // Carries out the command line.
 fn run(rt: &HostRuntime, words: &Vec<String>) -> Status {
-    let place = if words.len() > 1 && words[1].as_str() == "drive" {
-        Place::Lines
+    let stream = if words.len() > 1 && words[1].as_str() == "drive" {
+        FaultStream::Lines
     } else {
-        Place::Output
+        FaultStream::Output
     };
     if words.len() == 2 && words[1].as_str() == "--version" {
         return print_version(rt);
     }
     let Ok(words) = texts_of(rt.alloc(), words) else {
-        return out_of_memory(rt, place);
+        return out_of_memory(rt, stream);
     };
     match job_of(rt.alloc(), words.as_slice()) {
         Ok(Job::Check(orders)) => on_file(rt, orders, FileCommand::Check),
@@ -55,7 +58,7 @@ fn run(rt: &HostRuntime, words: &Vec<String>) -> Status {
         Ok(Job::Frame(digits)) => {
             let mut output = Output::new(io::writer(rt));
             let status = frame(digits, &mut output);
-            told(rt, status, output.cause())
+            tell_cause(rt, status, output.cause())
         }
         Ok(Job::Show(dump)) => on_file(rt, dump, FileCommand::Show),
         Ok(Job::Journal(records)) => on_file(rt, records, FileCommand::Journal),
@@ -67,20 +70,20 @@ fn run(rt: &HostRuntime, words: &Vec<String>) -> Status {
             },
         ) => on_link(rt, orders, journal, moment),
         Err(error) if error.kind() == clap::error::ErrorKind::OutOfMemory => out_of_memory(
-            rt, place,
+            rt, stream,
         ),
-        Err(error) if error.use_stderr() => refused(rt, &error, place),
+        Err(error) if error.use_stderr() => refused(rt, &error, stream),
         Err(help) => match help.print(rt) {
             Ok(()) => Status::Good,
-            Err(cause) => told(rt, Status::Unwritten, Some(cause.kind())),
+            Err(cause) => tell_cause(rt, Status::Unwritten, Some(cause.kind())),
         },
     }
 }
 
 // Prints what `clap` says of a wrong command line, in which it repeats words of that.
-fn refused(rt: &HostRuntime, error: &clap::Error, place: Place) -> Status {
+fn refused(rt: &HostRuntime, error: &clap::Error, stream: FaultStream) -> Status {
     let Ok(text) = format!(in rt.alloc(); "{error}") else {
-        return out_of_memory(rt, place);
+        return out_of_memory(rt, stream);
     };
     for line in text.as_str().lines() {
         let line = Escaped::whole(line);
@@ -95,12 +98,12 @@ fn print_version(rt: &HostRuntime) -> Status {
         Ok(()) => Status::Good,
         Err(_) => Status::Unwritten,
     };
-    told(rt, status, output.cause())
+    tell_cause(rt, status, output.cause())
 }
 
 // The status, after telling why the output can't be written, if that is so. Where nobody reads it any more, as in
 // `check FILE | head`, nothing is told.
-fn told(rt: &HostRuntime, status: Status, cause: Option<ErrorKind>) -> Status {
+fn tell_cause(rt: &HostRuntime, status: Status, cause: Option<ErrorKind>) -> Status {
     let _ = match cause {
         None | Some(ErrorKind::BrokenPipe) => Ok(()),
         Some(ErrorKind::Uncategorized) => eprintln!(rt; "error: the output can't be written"),
@@ -121,7 +124,7 @@ fn texts_of<'a>(alloc: Global, words: &'a Vec<String>) -> Result<Vec<&'a str>, A
 // too, since a process may lack the right to open it by name.
 fn on_file(rt: &HostRuntime, name: &str, command: FileCommand) -> Status {
     let Ok(writer) = BufWriter::new(rt.alloc(), io::writer(rt)) else {
-        return out_of_memory(rt, Place::Output);
+        return out_of_memory(rt, FaultStream::Output);
     };
     let mut output = Output::new(writer);
     if name == "/dev/stdin" || name == "-" {
@@ -135,7 +138,7 @@ fn on_file(rt: &HostRuntime, name: &str, command: FileCommand) -> Status {
     }
     match fs::open(rt, name) {
         Ok(file) => on_input(rt, name, command, &mut Input::new(file), &mut output),
-        Err(cause) => unopened(rt, name, cause, Place::Output),
+        Err(cause) => unopened(rt, name, cause, FaultStream::Output),
     }
 }
 
@@ -148,7 +151,7 @@ fn on_input<R: Read, W: Write>(
     output: &mut Output<W>,
 ) -> Status {
     let Ok(writer) = BufWriter::new(rt.alloc(), rt.stderr()) else {
-        return out_of_memory(rt, Place::Output);
+        return out_of_memory(rt, FaultStream::Output);
     };
     let mut notes = Output::new(FirstLines::new(writer));
     let status = command.carry_out(rt.alloc(), input, output, &mut notes);
@@ -159,13 +162,13 @@ fn on_input<R: Read, W: Write>(
         None if status == Status::Failed => eprintln!(rt; "error: memory ran out: {name}"),
         None => Ok(()),
     };
-    told(rt, status, output.cause())
+    tell_cause(rt, status, output.cause())
 }
 
 // Carries out orders over standard input and output. Where standard error can't be written, nothing more is.
 fn on_link(rt: &HostRuntime, orders: &str, journal: &str, moment: u64) -> Status {
     let Ok(lines) = LineWriter::new(rt.alloc(), rt.stderr()) else {
-        return out_of_memory(rt, Place::Lines);
+        return out_of_memory(rt, FaultStream::Lines);
     };
     // A file that is opened takes the number of a standard stream that is closed. These do so before the journal.
     match (fs::open(rt, "/"), fs::open(rt, "/"), fs::open(rt, "/")) {
@@ -176,42 +179,42 @@ fn on_link(rt: &HostRuntime, orders: &str, journal: &str, moment: u64) -> Status
             }
         }
         (Err(cause), _, _) | (_, Err(cause), _) | (_, _, Err(cause)) => {
-            unopened(rt, "/", cause, Place::Lines)
+            unopened(rt, "/", cause, FaultStream::Lines)
         }
     }
 }
 
 // Where a fault is told that comes before its command runs: `drive` has the link for its output.
 #[derive(Clone, Copy)]
-enum Place {
+enum FaultStream {
     Output,
     Lines,
 }
 
 // Prints that a file can't be opened, and why.
-fn unopened(rt: &HostRuntime, name: &str, cause: io::Error, place: Place) -> Status {
+fn unopened(rt: &HostRuntime, name: &str, cause: io::Error, stream: FaultStream) -> Status {
     let name = Escaped::whole(name);
     let _ = eprintln!(rt; "error: the input can't be opened or read: {name}: {cause}");
-    print_fault(rt, Fault::Input(InputFault::File), place)
+    print_fault(rt, Fault::Input(InputFault::File), stream)
 }
 
 // Prints that memory ran out before any command ran.
-fn out_of_memory(rt: &HostRuntime, place: Place) -> Status {
+fn out_of_memory(rt: &HostRuntime, stream: FaultStream) -> Status {
     let _ = eprintln!(rt; "error: memory ran out");
-    print_fault(rt, Fault::Input(InputFault::Memory), place)
+    print_fault(rt, Fault::Input(InputFault::Memory), stream)
 }
 
 // Prints a fault that comes before any command runs.
-fn print_fault(rt: &HostRuntime, fault: Fault, place: Place) -> Status {
-    match place {
-        Place::Output => {
+fn print_fault(rt: &HostRuntime, fault: Fault, stream: FaultStream) -> Status {
+    match stream {
+        FaultStream::Output => {
             let mut output = Output::new(io::writer(rt));
             match write_fault(&mut output, fault) {
                 Ok(()) => fault.status(),
-                Err(_) => told(rt, Status::Unwritten, output.cause()),
+                Err(_) => tell_cause(rt, Status::Unwritten, output.cause()),
             }
         }
-        Place::Lines => match write_fault(&mut Output::new(rt.stderr()), fault) {
+        FaultStream::Lines => match write_fault(&mut Output::new(rt.stderr()), fault) {
             Ok(()) => fault.status(),
             Err(_) => Status::Unwritten,
         },

@@ -1,4 +1,4 @@
-// Drives of one order, with each stream failing at each place, and the drives that go on from what is left.
+// Drives of one order, with each stream failing at each point, and the drives that go on from what is left.
 use crate::drive::driving::{SILENT_RECORDS, gtin_order};
 use crate::drive::streams::{ALL, Good, Left, Wanted, drive_on, file_of};
 use crate::expected::expect_that;
@@ -123,7 +123,7 @@ fn by_hand(
     Ok(seen)
 }
 
-// A stream, and how its places are counted.
+// A stream, and how its points are counted.
 #[derive(Clone, Copy)]
 enum Stream {
     Answers,
@@ -155,13 +155,13 @@ impl Stream {
 
 // After so many bytes or flushes the stream fails, a sink as `Some(0)` or as `None`.
 #[derive(Clone, Copy)]
-struct Place {
+struct FailurePoint {
     stream: Stream,
     number: usize,
     counts: bool,
 }
 
-impl Place {
+impl FailurePoint {
     fn good(self) -> Good {
         let all = Good {
             counts: self.counts,
@@ -326,20 +326,25 @@ fn has_failed(stream: Stream, left: &Left) -> bool {
     left.fault == fault && left.failed == failed
 }
 
-// Whether the drive left the first bytes of what the whole run leaves, up to the place.
-fn is_cut_there(run: &Run<'_>, whole: &Seen, place: Place, left: &Left) -> bool {
-    has_failed(place.stream, left)
-        && place.is_reached(left, run.ends)
+// Whether the drive left the first bytes of what the whole run leaves, up to the point.
+fn is_cut_there(run: &Run<'_>, whole: &Seen, point: FailurePoint, left: &Left) -> bool {
+    has_failed(point.stream, left)
+        && point.is_reached(left, run.ends)
         && whole.link.starts_with(&left.link)
         && run.journal.starts_with(&left.journal)
         && run.said[0].as_bytes().starts_with(&left.out)
 }
 
-// One place of a run, and what goes on from there. A frame whose answer wasn't read may have been carried or not.
-fn judge_place(alloc: Global, run: &Run<'_>, whole: &Seen, place: Place) -> Result<(), Fail> {
+// One point of a run, and what goes on from there. A frame whose answer wasn't read may have been carried or not.
+fn judge_point(
+    alloc: Global,
+    run: &Run<'_>,
+    whole: &Seen,
+    point: FailurePoint,
+) -> Result<(), Fail> {
     let orders = [gtin_order(run.unit)?];
-    let left = drive_on(alloc, &[], &orders, &whole.answers, place.good())?;
-    expect_that(is_cut_there(run, whole, place, &left), "a drive cut there")?;
+    let left = drive_on(alloc, &[], &orders, &whole.answers, point.good())?;
+    expect_that(is_cut_there(run, whole, point, &left), "a drive cut there")?;
     let counted = counted_of(alloc, &left.journal)?;
     let wanted = run.counted(left.journal.len());
     expect_that(counted.checked_sub(4) == Some(wanted), "whole records")?;
@@ -369,7 +374,7 @@ fn judge_whole(alloc: Global, run: &Run<'_>, whole: &Seen) -> Result<(), Fail> {
     judge_driven(alloc, run, &[], 0, whole)
 }
 
-// The run, whole, and then with each stream failing at each place.
+// The run, whole, and then with each stream failing at each point.
 fn sweep(alloc: Global, run: &Run<'_>) -> Result<(), Fail> {
     let whole = by_hand(alloc, &mut one_unit(alloc)?, &[], run.unit, None)?;
     judge_whole(alloc, run, &whole)?;
@@ -383,12 +388,12 @@ fn sweep(alloc: Global, run: &Run<'_>) -> Result<(), Fail> {
     ] {
         for number in 0..places {
             for counts in [false, true] {
-                let place = Place {
+                let point = FailurePoint {
                     stream,
                     number,
                     counts,
                 };
-                judge_place(alloc, run, &whole, place)?;
+                judge_point(alloc, run, &whole, point)?;
             }
         }
     }

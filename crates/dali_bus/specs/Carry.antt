@@ -1,5 +1,6 @@
 -- What a bus may do to the units that it reaches, and what else may happen to them.
-use Rattle.std.specs.Prelude.{◌≡◌, ℕ, ◌⊎◌, List, [], ◌∷◌, Option, Some, None, ⊤}
+use Rattle.std.specs.Prelude.{◌≡◌, ℕ, ◌⊎◌, List, [], ◌∷◌, Option, Some}
+use Rattle.std.specs.Prelude.{IfSome}
 use Rattle.dali_frame.specs.declared.forward.Frame.{Frame}
 use Rattle.dali_bus.specs.World.{Gear, World, IfThere}
 use Rattle.dali_bus.specs.Hears.{Hears}
@@ -22,15 +23,10 @@ pub record Answered (old : World) (frame : Frame) (byte : ℕ) (new : World) : T
   pub is : new address ≡ Some after
   pub hears : Hears address before frame (Some byte) after
 
--- nothing came back, or the answer of a unit that heard the frame
-abbrev pub MayAnswer : World → Frame → Option ℕ → World → Type 0
-MayAnswer old frame None new = ⊤
-MayAnswer old frame (Some byte) new = Answered old frame byte new
-
--- the frame is carried from one world to the next, and this comes back
+-- the frame is carried from one world to the next, and this comes back: nothing, or the answer of a unit that heard it
 pub record Carry (old : World) (frame : Frame) (answer : Option ℕ) (new : World) : Type 0 where
   pub units : (address : ℕ) → MayHear address (old address) frame (new address)
-  pub answers : MayAnswer old frame answer new
+  pub answers : IfSome answer (λ byte. Answered old frame byte new)
 
 -- what happens on a bus: a frame is carried, and this came back; or the unit at an address loses its power and gets
 -- it back

@@ -1,11 +1,11 @@
 -- What a loss of power does to a unit that gets it back, and to a world.
-use Rattle.std.specs.Prelude.{◌≡◌, ◌≢◌, ℕ, ◌≤◌, false, ◌⊎◌, Option, Some, None}
+use Rattle.std.specs.Prelude.{◌≡◌, ◌≢◌, ℕ, ◌≤◌, false, ◌⊎◌, Option}
+use Rattle.std.specs.Option.{option_map}
 use Rattle.dali_bus.specs.World.{Gear, World, IfThere}
 
 -- a lock byte after power-up: FFh, where the place exists
 abbrev pub relocked : Option ℕ → Option ℕ
-relocked None = None
-relocked (Some byte) = Some 0xFF
+relocked old = option_map (λ byte. 0xFF) old
 
 -- the byte is as it was; or its place is a lock byte, the unit has lost its power, and the byte is FFh since then
 abbrev pub MayRelock : Type 0 → ℕ → ℕ → Option ℕ → Option ℕ → Type 0

@@ -1,5 +1,6 @@
 -- The control gear that a bus reaches, as memory access sees it.
 use Rattle.std.specs.Prelude.{◌≡◌, ⊤, ℕ, Bool, false, is_some, Option, Some, None, ◌&&◌, ◌==◌, if◌then◌else◌}
+use Rattle.std.specs.Option.{option_and_then, option_map_or}
 
 -- the byte at a location of a memory bank, by bank and location: none where the place doesn't exist
 abbrev pub Memory : Type 0
@@ -30,21 +31,15 @@ IfThere so (Some old) None = ⊥
 
 -- the byte at a place of the unit, if there is a unit and it has the place
 abbrev pub byte_in : Option Gear → ℕ → ℕ → Option ℕ
-byte_in None bank location = None
-byte_in (Some gear) bank location = gear.memory bank location
+byte_in unit bank location = option_and_then (λ gear. gear.memory bank location) unit
 
 -- the byte at a place, if the place exists
 abbrev pub byte_at : World → ℕ → ℕ → ℕ → Option ℕ
 byte_at world address bank location = byte_in (world address) bank location
 
--- there is a unit, and it is write-enabled
-abbrev pub is_open : Option Gear → Bool
-is_open None = false
-is_open (Some gear) = gear.enabled
-
--- a unit at this address is write-enabled
+-- there is a unit at this address, and it is write-enabled
 abbrev pub is_enabled : World → ℕ → Bool
-is_enabled world address = is_open (world address)
+is_enabled world address = option_map_or (λ gear. gear.enabled) (world address) false
 
 -- the worlds have units at the same addresses
 abbrev pub SameAddresses : World → World → Type 0

@@ -6,6 +6,7 @@ use Rattle.std.proofs.Common.{subst, ◌∙◌, ◌≢◌}
 use Rattle.std.specs.Prelude.{◌==◌, slice_get, if◌then◌else◌}
 use Rattle.std.specs.List.{filter_map, cons_option}
 use Rattle.std.proofs.lemmas.Bool.{eqb-true, eqb-false, eq-eqb, ne_eqb}
+use Rattle.std.specs.Prelude.{IfSome}
 use Rattle.dali_frame.specs.declared.forward.Frame.{Frame}
 use Rattle.dali_frame.specs.declared.forward.Frame.TheVariants.{Dtr0, Dtr1, Dtr2, Write, WriteSilent, Enable, AskDtr0}
 use Rattle.dali_frame.specs.declared.forward.Frame.TheVariants.{AskDtr1, AskDtr2, Read, Other}
@@ -18,7 +19,7 @@ use Rattle.dali_gear.specs.SimState.{SimState, SimCarry, SimStep, world_of, AreA
 use Rattle.dali_gear.specs.SimState.{bus_answer, unit_powered}
 use Rattle.dali_bus.specs.World.{Gear, IfThere}
 use Rattle.dali_bus.specs.Power.{LosesPower, PowersUp}
-use Rattle.dali_bus.specs.Carry.{BusEvent, Carried, Powered, WorldStep, Carry, MayHear, Answered, MayAnswer}
+use Rattle.dali_bus.specs.Carry.{BusEvent, Carried, Powered, WorldStep, Carry, MayHear, Answered}
 use Rattle.dali_gear.specs.UnitHears.{unit_hears, unit_powers_up}
 
 -- a write keeps the address
@@ -192,7 +193,7 @@ answerer_answered fate frame units byte found =
 
 may_answer : (fate : Fate) (frame : Frame) (units : List UnitState) (answer : Option ℕ) → AreApart units
     → answer ≡ bus_answer fate (filter_map (unit_answer fate frame) units)
-    → MayAnswer (world_of units) frame answer (world_of (map (unit_after fate frame) units))
+    → IfSome answer (λ byte. Answered (world_of units) frame byte (world_of (map (unit_after fate frame) units)))
 may_answer fate frame units None apart h = tt
 may_answer fate frame units (Some byte) apart h =
     answerer_answered fate frame units byte

@@ -12,7 +12,8 @@ use Rattle.dali_gear.specs.Faults.{IsUnitFault}
 use Rattle.dali_gear.specs.SimState.{world_of, AreApart}
 use Rattle.dali_bus.specs.Unenabled.{NoneEnabled}
 use Rattle.dali_gear.specs.UnitState.{UnitState, gear_of}
-use Rattle.dali_bus.specs.World.{Gear, is_open, byte_in, byte_at}
+use Rattle.dali_bus.specs.World.{Gear, byte_in, byte_at}
+use Rattle.dali_bus.proofs.OpenLemmas.{is_open}
 use Rattle.dali_trace.specs.Fits.{IsLockedAbove}
 use Rattle.dali_trace.proofs.NewUnitLemmas.{new_locked}
 use Rattle.dali_trace.specs.declared.happening.Event.{Event}

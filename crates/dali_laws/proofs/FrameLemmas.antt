@@ -6,7 +6,8 @@ use Rattle.std.proofs.Math.Nat.{eq-or-lt_of_le}
 use Rattle.dali_frame.specs.declared.forward.Frame.{Frame}
 use Rattle.dali_frame.specs.declared.forward.Frame.TheVariants.{Dtr0, Dtr1, Dtr2, Write, WriteSilent, Enable, AskDtr0}
 use Rattle.dali_frame.specs.declared.forward.Frame.TheVariants.{AskDtr1, AskDtr2, Read, Other}
-use Rattle.dali_bus.specs.World.{World, Gear, byte_at, is_open, is_enabled}
+use Rattle.dali_bus.specs.World.{World, Gear, byte_at, is_enabled}
+use Rattle.dali_bus.proofs.OpenLemmas.{is_open}
 use Rattle.dali_bank.specs.Order.{Contents, update_at}
 use Rattle.dali_bus.specs.Carry.{Carry}
 use Rattle.dali_bus.specs.Power.{relocked, LosesPower, MayRelock}

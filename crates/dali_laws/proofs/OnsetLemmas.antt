@@ -4,7 +4,8 @@ use Rattle.std.proofs.Common.{List, [], ◌∷◌, ◌++◌, Option, Some, None,
 use Rattle.std.proofs.lemmas.Bool.{eqb-true}
 use Rattle.dali_bank.specs.Order.{Contents}
 use Rattle.dali_bus.specs.Chain.{IsChain, AtEachMoment, AtEachState}
-use Rattle.dali_bus.specs.World.{World, Gear, byte_in, byte_at, is_open}
+use Rattle.dali_bus.specs.World.{World, Gear, byte_in, byte_at}
+use Rattle.dali_bus.proofs.OpenLemmas.{is_open}
 use Rattle.dali_gear.specs.UnitState.{BankState, UnitState, gear_of}
 use Rattle.dali_gear.specs.SimState.{SimState, SimStep, AreApart, AreBanks, world_of}
 use Rattle.dali_gear.specs.Faults.{IsBank}

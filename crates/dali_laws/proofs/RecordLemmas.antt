@@ -4,7 +4,8 @@ use Rattle.std.proofs.Common.{Option, Some, None}
 use Rattle.std.proofs.lemmas.Bool.{eqb-true}
 use Rattle.std.specs.List.{AllByRecursion}
 use Rattle.dali_bank.specs.Order.{Contents, update_at}
-use Rattle.dali_bus.specs.World.{World, byte_at, byte_in, is_open, is_enabled}
+use Rattle.dali_bus.specs.World.{World, byte_at, byte_in, is_enabled}
+use Rattle.dali_bus.proofs.OpenLemmas.{is_open}
 use Rattle.dali_journal.specs.declared.record.Code.TheVariants.{Done, Short, Format, Silent, Doubt, DoubtOpen}
 use Rattle.dali_journal.specs.declared.record.Record.{Record}
 use Rattle.dali_journal.specs.declared.record.Record.TheVariants.{Began, Opened, Ended, Closed}

@@ -2,11 +2,13 @@
 use Rattle.std.proofs.Common.{◌≡◌, inl, inr, refl, ℕ, Bool, true, false, ◌==◌, List, [], ◌∷◌, Option, Some, None}
 use Rattle.std.proofs.Common.{if◌then◌else◌, arith, sym, ◌∙◌}
 use Rattle.std.proofs.lemmas.Bool.{eqb-true, ne_eqb}
+use Rattle.std.specs.Prelude.{IfSome}
 use Rattle.dali_frame.specs.declared.forward.Frame.{Frame}
 use Rattle.dali_frame.specs.declared.forward.Frame.TheVariants.{Dtr0, Dtr1, Write, Enable, AskDtr0, AskDtr1, Read}
-use Rattle.dali_bus.specs.World.{Gear, stored, is_open, byte_in}
+use Rattle.dali_bus.specs.World.{Gear, stored, byte_in}
+use Rattle.dali_bus.proofs.OpenLemmas.{is_open}
 use Rattle.dali_bus.specs.Hears.{Hears, up}
-use Rattle.dali_bus.specs.Carry.{Carry, MayHear, MayAnswer}
+use Rattle.dali_bus.specs.Carry.{Carry, MayHear, Answered as AnsweredBy}
 use Rattle.dali_bus.specs.Chain.{Chain}
 use Rattle.dali_journal.specs.declared.record.Code.TheVariants.{Done}
 use Rattle.dali_journal.specs.declared.record.Record.TheVariants.{Began, Opened, Ended}
@@ -30,7 +32,7 @@ heard old new frame answer hears =
       units address true e = inr (answer, rw (eqb-true address 5 e) hears)
       units address false e = tt
 
-      answers : (given : Option ℕ) → Hears 5 old frame given new → MayAnswer (alone old) frame given (alone new)
+      answers : (given : Option ℕ) → Hears 5 old frame given new → IfSome given (λ byte. AnsweredBy (alone old) frame byte (alone new))
       answers None hears = tt
       answers (Some byte) hears =
           record { address = 5; before = old; after = new; was = refl; is = refl; hears = hears }

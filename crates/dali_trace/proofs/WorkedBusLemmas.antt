@@ -6,7 +6,8 @@ use Rattle.std.specs.Prelude.{replicate}
 use Rattle.std.specs.List.{filter_map}
 use Rattle.std.specs.Prelude.{drop}
 use Rattle.dali_bus.specs.Chain.{IsChain}
-use Rattle.dali_bus.specs.World.{is_open, byte_in}
+use Rattle.dali_bus.specs.World.{byte_in}
+use Rattle.dali_bus.proofs.OpenLemmas.{is_open}
 use Rattle.dali_bus.specs.Unenabled.{NoneEnabled}
 use Rattle.dali_gear.specs.declared.fate.Fate.{Fate}
 use Rattle.dali_gear.specs.Fate.{next_fate}

@@ -22,8 +22,7 @@ pub record Along (zero : World) (lost : List ℕ) (start : Start) (first : World
 -- along each of them, where the trace is legal, this is so at each moment, of the trace up to there and the world there
 abbrev pub Always : (World → List ℕ → Start → List Happening → World → Type 0) → Type 0
 Always holds =
-    (zero : World) (lost : List ℕ) (start : Start) (first : World) (past : List Happening) (last : World)
-    (states : List World)
+    (zero first last : World) (lost : List ℕ) (start : Start) (past : List Happening) (states : List World)
     → Legal start past → Along zero lost start first past last states
     → AtEachMoment (holds zero lost start) past last states
 

@@ -1,13 +1,19 @@
 -- What frames do to one unit.
 use Rattle.std.proofs.Common.{◌≡◌, ◌⊎◌, refl, sym, ap, ◌∙◌, inl, inr, ℕ, false, Option, Some, None, is_some}
 use Rattle.std.specs.Prelude.{◌≢◌}
+use Rattle.std.specs.Option.{option_map}
 use Rattle.dali_frame.specs.declared.forward.Frame.{Frame}
 use Rattle.dali_frame.specs.declared.forward.Frame.TheVariants.{Dtr0, Dtr1, Dtr2, Write, WriteSilent, Enable, AskDtr0}
 use Rattle.dali_frame.specs.declared.forward.Frame.TheVariants.{AskDtr1, AskDtr2, Read, Other}
-use Rattle.dali_bus.specs.World.{World, Gear, Memory, byte_in, is_open}
+use Rattle.dali_bus.specs.World.{World, Gear, Memory, byte_in}
+use Rattle.dali_bus.proofs.OpenLemmas.{is_open}
 use Rattle.dali_bus.specs.Hears.{Hears, Obeys, MayEnd, AnswersRegister, Ignores, PassesBy}
 use Rattle.dali_bus.specs.Carry.{Carry, MayHear, Heard}
-use Rattle.dali_write.specs.Worlds.{memory_of, memory_at}
+use Rattle.dali_write.specs.Worlds.{memory_at}
+
+-- the memory of the unit, if there is one
+abbrev pub memory_of : Option Gear → Option Memory
+memory_of unit = option_map (λ gear. gear.memory) unit
 
 -- there is no unit, or it isn't write-enabled
 abbrev pub IsOff : Option Gear → Type 0

@@ -3,11 +3,12 @@ use Rattle.std.proofs.Common.{◌≡◌, ◌≢◌, refl, ℕ, Bool, true, false
 use Rattle.std.proofs.Common.{Some, None}
 use Rattle.std.proofs.lemmas.Bool.{eqb-true, ne_eqb}
 use Rattle.std.specs.Prelude.{◌==◌, if◌then◌else◌}
+use Rattle.std.specs.Prelude.{IfSome}
 use Rattle.dali_frame.specs.declared.forward.Frame.{Frame}
 use Rattle.dali_frame.specs.declared.forward.Frame.TheVariants.{Dtr0, Dtr1, AskDtr0, AskDtr1, Read}
 use Rattle.dali_bus.specs.World.{IfThere}
 use Rattle.dali_bus.specs.Hears.{Hears}
-use Rattle.dali_bus.specs.Carry.{Carry, MayHear, MayAnswer}
+use Rattle.dali_bus.specs.Carry.{Carry, MayHear, Answered}
 use Rattle.dali_bus.specs.Power.{LosesPower, PowersUp}
 use Rattle.dali_write.specs.LoneUnit.{small_gear, lone_unit}
 
@@ -25,7 +26,7 @@ heard dtr1 dtr0 now1 now0 frame answer hears =
     at false address e = tt
 
     answered : (back : Option ℕ) → Hears 9 (small_gear dtr1 dtr0) frame back (small_gear now1 now0)
-        → MayAnswer (lone_unit dtr1 dtr0) frame back (lone_unit now1 now0)
+        → IfSome back (λ byte. Answered (lone_unit dtr1 dtr0) frame byte (lone_unit now1 now0))
     answered None hears = tt
     answered (Some byte) hears =
         record {

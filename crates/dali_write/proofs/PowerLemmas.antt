@@ -3,7 +3,8 @@ use Rattle.std.proofs.Common.{◌≡◌, ◌⊎◌, inl, inr, refl, sym, ap, sub
 use Rattle.std.proofs.Common.{Some}
 use Rattle.std.proofs.Common.{None, is_some}
 use Rattle.std.proofs.lemmas.Bool.{eqb-true, eqb-false}
-use Rattle.dali_bus.specs.World.{World, Gear, byte_in, byte_at, is_open, IfThere}
+use Rattle.dali_bus.specs.World.{World, Gear, byte_in, byte_at, IfThere}
+use Rattle.dali_bus.proofs.OpenLemmas.{is_open}
 use Rattle.dali_bus.specs.Power.{relocked, LosesPower, MayRelock, PowersUp}
 use Rattle.dali_bus.proofs.UnenabledLemmas.{powered_at, relocked_twice}
 use Rattle.dali_write.specs.Worlds.{KeepsAt, Shows}

@@ -15,9 +15,9 @@ use Rattle.dali_write.specs.declared.request.Wish.{Wish}
 use Rattle.dali_write.specs.declared.request.Wish.TheVariants.{Nothing, Exactly}
 use Rattle.dali_write.specs.Requests.{request, select_requests, read_requests, write_requests}
 use Rattle.dali_write.specs.Tries.{Trying}
-use Rattle.dali_write.specs.Worlds.{KeepsAt, Selects, OnlyEnabled, memory_of, Written}
+use Rattle.dali_write.specs.Worlds.{KeepsAt, Selects, OnlyEnabled, Written}
 use Rattle.dali_write.specs.Touches.{Has, OldOrNew, Touches}
-use Rattle.dali_write.proofs.GearLemmas.{end_steady, carry_stays, StaysAt, IsQuiet, same_byte, IsOff}
+use Rattle.dali_write.proofs.GearLemmas.{end_steady, carry_stays, StaysAt, IsQuiet, same_byte, IsOff, memory_of}
 use Rattle.dali_write.proofs.PowerLemmas.{relock_then, keeps_then, stays_keeps}
 use Rattle.dali_write.proofs.ShapeLemmas.{trying_length}
 use Rattle.dali_write.proofs.TruthLemmas.{write_safe}

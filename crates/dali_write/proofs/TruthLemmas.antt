@@ -6,7 +6,8 @@ use Rattle.std.proofs.Math.Dec.{eqb}
 use Rattle.std.proofs.lemmas.Bool.{eqb-true, eqb-false}
 use Rattle.dali_frame.specs.declared.forward.Frame.{Frame}
 use Rattle.dali_frame.specs.declared.forward.Frame.TheVariants.{Dtr0, AskDtr0, AskDtr1, Read, Write}
-use Rattle.dali_bus.specs.World.{World, Gear, Memory, byte_in, is_open}
+use Rattle.dali_bus.specs.World.{World, Gear, Memory, byte_in}
+use Rattle.dali_bus.proofs.OpenLemmas.{is_open}
 use Rattle.dali_bus.specs.Hears.{Hears, MayEnd, Ignores, PassesBy, Stores, ReadsByte, ReadsNothing}
 use Rattle.dali_bus.specs.Hears.{selected as selected_byte}
 use Rattle.dali_bus.specs.Carry.{Carry, MayHear, Heard}
@@ -14,9 +15,9 @@ use Rattle.dali_write.specs.Exchanges.{Exchange}
 use Rattle.dali_write.specs.Requests.{select_requests, byte_after}
 use Rattle.dali_write.specs.Tries.{Trying, byte_of}
 use Rattle.dali_write.specs.Worlds.{IsCheckedRead, Shows, KeepsAt, Selects, OnlyEnabled, MayWrite}
-use Rattle.dali_write.specs.Worlds.{memory_of, memory_at, Written}
+use Rattle.dali_write.specs.Worlds.{memory_at, Written}
 use Rattle.dali_write.proofs.GearLemmas.{asked1, asked0, carry_dtr1, carry_stays, IsQuiet, passing_keeps, end_steady}
-use Rattle.dali_write.proofs.GearLemmas.{dtr0_in, dtr1_in, same_byte, IsOff}
+use Rattle.dali_write.proofs.GearLemmas.{dtr0_in, dtr1_in, same_byte, IsOff, memory_of}
 use Rattle.dali_write.proofs.PowerLemmas.{drifts_have, drifts_keep, keeps_then, stays_keeps, shows_kept}
 use Rattle.dali_write.proofs.ShapeLemmas.{WasRead, selected, was_read}
 use Rattle.dali_write.proofs.RunLemmas.{Leads, Stays}

@@ -1,5 +1,6 @@
 -- What exchanges do to a world of units.
 use Rattle.std.specs.Prelude.{◌≡◌, ◌≢◌, ◌⊎◌, ℕ, false, List, [], ◌∷◌, ◌++◌, Option, Some, None, IsSome, is_some}
+use Rattle.std.specs.Option.{option_map}
 use Rattle.dali_bus.specs.World.{World, Gear, Memory, stored, byte_at, is_enabled}
 use Rattle.dali_bus.specs.Power.{MayRelock}
 use Rattle.dali_bus.specs.Carry.{BusEvent, HasLostPower}
@@ -22,13 +23,9 @@ pub record Run {S : Type 0} (step : S → BusEvent → S → Type 0) (loses : �
   pub among : (address : ℕ) → HasLostPower address past → loses address
   pub chain : Chain step first past last
 
-abbrev pub memory_of : Option Gear → Option Memory
-memory_of None = None
-memory_of (Some gear) = Some gear.memory
-
 -- the memory of the unit at an address
 abbrev pub memory_at : World → ℕ → Option Memory
-memory_at world address = memory_of (world address)
+memory_at world address = option_map (λ gear. gear.memory) (world address)
 
 -- the unit stays there, keeps its memory but for lock bytes where it is one that loses its power, and isn't newly
 -- enabled

@@ -1,7 +1,7 @@
 -- Nothing writes where no unit is write-enabled and none is told to be.
 use Rattle.std.proofs.Common.{◌≡◌, ◌≢◌, ℕ, Bool, true, false, inl, inr, ◌⊎◌, List, [], ◌∷◌, Option, Some, None, is_some}
 use Rattle.std.proofs.Common.{IsSome, refl, sym, subst, ap, zero, suc, arith, ◌∙◌, ◌≤◌}
-use Rattle.std.specs.Prelude.{◌==◌}
+use Rattle.std.specs.Prelude.{◌==◌, ⊤}
 use Rattle.std.proofs.lemmas.Bool.{eqb-true, eqb-false}
 use Rattle.std.specs.List.{AllByRecursion}
 use Rattle.dali_frame.specs.declared.forward.Frame.{Frame}
@@ -33,7 +33,7 @@ never_stored byte old new shut (enabled, exists, same) = cc
 -- the frame could enable the unit at this address
 abbrev MayEnableAt : ℕ → Frame → Type 0
 MayEnableAt at (Enable to) = to ≡ at
-MayEnableAt at (Other word) = Unit {0}
+MayEnableAt at (Other word) = ⊤
 MayEnableAt at _ = ⊥
 
 kept_asked : (to at register : ℕ) (old : Gear) (answer : Option ℕ) (new : Gear) → old.enabled ≡ false

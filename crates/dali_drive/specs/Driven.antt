@@ -1,5 +1,5 @@
 -- Which traces a drive makes, and where a fault leaves one.
-use Rattle.std.specs.Prelude.{◌≡◌, ◌≤◌, ◌⊎◌, ◌++◌, ℕ, Bool, true, false, List, [], ◌∷◌, Option, Result, Err, length}
+use Rattle.std.specs.Prelude.{◌≡◌, ◌≤◌, ◌⊎◌, ◌++◌, ℕ, Bool, true, false, List, [], ◌∷◌, Option, Result, Err, length, ⊤}
 use Rattle.std.specs.Prelude.{take, reverse, map}
 use Rattle.std.specs.Io.KnownBytes.{Appends, Keeps}
 use Rattle.dali_frame.specs.declared.forward.Frame.{Frame}
@@ -43,7 +43,7 @@ abbrev pub IsInTurn : Start → List Happening → Type 0
 IsInTurn start (Asked order moment ∷ past) = is_busy start past ≡ false
 IsInTurn start (Stopped ∷ past) = ⊥
 IsInTurn start (Powered address ∷ past) = ⊥
-IsInTurn start other = Unit {0}
+IsInTurn start other = ⊤
 
 -- the numbers of each record that was kept are in their ranges
 abbrev pub KeepsRecords : List Happening → Type 0

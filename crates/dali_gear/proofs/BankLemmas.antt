@@ -1,7 +1,7 @@
 -- What frames leave of bank 1.
 use Rattle.std.proofs.Common.{◌≡◌, refl, sym, subst, ℕ, Bool, true, false, ◌&&◌, ◌||◌, not, ◌==◌, nat_lt, nat_le}
 use Rattle.std.proofs.Common.{if◌then◌else◌, List, [], ◌∷◌, length, map, arith}
-use Rattle.std.specs.Prelude.{slice_index}
+use Rattle.std.specs.Prelude.{slice_index, ⊤}
 use Rattle.std.specs.List.{list_any}
 use Rattle.std.specs.Cmp.{first_so, second_so}
 use Rattle.std.proofs.lemmas.Bool.{eqb-true, leb-true}
@@ -19,17 +19,17 @@ use Rattle.dali_gear.specs.SimState.{AreBanks, unit_after, unit_powered}
 
 -- the frame writes nothing
 abbrev pub IsQuiet : Frame → Type 0
-IsQuiet (Dtr0 b) = Unit {0}
-IsQuiet (Dtr1 b) = Unit {0}
-IsQuiet (Dtr2 b) = Unit {0}
+IsQuiet (Dtr0 b) = ⊤
+IsQuiet (Dtr1 b) = ⊤
+IsQuiet (Dtr2 b) = ⊤
 IsQuiet (Write b) = ⊥
 IsQuiet (WriteSilent b) = ⊥
-IsQuiet (Enable to) = Unit {0}
-IsQuiet (AskDtr0 to) = Unit {0}
-IsQuiet (AskDtr1 to) = Unit {0}
-IsQuiet (AskDtr2 to) = Unit {0}
-IsQuiet (Read to) = Unit {0}
-IsQuiet (Other w) = Unit {0}
+IsQuiet (Enable to) = ⊤
+IsQuiet (AskDtr0 to) = ⊤
+IsQuiet (AskDtr1 to) = ⊤
+IsQuiet (AskDtr2 to) = ⊤
+IsQuiet (Read to) = ⊤
+IsQuiet (Other w) = ⊤
 
 enable_banks : (unit : UnitState) (mine half : Bool)
     → (if mine

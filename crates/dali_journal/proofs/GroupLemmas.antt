@@ -1,5 +1,6 @@
 -- What the table allows, record by record, is a list of groups.
 use Rattle.std.proofs.Common.{◌≡◌, ℕ, Bool, true, false, List, [], ◌∷◌, ◌++◌, reverse, refl, sym, ap, ◌∙◌, subst, arith}
+use Rattle.std.specs.Prelude.{⊤}
 use Rattle.std.proofs.Common.{◌||◌, ◌==◌}
 use Rattle.std.proofs.Math.Bool.{or_assoc, or-false}
 use Rattle.std.proofs.lemmas.Bool.{or_from, or_parts}
@@ -16,7 +17,7 @@ use Rattle.dali_journal.specs.Groups.{AreGroups, HaveDistinctNumbers}
 
 -- each record may come where it comes
 abbrev AllowedFrom : Standing → List Record → Type 0
-AllowedFrom standing [] = Unit {0}
+AllowedFrom standing [] = ⊤
 AllowedFrom standing (entry ∷ rest) = Allows standing entry × AllowedFrom (next_standing standing entry) rest
 
 -- what is to be done behind the records

@@ -1,5 +1,5 @@
 -- How an order has come along since its start: the frames that it sent, joined from those of its sessions.
-use Rattle.std.specs.Prelude.{◌≡◌, ◌⊎◌, ◌≤◌, ℕ, Bool, true, false, List, [], ◌∷◌, ◌++◌, Option, Some, None}
+use Rattle.std.specs.Prelude.{◌≡◌, ◌⊎◌, ◌≤◌, ℕ, Bool, true, false, List, [], ◌∷◌, ◌++◌, Option, Some, None, ⊤}
 use Rattle.dali_bank.specs.Order.{Contents}
 use Rattle.dali_journal.specs.declared.record.Code.{Code}
 use Rattle.dali_journal.specs.declared.record.Record.TheVariants.{Ended}
@@ -69,7 +69,7 @@ HasCome first (standings.Left unit) (Some order) ended orders sent told kept =
     (first ≡ standings.Left unit) × (sent ≡ told) × (kept ≤ 0)
 HasCome first standings.Idle (Some order) ended orders sent told kept = (told ≡ []) × ClosedBy first sent × (kept ≤ 1)
 HasCome first now None true orders sent told kept = NewestEndedBy first orders sent × (kept ≤ 4)
-HasCome first now None false orders sent told kept = Unit {0}
+HasCome first now None false orders sent told kept = ⊤
 
 -- and so it is of the trace
 abbrev pub IsOnCourse : Start → List Happening → Type 0

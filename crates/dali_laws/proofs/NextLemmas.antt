@@ -1,6 +1,7 @@
 -- One thing is next at most: how an order ended is said, the waiting order is begun, or it is done what the plan asks
 -- for, and no two of them at once.
 use Rattle.std.proofs.Common.{◌≡◌, refl, sym, ap, ◌∙◌, true, false, ℕ, List, [], ◌∷◌, Option, Some, None, IsSome}
+use Rattle.std.specs.Prelude.{⊤}
 use Rattle.dali_bank.specs.Order.{Contents}
 use Rattle.dali_journal.specs.declared.record.Code.{Code}
 use Rattle.dali_journal.specs.declared.record.Code.TheVariants as codes
@@ -42,7 +43,7 @@ use Rattle.dali_laws.proofs.WorkLemmas.{ended_idle}
 abbrev IsAtHand : Standing → Option Contents → Type 0
 IsAtHand standings.Idle waits = ⊥
 IsAtHand (standings.Left unit) waits = IsSome waits
-IsAtHand stands waits = Unit {0}
+IsAtHand stands waits = ⊤
 
 -- it is done what is asked for: the frame is sent, or the end is kept or said
 abbrev Does : Standing → Option Contents → Ask → Happening → Type 0

@@ -1,5 +1,6 @@
 -- An order that has ended is the one that is found under its number, so that a repeat is answered by what is kept.
 use Rattle.std.proofs.Common.{◌≡◌, refl, sym, ◌∙◌, subst, Contains, length, get_or, ◌<◌, ◌≤◌, zero, suc, Bool, true}
+use Rattle.std.specs.Prelude.{⊤}
 use Rattle.std.proofs.Common.{false, ◌==◌, ℕ, List, [], ◌∷◌, ◌++◌, arith}
 use Rattle.std.proofs.lemmas.Bool.{eqb-true, eq-eqb}
 use Rattle.std.proofs.lemmas.List.{append_assoc}
@@ -27,7 +28,7 @@ use Rattle.dali_laws.proofs.QuietLemmas.{stays_still}
 
 -- no two orders have one number
 abbrev AreDistinct : List (Contents × Progress) → Type 0
-AreDistinct [] = Unit {0}
+AreDistinct [] = ⊤
 AreDistinct (newest ∷ older) = (kept_among newest.0.id older ≡ kepts.Absent) × AreDistinct older
 
 -- what is kept of an order is never nothing

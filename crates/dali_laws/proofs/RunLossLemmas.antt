@@ -1,5 +1,6 @@
 -- The run of the simulated bus behind a trace, what of it is lost, and its halves.
 use Rattle.std.proofs.Common.{◌≡◌, ◌≢◌, refl, sym, ap, subst, ℕ, ◌+◌, ◌≤◌, Bool, true, false, ◌||◌, ◌∙◌, length}
+use Rattle.std.specs.Prelude.{⊤}
 use Rattle.std.proofs.Common.{if◌then◌else◌, List, [], ◌∷◌, ◌++◌, Option, Some, None, arith}
 use Rattle.dali_frame.specs.declared.forward.Frame.{Frame}
 use Rattle.dali_bus.specs.Chain.{IsChain}
@@ -42,7 +43,7 @@ Since unit left past last states =
     RunSo unit left (sent_since_taken past) (state_at_start past last states) last
     (losses_since unit left past states) (UnrefusedSince past states)
 
-begins_run : (unit : ℕ) (left : Option ℕ) (last : SimState) → RunSo unit left [] last last 0 (Unit {0})
+begins_run : (unit : ℕ) (left : Option ℕ) (last : SimState) → RunSo unit left [] last last 0 ⊤
 begins_run unit left last = record { run = Stays; losses = refl; kind = λ kind. tt }
 
 stays : (unit : ℕ) (left : Option ℕ) (told : List Exchange) (first last state : SimState) (count : ℕ) (Kind : Type 0)

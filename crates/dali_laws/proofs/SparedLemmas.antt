@@ -1,7 +1,7 @@
 -- Over the simulated bus an order that loses little ends as its unit's bytes say.
 use Rattle.std.proofs.Common.{◌≡◌, ◌≢◌, inl, inr, refl, sym, ap, ◌∙◌, subst, ℕ, ◌≤◌, ◌<◌, Bool, true, false}
 use Rattle.std.proofs.Common.{◌==◌, nat_lt, if◌then◌else◌, List, [], ◌∷◌, ◌++◌, append-nil, Option, Some, None, arith}
-use Rattle.std.specs.Prelude.{slice_get, slice_index}
+use Rattle.std.specs.Prelude.{slice_get, slice_index, ⊤}
 use Rattle.std.proofs.lemmas.Bool.{eqb-true, eqb-false}
 use Rattle.std.proofs.lemmas.Option.{unwrap_or-slice_get}
 use Rattle.std.specs.Option.{unwrap_or}
@@ -333,7 +333,7 @@ spared_end first order code bank sent begun last run idle onset rises kind few t
     let least = onset.whole.least in
     let long = look.like.lengths in
     let end =
-    gone loses (λ now. Unit {0}) verdicts.Done verdict order.unit (unlock order.updates) look.now told older two.mid
+    gone loses (λ now. ⊤) verdicts.Done verdict order.unit (unlock order.updates) look.now told older two.mid
     last spared
     (unlock_goes order.updates look.now.bank1 rises (omega arith)
     (like_takes bank look.now.bank1 order.updates look.like (takes due)))

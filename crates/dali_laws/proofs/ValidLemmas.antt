@@ -1,7 +1,7 @@
 -- The order at hand holds what an order may hold.
 use Rattle.std.proofs.Common.{◌≡◌, refl, sym, subst, inl, inr, ℕ, ◌≤◌, ◌<◌, max, nat_lt, if◌then◌else◌, length, arith}
 use Rattle.std.proofs.Common.{Bool, true, false, List, [], ◌∷◌, Option, Some, None}
-use Rattle.std.specs.Prelude.{slice_index}
+use Rattle.std.specs.Prelude.{slice_index, ⊤}
 use Rattle.std.specs.List.{AllByRecursion}
 use Rattle.std.proofs.lemmas.Bool.{ltb-false}
 use Rattle.dali_bank.specs.Order.{Contents, IsWritable, AreUpdates}
@@ -30,7 +30,7 @@ use Rattle.dali_laws.proofs.MomentLemmas.{may_keep}
 use Rattle.dali_laws.proofs.StandingLemmas.{begun_order, open_order}
 
 abbrev AllValid : List (Contents × Progress) → Type 0
-AllValid [] = Unit {0}
+AllValid [] = ⊤
 AllValid (newest ∷ older) = AreUpdates newest.0.updates × AllValid older
 
 come_valid : (progress : Progress) (orders : List (Contents × Progress)) → AllValid orders

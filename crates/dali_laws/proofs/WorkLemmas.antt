@@ -1,5 +1,6 @@
 -- What a trace that is on course costs.
 use Rattle.std.proofs.Common.{◌≡◌, ◌⊎◌, inl, inr, refl, sym, ap, ◌∙◌, subst, ℕ, ◌+◌, ◌*◌, ◌≤◌, Bool, true, false}
+use Rattle.std.specs.Prelude.{⊤}
 use Rattle.std.proofs.Common.{nat_lt, if◌then◌else◌, List, [], ◌∷◌, ◌++◌, length, length-append, append-nil, Option}
 use Rattle.std.proofs.Common.{Some, None, IfSome, arith}
 use Rattle.std.proofs.lemmas.Bool.{ltb-true, ltb-false}
@@ -50,7 +51,7 @@ use Rattle.dali_laws.proofs.MomentLemmas.{may_keep}
 
 -- the session at hand wants something
 abbrev InSession : Standing → List Exchange → Type 0
-InSession standings.Idle told = Unit {0}
+InSession standings.Idle told = ⊤
 InSession (standings.Began order) told = (ask : Ask) × Asks (standings.Began order) told ask
 InSession (standings.Opened order) told = (ask : Ask) × Asks (standings.Opened order) told ask
 InSession (standings.Left unit) told = (ask : Ask) × Asks (standings.Left unit) told ask

@@ -1,5 +1,5 @@
 -- Traces without the losses of power in them.
-use Rattle.std.specs.Prelude.{List, [], ◌∷◌}
+use Rattle.std.specs.Prelude.{List, [], ◌∷◌, ⊤}
 use Rattle.dali_trace.specs.declared.happening.Happening.{Happening}
 use Rattle.dali_trace.specs.declared.happening.Happening.TheVariants.{Asked, Powered}
 
@@ -11,6 +11,6 @@ unpowered (other ∷ past) = other ∷ unpowered past
 
 -- none of them stands straight after an order, before its reply
 abbrev pub IsPowerApart : List Happening → Type 0
-IsPowerApart [] = Unit {0}
+IsPowerApart [] = ⊤
 IsPowerApart (Powered address ∷ Asked order moment ∷ past) = ⊥
 IsPowerApart (newest ∷ past) = IsPowerApart past

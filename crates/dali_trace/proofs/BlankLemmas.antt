@@ -2,7 +2,7 @@
 use Rattle.std.proofs.Common.{◌≡◌, inl, inr, refl, ℕ, Bool, true, false, ◌==◌, List, [], ◌∷◌, Option, Some, None}
 use Rattle.std.proofs.Common.{if◌then◌else◌, arith, sym, ◌∙◌}
 use Rattle.std.proofs.lemmas.Bool.{eqb-true, ne_eqb}
-use Rattle.std.specs.Prelude.{IfSome}
+use Rattle.std.specs.Prelude.{IfSome, ⊤}
 use Rattle.dali_frame.specs.declared.forward.Frame.{Frame}
 use Rattle.dali_frame.specs.declared.forward.Frame.TheVariants.{Dtr0, Dtr1, Write, Enable, AskDtr0, AskDtr1, Read}
 use Rattle.dali_bus.specs.World.{Gear, stored, byte_in}
@@ -151,12 +151,12 @@ after_reads (update ∷ updates) gear = after_reads updates (after_read gear upd
 
 -- each location is there before it is written, and holds its byte when it is read
 abbrev AllThere : List (ℕ × ℕ) → Gear → Type 0
-AllThere [] gear = Unit {0}
+AllThere [] gear = ⊤
 AllThere (update ∷ updates) gear =
     (gear.memory 1 update.0 ≡ Some 0xFF) × AllThere updates (after_write gear update.0 update.1)
 
 abbrev AllHeld : List (ℕ × ℕ) → Gear → Type 0
-AllHeld [] gear = Unit {0}
+AllHeld [] gear = ⊤
 AllHeld (update ∷ updates) gear = (gear.memory 1 update.0 ≡ Some update.1) × AllHeld updates (after_read gear update.0)
 
 writes_come : (updates : List (ℕ × ℕ)) (past : List Happening) (gear : Gear) → AllThere updates gear → Comes past gear

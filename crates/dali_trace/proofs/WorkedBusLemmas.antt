@@ -2,7 +2,7 @@
 use Rattle.std.proofs.Common.{◌≡◌, refl, ap, ℕ, Bool, true, false, ◌==◌, ◌&&◌, not, if◌then◌else◌}
 use Rattle.std.proofs.Common.{List, [], ◌∷◌, Option, Some, None}
 use Rattle.std.proofs.lemmas.Bool.{eqb-true}
-use Rattle.std.specs.Prelude.{replicate}
+use Rattle.std.specs.Prelude.{replicate, ⊤}
 use Rattle.std.specs.List.{filter_map}
 use Rattle.std.specs.Prelude.{drop}
 use Rattle.dali_bus.specs.Chain.{IsChain}
@@ -124,7 +124,7 @@ none_refused first (_ ∷ past) kind = none_refused first past kind
 
 -- units that are new: none is enabled, and the lock bytes of the banks from 2 up are FFh
 abbrev pub AreNew : List UnitState → Type 0
-AreNew [] = Unit {0}
+AreNew [] = ⊤
 AreNew (unit ∷ units) =
     (unit.enabled ≡ false) × (unit.bank2.bytes ≡ 0x0F ∷ replicate 15 0xFF) × AreNew units
 

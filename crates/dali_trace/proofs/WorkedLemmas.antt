@@ -1,6 +1,6 @@
 -- The worked traces are legal, and what may not happen on the way isn't.
 use Rattle.std.proofs.Common.{◌≡◌, inl, inr, refl, sym, ap, ℕ, List, [], ◌∷◌, Option, Some, None, arith}
-use Rattle.std.specs.Prelude.{◌≢◌}
+use Rattle.std.specs.Prelude.{◌≢◌, ⊤}
 use Rattle.std.specs.List.{AllByRecursion}
 use Rattle.dali_frame.specs.declared.forward.Frame.{Frame}
 use Rattle.dali_frame.specs.declared.forward.Frame.TheVariants.{Dtr0, Dtr1, Enable, AskDtr0, AskDtr1, Read}
@@ -99,7 +99,7 @@ behind_read past unit location byte other place found stands =
 
 -- the same of all updates that are all_written, or read
 abbrev pub IsAmong : Contents → List (ℕ × ℕ) → Type 0
-IsAmong order [] = Unit {0}
+IsAmong order [] = ⊤
 IsAmong order (update ∷ updates) = (update_at order.updates update.0 ≡ Some update.1) × IsAmong order updates
 
 pub writes_legal : (start : Start) (order : Contents) (updates : List (ℕ × ℕ)) (past : List Happening)

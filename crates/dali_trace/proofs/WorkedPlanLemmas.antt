@@ -1,5 +1,6 @@
 -- The worked traces near the edges of the plans: which keep to them, and which are legal and don't.
 use Rattle.std.proofs.Common.{◌≡◌, refl, sym, ap, subst, ℕ, List, [], ◌∷◌, ◌++◌, None, arith}
+use Rattle.std.specs.Prelude.{⊤}
 use Rattle.dali_frame.specs.declared.forward.Frame.TheVariants.{Dtr0, Dtr1, Enable, AskDtr1}
 use Rattle.dali_journal.specs.declared.record.Code.TheVariants as codes
 use Rattle.dali_journal.specs.declared.record.Record.TheVariants.{Ended}
@@ -33,7 +34,7 @@ use Rattle.dali_trace.proofs.LeftLemmas.{second_taken_legal, blocked_legal}
 
 -- each of the frames is the one that was wanted after those before it
 abbrev pub Keeps : ℕ → Plan → List Exchange → Type 0
-Keeps unit plan [] = Unit {0}
+Keeps unit plan [] = ⊤
 Keeps unit plan (x ∷ told) = Keeps unit plan told × (ask_from (plan_state_after unit plan told) ≡ asks.Send x.frame)
 
 keeps_wants : (unit : ℕ) (plan : Plan) (told : List Exchange) → Keeps unit plan told

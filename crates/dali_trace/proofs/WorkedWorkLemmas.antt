@@ -1,5 +1,6 @@
 -- Near the limits of the work: what a trace within them can't be.
 use Rattle.std.proofs.Common.{◌≡◌, inl, inr, refl, sym, ap, subst, ◌∙◌, ℕ, zero, suc, ◌≤◌, true, List, [], ◌∷◌, ◌++◌}
+use Rattle.std.specs.Prelude.{⊤}
 use Rattle.std.proofs.Common.{append_assoc, length, Some, None, arith}
 use Rattle.dali_frame.specs.declared.forward.Frame.TheVariants.{Enable}
 use Rattle.dali_bank.specs.Order.{Contents}
@@ -242,7 +243,7 @@ not_left_after_reads n (order, number, hand, earned) =
 
 -- none of the frames enables a unit or writes
 abbrev AllPassive : List Exchange → Type 0
-AllPassive [] = Unit {0}
+AllPassive [] = ⊤
 AllPassive (x ∷ told) = IsPassive x.frame × AllPassive told
 
 reads_passive : (n : ℕ) → AllPassive (sent_since_taken (reads_more n begun))

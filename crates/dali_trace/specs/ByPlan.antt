@@ -4,7 +4,7 @@
 -- So each frame belongs to a try of a checked access, a try ends at its first miss or with its last frame, and an
 -- access has a further try exactly where its last one ended in a miss and it has had fewer than eight. A stop cuts off
 -- the try at hand, and the session begins anew.
-use Rattle.std.specs.Prelude.{List, [], ◌∷◌}
+use Rattle.std.specs.Prelude.{List, [], ◌∷◌, ⊤}
 use Rattle.dali_journal.specs.declared.record.Record.TheVariants.{Began}
 use Rattle.dali_journal.specs.declared.standing.Standing.{Standing}
 use Rattle.dali_journal.specs.declared.standing.Standing.TheVariants as standings
@@ -37,15 +37,15 @@ Asks (standings.Left unit) told ask = Wants unit (close verdicts.Closed verdicts
 -- the happening is what the plan asks for. An order is begun, and an end is said, without any frame
 abbrev pub IsPlanned : Start → List Happening → Happening → Type 0
 IsPlanned start past (Sent frame answer) = Asks (standing_at start past) (told_in past) (asks.Send frame)
-IsPlanned start past (Kept (Began order moment)) = Unit {0}
+IsPlanned start past (Kept (Began order moment)) = ⊤
 IsPlanned start past (Kept entry) =
     (verdict : Verdict) × Asks (standing_at start past) (told_in past) (asks.Ended verdict)
     × EndsIn (standing_at start past) verdict entry
 IsPlanned start past (Answered id (replies.Blocked unit)) =
     Asks (standing_at start past) (told_in past) (asks.Ended verdicts.NotClosed)
-IsPlanned start past other = Unit {0}
+IsPlanned start past other = ⊤
 
 -- and so is each of the trace
 abbrev pub ByPlan : Start → List Happening → Type 0
-ByPlan start [] = Unit {0}
+ByPlan start [] = ⊤
 ByPlan start (next ∷ past) = ByPlan start past × IsPlanned start past next

@@ -1,6 +1,6 @@
 -- What a record of the journal rests on, where 'shows unit location byte' says that the unit's location in bank 1 shows
 -- the byte. A legal trace has it from checked reads, and so it is so of the world.
-use Rattle.std.specs.Prelude.{◌≡◌, ℕ, List, [], Option, Some, None}
+use Rattle.std.specs.Prelude.{◌≡◌, ℕ, List, [], Option, Some, None, ⊤}
 use Rattle.dali_journal.specs.declared.record.Code.TheVariants as codes
 use Rattle.dali_journal.specs.declared.record.Record.{Record}
 use Rattle.dali_journal.specs.declared.record.Record.TheVariants.{Began, Opened, Ended, Closed}
@@ -34,12 +34,12 @@ IsSeen shows = (location : ℕ) × (byte : ℕ) × shows location byte
 
 -- what a record that tells of the verdict rests on, where there is one: the read that was answered is of any location
 abbrev pub RestsIfAny : (ℕ → ℕ → Type 0) → List (ℕ × ℕ) → Option Verdict → Type 0
-RestsIfAny shows updates None = Unit {0}
+RestsIfAny shows updates None = ⊤
 RestsIfAny shows updates (Some verdict) = RestsOn shows (IsSeen shows) updates verdict
 
 -- what a record rests on, by the verdict that it tells of
 abbrev pub Grounds : (ℕ → ℕ → ℕ → Type 0) → Standing → Record → Type 0
-Grounds shows standings.Idle entry = Unit {0}
+Grounds shows standings.Idle entry = ⊤
 Grounds shows (standings.Began order) entry = RestsIfAny (shows order.unit) order.updates (verdict_of entry)
 Grounds shows (standings.Opened order) entry = RestsIfAny (shows order.unit) order.updates (verdict_of entry)
 Grounds shows (standings.Left unit) entry = RestsIfAny (shows unit) [] (verdict_of entry)

@@ -1,5 +1,5 @@
 -- Which traces are legal: each happening is judged by those before it.
-use Rattle.std.specs.Prelude.{◌≡◌, ◌⊎◌, ℕ, true, List, [], ◌∷◌, Option, Some, None, IsSome}
+use Rattle.std.specs.Prelude.{◌≡◌, ◌⊎◌, ℕ, true, List, [], ◌∷◌, Option, Some, None, IsSome, ⊤}
 use Rattle.dali_frame.specs.declared.forward.Frame.{Frame}
 use Rattle.dali_frame.specs.declared.forward.Frame.TheVariants.{Dtr0, Dtr1, Write, Enable, AskDtr0, AskDtr1, Read}
 use Rattle.dali_bank.specs.Order.{Contents, update_at}
@@ -68,7 +68,7 @@ MaySend past stands other = ⊥
 abbrev pub IsDue : List Happening → Record → Type 0
 IsDue past (Began order moment) = (waiting past ≡ Some order) × (moment ≡ waiting_since past)
 IsDue past (Closed unit) = IsSome (waiting past) × HasRead unit (sent_since_taken past)
-IsDue past other = Unit {0}
+IsDue past other = ⊤
 
 -- the record may be kept: the records are a sentence with it, of no more orders than there may be, and it rests on
 -- checked reads
@@ -102,12 +102,12 @@ MaySay start past id other = ⊥
 
 -- this may happen where no reply is due
 abbrev pub MayHappen : Start → List Happening → Happening → Type 0
-MayHappen start past (Asked order moment) = Unit {0}
+MayHappen start past (Asked order moment) = ⊤
 MayHappen start past (Answered id reply) = MaySay start past id reply
 MayHappen start past (Sent frame answer) = MaySend past (standing_at start past) frame
 MayHappen start past (Kept entry) = MayKeep start past entry
-MayHappen start past Stopped = Unit {0}
-MayHappen start past (Powered address) = Unit {0}
+MayHappen start past Stopped = ⊤
+MayHappen start past (Powered address) = ⊤
 
 -- an order is followed at once by its reply
 abbrev pub Replies : Start → List Happening → Contents → Happening → Type 0
@@ -127,4 +127,4 @@ Legal start (next ∷ past) = Legal start past × MayFollow start past next
 -- no reply is due
 abbrev pub IsFinished : List Happening → Type 0
 IsFinished (Asked order moment ∷ past) = ⊥
-IsFinished past = Unit {0}
+IsFinished past = ⊤

@@ -1,5 +1,5 @@
 -- A trace is the joined parts of its events, in their order. Events, as happenings, are listed newest first.
-use Rattle.std.specs.Prelude.{◌≡◌, ◌<◌, ◌≤◌, ◌⊎◌, true, false, List, [], ◌∷◌, length, Option, Some, ℕ}
+use Rattle.std.specs.Prelude.{◌≡◌, ◌<◌, ◌≤◌, ◌⊎◌, true, false, List, [], ◌∷◌, length, Option, Some, ℕ, ⊤}
 use Rattle.dali_bank.specs.Order.{Contents}
 use Rattle.dali_journal.specs.declared.record.Record.{Record}
 use Rattle.dali_journal.specs.declared.record.Record.TheVariants.{Began}
@@ -21,9 +21,9 @@ use Rattle.dali_trace.specs.ByPlan.{told_in, Asks}
 
 -- what a step may add: a saying, a frame or a record
 abbrev pub IsWork : Happening → Type 0
-IsWork (Answered id reply) = Unit {0}
-IsWork (Sent frame answer) = Unit {0}
-IsWork (Kept entry) = Unit {0}
+IsWork (Answered id reply) = ⊤
+IsWork (Sent frame answer) = ⊤
+IsWork (Kept entry) = ⊤
 IsWork other = ⊥
 
 -- where the records stand so, this order waits since that moment and the session at hand was told these, this record

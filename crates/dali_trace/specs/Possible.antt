@@ -1,5 +1,5 @@
 -- Which bytes the units may hold, by what a journal says of each order. The newest order comes first.
-use Rattle.std.specs.Prelude.{◌≡◌, ◌⊎◌, ◌==◌, ◌&&◌, ℕ, List, [], ◌∷◌, Option, Some, None, if◌then◌else◌}
+use Rattle.std.specs.Prelude.{◌≡◌, ◌⊎◌, ◌==◌, ◌&&◌, ℕ, List, [], ◌∷◌, Option, Some, None, if◌then◌else◌, ⊤}
 use Rattle.dali_bank.specs.Order.{Contents, update_at}
 use Rattle.dali_journal.specs.declared.record.Code.TheVariants.{Done, Short, Format, Silent, Doubt, DoubtOpen}
 use Rattle.dali_journal.specs.declared.kept.Progress.{Progress}
@@ -55,12 +55,12 @@ applied first address bank location (newest ∷ older) =
 -- whether one byte alone is possible after an order of this mark, which has this byte for the place, given whether
 -- one was before
 abbrev pub Settles : Mark → Option ℕ → Type 0 → Type 0
-Settles Applied (Some update) before = Unit {0}
+Settles Applied (Some update) before = ⊤
 Settles InDoubt (Some update) before = ⊥
 Settles mark other before = before
 
 -- no order in doubt has a byte for the place, but before one that is done and has one
 abbrev pub IsSettled : ℕ → ℕ → ℕ → List (Contents × Progress) → Type 0
-IsSettled address bank location [] = Unit {0}
+IsSettled address bank location [] = ⊤
 IsSettled address bank location (newest ∷ older) =
     Settles (mark_of newest.1) (byte_for newest.0 address bank location) (IsSettled address bank location older)

@@ -1,5 +1,5 @@
 -- What does not stand in a part of a trace.
-use Rattle.std.specs.Prelude.{◌≡◌, List, [], ◌∷◌}
+use Rattle.std.specs.Prelude.{◌≡◌, List, [], ◌∷◌, ⊤}
 use Rattle.dali_trace.specs.declared.happening.Reply.TheVariants as replies
 use Rattle.dali_trace.specs.declared.happening.Happening.{Happening}
 use Rattle.dali_trace.specs.declared.happening.Happening.TheVariants.{Answered}
@@ -7,7 +7,7 @@ use Rattle.dali_trace.specs.Cut.{frames_in}
 
 -- no order is taken
 abbrev pub NoneTaken : List Happening → Type 0
-NoneTaken [] = Unit {0}
+NoneTaken [] = ⊤
 NoneTaken (Answered id replies.Taken ∷ past) = ⊥
 NoneTaken (other ∷ past) = NoneTaken past
 

@@ -1,6 +1,6 @@
 -- Which reply is due to an order: the first of Kept, IdReused, Busy, Full and Taken that applies. And how a reply is
 -- told.
-use Rattle.std.specs.Prelude.{◌≡◌, ◌≢◌, ◌++◌, ℕ, Bool, true, false, List, codes, decimal}
+use Rattle.std.specs.Prelude.{◌≡◌, ◌≢◌, ◌++◌, ℕ, Bool, true, false, List, codes, decimal, ⊤}
 use Rattle.dali_bank.specs.Order.{Contents}
 use Rattle.dali_journal.specs.declared.kept.Kept.{Kept}
 use Rattle.dali_journal.specs.declared.kept.Kept.TheVariants as kepts
@@ -19,7 +19,7 @@ IsReused order (kepts.Ended old code) = old ≢ order
 
 -- the journal doesn't have the order, or hasn't ended it
 abbrev pub IsNotEnded : Contents → Kept → Type 0
-IsNotEnded order kepts.Absent = Unit {0}
+IsNotEnded order kepts.Absent = ⊤
 IsNotEnded order (kepts.Unfinished old) = old ≡ order
 IsNotEnded order (kepts.Ended old code) = ⊥
 

@@ -1,5 +1,5 @@
 -- What is promised of a run over a bus.
-use Rattle.std.specs.Prelude.{◌≡◌, ℕ, List, [], ◌++◌, reverse, take}
+use Rattle.std.specs.Prelude.{◌≡◌, ℕ, List, [], ◌++◌, reverse, take, ⊤}
 use Rattle.std.specs.List.{AllByRecursion}
 use Rattle.dali_frame.specs.Frame.{IsProper}
 use Rattle.dali_bus.specs.World.{World}
@@ -42,7 +42,7 @@ pub record LeadsRight {S : Type 0} (world : S → World) (step : S → BusEvent 
 -- a frame that was sent is one that some word spells
 abbrev pub SendsProper : Happening → Type 0
 SendsProper (Sent frame answer) = IsProper frame
-SendsProper other = Unit {0}
+SendsProper other = ⊤
 
 -- and so is each of a trace
 abbrev pub SendsAllProper : List Happening → Type 0
@@ -51,7 +51,7 @@ SendsAllProper past = AllByRecursion SendsProper past
 -- an order that was asked for holds what an order may hold
 abbrev pub AsksProper : Happening → Type 0
 AsksProper (Asked order moment) = AreUpdates order.updates
-AsksProper other = Unit {0}
+AsksProper other = ⊤
 
 -- and so does each of a trace
 abbrev pub AsksAllProper : List Happening → Type 0

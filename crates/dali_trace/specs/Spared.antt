@@ -1,5 +1,5 @@
 -- Over the simulated bus: what is lost of an order's frames since its start, and how an order ends that loses little.
-use Rattle.std.specs.Prelude.{◌≡◌, ◌≢◌, ◌<◌, ◌≤◌, ℕ, Bool, false, ◌||◌, List, [], ◌∷◌, ◌++◌, Option, Some, None}
+use Rattle.std.specs.Prelude.{◌≡◌, ◌≢◌, ◌<◌, ◌≤◌, ℕ, Bool, false, ◌||◌, List, [], ◌∷◌, ◌++◌, Option, Some, None, ⊤}
 use Rattle.std.specs.Prelude.{length, reverse}
 use Rattle.std.specs.List.{filter, AllByRecursion}
 use Rattle.dali_frame.specs.declared.forward.Frame.{Frame}
@@ -96,11 +96,11 @@ pub record EndsAsDue (start : Start) (order : Contents) (bank : BankState) (past
 
 -- what is said of an order that little befell is how it is to end
 abbrev pub IsSpared : Start → List Happening → SimState → List SimState → Type 0
-IsSpared start (Answered id reply ∷ Asked order moment ∷ past) last states = Unit {0}
+IsSpared start (Answered id reply ∷ Asked order moment ∷ past) last states = ⊤
 IsSpared start (Answered id reply ∷ past) last (state ∷ states) =
     (order : Contents) (bank : BankState) → order_at_hand start past ≡ Some order
     → LosesLittle start order bank past state states → EndsAsDue start order bank past states reply
-IsSpared start other last states = Unit {0}
+IsSpared start other last states = ⊤
 
 -- The order is said in what came to the trace since it was like this before; and if little befell it up to then, it is
 -- said as it is to end. The states along the whole of it are the later ones, the one when it was said, and those before.

@@ -1,5 +1,5 @@
 -- How many steps lead to what is said of an order.
-use Rattle.std.specs.Prelude.{◌≡◌, ◌≤◌, ℕ, suc, ◌+◌, List, [], ◌∷◌, ◌++◌, length, Some}
+use Rattle.std.specs.Prelude.{◌≡◌, ◌≤◌, ℕ, suc, ◌+◌, List, [], ◌∷◌, ◌++◌, length, Some, ⊤}
 use Rattle.dali_bank.specs.Order.{Contents}
 use Rattle.dali_trace.specs.declared.happening.Event.{Event}
 use Rattle.dali_trace.specs.declared.happening.Event.TheVariants.{Step, Stop}
@@ -19,7 +19,7 @@ steps_in (other ∷ events) = steps_in events
 
 -- none of the events is a stop
 abbrev pub NoneStops : List Event → Type 0
-NoneStops [] = Unit {0}
+NoneStops [] = ⊤
 NoneStops (Stop bytes ∷ events) = ⊥
 NoneStops (other ∷ events) = NoneStops events
 

@@ -1,5 +1,5 @@
 -- What is so in the world when a record is kept.
-use Rattle.std.specs.Prelude.{◌≡◌, ℕ, false, List, [], ◌∷◌, Some, None}
+use Rattle.std.specs.Prelude.{◌≡◌, ℕ, false, List, [], ◌∷◌, Some, None, ⊤}
 use Rattle.dali_bus.specs.World.{World, byte_at, is_enabled}
 use Rattle.dali_journal.specs.declared.record.Record.{Record}
 use Rattle.dali_journal.specs.declared.standing.Standing.{Standing}
@@ -34,4 +34,4 @@ pub record TellsTruth (lost : List ℕ) (now : World) (stands : Standing) (entry
 -- the record that was just kept, if one was, is true
 abbrev pub WhenKept : Start → List Happening → World → Type 0
 WhenKept start (Kept entry ∷ past) now = TellsTruth (powered_of [] past) now (standing_at start past) entry
-WhenKept start other now = Unit {0}
+WhenKept start other now = ⊤

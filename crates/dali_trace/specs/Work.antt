@@ -1,5 +1,5 @@
 -- How much work an order takes. An order starts when it is taken, and when a stop leaves it begun or opened.
-use Rattle.std.specs.Prelude.{◌≡◌, ◌⊎◌, ◌≤◌, ℕ, ◌+◌, ◌*◌, nat_lt, Bool, true, List, [], ◌∷◌, ◌++◌, length, Option}
+use Rattle.std.specs.Prelude.{◌≡◌, ◌⊎◌, ◌≤◌, ℕ, ◌+◌, ◌*◌, nat_lt, Bool, true, List, [], ◌∷◌, ◌++◌, length, Option, ⊤}
 use Rattle.std.specs.Prelude.{Some, None, IfSome, if◌then◌else◌}
 use Rattle.dali_bank.specs.Order.{Contents}
 use Rattle.dali_journal.specs.declared.record.Code.{Code}
@@ -56,8 +56,8 @@ FindsAnother order sent =
 -- (What Done, Short, Format and Doubt besides rest on, checked reads, is a rule of legal traces.)
 abbrev pub IsEarned : Standing → Contents → Code → List Exchange → Type 0
 IsEarned first order codes.Done sent = IsLong (frames_from first order.updates) sent
-IsEarned first order codes.Short sent = Unit {0}
-IsEarned first order codes.Format sent = Unit {0}
+IsEarned first order codes.Short sent = ⊤
+IsEarned first order codes.Format sent = ⊤
 IsEarned first order codes.Silent sent = EndsUnlooked order.unit sent
 IsEarned first order codes.Doubt sent = HasFailed order.unit sent ⊎ FindsAnother order sent
 IsEarned first order codes.DoubtOpen sent = EndsUnread order.unit 0x02 sent
@@ -83,12 +83,12 @@ IsWithinLimit start past =
 -- What was said last of an order that was taken was earned by the frames from its start on: how it ended, or that the
 -- left unit's lock byte wasn't told.
 abbrev pub IsSaidSo : Start → List Happening → Type 0
-IsSaidSo start (Answered id reply ∷ Asked order moment ∷ past) = Unit {0}
+IsSaidSo start (Answered id reply ∷ Asked order moment ∷ past) = ⊤
 IsSaidSo start (Answered id (replies.Kept code) ∷ past) =
     (order : Contents) × (order.id ≡ id) × (order_at_hand start past ≡ Some order)
     × IsEarned (stood_at start past) order code (sent_since_taken past)
 IsSaidSo start (Answered id (replies.Blocked unit) ∷ past) = EndsUnread unit 0x02 (sent_since_taken past)
-IsSaidSo start other = Unit {0}
+IsSaidSo start other = ⊤
 
 -- it holds at each moment of a trace
 abbrev pub AtEachPast : (List Happening → Type 0) → List Happening → Type 0

@@ -1,7 +1,7 @@
 -- What becomes of the other units while a session is at work with one.
 use Rattle.std.proofs.Common.{◌≡◌, ◌≢◌, inl, inr, refl, sym, ap, subst, ◌∙◌, ℕ, Bool, true, false, List, [], ◌∷◌, map}
 use Rattle.std.proofs.Common.{Some}
-use Rattle.std.specs.Prelude.{◌==◌, if◌then◌else◌}
+use Rattle.std.specs.Prelude.{◌==◌, if◌then◌else◌, ⊤}
 use Rattle.std.proofs.lemmas.Bool.{eqb-false, ne_eqb}
 use Rattle.std.specs.List.{AllByRecursion}
 use Rattle.dali_frame.specs.declared.forward.Frame.{Frame}
@@ -81,7 +81,7 @@ bank_after fate at address bank unit (first ∷ units) frame is other (inr furth
 
 -- all of the frames are meant for the unit
 abbrev AllAre : ℕ → List Exchange → Type 0
-AllAre at [] = Unit {0}
+AllAre at [] = ⊤
 AllAre at (x ∷ told) = IsFor at x.frame × AllAre at told
 
 for_of : (at : ℕ) (writes : List (ℕ × ℕ)) (told : List Exchange) (frame : Frame) → IsGuarded writes at told frame

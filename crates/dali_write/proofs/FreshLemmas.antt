@@ -1,5 +1,6 @@
 -- What the verdict of a fresh session says of the world, and that reading is quiet.
 use Rattle.std.proofs.Common.{sym, subst, ℕ, zero, suc, min, nat_lt, List, [], ◌∷◌, ◌++◌, Option}
+use Rattle.std.specs.Prelude.{⊤}
 use Rattle.dali_bus.specs.World.{World}
 use Rattle.dali_write.specs.Exchanges.{Exchange}
 use Rattle.dali_write.specs.declared.access.Access.TheVariants.{ReadFrom, WriteTo}
@@ -19,7 +20,7 @@ use Rattle.dali_bus.specs.Carry.{WorldStep}
 
 -- all accesses of the plan are reads
 OnlyReads : Plan → Type 0
-OnlyReads (Finish verdict) = Unit {0}
+OnlyReads (Finish verdict) = ⊤
 OnlyReads (Make (ReadFrom location) after) = (outcome : Option ℕ) → OnlyReads (after outcome)
 OnlyReads (Make (WriteTo location byte) after) = ⊥
 

@@ -1,6 +1,6 @@
 -- What frames do to one unit.
 use Rattle.std.proofs.Common.{◌≡◌, ◌⊎◌, refl, sym, ap, ◌∙◌, inl, inr, ℕ, false, Option, Some, None, is_some}
-use Rattle.std.specs.Prelude.{◌≢◌}
+use Rattle.std.specs.Prelude.{◌≢◌, ⊤}
 use Rattle.std.specs.Option.{option_map}
 use Rattle.dali_frame.specs.declared.forward.Frame.{Frame}
 use Rattle.dali_frame.specs.declared.forward.Frame.TheVariants.{Dtr0, Dtr1, Dtr2, Write, WriteSilent, Enable, AskDtr0}
@@ -44,16 +44,16 @@ keeps_on a b c first then = record { memory = then.memory ∙ first.memory; off 
 
 -- the frame writes nothing, and doesn't enable the unit at this address
 abbrev pub IsQuiet : ℕ → Frame → Type 0
-IsQuiet at (Dtr0 b) = Unit {0}
-IsQuiet at (Dtr1 b) = Unit {0}
-IsQuiet at (Dtr2 b) = Unit {0}
+IsQuiet at (Dtr0 b) = ⊤
+IsQuiet at (Dtr1 b) = ⊤
+IsQuiet at (Dtr2 b) = ⊤
 IsQuiet at (Write b) = ⊥
 IsQuiet at (WriteSilent b) = ⊥
 IsQuiet at (Enable to) = to ≢ at
-IsQuiet at (AskDtr0 to) = Unit {0}
-IsQuiet at (AskDtr1 to) = Unit {0}
-IsQuiet at (AskDtr2 to) = Unit {0}
-IsQuiet at (Read to) = Unit {0}
+IsQuiet at (AskDtr0 to) = ⊤
+IsQuiet at (AskDtr1 to) = ⊤
+IsQuiet at (AskDtr2 to) = ⊤
+IsQuiet at (Read to) = ⊤
 IsQuiet at (Other w) = ⊥
 
 same_keeps : (old new : Gear) → new ≡ old → Keeps old new
@@ -150,10 +150,10 @@ dtr1_in (Some gear) = Some gear.dtr1
 
 -- the frame sets no DTR1
 abbrev pub LeavesDtr1 : Frame → Type 0
-LeavesDtr1 (Dtr0 byte) = Unit {0}
-LeavesDtr1 (AskDtr0 to) = Unit {0}
-LeavesDtr1 (AskDtr1 to) = Unit {0}
-LeavesDtr1 (Read to) = Unit {0}
+LeavesDtr1 (Dtr0 byte) = ⊤
+LeavesDtr1 (AskDtr0 to) = ⊤
+LeavesDtr1 (AskDtr1 to) = ⊤
+LeavesDtr1 (Read to) = ⊤
 LeavesDtr1 other = ⊥
 
 obeys_dtr1 : (at : ℕ) (old : Gear) (frame : Frame) (answer : Option ℕ) (new : Gear) → LeavesDtr1 frame

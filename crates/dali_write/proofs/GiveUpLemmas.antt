@@ -1,5 +1,6 @@
 -- A session gives up only where its last access failed.
 use Rattle.std.proofs.Common.{◌≡◌, ◌⊎◌, inl, inr, refl, sym, ap, subst, ◌∙◌, ℕ, zero, suc, min, Bool, true, false, ◌==◌}
+use Rattle.std.specs.Prelude.{⊤}
 use Rattle.std.proofs.Common.{◌&&◌, nat_lt, if◌then◌else◌, List, [], ◌∷◌, ◌++◌, append_assoc, append-nil, Option, Some}
 use Rattle.std.proofs.Common.{None, IsSome}
 use Rattle.dali_write.specs.Exchanges.{Exchange}
@@ -66,7 +67,7 @@ Late P verdict failed (Make access after) =
 
 -- the newest frames are those of the access that failed just before, if one did
 abbrev JustFailed : ℕ → Option Access → List Exchange → Type 0
-JustFailed unit None older = Unit {0}
+JustFailed unit None older = ⊤
 JustFailed unit (Some access) older = EndsInFailure unit access older
 
 -- the newest frames are those of one of these accesses, and it failed

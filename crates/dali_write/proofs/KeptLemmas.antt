@@ -2,7 +2,7 @@
 -- to its end.
 use Rattle.std.proofs.Common.{◌≡◌, refl, sym, subst, ℕ, zero, suc, ◌+◌, ◌<◌, Bool, true, false, ◌&&◌, not, List, []}
 use Rattle.std.proofs.Common.{◌∷◌, ◌++◌, length, Option, Some, None, arith}
-use Rattle.std.specs.Prelude.{◌==◌, slice_get, slice_set, if◌then◌else◌}
+use Rattle.std.specs.Prelude.{◌==◌, slice_get, slice_set, if◌then◌else◌, ⊤}
 use Rattle.std.proofs.lemmas.Bool.{ltb-true}
 use Rattle.std.specs.Cmp.{first_so, second_so}
 use Rattle.std.proofs.lemmas.Grind.{common_steps}
@@ -54,7 +54,7 @@ keep_quiet keep false refuses unit frame quiet kept = subst keep (sym (bank_stay
 
 -- none of the requests writes
 abbrev AllQuiet : List Request → Type 0
-AllQuiet [] = Unit {0}
+AllQuiet [] = ⊤
 AllQuiet (next ∷ left) = IsQuiet next.frame × AllQuiet left
 
 -- quiet requests, and then others
@@ -68,12 +68,12 @@ quiet_first keep end (next ∷ requests) left unit quiet kept rest = λ lost ref
 
 -- storing the byte of the access keeps it
 abbrev pub Keeps : (BankState → Type 0) → Access → Type 0
-Keeps keep (ReadFrom location) = Unit {0}
+Keeps keep (ReadFrom location) = ⊤
 Keeps keep (WriteTo location byte) = (bank : BankState) → keep bank → keep (with_byte bank location byte)
 
 -- what the unit has after the access: its byte in bank 1, where it wrote one
 abbrev pub Ends : Access → UnitState → Type 0
-Ends (ReadFrom location) unit = Unit {0}
+Ends (ReadFrom location) unit = ⊤
 Ends (WriteTo location byte) unit = slice_get unit.bank1.bytes location ≡ Some byte
 
 -- a byte that was set

@@ -1,7 +1,7 @@
 -- A try without a loss comes to its end.
 use Rattle.std.proofs.Common.{◌≡◌, refl, sym, ap, subst, ◌∙◌, ℕ, ◌+◌, ◌≤◌, Bool, true, false, List, [], ◌∷◌, ◌++◌}
 use Rattle.std.proofs.Common.{Option, Some, None, IsSome, IsTrue, arith}
-use Rattle.std.specs.Prelude.{slice_get, if◌then◌else◌}
+use Rattle.std.specs.Prelude.{slice_get, if◌then◌else◌, ⊤}
 use Rattle.std.proofs.lemmas.Bool.{eq-eqb}
 use Rattle.std.proofs.Math.Nat.{pos_of_ne-zero}
 use Rattle.dali_frame.specs.declared.forward.Frame.TheVariants.{Write, Enable, AskDtr0, AskDtr1, Read}
@@ -24,12 +24,12 @@ use Rattle.dali_gear.specs.SimState.{SimStep}
 
 -- a unit that hears all of the requests gives the answers that they want
 abbrev pub Suits : List Request → UnitState → Type 0
-Suits [] unit = Unit {0}
+Suits [] unit = ⊤
 Suits (next ∷ left) unit =
     Meets next.wish (answer_to false unit next.frame) × Suits left (after_frame false unit next.frame)
 
 abbrev pub AllFor : ℕ → List Request → Type 0
-AllFor at [] = Unit {0}
+AllFor at [] = ⊤
 AllFor at (next ∷ left) = IsFor at next.frame × AllFor at left
 
 pub all_for : (at : ℕ) (access : Access) → AllFor at (access_requests at access)

@@ -1,5 +1,6 @@
 -- The misses among exchanges are those of the tries.
 use Rattle.std.proofs.Common.{◌≡◌, inl, inr, refl, sym, ap, subst, ℕ, zero, suc, ◌+◌, ◌≤◌, Bool, true, false}
+use Rattle.std.specs.Prelude.{⊤}
 use Rattle.std.proofs.Common.{if◌then◌else◌, List, [], ◌∷◌, ◌++◌, append_assoc, append-nil, length, Option, Some, None}
 use Rattle.std.proofs.Common.{arith}
 use Rattle.std.proofs.lemmas.Bool.{eq-eqb, ne_eqb}
@@ -19,7 +20,7 @@ use Rattle.dali_write.specs.Misses.{location_after, location_in, wish_of, is_mis
 
 -- each request wishes what its frame asks for, where DTR0 should stand so before the first one
 abbrev Apt : ℕ → List Request → Type 0
-Apt location [] = Unit {0}
+Apt location [] = ⊤
 Apt location (next ∷ left) = (next.wish ≡ wish_of next.frame location) × Apt (location_after next.frame location) left
 
 apt_access : (unit : ℕ) (access : Access) (location : ℕ) → Apt location (access_requests unit access)

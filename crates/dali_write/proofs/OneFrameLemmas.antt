@@ -1,7 +1,7 @@
 -- What a frame that is meant for one unit does on the simulated bus.
 use Rattle.std.proofs.Common.{◌≡◌, ◌≢◌, inl, inr, refl, sym, ap, subst, ◌∙◌, ℕ, Bool, true, false, ◌&&◌, ◌||◌, List, []}
 use Rattle.std.proofs.Common.{◌∷◌, map, Option, Some, None}
-use Rattle.std.specs.Prelude.{◌==◌, if◌then◌else◌}
+use Rattle.std.specs.Prelude.{◌==◌, if◌then◌else◌, ⊤}
 use Rattle.std.specs.List.{filter_map, cons_option}
 use Rattle.std.proofs.lemmas.Bool.{eq-eqb, ne_eqb}
 use Rattle.std.specs.List.{AllByRecursion}
@@ -17,17 +17,17 @@ use Rattle.dali_write.specs.Losses.{answers_at, is_loss, IsElse, IsAlone}
 
 -- no other unit is enabled or asked by the frame
 abbrev pub IsFor : ℕ → Frame → Type 0
-IsFor at (Dtr0 b) = Unit {0}
-IsFor at (Dtr1 b) = Unit {0}
-IsFor at (Dtr2 b) = Unit {0}
-IsFor at (Write b) = Unit {0}
-IsFor at (WriteSilent b) = Unit {0}
+IsFor at (Dtr0 b) = ⊤
+IsFor at (Dtr1 b) = ⊤
+IsFor at (Dtr2 b) = ⊤
+IsFor at (Write b) = ⊤
+IsFor at (WriteSilent b) = ⊤
 IsFor at (Enable to) = to ≡ at
 IsFor at (AskDtr0 to) = to ≡ at
 IsFor at (AskDtr1 to) = to ≡ at
 IsFor at (AskDtr2 to) = to ≡ at
 IsFor at (Read to) = to ≡ at
-IsFor at (Other w) = Unit {0}
+IsFor at (Other w) = ⊤
 
 not_to : (to at address : ℕ) → to ≡ at → address ≢ at → (to == address) ≡ false
 not_to to at address same other = ne_eqb to address (λ e. other (sym e ∙ same))

@@ -1,5 +1,6 @@
 -- There is room for each byte that a reading session reads.
 use Rattle.std.proofs.Common.{◌≡◌, sym, ap, subst, ◌∙◌, ℕ, zero, suc, ◌-◌, ◌<◌, ◌≤◌, min, List, [], ◌∷◌, length}
+use Rattle.std.specs.Prelude.{⊤}
 use Rattle.std.proofs.Common.{length-append, Option, Some, None, arith}
 use Rattle.std.specs.Option.{option_to_list}
 use Rattle.dali_write.specs.Exchanges.{Exchange}
@@ -15,7 +16,7 @@ use Rattle.dali_write.proofs.PlanLemmas.{either_all}
 
 -- whatever the outcomes are, the plan has no more accesses
 abbrev pub HasAtMost : ℕ → Plan → Type 0
-HasAtMost most (Finish verdict) = Unit {0}
+HasAtMost most (Finish verdict) = ⊤
 HasAtMost zero (Make access after) = ⊥
 HasAtMost (suc most) (Make access after) = (outcome : Option ℕ) → HasAtMost most (after outcome)
 

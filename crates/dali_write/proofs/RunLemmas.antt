@@ -2,7 +2,7 @@
 -- them.
 use Rattle.std.proofs.Common.{◌≡◌, inl, inr, refl, sym, ap, subst, ℕ, ◌+◌, ◌<◌, ◌≤◌, false, List, [], ◌∷◌, map}
 use Rattle.std.proofs.Common.{arith}
-use Rattle.std.specs.Prelude.{if◌then◌else◌}
+use Rattle.std.specs.Prelude.{if◌then◌else◌, ⊤}
 use Rattle.dali_bus.specs.Chain.{IsChain}
 use Rattle.dali_bus.specs.Carry.{BusEvent, Carried, Powered, WorldStep, HasLostPower}
 use Rattle.dali_bus.proofs.ChainLemmas.{shown_chain}
@@ -155,7 +155,7 @@ losses_along address loses (x ∷ told) first last run =
 -- no fate of the exchanges refuses
 abbrev pub UnrefusedAlong : (loses : ℕ → Type 0) (told : List Exchange) (first last : SimState)
     → Leads SimStep loses told first last → Type 0
-UnrefusedAlong loses [] first last run = Unit {0}
+UnrefusedAlong loses [] first last run = ⊤
 UnrefusedAlong loses (x ∷ told) first last run =
     ((next_fate run.0.fates).refuse ≡ false) × UnrefusedAlong loses told first run.0 run.2
 

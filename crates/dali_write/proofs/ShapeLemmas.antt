@@ -1,5 +1,6 @@
 -- The exchanges of whole tries, one by one.
 use Rattle.std.proofs.Common.{◌≡◌, refl, sym, ap, subst, ℕ, zero, suc, ◌+◌, List, [], ◌∷◌, ◌++◌, length, drop, arith}
+use Rattle.std.specs.Prelude.{⊤}
 use Rattle.std.proofs.lemmas.List.{append_cancel_right}
 use Rattle.dali_frame.specs.declared.forward.Frame.{Frame}
 use Rattle.dali_frame.specs.declared.forward.Frame.TheVariants.{Dtr0, Dtr1, AskDtr0, AskDtr1, Read}
@@ -23,7 +24,7 @@ pub none_left : (tried : List Exchange) (next : Request) (left : List Request) �
 none_left tried next left try = let long = trying_length [] tried (next ∷ left) try in omega arith
 
 abbrev pub AllOf : (Request → Type 0) → List Request → Type 0
-AllOf P [] = Unit {0}
+AllOf P [] = ⊤
 AllOf P (next ∷ left) = P next × AllOf P left
 
 -- what holds of all requests holds of those that are left

@@ -2,7 +2,7 @@
 use Rattle.std.proofs.Common.{◌≡◌, ◌≢◌, ◌⊎◌, inl, inr, refl, sym, ap, subst, ◌∙◌, ℕ, zero, suc, ◌+◌, ◌≤◌, ◌<◌, Bool}
 use Rattle.std.proofs.Common.{true, false, ◌==◌, nat_lt, if◌then◌else◌, List, [], ◌∷◌, ◌++◌, length, Option, Some, None}
 use Rattle.std.proofs.Common.{IsTrue, arith}
-use Rattle.std.specs.Prelude.{slice_get, slice_index, min}
+use Rattle.std.specs.Prelude.{slice_get, slice_index, min, ⊤}
 use Rattle.std.proofs.lemmas.Bool.{eq-eqb, ne_eqb, eqb-true, eqb-false, lt-ltb, le-leb, ltb-false}
 use Rattle.std.proofs.Math.Nat.{min-le_left}
 use Rattle.std.proofs.lemmas.Option.{slice_get-get_or, get_or_from_slice_get}
@@ -431,7 +431,7 @@ written_on updates left update old new rises going only stored =
 
 read_back_goes : (updates : List (ℕ × ℕ)) (bank : BankState)
     → ((location byte : ℕ) → Has updates location byte → slice_get bank.bytes location ≡ Some byte)
-    → Goes (λ now. Unit {0}) Done (read_back updates) bank
+    → Goes (λ now. ⊤) Done (read_back updates) bank
 read_back_goes [] bank there = (refl, tt)
 read_back_goes (update ∷ updates) bank there = (
   update.1,
@@ -440,7 +440,7 @@ read_back_goes (update ∷ updates) bank there = (
 )
 
 write_on_goes : (updates left : List (ℕ × ℕ)) (bank : BankState) → RisesAbove 0 updates → Going updates left bank
-    → Goes (λ now. Unit {0}) Done (write_on updates left) bank
+    → Goes (λ now. ⊤) Done (write_on updates left) bank
 write_on_goes updates [] bank rises going = (
   lock_writable bank going.long,
   λ new echo only stored. (
@@ -464,7 +464,7 @@ write_on_goes updates (update ∷ left) bank rises going = (
 )
 
 pub unlock_goes : (updates : List (ℕ × ℕ)) (bank : BankState) → RisesAbove 0 updates → 2 < length bank.bytes
-    → TakesAll bank updates → Goes (λ now. Unit {0}) Done (unlock updates) bank
+    → TakesAll bank updates → Goes (λ now. ⊤) Done (unlock updates) bank
 unlock_goes updates bank rises long takes = (
   lock_writable bank long,
   λ new echo only stored. write_on_goes updates updates new rises (record {
@@ -482,5 +482,5 @@ pub opened_succeeds : (loses : ℕ → Type 0) (at : ℕ) (unit : UnitState) (up
     → (verdict ≡ Done) × MissesAlong loses at unit told first last spared
 opened_succeeds loses at unit updates verdict told first last spared rises takes wants =
     let least = (spared_bank loses at unit _ _ verdict told first last spared wants).least in
-    succeeds loses (λ now. Unit {0}) Done verdict at (unlock updates) unit told first last spared
+    succeeds loses (λ now. ⊤) Done verdict at (unlock updates) unit told first last spared
     (unlock_goes updates unit.bank1 rises (omega arith) takes) wants

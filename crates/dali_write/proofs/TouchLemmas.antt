@@ -1,5 +1,6 @@
 -- Sessions touch their places alone.
 use Rattle.std.proofs.Common.{◌≡◌, ◌⊎◌, refl, sym, subst, inl, inr, ℕ, zero, suc, ◌==◌}
+use Rattle.std.specs.Prelude.{⊤}
 use Rattle.std.proofs.Common.{if◌then◌else◌, List, [], ◌∷◌, ◌++◌, Option}
 use Rattle.dali_bus.specs.World.{World}
 use Rattle.dali_write.specs.Exchanges.{Exchange}
@@ -95,7 +96,7 @@ misses_harmless writes unit requests (suc misses) told safe is =
 
 -- each write of the plan is one of these
 abbrev pub OnlyWrites : List (ℕ × ℕ) → Plan → Type 0
-OnlyWrites writes (Finish verdict) = Unit {0}
+OnlyWrites writes (Finish verdict) = ⊤
 OnlyWrites writes (Make (ReadFrom location) after) = (outcome : Option ℕ) → OnlyWrites writes (after outcome)
 OnlyWrites writes (Make (WriteTo location byte) after) =
     Has writes location byte × ((outcome : Option ℕ) → OnlyWrites writes (after outcome))

@@ -1,7 +1,7 @@
 -- Checked reads tell the truth, and guarded writes are safe.
 use Rattle.std.proofs.Common.{◌≡◌, ◌⊎◌, refl, sym, ap, subst, ◌∙◌, inl, inr, ℕ, true, false, List, [], ◌∷◌, ◌++◌}
 use Rattle.std.proofs.Common.{Option, Some, None}
-use Rattle.std.specs.Prelude.{◌≢◌, Bool}
+use Rattle.std.specs.Prelude.{◌≢◌, Bool, ⊤}
 use Rattle.std.proofs.Math.Dec.{eqb}
 use Rattle.std.proofs.lemmas.Bool.{eqb-true, eqb-false}
 use Rattle.dali_frame.specs.declared.forward.Frame.{Frame}
@@ -199,7 +199,7 @@ read_true {loses} tried first last unit location byte run reads =
     (drifts_keep r7.1 last r7.4 unit)
 
 abbrev pub AllQuiet : ℕ → List Exchange → Type 0
-AllQuiet address [] = Unit {0}
+AllQuiet address [] = ⊤
 AllQuiet address (x ∷ told) = IsQuiet address x.frame × AllQuiet address told
 
 pub run_keeps : {loses : ℕ → Type 0} (told : List Exchange) (first last : World) (address : ℕ) → AllQuiet address told

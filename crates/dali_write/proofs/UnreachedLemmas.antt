@@ -1,5 +1,6 @@
 -- A closing session that ends as NotClosed was told of no checked read that came to its end.
 use Rattle.std.proofs.Common.{◌≡◌, ◌⊎◌, inl, inr, refl, sym, subst, ℕ, zero, suc, ◌≤◌, ◌<◌, List, [], ◌∷◌}
+use Rattle.std.specs.Prelude.{⊤}
 use Rattle.std.proofs.Common.{◌++◌, append_assoc, append-nil, length, Bool, true, false, Option, Some, None, arith}
 use Rattle.dali_frame.specs.declared.forward.Frame.{Frame}
 use Rattle.dali_frame.specs.declared.forward.Frame.TheVariants.{Dtr0, Dtr1, Dtr2, Write, WriteSilent, Enable, AskDtr0}
@@ -33,20 +34,20 @@ asked_in (x ∷ told) = is_ask x.frame
 -- The frame doesn't end a checked read: where it asks for DTR1 straight after DTR0, it isn't told 01h.
 abbrev IsUnread : Frame → Option ℕ → Bool → Type 0
 IsUnread (AskDtr1 to) answer true = answer ≡ Some 1 → ⊥
-IsUnread frame answer asked = Unit {0}
+IsUnread frame answer asked = ⊤
 
 abbrev AllUnread : List Exchange → Type 0
-AllUnread [] = Unit {0}
+AllUnread [] = ⊤
 AllUnread (x ∷ told) = IsUnread x.frame x.answer (asked_in told) × AllUnread told
 
 -- where the frame may end a checked read, it wants 01h, and fewer requests than so many are left after it
 abbrev ReadsLate : ℕ → Frame → Bool → Wish → List Request → Type 0
 ReadsLate late (AskDtr1 to) true wish left = (wish ≡ Exactly 1) × (length left < late)
-ReadsLate late frame asked wish left = Unit {0}
+ReadsLate late frame asked wish left = ⊤
 
 -- only so many requests, the last of them, may end a checked read
 abbrev RequestsReadLate : ℕ → Bool → List Request → Type 0
-RequestsReadLate late asked [] = Unit {0}
+RequestsReadLate late asked [] = ⊤
 RequestsReadLate late asked (next ∷ left) =
     ReadsLate late next.frame asked next.wish left × RequestsReadLate late (is_ask next.frame) left
 

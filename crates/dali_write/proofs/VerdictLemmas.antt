@@ -1,5 +1,6 @@
 -- What the verdict of a session says of the world.
 use Rattle.std.proofs.Common.{◌≡◌, inl, inr, sym, subst, ℕ, zero, suc, List, [], ◌∷◌, ◌++◌, Option, Some}
+use Rattle.std.specs.Prelude.{⊤}
 use Rattle.dali_bus.specs.World.{World}
 use Rattle.dali_write.specs.Exchanges.{Exchange}
 use Rattle.dali_write.specs.declared.request.Request.{Request}
@@ -17,7 +18,7 @@ use Rattle.dali_bus.specs.Carry.{WorldStep}
 
 -- no frame of these requests writes, or enables the unit at the address
 abbrev pub RequestsQuiet : ℕ → List Request → Type 0
-RequestsQuiet address [] = Unit {0}
+RequestsQuiet address [] = ⊤
 RequestsQuiet address (next ∷ requests) = IsQuiet address next.frame × RequestsQuiet address requests
 
 pub trying_quiet : (address : ℕ) (requests : List Request) (tried : List Exchange) (left : List Request)

@@ -1,5 +1,6 @@
 -- The byte of a checked read was there when it was read, and its unit kept its power until the last answer.
 use Rattle.std.proofs.Common.{◌≡◌, refl, sym, ap, subst, ◌∙◌, inl, inr, ℕ, List, [], ◌∷◌, ◌++◌, Option, Some, None}
+use Rattle.std.specs.Prelude.{⊤}
 use Rattle.dali_frame.specs.declared.forward.Frame.{Frame}
 use Rattle.dali_frame.specs.declared.forward.Frame.TheVariants.{Dtr0, AskDtr0, AskDtr1, Read}
 use Rattle.dali_bus.specs.Power.{PowersUp}
@@ -36,7 +37,7 @@ drifts_apart unit first last (Loses {mid = mid} at of_these drifts lost) bank = 
 
 -- none of the frames sets DTR1
 abbrev AllLeave : List Exchange → Type 0
-AllLeave [] = Unit {0}
+AllLeave [] = ⊤
 AllLeave (x ∷ told) = LeavesDtr1 x.frame × AllLeave told
 
 kept_on : (loses : ℕ → Type 0) (unit : ℕ) (told : List Exchange) (first last : World) → AllLeave told

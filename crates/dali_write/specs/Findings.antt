@@ -2,7 +2,7 @@
 --
 -- What a byte is shown by is left open: the verdict of a session asks it of the world, a record of the journal of the
 -- frames that were sent, and the promises of the writer of the world again.
-use Rattle.std.specs.Prelude.{◌≡◌, ℕ, ◌<◌, ◌≤◌, List}
+use Rattle.std.specs.Prelude.{◌≡◌, ℕ, ◌<◌, ◌≤◌, List, ⊤}
 use Rattle.std.specs.List.{AllByRecursion}
 use Rattle.dali_write.specs.declared.ask.Verdict.{Verdict}
 use Rattle.dali_write.specs.declared.ask.Verdict.TheVariants.{MayOpen, Done, Short, Format, Silent, Doubt, DoubtOpen}
@@ -36,12 +36,12 @@ RestsOn shows answered updates MayOpen = Suits shows updates
 RestsOn shows answered updates Done = IsWritten shows updates
 RestsOn shows answered updates Short = IsTooShort shows updates
 RestsOn shows answered updates Format = HasOtherFormat shows updates
-RestsOn shows answered updates Silent = Unit {0}
+RestsOn shows answered updates Silent = ⊤
 RestsOn shows answered updates Doubt = answered
-RestsOn shows answered updates DoubtOpen = Unit {0}
+RestsOn shows answered updates DoubtOpen = ⊤
 RestsOn shows answered updates Closed = answered
-RestsOn shows answered updates NotClosed = Unit {0}
-RestsOn shows answered updates Read = Unit {0}
+RestsOn shows answered updates NotClosed = ⊤
+RestsOn shows answered updates Read = ⊤
 
 -- what the verdict of a session rests on: the read that was answered is that of the lock byte
 abbrev pub Rests : (ℕ → ℕ → Type 0) → List (ℕ × ℕ) → Verdict → Type 0

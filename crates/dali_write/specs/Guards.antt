@@ -1,5 +1,5 @@
 -- Which frames a session may want.
-use Rattle.std.specs.Prelude.{◌≡◌, ℕ, List}
+use Rattle.std.specs.Prelude.{◌≡◌, ℕ, List, ⊤}
 use Rattle.dali_frame.specs.declared.forward.Frame.{Frame}
 use Rattle.dali_frame.specs.declared.forward.Frame.TheVariants.{Dtr0, Dtr1, AskDtr0, AskDtr1, Read, Enable, Write}
 use Rattle.dali_write.specs.Exchanges.{Exchange}
@@ -10,8 +10,8 @@ use Rattle.dali_write.specs.Touches.{Has}
 -- DTR1; it enables the unit only where there is something to write; and it writes a byte of these writes only after
 -- four frames that made sure that the unit has selected its location.
 abbrev pub IsGuarded : List (ℕ × ℕ) → ℕ → List Exchange → Frame → Type 0
-IsGuarded writes unit told (Dtr0 byte) = Unit {0}
-IsGuarded writes unit told (Dtr1 byte) = Unit {0}
+IsGuarded writes unit told (Dtr0 byte) = ⊤
+IsGuarded writes unit told (Dtr1 byte) = ⊤
 IsGuarded writes unit told (AskDtr0 to) = to ≡ unit
 IsGuarded writes unit told (AskDtr1 to) = to ≡ unit
 IsGuarded writes unit told (Read to) = to ≡ unit

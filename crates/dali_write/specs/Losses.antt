@@ -1,5 +1,5 @@
 -- What the simulated bus loses of the frames that are meant for one unit.
-use Rattle.std.specs.Prelude.{◌≡◌, ◌≢◌, ℕ, ◌+◌, ◌==◌, Bool, false, ◌&&◌, ◌||◌, is_some, IsSome, IsTrue, ◌⊎◌, List, []}
+use Rattle.std.specs.Prelude.{◌≡◌, ◌≢◌, ℕ, ◌+◌, ◌==◌, Bool, false, ◌&&◌, ◌||◌, is_some, IsSome, IsTrue, ◌⊎◌, List, [], ⊤}
 use Rattle.std.specs.Prelude.{◌∷◌, length, slice_get, if◌then◌else◌}
 use Rattle.std.specs.List.{list_any, AllByRecursion}
 use Rattle.dali_frame.specs.declared.forward.Frame.{Frame}
@@ -34,7 +34,7 @@ abbrev pub Unrefused : List BusEvent → List SimState → Type 0
 Unrefused (Carried frame answer ∷ past) (state ∷ states) =
     ((next_fate state.fates).refuse ≡ false) × Unrefused past states
 Unrefused (Powered address ∷ past) (state ∷ states) = Unrefused past states
-Unrefused past states = Unit {0}
+Unrefused past states = ⊤
 
 -- another unit, not enabled
 abbrev pub IsElse : ℕ → UnitState → Type 0

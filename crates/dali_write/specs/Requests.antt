@@ -1,5 +1,5 @@
 -- The frames of a checked read and of a checked write, each with the answer that it wants.
-use Rattle.std.specs.Prelude.{◌≡◌, ℕ, List, [], ◌∷◌, ◌++◌, Option, Some, IsSome}
+use Rattle.std.specs.Prelude.{◌≡◌, ℕ, List, [], ◌∷◌, ◌++◌, Option, Some, IsSome, ⊤}
 use Rattle.dali_frame.specs.declared.forward.Frame.{Frame}
 use Rattle.dali_frame.specs.declared.forward.Frame.TheVariants.{Dtr0, Dtr1, Write, Enable, AskDtr0, AskDtr1, Read}
 use Rattle.dali_bus.specs.Hears.{up}
@@ -11,7 +11,7 @@ use Rattle.dali_write.specs.declared.access.Access.TheVariants.{ReadFrom, WriteT
 
 -- the answer is as wished
 abbrev pub Meets : Wish → Option ℕ → Type 0
-Meets Nothing answer = Unit {0}
+Meets Nothing answer = ⊤
 Meets (Exactly byte) answer = answer ≡ Some byte
 Meets Anything answer = IsSome answer
 

@@ -1,5 +1,6 @@
 -- What a writer wants to be said may be said, and then it is idle.
 use Rattle.std.proofs.Common.{◌≡◌, refl, ap, ◌∙◌, subst, ℕ, false, List, [], ◌∷◌, Some}
+use Rattle.std.specs.Prelude.{⊤}
 use Rattle.dali_frame.specs.declared.forward.Frame.{Frame}
 use Rattle.dali_bank.specs.Order.{Contents}
 use Rattle.dali_journal.specs.declared.standing.Standing.TheVariants as standings
@@ -29,8 +30,8 @@ use Rattle.dali_writer.proofs.StepLemmas.{stands_so}
 
 -- what a writer may say
 abbrev IsSaying : Reply → Type 0
-IsSaying (replies.Kept code) = Unit {0}
-IsSaying (replies.Blocked unit) = Unit {0}
+IsSaying (replies.Kept code) = ⊤
+IsSaying (replies.Blocked unit) = ⊤
 IsSaying _ = ⊥
 
 -- after a saying nothing is unsaid

@@ -1,7 +1,7 @@
 -- An order that is submitted gets the reply that is due, and the trace describes the writer.
 use Rattle.std.proofs.Common.{◌≡◌, ◌⊎◌, inl, inr, refl, sym, ap, ◌∙◌, subst, ℕ, ◌≤◌, ◌<◌, Bool, true, false, ◌==◌, ◌||◌}
 use Rattle.std.proofs.Common.{nat_le, List, [], ◌∷◌, arith}
-use Rattle.std.specs.Prelude.{◌↔◌, IsTrue}
+use Rattle.std.specs.Prelude.{◌↔◌, IsTrue, ⊤}
 use Rattle.std.proofs.Math.Dec.{leb}
 use Rattle.std.proofs.lemmas.Bool.Decides.{nat_tests, leb_tells}
 use Rattle.dali_bank.specs.Order.{Contents}
@@ -36,10 +36,10 @@ use Rattle.dali_writer.proofs.StepLemmas.{busy_at, check_wants, write_wants, clo
 
 -- the replies by which nothing is taken
 abbrev pub IsRefusal : Reply → Type 0
-IsRefusal (replies.Kept code) = Unit {0}
-IsRefusal replies.IdReused = Unit {0}
-IsRefusal replies.Busy = Unit {0}
-IsRefusal replies.Full = Unit {0}
+IsRefusal (replies.Kept code) = ⊤
+IsRefusal replies.IdReused = ⊤
+IsRefusal replies.Busy = ⊤
+IsRefusal replies.Full = ⊤
 IsRefusal _ = ⊥
 
 -- after them a writer is where it was
@@ -178,7 +178,7 @@ taken_on start past journal new phase next order moment stands d ready fresh idl
 
 -- all these orders have ended
 abbrev HaveEnded : List (Contents × Progress) → Type 0
-HaveEnded [] = Unit {0}
+HaveEnded [] = ⊤
 HaveEnded ((order, reached.Ended code) ∷ older) = HaveEnded older
 HaveEnded (newest ∷ older) = ⊥
 

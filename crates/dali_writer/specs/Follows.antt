@@ -1,5 +1,5 @@
 -- Which writers a trace leaves that keeps to the plans.
-use Rattle.std.specs.Prelude.{List}
+use Rattle.std.specs.Prelude.{List, ⊤}
 use Rattle.dali_write.specs.Exchanges.{Exchange}
 use Rattle.dali_write.specs.Told.{Told}
 use Rattle.dali_trace.specs.declared.happening.Happening.{Happening}
@@ -11,12 +11,12 @@ use Rattle.dali_writer.specs.WriterState.{WriterState}
 
 -- the session of the phase was told these
 abbrev pub WasTold : Phase → List Exchange → Type 0
-WasTold Idle told = Unit {0}
-WasTold (Begins order moment) told = Unit {0}
+WasTold Idle told = ⊤
+WasTold (Begins order moment) told = ⊤
 WasTold (Checks order s) told = Told told s
 WasTold (Writes order s) told = Told told s
 WasTold (Closes order moment s) told = Told told s
-WasTold (Says id code) told = Unit {0}
+WasTold (Says id code) told = ⊤
 
 -- the trace keeps to the plans, and its newest frames are those of the writer's session
 pub record Follows (start : Start) (past : List Happening) (writer : WriterState) : Type 0 where

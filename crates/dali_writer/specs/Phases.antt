@@ -1,5 +1,5 @@
 -- What a writer is about to do, and what it wants.
-use Rattle.std.specs.Prelude.{ℕ, Bool, true, false}
+use Rattle.std.specs.Prelude.{ℕ, Bool, true, false, ⊤}
 use Rattle.dali_journal.specs.declared.record.Code.{Code}
 use Rattle.dali_journal.specs.declared.record.Code.TheVariants as codes
 use Rattle.dali_journal.specs.declared.record.Record.{Record}
@@ -91,13 +91,13 @@ is_wanting other = true
 
 -- a record is wanted to be kept, a frame to be sent, something to be said
 abbrev pub IsKeep : Want → Type 0
-IsKeep (Keep entry) = Unit {0}
+IsKeep (Keep entry) = ⊤
 IsKeep other = ⊥
 
 abbrev pub IsSend : Want → Type 0
-IsSend (Send frame) = Unit {0}
+IsSend (Send frame) = ⊤
 IsSend other = ⊥
 
 abbrev pub IsSay : Want → Type 0
-IsSay (Say id reply) = Unit {0}
+IsSay (Say id reply) = ⊤
 IsSay other = ⊥

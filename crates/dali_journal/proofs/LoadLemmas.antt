@@ -1,5 +1,5 @@
 -- One step of a load.
-use Rattle.std.proofs.Common.{refl, ◌≡◌, ℕ, List, [], ◌++◌, length, drop, subst}
+use Rattle.std.proofs.Common.{refl, ◌≡◌, ℕ, List, ◌++◌, length, drop, subst}
 use Rattle.std.proofs.Common.{◌+◌, ◌≤◌, ◌∷◌, sym, ap, ◌∙◌, arith, append_assoc, length-append, length-drop}
 use Rattle.std.proofs.Math.Seq.{drop-append_seam}
 use Rattle.std.proofs.lemmas.List.{drop-drop}
@@ -8,13 +8,12 @@ use Rattle.dali_journal.specs.declared.fault.JournalFault.{JournalFault}
 use Rattle.dali_journal.specs.declared.fault.JournalFault.TheVariants as faults
 use Rattle.dali_journal.specs.Spelling.{spelling, records_spelling, header, journal_spelling, IsRecord}
 use Rattle.dali_journal.specs.declared.version.Version.{Version}
-use Rattle.dali_journal.specs.declared.version.Version.TheVariants.{One, Two}
+use Rattle.dali_journal.specs.declared.version.Version.TheVariants.{Two}
 use Rattle.dali_journal.specs.Sentence.{IsSentenceWithin}
 use Rattle.dali_journal.specs.Reading.{BeginsWith}
 use Rattle.dali_journal.specs.JournalState.{JournalState, IsLimit, IsJournal, AreKept}
-use Rattle.dali_journal.specs.Faults.{IsNewFault}
 use Rattle.dali_journal.specs.Loading.{HasVersion, MayNotFollow, IsRecordRefused, IsFault, HasFault, IsLoadFault}
-use Rattle.dali_journal.specs.Loading.{IsTorn, IsLoadable, JournalsLoadAgain}
+use Rattle.dali_journal.specs.Loading.{JournalsLoadAgain}
 use Rattle.dali_journal.proofs.DecodeLemmas.{AreRecords}
 
 -- a fault behind records that are kept

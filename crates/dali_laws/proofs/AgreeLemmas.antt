@@ -1,5 +1,5 @@
 -- Two traces that tell the same: what may follow the one may follow the other, and the plan asks for the same.
-use Rattle.std.proofs.Common.{ap, ◌≡◌, ◌≢◌, refl, sym, ◌∙◌, ◌↔◌, subst, ℕ, List, [], ◌∷◌, ◌++◌, None}
+use Rattle.std.proofs.Common.{ap, ◌≡◌, ◌≢◌, refl, sym, ◌∙◌, subst, ℕ, List, [], ◌∷◌, ◌++◌}
 use Rattle.dali_bank.specs.Order.{Contents}
 use Rattle.dali_frame.specs.declared.forward.Frame.{Frame}
 use Rattle.dali_frame.specs.declared.forward.Frame.TheVariants.{Dtr0, Dtr1, Write, Enable, AskDtr0, AskDtr1, Read}
@@ -12,7 +12,7 @@ use Rattle.dali_trace.specs.declared.happening.Reply.{Reply}
 use Rattle.dali_trace.specs.declared.happening.Reply.TheVariants as replies
 use Rattle.dali_trace.specs.declared.happening.Happening.{Happening}
 use Rattle.dali_trace.specs.declared.happening.Happening.TheVariants.{Asked, Answered, Sent, Kept}
-use Rattle.dali_trace.specs.Cut.{since, is_stop, is_start, is_turn, frames_in}
+use Rattle.dali_trace.specs.Cut.{since, is_stop, is_start, is_turn}
 use Rattle.dali_trace.proofs.CutLemmas.{frames_on}
 use Rattle.dali_trace.specs.Trace.{waiting_since, since_in}
 use Rattle.dali_trace.specs.Trace.{Start, records_of, standing_at, sent_of, sent_since_taken, waiting, course_of}

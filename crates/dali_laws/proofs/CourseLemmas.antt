@@ -23,7 +23,7 @@ use Rattle.dali_write.specs.Plans.{read_length, close}
 use Rattle.dali_write.specs.Tries.{Wants}
 use Rattle.dali_trace.specs.declared.happening.Reply.TheVariants as replies
 use Rattle.dali_trace.specs.declared.happening.Happening.{Happening}
-use Rattle.dali_trace.specs.declared.happening.Happening.TheVariants.{Asked, Answered, Sent, Kept, Stopped, Powered}
+use Rattle.dali_trace.specs.declared.happening.Happening.TheVariants.{Asked, Answered, Sent, Kept, Stopped}
 use Rattle.dali_trace.specs.Trace.{Start, records_of, standing_at, sent_since_taken, waiting, has_ended, is_unsaid}
 use Rattle.dali_trace.specs.Trace.{is_at_work}
 use Rattle.dali_trace.specs.Legal.{Legal, MaySend}

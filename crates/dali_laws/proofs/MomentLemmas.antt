@@ -10,7 +10,7 @@ use Rattle.dali_write.specs.Worlds.{IsAmong, Shows}
 use Rattle.dali_write.proofs.RunLemmas.{run_on, run_among}
 use Rattle.dali_write.proofs.StillReadLemmas.{stands_true}
 use Rattle.dali_trace.specs.declared.happening.Happening.{Happening}
-use Rattle.dali_trace.specs.declared.happening.Happening.TheVariants.{Asked, Answered, Sent, Kept, Stopped, Powered}
+use Rattle.dali_trace.specs.declared.happening.Happening.TheVariants.{Asked, Sent, Kept, Stopped, Powered}
 use Rattle.dali_trace.specs.Trace.{Start, records_of, standing_at, sent_of, powered_of}
 use Rattle.dali_trace.specs.Legal.{MayFollow, MayKeep, MaySend, Legal}
 use Rattle.dali_trace.specs.Grounds.{Grounds}

@@ -1,9 +1,7 @@
 -- Losses of power between happenings change nothing of what may come next, and of what the plan asks.
-use Rattle.std.proofs.Common.{◌≡◌, refl, ap, ◌∙◌, ℕ, Bool, true, false, if◌then◌else◌, List, [], ◌∷◌}
-use Rattle.dali_bank.specs.Order.{Contents}
-use Rattle.dali_trace.specs.declared.happening.Reply.TheVariants as replies
+use Rattle.std.proofs.Common.{◌≡◌, refl, ap, ◌∙◌, ℕ, Bool, false, if◌then◌else◌, List, [], ◌∷◌}
 use Rattle.dali_trace.specs.declared.happening.Happening.{Happening}
-use Rattle.dali_trace.specs.declared.happening.Happening.TheVariants.{Asked, Answered, Sent, Kept, Stopped, Powered}
+use Rattle.dali_trace.specs.declared.happening.Happening.TheVariants.{Asked, Answered, Kept, Powered}
 use Rattle.dali_trace.specs.Cut.{since, is_stop, is_start, is_turn, frames_in}
 use Rattle.dali_trace.proofs.CutLemmas.{frames_next}
 use Rattle.dali_trace.specs.Trace.{Start, records_of, course_of, replied, next_course, Course}

@@ -15,8 +15,7 @@ use Rattle.dali_journal.specs.Sentence.{is_begun, IsSentence}
 use Rattle.dali_journal.specs.Orders.{orders_of, come_to, kept_at, kept_among, kept_of}
 use Rattle.dali_trace.specs.declared.happening.Reply.TheVariants as replies
 use Rattle.dali_trace.specs.declared.happening.Happening.{Happening}
-use Rattle.dali_trace.specs.declared.happening.Happening.TheVariants.{Asked, Answered, Sent, Kept as Keeps, Stopped}
-use Rattle.dali_trace.specs.declared.happening.Happening.TheVariants.{Powered}
+use Rattle.dali_trace.specs.declared.happening.Happening.TheVariants.{Asked, Answered, Kept as Keeps}
 use Rattle.dali_trace.specs.Trace.{Start, records_of, is_busy, is_full}
 use Rattle.dali_trace.specs.Legal.{Replies, Legal}
 use Rattle.dali_trace.specs.Quiet.{NoneTaken}

@@ -13,7 +13,7 @@ use Rattle.dali_journal.specs.Sentence.{Allows}
 use Rattle.dali_journal.specs.Orders.{orders_of, come_to}
 use Rattle.dali_trace.specs.declared.happening.Reply.TheVariants as replies
 use Rattle.dali_trace.specs.declared.happening.Happening.{Happening}
-use Rattle.dali_trace.specs.declared.happening.Happening.TheVariants.{Asked, Answered, Sent, Kept, Stopped, Powered}
+use Rattle.dali_trace.specs.declared.happening.Happening.TheVariants.{Asked, Answered, Kept, Stopped}
 use Rattle.dali_trace.specs.Trace.{Start, records_of, standing_at, waiting, is_unsaid, is_at_work, is_busy}
 use Rattle.dali_trace.specs.Trace.{Course, Quiet, Waiting, Working, JustEnded, course_of, waits_in, unsaid_in, ended_in}
 use Rattle.dali_trace.specs.Taken.{without, taken_or_waiting, taken_orders, begun_orders}

@@ -36,7 +36,7 @@ use Rattle.dali_write.proofs.GiveUpLemmas.{failed_joined}
 use Rattle.dali_write.proofs.DoubtLemmas.{doubt_cause}
 use Rattle.dali_trace.specs.declared.happening.Reply.TheVariants as replies
 use Rattle.dali_trace.specs.declared.happening.Happening.{Happening}
-use Rattle.dali_trace.specs.declared.happening.Happening.TheVariants.{Asked, Answered, Sent, Kept, Stopped, Powered}
+use Rattle.dali_trace.specs.declared.happening.Happening.TheVariants.{Asked, Answered, Sent, Kept, Stopped}
 use Rattle.dali_trace.specs.Trace.{Start, records_of, standing_at, sent_since_taken, waiting, has_ended, is_at_work}
 use Rattle.dali_trace.specs.Trace.{course_of}
 use Rattle.dali_trace.specs.Legal.{Legal, MaySay, EndsAs, HasNumber}

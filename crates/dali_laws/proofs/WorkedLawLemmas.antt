@@ -1,5 +1,5 @@
 -- Small traces near the edges of the laws.
-use Rattle.std.proofs.Common.{◌≡◌, ◌↔◌, refl, ap, ℕ, List, [], ◌∷◌, None, length, arith}
+use Rattle.std.proofs.Common.{◌≡◌, ◌↔◌, refl, ap, ℕ, [], ◌∷◌, None, length, arith}
 use Rattle.dali_frame.specs.declared.forward.Frame.TheVariants.{Dtr0, Dtr1}
 use Rattle.dali_bank.specs.Order.{Contents}
 use Rattle.dali_journal.specs.declared.record.Record.TheVariants.{Began}

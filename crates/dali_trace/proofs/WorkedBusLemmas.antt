@@ -18,7 +18,7 @@ use Rattle.dali_gear.proofs.BankLemmas.{fate_bank, power_bank, banks_after}
 use Rattle.dali_gear.proofs.SimLemmas.{AreApart-map}
 use Rattle.dali_trace.specs.declared.happening.Reply.TheVariants as replies
 use Rattle.dali_trace.specs.declared.happening.Happening.{Happening}
-use Rattle.dali_trace.specs.declared.happening.Happening.TheVariants.{Asked, Answered, Sent, Kept, Stopped, Powered}
+use Rattle.dali_trace.specs.declared.happening.Happening.TheVariants.{Answered, Sent, Stopped, Powered}
 use Rattle.dali_trace.specs.Fits.{IsLockedAbove}
 use Rattle.dali_trace.specs.Moves.{MovesBy}
 use Rattle.dali_trace.specs.Spared.{UnrefusedSince}

@@ -1,6 +1,6 @@
 -- Lemmas on what an item gives to a draft.
 use Rattle.std.proofs.Common.{◌≡◌, ◌≢◌, ◌<◌, ◌≤◌, ℕ, zero, inl, inr, ◌+◌, length-set, get_or-set_same, get_or-set_other}
-use Rattle.std.proofs.Common.{List, [], ◌∷◌, Option, Some, None, IsSome, MatchOption, suc, length, get_or, take, drop}
+use Rattle.std.proofs.Common.{List, [], ◌∷◌, Option, Some, None, MatchOption, suc, length, get_or, take, drop}
 use Rattle.std.proofs.Common.{min, length-take, refl, arith, subst, sym, ◌∙◌}
 use Rattle.std.specs.Bool.{⊤}
 use Rattle.std.proofs.lemmas.Bool.{cases_eq}
@@ -17,7 +17,7 @@ use Rattle.dali_bank.specs.Layout.{fields, rank_of}
 use Rattle.dali_bank.proofs.LayoutLemmas.{rank_within, same_rank, all_of}
 use Rattle.dali_bank.specs.Spelling.{Plain, unknown, number, digits, hex, text, AreFieldBytes, HasBytes}
 use Rattle.dali_bank.specs.Draft.{Drafted, found_of, with_field}
-use Rattle.dali_bank.specs.Faults.{IsFinishFault, IsSetFault, rule_fault, IsValueFault}
+use Rattle.dali_bank.specs.Faults.{IsFinishFault, rule_fault, IsValueFault}
 use Rattle.dali_input.specs.declared.item.ItemFault.TheVariants.{Bank}
 use Rattle.dali_bank.specs.Keys.{key_of}
 use Rattle.dali_input.specs.Items.{IsForUnit, HasFieldsOf, IsFieldFault, IsDraftOf, IsFaultOf, IsFoundIn, IsAcceptable}

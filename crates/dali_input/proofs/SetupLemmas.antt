@@ -19,18 +19,15 @@ use Rattle.dali_trace.proofs.NewUnitLemmas.{new_locked}
 use Rattle.dali_trace.specs.declared.happening.Event.{Event}
 use Rattle.dali_trace.specs.declared.happening.Event.TheVariants as events
 use Rattle.serde_json.specs.Data.{Data}
-use Rattle.dali_input.specs.declared.fault.InputFault.TheVariants.{Json, Document, TooBig, Hex, Memory, File}
 use Rattle.dali_input.specs.declared.item.ItemFault.{ItemFault}
 use Rattle.dali_input.specs.declared.scenario.UnitPlan.{UnitPlan}
 use Rattle.dali_input.specs.declared.scenario.EventPlan.{EventPlan}
-use Rattle.dali_input.specs.declared.setup.SetupFault.{SetupFault}
-use Rattle.dali_input.specs.declared.setup.SetupFault.TheVariants as faults
 use Rattle.dali_input.specs.Items.{IsFaultOf}
-use Rattle.dali_input.specs.Scenario.{PlannedUnit, PlannedEvent, submit, steps, stop, power, Planned, IsSmall}
+use Rattle.dali_input.specs.Scenario.{PlannedUnit, PlannedEvent, submit, steps, stop, power}
 use Rattle.dali_input.specs.Scenario.{unit_planned}
 use Rattle.dali_input.specs.Scenario.{event_of}
-use Rattle.dali_input.specs.Setup.{IsMakeable, made_unit, AreUnits, IsFirstUnitFault, IsUnitRefusal, AreEvents}
-use Rattle.dali_input.specs.Setup.{IsFirstOrderFault, IsOrderRefusal, HasBus, IsSetupRefused, AreTogether}
+use Rattle.dali_input.specs.Setup.{IsMakeable, made_unit, AreUnits, IsFirstUnitFault, AreEvents}
+use Rattle.dali_input.specs.Setup.{IsFirstOrderFault, AreTogether}
 
 all_one_more : {X : Type 0} (P : X → Type 0) (xs : List X) (x : X) → AllByRecursion P xs → P x
     → AllByRecursion P (xs ++ x ∷ [])

@@ -1,7 +1,7 @@
 -- Lemmas on what JSON values say.
 use Rattle.std.proofs.Common.{◌≡◌, ◌≢◌, ◌<◌, ◌≤◌, ◌↔◌, ◌^◌, ◌%◌, ◌*◌, ◌&&◌, inl, inr, w64, bit_or, ℕ, zero, suc, ◌+◌}
 use Rattle.std.proofs.Common.{Bool, true, false, List, [], ◌∷◌, ◌++◌, Option, Some, length, get_or, map, take}
-use Rattle.std.proofs.Common.{string_bytes, append_assoc, append-nil, arith, refl, sym, subst, ap, ◌∙◌}
+use Rattle.std.proofs.Common.{string_bytes, append_assoc, arith, refl, sym, subst, ap, ◌∙◌}
 use Rattle.std.specs.Int.{bit_at}
 use Rattle.std.specs.List.{AllByRecursion, Contains, list_all, list_any, sum_by}
 use Rattle.std.specs.Option.{option_map_or}

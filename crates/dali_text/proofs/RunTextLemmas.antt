@@ -1,14 +1,14 @@
 -- Lemmas on the lines of a run and of its units.
 use Rattle.std.proofs.Common.{◌≡◌, ◌<◌, ◌≤◌, ◌+◌, ◌∙◌, ℕ, zero, suc, List, [], ◌∷◌, ◌++◌, Option, true, false, length}
-use Rattle.std.proofs.Common.{drop, take, get_or, reverse, append_assoc, append-nil, drop-cons, ap, sym, subst, refl}
-use Rattle.std.proofs.Common.{rules, arith, add-one, drop_of_length-le}
+use Rattle.std.proofs.Common.{drop, take, get_or, reverse, append_assoc, drop-cons, ap, sym, subst, refl}
+use Rattle.std.proofs.Common.{rules, arith, add-one}
 use Rattle.std.specs.List.{AllByRecursion, flat_map, range_with_len}
 use Rattle.std.specs.Io.KnownBytes.{Appends}
 use Rattle.std.proofs.lemmas.List.{flat_map_more, reverse-append, take_more}
 use Rattle.dali_frame.specs.declared.forward.Frame.{Frame}
 use Rattle.dali_gear.specs.UnitState.{UnitState}
 use Rattle.dali_trace.specs.declared.happening.Happening.{Happening}
-use Rattle.dali_trace.specs.declared.happening.Happening.TheVariants.{Asked, Answered, Sent, Kept, Stopped, Powered}
+use Rattle.dali_trace.specs.declared.happening.Happening.TheVariants.{Sent}
 use Rattle.dali_trace.specs.Runs.{SendsAllProper, SendsProper}
 use Rattle.dali_text.specs.RunText.{frames_ahead, frames_line, happening_line, is_sent, run_line, summary}
 use Rattle.dali_text.specs.UnitLines.{group_line, unit_text}

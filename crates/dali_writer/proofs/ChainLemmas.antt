@@ -4,11 +4,11 @@ use Rattle.std.proofs.lemmas.List.{reverse-append}
 use Rattle.dali_bus.specs.World.{World}
 use Rattle.dali_bus.specs.Carry.{BusEvent, Carried, WorldStep}
 use Rattle.dali_bus.specs.Carry as bus
-use Rattle.dali_bus.specs.Chain.{IsChain, AtEachMoment, Chain}
+use Rattle.dali_bus.specs.Chain.{AtEachMoment, Chain}
 use Rattle.dali_bus.specs.Unenabled.{NoneEnabled}
 use Rattle.dali_bus.proofs.ChainLemmas.{shown_chain, shown_moments}
 use Rattle.dali_trace.specs.declared.happening.Happening.{Happening}
-use Rattle.dali_trace.specs.declared.happening.Happening.TheVariants.{Asked, Answered, Sent, Kept, Stopped, Powered}
+use Rattle.dali_trace.specs.declared.happening.Happening.TheVariants.{Sent, Powered}
 use Rattle.dali_trace.specs.Trace.{Start}
 use Rattle.dali_trace.specs.Legal.{Legal}
 use Rattle.dali_trace.specs.Moves.{MovesBy, Moves}

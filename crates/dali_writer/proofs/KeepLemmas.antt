@@ -1,7 +1,7 @@
 -- A record that a writer wants may be kept, and then the trace describes what comes next.
 use Rattle.std.proofs.Common.{◌≡◌, inl, inr, refl, sym, ap, ◌∙◌, subst, ℕ, ◌<◌, false, List, [], ◌∷◌, ◌++◌, IsSome}
 use Rattle.std.proofs.Common.{length, arith}
-use Rattle.dali_bank.specs.Order.{Contents, AreUpdates}
+use Rattle.dali_bank.specs.Order.{Contents}
 use Rattle.dali_journal.specs.declared.record.Code.{Code}
 use Rattle.dali_journal.specs.declared.record.Code.TheVariants as codes
 use Rattle.dali_journal.specs.declared.record.Record.{Record}
@@ -12,14 +12,14 @@ use Rattle.dali_journal.specs.declared.kept.Progress.{Progress}
 use Rattle.dali_journal.specs.declared.kept.Progress.TheVariants as reached
 use Rattle.dali_journal.specs.Sentence.{Allows, standing_of, next_standing, IsNew}
 use Rattle.dali_journal.specs.Orders.{orders_of, come_to}
-use Rattle.dali_journal.specs.JournalState.{JournalState, MayBegin, KeepsRoom}
+use Rattle.dali_journal.specs.JournalState.{JournalState, KeepsRoom}
 use Rattle.dali_write.specs.Exchanges.{Exchange}
 use Rattle.dali_write.specs.declared.ask.Ask.{Ask}
 use Rattle.dali_write.specs.declared.ask.Ask.TheVariants as asks
 use Rattle.dali_write.specs.declared.ask.Verdict.{Verdict}
 use Rattle.dali_write.specs.declared.ask.Verdict.TheVariants as verdicts
 use Rattle.dali_write.specs.declared.session.Session.{Session}
-use Rattle.dali_write.specs.Told.{Told, unit_of, aim_of, IsFresh}
+use Rattle.dali_write.specs.Told.{Told, unit_of, aim_of}
 use Rattle.dali_write.specs.Findings.{Rests}
 use Rattle.dali_write.specs.Reads.{StillRead, HasRead}
 use Rattle.dali_write.proofs.RestLemmas.{older_reads, rests_too}

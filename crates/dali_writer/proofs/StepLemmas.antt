@@ -21,7 +21,7 @@ use Rattle.dali_write.specs.Guards.{IsGuarded as IsGuardedFrame}
 use Rattle.dali_write.proofs.GuardLemmas.{older_guarded}
 use Rattle.dali_write.proofs.SessionLemmas.{fresh_sends, opened_sends, closing_sends}
 use Rattle.dali_trace.specs.declared.happening.Happening.{Happening}
-use Rattle.dali_trace.specs.declared.happening.Happening.TheVariants.{Asked, Answered, Sent, Kept, Stopped, Powered}
+use Rattle.dali_trace.specs.declared.happening.Happening.TheVariants.{Sent}
 use Rattle.dali_trace.specs.declared.happening.Want.TheVariants as wants
 use Rattle.dali_writer.specs.declared.phase.Phase.{Phase}
 use Rattle.dali_writer.specs.declared.phase.Phase.TheVariants.{Idle, Begins, Checks, Writes, Closes, Says}
@@ -30,7 +30,7 @@ use Rattle.dali_trace.proofs.CutLemmas.{since_sooner, stop_starts, frames_joined
 use Rattle.dali_laws.proofs.AgreeLemmas.{may_follow}
 use Rattle.dali_trace.specs.Trace.{Start, standing_at, sent_of, sent_since_taken, waiting, is_unsaid, is_at_work}
 use Rattle.dali_trace.specs.Trace.{is_busy, course_of}
-use Rattle.dali_trace.specs.Legal.{MayPut, MaySend, MayHappen, MayFollow, IsFinished}
+use Rattle.dali_trace.specs.Legal.{MayPut, MaySend}
 use Rattle.dali_writer.specs.Phases.{want_of, check_of, write_of, closing_of, is_wanting}
 use Rattle.dali_writer.specs.WriterState.{WriterState, IsReady}
 use Rattle.dali_writer.specs.Describes.{ToldNewest, IsAt, Describes}

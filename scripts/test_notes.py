@@ -152,8 +152,8 @@ INPUTS = [
     ]),
     ("run", b'{"limit": 1, "units": [], "events": [{"submit": {"order": 7, "unit": 5, "year": 1}},'
             b' {"submit": {"order": 9, "unit": 64, "yeer": 1}}]}', [
-        f"event 2 order 9: unit: the number 64, {ADDRESS}",
         "event 2 order 9: yeer: no such key (year?)",
+        f"event 2 order 9: unit: the number 64, {ADDRESS}",
     ]),
 ]
 
@@ -242,7 +242,7 @@ def fails_on_drives(program):
         for given, wanted in (
             (b'[{"order": 6, "unit": 5, "yeer": 1}]',
              "item 1 order 6: yeer: no such key (year?)\nitem 1 fault 10 Key\n"),
-            (REFUSED, "\n".join([*REFUSED_FIRST, "item 1 fault 10 Key", *REFUSED_THIRD, "item 3 fault 1 Unit", ""])),
+            (REFUSED, "\n".join([*REFUSED_FIRST, *REFUSED_THIRD, "item 1 fault 10 Key", "item 3 fault 1 Unit", ""])),
             (b'[{"order": 6,}]', f"line 1 column 14: {JSON}\nfault 11 Json\n"),
             (b"{}", "the input is an object, and orders are an array\nfault 12 Document\n"),
         ):

@@ -16,7 +16,6 @@ use Rattle.dali_journal.specs.Orders.{orders_of, come_to}
 use Rattle.dali_write.specs.Findings.{ShowsAll, IsWritten}
 use Rattle.dali_write.specs.Worlds.{IsAmong, MayRelock, Shows}
 use Rattle.dali_write.specs.declared.ask.Verdict.{Verdict}
-use Rattle.dali_write.specs.declared.ask.Verdict.TheVariants as verdicts
 use Rattle.dali_write.proofs.RestLemmas.{Shown, rests_on_too}
 use Rattle.dali_trace.specs.Grounds.{verdict_of, IsSeen, RestsIfAny, Grounds}
 use Rattle.dali_trace.specs.Possible.{Applied, Untouched, InDoubt, byte_for, MayHold, IsPossible}

@@ -10,8 +10,8 @@ use Rattle.dali_write.specs.declared.request.Wish.{Wish}
 use Rattle.dali_write.specs.declared.request.Wish.TheVariants.{Nothing, Exactly, Anything}
 use Rattle.dali_write.specs.Frames.{try_frames}
 
--- where DTR0 should stand after a frame: a read moves it on; behind a write, the last frame of its access, none asks for
--- it before it is set
+-- where DTR0 should stand after a frame: a read moves it on; behind a write, the last frame of its access, no frame
+-- asks for it before it is set
 abbrev pub location_after : Frame → ℕ → ℕ
 location_after (Dtr0 location) before = location
 location_after (Read unit) before = up before

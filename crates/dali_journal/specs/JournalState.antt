@@ -3,7 +3,7 @@ use Rattle.std.specs.Prelude.{◌≡◌, ℕ, ◌+◌, ◌<◌, ◌≤◌, nat_e
 use Rattle.std.specs.List.{list_any, AllByRecursion}
 use Rattle.dali_bank.specs.Order.{Contents}
 use Rattle.dali_journal.specs.declared.record.Record.{Record}
-use Rattle.dali_journal.specs.declared.record.Record.TheVariants.{Began}
+use Rattle.dali_journal.specs.declared.record.Record.TheVariants.{Began, Opened, Ended, Closed}
 use Rattle.dali_journal.specs.declared.version.Version.{Version}
 use Rattle.dali_journal.specs.declared.version.Version.TheVariants.{Two}
 use Rattle.dali_journal.specs.declared.standing.Standing.{Standing}
@@ -44,7 +44,9 @@ order_count journal = length (orders_of journal.records)
 abbrev pub MayBegin : JournalState → Record → Type 0
 MayBegin journal (Began order moment) =
     HasRoom journal order × (order_count journal < journal.limit) × (is_begun order.id journal.records ≡ false)
-MayBegin journal other = ⊤
+MayBegin journal (Opened unit) = ⊤
+MayBegin journal (Ended code) = ⊤
+MayBegin journal (Closed unit) = ⊤
 
 -- a record that ends what has begun takes no order's room
 abbrev pub KeepsRoom : Record → JournalState → JournalState → Type 0

@@ -57,7 +57,9 @@ is_begun id (other ∷ older) = is_begun id older
 -- an order begins under a number that no order before it has
 abbrev pub IsNew : Record → List Record → Type 0
 IsNew (Began order moment) older = is_begun order.id older ≡ false
-IsNew other older = ⊤
+IsNew (Opened unit) older = ⊤
+IsNew (Ended code) older = ⊤
+IsNew (Closed unit) older = ⊤
 
 -- each record was one that the table allowed, and each order began under a new number
 abbrev pub IsSentence : List Record → Type 0

@@ -70,9 +70,10 @@ version_number Two = 2
 
 -- a unit that the record names has a short address
 abbrev pub NamesShortUnit : Record → Type 0
+NamesShortUnit (Began order moment) = ⊤
 NamesShortUnit (Opened unit) = unit ≤ 63
+NamesShortUnit (Ended code) = ⊤
 NamesShortUnit (Closed unit) = unit ≤ 63
-NamesShortUnit entry = ⊤
 
 -- a moment that a record may have: in version 1, which has none, 0
 abbrev pub IsMoment : Version → ℕ → Type 0

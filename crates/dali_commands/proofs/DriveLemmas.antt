@@ -13,7 +13,6 @@ use Rattle.dali_drive.specs.declared.fault.DriveFault.TheVariants as drives
 use Rattle.dali_drive.specs.Streams.{PutsFirst}
 use Rattle.dali_drive.specs.Driven.{IsDrive, IsBrokenDrive}
 use Rattle.dali_writer.specs.WriterState.{WriterState, start_of}
-use Rattle.dali_trace.specs.Trace.{Start}
 use Rattle.dali_drive.specs.Transcript.{Streams}
 use Rattle.dali_commands.specs.declared.fault.Status.{Status}
 use Rattle.dali_commands.specs.declared.fault.Status.TheVariants.{Good, Unwritten}

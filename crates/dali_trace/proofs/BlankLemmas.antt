@@ -32,7 +32,8 @@ heard old new frame answer hears =
       units address true e = inr (answer, rw (eqb-true address 5 e) hears)
       units address false e = tt
 
-      answers : (given : Option ℕ) → Hears 5 old frame given new → IfSome given (λ byte. AnsweredBy (alone old) frame byte (alone new))
+      answers : (given : Option ℕ) → Hears 5 old frame given new
+          → IfSome given (λ byte. AnsweredBy (alone old) frame byte (alone new))
       answers None hears = tt
       answers (Some byte) hears =
           record { address = 5; before = old; after = new; was = refl; is = refl; hears = hears }

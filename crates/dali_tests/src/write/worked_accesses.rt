@@ -1,5 +1,5 @@
 ghost use Rattle.std.specs.Prelude.{◌≡◌, ◌≤◌, ◌↔◌, ◌⊎◌, ℕ, true, false, List, Some, None};
-ghost use Rattle.dali_gear.specs.SimState.{SimState};
+ghost use Rattle.dali_gear.specs.SimState.{SimState, SimStep};
 ghost use Rattle.dali_gear.specs.UnitState.{UnitState};
 ghost use Rattle.dali_write.specs.Exchanges.{Exchange};
 ghost use Rattle.dali_write.specs.declared.ask.Ask.{Ask};
@@ -8,7 +8,7 @@ ghost use Rattle.dali_write.specs.Plans.{Plan};
 ghost use Rattle.dali_write.specs.Tries.{Wants};
 ghost use Rattle.dali_write.specs.Misses.{is_missed, misses_in, IsLong};
 ghost use Rattle.dali_write.specs.Losses.{losses, Unrefused, IsAlone};
-ghost use Rattle.dali_write.specs.Worlds.{IsAmong};
+ghost use Rattle.dali_write.specs.Worlds.{IsAmong, Run};
 ghost use Rattle.dali_write.specs.Successes.{MayStoreAt, HasBank, Spared, MissesByLosses};
 ghost use Rattle.dali_write.specs.Doubts.{EndsUnread, EndsUnlooked, FoundAnother};
 ghost use Rattle.dali_write.specs.WorkedAccesses.{answer_01, any_answer, no_answer, missed_read, after_a_miss};

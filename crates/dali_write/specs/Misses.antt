@@ -2,8 +2,7 @@
 use Rattle.std.specs.Prelude.{ℕ, ◌+◌, ◌*◌, ◌≤◌, ◌==◌, Bool, true, false, not, is_some, List, [], ◌∷◌, length, Option}
 use Rattle.std.specs.Prelude.{Some, None, if◌then◌else◌}
 use Rattle.dali_frame.specs.declared.forward.Frame.{Frame}
-use Rattle.dali_frame.specs.declared.forward.Frame.TheVariants.{Dtr0, Dtr1, Dtr2, Write, WriteSilent, Enable}
-use Rattle.dali_frame.specs.declared.forward.Frame.TheVariants.{AskDtr0, AskDtr1, AskDtr2, Read, Other}
+use Rattle.dali_frame.specs.declared.forward.Frame.TheVariants.{Dtr0, Write, AskDtr0, AskDtr1, Read}
 use Rattle.dali_bus.specs.Hears.{up}
 use Rattle.dali_write.specs.Exchanges.{Exchange}
 use Rattle.dali_write.specs.declared.request.Wish.{Wish}
@@ -15,15 +14,7 @@ use Rattle.dali_write.specs.Frames.{try_frames}
 abbrev pub location_after : Frame → ℕ → ℕ
 location_after (Dtr0 location) before = location
 location_after (Read unit) before = up before
-location_after (Dtr1 byte) before = before
-location_after (Dtr2 byte) before = before
-location_after (Write byte) before = before
-location_after (WriteSilent byte) before = before
-location_after (Enable unit) before = before
-location_after (AskDtr0 unit) before = before
-location_after (AskDtr1 unit) before = before
-location_after (AskDtr2 unit) before = before
-location_after (Other word) before = before
+location_after other before = before
 
 -- where DTR0 should stand: where it was set last, and moved on by the reads since then
 abbrev pub location_in : List Exchange → ℕ
@@ -37,13 +28,7 @@ wish_of (AskDtr1 unit) location = Exactly 1
 wish_of (AskDtr0 unit) location = Exactly location
 wish_of (Read unit) location = Anything
 wish_of (Write byte) location = Exactly byte
-wish_of (Dtr0 byte) location = Nothing
-wish_of (Dtr1 byte) location = Nothing
-wish_of (Dtr2 byte) location = Nothing
-wish_of (WriteSilent byte) location = Nothing
-wish_of (Enable unit) location = Nothing
-wish_of (AskDtr2 unit) location = Nothing
-wish_of (Other word) location = Nothing
+wish_of other location = Nothing
 
 -- another answer came, or none
 abbrev pub is_missed : Wish → Option ℕ → Bool

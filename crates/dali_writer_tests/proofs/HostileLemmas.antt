@@ -6,7 +6,7 @@ use Rattle.dali_frame.specs.declared.forward.Frame.{Frame}
 use Rattle.dali_frame.specs.declared.forward.Frame.TheVariants.{Enable, Other}
 use Rattle.dali_bus.specs.World.{Gear}
 use Rattle.dali_bus.specs.Hears.{Hears, MayEnd}
-use Rattle.dali_bus.specs.Carry.{Carry, MayHear, MayAnswer}
+use Rattle.dali_bus.specs.Carry.{Carry, MayHear}
 use Rattle.dali_gear.specs.UnitState.{UnitState, after_frame, answer_to, gear_of}
 use Rattle.dali_gear.specs.SimSteps.{frame_keeps}
 use Rattle.dali_writer_tests.specs.HostileBus.{DoesHear, MayBeDeaf, world_of_both}

@@ -74,7 +74,10 @@ pub fn refuses_past(alloc: Global, command: FileCommand, limit: u64) -> Result<(
     let mut input = Input::new(&mut reader);
     let told = b"fault 13 TooBig\n";
     let is_refused = does(alloc, command, &mut input, None, Status::Refused, told);
-    expect_that(is_refused && reader.spaces == limit, "an input that is too big")
+    expect_that(
+        is_refused && reader.spaces == limit,
+        "an input that is too big",
+    )
 }
 
 // Whether the command tells that the reader fails behind these bytes.

@@ -1,5 +1,6 @@
 ghost use Rattle.std.specs.Prelude.{◌≡◌, ◌≢◌, ◌↔◌, IfOk, IfErr, OnOk, false, true};
 ghost use Rattle.dali_drive.specs.Transcript.{shown};
+ghost use Rattle.dali_store.specs.Stores.{IsSettled, IsBetween, LeavesOnly};
 ghost use Rattle.dali_text.specs.Output.{TellsFailure, Takes, has_failed, held, is_flushed};
 ghost use Rattle.dali_commands.specs.Ends.{TellsEnd};
 ghost use Rattle.dali_writer.specs.WriterState.{start_of};
@@ -12,6 +13,7 @@ use dali_bank::Order;
 use dali_drive::{DriveFault, Sink, Source, drive, put_all};
 use dali_input::ItemFault;
 use dali_journal::Journal;
+use dali_store::Store;
 use dali_text::{Output, OutputFailed};
 use dali_writer::Writer;
 use std::io::Write;
@@ -20,7 +22,7 @@ use std::io::Write;
 /// streams that haven't failed. Where that breaks off it writes the fault's line: 1 Journal, 2 Link, 3 Line, 4 End, 6
 /// TooLong, or 20 Memory. Where `lines` fails it is 7 Out, or there stands a first part of the fault's line; later calls
 /// of it write nothing more.
-pub fn drive_over<I: Source, L: Sink, J: Sink, W: Write>(
+pub fn drive_over<I: Source, L: Sink, J: Store, W: Write>(
     journal: Journal,
     orders: &[Order],
     moment: u64,
@@ -30,14 +32,17 @@ pub fn drive_over<I: Source, L: Sink, J: Sink, W: Write>(
     lines: &mut Lines<W>,
 ) -> Status
     requires journal { J.failed journal_out.old ≡ false }
+    requires settled { IsSettled (J.seen journal_out.old) (J.may_leave journal_out.old) }
     requires link_out { L.failed link_out.old ≡ false }
     requires link_in { I.failed link_in.old ≡ false }
     requires lines { has_failed lines.old.output ≡ false }
     ensures answer { IsDriveAnswer (start_of journal) orders.now moment
-        (shown (J.held journal_out.old) (L.held link_out.old) (I.left link_in.old) (held W.contents lines.old.output))
+        (shown (J.seen journal_out.old) (L.held link_out.old) (I.left link_in.old) (held W.contents lines.old.output))
         result
-        (shown (J.held journal_out.new) (L.held link_out.new) (I.left link_in.new) (held W.contents lines.new.output)) }
+        (shown (J.seen journal_out.new) (L.held link_out.new) (I.left link_in.new) (held W.contents lines.new.output)) }
     ensures unwritten { result ≡ Status.Unwritten ↔ has_failed lines.new.output ≡ true }
+    ensures any_moment { LeavesOnly J.moment J.left_since journal_out.old journal_out.new
+        (IsBetween (J.seen journal_out.old) (J.seen journal_out.new)) }
 {
     let writer = Writer::new(journal);
     match drive(

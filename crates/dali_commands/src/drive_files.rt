@@ -125,13 +125,13 @@ fn on_journal<
     O: Write + Drop,
 >(rt: &R, name: &str, orders: &[Order], moment: u64, link_in: I, link_out: L, lines: O) -> Status {
     match open_journal(rt, name) {
-        Ok((file, journal)) => drive_over(
+        Ok((mut file, journal)) => drive_over(
             journal,
             orders,
             moment,
             &mut StdSource::new(link_in),
             &mut StdSink::new(link_out),
-            &mut StdSink::new(file),
+            &mut file,
             &mut Lines {
                 output: Output::new(lines),
             },

@@ -1,5 +1,5 @@
 // The file of a journal: opened for one drive alone, read, cut to what counts, and appended to.
-ghost use Rattle.std.specs.Prelude.{ℕ, List, IfOk};
+ghost use Rattle.std.specs.Prelude.{◌≡◌, ℕ, List, false, IfOk};
 ghost use Rattle.dali_journal.specs.declared.version.Version.{Version};
 ghost use Rattle.dali_commands.specs.JournalAnswers.{IsJournalIn};
 
@@ -7,6 +7,7 @@ use crate::fault::Fault;
 use crate::journal::{Found, read_journal};
 use dali_input::{Input, InputFault};
 use dali_journal::{Journal, NoMemory, Version};
+use dali_store::{Store, StoreFault};
 use std::alloc::{AllocError, Global};
 use std::fs::{File, Files, OpenOptions, TryLockError};
 use std::io::{ErrorKind, Write};
@@ -75,19 +76,67 @@ impl From<Fault> for Hindrance {
 pub struct JournalFile {
     file: File,
     is_regular: bool,
+    /// Whether a call has failed.
+    pub failed: bool,
 }
 
-impl Write for JournalFile {
-    fn write(&mut self, buf: &[u8]) -> io::Result<usize> {
-        self.file.write(buf)
+// No contract tells of a real file: its bytes aren't known. `open_journal` has read it, cut it and written it anew, so
+// that a drive only appends to it.
+impl Store for JournalFile {
+    ghost use Rattle.std.specs.Prelude.{None, ⊤};
+
+    ghost seen = { λ s. None };
+
+    ghost may_leave = { λ s c. ⊤ };
+
+    ghost moment = { λ s. 0 };
+
+    ghost left_since = { λ s t c. ⊤ };
+
+    ghost failed = { λ s. s.failed };
+
+    ghost counts_now = { λ s t c le may. tt };
+
+    ghost only_now = { λ s c left. tt };
+
+    fn read(&mut self, _alloc: Global, _limit: usize) -> Result<Vec<u8>, StoreFault> {
+        self.failed = true;
+        Err(StoreFault::Failed)
     }
 
-    fn flush(&mut self) -> io::Result<()> {
-        if self.is_regular {
-            self.file.sync_data()
-        } else {
-            Ok(())
+    fn append(&mut self, bytes: &[u8]) -> Option<usize> {
+        for _ in 0..u64::MAX {
+            match self.file.write(bytes) {
+                Ok(count) => {
+                    self.failed |= count == 0;
+                    return Some(count);
+                }
+                Err(error) if error.kind() == ErrorKind::Interrupted => {}
+                Err(_) => break,
+            }
         }
+        self.failed = true;
+        None
+    }
+
+    fn cut(&mut self, _len: usize) -> bool {
+        self.failed = true;
+        false
+    }
+
+    fn replace(&mut self, _bytes: &[u8]) -> bool {
+        self.failed = true;
+        false
+    }
+
+    fn sync(&mut self) -> bool {
+        let done = !self.is_regular || self.file.sync_data().is_ok();
+        self.failed |= !done;
+        done
+    }
+
+    fn has_failed(&self) -> bool {
+        self.failed
     }
 }
 
@@ -102,8 +151,9 @@ pub fn open_journal<R: Files<File = File> + AllocGlobal>(
     rt: &R,
     name: &str,
 ) -> Result<(JournalFile, Journal), Hindrance>
-    ensures { IfOk result (λ opened. (input : List ℕ) × (counted : ℕ) × (version : Version)
+    ensures journal { IfOk result (λ opened. (input : List ℕ) × (counted : ℕ) × (version : Version)
         × IsJournalIn input opened.1 counted version) }
+    ensures failed { IfOk result (λ opened. opened.0.failed ≡ false) }
 {
     let mut file = opened(rt, name)?;
     match found_in(rt.alloc(), &mut file.file) {
@@ -119,7 +169,11 @@ pub fn open_journal<R: Files<File = File> + AllocGlobal>(
 fn opened<R: Files<File = File>>(rt: &R, name: &str) -> Result<JournalFile, Hindrance> {
     let file = locked(rt, name)?;
     match is_regular(rt, name, &file) {
-        Ok(is_regular) => Ok(JournalFile { file, is_regular }),
+        Ok(is_regular) => Ok(JournalFile {
+            file,
+            is_regular,
+            failed: false,
+        }),
         Err(hindrance) => Err(hindrance),
     }
 }
@@ -152,20 +206,31 @@ fn readied<R: Files<File = File> + AllocGlobal>(
     name: &str,
     opened: JournalFile,
     found: &Found,
-) -> Result<JournalFile, Hindrance> {
+) -> Result<JournalFile, Hindrance>
+    ensures { IfOk result (λ file. file.failed ≡ false) }
+{
     let JournalFile {
         mut file,
         is_regular,
+        failed: _,
     } = opened;
     if is_regular {
         let file = in_version_2(rt, name, file, found)?;
         match sync_folder(rt, name) {
-            Ok(()) => Ok(JournalFile { file, is_regular }),
+            Ok(()) => Ok(JournalFile {
+                file,
+                is_regular,
+                failed: false,
+            }),
             Err(cause) => Err(Hindrance::from(cause)),
         }
     } else {
         match begin_stream(rt, &mut file, found) {
-            Ok(()) => Ok(JournalFile { file, is_regular }),
+            Ok(()) => Ok(JournalFile {
+                file,
+                is_regular,
+                failed: false,
+            }),
             Err(hindrance) => Err(hindrance),
         }
     }

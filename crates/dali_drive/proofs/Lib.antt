@@ -1,4 +1,8 @@
+pub mod StoreLemmas
 pub mod PutLemmas
 pub mod DriveLemmas
 pub mod SittingLemmas
 pub mod WorkedDriveLemmas
+mod StoredLemmas
+mod PartLemmas
+mod StopLemmas

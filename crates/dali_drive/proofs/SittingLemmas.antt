@@ -43,7 +43,7 @@ happened start trace past legal planned (inl same) = rw same (legal, planned)
 happened start trace past legal planned (inr (next, is, same)) = rw same ((legal, is.may), (planned, is.planned))
 
 -- the journal's bytes are those of the start and the recorded ones
-journal_recorded : (start : Start) (past : List Happening)
+pub journal_recorded : (start : Start) (past : List Happening)
     → journal_spelling Two (records_of start past) ≡ journal_spelling Two start.records ++ recorded past
 journal_recorded start [] = sym (append-nil (journal_spelling Two start.records))
 journal_recorded start (Kept entry ∷ past) =
@@ -58,13 +58,13 @@ in_range start [] all keeps = all
 in_range start (Kept entry ∷ past) all keeps = (keeps.0, in_range start past all keeps.1)
 in_range start (_ ∷ past) all keeps = in_range start past all keeps
 
-kept_so : (start : Start) (past : List Happening) → AreKept Two start.limit start.records → Legal start past
+pub kept_so : (start : Start) (past : List Happening) → AreKept Two start.limit start.records → Legal start past
     → KeepsRecords past → AreKept Two start.limit (records_of start past)
 kept_so start past kept legal keeps =
     record { in_range = in_range start past kept.in_range keeps; whole = legal_sentence start past legal }
 
 -- a file of just these records, or of them and a cut one behind them
-whole_file : (start : Start) (past : List Happening) → AreKept Two start.limit (records_of start past)
+pub whole_file : (start : Start) (past : List Happening) → AreKept Two start.limit (records_of start past)
     → IsFileOf (journal_spelling Two (records_of start past)) (after start past) Two
     (length (journal_spelling Two (records_of start past)))
 whole_file start past kept =
@@ -78,7 +78,7 @@ whole_file start past kept =
       };
     }
 
-cut_file : (start : Start) (past : List Happening) (entry : Record) (count : ℕ)
+pub cut_file : (start : Start) (past : List Happening) (entry : Record) (count : ℕ)
     → AreKept Two start.limit (records_of start past) → IsRecord Two entry → count < length (spelling Two entry)
     → IsFileOf (journal_spelling Two (records_of start past) ++ take count (spelling Two entry)) (after start past) Two
     (length (journal_spelling Two (records_of start past)))
@@ -95,19 +95,19 @@ cut_file start past entry count kept range less =
 
 -- What the journal's stream holds
 
-shows_more : (old new : Option (List ℕ)) (was more : List ℕ) → old ≡ Some was → Appends old new more
+pub shows_more : (old new : Option (List ℕ)) (was more : List ℕ) → old ≡ Some was → Appends old new more
     → new ≡ Some (was ++ more)
 shows_more None new was more is added = cc
 shows_more (Some bytes) None was more is added = absurd added
 shows_more (Some bytes) (Some longer) was more is added =
     let same : bytes ≡ was = cc in ap Some (added ∙ ap (λ (b : List ℕ). b ++ more) same)
 
-shows_still : (old new : Option (List ℕ)) (was : List ℕ) → old ≡ Some was → Keeps old new → new ≡ Some was
+pub shows_still : (old new : Option (List ℕ)) (was : List ℕ) → old ≡ Some was → Keeps old new → new ≡ Some was
 shows_still None new was is same = cc
 shows_still (Some bytes) None was is same = absurd same
 shows_still (Some bytes) (Some still) was is same = cc
 
-drive_holds : (start : Start) (past : List Happening) (first last : Streams) → IsDriven start past first last
+pub drive_holds : (start : Start) (past : List Happening) (first last : Streams) → IsDriven start past first last
     → first.journal ≡ Some (journal_spelling Two start.records)
     → last.journal ≡ Some (journal_spelling Two (records_of start past))
 drive_holds start past first last d is =
@@ -193,6 +193,13 @@ drive_leaves start orders moment writer first last d kept is = record {
   count = length (journal_spelling Two (records_of start d.past));
   file = whole_file start d.past (kept_so start d.past kept d.driven.legal d.driven.in_range);
 }
+
+pub drive_leaves_past : (start : Start) (orders : List Contents) (moment : ℕ) (writer : WriterState) (first last : Streams)
+    (d : IsDrive start orders moment first writer last) (kept : AreKept Two start.limit start.records)
+    (is : first.journal ≡ Some (journal_spelling Two start.records))
+    → (drive_leaves start orders moment writer first last d kept is).past ≡ d.past
+unfolding drive_leaves
+drive_leaves_past start orders moment writer first last d kept is = refl
 
 pub broken_leaves : (start : Start) (orders : List Contents) (moment : ℕ) (fault : DriveFault) (first last : Streams)
     (b : IsBrokenDrive start orders moment fault first last)

@@ -6,3 +6,6 @@ pub mod Driven
 pub mod WorkedOn
 pub mod Sittings
 pub mod WorkedDrives
+pub mod Stored
+pub mod StoredSittings
+pub mod Parts

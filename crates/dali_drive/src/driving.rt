@@ -1,4 +1,5 @@
-ghost use Rattle.std.specs.Prelude.{◌≡◌, ◌<◌, List, true, false, IfOk, IfErr, OnOk};
+ghost use Rattle.std.specs.Prelude.{◌≡◌, ◌≢◌, ◌<◌, ℕ, List, true, false, IfOk, IfErr, OnOk};
+ghost use Rattle.std.specs.Io.KnownBytes.{Appends};
 ghost use Rattle.dali_trace.specs.declared.happening.Happening.{Happening};
 ghost use Rattle.dali_trace.specs.Trace.{Start, is_busy};
 ghost use Rattle.dali_writer.specs.WriterState.{start_of, IsAtRest};
@@ -6,6 +7,7 @@ ghost use Rattle.dali_writer.specs.WorkLeft.{work_left};
 ghost use Rattle.dali_writer.specs.Describes.{Describes};
 ghost use Rattle.dali_drive.specs.Transcript.{Streams, shown};
 ghost use Rattle.dali_drive.specs.Driven.{orders_asked, IsDrive, IsBrokenDrive, NoneFailed, FailedAs};
+ghost use Rattle.dali_store.specs.Stores.{IsSettled, IsBetween, LeavesOnly};
 ghost use Rattle.dali_drive.specs.WorkedOn.{IsDrivenAt, WorkedOn};
 
 use crate::fault::DriveFault;
@@ -13,10 +15,11 @@ use crate::lines::{read_answer, reply_line};
 use crate::streams::{Sink, Source, put_all, send};
 use dali_bank::Order;
 use dali_frame::line_of;
+use dali_store::{Store, keep};
 use dali_writer::{Want, Writer};
 
 // Does once what the writer wants. The answer is whether it wanted anything.
-fn advance<I: Source, L: Sink, J: Sink, O: Sink>(
+fn advance<I: Source, L: Sink, J: Store, O: Sink>(
     writer: &mut Writer,
     link_in: &mut I,
     link_out: &mut L,
@@ -24,14 +27,15 @@ fn advance<I: Source, L: Sink, J: Sink, O: Sink>(
     out: &mut O,
 ) -> Result<bool, DriveFault>
     requires journal { J.failed journal_out.old ≡ false }
+    requires settled { IsSettled (J.seen journal_out.old) (J.may_leave journal_out.old) }
     requires link_out { L.failed link_out.old ≡ false }
     requires link_in { I.failed link_in.old ≡ false }
     requires out { O.failed out.old ≡ false }
     ensures worked { (start : Start) (past : List Happening) (first : Streams)
         → IsDrivenAt start past writer.old first
-        (shown (J.held journal_out.old) (L.held link_out.old) (I.left link_in.old) (O.held out.old))
+        (shown (J.seen journal_out.old) (L.held link_out.old) (I.left link_in.old) (O.held out.old))
         → WorkedOn start (orders_asked past) first result writer.new
-        (shown (J.held journal_out.new) (L.held link_out.new) (I.left link_in.new) (O.held out.new)) }
+        (shown (J.seen journal_out.new) (L.held link_out.new) (I.left link_in.new) (O.held out.new)) }
     ensures fewer { IfOk result (λ busy. busy ≡ true → work_left writer.new.phase < work_left writer.old.phase) }
     ensures rests { IfOk result (λ busy. busy ≡ false → IsAtRest writer.new) }
     ensures quiet { IfOk result (λ busy. busy ≡ false → (start : Start) (past : List Happening)
@@ -40,11 +44,17 @@ fn advance<I: Source, L: Sink, J: Sink, O: Sink>(
         (NoneFailed (J.failed journal_out.new) (L.failed link_out.new) (I.failed link_in.new) (O.failed out.new)) }
     ensures err { IfErr result (λ fault.
         FailedAs fault (J.failed journal_out.new) (L.failed link_out.new) (I.failed link_in.new) (O.failed out.new)) }
+    ensures settled { OnOk result (IsSettled (J.seen journal_out.new) (J.may_leave journal_out.new)) }
+    ensures settled_first { IfErr result (λ fault. fault ≢ DriveFault.Journal
+        → IsSettled (J.seen journal_out.new) (J.may_leave journal_out.new)) }
+    ensures grown { (more : List ℕ) × Appends (J.seen journal_out.old) (J.seen journal_out.new) more }
+    ensures any_moment { LeavesOnly J.moment J.left_since journal_out.old journal_out.new
+        (IsBetween (J.seen journal_out.old) (J.seen journal_out.new)) }
 {
     match writer.want() {
         Want::Idle => return Ok(false),
         Want::Keep(entry) => {
-            if !send(journal_out, &entry.bytes()) {
+            if !keep(journal_out, &entry.bytes()) {
                 return Err(DriveFault::Journal);
             }
             writer.kept();
@@ -67,7 +77,7 @@ fn advance<I: Source, L: Sink, J: Sink, O: Sink>(
 }
 
 // Does what the writer wants until it is idle.
-fn work<I: Source, L: Sink, J: Sink, O: Sink>(
+fn work<I: Source, L: Sink, J: Store, O: Sink>(
     writer: &mut Writer,
     link_in: &mut I,
     link_out: &mut L,
@@ -75,14 +85,15 @@ fn work<I: Source, L: Sink, J: Sink, O: Sink>(
     out: &mut O,
 ) -> Result<(), DriveFault>
     requires journal { J.failed journal_out.old ≡ false }
+    requires settled { IsSettled (J.seen journal_out.old) (J.may_leave journal_out.old) }
     requires link_out { L.failed link_out.old ≡ false }
     requires link_in { I.failed link_in.old ≡ false }
     requires out { O.failed out.old ≡ false }
     ensures worked { (start : Start) (past : List Happening) (first : Streams)
         → IsDrivenAt start past writer.old first
-        (shown (J.held journal_out.old) (L.held link_out.old) (I.left link_in.old) (O.held out.old))
+        (shown (J.seen journal_out.old) (L.held link_out.old) (I.left link_in.old) (O.held out.old))
         → WorkedOn start (orders_asked past) first result writer.new
-        (shown (J.held journal_out.new) (L.held link_out.new) (I.left link_in.new) (O.held out.new)) }
+        (shown (J.seen journal_out.new) (L.held link_out.new) (I.left link_in.new) (O.held out.new)) }
     ensures rests { OnOk result (IsAtRest writer.new) }
     ensures quiet { OnOk result
         ((start : Start) (past : List Happening) → Describes start past writer.new → is_busy start past ≡ false) }
@@ -90,6 +101,12 @@ fn work<I: Source, L: Sink, J: Sink, O: Sink>(
         (NoneFailed (J.failed journal_out.new) (L.failed link_out.new) (I.failed link_in.new) (O.failed out.new)) }
     ensures err { IfErr result (λ fault.
         FailedAs fault (J.failed journal_out.new) (L.failed link_out.new) (I.failed link_in.new) (O.failed out.new)) }
+    ensures settled { OnOk result (IsSettled (J.seen journal_out.new) (J.may_leave journal_out.new)) }
+    ensures settled_first { IfErr result (λ fault. fault ≢ DriveFault.Journal
+        → IsSettled (J.seen journal_out.new) (J.may_leave journal_out.new)) }
+    ensures grown { (more : List ℕ) × Appends (J.seen journal_out.old) (J.seen journal_out.new) more }
+    ensures any_moment { LeavesOnly J.moment J.left_since journal_out.old journal_out.new
+        (IsBetween (J.seen journal_out.old) (J.seen journal_out.new)) }
 {
     while advance(writer, link_in, link_out, journal_out, out)? {}
     Ok(())
@@ -109,7 +126,7 @@ fn work<I: Source, L: Sink, J: Sink, O: Sink>(
 /// Each `DriveFault` says what ended the drive. The writer is gone then, and what goes on is a new one, from the
 /// journal that is loaded from what `journal_out` holds behind the header: whole records of version 2, and at most one
 /// that is cut. It writes no header.
-pub fn drive<I: Source, L: Sink, J: Sink, O: Sink>(
+pub fn drive<I: Source, L: Sink, J: Store, O: Sink>(
     writer: Writer,
     orders: &[Order],
     moment: u64,
@@ -120,20 +137,27 @@ pub fn drive<I: Source, L: Sink, J: Sink, O: Sink>(
 ) -> Result<Writer, DriveFault>
     requires rests { IsAtRest writer }
     requires journal { J.failed journal_out.old ≡ false }
+    requires settled { IsSettled (J.seen journal_out.old) (J.may_leave journal_out.old) }
     requires link_out { L.failed link_out.old ≡ false }
     requires link_in { I.failed link_in.old ≡ false }
     requires out { O.failed out.old ≡ false }
     ensures driven { IfOk result (λ driven. IsDrive (start_of writer.journal) orders.now moment
-        (shown (J.held journal_out.old) (L.held link_out.old) (I.left link_in.old) (O.held out.old))
-        driven (shown (J.held journal_out.new) (L.held link_out.new) (I.left link_in.new) (O.held out.new))) }
+        (shown (J.seen journal_out.old) (L.held link_out.old) (I.left link_in.old) (O.held out.old))
+        driven (shown (J.seen journal_out.new) (L.held link_out.new) (I.left link_in.new) (O.held out.new))) }
     ensures rests { IfOk result IsAtRest }
     ensures ok { OnOk result
         (NoneFailed (J.failed journal_out.new) (L.failed link_out.new) (I.failed link_in.new) (O.failed out.new)) }
     ensures broken { IfErr result (λ fault. IsBrokenDrive (start_of writer.journal) orders.now moment fault
-        (shown (J.held journal_out.old) (L.held link_out.old) (I.left link_in.old) (O.held out.old))
-        (shown (J.held journal_out.new) (L.held link_out.new) (I.left link_in.new) (O.held out.new))) }
+        (shown (J.seen journal_out.old) (L.held link_out.old) (I.left link_in.old) (O.held out.old))
+        (shown (J.seen journal_out.new) (L.held link_out.new) (I.left link_in.new) (O.held out.new))) }
     ensures err { IfErr result (λ fault.
         FailedAs fault (J.failed journal_out.new) (L.failed link_out.new) (I.failed link_in.new) (O.failed out.new)) }
+    ensures settled { OnOk result (IsSettled (J.seen journal_out.new) (J.may_leave journal_out.new)) }
+    ensures settled_first { IfErr result (λ fault. fault ≢ DriveFault.Journal
+        → IsSettled (J.seen journal_out.new) (J.may_leave journal_out.new)) }
+    ensures grown { (more : List ℕ) × Appends (J.seen journal_out.old) (J.seen journal_out.new) more }
+    ensures any_moment { LeavesOnly J.moment J.left_since journal_out.old journal_out.new
+        (IsBetween (J.seen journal_out.old) (J.seen journal_out.new)) }
 {
     let mut writer = writer;
     match drive_all(
@@ -151,7 +175,7 @@ pub fn drive<I: Source, L: Sink, J: Sink, O: Sink>(
 }
 
 // Carries out what the writer still has to do, and then the orders one after the other, each submitted at this moment.
-fn drive_all<I: Source, L: Sink, J: Sink, O: Sink>(
+fn drive_all<I: Source, L: Sink, J: Store, O: Sink>(
     writer: &mut Writer,
     orders: &[Order],
     moment: u64,
@@ -162,20 +186,27 @@ fn drive_all<I: Source, L: Sink, J: Sink, O: Sink>(
 ) -> Result<(), DriveFault>
     requires rests { IsAtRest writer.old }
     requires journal { J.failed journal_out.old ≡ false }
+    requires settled { IsSettled (J.seen journal_out.old) (J.may_leave journal_out.old) }
     requires link_out { L.failed link_out.old ≡ false }
     requires link_in { I.failed link_in.old ≡ false }
     requires out { O.failed out.old ≡ false }
     ensures driven { OnOk result (IsDrive (start_of writer.old.journal) orders.now moment
-        (shown (J.held journal_out.old) (L.held link_out.old) (I.left link_in.old) (O.held out.old))
-        writer.new (shown (J.held journal_out.new) (L.held link_out.new) (I.left link_in.new) (O.held out.new))) }
+        (shown (J.seen journal_out.old) (L.held link_out.old) (I.left link_in.old) (O.held out.old))
+        writer.new (shown (J.seen journal_out.new) (L.held link_out.new) (I.left link_in.new) (O.held out.new))) }
     ensures rests { OnOk result (IsAtRest writer.new) }
     ensures ok { OnOk result
         (NoneFailed (J.failed journal_out.new) (L.failed link_out.new) (I.failed link_in.new) (O.failed out.new)) }
     ensures broken { IfErr result (λ fault. IsBrokenDrive (start_of writer.old.journal) orders.now moment fault
-        (shown (J.held journal_out.old) (L.held link_out.old) (I.left link_in.old) (O.held out.old))
-        (shown (J.held journal_out.new) (L.held link_out.new) (I.left link_in.new) (O.held out.new))) }
+        (shown (J.seen journal_out.old) (L.held link_out.old) (I.left link_in.old) (O.held out.old))
+        (shown (J.seen journal_out.new) (L.held link_out.new) (I.left link_in.new) (O.held out.new))) }
     ensures err { IfErr result (λ fault.
         FailedAs fault (J.failed journal_out.new) (L.failed link_out.new) (I.failed link_in.new) (O.failed out.new)) }
+    ensures settled { OnOk result (IsSettled (J.seen journal_out.new) (J.may_leave journal_out.new)) }
+    ensures settled_first { IfErr result (λ fault. fault ≢ DriveFault.Journal
+        → IsSettled (J.seen journal_out.new) (J.may_leave journal_out.new)) }
+    ensures grown { (more : List ℕ) × Appends (J.seen journal_out.old) (J.seen journal_out.new) more }
+    ensures any_moment { LeavesOnly J.moment J.left_since journal_out.old journal_out.new
+        (IsBetween (J.seen journal_out.old) (J.seen journal_out.new)) }
 {
     writer.rest();
     work(writer, link_in, link_out, journal_out, out)?;

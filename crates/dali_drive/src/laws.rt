@@ -16,6 +16,9 @@ ghost use Rattle.dali_laws.specs.Joined.{Sitting, joined, FollowOn};
 ghost use Rattle.dali_drive.specs.declared.fault.DriveFault.{DriveFault};
 ghost use Rattle.dali_drive.specs.Transcript.{Streams};
 ghost use Rattle.dali_drive.specs.Driven.{IsDrive, IsBrokenDrive};
+ghost use Rattle.dali_drive.specs.Stored.{IsPartBehind};
+ghost use Rattle.dali_drive.specs.Parts.{BearsDrive};
+ghost use Rattle.dali_drive.specs.StoredSittings.{WasStored, HasSat, AreStored};
 ghost use Rattle.dali_drive.specs.Sittings.{IsFileOf, AreSittings, LeavesFile, ActOnce};
 
 /// A drive from the bytes of its start's records in version 2 leaves the journal's file with whole records, and behind
@@ -46,4 +49,22 @@ pub fn drives_act_once()
         → unpowered past ≡ joined sittings → IsPowerApart past
         → Along zero lost start now past last states
         → ActOnce zero lost start sittings left past last states }
+{}
+
+/// A drive over a store leaves bytes that bear out whatever happened: with each past that its streams permit and that
+/// has the records that are kept there now, it is a sitting; and drives over a store one after another, each from the
+/// bytes that the one before it left, are sittings one after another.
+pub fn stored_drives_are_sittings()
+    ensures one { (limit most : ℕ) (found left : List ℕ) (before last : Streams) → before.journal ≡ Some found
+        → last.journal ≡ Some left → WasStored limit most before last → HasSat limit found left }
+    ensures all { (limit most : ℕ) (first : List ℕ) (founds : List (List ℕ)) (last : List ℕ)
+        → AreStored limit most first founds last → (sittings : List Sitting) × AreSittings limit first sittings last }
+{}
+
+/// What a stop may leave behind a journal that was opened over a store, while it is driven there, is the file of a first
+/// part of what may have happened.
+pub fn stops_leave_a_part()
+    ensures { (limit most : ℕ) (found left c : List ℕ) (before last : Streams) → before.journal ≡ Some found
+        → last.journal ≡ Some left → WasStored limit most before last → IsPartBehind limit (Some found) (Some left) c
+        → BearsDrive limit found c last }
 {}

@@ -8,9 +8,11 @@ mod fault;
 pub mod laws;
 mod lines;
 mod std_streams;
+mod stored;
 mod streams;
 
 pub use driving::drive;
 pub use fault::DriveFault;
 pub use std_streams::{StdSink, StdSource};
+pub use stored::{StoredFault, drive_stored};
 pub use streams::{Got, Sink, Source, put_all};

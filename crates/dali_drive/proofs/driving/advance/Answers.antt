@@ -5,28 +5,29 @@ use Rattle.dali_trace.specs.declared.happening.Happening.TheVariants.{Kept, Sent
 use Rattle.dali_trace.specs.Replies.{reply_line}
 use Rattle.dali_drive.proofs.DriveLemmas.{keeps_on, sends_on, says_on, breaks_record, breaks_frame, breaks_saying}
 use Rattle.dali_drive.proofs.DriveLemmas.{breaks_reading, IsCut}
+use Rattle.dali_drive.proofs.StoreLemmas.{untouched}
 use Rattle.dali_drive.proofs.driving.advance.Goals as goal
 
-pub returns-then-not-send-clause-worked : goal.returns-then-not-send-clause-worked
-returns-then-not-send-clause-worked g c = λ start past first d.
+pub returns-then-not-keep-clause-worked : goal.returns-then-not-keep-clause-worked
+returns-then-not-keep-clause-worked g c = λ start past first d.
     let next = c.in-Keep.ensures.done start past d.described d.follows (Kept c.in-Keep.entry) refl in (
       past,
       _,
       d.driven,
       λ rest. breaks_record start past rest _ _ _ _ _ c.in-Keep.entry next
           (c.bytes.ensures.in_range (c.in-Keep.ensures.short c.in-Keep.entry refl))
-          (subst (IsCut _ _) (c.deref.ensures.0 ∙ c.bytes.ensures.spelled) (c.if-not-send.ensures.cut refl)),
+          (subst (IsCut _ _) (c.deref.ensures.0 ∙ c.bytes.ensures.spelled) (c.if-not-keep.ensures.cut refl)),
       refl,
     )
 
-pub returns-then-not-send-2-clause-worked : goal.returns-then-not-send-2-clause-worked
-returns-then-not-send-2-clause-worked g c = λ start past first d. (
+pub returns-then-not-send-clause-worked : goal.returns-then-not-send-clause-worked
+returns-then-not-send-clause-worked g c = λ start past first d. (
   past,
   _,
   d.driven,
   λ rest. breaks_frame start past rest _ _ _ _ _ c.in-Send.frame
       (λ answer. c.in-Send.ensures.done start past d.described d.follows (Sent c.in-Send.frame answer) (answer, refl))
-      (subst (IsCut _ _) c.line_of.ensures.line (c.if-not-send-2.ensures.cut refl)),
+      (subst (IsCut _ _) c.line_of.ensures.line (c.if-not-send.ensures.cut refl)),
   refl,
 )
 
@@ -39,7 +40,7 @@ returns-in_err-answer-in-Send-clause-worked g c = λ start past first d.
       λ rest. breaks_reading c.in_err-answer-in-Send.field-0.0 start past rest _ _ _ _ _ _ c.in-Send.frame
           (λ answer.
           c.in-Send.ensures.done start past d.described d.follows (Sent c.in-Send.frame answer) (answer, refl))
-          (subst (Appends _ _) c.line_of.ensures.line (c.if-not-send-2.ensures.whole refl))
+          (subst (Appends _ _) c.line_of.ensures.line (c.if-not-send.ensures.whole refl))
           c.in_err-answer-in-Send.ensures.line,
       refl,
     )
@@ -56,15 +57,15 @@ returns-then-not-put_all-clause-worked g c = λ start past first d. (
   refl,
 )
 
-pub returns-else-not-send-clause-worked : goal.returns-else-not-send-clause-worked
-returns-else-not-send-clause-worked g c = λ start past first d. (
+pub returns-else-not-keep-clause-worked : goal.returns-else-not-keep-clause-worked
+returns-else-not-keep-clause-worked g c = λ start past first d. (
   Kept c.in-Keep.entry ∷ past,
   record {
     driven =
         keeps_on start past first _ _ _ _ _ c.in-Keep.entry d.driven
         (c.in-Keep.ensures.done start past d.described d.follows (Kept c.in-Keep.entry) refl)
         (c.bytes.ensures.in_range (c.in-Keep.ensures.short c.in-Keep.entry refl))
-        (subst (Appends _ _) (c.deref.ensures.0 ∙ c.bytes.ensures.spelled) (c.if-not-send.ensures.whole refl));
+        (subst (Appends _ _) (c.deref.ensures.0 ∙ c.bytes.ensures.spelled) (c.if-not-keep.ensures.whole refl));
     described = c.kept.ensures.described start past c.in-Keep.entry (sym c.in-Keep.ensures.phase) d.described;
     follows = c.kept.ensures.follows start past c.in-Keep.entry (sym c.in-Keep.ensures.phase) d.described d.follows;
   },
@@ -79,7 +80,7 @@ returns-in_ok-answer-in-Send-clause-worked g c = λ start past first d.
       record {
         driven = sends_on start past first _ _ _ _ _ _ frame answer d.driven
             (c.in-Send.ensures.done start past d.described d.follows (Sent frame answer) (answer, refl))
-            (subst (Appends _ _) c.line_of.ensures.line (c.if-not-send-2.ensures.whole refl))
+            (subst (Appends _ _) c.line_of.ensures.line (c.if-not-send.ensures.whole refl))
             c.in_ok-answer-in-Send.ensures.line;
         described = c.heard.ensures.described start past frame (sym c.in-Send.ensures.phase) d.described;
         follows = c.heard.ensures.follows start past frame (sym c.in-Send.ensures.phase) d.described d.follows;
@@ -101,3 +102,28 @@ returns-else-not-put_all-clause-worked g c = λ start past first d. (
   },
   refl,
 )
+
+pub returns-in-Idle-clause-any_moment : goal.returns-in-Idle-clause-any_moment
+returns-in-Idle-clause-any_moment g c =
+    untouched g.J.Store.seen g.J.Store.may_leave g.J.Store.moment g.J.Store.left_since c.args.journal_out.now
+    c.requires.settled (g.met.J.Store.only_now c.args.journal_out.now)
+
+pub returns-then-not-send-clause-any_moment : goal.returns-then-not-send-clause-any_moment
+returns-then-not-send-clause-any_moment g c =
+    untouched g.J.Store.seen g.J.Store.may_leave g.J.Store.moment g.J.Store.left_since c.args.journal_out.now
+    c.requires.settled (g.met.J.Store.only_now c.args.journal_out.now)
+
+pub returns-then-not-put_all-clause-any_moment : goal.returns-then-not-put_all-clause-any_moment
+returns-then-not-put_all-clause-any_moment g c =
+    untouched g.J.Store.seen g.J.Store.may_leave g.J.Store.moment g.J.Store.left_since c.args.journal_out.now
+    c.requires.settled (g.met.J.Store.only_now c.args.journal_out.now)
+
+pub returns-in_ok-answer-in-Send-clause-any_moment : goal.returns-in_ok-answer-in-Send-clause-any_moment
+returns-in_ok-answer-in-Send-clause-any_moment g c =
+    untouched g.J.Store.seen g.J.Store.may_leave g.J.Store.moment g.J.Store.left_since c.args.journal_out.now
+    c.requires.settled (g.met.J.Store.only_now c.args.journal_out.now)
+
+pub returns-else-not-put_all-clause-any_moment : goal.returns-else-not-put_all-clause-any_moment
+returns-else-not-put_all-clause-any_moment g c =
+    untouched g.J.Store.seen g.J.Store.may_leave g.J.Store.moment g.J.Store.left_since c.args.journal_out.now
+    c.requires.settled (g.met.J.Store.only_now c.args.journal_out.now)

@@ -8,6 +8,7 @@ use Rattle.dali_drive.specs.Driven.{orders_asked}
 use Rattle.dali_trace.specs.declared.happening.Happening.TheVariants.{Asked}
 use Rattle.dali_drive.proofs.DriveLemmas.{begun_at, replied_at, reply_next, breaks_saying, breaks_memory, IsCut}
 use Rattle.dali_drive.proofs.DriveLemmas.{asks_on, asked_more, asked_so_far, asked_then, asked_all}
+use Rattle.dali_drive.proofs.StoreLemmas.{then_on, more_of}
 use Rattle.dali_drive.proofs.driving.drive_all.Goals as goal
 
 pub loop-order-init : goal.loop-order-init
@@ -23,6 +24,9 @@ loop-order-init g c =
       rests = c.in_ok-work.ensures.rests;
       quiet = c.in_ok-work.ensures.quiet _ _ w.1.described;
       journal = c.in_ok-work.ensures.ok.0;
+      settled = c.in_ok-work.ensures.settled;
+      grown = c.in_ok-work.ensures.grown;
+      moments = c.in_ok-work.ensures.any_moment;
       link_out = c.in_ok-work.ensures.ok.1;
       link_in = c.in_ok-work.ensures.ok.2;
       out = c.in_ok-work.ensures.ok.3;
@@ -139,7 +143,18 @@ loop-order-preserved g c =
       rests = c.in_ok-work-2.ensures.rests;
       quiet = c.in_ok-work-2.ensures.quiet _ _ w.1.described;
       journal = c.in_ok-work-2.ensures.ok.0;
+      settled = c.in_ok-work-2.ensures.settled;
+      grown = more_of _ _ _ i.grown c.in_ok-work-2.ensures.grown;
+      moments = then_on g.J.Store.seen g.J.Store.may_leave g.J.Store.moment g.J.Store.left_since _ _ _ i.grown c.in_ok-work-2.ensures.grown i.moments c.in_ok-work-2.ensures.any_moment;
       link_out = c.in_ok-work-2.ensures.ok.1;
       link_in = c.in_ok-work-2.ensures.ok.2;
       out = c.in_ok-work-2.ensures.ok.3;
     }
+
+pub returns-in_err-work-2-clause-grown : goal.returns-in_err-work-2-clause-grown
+returns-in_err-work-2-clause-grown g c = more_of _ _ _ c.loop-order.invariant.grown c.in_err-work-2.ensures.grown
+
+pub returns-in_err-work-2-clause-any_moment : goal.returns-in_err-work-2-clause-any_moment
+returns-in_err-work-2-clause-any_moment g c =
+    let i = c.loop-order.invariant in
+    then_on g.J.Store.seen g.J.Store.may_leave g.J.Store.moment g.J.Store.left_since _ _ _ i.grown c.in_err-work-2.ensures.grown i.moments c.in_err-work-2.ensures.any_moment

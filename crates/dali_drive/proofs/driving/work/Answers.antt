@@ -1,5 +1,6 @@
-use Rattle.std.proofs.Common.{◌∙◌}
+use Rattle.std.proofs.Common.{◌∙◌, refl}
 use Rattle.std.proofs.lemmas.Result.{err_from_is_err_and}
+use Rattle.dali_drive.proofs.StoreLemmas.{untouched, then_on, none_more, more_of}
 use Rattle.dali_drive.proofs.driving.work.Goals as goal
 
 pub loop-preserved : goal.loop-preserved
@@ -8,6 +9,10 @@ loop-preserved g c = record {
       let before = c.loop.invariant.worked start past first d in
       let next = c.in_ok-advance.ensures.worked start before.0 first before.1 in (next.0, next.1, next.2 ∙ before.2);
   journal = c.in_ok-advance.ensures.ok.0;
+  settled = c.in_ok-advance.ensures.settled;
+  grown = more_of _ _ _ c.loop.invariant.grown c.in_ok-advance.ensures.grown;
+  moments =
+      then_on g.J.Store.seen g.J.Store.may_leave g.J.Store.moment g.J.Store.left_since _ _ _ c.loop.invariant.grown c.in_ok-advance.ensures.grown c.loop.invariant.moments c.in_ok-advance.ensures.any_moment;
   link_out = c.in_ok-advance.ensures.ok.1;
   link_in = c.in_ok-advance.ensures.ok.2;
   out = c.in_ok-advance.ensures.ok.3;
@@ -24,3 +29,30 @@ returns-in_err-advance-clause-worked g c = λ start past first d.
     let next = c.in_err-advance.ensures.worked start before.0 first before.1 in
     let p = err_from_is_err_and c.from_residual.result c.from_residual.ensures.1 in
     rw (p.1, p.2) (next.0, next.1, next.2, next.3, next.4 ∙ before.2)
+
+pub loop-init : goal.loop-init
+loop-init g c = record {
+  worked = λ start past first d. (past, d, refl);
+  journal = c.requires.journal;
+  settled = c.requires.settled;
+  grown = none_more (g.J.Store.seen c.args.journal_out.now);
+  moments = untouched g.J.Store.seen g.J.Store.may_leave g.J.Store.moment g.J.Store.left_since c.args.journal_out.now
+      c.requires.settled (g.met.J.Store.only_now c.args.journal_out.now);
+  link_out = c.requires.link_out;
+  link_in = c.requires.link_in;
+  out = c.requires.out;
+}
+
+pub returns-clause-grown : goal.returns-clause-grown
+returns-clause-grown g c = more_of _ _ _ c.loop.invariant.grown c.in_ok-advance.ensures.grown
+
+pub returns-clause-any_moment : goal.returns-clause-any_moment
+returns-clause-any_moment g c =
+    then_on g.J.Store.seen g.J.Store.may_leave g.J.Store.moment g.J.Store.left_since _ _ _ c.loop.invariant.grown c.in_ok-advance.ensures.grown c.loop.invariant.moments c.in_ok-advance.ensures.any_moment
+
+pub returns-in_err-advance-clause-grown : goal.returns-in_err-advance-clause-grown
+returns-in_err-advance-clause-grown g c = more_of _ _ _ c.loop.invariant.grown c.in_err-advance.ensures.grown
+
+pub returns-in_err-advance-clause-any_moment : goal.returns-in_err-advance-clause-any_moment
+returns-in_err-advance-clause-any_moment g c =
+    then_on g.J.Store.seen g.J.Store.may_leave g.J.Store.moment g.J.Store.left_since _ _ _ c.loop.invariant.grown c.in_err-advance.ensures.grown c.loop.invariant.moments c.in_err-advance.ensures.any_moment

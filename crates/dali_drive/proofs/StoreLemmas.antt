@@ -1,0 +1,80 @@
+-- A store along a drive.
+use Rattle.std.proofs.Common.{◌≡◌, ◌⊎◌, ◌++◌, inl, inr, ⊎_elim, sym, subst, ℕ, List, [], Option, Some, None}
+use Rattle.std.specs.Io.KnownBytes.{Appends}
+use Rattle.std.proofs.KnownBytes.{Appends-nil, Appends-trans}
+use Rattle.dali_journal.specs.declared.version.Version.TheVariants.{Two}
+use Rattle.dali_journal.specs.Spelling.{journal_spelling}
+use Rattle.dali_journal.specs.JournalState.{JournalState}
+use Rattle.dali_store.specs.Stores.{IsSettled, IsBetween, Becomes, LeavesOnly}
+use Rattle.dali_store.specs.Opened.{Loads, IsOpened, LeavesAlike}
+use Rattle.dali_store.proofs.OpenLemmas.{found_loads}
+use Rattle.dali_drive.specs.Stored.{LeavesPart}
+use Rattle.dali_store.proofs.Moments.{started, so_too, and_then}
+use Rattle.dali_store.proofs.Betweens.{settled_between, between_first, between_second}
+
+pub more_of : (a b d : Option (List ℕ)) → ((more : List ℕ) × Appends a b more) → ((more : List ℕ) × Appends b d more)
+    → (more : List ℕ) × Appends a d more
+more_of a b d (x, first) (y, second) = (x ++ y, Appends-trans a b d x y first second)
+
+pub none_more : (a : Option (List ℕ)) → (more : List ℕ) × Appends a a more
+none_more a = ([], Appends-nil a)
+
+module _ {S : Type 0} (seen : S → Option (List ℕ)) (may_leave : S → List ℕ → Type 0) (moment : S → ℕ)
+    (left_since : S → ℕ → List ℕ → Type 0) where
+  pub untouched : (store : S) → IsSettled (seen store) (may_leave store)
+      → ((c : List ℕ) → left_since store (moment store) c → may_leave store c)
+      → LeavesOnly moment left_since store store (IsBetween (seen store) (seen store))
+  untouched store settled only =
+      started moment left_since store (IsBetween (seen store) (seen store))
+      (λ c left. settled_between (seen store) (may_leave store) settled c (only c left))
+
+  pub then_on : (old mid new : S) → ((more : List ℕ) × Appends (seen old) (seen mid) more)
+      → ((more : List ℕ) × Appends (seen mid) (seen new) more)
+      → LeavesOnly moment left_since old mid (IsBetween (seen old) (seen mid))
+      → LeavesOnly moment left_since mid new (IsBetween (seen mid) (seen new))
+      → LeavesOnly moment left_since old new (IsBetween (seen old) (seen new))
+  then_on old mid new (x, first) (y, second) before after =
+      and_then moment left_since old mid new _ _ _ before after
+      (λ c is. between_first (seen old) (seen mid) (seen new) x y c first second is)
+      (λ c is. between_second (seen old) (seen mid) (seen new) x y c first second is)
+
+-- what a stop leaves while a journal is opened and driven
+
+shown_loads : (limit most : ℕ) (bytes : List ℕ) (journal : JournalState) → IsOpened limit most (Some bytes) journal
+    → Loads limit journal.records bytes
+shown_loads limit most bytes journal o =
+    subst (λ (l : List ℕ). Loads limit journal.records l) (sym o.found.shown)
+    (found_loads limit most (Some bytes) journal o.version o.counted o.total o.found)
+
+part_of_alike : (limit : ℕ) (old new : Option (List ℕ)) (before : List ℕ → Type 0) (c : List ℕ)
+    → LeavesAlike limit old before c → LeavesPart limit old new before c
+part_of_alike limit old new before c is = ⊎_elim (λ was. inl was) (λ alike. inr (inl alike)) is
+
+part_of_between : (limit most : ℕ) (old mid new : Option (List ℕ)) (before : List ℕ → Type 0) (journal : JournalState)
+    → IsOpened limit most old journal → Becomes old mid (journal_spelling Two journal.records)
+    → (c : List ℕ) → IsBetween mid new c → LeavesPart limit old new before c
+part_of_between limit most None mid new before journal opened becomes c is = inr (inr tt)
+part_of_between limit most (Some bytes) None new before journal opened becomes c is = absurd becomes
+part_of_between limit most (Some bytes) (Some now) new before journal opened becomes c is = inr (inr (
+  journal.records,
+  shown_loads limit most bytes journal opened,
+  subst (λ (l : List ℕ). IsBetween (Some l) new c) becomes is,
+))
+
+module _ {S : Type 0} (seen : S → Option (List ℕ)) (may_leave : S → List ℕ → Type 0) (moment : S → ℕ)
+    (left_since : S → ℕ → List ℕ → Type 0) (limit most : ℕ) where
+  pub opened_part : (old mid : S)
+      → LeavesOnly moment left_since old mid (LeavesAlike limit (seen old) (may_leave old))
+      → LeavesOnly moment left_since old mid (LeavesPart limit (seen old) (seen mid) (may_leave old))
+  opened_part old mid opening =
+      so_too moment left_since old mid _ _ opening (part_of_alike limit (seen old) (seen mid) (may_leave old))
+
+  pub driven_part : (old mid new : S) (journal : JournalState) → IsOpened limit most (seen old) journal
+      → Becomes (seen old) (seen mid) (journal_spelling Two journal.records)
+      → LeavesOnly moment left_since old mid (LeavesAlike limit (seen old) (may_leave old))
+      → LeavesOnly moment left_since mid new (IsBetween (seen mid) (seen new))
+      → LeavesOnly moment left_since old new (LeavesPart limit (seen old) (seen new) (may_leave old))
+  driven_part old mid new journal opened becomes opening driving =
+      and_then moment left_since old mid new _ _ _ opening driving
+      (part_of_alike limit (seen old) (seen new) (may_leave old))
+      (part_of_between limit most (seen old) (seen mid) (seen new) (may_leave old) journal opened becomes)

@@ -1,0 +1,62 @@
+-- A drive over a store: its journal is opened there, and what it keeps goes there.
+use Rattle.std.specs.Prelude.{◌≡◌, ◌⊎◌, ◌++◌, ℕ, List, [], Option, Some, None, ⊤}
+use Rattle.std.specs.Io.KnownBytes.{Keeps}
+use Rattle.dali_bank.specs.Order.{Contents}
+use Rattle.dali_journal.specs.declared.version.Version.TheVariants.{Two}
+use Rattle.dali_journal.specs.declared.record.Record.{Record}
+use Rattle.dali_journal.specs.Spelling.{journal_spelling}
+use Rattle.dali_journal.specs.JournalState.{JournalState}
+use Rattle.dali_writer.specs.WriterState.{WriterState, start_of}
+use Rattle.dali_store.specs.Stores.{Becomes, IsBetween}
+use Rattle.dali_store.specs.Opened.{IsOpened, IsOpenFault, Loads, LoadsAlike}
+use Rattle.dali_drive.specs.declared.fault.DriveFault.{DriveFault}
+use Rattle.dali_drive.specs.declared.fault.DriveFault.TheVariants.{Journal}
+use Rattle.dali_drive.specs.declared.stored.StoredFault.{StoredFault}
+use Rattle.dali_drive.specs.declared.stored.StoredFault.TheVariants.{Open, Drive}
+use Rattle.dali_drive.specs.Transcript.{Streams}
+use Rattle.dali_drive.specs.Driven.{IsDrive, IsBrokenDrive}
+
+-- the journal of what the store showed, and what it showed once that was opened: its bytes in version 2
+pub record IsBegun (limit most : ℕ) (first : Streams) : Type 0 where
+  pub journal : JournalState
+  pub opened : IsOpened limit most first.journal journal
+  pub middle : Option (List ℕ)
+  pub written : Becomes first.journal middle (journal_spelling Two journal.records)
+
+-- a drive from the journal that the store showed, over that store
+pub record IsStoredDrive (limit most : ℕ) (orders : List Contents) (moment : ℕ) (first : Streams) (writer : WriterState)
+    (last : Streams) : Type 0 where
+  pub begun : IsBegun limit most first
+  pub drive : IsDrive (start_of begun.journal) orders moment (record first { journal = begun.middle }) writer last
+
+-- no stream but the store was touched
+pub record Untouched (first last : Streams) : Type 0 where
+  pub link : Keeps first.link last.link
+  pub answers : Keeps first.answers last.answers
+  pub out : Keeps first.out last.out
+
+-- why not all was driven
+abbrev pub IsStoredFault : ℕ → ℕ → List Contents → ℕ → StoredFault → Streams → Streams → Type 0
+IsStoredFault limit most orders moment (Open fault) first last =
+    IsOpenFault limit most first.journal last.journal fault × Untouched first last
+IsStoredFault limit most orders moment (Drive fault) first last =
+    (begun : IsBegun limit most first)
+    × IsBrokenDrive (start_of begun.journal) orders moment fault (record first { journal = begun.middle }) last
+
+-- where the store failed nothing is said
+abbrev pub IsSettledBy : StoredFault → Type 0 → Type 0
+IsSettledBy (Open fault) P = ⊤
+IsSettledBy (Drive Journal) P = ⊤
+IsSettledBy (Drive fault) P = P
+
+-- the bytes in version 2 of the records that a store showed, and behind them a first part of what was put until now
+abbrev pub IsPartBehind : ℕ → Option (List ℕ) → Option (List ℕ) → List ℕ → Type 0
+IsPartBehind limit None new c = ⊤
+IsPartBehind limit (Some bytes) new c =
+    (records : List Record) × Loads limit records bytes × IsBetween (Some (journal_spelling Two records)) new c
+
+-- what a stop leaves: what it might have left before; or bytes that load to the records that the store showed; or
+-- these records' bytes in version 2, with a first part of what was put behind them until now
+abbrev pub LeavesPart : ℕ → Option (List ℕ) → Option (List ℕ) → (List ℕ → Type 0) → List ℕ → Type 0
+LeavesPart limit old new before c =
+    before c ⊎ LoadsAlike limit old c ⊎ IsPartBehind limit old new c

@@ -1,0 +1,4 @@
+pub mod OpenLemmas
+pub mod Moments
+mod Kept
+pub mod Betweens

@@ -1,0 +1,58 @@
+-- What a store's bytes are as a journal, and what opening it does.
+use Rattle.std.specs.Prelude.{◌≡◌, ◌⊎◌, ◌≤◌, ◌<◌, ℕ, List, Option, Some, None, length, ⊤}
+use Rattle.std.specs.Io.KnownBytes.{Keeps}
+use Rattle.dali_journal.specs.declared.record.Record.{Record}
+use Rattle.dali_journal.specs.declared.version.Version.{Version}
+use Rattle.dali_journal.specs.declared.version.Version.TheVariants.{Two}
+use Rattle.dali_journal.specs.Spelling.{journal_spelling}
+use Rattle.dali_journal.specs.JournalState.{JournalState, AreKept}
+use Rattle.dali_journal.specs.Loading.{IsLoadable, IsLoaded, IsLoadFault}
+use Rattle.dali_store.specs.declared.opening.OpenFault.{OpenFault}
+use Rattle.dali_store.specs.declared.opening.OpenFault.TheVariants.{Store, Journal}
+use Rattle.dali_store.specs.declared.store.StoreFault.TheVariants.{TooBig}
+use Rattle.dali_store.specs.Stores.{Shows, IsLonger, Becomes}
+
+-- the bytes load to these records, in one version or the other
+pub record Loads (limit : ℕ) (records : List Record) (bytes : List ℕ) : Type 0 where
+  pub version : Version
+  pub len : ℕ
+  pub kept : AreKept version limit records
+  pub loadable : IsLoadable version bytes records len
+
+-- the journal of what a store shows: of at most so many bytes, of which so many count, in this version
+pub record IsFound (limit most : ℕ) (seen : Option (List ℕ)) (journal : JournalState) (version : Version)
+    (counted total : ℕ) : Type 0 where
+  pub bytes : List ℕ
+  pub shown : Shows seen bytes
+  pub within : length bytes ≤ most
+  pub total_is : total ≡ length bytes
+  pub loaded : IsLoaded limit bytes journal counted version
+
+-- the journal of what a store shows
+pub record IsOpened (limit most : ℕ) (seen : Option (List ℕ)) (journal : JournalState) : Type 0 where
+  pub version : Version
+  pub counted : ℕ
+  pub total : ℕ
+  pub found : IsFound limit most seen journal version counted total
+
+-- the known bytes load to some records, and these to the same
+abbrev pub LoadsAlike : ℕ → Option (List ℕ) → List ℕ → Type 0
+LoadsAlike limit None c = ⊤
+LoadsAlike limit (Some bytes) c = (records : List Record) × Loads limit records bytes × Loads limit records c
+
+-- the same of what is known then
+abbrev pub StaysAlike : ℕ → Option (List ℕ) → Option (List ℕ) → Type 0
+StaysAlike limit old None = ⊤
+StaysAlike limit old (Some bytes) = LoadsAlike limit old bytes
+
+-- what a stop may leave while a journal is opened: what it might have left before, or bytes of the same records
+abbrev pub LeavesAlike : ℕ → Option (List ℕ) → (List ℕ → Type 0) → List ℕ → Type 0
+LeavesAlike limit seen before c = before c ⊎ LoadsAlike limit seen c
+
+-- why a journal isn't opened. Where the bytes are none, or too many, nothing is changed; a store that fails holds the
+-- same records
+abbrev pub IsOpenFault : ℕ → ℕ → Option (List ℕ) → Option (List ℕ) → OpenFault → Type 0
+IsOpenFault limit most old new (Journal fault) =
+    ((bytes : List ℕ) × Shows old bytes × (length bytes ≤ most) × IsLoadFault limit bytes fault) × Keeps old new
+IsOpenFault limit most old new (Store TooBig) = IsLonger most old × Keeps old new
+IsOpenFault limit most old new (Store other) = Keeps old new ⊎ StaysAlike limit old new

@@ -6,3 +6,6 @@ pub mod WorkedDriveLemmas
 mod StoredLemmas
 mod PartLemmas
 mod StopLemmas
+mod TrailLemmas
+mod KillLemmas
+mod KilledLemmas

@@ -2,7 +2,6 @@
 use Rattle.std.proofs.Common.{◌≡◌, ◌≤◌, ◌<◌, ◌+◌, ◌⊎◌, refl, sym, ap, ◌∙◌, subst, inl, inr, ℕ, List, [], ◌∷◌, ◌++◌, length, take, arith, length-append}
 use Rattle.std.proofs.lemmas.Bool.{cases_lt}
 use Rattle.std.proofs.lemmas.List.{append_assoc, append-nil, take_at}
-use Rattle.dali_journal.specs.declared.record.Record.{Record}
 use Rattle.dali_journal.specs.declared.version.Version.TheVariants.{Two}
 use Rattle.dali_journal.specs.Spelling.{spelling, journal_spelling}
 use Rattle.dali_journal.specs.JournalState.{AreKept}
@@ -17,7 +16,7 @@ use Rattle.dali_drive.specs.Sittings.{IsFileOf, after}
 use Rattle.dali_drive.specs.Parts.{BearsPart}
 use Rattle.dali_drive.proofs.SittingLemmas.{whole_file, cut_file, kept_so, journal_recorded}
 
-no_bytes : (l : List ℕ) → length l ≤ 0 → l ≡ []
+pub no_bytes : (l : List ℕ) → length l ≤ 0 → l ≡ []
 no_bytes [] less = refl
 no_bytes (x ∷ l) less = absurd (omega (arith, less))
 

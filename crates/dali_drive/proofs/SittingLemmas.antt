@@ -168,12 +168,12 @@ left_record start trace old new entry kept legal keeps finished is next range pa
       }
 
 -- where a frame or a record is next, no reply is due
-frame_finished : (start : Start) (past : List Happening) (frame : Frame) (answer : Option ℕ)
+pub frame_finished : (start : Start) (past : List Happening) (frame : Frame) (answer : Option ℕ)
     → IsNext start past (Sent frame answer) → IsFinished past
 frame_finished start (Asked order moment ∷ past) frame answer next = absurd next.may
 frame_finished start _ frame answer next = tt
 
-record_finished : (start : Start) (past : List Happening) (entry : Record) → IsNext start past (Kept entry)
+pub record_finished : (start : Start) (past : List Happening) (entry : Record) → IsNext start past (Kept entry)
     → IsFinished past
 record_finished start (Asked order moment ∷ past) entry next = absurd next.may
 record_finished start _ entry next = tt

@@ -2,7 +2,7 @@
 use Rattle.std.proofs.Common.{◌≡◌, ◌⊎◌, refl, sym, ap, ◌∙◌, subst, inl, inr, ℕ, List, [], ◌∷◌, ◌++◌, Option, Some, None, take, drop}
 use Rattle.std.proofs.Common.{take-append-drop}
 use Rattle.std.proofs.lemmas.List.{append_assoc}
-use Rattle.std.specs.Io.KnownBytes.{Appends, Keeps}
+use Rattle.std.specs.Io.KnownBytes.{Keeps}
 use Rattle.dali_bank.specs.Order.{Contents}
 use Rattle.dali_frame.specs.declared.forward.Frame.{Frame}
 use Rattle.dali_journal.specs.declared.record.Record.{Record}
@@ -20,17 +20,16 @@ use Rattle.dali_store.specs.Opened.{Loads, IsOpened}
 use Rattle.dali_drive.specs.declared.fault.DriveFault.{DriveFault}
 use Rattle.dali_drive.specs.declared.fault.DriveFault.TheVariants.{Journal, Link, Line, End, NoMemory, TooLong, Out}
 use Rattle.dali_drive.specs.Transcript.{Streams, recorded}
-use Rattle.dali_drive.specs.Driven.{IsDrive, IsBrokenDrive, BrokenOff, AppendsPart, CutRecord, CutFrame, Unanswered}
-use Rattle.dali_drive.specs.Sittings.{WasDriven}
+use Rattle.dali_drive.specs.Driven.{IsDrive, IsBrokenDrive, BrokenOff, CutRecord, CutFrame, Unanswered}
 use Rattle.dali_drive.specs.Stored.{IsBegun, IsPartBehind}
 use Rattle.dali_drive.specs.StoredSittings.{WasStored}
-use Rattle.dali_drive.specs.Parts.{BearsPart, BearsDrive}
+use Rattle.dali_drive.specs.Parts.{BearsDrive}
 use Rattle.dali_drive.proofs.SittingLemmas.{drive_holds, journal_recorded, shows_still, shows_more}
 use Rattle.dali_drive.proofs.StoredLemmas.{some_becomes, one_some, begun_kept}
 use Rattle.dali_drive.proofs.PartLemmas.{part_of}
 
 -- what was found is that of no other records
-found_once : (limit most : ℕ) (seen : Option (List ℕ)) (found : List ℕ) (journal : JournalState) (records : List Record)
+pub found_once : (limit most : ℕ) (seen : Option (List ℕ)) (found : List ℕ) (journal : JournalState) (records : List Record)
     → IsOpened limit most seen journal → seen ≡ Some found → Loads limit records found → records ≡ journal.records
 found_once limit most seen found journal records o is loads =
     let same : found ≡ o.found.bytes = shows seen found o.found.bytes is o.found.shown in

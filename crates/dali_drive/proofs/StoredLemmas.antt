@@ -1,5 +1,5 @@
 -- Drives over a store are sittings.
-use Rattle.std.proofs.Common.{◌≡◌, ◌⊎◌, refl, sym, ap, ◌∙◌, subst, inl, inr, ⊎_elim, ℕ, List, [], ◌∷◌, Option, Some, None}
+use Rattle.std.proofs.Common.{◌≡◌, refl, sym, ap, ◌∙◌, subst, inl, inr, ℕ, List, [], ◌∷◌, Option, Some, None}
 use Rattle.dali_bank.specs.Order.{Contents}
 use Rattle.dali_journal.specs.declared.record.Record.{Record}
 use Rattle.dali_journal.specs.declared.version.Version.TheVariants.{Two}
@@ -7,19 +7,17 @@ use Rattle.dali_journal.specs.Spelling.{journal_spelling}
 use Rattle.dali_journal.specs.JournalState.{JournalState, AreKept}
 use Rattle.dali_trace.specs.declared.happening.Happening.{Happening}
 use Rattle.dali_trace.specs.Trace.{Start, records_of}
-use Rattle.dali_trace.specs.Legal.{IsFinished}
 use Rattle.dali_writer.specs.WriterState.{WriterState, start_of}
 use Rattle.dali_laws.specs.Joined.{Sitting}
 use Rattle.dali_store.specs.Stores.{Shows, Becomes}
 use Rattle.dali_store.specs.Opened.{IsOpened}
 use Rattle.dali_store.proofs.OpenLemmas.{found_kept}
 use Rattle.dali_drive.specs.declared.fault.DriveFault.{DriveFault}
-use Rattle.dali_drive.specs.declared.stored.StoredFault.TheVariants.{Drive}
 use Rattle.dali_drive.specs.Transcript.{Streams}
 use Rattle.dali_drive.specs.Driven.{IsDriven, IsDrive, IsBrokenDrive}
-use Rattle.dali_drive.specs.Sittings.{IsFileOf, after, MayHaveHappened, WasDriven, IsSitting, AreSittings, LeavesFile}
+use Rattle.dali_drive.specs.Sittings.{IsFileOf, after, WasDriven, AreSittings, LeavesFile}
 use Rattle.dali_journal.specs.Loading.{IsLoadable}
-use Rattle.dali_drive.specs.Stored.{IsBegun, IsStoredDrive, IsStoredFault}
+use Rattle.dali_drive.specs.Stored.{IsBegun}
 use Rattle.dali_drive.specs.StoredSittings.{WasStored, HasSat, AreStored}
 use Rattle.dali_drive.proofs.SittingLemmas.{drive_leaves, drive_leaves_past, broken_leaves}
 
@@ -32,7 +30,7 @@ pub one_some : (a : Option (List ℕ)) (x y : List ℕ) → a ≡ Some x → a �
 one_some a x y first second = cc
 
 -- what was found is a file of the start
-found_file : (limit most : ℕ) (seen : Option (List ℕ)) (bytes : List ℕ) (journal : JournalState)
+pub found_file : (limit most : ℕ) (seen : Option (List ℕ)) (bytes : List ℕ) (journal : JournalState)
     (o : IsOpened limit most seen journal) → seen ≡ Some bytes → IsFileOf bytes (start_of journal) o.version o.counted
 found_file limit most seen bytes journal o is =
     let limits : limit ≡ journal.limit = sym o.found.loaded.0 in

@@ -9,3 +9,4 @@ pub mod WorkedDrives
 pub mod Stored
 pub mod StoredSittings
 pub mod Parts
+pub mod Kills

@@ -1,5 +1,5 @@
 -- A drive over a store: its journal is opened there, and what it keeps goes there.
-use Rattle.std.specs.Prelude.{◌≡◌, ◌⊎◌, ◌++◌, ℕ, List, [], Option, Some, None, ⊤}
+use Rattle.std.specs.Prelude.{◌⊎◌, ℕ, List, Option, Some, None, ⊤}
 use Rattle.std.specs.Io.KnownBytes.{Keeps}
 use Rattle.dali_bank.specs.Order.{Contents}
 use Rattle.dali_journal.specs.declared.version.Version.TheVariants.{Two}
@@ -9,7 +9,6 @@ use Rattle.dali_journal.specs.JournalState.{JournalState}
 use Rattle.dali_writer.specs.WriterState.{WriterState, start_of}
 use Rattle.dali_store.specs.Stores.{Becomes, IsBetween}
 use Rattle.dali_store.specs.Opened.{IsOpened, IsOpenFault, Loads, LoadsAlike}
-use Rattle.dali_drive.specs.declared.fault.DriveFault.{DriveFault}
 use Rattle.dali_drive.specs.declared.fault.DriveFault.TheVariants.{Journal}
 use Rattle.dali_drive.specs.declared.stored.StoredFault.{StoredFault}
 use Rattle.dali_drive.specs.declared.stored.StoredFault.TheVariants.{Open, Drive}
@@ -48,6 +47,11 @@ abbrev pub IsSettledBy : StoredFault → Type 0 → Type 0
 IsSettledBy (Open fault) P = ⊤
 IsSettledBy (Drive Journal) P = ⊤
 IsSettledBy (Drive fault) P = P
+
+-- this is so where the journal wasn't opened
+abbrev pub IfUnopened : StoredFault → Type 0 → Type 0
+IfUnopened (Open fault) P = P
+IfUnopened (Drive fault) P = ⊤
 
 -- the bytes in version 2 of the records that a store showed, and behind them a first part of what was put until now
 abbrev pub IsPartBehind : ℕ → Option (List ℕ) → Option (List ℕ) → List ℕ → Type 0

@@ -2,7 +2,8 @@
 ghost use Rattle.std.specs.Prelude.{◌≡◌, ◌≢◌, ℕ, List, true, false, IfOk, IfErr, OnOk};
 ghost use Rattle.dali_store.specs.Stores.{IsSettled, LeavesOnly};
 ghost use Rattle.dali_drive.specs.Driven.{NoneFailed};
-ghost use Rattle.dali_drive.specs.Stored.{IsStoredDrive, IsStoredFault, IsSettledBy, LeavesPart};
+ghost use Rattle.dali_drive.specs.Stored.{IsStoredDrive, IsStoredFault, IsSettledBy, IfUnopened, LeavesPart};
+ghost use Rattle.dali_store.specs.Opened.{LeavesAlike};
 ghost use Rattle.dali_drive.specs.Transcript.{shown};
 
 use crate::driving::drive;
@@ -50,6 +51,8 @@ pub fn drive_stored<I: Source, L: Sink, S: Store, O: Sink>(
         (shown (S.seen store.new) (L.held link_out.new) (I.left link_in.new) (O.held out.new))) }
     ensures settled { OnOk result (IsSettled (S.seen store.new) (S.may_leave store.new)) }
     ensures settled_first { IfErr result (λ fault. IsSettledBy fault (IsSettled (S.seen store.new) (S.may_leave store.new))) }
+    ensures unopened { IfErr result (λ fault. IfUnopened fault (LeavesOnly S.moment S.left_since store.old store.new
+        (LeavesAlike limit (S.seen store.old) (S.may_leave store.old)))) }
     ensures any_moment { LeavesOnly S.moment S.left_since store.old store.new
         (LeavesPart limit (S.seen store.old) (S.seen store.new) (S.may_leave store.old)) }
 {

@@ -96,6 +96,10 @@ impl<'a, R: Files<File = File> + AllocGlobal> Store for FileStore<'a, R> {
     fn has_failed(&self) -> bool {
         self.failed
     }
+
+    fn cause(&self) -> Option<&str> {
+        None
+    }
 }
 
 // All the bytes of a file, where there are no more than so many.

@@ -176,4 +176,8 @@ impl Store for MemoryStore {
     fn has_failed(&self) -> bool {
         self.failed
     }
+
+    fn cause(&self) -> Option<&str> {
+        None
+    }
 }

@@ -1,6 +1,6 @@
 // The place of one journal.
 ghost use Rattle.std.specs.Prelude.{◌≡◌, ◌<◌, ◌≤◌, ◌||◌, ℕ, Bool, List, Option, not, length, take, true, false};
-ghost use Rattle.std.specs.Prelude.{IfOk, IsErrOf, OnOk, OnErr};
+ghost use Rattle.std.specs.Prelude.{IfOk, IfSome, IsErrOf, OnOk, OnErr};
 ghost use Rattle.std.specs.Io.KnownBytes.{Appends};
 ghost use Rattle.dali_store.specs.declared.store.StoreFault.TheVariants.{TooBig};
 ghost use Rattle.dali_store.specs.Stores.{Shows, IsSettled, IsBetween, IsWithin, MayAlso, Elapses, LeavesOnly};
@@ -114,6 +114,10 @@ pub trait Store {
     /// Whether a call has failed.
     fn has_failed(&self) -> bool
         ensures { result ≡ failed self.now };
+
+    /// What failed, in words for a person, where there are any.
+    fn cause(&self) -> Option<&str>
+        ensures { IfSome result (λ words. failed self.now ≡ true) };
 
     /// This moment is one of those since an earlier one.
     ghost counts_now: { (store : Self) (t : ℕ) (c : List ℕ) → t ≤ moment store → may_leave store c

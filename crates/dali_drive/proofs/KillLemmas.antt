@@ -1,187 +1,144 @@
--- A drive that is killed is a sitting.
-use Rattle.std.proofs.Common.{◌≡◌, ◌≤◌, ◌<◌, ◌+◌, ◌⊎◌, refl, sym, ap, ◌∙◌, subst, inl, inr, ℕ, List, [], ◌∷◌, ◌++◌, Some, length, take, arith, length-append}
+-- A drive over a store that is killed at some moment.
+use Rattle.std.proofs.Common.{◌≡◌, ◌<◌, ◌≤◌, ◌⊎◌, refl, sym, ap, ◌∙◌, subst, inl, inr, ⊎_elim, ℕ, List, [], ◌∷◌, ◌++◌, Option}
+use Rattle.std.proofs.Common.{Some, None, length, take, drop, arith, length-append, take-append-drop}
 use Rattle.std.proofs.lemmas.Bool.{cases_lt}
-use Rattle.std.proofs.lemmas.List.{append_assoc, append-nil, take_at}
-use Rattle.std.proofs.lemmas.List.Elements.{All-nil}
-use Rattle.std.specs.Io.KnownBytes.{append_known}
-use Rattle.std.proofs.KnownBytes.{Keeps-refl, Consumes-nil}
-use Rattle.dali_journal.specs.declared.version.Version.{Version}
-use Rattle.dali_journal.specs.declared.version.Version.TheVariants.{Two}
+use Rattle.std.proofs.lemmas.List.{append_assoc, append-nil}
+use Rattle.std.specs.Io.KnownBytes.{Appends, Consumes, Keeps, append_known, prepend_known}
+use Rattle.dali_bank.specs.Order.{Contents}
 use Rattle.dali_journal.specs.declared.record.Record.{Record}
-use Rattle.dali_journal.specs.Spelling.{spelling, journal_spelling, IsRecord}
-use Rattle.dali_journal.specs.JournalState.{AreKept}
+use Rattle.dali_journal.specs.declared.version.Version.TheVariants.{Two}
+use Rattle.dali_journal.specs.Spelling.{spelling, journal_spelling}
+use Rattle.dali_journal.proofs.TornLemmas.{torn_no_fault}
 use Rattle.dali_trace.specs.declared.happening.Happening.{Happening}
 use Rattle.dali_trace.specs.declared.happening.Happening.TheVariants.{Asked, Answered, Sent, Kept, Stopped, Powered}
 use Rattle.dali_trace.specs.Trace.{Start, records_of}
 use Rattle.dali_trace.specs.Legal.{Legal, IsFinished}
 use Rattle.dali_trace.specs.ByPlan.{ByPlan}
 use Rattle.dali_trace.specs.Next.{IsNext}
-use Rattle.dali_store.specs.Stores.{IsBetween}
+use Rattle.dali_laws.specs.Joined.{Sitting}
+use Rattle.dali_writer.specs.WriterState.{WriterState, start_of}
+use Rattle.dali_store.specs.Opened.{Loads}
 use Rattle.dali_store.proofs.OpenLemmas.{split_front}
 use Rattle.dali_drive.specs.declared.fault.DriveFault.{DriveFault}
-use Rattle.dali_drive.specs.declared.fault.DriveFault.TheVariants.{Journal, Link}
-use Rattle.dali_drive.specs.Lines.{link_line}
-use Rattle.dali_trace.specs.Replies.{reply_line}
-use Rattle.dali_drive.specs.Transcript.{Streams, recorded}
-use Rattle.dali_drive.specs.Driven.{KeepsRecords, IsBrokenDrive, BrokenOff}
-use Rattle.dali_drive.specs.Sittings.{IsFileOf, after, IsSitting}
-use Rattle.dali_drive.specs.Kills.{Trail, FrameInHand, RecordInHand, ReplyInHand, IsKilledAt, StandsAt}
-use Rattle.dali_drive.proofs.DriveLemmas.{says_on}
-use Rattle.dali_drive.proofs.SittingLemmas.{whole_file, cut_file, kept_so, journal_recorded, drive_holds, shows_more, record_finished}
-use Rattle.dali_drive.proofs.PartLemmas.{no_bytes}
-use Rattle.dali_drive.proofs.TrailLemmas.{appends_known}
+use Rattle.dali_drive.specs.declared.fault.DriveFault.TheVariants.{Journal, Link, Line, End, NoMemory, TooLong, Out}
+use Rattle.dali_drive.specs.Transcript.{Streams, Transcript, AreAnswers, recorded, sent_lines, said_lines}
+use Rattle.dali_drive.specs.Driven.{IsInTurn, KeepsRecords, IsDriven, IsDrive, IsBrokenDrive, BrokenOff, CutRecord}
+use Rattle.dali_drive.specs.Stored.{IsBegun, IsPartBehind, IsStoredDrive}
+use Rattle.dali_drive.specs.Sittings.{IsBrokenStep, MayHaveHappened}
+use Rattle.dali_drive.specs.Kills.{IsKilledAt, WasKilled, MayHaveDriven, StoodOnce}
+use Rattle.dali_drive.proofs.SittingLemmas.{IsSat, sat_whole, sat_cut, made, loads, drive_holds, journal_recorded}
+use Rattle.dali_drive.proofs.SittingLemmas.{shows_more, shows_still, one_some, no_bytes, first_part, frame_finished}
+use Rattle.dali_drive.proofs.SittingLemmas.{record_finished, link_keeps}
+use Rattle.dali_drive.proofs.DriveLemmas.{keeps_on}
 
-module _ (found c : List ℕ) (version : Version) (len : ℕ) (start : Start) (loaded : IsFileOf found start version len)
-    (kept : AreKept Two start.limit start.records) (moment : ℕ) (first : Streams)
-    (made : first.journal ≡ Some (journal_spelling Two start.records)) (older : List Happening)
-    (t : Trail start moment first older) where
-  abbrev pub bytes : List ℕ
-  bytes = journal_spelling Two (records_of start older)
+-- A driven trace cut short is driven
 
-  holds : t.now.journal ≡ Some (journal_spelling Two (records_of start older))
-  holds = drive_holds start older first t.now t.driven made
+appends_known : (a : Option (List ℕ)) (bytes : List ℕ) → Appends a (append_known a bytes) bytes
+appends_known None bytes = tt
+appends_known (Some x) bytes = refl
 
-  so : AreKept Two start.limit (records_of start older)
-  so = kept_so start older kept t.driven.legal t.driven.in_range
+consumes_front : (a b : Option (List ℕ)) (x y : List ℕ) → Consumes a b (x ++ y) → Consumes a (prepend_known y b) x
+consumes_front None b x y taken = tt
+consumes_front (Some all) None x y taken = absurd taken
+consumes_front (Some all) (Some rest) x y taken = taken ∙ append_assoc x y rest
 
-  file_now : c ≡ journal_spelling Two (records_of start older)
-      → IsFileOf c (after start older) Two (length (journal_spelling Two (records_of start older)))
-  file_now is =
-      subst (λ (l : List ℕ). IsFileOf l (after start older) Two (length (journal_spelling Two (records_of start older))))
-      (sym is) (whole_file start older so)
+-- the text of a trace, with its link's answers in this rest
+abbrev pub streams_at : List Happening → Streams → Option (List ℕ) → Streams
+streams_at past first rest = record {
+  journal = append_known first.journal (recorded past);
+  link = append_known first.link (sent_lines past);
+  answers = rest;
+  out = append_known first.out (said_lines past);
+}
 
-  held_now : c ≡ journal_spelling Two (records_of start older) → t.now.journal ≡ Some c
-  held_now is = holds ∙ ap Some (sym is)
+text_at : (past : List Happening) (first : Streams) (rest : Option (List ℕ)) (heard : List ℕ) → AreAnswers past heard
+    → Consumes first.answers rest heard → Transcript past first (streams_at past first rest)
+text_at past first rest heard lines taken = record {
+  heard = heard;
+  lines = lines;
+  journal = appends_known first.journal (recorded past);
+  link = appends_known first.link (sent_lines past);
+  answers = taken;
+  out = appends_known first.out (said_lines past);
+}
 
-  none_sits : IsFinished older → c ≡ journal_spelling Two (records_of start older)
-      → IsSitting found (record { start = start; past = older }) c
-  none_sits finished is = record {
-    version = version;
-    len = len;
-    loaded = loaded;
-    first = first;
-    last = t.now;
-    made = made;
-    drove = inl t.driven;
-    finished = finished;
-    held = held_now is;
-    count = length (journal_spelling Two (records_of start older));
-    file = file_now is;
-  }
+text_before : (next : Happening) (past : List Happening) (first last : Streams) → Transcript (next ∷ past) first last
+    → (rest : Option (List ℕ)) × Transcript past first (streams_at past first rest)
+text_before (Sent frame answer) past first last t =
+    let was = t.lines.0 in
+    let line = t.lines.1 in
+    let taken = subst (λ (l : List ℕ). Consumes first.answers last.answers l) t.lines.4 t.answers in (
+      prepend_known line last.answers,
+      text_at past first (prepend_known line last.answers) was t.lines.2
+      (consumes_front first.answers last.answers was line taken),
+    )
+text_before (Asked order moment) past first last t =
+    (last.answers, text_at past first last.answers t.heard t.lines t.answers)
+text_before (Answered id reply) past first last t =
+    (last.answers, text_at past first last.answers t.heard t.lines t.answers)
+text_before (Kept entry) past first last t =
+    (last.answers, text_at past first last.answers t.heard t.lines t.answers)
+text_before Stopped past first last t = (last.answers, text_at past first last.answers t.heard t.lines t.answers)
+text_before (Powered address) past first last t =
+    (last.answers, text_at past first last.answers t.heard t.lines t.answers)
 
-  broken_with : (fault : DriveFault) (last : Streams) → BrokenOff start older [] fault t.now last
-      → IsBrokenDrive start t.orders moment fault first last
-  broken_with fault last broken = record {
-    past = older;
-    rest = [];
-    middle = t.now;
-    driven = t.driven;
-    asked = append-nil _ ∙ t.asked;
-    broken = broken;
-  }
+range_before : (next : Happening) (past : List Happening) → KeepsRecords (next ∷ past) → KeepsRecords past
+range_before (Kept entry) past keeps = keeps.1
+range_before (Asked order moment) past keeps = keeps
+range_before (Answered id reply) past keeps = keeps
+range_before (Sent frame answer) past keeps = keeps
+range_before Stopped past keeps = keeps
+range_before (Powered address) past keeps = keeps
 
-  frame_sits : (h : (past : List Happening) × FrameInHand start older past c)
-      → IsSitting found (record { start = start; past = Sent h.1.frame h.1.answer ∷ older }) c
-  unfolding broken_with
-  frame_sits (past, h) =
-      let last : Streams = record t.now { link = append_known t.now.link (link_line h.frame) } in
-      let broken : BrokenOff start older [] Link t.now last = (
-        h.frame,
-        h.next,
-        inr (record {
-          journal = Keeps-refl t.now.journal;
-          link = appends_known t.now.link (link_line h.frame);
-          answers = ([], record { short = omega arith; inside = All-nil _ }, Consumes-nil t.now.answers);
-          out = Keeps-refl t.now.out;
-        }),
-      ) in record {
-        version = version;
-        len = len;
-        loaded = loaded;
-        first = first;
-        last = last;
-        made = made;
-        drove = inr (t.orders, moment, Link, broken_with Link last broken, inr (Sent h.frame h.answer, h.next h.answer, refl));
-        finished = tt;
-        held = held_now h.left;
-        count = length (journal_spelling Two (records_of start older));
-        file = file_now h.left;
-      }
+driven_older : (start : Start) (newer older : List Happening) (first last : Streams)
+    → IsDriven start (newer ++ older) first last → (now : Streams) × IsDriven start older first now
+driven_older start [] older first last d = (last, d)
+driven_older start (next ∷ newer) older first last d =
+    let text = text_before next (newer ++ older) first last d.text in
+    driven_older start newer older first (streams_at (newer ++ older) first text.0) (record {
+      legal = d.legal.0;
+      planned = d.planned.0;
+      in_turn = d.in_turn.1;
+      in_range = range_before next (newer ++ older) d.in_range;
+      text = text.1;
+    })
 
-  record_sits : (h : (past : List Happening) × RecordInHand start older past c)
-      → IsSitting found (record { start = start; past = older }) c
-  unfolding broken_with
-  record_sits (past, h) =
-      let sp = spelling Two h.entry in
-      let last : Streams = record t.now { journal = append_known t.now.journal (take h.count sp) } in
-      let broken : BrokenOff start older [] Journal t.now last = (
-        h.entry,
-        h.next,
-        record {
-          in_range = h.in_range;
-          journal = record {
-            count = h.count;
-            within = let less = h.less in omega (arith, less);
-            part = appends_known t.now.journal (take h.count sp);
-          };
-          link = Keeps-refl t.now.link;
-          answers = Keeps-refl t.now.answers;
-          out = Keeps-refl t.now.out;
-        },
-      ) in record {
-        version = version;
-        len = len;
-        loaded = loaded;
-        first = first;
-        last = last;
-        made = made;
-        drove = inr (t.orders, moment, Journal, broken_with Journal last broken, inl refl);
-        finished = record_finished start older h.entry h.next;
-        held = shows_more t.now.journal last.journal bytes (take h.count sp) holds
-            (appends_known t.now.journal (take h.count sp)) ∙ ap Some (sym h.left);
-        count = length (journal_spelling Two (records_of start older));
-        file = subst (λ (l : List ℕ). IsFileOf l (after start older) Two (length (journal_spelling Two (records_of start older))))
-            (sym h.left) (cut_file start older h.entry h.count so h.in_range h.less);
-      }
+-- A drive that was killed is a sitting
 
-  reply_sits : (h : (past : List Happening) × ReplyInHand start older past c)
-      → IsSitting found (record { start = start; past = Answered h.1.id h.1.reply ∷ older }) c
-  reply_sits (past, h) =
-      let more = append_known t.now.out (reply_line h.id h.reply) in record {
-        version = version;
-        len = len;
-        loaded = loaded;
-        first = first;
-        last = record t.now { out = more };
-        made = made;
-        drove = inl (says_on start older first t.now.journal t.now.link t.now.answers t.now.out more h.id h.reply t.driven
-            h.next (appends_known t.now.out (reply_line h.id h.reply)));
-        finished = tt;
-        held = held_now h.left;
-        count = length (journal_spelling Two (records_of start older));
-        file = file_now h.left;
-      }
+pub sat_killed : (limit most : ℕ) (found : List ℕ) (sitting : Sitting) (left : List ℕ)
+    → WasKilled limit most found sitting left → IsSat limit found sitting left
+sat_killed limit most found sitting left k =
+    subst (λ (s : Sitting). IsSat limit found s left) (sym k.is) (by k.at) where
+  by : IsKilledAt (start_of k.begun.journal) k.older k.past left
+      → IsSat limit found (record { start = start_of k.begun.journal; past = k.past }) left
+  by (inl none) =
+      sat_whole limit most found k.first k.is_found k.begun k.past left (rw none.is k.driven.legal)
+      (rw none.is k.driven.planned) (rw none.is none.finished) (rw none.is k.driven.in_range) (rw none.is none.bytes)
+  by (inr (inl frame)) =
+      sat_whole limit most found k.first k.is_found k.begun k.past left (rw frame.is (k.driven.legal, frame.next.may))
+      (rw frame.is (k.driven.planned, frame.next.planned)) (rw frame.is tt) (rw frame.is k.driven.in_range)
+      (rw frame.is frame.bytes)
+  by (inr (inr (inl cut))) =
+      sat_cut limit most found k.first k.is_found k.begun k.past left cut.entry cut.count (rw cut.is k.driven.legal)
+      (rw cut.is k.driven.planned) (rw cut.is (record_finished (start_of k.begun.journal) k.older cut.entry cut.next))
+      (rw cut.is k.driven.in_range) cut.in_range cut.less (rw cut.is cut.bytes)
+  by (inr (inr (inr reply))) =
+      sat_whole limit most found k.first k.is_found k.begun k.past left (rw reply.is (k.driven.legal, reply.next.may))
+      (rw reply.is (k.driven.planned, reply.next.planned)) (rw reply.is tt) (rw reply.is k.driven.in_range)
+      (rw reply.is reply.bytes)
 
-  pub killed_sits : (past : List Happening) → IsKilledAt start older past c
-      → IsSitting found (record { start = start; past = past }) c
-  killed_sits past (inl h) =
-      subst (λ (p : List Happening). IsSitting found (record { start = start; past = p }) c) (sym h.is)
-      (none_sits h.finished h.left)
-  killed_sits past (inr (inl h)) =
-      subst (λ (p : List Happening). IsSitting found (record { start = start; past = p }) c) (sym h.is)
-      (frame_sits (past, h))
-  killed_sits past (inr (inr (inl h))) =
-      subst (λ (p : List Happening). IsSitting found (record { start = start; past = p }) c) (sym h.is)
-      (record_sits (past, h))
-  killed_sits past (inr (inr (inr h))) =
-      subst (λ (p : List Happening). IsSitting found (record { start = start; past = p }) c) (sym h.is)
-      (reply_sits (past, h))
+-- Some moment of a trail at which it was killed so that this is left
 
--- some moment there is
+record StandsAt (start : Start) (trail : List Happening) (left : List ℕ) : Type 0 where
+  pub newer : List Happening
+  pub older : List Happening
+  pub past : List Happening
+  pub split : trail ≡ newer ++ older
+  pub killed : IsKilledAt start older past left
 
-one_more : (start : Start) (next : Happening) (past : List Happening) (c : List ℕ) → StandsAt start past c
-    → StandsAt start (next ∷ past) c
-one_more start next past c b = record {
+one_more : (start : Start) (next : Happening) (past : List Happening) (left : List ℕ) → StandsAt start past left
+    → StandsAt start (next ∷ past) left
+one_more start next past left b = record {
   newer = next ∷ b.newer;
   older = b.older;
   past = b.past;
@@ -189,37 +146,28 @@ one_more start next past c b = record {
   killed = b.killed;
 }
 
-stands_whole : (start : Start) (past : List Happening) (c : List ℕ) → IsFinished past
-    → c ≡ journal_spelling Two (records_of start past) → StandsAt start past c
-stands_whole start past c finished is = record {
+stands_whole : (start : Start) (past : List Happening) (left : List ℕ) → IsFinished past
+    → left ≡ journal_spelling Two (records_of start past) → StandsAt start past left
+stands_whole start past left finished is = record {
   newer = [];
   older = past;
   past = past;
   split = refl;
-  killed = inl (record { is = refl; finished = finished; left = is });
+  killed = inl (record { is = refl; finished = finished; bytes = is });
 }
 
 -- the bytes with all of the start's records are a first part of them and the recorded ones
-pub stands_at : (start : Start) (past : List Happening) (c more rest : List ℕ)
-    → Legal start past → ByPlan start past → KeepsRecords past → c ≡ journal_spelling Two start.records ++ more
-    → journal_spelling Two start.records ++ recorded past ≡ c ++ rest → StandsAt start past c
-stands_at start [] c more rest legal planned keeps is all =
+stands_at : (start : Start) (past : List Happening) (left more rest : List ℕ)
+    → Legal start past → ByPlan start past → KeepsRecords past → left ≡ journal_spelling Two start.records ++ more
+    → journal_spelling Two start.records ++ recorded past ≡ left ++ rest → StandsAt start past left
+stands_at start [] left more rest legal planned keeps is all =
     let J = journal_spelling Two start.records in
     let short : length more ≤ 0 =
-    omega (arith, ap (λ (l : List ℕ). length l) is, ap (λ (l : List ℕ). length l) all, length-append J more, length-append J [], length-append c rest) in
-    stands_whole start [] c tt (is ∙ ap (λ (l : List ℕ). J ++ l) (no_bytes more short) ∙ append-nil J)
-stands_at start (Asked order moment ∷ past) c more rest legal planned keeps is all =
-    one_more start (Asked order moment) past c (stands_at start past c more rest legal.0 planned.0 keeps is all)
-stands_at start (Answered id reply ∷ past) c more rest legal planned keeps is all =
-    one_more start (Answered id reply) past c (stands_at start past c more rest legal.0 planned.0 keeps is all)
-stands_at start (Sent frame answer ∷ past) c more rest legal planned keeps is all =
-    one_more start (Sent frame answer) past c (stands_at start past c more rest legal.0 planned.0 keeps is all)
-stands_at start (Stopped ∷ past) c more rest legal planned keeps is all =
-    one_more start Stopped past c (stands_at start past c more rest legal.0 planned.0 keeps is all)
-stands_at start (Powered address ∷ past) c more rest legal planned keeps is all =
-    one_more start (Powered address) past c (stands_at start past c more rest legal.0 planned.0 keeps is all)
-stands_at start (Kept entry ∷ past) c more rest legal planned keeps is all =
-    by (cases_lt (length c) (length B)) (λ m is_part. stands_at start past c more m legal.0 planned.0 keeps.1 is is_part)
+    omega (arith, ap (λ (l : List ℕ). length l) is, ap (λ (l : List ℕ). length l) all, length-append J more,
+    length-append J [], length-append left rest) in
+    stands_whole start [] left tt (is ∙ ap (λ (l : List ℕ). J ++ l) (no_bytes more short) ∙ append-nil J)
+stands_at start (Kept entry ∷ past) left more rest legal planned keeps is all =
+    by (cases_lt (length left) (length B)) (λ m is_part. stands_at start past left more m legal.0 planned.0 keeps.1 is is_part)
   where
     B : List ℕ
     B = journal_spelling Two start.records ++ recorded past
@@ -227,7 +175,7 @@ stands_at start (Kept entry ∷ past) c more rest legal planned keeps is all =
     sp : List ℕ
     sp = spelling Two entry
 
-    same : B ++ sp ≡ c ++ rest
+    same : B ++ sp ≡ left ++ rest
     same = append_assoc (journal_spelling Two start.records) (recorded past) (spelling Two entry) ∙ all
 
     were : B ≡ journal_spelling Two (records_of start past)
@@ -236,83 +184,152 @@ stands_at start (Kept entry ∷ past) c more rest legal planned keeps is all =
     next : IsNext start past (Kept entry)
     next = record { work = tt; may = legal.1; planned = planned.1 }
 
-    behind : (m : List ℕ) → c ≡ B ++ m → sp ≡ m ++ rest → (rest ≡ []) ⊎ (length m < length sp)
-        → StandsAt start (Kept entry ∷ past) c
-    behind m front back (inl none) =
-        let full : c ≡ B ++ sp = front ∙ ap (λ (l : List ℕ). B ++ l) (sym (back ∙ ap (λ (l : List ℕ). m ++ l) none ∙ append-nil m)) in
-        stands_whole start (Kept entry ∷ past) c tt
-        (full ∙ append_assoc (journal_spelling Two start.records) (recorded past) (spelling Two entry)
-        ∙ sym (journal_recorded start (Kept entry ∷ past)))
-    behind m front back (inr less) =
-        let cut : m ≡ take (length m) (spelling Two entry) = sym (ap (λ (l : List ℕ). take (length m) l) back ∙ take_at m rest (length m) refl) in
-        let is_cut : c ≡ journal_spelling Two (records_of start past) ++ take (length m) (spelling Two entry) =
-        front ∙ ap (λ (l : List ℕ). l ++ m) were ∙ ap (λ (l : List ℕ). journal_spelling Two (records_of start past) ++ l) cut in record {
-          newer = Kept entry ∷ [];
-          older = past;
-          past = past;
-          split = refl;
-          killed = inr (inr (inl (record {
-            entry = entry;
-            next = next;
-            in_range = keeps.0;
-            count = length m;
-            less = less;
-            is = refl;
-            left = is_cut;
-          })));
-        }
+    behind : (m : List ℕ) → left ≡ B ++ m → ((count : ℕ) × (count < length sp) × (m ≡ take count sp)) ⊎ (m ≡ sp)
+        → StandsAt start (Kept entry ∷ past) left
+    behind m front (inr whole) =
+        stands_whole start (Kept entry ∷ past) left tt
+        (front ∙ ap (λ (l : List ℕ). B ++ l) whole ∙ ap (λ (l : List ℕ). l ++ spelling Two entry) were)
+    behind m front (inl (count, less, cut)) = record {
+      newer = Kept entry ∷ [];
+      older = past;
+      past = past;
+      split = refl;
+      killed = inr (inr (inl (record {
+        entry = entry;
+        next = next;
+        in_range = keeps.0;
+        count = count;
+        less = less;
+        is = refl;
+        bytes = front ∙ ap (λ (l : List ℕ). l ++ m) were
+            ∙ ap (λ (l : List ℕ). journal_spelling Two (records_of start past) ++ l) cut;
+      })));
+    }
 
-    ends : (m : List ℕ) → sp ≡ m ++ rest → (rest ≡ []) ⊎ (length m < length sp)
-    ends m back = by_rest rest (ap (λ (l : List ℕ). length l) back ∙ length-append m rest)
-      where
-        by_rest : (r : List ℕ) → length sp ≡ length m + length r → (r ≡ []) ⊎ (length m < length sp)
-        by_rest [] e = inl refl
-        by_rest (x ∷ r) e = inr (omega (arith, e))
-
-    by : (length c < length B) ⊎ (length B ≤ length c) → ((m : List ℕ) → B ≡ c ++ m → StandsAt start past c)
-        → StandsAt start (Kept entry ∷ past) c
+    by : (length left < length B) ⊎ (length B ≤ length left) → ((m : List ℕ) → B ≡ left ++ m → StandsAt start past left)
+        → StandsAt start (Kept entry ∷ past) left
     by (inl less) older =
-        let s = split_front c rest B sp (sym same) (omega (arith, less)) in one_more start (Kept entry) past c (older s.0 s.1)
+        let s = split_front left rest B sp (sym same) (omega (arith, less)) in
+        one_more start (Kept entry) past left (older s.0 s.1)
     by (inr more_of) older =
-        let s = split_front B sp c rest same more_of in behind s.0 s.1 s.2 (ends s.0 s.2)
+        let s = split_front B sp left rest same more_of in behind s.0 s.1 (first_part sp s.0 rest s.2)
+stands_at start (Asked order moment ∷ past) left more rest legal planned keeps is all =
+    one_more start (Asked order moment) past left (stands_at start past left more rest legal.0 planned.0 keeps is all)
+stands_at start (Answered id reply ∷ past) left more rest legal planned keeps is all =
+    one_more start (Answered id reply) past left (stands_at start past left more rest legal.0 planned.0 keeps is all)
+stands_at start (Sent frame answer ∷ past) left more rest legal planned keeps is all =
+    one_more start (Sent frame answer) past left (stands_at start past left more rest legal.0 planned.0 keeps is all)
+stands_at start (Stopped ∷ past) left more rest legal planned keeps is all =
+    one_more start Stopped past left (stands_at start past left more rest legal.0 planned.0 keeps is all)
+stands_at start (Powered address ∷ past) left more rest legal planned keeps is all =
+    one_more start (Powered address) past left (stands_at start past left more rest legal.0 planned.0 keeps is all)
 
-cancel : (a x y : List ℕ) → a ++ x ≡ a ++ y → x ≡ y
-cancel [] x y e = e
-cancel (z ∷ a) x y e = let tail : a ++ x ≡ a ++ y = cc in cancel a x y tail
+-- What a stop may leave behind a journal that was opened is left by a kill at some moment
 
--- what is left while a record is put behind a settled journal
-pub killed_in_record : (start : Start) (older : List Happening) (entry : Record) (c : List ℕ)
-    → IsNext start older (Kept entry) → IsRecord Two entry
-    → IsBetween (Some (journal_spelling Two (records_of start older)))
-    (Some (journal_spelling Two (records_of start older) ++ spelling Two entry)) c
-    → IsKilledAt start older older c ⊎ IsKilledAt start (Kept entry ∷ older) (Kept entry ∷ older) c
-killed_in_record start older entry c next range (more, rest, front, whole) =
-    by (cases_lt (length more) (length sp))
-  where
-    sp : List ℕ
-    sp = spelling Two entry
+-- bytes that load to some records load to no others
+pub one_records : (limit : ℕ) (bytes : List ℕ) (one other : List Record) → Loads limit one bytes
+    → Loads limit other bytes → other ≡ one
+one_records limit bytes one other a b =
+    ((torn_no_fault limit bytes a.version one a.len a.kept a.loadable).2 b.version other b.len b.kept b.loadable).1
 
-    B : List ℕ
-    B = journal_spelling Two (records_of start older)
+module _ (limit most : ℕ) (found seen left : List ℕ) (first last : Streams) (is : first.journal ≡ Some found)
+    (held : last.journal ≡ Some seen) (b : IsBegun limit most first) (orders : List Contents) (moment : ℕ)
+    (part : IsPartBehind limit (Some found) (Some seen) left) where
+  abbrev pub begun : Streams
+  begun = record first { journal = b.middle }
 
-    same : spelling Two entry ≡ more ++ rest
-    same = cancel B (spelling Two entry) (more ++ rest) (whole ∙ ap (λ (l : List ℕ). l ++ rest) front ∙ append_assoc B more rest)
+  abbrev pub J : List ℕ
+  J = journal_spelling Two b.journal.records
 
-    by : (length more < length sp) ⊎ (length sp ≤ length more)
-        → IsKilledAt start older older c ⊎ IsKilledAt start (Kept entry ∷ older) (Kept entry ∷ older) c
-    by (inl less) = inl (inr (inr (inl (record {
-      entry = entry;
-      next = next;
-      in_range = range;
-      count = length more;
-      less = less;
-      is = refl;
-      left = front ∙ ap (λ (l : List ℕ). B ++ l) (sym (ap (λ (l : List ℕ). take (length more) l) same ∙ take_at more rest (length more) refl));
-    }))))
-    by (inr all) =
-        let none : rest ≡ [] = no_bytes rest (omega (arith, all, ap (λ (l : List ℕ). length l) same, length-append more rest)) in
-        inr (inl (record {
+  front : left ≡ J ++ part.2.0
+  front =
+      part.2.2
+      ∙ ap (λ (r : List Record). journal_spelling Two r ++ part.2.0)
+      (one_records limit found b.journal.records part.0 (loads limit most found first is b) part.1)
+
+  stood : (trail : List Happening) (rest : List ℕ) (end : Streams) → IsDriven (start_of b.journal) trail begun end
+      → MayHaveDriven limit most first trail last → J ++ recorded trail ≡ left ++ rest
+      → StoodOnce limit most found left first last
+  stood trail rest end d drove all =
+      let at = stands_at (start_of b.journal) trail left part.2.0 rest d.legal d.planned d.in_range front all in
+      let older = driven_older (start_of b.journal) at.newer at.older begun end
+          (subst (λ (l : List Happening). IsDriven (start_of b.journal) l begun end) at.split d) in record {
+        trail = trail;
+        drove = drove;
+        sitting = record { start = start_of b.journal; past = at.past };
+        killed = record {
+          first = first;
+          now = older.0;
+          is_found = is;
+          begun = b;
+          older = at.older;
+          driven = older.1;
+          past = at.past;
+          at = at.killed;
           is = refl;
-          finished = tt;
-          left = front ∙ ap (λ (l : List ℕ). B ++ l) (sym (same ∙ ap (λ (l : List ℕ). more ++ l) none ∙ append-nil more));
-        }))
+        };
+        newer = at.newer;
+        split = at.split;
+      }
+
+  pub stood_in : (writer : WriterState) → IsDrive (start_of b.journal) orders moment begun writer last
+      → StoodOnce limit most found left first last
+  stood_in writer d =
+      stood d.past part.2.1 last d.driven (b, orders, moment, inl (writer, d, refl))
+      (sym (journal_recorded (start_of b.journal) d.past)
+      ∙ one_some last.journal (journal_spelling Two (records_of (start_of b.journal) d.past)) seen
+      (drive_holds (start_of b.journal) d.past begun last d.driven (made limit most found first is b)) held
+      ∙ part.2.3)
+
+  pub stood_before : (fault : DriveFault) → IsBrokenDrive (start_of b.journal) orders moment fault begun last
+      → StoodOnce limit most found left first last
+  stood_before fault d = by fault d.rest d.broken (λ next step. inr (next, step, refl)) where
+    was : List ℕ
+    was = journal_spelling Two (records_of (start_of b.journal) d.past)
+
+    at_middle : d.middle.journal ≡ Some (journal_spelling Two (records_of (start_of b.journal) d.past))
+    at_middle = drive_holds (start_of b.journal) d.past begun d.middle d.driven (made limit most found first is b)
+
+    still : Keeps d.middle.journal last.journal → StoodOnce limit most found left first last
+    still keeps =
+        stood d.past part.2.1 d.middle d.driven (b, orders, moment, inr (fault, d, inl refl))
+        (sym (journal_recorded (start_of b.journal) d.past)
+        ∙ one_some last.journal (journal_spelling Two (records_of (start_of b.journal) d.past)) seen
+        (shows_still d.middle.journal last.journal (journal_spelling Two (records_of (start_of b.journal) d.past)) at_middle keeps) held
+        ∙ part.2.3)
+
+    entered : (entry : Record) → IsNext (start_of b.journal) d.past (Kept entry) → CutRecord entry d.middle last
+        → MayHaveHappened (start_of b.journal) d.past fault (Kept entry ∷ d.past)
+        → StoodOnce limit most found left first last
+    entered entry next cut may =
+        let sp = spelling Two entry in
+        let n = cut.journal.count in
+        let now : seen ≡ (J ++ recorded d.past) ++ take n sp =
+            one_some last.journal seen (was ++ take n sp) held
+            (shows_more d.middle.journal last.journal was (take n sp) at_middle cut.journal.part)
+            ∙ ap (λ (l : List ℕ). l ++ take n sp) (journal_recorded (start_of b.journal) d.past) in
+        let all : J ++ (recorded d.past ++ sp) ≡ left ++ (part.2.1 ++ drop n sp) =
+            ap (λ (l : List ℕ). J ++ (recorded d.past ++ l)) (sym (take-append-drop n sp))
+            ∙ ap (λ (l : List ℕ). J ++ l) (sym (append_assoc (recorded d.past) (take n sp) (drop n sp)))
+            ∙ sym (append_assoc J (recorded d.past ++ take n sp) (drop n sp))
+            ∙ ap (λ (l : List ℕ). l ++ drop n sp)
+            (sym (append_assoc J (recorded d.past) (take n sp)) ∙ sym now ∙ part.2.3)
+            ∙ append_assoc left part.2.1 (drop n sp) in
+        let more = append_known d.middle.journal sp in
+        stood (Kept entry ∷ d.past) (part.2.1 ++ drop n sp) (record d.middle { journal = more })
+        (keeps_on (start_of b.journal) d.past begun d.middle.journal more d.middle.link d.middle.answers d.middle.out entry
+        d.driven next cut.in_range (appends_known d.middle.journal (spelling Two entry)))
+        (b, orders, moment, inr (fault, d, may)) all
+
+    by : (f : DriveFault) (rest : List Contents) → BrokenOff (start_of b.journal) d.past rest f d.middle last
+        → ((next : Happening) → IsBrokenStep (start_of b.journal) d.past f next
+        → MayHaveHappened (start_of b.journal) d.past fault (next ∷ d.past))
+        → StoodOnce limit most found left first last
+    by Journal rest (entry, next, cut) may = entered entry next cut (may (Kept entry) (entry, refl, next))
+    by Link rest (frame, next, cut) may = still (link_keeps frame d.middle last cut)
+    by (Line fault) rest (frame, next, unanswered) may = still unanswered.journal
+    by End rest (frame, next, unanswered) may = still unanswered.journal
+    by TooLong rest (frame, next, unanswered) may = still unanswered.journal
+    by NoMemory (order ∷ rest) (_, _, _, none) may = still none.journal
+    by NoMemory [] never may = absurd never
+    by Out rest (id, reply, next, cut) may = still cut.journal

@@ -1,11 +1,7 @@
-pub mod StoreLemmas
 pub mod PutLemmas
+pub mod StoreLemmas
 pub mod DriveLemmas
 pub mod SittingLemmas
+pub mod KillLemmas
+pub mod RepeatLemmas
 pub mod WorkedDriveLemmas
-mod StoredLemmas
-mod PartLemmas
-mod StopLemmas
-mod TrailLemmas
-mod KillLemmas
-mod KilledLemmas

@@ -1,46 +1,117 @@
--- Drives one after another, each from the file that the one before it left.
-use Rattle.std.proofs.Common.{◌≡◌, ◌<◌, ◌⊎◌, refl, sym, ap, ◌∙◌, subst, inl, inr, ℕ, List, [], ◌∷◌, ◌++◌, Option, Some}
-use Rattle.std.proofs.Common.{None, length, take}
-use Rattle.std.proofs.lemmas.List.{append_assoc, append-nil}
-use Rattle.std.proofs.Math.Nat.{eq-or-lt_of_le}
-use Rattle.std.proofs.Math.Seq.{take-length}
+-- What a drive over a store leaves.
+use Rattle.std.proofs.Common.{◌≡◌, ◌<◌, ◌≤◌, ◌⊎◌, ◌↔◌, refl, sym, ap, ◌∙◌, subst, inl, inr, ℕ, List, [], ◌∷◌, ◌++◌}
+use Rattle.std.proofs.Common.{Option, Some, None, length, take, drop, arith, length-append, length-take, take-append-drop, ⊎_elim}
+use Rattle.std.proofs.lemmas.List.{append_assoc, append-nil, take_at}
+use Rattle.std.specs.Prelude.{⊤}
 use Rattle.std.specs.List.{AllByRecursion}
 use Rattle.std.specs.Io.KnownBytes.{Appends, Keeps}
 use Rattle.dali_bank.specs.Order.{Contents}
 use Rattle.dali_frame.specs.declared.forward.Frame.{Frame}
-use Rattle.dali_bus.specs.World.{World}
 use Rattle.dali_journal.specs.declared.record.Record.{Record}
+use Rattle.dali_journal.specs.declared.record.Record.TheVariants.{Began, Opened, Ended, Closed}
 use Rattle.dali_journal.specs.declared.version.Version.TheVariants.{Two}
-use Rattle.dali_journal.specs.declared.version.Version.{Version}
 use Rattle.dali_journal.specs.Spelling.{spelling, journal_spelling, IsRecord}
-use Rattle.dali_journal.specs.JournalState.{AreKept}
-use Rattle.dali_journal.proofs.TornLemmas.{torn_no_fault}
+use Rattle.dali_journal.specs.JournalState.{JournalState, AreKept}
+use Rattle.dali_trace.specs.declared.happening.Reply.{Reply}
 use Rattle.dali_trace.specs.declared.happening.Happening.{Happening}
 use Rattle.dali_trace.specs.declared.happening.Happening.TheVariants.{Asked, Answered, Sent, Kept}
-use Rattle.dali_drive.specs.declared.fault.DriveFault.{DriveFault}
-use Rattle.dali_drive.specs.declared.fault.DriveFault.TheVariants.{Journal, Link, Line, End, NoMemory, TooLong, Out}
 use Rattle.dali_trace.specs.Trace.{Start, records_of}
 use Rattle.dali_trace.specs.Legal.{Legal, IsFinished}
 use Rattle.dali_trace.specs.ByPlan.{ByPlan}
 use Rattle.dali_trace.specs.Next.{IsNext}
-use Rattle.dali_writer.specs.WriterState.{WriterState}
-use Rattle.dali_drive.specs.Transcript.{Streams, recorded}
-use Rattle.dali_drive.specs.Driven.{KeepsRecords, IsDriven, IsDrive, IsBrokenDrive, BrokenOff, AppendsPart, CutFrame}
-use Rattle.dali_drive.specs.Driven.{Unanswered}
-use Rattle.dali_laws.specs.Joined.{Sitting, joined, FollowOn}
-use Rattle.dali_trace.specs.Moments.{Along}
-use Rattle.dali_laws.specs.Powered.{unpowered, IsPowerApart}
-use Rattle.dali_drive.specs.Sittings.{IsFileOf, after, MayHaveHappened, WasDriven, AreSittings, LeavesFile, ActOnce}
-use Rattle.dali_laws.proofs.JoinLemmas.{joined_records, joined_sittings, sittings_right}
-use Rattle.dali_laws.proofs.TakenLemmas.{kept_are_taken}
+use Rattle.dali_laws.specs.Joined.{Sitting}
+use Rattle.dali_laws.proofs.NextLemmas.{one_next}
 use Rattle.dali_laws.proofs.RepeatLemmas.{legal_sentence}
-use Rattle.dali_writer.proofs.StopLemmas.{cut_of_none, cut_of_some}
+use Rattle.dali_writer.specs.WriterState.{start_of}
+use Rattle.dali_writer.proofs.StopLemmas.{cut_of_some}
+use Rattle.dali_store.specs.Stores.{Shows, Becomes, IsBetween}
+use Rattle.dali_store.specs.Opened.{Loads, IsOpened}
+use Rattle.dali_store.proofs.OpenLemmas.{found_loads, found_kept, whole_loads}
+use Rattle.dali_drive.specs.declared.fault.DriveFault.{DriveFault}
+use Rattle.dali_drive.specs.declared.fault.DriveFault.TheVariants.{Journal, Link, Line, End, NoMemory, TooLong, Out}
+use Rattle.dali_drive.specs.Transcript.{Streams, recorded}
+use Rattle.dali_drive.specs.Driven.{KeepsRecords, IsDriven, IsBrokenDrive, BrokenOff, CutRecord, CutFrame, Unanswered}
+use Rattle.dali_drive.specs.Stored.{IsBegun}
+use Rattle.dali_drive.specs.Sittings.{IsBrokenStep, MayHaveHappened, KeptWhereWhole, CameToItsEnd, BrokeOff}
 
--- what happened is legal and by plan
-happened : (start : Start) (trace past : List Happening) → Legal start trace → ByPlan start trace
-    → MayHaveHappened start trace past → Legal start past × ByPlan start past
-happened start trace past legal planned (inl same) = rw same (legal, planned)
-happened start trace past legal planned (inr (next, is, same)) = rw same ((legal, is.may), (planned, is.planned))
+-- what a sitting is to the sittings around it
+pub record IsSat (limit : ℕ) (found : List ℕ) (sitting : Sitting) (left : List ℕ) : Type 0 where
+  pub limit_is : sitting.start.limit ≡ limit
+  pub found_loads : Loads limit sitting.start.records found
+  pub legal : Legal sitting.start sitting.past
+  pub planned : ByPlan sitting.start sitting.past
+  pub finished : IsFinished sitting.past
+  pub left_loads : Loads limit (records_of sitting.start sitting.past) left
+
+-- Bytes that are known
+
+pub one_some : (a : Option (List ℕ)) (x y : List ℕ) → a ≡ Some x → a ≡ Some y → x ≡ y
+one_some a x y first second = cc
+
+pub shows_one : (seen : Option (List ℕ)) (bytes found : List ℕ) → seen ≡ Some bytes → Shows seen found → bytes ≡ found
+shows_one None bytes found is shown = cc
+shows_one (Some known) bytes found is shown = let same : known ≡ bytes = cc in sym same ∙ shown
+
+some_becomes : (old mid : Option (List ℕ)) (bytes now : List ℕ) → old ≡ Some bytes → Becomes old mid now → mid ≡ Some now
+some_becomes None mid bytes now is becomes = cc
+some_becomes (Some old) None bytes now is becomes = absurd becomes
+some_becomes (Some old) (Some new) bytes now is becomes = ap Some becomes
+
+pub shows_more : (old new : Option (List ℕ)) (was more : List ℕ) → old ≡ Some was → Appends old new more
+    → new ≡ Some (was ++ more)
+shows_more None new was more is added = cc
+shows_more (Some bytes) None was more is added = absurd added
+shows_more (Some bytes) (Some longer) was more is added =
+    let same : bytes ≡ was = cc in ap Some (added ∙ ap (λ (b : List ℕ). b ++ more) same)
+
+pub shows_still : (old new : Option (List ℕ)) (was : List ℕ) → old ≡ Some was → Keeps old new → new ≡ Some was
+shows_still None new was is same = cc
+shows_still (Some bytes) None was is same = absurd same
+shows_still (Some bytes) (Some still) was is same = cc
+
+pub no_bytes : (l : List ℕ) → length l ≤ 0 → l ≡ []
+no_bytes [] less = refl
+no_bytes (x ∷ l) less = absurd (omega (arith, less))
+
+-- a first part is shorter, or it is all
+pub first_part : (all front tail : List ℕ) → all ≡ front ++ tail
+    → ((count : ℕ) × (count < length all) × (front ≡ take count all)) ⊎ (front ≡ all)
+first_part all front [] whole = inr (sym (append-nil front) ∙ sym whole)
+first_part all front (x ∷ tail) whole = inl (
+  length front,
+  omega (arith, ap (λ (l : List ℕ). length l) whole, length-append front (x ∷ tail)),
+  sym (ap (λ (l : List ℕ). take (length front) l) whole ∙ take_at front (x ∷ tail) (length front) refl),
+)
+
+cancel : (a x y : List ℕ) → a ++ x ≡ a ++ y → x ≡ y
+cancel [] x y e = e
+cancel (z ∷ a) x y e = let tail : a ++ x ≡ a ++ y = cc in cancel a x y tail
+
+-- what lies between known bytes has the first ones, and then a first part of what was put
+between_known : (old new : Option (List ℕ)) (was more c : List ℕ) → old ≡ Some was → new ≡ Some (was ++ more)
+    → IsBetween old new c → (front : List ℕ) × (rest : List ℕ) × (c ≡ was ++ front) × (more ≡ front ++ rest)
+between_known None new was more c is now between = cc
+between_known (Some x) None was more c is now between = cc
+between_known (Some x) (Some y) was more c is now (front, rest, begins, whole) =
+    let same : x ≡ was = cc in
+    let all : y ≡ was ++ more = cc in
+    let here : c ≡ was ++ front = begins ∙ ap (λ (l : List ℕ). l ++ front) same in (
+      front,
+      rest,
+      here,
+      cancel was more (front ++ rest)
+      (sym all ∙ whole ∙ ap (λ (l : List ℕ). l ++ rest) here ∙ append_assoc was front rest),
+    )
+
+between_still : (old new : Option (List ℕ)) (was c : List ℕ) → old ≡ Some was → Keeps old new → IsBetween old new c
+    → c ≡ was
+between_still old new was c is same between =
+    let k = between_known old new was [] c is (shows_still old new was is same ∙ ap Some (sym (append-nil was))) between in
+    let none : k.0 ≡ [] =
+    no_bytes k.0 (omega (arith, ap (λ (l : List ℕ). length l) k.3, length-append k.0 k.1)) in
+    k.2 ∙ ap (λ (l : List ℕ). was ++ l) none ∙ append-nil was
+
+-- What the journal holds along a trace
 
 -- the journal's bytes are those of the start and the recorded ones
 pub journal_recorded : (start : Start) (past : List Happening)
@@ -58,54 +129,10 @@ in_range start [] all keeps = all
 in_range start (Kept entry ∷ past) all keeps = (keeps.0, in_range start past all keeps.1)
 in_range start (_ ∷ past) all keeps = in_range start past all keeps
 
-pub kept_so : (start : Start) (past : List Happening) → AreKept Two start.limit start.records → Legal start past
+kept_so : (start : Start) (past : List Happening) → AreKept Two start.limit start.records → Legal start past
     → KeepsRecords past → AreKept Two start.limit (records_of start past)
 kept_so start past kept legal keeps =
     record { in_range = in_range start past kept.in_range keeps; whole = legal_sentence start past legal }
-
--- a file of just these records, or of them and a cut one behind them
-pub whole_file : (start : Start) (past : List Happening) → AreKept Two start.limit (records_of start past)
-    → IsFileOf (journal_spelling Two (records_of start past)) (after start past) Two
-    (length (journal_spelling Two (records_of start past)))
-whole_file start past kept =
-    record {
-      kept = kept;
-      loadable = record {
-        rest = [];
-        spelled = sym (append-nil (journal_spelling Two (records_of start past)));
-        cut = cut_of_none;
-        counts = refl;
-      };
-    }
-
-pub cut_file : (start : Start) (past : List Happening) (entry : Record) (count : ℕ)
-    → AreKept Two start.limit (records_of start past) → IsRecord Two entry → count < length (spelling Two entry)
-    → IsFileOf (journal_spelling Two (records_of start past) ++ take count (spelling Two entry)) (after start past) Two
-    (length (journal_spelling Two (records_of start past)))
-cut_file start past entry count kept range less =
-    record {
-      kept = kept;
-      loadable = record {
-        rest = take count (spelling Two entry);
-        spelled = refl;
-        cut = cut_of_some entry (spelling Two entry) count refl range less;
-        counts = refl;
-      };
-    }
-
--- What the journal's stream holds
-
-pub shows_more : (old new : Option (List ℕ)) (was more : List ℕ) → old ≡ Some was → Appends old new more
-    → new ≡ Some (was ++ more)
-shows_more None new was more is added = cc
-shows_more (Some bytes) None was more is added = absurd added
-shows_more (Some bytes) (Some longer) was more is added =
-    let same : bytes ≡ was = cc in ap Some (added ∙ ap (λ (b : List ℕ). b ++ more) same)
-
-pub shows_still : (old new : Option (List ℕ)) (was : List ℕ) → old ≡ Some was → Keeps old new → new ≡ Some was
-shows_still None new was is same = cc
-shows_still (Some bytes) None was is same = absurd same
-shows_still (Some bytes) (Some still) was is same = cc
 
 pub drive_holds : (start : Start) (past : List Happening) (first last : Streams) → IsDriven start past first last
     → first.journal ≡ Some (journal_spelling Two start.records)
@@ -113,59 +140,6 @@ pub drive_holds : (start : Start) (past : List Happening) (first last : Streams)
 drive_holds start past first last d is =
     shows_more first.journal last.journal (journal_spelling Two start.records) (recorded past) is d.text.journal
     ∙ ap Some (sym (journal_recorded start past))
-
--- nothing more stands in the journal, and this happened
-left_still : (start : Start) (trace past : List Happening) (old new : Streams)
-    → AreKept Two start.limit (records_of start past) → MayHaveHappened start trace past → IsFinished past
-    → old.journal ≡ Some (journal_spelling Two (records_of start past)) → Keeps old.journal new.journal
-    → LeavesFile start trace new
-left_still start trace past old new kept may finished is same = record {
-  past = past;
-  happened = may;
-  finished = finished;
-  left = journal_spelling Two (records_of start past);
-  held = shows_still old.journal new.journal (journal_spelling Two (records_of start past)) is same;
-  count = length (journal_spelling Two (records_of start past));
-  file = whole_file start past kept;
-}
-
--- a part of a record stands there, or all of it
-left_record : (start : Start) (trace : List Happening) (old new : Streams) (entry : Record)
-    → AreKept Two start.limit start.records → Legal start trace → KeepsRecords trace
-    → IsFinished trace → old.journal ≡ Some (journal_spelling Two (records_of start trace))
-    → IsNext start trace (Kept entry) → IsRecord Two entry
-    → AppendsPart old.journal new.journal (spelling Two entry) → LeavesFile start trace new
-left_record start trace old new entry kept legal keeps finished is next range part =
-    by (eq-or-lt_of_le part.within) where
-      was : List ℕ
-      was = journal_spelling Two (records_of start trace)
-
-      now : new.journal ≡ Some (was ++ take part.count (spelling Two entry))
-      now = shows_more old.journal new.journal was (take part.count (spelling Two entry)) is part.part
-
-      by : (part.count ≡ length (spelling Two entry)) ⊎ (part.count < length (spelling Two entry)) → LeavesFile start trace new
-      by (inr less) = record {
-        past = trace;
-        happened = inl refl;
-        finished = finished;
-        left = was ++ take part.count (spelling Two entry);
-        held = now;
-        count = length was;
-        file = cut_file start trace entry part.count (kept_so start trace kept legal keeps) range less;
-      }
-      by (inl all) = record {
-        past = Kept entry ∷ trace;
-        happened = inr (Kept entry, next, refl);
-        finished = tt;
-        left = was ++ spelling Two entry;
-        held =
-            now
-            ∙ ap (λ (b : List ℕ). Some (was ++ b))
-            (ap (λ (k : ℕ). take k (spelling Two entry)) all ∙ take-length (spelling Two entry));
-        count = length (was ++ spelling Two entry);
-        file = whole_file start (Kept entry ∷ trace)
-            (kept_so start (Kept entry ∷ trace) kept (legal, next.may) (range, keeps));
-      }
 
 -- where a frame or a record is next, no reply is due
 pub frame_finished : (start : Start) (past : List Happening) (frame : Frame) (answer : Option ℕ)
@@ -178,129 +152,290 @@ pub record_finished : (start : Start) (past : List Happening) (entry : Record) �
 record_finished start (Asked order moment ∷ past) entry next = absurd next.may
 record_finished start _ entry next = tt
 
--- the file that a drive leaves
+-- a record has bytes, so a journal with one more is another
+has_bytes : (entry : Record) → 0 < length (spelling Two entry)
+has_bytes (Began order moment) = omega arith
+has_bytes (Opened unit) = omega arith
+has_bytes (Ended code) = omega arith
+has_bytes (Closed unit) = omega arith
 
-pub drive_leaves : (start : Start) (orders : List Contents) (moment : ℕ) (writer : WriterState) (first last : Streams)
-    (d : IsDrive start orders moment first writer last)
-    → AreKept Two start.limit start.records
-    → first.journal ≡ Some (journal_spelling Two start.records) → LeavesFile start d.past last
-drive_leaves start orders moment writer first last d kept is = record {
-  past = d.past;
-  happened = inl refl;
-  finished = d.described.finished;
-  left = journal_spelling Two (records_of start d.past);
-  held = drive_holds start d.past first last d.driven is;
-  count = length (journal_spelling Two (records_of start d.past));
-  file = whole_file start d.past (kept_so start d.past kept d.driven.legal d.driven.in_range);
-}
+not_longer : (bytes : List ℕ) (entry : Record) → bytes ≡ bytes ++ spelling Two entry → ⊥
+not_longer bytes entry same =
+    omega (arith, ap (λ (l : List ℕ). length l) same, length-append bytes (spelling Two entry), has_bytes entry)
 
-pub drive_leaves_past : (start : Start) (orders : List Contents) (moment : ℕ) (writer : WriterState) (first last : Streams)
-    (d : IsDrive start orders moment first writer last) (kept : AreKept Two start.limit start.records)
-    (is : first.journal ≡ Some (journal_spelling Two start.records))
-    → (drive_leaves start orders moment writer first last d kept is).past ≡ d.past
-unfolding drive_leaves
-drive_leaves_past start orders moment writer first last d kept is = refl
+no_newer : (trace : List Happening) (next : Happening) → trace ≡ next ∷ trace → ⊥
+no_newer trace next same = omega (arith, ap (λ (l : List Happening). length l) same)
 
-pub broken_leaves : (start : Start) (orders : List Contents) (moment : ℕ) (fault : DriveFault) (first last : Streams)
-    (b : IsBrokenDrive start orders moment fault first last)
-    → AreKept Two start.limit start.records
-    → first.journal ≡ Some (journal_spelling Two start.records) → LeavesFile start b.past last
-broken_leaves start orders moment fault first last b kept is = by fault b.rest b.broken where
-  trace : List Happening
-  trace = b.past
+-- a drive over a store that showed these bytes
+module _ (limit most : ℕ) (found : List ℕ) (first : Streams) (is : first.journal ≡ Some found)
+    (b : IsBegun limit most first) where
+  abbrev pub start : Start
+  start = start_of b.journal
 
-  held : b.middle.journal ≡ Some (journal_spelling Two (records_of start trace))
-  held = drive_holds start trace first b.middle b.driven is
+  abbrev pub begun : Streams
+  begun = record first { journal = b.middle }
 
-  so : AreKept Two start.limit (records_of start trace)
-  so = kept_so start trace kept b.driven.legal b.driven.in_range
+  pub made : b.middle ≡ Some (journal_spelling Two b.journal.records)
+  made = some_becomes first.journal b.middle found (journal_spelling Two b.journal.records) is b.written
 
-  still : IsFinished trace → Keeps b.middle.journal last.journal → LeavesFile start trace last
-  still finished same = left_still start trace trace b.middle last so (inl refl) finished held same
+  limit_is : b.journal.limit ≡ limit
+  limit_is = b.opened.found.loaded.0
 
-  link : (frame : Frame) → CutFrame frame b.middle last ⊎ Unanswered frame Link b.middle last
-      → Keeps b.middle.journal last.journal
-  link frame (inl cut) = cut.journal
-  link frame (inr unanswered) = unanswered.journal
+  pub loads : Loads limit b.journal.records found
+  loads =
+      subst (λ (l : List ℕ). Loads limit b.journal.records l)
+      (sym (shows_one first.journal found b.opened.found.bytes is b.opened.found.shown))
+      (found_loads limit most first.journal b.journal b.opened.version b.opened.counted b.opened.total b.opened.found)
 
-  by : (fault : DriveFault) (rest : List Contents) → BrokenOff start trace rest fault b.middle last
-      → LeavesFile start trace last
-  by Journal rest (entry, next, cut) =
-      left_record start trace b.middle last entry kept b.driven.legal b.driven.in_range
-      (record_finished start trace entry next) held next cut.in_range cut.journal
-  by Link rest (frame, next, cut) = still (frame_finished start trace frame None (next None)) (link frame cut)
-  by (Line fault) rest (frame, next, unanswered) =
-      still (frame_finished start trace frame None (next None)) unanswered.journal
-  by End rest (frame, next, unanswered) = still (frame_finished start trace frame None (next None)) unanswered.journal
-  by TooLong rest (frame, next, unanswered) =
-      still (frame_finished start trace frame None (next None)) unanswered.journal
-  by NoMemory (order ∷ rest) (finished, quiet, due, none) = still finished none.journal
-  by NoMemory [] never = absurd never
-  by Out rest (id, reply, next, cut) =
-      left_still start trace (Answered id reply ∷ trace) b.middle last so (inr (Answered id reply, next, refl)) tt
-      held cut.journal
+  kept : AreKept Two (start_of b.journal).limit (start_of b.journal).records
+  kept =
+      subst (λ (l : ℕ). AreKept Two l b.journal.records) (sym limit_is)
+      (found_kept limit most first.journal b.journal b.opened.version b.opened.counted b.opened.total b.opened.found)
 
--- Sittings
+  so : (past : List Happening) → Legal start past → KeepsRecords past → AreKept Two limit (records_of start past)
+  so past legal keeps =
+      subst (λ (l : ℕ). AreKept Two l (records_of (start_of b.journal) past)) limit_is
+      (kept_so (start_of b.journal) past kept legal keeps)
 
-driven_so : (start : Start) (past : List Happening) (first last : Streams) → WasDriven start past first last
-    → Legal start past × ByPlan start past
-driven_so start past first last (inl driven) = (driven.legal, driven.planned)
-driven_so start past first last (inr (orders, moment, fault, broken, may)) =
-    happened start broken.past past broken.driven.legal broken.driven.planned may
+  sat_with : (past : List Happening) (left : List ℕ) → Legal start past → ByPlan start past → IsFinished past
+      → Loads limit (records_of start past) left → IsSat limit found (record { start = start; past = past }) left
+  sat_with past left legal planned finished leaves = record {
+    limit_is = limit_is;
+    found_loads = loads;
+    legal = legal;
+    planned = planned;
+    finished = finished;
+    left_loads = leaves;
+  }
 
--- a file is that of no other records
-pub one_file : (bytes : List ℕ) (one other : Start) (version also_version : Version) (len count : ℕ)
-    → one.limit ≡ other.limit → IsFileOf bytes one version len → IsFileOf bytes other also_version count
-    → other.records ≡ one.records
-one_file bytes one other version also_version len count limit is also =
-    ((torn_no_fault one.limit bytes version one.records len is.kept is.loadable).2 also_version other.records count
-    (rw limit also.kept) also.loadable).1
+  -- just its records stand there
+  pub sat_whole : (past : List Happening) (left : List ℕ) → Legal start past → ByPlan start past → IsFinished past
+      → KeepsRecords past → left ≡ journal_spelling Two (records_of start past)
+      → IsSat limit found (record { start = start; past = past }) left
+  sat_whole past left legal planned finished keeps same =
+      sat_with past left legal planned finished
+      (subst (λ (l : List ℕ). Loads limit (records_of (start_of b.journal) past) l) (sym same)
+      (whole_loads limit (records_of (start_of b.journal) past) (so past legal keeps)))
 
--- what sittings come to
-joined_after : (start : Start) (newest : Sitting) (older : List Sitting)
-    → newest.start.records ≡ records_of start (joined older)
-    → records_of start (joined (newest ∷ older)) ≡ records_of newest.start newest.past
-joined_after start newest [] same = by newest.past where
-  by : (past : List Happening) → records_of start past ≡ records_of newest.start past
-  by [] = sym same
-  by (Kept entry ∷ past) = ap (λ (records : List Record). entry ∷ records) (by past)
-  by (_ ∷ past) = by past
-joined_after start newest (last ∷ older) same =
-    joined_records start newest.start (joined (last ∷ older)) newest.past same
+  -- and behind them a part of another
+  pub sat_cut : (past : List Happening) (left : List ℕ) (entry : Record) (count : ℕ) → Legal start past
+      → ByPlan start past → IsFinished past
+      → KeepsRecords past → IsRecord Two entry → count < length (spelling Two entry)
+      → left ≡ journal_spelling Two (records_of start past) ++ take count (spelling Two entry)
+      → IsSat limit found (record { start = start; past = past }) left
+  sat_cut past left entry count legal planned finished keeps range less same =
+      sat_with past left legal planned finished (subst (λ (l : List ℕ). Loads limit (records_of (start_of b.journal) past) l) (sym same) (record {
+        version = Two;
+        len = length (journal_spelling Two (records_of (start_of b.journal) past));
+        kept = so past legal keeps;
+        loadable = record {
+          rest = take count (spelling Two entry);
+          spelled = refl;
+          cut = cut_of_some entry (spelling Two entry) count refl range less;
+          counts = refl;
+        };
+      }))
 
-pub sittings_follow : (start : Start) (first last : List ℕ) (version : Version) (len : ℕ) (sittings : List Sitting)
-    → IsFileOf first start version len → AreSittings start.limit first sittings last
-    → FollowOn start sittings
-    × (now : Version) × (count : ℕ) × IsFileOf last (after start (joined sittings)) now count
-sittings_follow start first last version len [] is sat =
-    (is.kept.whole, version, len, subst (λ (b : List ℕ). IsFileOf b start version len) (sym sat) is)
-sittings_follow start first last version len (newest ∷ older) is (before, sat, limit, one) =
-    let old = sittings_follow start first before version len older is sat in
-    let same : newest.start.records ≡ records_of start (joined older) =
-    one_file before (after start (joined older)) newest.start old.1 one.version old.2 one.len (sym limit) old.3
-    one.loaded in
-    let so = driven_so newest.start newest.past one.first one.last one.drove in
-    let now : after newest.start newest.past ≡ after start (joined (newest ∷ older)) =
-    rw (limit, joined_after start newest older same) refl in (
-      (so.0, so.1, one.finished, same, limit, old.0),
-      Two,
-      one.count,
-      subst (λ (s : Start). IsFileOf last s Two one.count) now one.file,
-    )
+-- A drive that came to its end
 
-pub act_once : (zero : World) (lost : List ℕ) (start : Start) (first left : List ℕ) (version : Version) (len : ℕ)
-    (sittings : List Sitting) (past : List Happening) (now last : World) (states : List World)
-    → IsFileOf first start version len → AreSittings start.limit first sittings left
-    → unpowered past ≡ joined sittings → IsPowerApart past
-    → Along zero lost start now past last states
-    → ActOnce zero lost start sittings left past last states
-act_once zero lost start first left version len sittings past now last states is sat same apart along =
-    let all = sittings_follow start first left version len sittings is sat in
-    let one = joined_sittings start sittings all.0 in record {
-      trace = one;
-      version = all.1;
-      count = all.2;
-      file = all.3;
-      once = kept_are_taken start (joined sittings) one.0;
-      right = sittings_right zero lost start sittings past now last states all.0 same apart along;
-    }
+pub sat_ended : (limit most : ℕ) (found : List ℕ) (sitting : Sitting) (left : List ℕ)
+    → CameToItsEnd limit most found sitting left → IsSat limit found sitting left
+sat_ended limit most found sitting left e =
+    subst (λ (s : Sitting). IsSat limit found s left) (sym e.is)
+    (sat_whole limit most found e.first e.is_found e.drive.begun e.drive.drive.past left e.drive.drive.driven.legal
+    e.drive.drive.driven.planned e.drive.drive.described.finished e.drive.drive.driven.in_range
+    (one_some e.last.journal left _ e.is_left
+    (drive_holds (start_of e.drive.begun.journal) e.drive.drive.past (record e.first { journal = e.drive.begun.middle })
+    e.last e.drive.drive.driven (made limit most found e.first e.is_found e.drive.begun))))
+
+-- A drive that broke off
+
+-- a frame or a reply
+abbrev pub IsStep : Happening → Type 0
+IsStep (Answered id reply) = ⊤
+IsStep (Sent frame answer) = ⊤
+IsStep other = ⊥
+
+pub link_keeps : (frame : Frame) (old new : Streams) → CutFrame frame old new ⊎ Unanswered frame Link old new
+    → Keeps old.journal new.journal
+link_keeps frame old new (inl cut) = cut.journal
+link_keeps frame old new (inr unanswered) = unanswered.journal
+
+module _ (limit most : ℕ) (found : List ℕ) (first last : Streams) (is : first.journal ≡ Some found)
+    (b : IsBegun limit most first) (orders : List Contents) (moment : ℕ) (fault : DriveFault)
+    (d : IsBrokenDrive (start_of b.journal) orders moment fault (record first { journal = b.middle }) last)
+    (left : List ℕ) (between : IsBetween d.middle.journal last.journal left) where
+  abbrev pub trace : List Happening
+  trace = d.past
+
+  abbrev pub was : List ℕ
+  was = journal_spelling Two (records_of (start_of b.journal) d.past)
+
+  at_middle : d.middle.journal ≡ Some (journal_spelling Two (records_of (start_of b.journal) d.past))
+  at_middle =
+      drive_holds (start_of b.journal) d.past (record first { journal = b.middle }) d.middle d.driven
+      (made limit most found first is b)
+
+  still : Keeps d.middle.journal last.journal → left ≡ journal_spelling Two (records_of (start_of b.journal) d.past)
+  still same = between_still d.middle.journal last.journal was left at_middle same between
+
+  -- this much of a record was put, or all of it
+  part_left : (entry : Record) → CutRecord entry d.middle last
+      → ((count : ℕ) × (count < length (spelling Two entry)) × (left ≡ was ++ take count (spelling Two entry)))
+      ⊎ (left ≡ was ++ spelling Two entry)
+  part_left entry cut =
+      let sp = spelling Two entry in
+      let n = cut.journal.count in
+      let k = between_known d.middle.journal last.journal was (take n sp) left at_middle
+          (shows_more d.middle.journal last.journal was (take n sp) at_middle cut.journal.part) between in
+      let whole : sp ≡ k.0 ++ (k.1 ++ drop n sp) =
+          sym (take-append-drop n sp) ∙ ap (λ (l : List ℕ). l ++ drop n sp) k.3 ∙ append_assoc k.0 k.1 (drop n sp) in
+      ⊎_elim (λ part. inl (part.0, part.1, k.2 ∙ ap (λ (l : List ℕ). was ++ l) part.2))
+      (λ all. inr (k.2 ∙ ap (λ (l : List ℕ). was ++ l) all)) (first_part sp k.0 (k.1 ++ drop n sp) whole)
+
+  -- no record was put, and this happened
+  sat_still : (past : List Happening) → IsFinished past → left ≡ was
+      → (past ≡ d.past) ⊎ ((next : Happening) × IsStep next × IsNext (start_of b.journal) d.past next × (past ≡ next ∷ d.past))
+      → IsSat limit found (record { start = start_of b.journal; past = past }) left
+  sat_still past finished same (inl is_trace) =
+      sat_whole limit most found first is b past left (rw is_trace d.driven.legal) (rw is_trace d.driven.planned)
+      finished (rw is_trace d.driven.in_range) (rw is_trace same)
+  sat_still past finished same (inr (Answered id reply, step, next, is_more)) =
+      sat_whole limit most found first is b past left (rw is_more (d.driven.legal, next.may))
+      (rw is_more (d.driven.planned, next.planned)) finished (rw is_more d.driven.in_range) (rw is_more same)
+  sat_still past finished same (inr (Sent frame answer, step, next, is_more)) =
+      sat_whole limit most found first is b past left (rw is_more (d.driven.legal, next.may))
+      (rw is_more (d.driven.planned, next.planned)) finished (rw is_more d.driven.in_range) (rw is_more same)
+  sat_still past finished same (inr (other, step, next, is_more)) = absurd step
+
+  sat_record : (past : List Happening) (entry : Record) → IsFinished past → IsNext (start_of b.journal) d.past (Kept entry)
+      → CutRecord entry d.middle last → KeptWhereWhole (start_of b.journal) d.past past left
+      → MayHaveHappened (start_of b.journal) d.past Journal past → IsSat limit found (record { start = start_of b.journal; past = past }) left
+  sat_record past entry finished next cut counts happened = by (part_left entry cut) happened where
+    by : ((count : ℕ) × (count < length (spelling Two entry)) × (left ≡ was ++ take count (spelling Two entry)))
+        ⊎ (left ≡ was ++ spelling Two entry) → MayHaveHappened (start_of b.journal) d.past Journal past
+        → IsSat limit found (record { start = start_of b.journal; past = past }) left
+    by (inr all) happened =
+        let is_more = (counts entry next).1 all in
+        sat_whole limit most found first is b past left (rw is_more (d.driven.legal, next.may))
+        (rw is_more (d.driven.planned, next.planned)) finished (rw is_more (cut.in_range, d.driven.in_range))
+        (rw is_more all)
+    by (inl (count, less, same)) (inl is_trace) =
+        sat_cut limit most found first is b past left entry count (rw is_trace d.driven.legal)
+        (rw is_trace d.driven.planned) finished (rw is_trace d.driven.in_range) cut.in_range less (rw is_trace same)
+    by (inl (count, less, same)) (inr (_, (other, is_kept, other_next), is_more)) =
+        let one : Kept other ≡ Kept entry =
+            one_next (start_of b.journal) d.past (Kept entry) (Kept other) d.driven.legal next (rw is_kept at other_next) in
+        let grown : past ≡ Kept entry ∷ d.past = is_more ∙ ap (λ (h : Happening). h ∷ d.past) (is_kept ∙ one) in
+        let all = (counts entry next).0 grown in
+        absurd (omega (arith, less, ap (λ (l : List ℕ). length l) all, ap (λ (l : List ℕ). length l) same,
+        length-append was (spelling Two entry), length-append was (take count (spelling Two entry)),
+        length-take count (spelling Two entry)))
+
+  pub sat_broken : (past : List Happening) → MayHaveHappened (start_of b.journal) d.past fault past → IsFinished past
+      → KeptWhereWhole (start_of b.journal) d.past past left → IsSat limit found (record { start = start_of b.journal; past = past }) left
+  sat_broken past happened finished counts = by fault d.rest d.broken happened where
+    frames : Keeps d.middle.journal last.journal → (past ≡ d.past)
+        ⊎ ((next : Happening) × ((frame : Frame) × (answer : Option ℕ) × (next ≡ Sent frame answer)
+        × IsNext (start_of b.journal) d.past next) × (past ≡ next ∷ d.past))
+        → IsSat limit found (record { start = start_of b.journal; past = past }) left
+    frames keeps (inl is_trace) = sat_still past finished (still keeps) (inl is_trace)
+    frames keeps (inr (next, (frame, answer, is_sent, is_next), is_more)) =
+        sat_still past finished (still keeps) (inr (Sent frame answer, tt, rw is_sent at is_next, rw is_sent at is_more))
+
+    by : (f : DriveFault) (rest : List Contents) → BrokenOff (start_of b.journal) d.past rest f d.middle last
+        → MayHaveHappened (start_of b.journal) d.past f past → IsSat limit found (record { start = start_of b.journal; past = past }) left
+    by Journal rest (entry, next, cut) may = sat_record past entry finished next cut counts may
+    by Link rest (frame, next, cut) may = frames (link_keeps frame d.middle last cut) may
+    by (Line fault) rest (frame, next, unanswered) may = frames unanswered.journal may
+    by End rest (frame, next, unanswered) may = frames unanswered.journal may
+    by TooLong rest (frame, next, unanswered) may = frames unanswered.journal may
+    by NoMemory (order ∷ rest) (_, _, _, none) (inl is_trace) =
+        sat_still past finished (still none.journal) (inl is_trace)
+    by NoMemory (order ∷ rest) broken (inr (next, step, is_more)) = absurd step
+    by NoMemory [] never may = absurd never
+    by Out rest (id, reply, next, cut) (inl is_trace) = sat_still past finished (still cut.journal) (inl is_trace)
+    by Out rest (id, reply, next, cut) (inr (other, (number, word, is_said, is_next), is_more)) =
+        sat_still past finished (still cut.journal)
+        (inr (Answered number word, tt, rw is_said at is_next, rw is_said at is_more))
+
+  -- Something may have happened
+
+  counts_still : (past : List Happening) → left ≡ was
+      → ((entry : Record) → past ≡ Kept entry ∷ d.past → ⊥) → KeptWhereWhole (start_of b.journal) d.past past left
+  counts_still past same none entry next =
+      (λ grown. absurd (none entry grown), λ whole. absurd (not_longer was entry (sym same ∙ whole)))
+
+  broke_off : (past : List Happening) → MayHaveHappened (start_of b.journal) d.past fault past → IsFinished past
+      → KeptWhereWhole (start_of b.journal) d.past past left
+      → (past : List Happening) × BrokeOff limit most found (record { start = start_of b.journal; past = past }) left
+  broke_off past happened finished counts = (past, record {
+    orders = orders;
+    moment = moment;
+    fault = fault;
+    first = first;
+    last = last;
+    is_found = is;
+    begun = b;
+    drive = d;
+    is_left = between;
+    past = past;
+    happened = happened;
+    finished = finished;
+    counts = counts;
+    is = refl;
+  })
+
+  abbrev pub Made : Type 0
+  Made = (past : List Happening) × BrokeOff limit most found (record { start = start_of b.journal; past = past }) left
+
+  abbrev pub Makes : DriveFault → Type 0
+  Makes f =
+      (past : List Happening) → MayHaveHappened (start_of b.journal) d.past f past → IsFinished past
+      → KeptWhereWhole (start_of b.journal) d.past past left → Made
+
+  pub some_broken : Made
+  some_broken = by fault d.rest d.broken broke_off where
+    trace_alone : left ≡ was → KeptWhereWhole (start_of b.journal) d.past d.past left
+    trace_alone same = counts_still d.past same (λ entry grown. no_newer d.past (Kept entry) grown)
+
+    same_record : (entry other : Record) → IsNext (start_of b.journal) d.past (Kept entry) → IsNext (start_of b.journal) d.past (Kept other)
+        → other ≡ entry
+    same_record entry other next also =
+        let one : Kept other ≡ Kept entry = one_next (start_of b.journal) d.past (Kept entry) (Kept other) d.driven.legal next also in cc
+
+    of_record : (entry : Record) → IsNext (start_of b.journal) d.past (Kept entry) → Makes Journal
+        → ((count : ℕ) × (count < length (spelling Two entry)) × (left ≡ was ++ take count (spelling Two entry)))
+        ⊎ (left ≡ was ++ spelling Two entry) → Made
+    of_record entry next make (inr all) =
+        make (Kept entry ∷ d.past) (inr (Kept entry, (entry, refl, next), refl)) tt
+        (λ other also.
+        let one = same_record entry other next also in
+        (λ grown. rw one all, λ whole. ap (λ (e : Record). Kept e ∷ d.past) (sym one)))
+    of_record entry next make (inl (count, less, same)) =
+        make d.past (inl refl) (record_finished (start_of b.journal) d.past entry next)
+        (λ other also.
+        let one = same_record entry other next also in (
+          λ grown. absurd (no_newer d.past (Kept other) grown),
+          λ whole. absurd (omega (arith, less, ap (λ (l : List ℕ). length l) (rw one at whole), ap (λ (l : List ℕ). length l) same,
+          length-append was (spelling Two entry), length-append was (take count (spelling Two entry)),
+          length-take count (spelling Two entry))),
+        ))
+
+    by : (f : DriveFault) (rest : List Contents) → BrokenOff (start_of b.journal) d.past rest f d.middle last → Makes f → Made
+    by Journal rest (entry, next, cut) make = of_record entry next make (part_left entry cut)
+    by Link rest (frame, next, cut) make =
+        make d.past (inl refl) (frame_finished (start_of b.journal) d.past frame None (next None))
+        (trace_alone (still (link_keeps frame d.middle last cut)))
+    by (Line fault) rest (frame, next, unanswered) make =
+        make d.past (inl refl) (frame_finished (start_of b.journal) d.past frame None (next None)) (trace_alone (still unanswered.journal))
+    by End rest (frame, next, unanswered) make =
+        make d.past (inl refl) (frame_finished (start_of b.journal) d.past frame None (next None)) (trace_alone (still unanswered.journal))
+    by TooLong rest (frame, next, unanswered) make =
+        make d.past (inl refl) (frame_finished (start_of b.journal) d.past frame None (next None)) (trace_alone (still unanswered.journal))
+    by NoMemory (order ∷ rest) (finished, _, _, none) make =
+        make d.past (inl refl) finished (trace_alone (still none.journal))
+    by NoMemory [] never make = absurd never
+    by Out rest (id, reply, next, cut) make =
+        make (Answered id reply ∷ d.past) (inr (Answered id reply, (id, reply, refl, next), refl)) tt
+        (counts_still (Answered id reply ∷ d.past) (still cut.journal) (λ entry grown. cc))

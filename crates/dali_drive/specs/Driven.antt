@@ -11,6 +11,7 @@ use Rattle.dali_trace.specs.declared.happening.Reply.{Reply}
 use Rattle.dali_trace.specs.declared.happening.Reply.TheVariants as replies
 use Rattle.dali_trace.specs.declared.happening.Happening.{Happening}
 use Rattle.dali_trace.specs.declared.happening.Happening.TheVariants.{Asked, Answered, Sent, Kept, Stopped, Powered}
+use Rattle.dali_store.specs.Stores.{IsBetween}
 use Rattle.dali_drive.specs.declared.fault.DriveFault.{DriveFault}
 use Rattle.dali_drive.specs.declared.fault.DriveFault.TheVariants.{Journal, Link, NoMemory, Out}
 use Rattle.std.specs.List.{AllByRecursion}
@@ -142,6 +143,16 @@ pub record IsBrokenDrive (start : Start) (orders : List Contents) (moment : ℕ)
   pub driven : IsDriven start past first middle
   pub asked : reverse (orders_asked past) ++ at_moment moment rest ≡ at_moment moment orders
   pub broken : BrokenOff start past rest fault middle last
+
+-- a stop leaves what the journal held then, with all or a first part of what was put since
+abbrev pub LeavesBetween : Option (List ℕ) → Option (List ℕ) → (List ℕ → Type 0) → Type 0
+LeavesBetween then now may_leave = (c : List ℕ) → may_leave c → IsBetween then now c
+
+-- the same, and of the journal a stop leaves all that was kept before the step that was broken off
+pub record BreaksOff (start : Start) (orders : List Contents) (moment : ℕ) (fault : DriveFault)
+    (first last : Streams) (may_leave : List ℕ → Type 0) : Type 0 where
+  pub drive : IsBrokenDrive start orders moment fault first last
+  pub left : LeavesBetween drive.middle.journal last.journal may_leave
 
 -- Which streams have failed
 

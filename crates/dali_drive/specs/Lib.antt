@@ -4,9 +4,8 @@ pub mod Lines
 pub mod Transcript
 pub mod Driven
 pub mod WorkedOn
-pub mod Sittings
-pub mod WorkedDrives
 pub mod Stored
-pub mod StoredSittings
-pub mod Parts
+pub mod Sittings
 pub mod Kills
+pub mod Repeats
+pub mod WorkedDrives

@@ -8,12 +8,11 @@ use Rattle.dali_journal.specs.Spelling.{journal_spelling}
 use Rattle.dali_journal.specs.JournalState.{JournalState}
 use Rattle.dali_writer.specs.WriterState.{WriterState, start_of}
 use Rattle.dali_store.specs.Stores.{Becomes, IsBetween}
-use Rattle.dali_store.specs.Opened.{IsOpened, IsOpenFault, Loads, LoadsAlike}
-use Rattle.dali_drive.specs.declared.fault.DriveFault.TheVariants.{Journal}
+use Rattle.dali_store.specs.Opened.{IsOpened, IsOpenFault, Loads, LoadsAlike, LeavesAlike}
 use Rattle.dali_drive.specs.declared.stored.StoredFault.{StoredFault}
 use Rattle.dali_drive.specs.declared.stored.StoredFault.TheVariants.{Open, Drive}
 use Rattle.dali_drive.specs.Transcript.{Streams}
-use Rattle.dali_drive.specs.Driven.{IsDrive, IsBrokenDrive}
+use Rattle.dali_drive.specs.Driven.{IsDrive, BreaksOff}
 
 -- the journal of what the store showed, and what it showed once that was opened: its bytes in version 2
 pub record IsBegun (limit most : ℕ) (first : Streams) : Type 0 where
@@ -34,24 +33,15 @@ pub record Untouched (first last : Streams) : Type 0 where
   pub answers : Keeps first.answers last.answers
   pub out : Keeps first.out last.out
 
--- why not all was driven
-abbrev pub IsStoredFault : ℕ → ℕ → List Contents → ℕ → StoredFault → Streams → Streams → Type 0
-IsStoredFault limit most orders moment (Open fault) first last =
+-- why not all was driven, and what a stop may leave, before and after
+abbrev pub IsStoredFault : ℕ → ℕ → List Contents → ℕ → StoredFault → Streams → (List ℕ → Type 0) → Streams
+    → (List ℕ → Type 0) → Type 0
+IsStoredFault limit most orders moment (Open fault) first before last after =
     IsOpenFault limit most first.journal last.journal fault × Untouched first last
-IsStoredFault limit most orders moment (Drive fault) first last =
+    × ((c : List ℕ) → after c → LeavesAlike limit first.journal before c)
+IsStoredFault limit most orders moment (Drive fault) first before last after =
     (begun : IsBegun limit most first)
-    × IsBrokenDrive (start_of begun.journal) orders moment fault (record first { journal = begun.middle }) last
-
--- where the store failed nothing is said
-abbrev pub IsSettledBy : StoredFault → Type 0 → Type 0
-IsSettledBy (Open fault) P = ⊤
-IsSettledBy (Drive Journal) P = ⊤
-IsSettledBy (Drive fault) P = P
-
--- this is so where the journal wasn't opened
-abbrev pub IfUnopened : StoredFault → Type 0 → Type 0
-IfUnopened (Open fault) P = P
-IfUnopened (Drive fault) P = ⊤
+    × BreaksOff (start_of begun.journal) orders moment fault (record first { journal = begun.middle }) last after
 
 -- the bytes in version 2 of the records that a store showed, and behind them a first part of what was put until now
 abbrev pub IsPartBehind : ℕ → Option (List ℕ) → Option (List ℕ) → List ℕ → Type 0

@@ -8,7 +8,7 @@ use Rattle.dali_writer.specs.WriterState.{WriterState}
 use Rattle.dali_writer.specs.Describes.{Describes}
 use Rattle.dali_writer.specs.Follows.{Follows}
 use Rattle.dali_drive.specs.Transcript.{Streams}
-use Rattle.dali_drive.specs.Driven.{IsDriven, BrokenOff, orders_asked}
+use Rattle.dali_drive.specs.Driven.{IsDriven, BrokenOff, LeavesBetween, orders_asked}
 
 -- this trace was driven, and describes the writer
 pub record IsDrivenAt (start : Start) (past : List Happening) (writer : WriterState) (first last : Streams)
@@ -17,12 +17,20 @@ pub record IsDrivenAt (start : Start) (past : List Happening) (writer : WriterSt
   pub described : Describes start past writer
   pub follows : Follows start past writer
 
+-- after a trace in which just these orders were asked a step was broken off, and a stop may leave this
+pub record IsBrokenAt (start : Start) (asked : List (Contents × ℕ)) (first : Streams) (fault : DriveFault)
+    (last : Streams) (may_leave : List ℕ → Type 0) : Type 0 where
+  pub past : List Happening
+  pub middle : Streams
+  pub driven : IsDriven start past first middle
+  pub broken : (rest : List Contents) → BrokenOff start past rest fault middle last
+  pub left : LeavesBetween middle.journal last.journal may_leave
+  pub asked_are : orders_asked past ≡ asked
+
 -- after work in which no order was asked, so that just these were: a trace that was driven, or a step that was broken
 -- off
 abbrev pub WorkedOn : {A : Type 0} → Start → List (Contents × ℕ) → Streams → Result A DriveFault → WriterState
-    → Streams → Type 0
-WorkedOn start asked first (Ok done) writer last =
+    → Streams → (List ℕ → Type 0) → Type 0
+WorkedOn start asked first (Ok done) writer last may_leave =
     (past : List Happening) × IsDrivenAt start past writer first last × (orders_asked past ≡ asked)
-WorkedOn start asked first (Err fault) writer last =
-    (past : List Happening) × (middle : Streams) × IsDriven start past first middle
-    × ((rest : List Contents) → BrokenOff start past rest fault middle last) × (orders_asked past ≡ asked)
+WorkedOn start asked first (Err fault) writer last may_leave = IsBrokenAt start asked first fault last may_leave

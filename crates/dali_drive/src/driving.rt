@@ -1,4 +1,4 @@
-ghost use Rattle.std.specs.Prelude.{◌≡◌, ◌≢◌, ◌<◌, ℕ, List, true, false, IfOk, IfErr, OnOk};
+ghost use Rattle.std.specs.Prelude.{◌≡◌, ◌<◌, ℕ, List, true, false, IfOk, IfErr, OnOk};
 ghost use Rattle.std.specs.Io.KnownBytes.{Appends};
 ghost use Rattle.dali_trace.specs.declared.happening.Happening.{Happening};
 ghost use Rattle.dali_trace.specs.Trace.{Start, is_busy};
@@ -6,7 +6,7 @@ ghost use Rattle.dali_writer.specs.WriterState.{start_of, IsAtRest};
 ghost use Rattle.dali_writer.specs.WorkLeft.{work_left};
 ghost use Rattle.dali_writer.specs.Describes.{Describes};
 ghost use Rattle.dali_drive.specs.Transcript.{Streams, shown};
-ghost use Rattle.dali_drive.specs.Driven.{orders_asked, IsDrive, IsBrokenDrive, NoneFailed, FailedAs};
+ghost use Rattle.dali_drive.specs.Driven.{orders_asked, IsDrive, BreaksOff, NoneFailed, FailedAs};
 ghost use Rattle.dali_store.specs.Stores.{IsSettled, IsBetween, LeavesOnly};
 ghost use Rattle.dali_drive.specs.WorkedOn.{IsDrivenAt, WorkedOn};
 
@@ -35,7 +35,8 @@ fn advance<I: Source, L: Sink, J: Store, O: Sink>(
         → IsDrivenAt start past writer.old first
         (shown (J.seen journal_out.old) (L.held link_out.old) (I.left link_in.old) (O.held out.old))
         → WorkedOn start (orders_asked past) first result writer.new
-        (shown (J.seen journal_out.new) (L.held link_out.new) (I.left link_in.new) (O.held out.new)) }
+        (shown (J.seen journal_out.new) (L.held link_out.new) (I.left link_in.new) (O.held out.new))
+        (J.may_leave journal_out.new) }
     ensures fewer { IfOk result (λ busy. busy ≡ true → work_left writer.new.phase < work_left writer.old.phase) }
     ensures rests { IfOk result (λ busy. busy ≡ false → IsAtRest writer.new) }
     ensures quiet { IfOk result (λ busy. busy ≡ false → (start : Start) (past : List Happening)
@@ -45,8 +46,6 @@ fn advance<I: Source, L: Sink, J: Store, O: Sink>(
     ensures err { IfErr result (λ fault.
         FailedAs fault (J.failed journal_out.new) (L.failed link_out.new) (I.failed link_in.new) (O.failed out.new)) }
     ensures settled { OnOk result (IsSettled (J.seen journal_out.new) (J.may_leave journal_out.new)) }
-    ensures settled_first { IfErr result (λ fault. fault ≢ DriveFault.Journal
-        → IsSettled (J.seen journal_out.new) (J.may_leave journal_out.new)) }
     ensures grown { (more : List ℕ) × Appends (J.seen journal_out.old) (J.seen journal_out.new) more }
     ensures any_moment { LeavesOnly J.moment J.left_since journal_out.old journal_out.new
         (IsBetween (J.seen journal_out.old) (J.seen journal_out.new)) }
@@ -93,7 +92,8 @@ fn work<I: Source, L: Sink, J: Store, O: Sink>(
         → IsDrivenAt start past writer.old first
         (shown (J.seen journal_out.old) (L.held link_out.old) (I.left link_in.old) (O.held out.old))
         → WorkedOn start (orders_asked past) first result writer.new
-        (shown (J.seen journal_out.new) (L.held link_out.new) (I.left link_in.new) (O.held out.new)) }
+        (shown (J.seen journal_out.new) (L.held link_out.new) (I.left link_in.new) (O.held out.new))
+        (J.may_leave journal_out.new) }
     ensures rests { OnOk result (IsAtRest writer.new) }
     ensures quiet { OnOk result
         ((start : Start) (past : List Happening) → Describes start past writer.new → is_busy start past ≡ false) }
@@ -102,8 +102,6 @@ fn work<I: Source, L: Sink, J: Store, O: Sink>(
     ensures err { IfErr result (λ fault.
         FailedAs fault (J.failed journal_out.new) (L.failed link_out.new) (I.failed link_in.new) (O.failed out.new)) }
     ensures settled { OnOk result (IsSettled (J.seen journal_out.new) (J.may_leave journal_out.new)) }
-    ensures settled_first { IfErr result (λ fault. fault ≢ DriveFault.Journal
-        → IsSettled (J.seen journal_out.new) (J.may_leave journal_out.new)) }
     ensures grown { (more : List ℕ) × Appends (J.seen journal_out.old) (J.seen journal_out.new) more }
     ensures any_moment { LeavesOnly J.moment J.left_since journal_out.old journal_out.new
         (IsBetween (J.seen journal_out.old) (J.seen journal_out.new)) }
@@ -147,15 +145,13 @@ pub fn drive<I: Source, L: Sink, J: Store, O: Sink>(
     ensures rests { IfOk result IsAtRest }
     ensures ok { OnOk result
         (NoneFailed (J.failed journal_out.new) (L.failed link_out.new) (I.failed link_in.new) (O.failed out.new)) }
-    ensures broken { IfErr result (λ fault. IsBrokenDrive (start_of writer.journal) orders.now moment fault
+    ensures broken { IfErr result (λ fault. BreaksOff (start_of writer.journal) orders.now moment fault
         (shown (J.seen journal_out.old) (L.held link_out.old) (I.left link_in.old) (O.held out.old))
-        (shown (J.seen journal_out.new) (L.held link_out.new) (I.left link_in.new) (O.held out.new))) }
+        (shown (J.seen journal_out.new) (L.held link_out.new) (I.left link_in.new) (O.held out.new))
+        (J.may_leave journal_out.new)) }
     ensures err { IfErr result (λ fault.
         FailedAs fault (J.failed journal_out.new) (L.failed link_out.new) (I.failed link_in.new) (O.failed out.new)) }
     ensures settled { OnOk result (IsSettled (J.seen journal_out.new) (J.may_leave journal_out.new)) }
-    ensures settled_first { IfErr result (λ fault. fault ≢ DriveFault.Journal
-        → IsSettled (J.seen journal_out.new) (J.may_leave journal_out.new)) }
-    ensures grown { (more : List ℕ) × Appends (J.seen journal_out.old) (J.seen journal_out.new) more }
     ensures any_moment { LeavesOnly J.moment J.left_since journal_out.old journal_out.new
         (IsBetween (J.seen journal_out.old) (J.seen journal_out.new)) }
 {
@@ -196,14 +192,13 @@ fn drive_all<I: Source, L: Sink, J: Store, O: Sink>(
     ensures rests { OnOk result (IsAtRest writer.new) }
     ensures ok { OnOk result
         (NoneFailed (J.failed journal_out.new) (L.failed link_out.new) (I.failed link_in.new) (O.failed out.new)) }
-    ensures broken { IfErr result (λ fault. IsBrokenDrive (start_of writer.old.journal) orders.now moment fault
+    ensures broken { IfErr result (λ fault. BreaksOff (start_of writer.old.journal) orders.now moment fault
         (shown (J.seen journal_out.old) (L.held link_out.old) (I.left link_in.old) (O.held out.old))
-        (shown (J.seen journal_out.new) (L.held link_out.new) (I.left link_in.new) (O.held out.new))) }
+        (shown (J.seen journal_out.new) (L.held link_out.new) (I.left link_in.new) (O.held out.new))
+        (J.may_leave journal_out.new)) }
     ensures err { IfErr result (λ fault.
         FailedAs fault (J.failed journal_out.new) (L.failed link_out.new) (I.failed link_in.new) (O.failed out.new)) }
     ensures settled { OnOk result (IsSettled (J.seen journal_out.new) (J.may_leave journal_out.new)) }
-    ensures settled_first { IfErr result (λ fault. fault ≢ DriveFault.Journal
-        → IsSettled (J.seen journal_out.new) (J.may_leave journal_out.new)) }
     ensures grown { (more : List ℕ) × Appends (J.seen journal_out.old) (J.seen journal_out.new) more }
     ensures any_moment { LeavesOnly J.moment J.left_since journal_out.old journal_out.new
         (IsBetween (J.seen journal_out.old) (J.seen journal_out.new)) }

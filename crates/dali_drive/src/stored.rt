@@ -1,9 +1,7 @@
 // A journal is opened over a store, and orders are driven with it.
-ghost use Rattle.std.specs.Prelude.{◌≡◌, ◌≢◌, ℕ, List, true, false, IfOk, IfErr, OnOk};
+ghost use Rattle.std.specs.Prelude.{◌≡◌, false, IfOk, IfErr, OnOk};
 ghost use Rattle.dali_store.specs.Stores.{IsSettled, LeavesOnly};
-ghost use Rattle.dali_drive.specs.Driven.{NoneFailed};
-ghost use Rattle.dali_drive.specs.Stored.{IsStoredDrive, IsStoredFault, IsSettledBy, IfUnopened, LeavesPart};
-ghost use Rattle.dali_store.specs.Opened.{LeavesAlike};
+ghost use Rattle.dali_drive.specs.Stored.{IsStoredDrive, IsStoredFault, LeavesPart};
 ghost use Rattle.dali_drive.specs.Transcript.{shown};
 
 use crate::driving::drive;
@@ -47,12 +45,9 @@ pub fn drive_stored<I: Source, L: Sink, S: Store, O: Sink>(
         (shown (S.seen store.old) (L.held link_out.old) (I.left link_in.old) (O.held out.old))
         writer (shown (S.seen store.new) (L.held link_out.new) (I.left link_in.new) (O.held out.new))) }
     ensures broken { IfErr result (λ fault. IsStoredFault limit most orders.now moment fault
-        (shown (S.seen store.old) (L.held link_out.old) (I.left link_in.old) (O.held out.old))
-        (shown (S.seen store.new) (L.held link_out.new) (I.left link_in.new) (O.held out.new))) }
+        (shown (S.seen store.old) (L.held link_out.old) (I.left link_in.old) (O.held out.old)) (S.may_leave store.old)
+        (shown (S.seen store.new) (L.held link_out.new) (I.left link_in.new) (O.held out.new)) (S.may_leave store.new)) }
     ensures settled { OnOk result (IsSettled (S.seen store.new) (S.may_leave store.new)) }
-    ensures settled_first { IfErr result (λ fault. IsSettledBy fault (IsSettled (S.seen store.new) (S.may_leave store.new))) }
-    ensures unopened { IfErr result (λ fault. IfUnopened fault (LeavesOnly S.moment S.left_since store.old store.new
-        (LeavesAlike limit (S.seen store.old) (S.may_leave store.old)))) }
     ensures any_moment { LeavesOnly S.moment S.left_since store.old store.new
         (LeavesPart limit (S.seen store.old) (S.seen store.new) (S.may_leave store.old)) }
 {

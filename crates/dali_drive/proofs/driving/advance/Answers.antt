@@ -5,57 +5,63 @@ use Rattle.dali_trace.specs.declared.happening.Happening.TheVariants.{Kept, Sent
 use Rattle.dali_trace.specs.Replies.{reply_line}
 use Rattle.dali_drive.proofs.DriveLemmas.{keeps_on, sends_on, says_on, breaks_record, breaks_frame, breaks_saying}
 use Rattle.dali_drive.proofs.DriveLemmas.{breaks_reading, IsCut}
+use Rattle.dali_store.proofs.Betweens.{settled_between}
 use Rattle.dali_drive.proofs.StoreLemmas.{untouched}
 use Rattle.dali_drive.proofs.driving.advance.Goals as goal
 
 pub returns-then-not-keep-clause-worked : goal.returns-then-not-keep-clause-worked
 returns-then-not-keep-clause-worked g c = λ start past first d.
-    let next = c.in-Keep.ensures.done start past d.described d.follows (Kept c.in-Keep.entry) refl in (
-      past,
-      _,
-      d.driven,
-      λ rest. breaks_record start past rest _ _ _ _ _ c.in-Keep.entry next
+    let next = c.in-Keep.ensures.done start past d.described d.follows (Kept c.in-Keep.entry) refl in
+    record {
+      past = past;
+      middle = _;
+      driven = d.driven;
+      broken = λ rest. breaks_record start past rest _ _ _ _ _ c.in-Keep.entry next
           (c.bytes.ensures.in_range (c.in-Keep.ensures.short c.in-Keep.entry refl))
-          (subst (IsCut _ _) (c.deref.ensures.0 ∙ c.bytes.ensures.spelled) (c.if-not-keep.ensures.cut refl)),
-      refl,
-    )
+          (subst (IsCut _ _) (c.deref.ensures.0 ∙ c.bytes.ensures.spelled) (c.if-not-keep.ensures.cut refl));
+      left = c.if-not-keep.ensures.stop;
+      asked_are = refl;
+    }
 
 pub returns-then-not-send-clause-worked : goal.returns-then-not-send-clause-worked
-returns-then-not-send-clause-worked g c = λ start past first d. (
-  past,
-  _,
-  d.driven,
-  λ rest. breaks_frame start past rest _ _ _ _ _ c.in-Send.frame
+returns-then-not-send-clause-worked g c = λ start past first d. record {
+  past = past;
+  middle = _;
+  driven = d.driven;
+  broken = λ rest. breaks_frame start past rest _ _ _ _ _ c.in-Send.frame
       (λ answer. c.in-Send.ensures.done start past d.described d.follows (Sent c.in-Send.frame answer) (answer, refl))
-      (subst (IsCut _ _) c.line_of.ensures.line (c.if-not-send.ensures.cut refl)),
-  refl,
-)
+      (subst (IsCut _ _) c.line_of.ensures.line (c.if-not-send.ensures.cut refl));
+  left = settled_between _ _ c.requires.settled;
+  asked_are = refl;
+}
 
 pub returns-in_err-answer-in-Send-clause-worked : goal.returns-in_err-answer-in-Send-clause-worked
 returns-in_err-answer-in-Send-clause-worked g c = λ start past first d.
-    let p = err_from_is_err_and c.from_residual.result c.from_residual.ensures.1 in rw (p.1, p.2) (
-      past,
-      _,
-      d.driven,
-      λ rest. breaks_reading c.in_err-answer-in-Send.field-0.0 start past rest _ _ _ _ _ _ c.in-Send.frame
+    let p = err_from_is_err_and c.from_residual.result c.from_residual.ensures.1 in rw (p.1, p.2) (record {
+      past = past;
+      middle = _;
+      driven = d.driven;
+      broken = λ rest. breaks_reading c.in_err-answer-in-Send.field-0.0 start past rest _ _ _ _ _ _ c.in-Send.frame
           (λ answer.
           c.in-Send.ensures.done start past d.described d.follows (Sent c.in-Send.frame answer) (answer, refl))
           (subst (Appends _ _) c.line_of.ensures.line (c.if-not-send.ensures.whole refl))
-          c.in_err-answer-in-Send.ensures.line,
-      refl,
-    )
+          c.in_err-answer-in-Send.ensures.line;
+      left = settled_between _ _ c.requires.settled;
+      asked_are = refl;
+    })
 
 pub returns-then-not-put_all-clause-worked : goal.returns-then-not-put_all-clause-worked
-returns-then-not-put_all-clause-worked g c = λ start past first d. (
-  past,
-  _,
-  d.driven,
-  λ rest. breaks_saying start past rest _ _ _ _ _ c.in-Say.id c.in-Say.reply
+returns-then-not-put_all-clause-worked g c = λ start past first d. record {
+  past = past;
+  middle = _;
+  driven = d.driven;
+  broken = λ rest. breaks_saying start past rest _ _ _ _ _ c.in-Say.id c.in-Say.reply
       (c.in-Say.ensures.done start past d.described d.follows (Answered c.in-Say.id c.in-Say.reply) refl)
       (subst (IsCut _ _) {y = reply_line c.in-Say.id c.in-Say.reply} (c.deref-in-Say.ensures.0 ∙ c.reply_line.ensures)
-      (c.if-not-put_all.ensures.cut refl)),
-  refl,
-)
+      (c.if-not-put_all.ensures.cut refl));
+  left = settled_between _ _ c.requires.settled;
+  asked_are = refl;
+}
 
 pub returns-else-not-keep-clause-worked : goal.returns-else-not-keep-clause-worked
 returns-else-not-keep-clause-worked g c = λ start past first d. (

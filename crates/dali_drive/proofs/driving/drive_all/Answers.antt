@@ -8,6 +8,7 @@ use Rattle.dali_drive.specs.Driven.{orders_asked}
 use Rattle.dali_trace.specs.declared.happening.Happening.TheVariants.{Asked}
 use Rattle.dali_drive.proofs.DriveLemmas.{begun_at, replied_at, reply_next, breaks_saying, breaks_memory, IsCut}
 use Rattle.dali_drive.proofs.DriveLemmas.{asks_on, asked_more, asked_so_far, asked_then, asked_all}
+use Rattle.dali_store.proofs.Betweens.{settled_between}
 use Rattle.dali_drive.proofs.StoreLemmas.{then_on, more_of}
 use Rattle.dali_drive.proofs.driving.drive_all.Goals as goal
 
@@ -54,12 +55,15 @@ returns-in_err-work-clause-broken g c =
     let p = err_from_is_err_and c.from_residual.result c.from_residual.ensures.1 in
     let all : List Contents = c.args.orders.now in
     rw (p.1, p.2) (record {
-      past = w.0;
-      rest = all;
-      middle = w.1;
-      driven = w.2;
-      asked = asked_so_far c.args.moment all (orders_asked w.0) 0 w.4;
-      broken = w.3 all;
+      drive = record {
+        past = w.past;
+        rest = all;
+        middle = w.middle;
+        driven = w.driven;
+        asked = asked_so_far c.args.moment all (orders_asked w.past) 0 w.asked_are;
+        broken = w.broken all;
+      };
+      left = w.left;
     })
 
 pub returns-in_default-clause-broken : goal.returns-in_default-clause-broken
@@ -71,14 +75,17 @@ returns-in_default-clause-broken g c =
     let all : List Contents = c.args.orders.now in
     let rest = drop (suc c.loop-order.order-index) all in
     record {
-      past = i.past;
-      rest = order ∷ rest;
-      middle = _;
-      driven = i.driven.driven;
-      asked =
-          asked_then c.args.moment all (orders_asked i.past) c.loop-order.order-index _ order c.loop-order-test.true
-          c.order-item.is i.orders;
-      broken = breaks_memory start i.past order rest _ _ _ _ i.driven.described.finished i.quiet due;
+      drive = record {
+        past = i.past;
+        rest = order ∷ rest;
+        middle = _;
+        driven = i.driven.driven;
+        asked =
+            asked_then c.args.moment all (orders_asked i.past) c.loop-order.order-index _ order c.loop-order-test.true
+            c.order-item.is i.orders;
+        broken = breaks_memory start i.past order rest _ _ _ _ i.driven.described.finished i.quiet due;
+      };
+      left = settled_between _ _ i.settled;
     }
 
 pub returns-then-not-put_all-clause-broken : goal.returns-then-not-put_all-clause-broken
@@ -92,17 +99,20 @@ returns-then-not-put_all-clause-broken g c =
     let all : List Contents = c.args.orders.now in
     let rest = drop (c.loop-order.order-index + 1) all in
     record {
-      past = Asked order c.args.moment ∷ i.past;
-      rest = rest;
-      middle = _;
-      driven = asks_on start i.past _ _ order c.args.moment i.driven.driven i.quiet described.legal.0;
-      asked =
-          asked_so_far c.args.moment all ((order, c.args.moment) ∷ orders_asked i.past) (c.loop-order.order-index + 1) (asked_more c.args.moment all
-          (orders_asked i.past) c.loop-order.order-index _ order c.loop-order-test.true c.order-item.is i.orders);
-      broken =
-          breaks_saying start (Asked order c.args.moment ∷ i.past) rest _ _ _ _ _ order.id c.in-Ok.reply
-          (reply_next start i.past order c.args.moment c.in-Ok.reply described.legal follows.planned)
-          (subst (IsCut _ _) line (c.if-not-put_all.ensures.cut refl));
+      drive = record {
+        past = Asked order c.args.moment ∷ i.past;
+        rest = rest;
+        middle = _;
+        driven = asks_on start i.past _ _ order c.args.moment i.driven.driven i.quiet described.legal.0;
+        asked =
+            asked_so_far c.args.moment all ((order, c.args.moment) ∷ orders_asked i.past) (c.loop-order.order-index + 1) (asked_more c.args.moment all
+            (orders_asked i.past) c.loop-order.order-index _ order c.loop-order-test.true c.order-item.is i.orders);
+        broken =
+            breaks_saying start (Asked order c.args.moment ∷ i.past) rest _ _ _ _ _ order.id c.in-Ok.reply
+            (reply_next start i.past order c.args.moment c.in-Ok.reply described.legal follows.planned)
+            (subst (IsCut _ _) line (c.if-not-put_all.ensures.cut refl));
+      };
+      left = settled_between _ _ i.settled;
     }
 
 pub returns-in_err-work-2-clause-broken : goal.returns-in_err-work-2-clause-broken
@@ -117,14 +127,17 @@ returns-in_err-work-2-clause-broken g c =
     let rest = drop (c.loop-order.order-index + 1) c.args.orders.now in
     let p = err_from_is_err_and c.from_residual-in_err-work-2.result c.from_residual-in_err-work-2.ensures.1 in
     rw (p.1, p.2) (record {
-      past = w.0;
-      rest = rest;
-      middle = w.1;
-      driven = w.2;
-      asked =
-          asked_so_far c.args.moment _ _ (c.loop-order.order-index + 1)
-          (w.4 ∙ asked_more c.args.moment _ _ _ _ _ c.loop-order-test.true c.order-item.is i.orders);
-      broken = w.3 rest;
+      drive = record {
+        past = w.past;
+        rest = rest;
+        middle = w.middle;
+        driven = w.driven;
+        asked =
+            asked_so_far c.args.moment _ _ (c.loop-order.order-index + 1)
+            (w.asked_are ∙ asked_more c.args.moment _ _ _ _ _ c.loop-order-test.true c.order-item.is i.orders);
+        broken = w.broken rest;
+      };
+      left = w.left;
     })
 
 pub loop-order-preserved : goal.loop-order-preserved

@@ -28,7 +28,14 @@ returns-in_err-advance-clause-worked g c = λ start past first d.
     let before = c.loop.invariant.worked start past first d in
     let next = c.in_err-advance.ensures.worked start before.0 first before.1 in
     let p = err_from_is_err_and c.from_residual.result c.from_residual.ensures.1 in
-    rw (p.1, p.2) (next.0, next.1, next.2, next.3, next.4 ∙ before.2)
+    rw (p.1, p.2) (record {
+      past = next.past;
+      middle = next.middle;
+      driven = next.driven;
+      broken = next.broken;
+      left = next.left;
+      asked_are = next.asked_are ∙ before.2;
+    })
 
 pub loop-init : goal.loop-init
 loop-init g c = record {

@@ -15,7 +15,7 @@ invariant-loop g l = record {
       → IsDrivenAt start past l.fn.writer first (shown (g.J.Store.seen l.fn.journal_out) (g.L.Sink.held l.fn.link_out)
       (g.I.Source.left l.fn.link_in) (g.O.Sink.held l.fn.out))
       → WorkedOn start (orders_asked past) first (Ok false) l.writer (shown (g.J.Store.seen l.journal_out)
-      (g.L.Sink.held l.link_out) (g.I.Source.left l.link_in) (g.O.Sink.held l.out));
+      (g.L.Sink.held l.link_out) (g.I.Source.left l.link_in) (g.O.Sink.held l.out)) (g.J.Store.may_leave l.journal_out);
   journal : g.J.Store.failed l.journal_out ≡ false;
   settled : IsSettled (g.J.Store.seen l.journal_out) (g.J.Store.may_leave l.journal_out);
   grown : (more : List ℕ) × Appends (g.J.Store.seen l.fn.journal_out) (g.J.Store.seen l.journal_out) more;

@@ -1,5 +1,10 @@
-use Rattle.dali_drive.proofs.StopLemmas.{stop_leaves}
+use Rattle.dali_drive.proofs.KillLemmas.{stood_in, stood_before}
 use Rattle.dali_drive.proofs.laws.stops_leave_a_part.Goals as goal
 
-pub returns : goal.returns
-returns c = stop_leaves
+pub returns-clause-ended : goal.returns-clause-ended
+returns-clause-ended g = λ limit most orders moment found seen left first writer last is held d part.
+    stood_in limit most found seen left first last is held d.begun orders moment part writer d.drive
+
+pub returns-clause-broken : goal.returns-clause-broken
+returns-clause-broken g = λ limit most orders moment fault found seen left first last begun is held d part.
+    stood_before limit most found seen left first last is held begun orders moment part fault d

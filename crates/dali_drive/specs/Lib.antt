@@ -1,5 +1,6 @@
 pub mod Faults
 pub mod Streams
+pub mod StdStreams
 pub mod Lines
 pub mod Transcript
 pub mod Driven

@@ -8,17 +8,18 @@ use std::io::{ErrorKind, Read, Write};
 /// A reader. A read that is interrupted is tried again.
 #[derive(Drop)]
 pub struct StdSource<R> {
-    /// The reader.
-    pub reader: R,
-    /// Whether a read has failed.
-    pub failed: bool,
+    reader: R,
+    // Whether a read has failed.
+    failed: bool,
 }
 
 impl<R: Read> StdSource<R> {
+    ghost use Rattle.dali_drive.specs.StdStreams.{source_left, source_failed};
+
     /// A source that takes its bytes from the reader, one by one.
     pub fn new(reader: R) -> StdSource<R>
-        ensures reader { result.reader ≡ reader }
-        ensures failed { result.failed ≡ false }
+        ensures left { source_left R.remaining result ≡ R.remaining reader }
+        ensures failed { source_failed result ≡ false }
     {
         StdSource {
             reader,
@@ -28,9 +29,11 @@ impl<R: Read> StdSource<R> {
 }
 
 impl<R: Read> Source for StdSource<R> {
-    ghost left = { λ s. R.remaining s.reader };
+    ghost use Rattle.dali_drive.specs.StdStreams.{source_left, source_failed};
 
-    ghost failed = { λ s. s.failed };
+    ghost left = { source_left R.remaining };
+
+    ghost failed = { source_failed };
 
     fn take_byte(&mut self) -> Got {
         let mut byte = [0u8; 1];
@@ -54,17 +57,18 @@ impl<R: Read> Source for StdSource<R> {
 /// A writer. A write or a flush that is interrupted is tried again.
 #[derive(Drop)]
 pub struct StdSink<W> {
-    /// The writer.
-    pub writer: W,
-    /// Whether a write or a flush has failed.
-    pub failed: bool,
+    writer: W,
+    // Whether a write or a flush has failed.
+    failed: bool,
 }
 
 impl<W: Write> StdSink<W> {
+    ghost use Rattle.dali_drive.specs.StdStreams.{sink_held, sink_failed};
+
     /// A sink that puts its bytes into the writer.
     pub fn new(writer: W) -> StdSink<W>
-        ensures writer { result.writer ≡ writer }
-        ensures failed { result.failed ≡ false }
+        ensures held { sink_held W.contents result ≡ W.contents writer }
+        ensures failed { sink_failed result ≡ false }
     {
         StdSink {
             writer,
@@ -74,9 +78,11 @@ impl<W: Write> StdSink<W> {
 }
 
 impl<W: Write> Sink for StdSink<W> {
-    ghost held = { λ s. W.contents s.writer };
+    ghost use Rattle.dali_drive.specs.StdStreams.{sink_held, sink_failed};
 
-    ghost failed = { λ s. s.failed };
+    ghost held = { sink_held W.contents };
+
+    ghost failed = { sink_failed };
 
     fn put(&mut self, bytes: &[u8]) -> Option<usize> {
         for _ in 0..u64::MAX {

@@ -1,5 +1,5 @@
 // What drives leave, where each stream does as it should and where one fails.
-use crate::drive::streams::{ALL, Fickle, Good, Left, Wanted, drive_from, drive_on, file_of};
+use crate::drive::streams::{ALL, Fickle, Good, Left, MANY, Shelf, Wanted, drive_from, drive_on, file_of};
 use crate::expected::expect_that;
 use crate::gtin::GTIN;
 use dali_bank::Order;
@@ -371,14 +371,16 @@ fn an_order_that_ended(rt: HostRuntime) -> Result<(), Fail> {
     expect_that(left.is(&wanted), "an order that has ended")
 }
 
-// Drives the order over a reader and writers of std. What that leaves, and whether it left no bytes of the reader.
-fn drive_std(alloc: Global, answers: &[u8]) -> Result<(Left, bool), Fail> {
+// Drives the order over a reader and writers of std. What that leaves.
+fn drive_std(alloc: Global, answers: &[u8]) -> Result<Left, Fail> {
     let (journal, _, _) = Journal::load(alloc, 10, &[])?;
     let orders = [gtin_order(9)?];
-    let mut link_in = StdSource::new(answers);
-    let mut link_out = StdSink::new(Vec::new(alloc));
-    let mut journal_out = StdSink::new(Vec::new(alloc));
-    let mut out = StdSink::new(Vec::new(alloc));
+    let mut rest = answers;
+    let (mut link, mut told) = (Vec::new(alloc), Vec::new(alloc));
+    let mut link_in = StdSource::new(&mut rest);
+    let mut link_out = StdSink::new(&mut link);
+    let mut journal_out = Shelf::new(alloc, MANY, MANY, false);
+    let mut out = StdSink::new(&mut told);
     let driven = drive(
         Writer::new(journal),
         &orders,
@@ -388,23 +390,20 @@ fn drive_std(alloc: Global, answers: &[u8]) -> Result<(Left, bool), Fail> {
         &mut journal_out,
         &mut out,
     );
-    let taken = answers.len().saturating_sub(link_in.reader.len());
-    let is_at_end = matches!(link_in.take_byte(), Got::End);
     let failed = [
         link_in.has_failed(),
         link_out.has_failed(),
-        journal_out.has_failed(),
+        journal_out.failed,
         out.has_failed(),
     ];
-    let left = Left {
+    Ok(Left {
         fault: driven.err(),
-        taken,
-        link: link_out.writer,
-        journal: journal_out.writer,
-        out: out.writer,
+        taken: answers.len().saturating_sub(rest.len()),
+        link,
+        journal: journal_out.bytes,
+        out: told,
         failed,
-    };
-    Ok((left, is_at_end))
+    })
 }
 
 #[test]
@@ -412,8 +411,7 @@ fn streams_of_std(rt: HostRuntime) -> Result<(), Fail> {
     let alloc = rt.alloc();
     let link = silent_link(alloc)?;
     let answers = silence(alloc)?;
-    let (left, is_at_end) = drive_std(alloc, &answers)?;
-    expect_that(is_at_end, "no more bytes of the reader")?;
+    let left = drive_std(alloc, &answers)?;
     expect_that(left.is(&silent(&link, &answers)), "what the drive leaves")
 }
 
@@ -428,25 +426,28 @@ const ERRORS: [(&[ErrorKind], bool); 5] = [
 
 fn judge_reader(errors: &[ErrorKind], well: bool) -> Result<(), Fail> {
     let got = if well { Got::Byte(b'-') } else { Got::Failed };
-    let mut source = StdSource::new(Fickle { errors, most: 1 });
+    let mut reader = Fickle { errors, most: 1 };
+    let mut source = StdSource::new(&mut reader);
     expect_that(source.take_byte() == got, "a byte where all goes well")?;
     expect_that(source.has_failed() != well, "a source that has failed")?;
-    expect_that(source.reader.errors.is_empty(), "all reads")
+    expect_that(reader.errors.is_empty(), "all reads")
 }
 
 fn judge_writer(errors: &[ErrorKind], well: bool) -> Result<(), Fail> {
     let count = if well { Some(2) } else { None };
-    let mut sink = StdSink::new(Fickle { errors, most: 2 });
+    let mut writer = Fickle { errors, most: 2 };
+    let mut sink = StdSink::new(&mut writer);
     expect_that(sink.put(b"123") == count, "two bytes where all goes well")?;
     expect_that(sink.has_failed() != well, "a sink that has failed")?;
-    expect_that(sink.writer.errors.is_empty(), "all writes")
+    expect_that(writer.errors.is_empty(), "all writes")
 }
 
 fn judge_flushes(errors: &[ErrorKind], well: bool) -> Result<(), Fail> {
-    let mut sink = StdSink::new(Fickle { errors, most: 2 });
+    let mut writer = Fickle { errors, most: 2 };
+    let mut sink = StdSink::new(&mut writer);
     expect_that(sink.flush() == well, "a flush where all goes well")?;
     expect_that(sink.has_failed() != well, "a sink that has failed")?;
-    expect_that(sink.writer.errors.is_empty(), "all flushes")
+    expect_that(writer.errors.is_empty(), "all flushes")
 }
 
 #[test]

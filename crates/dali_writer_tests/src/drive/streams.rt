@@ -1,10 +1,12 @@
 // Streams in memory that fail after so many bytes or flushes, and drives over them.
-ghost use Rattle.std.specs.Prelude.{◌≡◌, Some, false};
+ghost use Rattle.std.specs.Prelude.{◌≡◌, ◌||◌, Some, None, false, not, ⊤};
+ghost use Rattle.dali_drive.specs.Streams.{Puts, is_refusal};
 
 use crate::gtin::HEADER;
 use dali_bank::Order;
 use dali_drive::{DriveFault, Got, Sink, Source, drive};
 use dali_journal::Journal;
+use dali_store::{Store, StoreFault};
 use dali_writer::Writer;
 use std::alloc::Global;
 use std::io;
@@ -42,22 +44,22 @@ impl<'a> Source for Script<'a> {
     }
 }
 
-// Holds the bytes that it has room for, of which it takes two at most in a call, and flushes so many times.
+// Holds the bytes that it has room for, of which it takes two at most in a call, and flushes or syncs so many times.
 #[derive(Drop)]
-struct Store {
-    bytes: Vec<u8>,
+pub(crate) struct Shelf {
+    pub(crate) bytes: Vec<u8>,
     room: usize,
     flushes: usize,
     // What it answers where there is no room: `Some(0)` or `None`.
     counts: bool,
-    failed: bool,
+    pub(crate) failed: bool,
 }
 
-impl Store {
-    fn new(alloc: Global, room: usize, flushes: usize, counts: bool) -> Store
+impl Shelf {
+    pub(crate) fn new(alloc: Global, room: usize, flushes: usize, counts: bool) -> Shelf
         ensures { result.failed ≡ false }
     {
-        Store {
+        Shelf {
             bytes: Vec::new(alloc),
             room,
             flushes,
@@ -67,12 +69,11 @@ impl Store {
     }
 }
 
-impl Sink for Store {
-    ghost held = { λ s. Some s.bytes.items };
-
-    ghost failed = { λ s. s.failed };
-
-    fn put(&mut self, bytes: &[u8]) -> Option<usize> {
+impl Shelf {
+    fn take(&mut self, bytes: &[u8]) -> Option<usize>
+        ensures bytes { Puts (Some self.old.bytes.items) (Some self.new.bytes.items) result bytes.now }
+        ensures failed { self.new.failed ≡ (self.old.failed || is_refusal result) }
+    {
         let count = bytes.len().min(2).min(self.room);
         if count == 0 || self.bytes.extend_from_slice(&bytes[..count]).is_err() {
             self.failed = true;
@@ -82,7 +83,10 @@ impl Sink for Store {
         Some(count)
     }
 
-    fn flush(&mut self) -> bool {
+    fn is_flushed(&mut self) -> bool
+        ensures bytes { self.new.bytes ≡ self.old.bytes }
+        ensures failed { self.new.failed ≡ (self.old.failed || not result) }
+    {
         if self.flushes == 0 {
             self.failed = true;
             return false;
@@ -90,9 +94,71 @@ impl Sink for Store {
         self.flushes -= 1;
         true
     }
+}
+
+impl Sink for Shelf {
+    ghost held = { λ s. Some s.bytes.items };
+
+    ghost failed = { λ s. s.failed };
+
+    fn put(&mut self, bytes: &[u8]) -> Option<usize> {
+        self.take(bytes)
+    }
+
+    fn flush(&mut self) -> bool {
+        self.is_flushed()
+    }
 
     fn has_failed(&self) -> bool {
         self.failed
+    }
+}
+
+// As a journal's end, of which nothing is known: a drive appends to it, and syncs it.
+impl Store for Shelf {
+    ghost seen = { λ s. None };
+
+    ghost may_leave = { λ s c. ⊤ };
+
+    ghost moment = { λ s. 0 };
+
+    ghost left_since = { λ s t c. ⊤ };
+
+    ghost failed = { λ s. s.failed };
+
+    ghost counts_now = { λ s t c le may. tt };
+
+    ghost only_now = { λ s c left. tt };
+
+    fn read(&mut self, _alloc: Global, _limit: usize) -> Result<Vec<u8>, StoreFault> {
+        self.failed = true;
+        Err(StoreFault::Failed)
+    }
+
+    fn append(&mut self, bytes: &[u8]) -> Option<usize> {
+        self.take(bytes)
+    }
+
+    fn cut(&mut self, _len: usize) -> bool {
+        self.failed = true;
+        false
+    }
+
+    fn replace(&mut self, _bytes: &[u8]) -> bool {
+        self.failed = true;
+        false
+    }
+
+    fn sync(&mut self) -> bool {
+        self.is_flushed()
+    }
+
+    fn has_failed(&self) -> bool {
+        self.failed
+    }
+
+    fn cause(&self) -> Option<&str> {
+        None
     }
 }
 
@@ -109,7 +175,7 @@ pub(crate) struct Good {
     pub(crate) counts: bool,
 }
 
-const MANY: usize = 10_000;
+pub(crate) const MANY: usize = 10_000;
 
 // No stream fails. The replies are never flushed.
 pub(crate) const ALL: Good = Good {
@@ -190,9 +256,9 @@ pub(crate) fn drive_from(
         good: good.answers,
         failed: false,
     };
-    let mut link_out = Store::new(alloc, good.link, good.link_flushes, good.counts);
-    let mut journal_out = Store::new(alloc, good.journal, good.journal_flushes, good.counts);
-    let mut out = Store::new(alloc, good.out, 0, good.counts);
+    let mut link_out = Shelf::new(alloc, good.link, good.link_flushes, good.counts);
+    let mut journal_out = Shelf::new(alloc, good.journal, good.journal_flushes, good.counts);
+    let mut out = Shelf::new(alloc, good.out, 0, good.counts);
     let driven = drive(
         Writer::new(journal),
         orders,
@@ -203,10 +269,10 @@ pub(crate) fn drive_from(
         &mut out,
     );
     let failed = [
-        link_in.has_failed(),
-        link_out.has_failed(),
-        journal_out.has_failed(),
-        out.has_failed(),
+        link_in.failed,
+        link_out.failed,
+        journal_out.failed,
+        out.failed,
     ];
     Ok(Left {
         fault: driven.err(),

@@ -4,8 +4,6 @@ ghost use Rattle.dali_frame.specs.declared.forward.Frame.TheVariants.{Dtr0, Dtr1
 ghost use Rattle.dali_frame.specs.declared.fault.LineFault.TheVariants.{Length};
 ghost use Rattle.dali_journal.specs.declared.record.Code.TheVariants.{DoubtOpen};
 ghost use Rattle.dali_journal.specs.declared.record.Record.TheVariants.{Opened};
-ghost use Rattle.dali_journal.specs.declared.version.Version.{Version};
-ghost use Rattle.dali_journal.specs.declared.version.Version.TheVariants.{Two};
 ghost use Rattle.dali_drive.specs.declared.fault.DriveFault.TheVariants as faults;
 ghost use Rattle.dali_trace.specs.declared.happening.Reply.TheVariants as replies;
 ghost use Rattle.dali_trace.specs.declared.happening.Happening.TheVariants.{Asked, Answered, Sent, Kept, Stopped};
@@ -15,7 +13,9 @@ ghost use Rattle.dali_trace.specs.Replies.{reply_line};
 ghost use Rattle.dali_drive.specs.Transcript.{Streams, Transcript};
 ghost use Rattle.dali_drive.specs.Driven.{IsInTurn, KeepsRecords, IsDriven, BrokenOff};
 ghost use Rattle.dali_laws.specs.Joined.{FollowOn};
-ghost use Rattle.dali_drive.specs.Sittings.{IsFileOf, after, MayHaveHappened};
+ghost use Rattle.dali_store.specs.Opened.{Loads};
+ghost use Rattle.dali_trace.specs.Trace.{records_of};
+ghost use Rattle.dali_drive.specs.Sittings.{MayHaveHappened};
 ghost use Rattle.dali_trace.specs.Worked.{empty, second_order, asked, taken, begun};
 ghost use Rattle.dali_trace.specs.WorkedPlans.{half_tried};
 ghost use Rattle.dali_drive.specs.WorkedDrives.{before_two, after_two, frames_turned, one_line_read, record_left_out};
@@ -26,7 +26,7 @@ fn two_frames_are_driven()
     ensures driven { IsDriven empty half_tried before_two after_two }
     ensures reply { reply_line 7 (replies.Kept DoubtOpen) ≡ codes "reply 7 kept 5 DoubtOpen\n" }
     ensures next { IsNext empty begun (Sent (Dtr1 1) None) }
-    ensures file { IsFileOf torn_file (after empty begun) Two 35 }
+    ensures file { Loads empty.limit (records_of empty begun) torn_file }
 {}
 
 // What isn't its text, nor an answer's line, nor what is read of one.
@@ -49,7 +49,7 @@ fn other_steps()
     ensures asked_at_work { ¬ IsInTurn empty (Asked second_order 9 ∷ taken) }
     ensures stopped { ¬ IsInTurn empty (Stopped ∷ begun) }
     ensures out_of_range { ¬ KeepsRecords (Kept (Opened 64) ∷ begun) }
-    ensures two_steps { ¬ MayHaveHappened empty begun half_tried }
+    ensures two_steps { ¬ MayHaveHappened empty begun faults.Link half_tried }
     ensures no_record { (rest : List Contents) (old new : Streams)
         → ¬ BrokenOff empty begun rest faults.Journal old new }
     ensures no_memory { (rest : List Contents) (old new : Streams)
@@ -58,7 +58,7 @@ fn other_steps()
 
 // A file is that of no other records, and of no other moments, in no version, and no sitting forgets what stands in it.
 fn other_sittings()
-    ensures file { (version : Version) (count : ℕ) → ¬ IsFileOf torn_file empty version count }
-    ensures old { (version : Version) (count : ℕ) → ¬ IsFileOf old_file (after empty begun) version count }
+    ensures file { ¬ Loads empty.limit empty.records torn_file }
+    ensures old { ¬ Loads empty.limit (records_of empty begun) old_file }
     ensures forgotten { ¬ FollowOn empty (first_sitting ∷ first_sitting ∷ []) }
 {}

@@ -1,18 +1,17 @@
 -- A store's bytes as a journal.
-use Rattle.std.proofs.Common.{◌≡◌, ◌≢◌, ◌≤◌, ◌<◌, ◌^◌, ◌⊎◌, inl, inr, ⊎_elim, refl, sym, ap, ◌∙◌, subst, ℕ, List, [], ◌∷◌, ◌++◌}
+use Rattle.std.proofs.Common.{◌≡◌, ◌≢◌, ◌≤◌, ◌<◌, ◌^◌, inl, inr, ⊎_elim, refl, sym, ap, ◌∙◌, subst, ℕ, List, [], ◌∷◌, ◌++◌}
 use Rattle.std.proofs.Common.{Option, Some, None, length, take, arith, length-append}
 use Rattle.std.proofs.lemmas.List.{append_assoc, append-nil, take_at}
 use Rattle.std.specs.List.{AllByRecursion}
-use Rattle.std.specs.Io.KnownBytes.{Keeps}
 use Rattle.dali_journal.specs.declared.record.Record.{Record}
 use Rattle.dali_journal.specs.declared.record.Record.TheVariants.{Began, Opened, Ended, Closed}
 use Rattle.dali_journal.specs.declared.record.Code.TheVariants.{Done}
 use Rattle.dali_journal.specs.declared.version.Version.{Version}
 use Rattle.dali_journal.specs.declared.version.Version.TheVariants.{One, Two}
-use Rattle.dali_journal.specs.Spelling.{spelling, records_spelling, header, journal_spelling, IsRecord}
+use Rattle.dali_journal.specs.Spelling.{spelling, journal_spelling, IsRecord}
 use Rattle.dali_journal.specs.Reading.{IsCutOf}
 use Rattle.dali_journal.specs.JournalState.{JournalState, AreKept}
-use Rattle.dali_journal.specs.Loading.{HasVersion, IsTorn, IsLoadable, IsLoaded}
+use Rattle.dali_journal.specs.Loading.{IsTorn, IsLoadable}
 use Rattle.dali_store.specs.Stores.{Shows, Becomes, AreFirst, IsWithin, IsBehind, MayAlso, Elapses, LeavesOnly}
 use Rattle.dali_store.specs.Opened.{Loads, IsFound, LoadsAlike, StaysAlike, LeavesAlike}
 use Rattle.dali_store.proofs.Moments.{started, goes_on}

@@ -1,3 +1,3 @@
 pub mod Stores
-pub mod Past
+pub mod Memory
 pub mod Opened

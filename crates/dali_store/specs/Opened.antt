@@ -1,16 +1,14 @@
 -- What a store's bytes are as a journal, and what opening it does.
-use Rattle.std.specs.Prelude.{◌≡◌, ◌⊎◌, ◌≤◌, ◌<◌, ℕ, List, Option, Some, None, length, ⊤}
+use Rattle.std.specs.Prelude.{◌≡◌, ◌⊎◌, ◌≤◌, ℕ, List, Option, Some, None, length, ⊤}
 use Rattle.std.specs.Io.KnownBytes.{Keeps}
 use Rattle.dali_journal.specs.declared.record.Record.{Record}
 use Rattle.dali_journal.specs.declared.version.Version.{Version}
-use Rattle.dali_journal.specs.declared.version.Version.TheVariants.{Two}
-use Rattle.dali_journal.specs.Spelling.{journal_spelling}
 use Rattle.dali_journal.specs.JournalState.{JournalState, AreKept}
 use Rattle.dali_journal.specs.Loading.{IsLoadable, IsLoaded, IsLoadFault}
 use Rattle.dali_store.specs.declared.opening.OpenFault.{OpenFault}
 use Rattle.dali_store.specs.declared.opening.OpenFault.TheVariants.{Store, Journal}
 use Rattle.dali_store.specs.declared.store.StoreFault.TheVariants.{TooBig}
-use Rattle.dali_store.specs.Stores.{Shows, IsLonger, Becomes}
+use Rattle.dali_store.specs.Stores.{Shows, IsLonger}
 
 -- the bytes load to these records, in one version or the other
 pub record Loads (limit : ℕ) (records : List Record) (bytes : List ℕ) : Type 0 where

@@ -1,6 +1,4 @@
-use Rattle.std.proofs.Common.{◌≡◌, inl, inr, ⊎_elim, ◌∙◌, subst, List, ℕ}
-use Rattle.dali_store.specs.Stores.{Becomes}
-use Rattle.dali_store.specs.Opened.{LeavesAlike}
+use Rattle.std.proofs.Common.{inl, inr}
 use Rattle.dali_store.proofs.Moments.{goes_on}
 use Rattle.dali_store.proofs.OpenLemmas.{one_call, also_alike, behind_found, stays_found, cut_found, cut_within, not_zero}
 use Rattle.dali_store.proofs.opening.cut_behind.Goals as goal

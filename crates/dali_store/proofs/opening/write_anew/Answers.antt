@@ -1,4 +1,4 @@
-use Rattle.std.proofs.Common.{◌≡◌, inl, inr, ⊎_elim, ◌∙◌, subst, List, ℕ}
+use Rattle.std.proofs.Common.{inl, inr, ⊎_elim, ◌∙◌, subst}
 use Rattle.dali_store.specs.Stores.{Becomes}
 use Rattle.dali_store.proofs.OpenLemmas.{one_call, also_alike, alike_found, stays_found}
 use Rattle.dali_store.proofs.opening.write_anew.Goals as goal

@@ -1,7 +1,6 @@
-use Rattle.std.proofs.Common.{◌≡◌, ◌+◌, length, refl, take, arith, length-take, length-drop}
+use Rattle.std.proofs.Common.{◌+◌, refl, arith, length-take, length-drop}
 use Rattle.std.proofs.lemmas.Grind.{common_steps}
 use Rattle.std.proofs.KnownBytes.{Appends-nil}
-use Rattle.std.specs.Io.KnownBytes.{Appends}
 use Rattle.dali_store.proofs.Moments.{started}
 use Rattle.dali_store.proofs.Betweens.{settled_between, left_more, grown, put_more}
 use Rattle.dali_store.proofs.store.append_all.Goals as goal

@@ -1,4 +1,4 @@
-use Rattle.std.proofs.Common.{◌≡◌, length, subst, sym, Option, List, ℕ}
+use Rattle.std.proofs.Common.{length, subst, sym, Option, List, ℕ}
 use Rattle.std.specs.Io.KnownBytes.{Appends}
 use Rattle.dali_store.proofs.Betweens.{kept_all}
 use Rattle.dali_store.proofs.store.keep.Goals as goal

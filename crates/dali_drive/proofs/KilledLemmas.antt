@@ -318,4 +318,4 @@ fault_tried limit most orders moment found left before after fault is held (why,
     by (openings.Journal fault) old new is held why = keeps old new is held why.1
     by (openings.Store TooBig) old new is held why = keeps old new is held why.1
     by (openings.Store Failed) old new is held why = either old new is held why
-    by (openings.Store stores.NoMemory) old new is held why = either old new is held why
+    by (openings.Store stores.NoMemory) old new is held why = keeps old new is held why

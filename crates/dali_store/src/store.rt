@@ -158,6 +158,7 @@ pub fn keep<S: Store>(store: &mut S, bytes: &[u8]) -> bool
     ensures settled { result ≡ true → IsSettled (S.seen store.new) (S.may_leave store.new) }
     ensures cut { result ≡ false
         → (k : ℕ) × (k ≤ length bytes.now) × Appends (S.seen store.old) (S.seen store.new) (take k bytes.now) }
+    ensures stop { (c : List ℕ) → S.may_leave store.new c → IsBetween (S.seen store.old) (S.seen store.new) c }
     ensures any_moment { LeavesOnly S.moment S.left_since store.old store.new
         (IsBetween (S.seen store.old) (S.seen store.new)) }
     ensures failed { S.failed store.new ≡ (S.failed store.old || not result) }

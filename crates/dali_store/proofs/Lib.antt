@@ -2,3 +2,5 @@ pub mod OpenLemmas
 pub mod Moments
 mod Kept
 pub mod Betweens
+mod WorkedStoreLemmas
+mod WorkedOpenLemmas

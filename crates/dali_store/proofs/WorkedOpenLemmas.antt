@@ -1,16 +1,16 @@
 -- What the bytes of a small journal load to and what opening them does, and what is near it and isn't so.
-use Rattle.std.proofs.Common.{◌≡◌, ◌⊎◌, inl, inr, refl, sym, arith, ap, ℕ, ◌≤◌, List, [], ◌∷◌, Some, None, length}
+use Rattle.std.proofs.Common.{◌≡◌, inl, inr, refl, arith, ap, ℕ, List, [], ◌∷◌, Some, length}
 use Rattle.dali_journal.specs.declared.fault.JournalFault.TheVariants as faults
 use Rattle.dali_journal.specs.declared.record.Record.{Record}
 use Rattle.dali_journal.specs.declared.record.Record.TheVariants.{Opened, Began}
 use Rattle.dali_journal.specs.declared.version.Version.TheVariants.{One, Two}
 use Rattle.dali_journal.specs.Spelling.{IsRecord}
 use Rattle.dali_journal.specs.JournalState.{AreKept}
-use Rattle.dali_journal.specs.Loading.{HasBrokenHeader, IsTorn}
+use Rattle.dali_journal.specs.Loading.{IsTorn}
 use Rattle.dali_journal.proofs.TornLemmas.{torn_no_fault}
 use Rattle.dali_store.specs.declared.opening.OpenFault.TheVariants.{Store, Journal}
 use Rattle.dali_store.specs.declared.store.StoreFault.TheVariants.{Failed, TooBig, NoMemory}
-use Rattle.dali_store.specs.Opened.{Loads, IsFound, IsOpened, LoadsAlike, StaysAlike, LeavesAlike, IsOpenFault}
+use Rattle.dali_store.specs.Opened.{Loads, IsOpened, LoadsAlike, StaysAlike, LeavesAlike, IsOpenFault}
 use Rattle.dali_store.specs.WorkedStores.{order, begun_at, journal_of, whole, with_cut, bare, old, anew}
 use Rattle.dali_store.proofs.OpenLemmas.{whole_loads, kept_two}
 

@@ -1,9 +1,9 @@
 -- What the calls of a store do to small bytes and what a stop may leave of them, and what is near it and isn't so.
-use Rattle.std.proofs.Common.{◌≡◌, ◌≢◌, ◌⊎◌, inl, inr, refl, arith, ap, ℕ, ◌≤◌, List, [], ◌∷◌, Some, None, length, Vec, Bool, true, false}
+use Rattle.std.proofs.Common.{◌≡◌, ◌⊎◌, inl, inr, refl, arith, ℕ, List, [], ◌∷◌, Some, None, Vec, true, false}
 use Rattle.std.specs.declared.alloc.Global.{Global}
 use Rattle.dali_store.specs.Stores.{Shows, IsSettled, IsBetween, IsBehind, MayAlso, Elapses, LeavesOnly}
 use Rattle.dali_store.specs.Stores.{Takes, is_refusal, IsWithin, IsLonger, CutsTo, Becomes, KeepsOrBecomes}
-use Rattle.dali_store.specs.Memory.{Contents, MayBeLeft, MightBeLeft}
+use Rattle.dali_store.specs.Memory.{MayBeLeft, MightBeLeft}
 
 -- What a stop leaves
 

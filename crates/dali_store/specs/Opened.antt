@@ -47,8 +47,8 @@ StaysAlike limit old (Some bytes) = LoadsAlike limit old bytes
 abbrev pub LeavesAlike : ℕ → Option (List ℕ) → (List ℕ → Type 0) → List ℕ → Type 0
 LeavesAlike limit seen before c = before c ⊎ LoadsAlike limit seen c
 
--- Why a journal isn't opened. Where the bytes are no journal's, or too many, or there was no memory, nothing is changed;
--- a store that failed holds the same bytes or those of the same records.
+-- Why a journal isn't opened. Nothing is changed where the bytes are no journal's, or too many, or there was no memory;
+-- a store that failed holds the same bytes, or bytes of the same records.
 abbrev pub IsOpenFault : ℕ → ℕ → Option (List ℕ) → Option (List ℕ) → OpenFault → Type 0
 IsOpenFault limit most old new (Journal fault) =
     ((bytes : List ℕ) × Shows old bytes × (length bytes ≤ most) × IsLoadFault limit bytes fault) × Keeps old new

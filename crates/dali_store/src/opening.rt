@@ -1,9 +1,7 @@
 // A journal is opened over a store.
-ghost use Rattle.std.specs.Prelude.{◌≡◌, ◌≢◌, ◌<◌, ◌||◌, ◌⊎◌, ◌≤◌, List, ℕ, IfOk, IfErr, OnOk, OnErr, IsErrOf, true, false, not, length};
-ghost use Rattle.std.specs.Io.KnownBytes.{Keeps};
+ghost use Rattle.std.specs.Prelude.{◌≡◌, ◌≢◌, ◌<◌, ◌≤◌, ◌||◌, ℕ, List, IfOk, IfErr, OnOk};
 ghost use Rattle.dali_journal.specs.declared.version.Version.TheVariants.{Two};
 ghost use Rattle.dali_journal.specs.Spelling.{journal_spelling};
-ghost use Rattle.dali_store.specs.declared.store.StoreFault.TheVariants.{Failed, TooBig};
 ghost use Rattle.dali_store.specs.Stores.{IsSettled, Becomes, LeavesOnly, is_failure};
 ghost use Rattle.dali_store.specs.Opened.{IsFound, IsOpened, IsOpenFault, LeavesAlike, is_store_failure};
 
@@ -203,9 +201,8 @@ fn sync_whole<S: Store>(
         (LeavesAlike limit (S.seen store.old) (S.may_leave store.old)) }
     ensures failed { S.failed store.new ≡ (S.failed store.old || is_failure result) }
 {
-    if store.sync() {
-        Ok(())
-    } else {
-        Err(StoreFault::Failed)
+    if !store.sync() {
+        return Err(StoreFault::Failed);
     }
+    Ok(())
 }

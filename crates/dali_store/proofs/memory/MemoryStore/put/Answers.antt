@@ -1,5 +1,5 @@
 use Rattle.std.proofs.Common.{rules, ap, refl}
-use Rattle.dali_store.proofs.Kept.{put_stop, put_elapses}
+use Rattle.dali_store.proofs.MemoryLemmas.{put_stop, put_elapses}
 use Rattle.dali_store.proofs.memory.MemoryStore.put.Goals as goal
 
 pub returns-in-Ok-clause-stop : goal.returns-in-Ok-clause-stop

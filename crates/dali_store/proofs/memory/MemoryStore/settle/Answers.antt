@@ -1,5 +1,5 @@
 use Rattle.std.proofs.Common.{rules}
-use Rattle.dali_store.proofs.Kept.{settle_elapses}
+use Rattle.dali_store.proofs.MemoryLemmas.{settle_elapses}
 use Rattle.dali_store.proofs.memory.MemoryStore.settle.Goals as goal
 
 pub returns-in-Ok-clause-time : goal.returns-in-Ok-clause-time

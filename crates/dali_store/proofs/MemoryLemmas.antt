@@ -1,5 +1,6 @@
 -- One more content joins those that a store in memory had, and one more time those before it.
-use Rattle.std.proofs.Common.{◌≡◌, ◌⊎◌, inl, inr, ⊎_elim, ℕ, zero, suc, ◌≤◌, List, [], ◌∷◌, ◌++◌, length, drop, Vec, refl, sym, subst, arith, length-append}
+use Rattle.std.proofs.Common.{◌≡◌, ◌⊎◌, inl, inr, ⊎_elim, ℕ, zero, suc, ◌≤◌, List, [], ◌∷◌, ◌++◌, length, drop, Vec}
+use Rattle.std.proofs.Common.{refl, sym, subst, arith, length-append}
 use Rattle.std.specs.declared.alloc.Global.{Global}
 use Rattle.dali_store.specs.Stores.{Elapses, MayAlso}
 use Rattle.dali_store.specs.Memory.{Contents, Times, HadBeen, HadBeenAt, MayBeLeft, MightBeLeft}

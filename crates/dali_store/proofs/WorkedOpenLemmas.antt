@@ -20,7 +20,12 @@ is_record : IsRecord Two (Began order 7)
 is_record = (
   omega arith,
   omega arith,
-  record { some = omega arith; few = omega arith; rising = (omega arith, tt); writable = (inl (omega arith, omega arith), tt) },
+  record {
+    some = omega arith;
+    few = omega arith;
+    rising = (omega arith, tt);
+    writable = (inl (omega arith, omega arith), tt);
+  },
   (omega arith, tt),
   omega arith,
 )
@@ -77,8 +82,8 @@ none_is = record { version = Two; len = 0; kept = none_kept; loadable = (refl, r
 pub one_load : (bytes : List ℕ) (records others : List Record) → Loads 1 records bytes → Loads 1 others bytes
     → others ≡ records
 one_load bytes records others one other =
-    ((torn_no_fault 1 bytes one.version records one.len one.kept one.loadable).2 other.version others other.len other.kept
-    other.loadable).1
+    ((torn_no_fault 1 bytes one.version records one.len one.kept one.loadable).2 other.version others other.len
+    other.kept other.loadable).1
 
 pub not_of_fewer : Loads 1 [] with_cut → ⊥
 not_of_fewer loads = let same = one_load with_cut (begun_at 7) [] cut_is loads in cc
@@ -95,8 +100,8 @@ pub none_alike_bare : LoadsAlike 1 (Some []) bare
 none_alike_bare = ([], none_is, bare_is)
 
 -- two ways to load them
-not_alike : (bytes c : List ℕ) (one other : List Record) → Loads 1 one bytes → Loads 1 other c → LoadsAlike 1 (Some bytes) c
-    → one ≡ other
+not_alike : (bytes c : List ℕ) (one other : List Record) → Loads 1 one bytes → Loads 1 other c
+    → LoadsAlike 1 (Some bytes) c → one ≡ other
 not_alike bytes c one other is also (records, first, second) =
     let a = one_load bytes one records is first in let b = one_load c other records also second in cc
 
@@ -112,7 +117,8 @@ not_alike_at_another_moment alike = let same = not_alike old whole (begun_at 0) 
 pub stays_alike : StaysAlike 1 (Some with_cut) (Some whole) × (StaysAlike 1 (Some with_cut) (Some bare) → ⊥)
 stays_alike = (cut_alike_whole, not_alike_fewer)
 
-pub leaves_alike : LeavesAlike 1 (Some with_cut) (λ c. c ≡ bare) bare × LeavesAlike 1 (Some with_cut) (λ c. c ≡ bare) whole
+pub leaves_alike : LeavesAlike 1 (Some with_cut) (λ c. c ≡ bare) bare
+    × LeavesAlike 1 (Some with_cut) (λ c. c ≡ bare) whole
 leaves_alike = (inl refl, inr cut_alike_whole)
 
 pub leaves_no_fewer : LeavesAlike 1 (Some with_cut) (λ c. c ≡ with_cut) bare → ⊥
@@ -136,7 +142,12 @@ cut_opened = record {
 }
 
 found_shown : (f : IsOpened 1 100 (Some with_cut) (journal_of [])) → Loads 1 [] with_cut
-found_shown f = rw f.found.shown record { version = f.version; len = f.counted; kept = f.found.loaded.1; loadable = f.found.loaded.2 }
+found_shown f = rw f.found.shown record {
+  version = f.version;
+  len = f.counted;
+  kept = f.found.loaded.1;
+  loadable = f.found.loaded.2;
+}
 
 pub not_opened_as_none : IsOpened 1 100 (Some with_cut) (journal_of []) → ⊥
 not_opened_as_none opened = not_of_fewer (found_shown opened)
@@ -165,7 +176,7 @@ too_big_past_the_limit = ((omega arith, refl), λ fault. let longer = fault.0 in
 
 pub broken_header_told : IsOpenFault 1 100 (Some (0x44 ∷ [])) (Some (0x44 ∷ [])) (Journal faults.Header)
 broken_header_told =
-    ((0x44 ∷ [], refl, omega arith, ((omega arith, omega arith), (([], refl), λ whole. let same = whole.1 in cc))), refl)
+    ((0x44 ∷ [], refl, omega arith, ((omega arith, omega arith), (([], refl), λ is. let same = is.1 in cc))), refl)
 
 pub not_told_of_a_journal : IsOpenFault 1 100 (Some with_cut) (Some with_cut) (Journal faults.Header) → ⊥
 not_told_of_a_journal ((bytes, shown, within, (limit, broken)), keeps) =

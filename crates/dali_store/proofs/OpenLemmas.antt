@@ -185,25 +185,6 @@ behind_found limit most seen journal counted total f some =
     (found_loads limit most seen journal Two counted total f)
     (found_kept limit most seen journal Two counted total f) (found_torn limit most seen journal counted total f some)
 
--- nothing behind what counts
-pub whole_becomes : (seen : Option (List ℕ)) (records : List Record) (bytes : List ℕ) (len : ℕ) → Shows seen bytes
-    → IsTorn Two bytes records len → length bytes ≤ len → Becomes seen seen (journal_spelling Two records)
-whole_becomes None records bytes len shown torn less = tt
-whole_becomes (Some known) records bytes len shown torn less =
-    shown ∙ torn.spelled
-    ∙ ap (λ (l : List ℕ). journal_spelling Two records ++ l) (none torn.rest short)
-    ∙ append-nil (journal_spelling Two records)
-  where
-    sum : length bytes ≡ length (journal_spelling Two records ++ torn.rest)
-    sum = ap (λ (l : List ℕ). length l) torn.spelled
-
-    short : length torn.rest ≤ 0
-    short = omega (arith, less, torn.counts, sum, length-append (journal_spelling Two records) torn.rest)
-
-    none : (l : List ℕ) → length l ≤ 0 → l ≡ []
-    none [] less = refl
-    none (x ∷ l) less = absurd (omega (arith, less))
-
 pub alike_found : (limit most : ℕ) (seen : Option (List ℕ)) (journal : JournalState) (version : Version)
     (counted total : ℕ) → IsFound limit most seen journal version counted total
     → (c : List ℕ) → c ≡ journal_spelling Two journal.records → LoadsAlike limit seen c
@@ -227,14 +208,6 @@ cut_found limit most seen new last journal counted total f some first same =
     subst (λ (l : Option (List ℕ)). Becomes seen l (journal_spelling Two journal.records)) (sym same)
     (cut_becomes seen new journal.records f.bytes counted f.shown
     (found_torn limit most seen journal counted total f some) first)
-
-pub whole_found : (limit most : ℕ) (seen new : Option (List ℕ)) (journal : JournalState)
-    (counted total : ℕ) (f : IsFound limit most seen journal Two counted total) → total ≢ 0 → total ≤ counted
-    → new ≡ seen → Becomes seen new (journal_spelling Two journal.records)
-whole_found limit most seen new journal counted total f some all same =
-    subst (λ (l : Option (List ℕ)). Becomes seen l (journal_spelling Two journal.records)) (sym same)
-    (whole_becomes seen journal.records f.bytes counted f.shown
-    (found_torn limit most seen journal counted total f some) (omega (arith, f.total_is, all)))
 
 pub not_zero : (counted total : ℕ) → counted < total → total ≢ 0
 not_zero counted total less none = omega (arith, less, none)

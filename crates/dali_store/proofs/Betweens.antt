@@ -1,11 +1,12 @@
 -- First parts of bytes.
-use Rattle.std.proofs.Common.{◌≡◌, ◌≤◌, ◌-◌, ◌+◌, refl, sym, ap, ◌∙◌, subst, ⊎_elim, ℕ, List, [], ◌∷◌, ◌++◌, Option, Some, None, length}
+use Rattle.std.proofs.Common.{◌≡◌, ◌≤◌, ◌-◌, ◌+◌, sym, ap, ◌∙◌, subst, ⊎_elim, ℕ, List, [], ◌++◌, length}
+use Rattle.std.proofs.Common.{Option, Some, None}
 use Rattle.std.proofs.Common.{take, drop, arith, length-take, take-append-drop}
 use Rattle.std.proofs.lemmas.List.{append_assoc, append-nil, take_rest}
 use Rattle.std.proofs.Math.Seq.{take-add, take-length}
 use Rattle.std.specs.Io.KnownBytes.{Appends}
 use Rattle.std.proofs.KnownBytes.{Appends-trans}
-use Rattle.dali_store.specs.Stores.{IsSettled, IsBetween, IsBehind, MayAlso, Elapses, LeavesOnly}
+use Rattle.dali_store.specs.Stores.{IsSettled, IsBetween, MayAlso, Elapses, LeavesOnly}
 use Rattle.dali_store.proofs.Moments.{goes_on, so_too}
 
 -- the first so many bytes

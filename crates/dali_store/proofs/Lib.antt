@@ -1,4 +1,6 @@
 pub mod OpenLemmas
 pub mod Moments
-mod Kept
+mod MemoryLemmas
 pub mod Betweens
+mod WorkedStoreLemmas
+mod WorkedOpenLemmas

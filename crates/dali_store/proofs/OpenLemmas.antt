@@ -1,18 +1,18 @@
 -- A store's bytes as a journal.
-use Rattle.std.proofs.Common.{◌≡◌, ◌≢◌, ◌≤◌, ◌<◌, ◌^◌, ◌⊎◌, inl, inr, ⊎_elim, refl, sym, ap, ◌∙◌, subst, ℕ, List, [], ◌∷◌, ◌++◌}
+use Rattle.std.proofs.Common.{◌≡◌, ◌≢◌, ◌≤◌, ◌<◌, ◌^◌, inl, inr, ⊎_elim, refl, sym, ap, ◌∙◌, subst}
+use Rattle.std.proofs.Common.{ℕ, List, [], ◌∷◌, ◌++◌}
 use Rattle.std.proofs.Common.{Option, Some, None, length, take, arith, length-append}
 use Rattle.std.proofs.lemmas.List.{append_assoc, append-nil, take_at}
 use Rattle.std.specs.List.{AllByRecursion}
-use Rattle.std.specs.Io.KnownBytes.{Keeps}
 use Rattle.dali_journal.specs.declared.record.Record.{Record}
 use Rattle.dali_journal.specs.declared.record.Record.TheVariants.{Began, Opened, Ended, Closed}
 use Rattle.dali_journal.specs.declared.record.Code.TheVariants.{Done}
 use Rattle.dali_journal.specs.declared.version.Version.{Version}
 use Rattle.dali_journal.specs.declared.version.Version.TheVariants.{One, Two}
-use Rattle.dali_journal.specs.Spelling.{spelling, records_spelling, header, journal_spelling, IsRecord}
+use Rattle.dali_journal.specs.Spelling.{spelling, journal_spelling, IsRecord}
 use Rattle.dali_journal.specs.Reading.{IsCutOf}
 use Rattle.dali_journal.specs.JournalState.{JournalState, AreKept}
-use Rattle.dali_journal.specs.Loading.{HasVersion, IsTorn, IsLoadable, IsLoaded}
+use Rattle.dali_journal.specs.Loading.{IsTorn, IsLoadable}
 use Rattle.dali_store.specs.Stores.{Shows, Becomes, AreFirst, IsWithin, IsBehind, MayAlso, Elapses, LeavesOnly}
 use Rattle.dali_store.specs.Opened.{Loads, IsFound, LoadsAlike, StaysAlike, LeavesAlike}
 use Rattle.dali_store.proofs.Moments.{started, goes_on}
@@ -78,7 +78,8 @@ pub front_loads : (limit : ℕ) (records : List Record) (bytes c rest : List ℕ
 front_loads limit records bytes c rest len kept torn long same =
     let last = torn.cut.0 in
     let cut = torn.cut.1 in
-    let s = split_front (journal_spelling Two records) torn.rest c rest (sym torn.spelled ∙ same) (subst (λ (n : ℕ). n ≤ length c) torn.counts long) in
+    let front : length (journal_spelling Two records) ≤ length c = subst (λ (n : ℕ). n ≤ length c) torn.counts long in
+    let s = split_front (journal_spelling Two records) torn.rest c rest (sym torn.spelled ∙ same) front in
     record {
       version = Two;
       len = len;
@@ -127,22 +128,23 @@ pub alike : (limit : ℕ) (seen : Option (List ℕ)) (records : List Record) (by
     → Loads limit records bytes → Loads limit records c → LoadsAlike limit seen c
 alike limit None records bytes c shown one other = tt
 alike limit (Some known) records bytes c shown one other =
-    (records, subst (λ (l : List ℕ). Loads limit records l) (sym shown) one, other)
+    (records, subst (Loads limit records) (sym shown) one, other)
 
 pub stays : (limit : ℕ) (seen new : Option (List ℕ)) (records : List Record) (bytes c : List ℕ) → Shows seen bytes
     → Loads limit records bytes → Loads limit records c → Becomes seen new c → StaysAlike limit seen new
 stays limit seen None records bytes c shown one other becomes = tt
 stays limit None (Some now) records bytes c shown one other becomes = tt
 stays limit (Some known) (Some now) records bytes c shown one other becomes =
-    alike limit (Some known) records bytes now shown one (subst (λ (l : List ℕ). Loads limit records l) (sym becomes) other)
+    alike limit (Some known) records bytes now shown one (subst (Loads limit records) (sym becomes) other)
 
 -- what is behind a journal that is shown
-behind_alike : (limit : ℕ) (seen : Option (List ℕ)) (records : List Record) (bytes : List ℕ) (len : ℕ) → Shows seen bytes
-    → Loads limit records bytes → AreKept Two limit records → IsTorn Two bytes records len
+behind_alike : (limit : ℕ) (seen : Option (List ℕ)) (records : List Record) (bytes : List ℕ) (len : ℕ)
+    → Shows seen bytes → Loads limit records bytes → AreKept Two limit records → IsTorn Two bytes records len
     → (c : List ℕ) → IsBehind len seen c → LoadsAlike limit seen c
 behind_alike limit None records bytes len shown one kept torn c is = tt
 behind_alike limit (Some known) records bytes len shown one kept torn c (long, rest, same) =
-    alike limit (Some known) records bytes c shown one (front_loads limit records bytes c rest len kept torn long (sym shown ∙ same))
+    alike limit (Some known) records bytes c shown one
+    (front_loads limit records bytes c rest len kept torn long (sym shown ∙ same))
 
 pub also_alike : (limit : ℕ) (seen : Option (List ℕ)) (was now Q : List ℕ → Type 0)
     → ((c : List ℕ) → Q c → LoadsAlike limit seen c) → MayAlso Q was now → (c : List ℕ) → now c
@@ -164,7 +166,8 @@ pub cut_within : (limit most : ℕ) (seen : Option (List ℕ)) (journal : Journa
     → IsWithin counted seen
 cut_within limit most None journal version counted total f less = tt
 cut_within limit most (Some known) journal version counted total f less =
-    let same : length known ≡ length f.bytes = ap (λ (l : List ℕ). length l) f.shown in omega (arith, same, f.total_is, less)
+    let same : length known ≡ length f.bytes = ap (λ (l : List ℕ). length l) f.shown in
+    omega (arith, same, f.total_is, less)
 
 pub cut_becomes : (seen new : Option (List ℕ)) (records : List Record) (bytes : List ℕ) (len : ℕ) → Shows seen bytes
     → IsTorn Two bytes records len → AreFirst len seen new → Becomes seen new (journal_spelling Two records)
@@ -178,28 +181,17 @@ pub behind_found : (limit most : ℕ) (seen : Option (List ℕ)) (journal : Jour
     → IsFound limit most seen journal Two counted total → total ≢ 0
     → (c : List ℕ) → IsBehind counted seen c → LoadsAlike limit seen c
 behind_found limit most seen journal counted total f some =
-    behind_alike limit seen journal.records f.bytes counted f.shown (found_loads limit most seen journal Two counted total f)
+    behind_alike limit seen journal.records f.bytes counted f.shown
+    (found_loads limit most seen journal Two counted total f)
     (found_kept limit most seen journal Two counted total f) (found_torn limit most seen journal counted total f some)
-
--- nothing behind what counts
-pub whole_becomes : (seen : Option (List ℕ)) (records : List Record) (bytes : List ℕ) (len : ℕ) → Shows seen bytes
-    → IsTorn Two bytes records len → length bytes ≤ len → Becomes seen seen (journal_spelling Two records)
-whole_becomes None records bytes len shown torn less = tt
-whole_becomes (Some known) records bytes len shown torn less =
-    shown ∙ torn.spelled
-    ∙ ap (λ (l : List ℕ). journal_spelling Two records ++ l) (none torn.rest (omega (arith, less, torn.counts, ap (λ (l : List ℕ). length l) torn.spelled, length-append (journal_spelling Two records) torn.rest)))
-    ∙ append-nil (journal_spelling Two records)
-  where
-    none : (l : List ℕ) → length l ≤ 0 → l ≡ []
-    none [] less = refl
-    none (x ∷ l) less = absurd (omega (arith, less))
 
 pub alike_found : (limit most : ℕ) (seen : Option (List ℕ)) (journal : JournalState) (version : Version)
     (counted total : ℕ) → IsFound limit most seen journal version counted total
     → (c : List ℕ) → c ≡ journal_spelling Two journal.records → LoadsAlike limit seen c
 alike_found limit most seen journal version counted total f c is =
     alike limit seen journal.records f.bytes c f.shown (found_loads limit most seen journal version counted total f)
-    (subst (λ (l : List ℕ). Loads limit journal.records l) (sym is) (whole_loads limit journal.records (found_kept limit most seen journal version counted total f)))
+    (subst (Loads limit journal.records) (sym is)
+    (whole_loads limit journal.records (found_kept limit most seen journal version counted total f)))
 
 pub stays_found : (limit most : ℕ) (seen new : Option (List ℕ)) (journal : JournalState) (version : Version)
     (counted total : ℕ) → IsFound limit most seen journal version counted total
@@ -214,15 +206,8 @@ pub cut_found : (limit most : ℕ) (seen new last : Option (List ℕ)) (journal 
     → AreFirst counted seen new → last ≡ new → Becomes seen last (journal_spelling Two journal.records)
 cut_found limit most seen new last journal counted total f some first same =
     subst (λ (l : Option (List ℕ)). Becomes seen l (journal_spelling Two journal.records)) (sym same)
-    (cut_becomes seen new journal.records f.bytes counted f.shown (found_torn limit most seen journal counted total f some) first)
-
-pub whole_found : (limit most : ℕ) (seen new : Option (List ℕ)) (journal : JournalState)
-    (counted total : ℕ) (f : IsFound limit most seen journal Two counted total) → total ≢ 0 → total ≤ counted
-    → new ≡ seen → Becomes seen new (journal_spelling Two journal.records)
-whole_found limit most seen new journal counted total f some all same =
-    subst (λ (l : Option (List ℕ)). Becomes seen l (journal_spelling Two journal.records)) (sym same)
-    (whole_becomes seen journal.records f.bytes counted f.shown (found_torn limit most seen journal counted total f some)
-    (omega (arith, f.total_is, all)))
+    (cut_becomes seen new journal.records f.bytes counted f.shown
+    (found_torn limit most seen journal counted total f some) first)
 
 pub not_zero : (counted total : ℕ) → counted < total → total ≢ 0
 not_zero counted total less none = omega (arith, less, none)

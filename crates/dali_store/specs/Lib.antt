@@ -1,3 +1,4 @@
 pub mod Stores
-pub mod Past
+pub mod Memory
 pub mod Opened
+pub mod WorkedStores

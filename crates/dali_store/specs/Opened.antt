@@ -1,16 +1,14 @@
 -- What a store's bytes are as a journal, and what opening it does.
-use Rattle.std.specs.Prelude.{◌≡◌, ◌⊎◌, ◌≤◌, ◌<◌, ℕ, List, Option, Some, None, length, ⊤}
+use Rattle.std.specs.Prelude.{◌≡◌, ◌⊎◌, ◌≤◌, ℕ, List, Option, Some, None, length, ⊤, Bool, true, false}
 use Rattle.std.specs.Io.KnownBytes.{Keeps}
 use Rattle.dali_journal.specs.declared.record.Record.{Record}
 use Rattle.dali_journal.specs.declared.version.Version.{Version}
-use Rattle.dali_journal.specs.declared.version.Version.TheVariants.{Two}
-use Rattle.dali_journal.specs.Spelling.{journal_spelling}
 use Rattle.dali_journal.specs.JournalState.{JournalState, AreKept}
 use Rattle.dali_journal.specs.Loading.{IsLoadable, IsLoaded, IsLoadFault}
 use Rattle.dali_store.specs.declared.opening.OpenFault.{OpenFault}
 use Rattle.dali_store.specs.declared.opening.OpenFault.TheVariants.{Store, Journal}
-use Rattle.dali_store.specs.declared.store.StoreFault.TheVariants.{TooBig}
-use Rattle.dali_store.specs.Stores.{Shows, IsLonger, Becomes}
+use Rattle.dali_store.specs.declared.store.StoreFault.TheVariants.{Failed, TooBig, NoMemory}
+use Rattle.dali_store.specs.Stores.{Shows, IsLonger}
 
 -- the bytes load to these records, in one version or the other
 pub record Loads (limit : ℕ) (records : List Record) (bytes : List ℕ) : Type 0 where
@@ -49,10 +47,15 @@ StaysAlike limit old (Some bytes) = LoadsAlike limit old bytes
 abbrev pub LeavesAlike : ℕ → Option (List ℕ) → (List ℕ → Type 0) → List ℕ → Type 0
 LeavesAlike limit seen before c = before c ⊎ LoadsAlike limit seen c
 
--- why a journal isn't opened. Where the bytes are none, or too many, nothing is changed; a store that fails holds the
--- same records
+-- Why a journal isn't opened. Nothing is changed where the bytes are no journal's, or too many, or there was no memory;
+-- a store that failed holds the same bytes, or bytes of the same records.
 abbrev pub IsOpenFault : ℕ → ℕ → Option (List ℕ) → Option (List ℕ) → OpenFault → Type 0
 IsOpenFault limit most old new (Journal fault) =
     ((bytes : List ℕ) × Shows old bytes × (length bytes ≤ most) × IsLoadFault limit bytes fault) × Keeps old new
 IsOpenFault limit most old new (Store TooBig) = IsLonger most old × Keeps old new
-IsOpenFault limit most old new (Store other) = Keeps old new ⊎ StaysAlike limit old new
+IsOpenFault limit most old new (Store NoMemory) = Keeps old new
+IsOpenFault limit most old new (Store Failed) = Keeps old new ⊎ StaysAlike limit old new
+
+abbrev pub is_store_failure : OpenFault → Bool
+is_store_failure (Store Failed) = true
+is_store_failure other = false

@@ -1,133 +1,130 @@
-// A store in memory. Each call is done at once, so that a stop leaves what is there. It keeps each content that it had.
-ghost use Rattle.std.specs.Prelude.{◌≡◌, ◌⊎◌, [], ◌∷◌, ◌++◌, Some, false, length, take, drop, OnOk, OnErr, IfOk, ◌≤◌};
+// A store in memory. It keeps each content that it had, so that a test can go through all that a stop might have left.
+ghost use Rattle.std.specs.Prelude.{◌≡◌, List, ℕ, [], ◌∷◌, ◌++◌, ◌||◌, Some, true, false, not, length, IfOk};
 ghost use Rattle.std.proofs.Common.{inl};
-ghost use Rattle.dali_store.specs.Past.{HadBeen, only_bytes};
+ghost use Rattle.dali_store.specs.Memory.{memory_leaves, memory_left, only_now};
+ghost use Rattle.dali_store.specs.Stores.{Elapses, MayAlso};
 
 use crate::store::{Store, StoreFault};
 use std::alloc::{AllocError, Global};
+use std::mem;
 
-/// A store in memory (profile). It keeps each content that it had.
+/// A store in memory (profile). A stop may leave what is there, and each content that was there since the last sync.
 #[derive(Drop)]
 pub struct MemoryStore {
     alloc: Global,
     bytes: Vec<u8>,
-    past: Vec<Vec<u8>>,
+    unsynced: Vec<Vec<u8>>,
+    past: Vec<Vec<Vec<u8>>>,
     failed: bool,
 }
 
 impl MemoryStore {
-    ghost use Rattle.dali_store.specs.Past.{memory_bytes, memory_failed};
+    ghost use Rattle.dali_store.specs.Memory.{memory_bytes, memory_unsynced, memory_past, memory_failed};
 
-    /// A store with these bytes.
+    /// A store with these bytes, all of them synced.
     pub fn new(alloc: Global, bytes: Vec<u8>) -> MemoryStore
         ensures bytes { memory_bytes result ≡ bytes.items }
+        ensures unsynced { memory_unsynced result ≡ [] }
+        ensures past { memory_past result ≡ [] }
         ensures failed { memory_failed result ≡ false }
     {
         MemoryStore {
             alloc,
             bytes,
+            unsynced: Vec::new(alloc),
             past: Vec::new(alloc),
             failed: false,
         }
     }
 
-    /// Its bytes.
+    /// What is there.
     pub fn bytes(&self) -> &[u8]
         ensures { result.now ≡ memory_bytes self.now }
     {
         &self.bytes
     }
+
+    /// What was there since the last sync, the oldest first. A stop may leave each of them.
+    pub fn unsynced(&self) -> &[Vec<u8>]
+        ensures { result.now ≡ memory_unsynced self.now }
+    {
+        &self.unsynced
+    }
+
+    /// What was unsynced before each sync that found any, the oldest first.
+    pub fn past(&self) -> &[Vec<Vec<u8>>]
+        ensures { result.now ≡ memory_past self.now }
+    {
+        &self.past
+    }
+
+    // Puts other bytes in the place of those that are there.
+    fn put(&mut self, next: Vec<u8>) -> bool
+        ensures bytes { result ≡ true → self.new.bytes.items ≡ next.items }
+        ensures unsynced { result ≡ true
+            → self.new.unsynced.items ≡ self.old.unsynced.items ++ self.old.bytes ∷ [] }
+        ensures same { result ≡ false → self.new.bytes.items ≡ self.old.bytes.items }
+        ensures none { result ≡ false → (c : List ℕ) → memory_leaves self.new c → memory_leaves self.old c }
+        ensures stop { MayAlso (λ c. c ≡ next.items) (memory_leaves self.old) (memory_leaves self.new) }
+        ensures time { Elapses (length self.old.past.items) (length self.new.past.items) (memory_left self.old)
+            (memory_left self.new) (memory_leaves self.new) }
+        ensures failed { self.new.failed ≡ (self.old.failed || not result) }
+    {
+        match self.unsynced.push(mem::replace(&mut self.bytes, next)) {
+            Ok(()) => true,
+            Err(refused) => {
+                self.bytes = refused.value;
+                self.failed = true;
+                false
+            }
+        }
+    }
+
+    // From then on a stop leaves what is there alone.
+    fn settle(&mut self) -> bool
+        ensures bytes { self.new.bytes.items ≡ self.old.bytes.items }
+        ensures unsynced { result ≡ true → self.new.unsynced.items ≡ [] }
+        ensures past { result ≡ true → self.new.past.items ≡ self.old.past.items ++ self.old.unsynced ∷ [] }
+        ensures stop { (c : List ℕ) → memory_leaves self.new c → memory_leaves self.old c }
+        ensures time { Elapses (length self.old.past.items) (length self.new.past.items) (memory_left self.old)
+            (memory_left self.new) (memory_leaves self.new) }
+        ensures failed { self.new.failed ≡ (self.old.failed || not result) }
+    {
+        let none = Vec::new(self.alloc);
+        match self.past.push(mem::replace(&mut self.unsynced, none)) {
+            Ok(()) => true,
+            Err(refused) => {
+                self.unsynced = refused.value;
+                self.failed = true;
+                false
+            }
+        }
+    }
 }
 
-// Puts other bytes in the place of those that are there, which it keeps.
-fn become_bytes(
-    alloc: Global,
-    bytes: &mut Vec<u8>,
-    past: &mut Vec<Vec<u8>>,
-    next: Vec<u8>,
-) -> Result<(), AllocError>
-    ensures ok { OnOk result (bytes.new.items ≡ next.items) }
-    ensures err { OnErr result (bytes.new.items ≡ bytes.old.items) }
-    ensures past { OnOk result ((v : _) × (v.items ≡ bytes.old.items) × (past.new.items ≡ past.old.items ++ v ∷ [])) }
-    ensures past_err { OnErr result (past.new.items ≡ past.old.items) }
+// These bytes, and one more behind them.
+fn with_byte(alloc: Global, bytes: &[u8], byte: u8) -> Result<Vec<u8>, AllocError>
+    ensures { IfOk result (λ more. more.items ≡ bytes.now ++ byte ∷ []) }
 {
-    past.push(bytes.to_vec(alloc)?)?;
-    *bytes = next;
-    Ok(())
-}
-
-// These bytes, and others behind them.
-fn joined(alloc: Global, front: &[u8], back: &[u8]) -> Result<Vec<u8>, AllocError>
-    ensures { IfOk result (λ both. both.items ≡ front.now ++ back.now) }
-{
-    let mut both = front.to_vec(alloc)?;
-    both.extend_from_slice(back)?;
-    Ok(both)
-}
-
-// Puts bytes behind those that are there, which it keeps as they were.
-fn grow(
-    alloc: Global,
-    bytes: &mut Vec<u8>,
-    past: &mut Vec<Vec<u8>>,
-    more: &[u8],
-) -> Result<(), AllocError>
-    ensures ok { OnOk result (bytes.new.items ≡ bytes.old.items ++ more.now) }
-    ensures err { OnErr result (bytes.new.items ≡ bytes.old.items) }
-    ensures past { OnOk result ((v : _) × (v.items ≡ bytes.old.items) × (past.new.items ≡ past.old.items ++ v ∷ [])) }
-    ensures past_err { OnErr result (past.new.items ≡ past.old.items) }
-{
-    let next = joined(alloc, bytes, more)?;
-    become_bytes(alloc, bytes, past, next)
-}
-
-// Keeps the first so many of the bytes, and all of them as they were.
-fn shorten(
-    alloc: Global,
-    bytes: &mut Vec<u8>,
-    past: &mut Vec<Vec<u8>>,
-    len: usize,
-) -> Result<(), AllocError>
-    requires { len ≤ length bytes.old.items }
-    ensures ok { OnOk result (bytes.new.items ≡ take len bytes.old.items) }
-    ensures err { OnErr result (bytes.new.items ≡ bytes.old.items) }
-    ensures past { OnOk result ((v : _) × (v.items ≡ bytes.old.items) × (past.new.items ≡ past.old.items ++ v ∷ [])) }
-    ensures past_err { OnErr result (past.new.items ≡ past.old.items) }
-{
-    let next = bytes[..len].to_vec(alloc)?;
-    become_bytes(alloc, bytes, past, next)
-}
-
-// Puts a copy of these bytes in the place of those that are there, which it keeps.
-fn copy_over(
-    alloc: Global,
-    bytes: &mut Vec<u8>,
-    past: &mut Vec<Vec<u8>>,
-    others: &[u8],
-) -> Result<(), AllocError>
-    ensures ok { OnOk result (bytes.new.items ≡ others.now) }
-    ensures err { OnErr result (bytes.new.items ≡ bytes.old.items) }
-    ensures past { OnOk result ((v : _) × (v.items ≡ bytes.old.items) × (past.new.items ≡ past.old.items ++ v ∷ [])) }
-    ensures past_err { OnErr result (past.new.items ≡ past.old.items) }
-{
-    let next = others.to_vec(alloc)?;
-    become_bytes(alloc, bytes, past, next)
+    let mut more = bytes.to_vec(alloc)?;
+    more.push(byte)?;
+    Ok(more)
 }
 
 impl Store for MemoryStore {
     ghost seen = { λ m. Some m.bytes.items };
 
-    ghost may_leave = { λ m c. c ≡ m.bytes.items };
+    ghost may_leave = { λ m. memory_leaves m };
 
     ghost moment = { λ m. length m.past.items };
 
-    ghost left_since = { λ m t c. (c ≡ m.bytes.items) ⊎ HadBeen (drop t m.past.items) c };
+    ghost left_since = { λ m. memory_left m };
 
     ghost failed = { λ m. m.failed };
 
     ghost counts_now = { λ m t c le now. inl now };
 
-    ghost only_now = { λ m c left. only_bytes m.past.items m.bytes.items c left };
+    ghost only_now = { λ m c left. only_now m.bytes.items m.unsynced.items m.past.items c left };
 
     fn read(&mut self, alloc: Global, limit: usize) -> Result<Vec<u8>, StoreFault> {
         if self.bytes.len() > limit {
@@ -139,38 +136,33 @@ impl Store for MemoryStore {
         }
     }
 
+    // One byte alone, so that each first part of what is put is a content of its own.
     fn append(&mut self, bytes: &[u8]) -> Option<usize> {
-        match grow(self.alloc, &mut self.bytes, &mut self.past, bytes) {
-            Ok(()) => Some(bytes.len()),
-            Err(_) => {
-                self.failed = true;
-                None
-            }
-        }
+        let Ok(next) = with_byte(self.alloc, &self.bytes, bytes[0]) else {
+            self.failed = true;
+            return None;
+        };
+        if self.put(next) { Some(1) } else { None }
     }
 
     fn cut(&mut self, len: usize) -> bool {
-        match shorten(self.alloc, &mut self.bytes, &mut self.past, len) {
-            Ok(()) => true,
-            Err(_) => {
-                self.failed = true;
-                false
-            }
-        }
+        let Ok(next) = self.bytes[..len].to_vec(self.alloc) else {
+            self.failed = true;
+            return false;
+        };
+        self.put(next)
     }
 
     fn replace(&mut self, bytes: &[u8]) -> bool {
-        match copy_over(self.alloc, &mut self.bytes, &mut self.past, bytes) {
-            Ok(()) => true,
-            Err(_) => {
-                self.failed = true;
-                false
-            }
-        }
+        let Ok(next) = bytes.to_vec(self.alloc) else {
+            self.failed = true;
+            return false;
+        };
+        self.put(next) && self.settle()
     }
 
     fn sync(&mut self) -> bool {
-        true
+        self.unsynced.is_empty() || self.settle()
     }
 
     fn has_failed(&self) -> bool {

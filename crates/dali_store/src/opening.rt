@@ -1,11 +1,9 @@
 // A journal is opened over a store.
-ghost use Rattle.std.specs.Prelude.{◌≡◌, ◌≢◌, ◌<◌, ◌||◌, ◌⊎◌, ◌≤◌, List, ℕ, IfOk, IfErr, OnOk, OnErr, IsErrOf, true, false, not, length};
-ghost use Rattle.std.specs.Io.KnownBytes.{Keeps};
+ghost use Rattle.std.specs.Prelude.{◌≡◌, ◌≢◌, ◌<◌, ◌≤◌, ◌||◌, ℕ, List, IfOk, IfErr, OnOk};
 ghost use Rattle.dali_journal.specs.declared.version.Version.TheVariants.{Two};
 ghost use Rattle.dali_journal.specs.Spelling.{journal_spelling};
-ghost use Rattle.dali_store.specs.declared.store.StoreFault.TheVariants.{Failed, TooBig};
 ghost use Rattle.dali_store.specs.Stores.{IsSettled, Becomes, LeavesOnly, is_failure};
-ghost use Rattle.dali_store.specs.Opened.{IsFound, IsOpened, IsOpenFault, LeavesAlike, StaysAlike};
+ghost use Rattle.dali_store.specs.Opened.{IsFound, IsOpened, IsOpenFault, LeavesAlike, is_store_failure};
 
 use crate::store::{Store, StoreFault};
 use dali_journal::{Journal, JournalFault, Version};
@@ -46,7 +44,10 @@ pub fn open<S: Store>(
     ensures fault { IfErr result (IsOpenFault limit most (S.seen store.old) (S.seen store.new)) }
     ensures any_moment { LeavesOnly S.moment S.left_since store.old store.new
         (LeavesAlike limit (S.seen store.old) (S.may_leave store.old)) }
+    ensures stop { (c : List ℕ) → S.may_leave store.new c
+        → LeavesAlike limit (S.seen store.old) (S.may_leave store.old) c }
     ensures failed { OnOk result (S.failed store.new ≡ S.failed store.old) }
+    ensures failed_err { IfErr result (λ fault. S.failed store.new ≡ (S.failed store.old || is_store_failure fault)) }
 {
     let found = match found_in(alloc, store, limit, most) {
         Ok(found) => found,
@@ -72,6 +73,7 @@ fn found_in<S: Store>(
     ensures stop { (c : List ℕ) → S.may_leave store.new c → S.may_leave store.old c }
     ensures any_moment { LeavesOnly S.moment S.left_since store.old store.new (S.may_leave store.old) }
     ensures failed { OnOk result (S.failed store.new ≡ S.failed store.old) }
+    ensures failed_err { IfErr result (λ fault. S.failed store.new ≡ (S.failed store.old || is_store_failure fault)) }
 {
     match store.read(alloc, most) {
         Ok(bytes) => {
@@ -103,12 +105,11 @@ fn ready<S: Store>(
     ensures holds { OnOk result
         (Becomes (S.seen store.old) (S.seen store.new) (journal_spelling Two found.now.journal.records)) }
     ensures settled { OnOk result (IsSettled (S.seen store.new) (S.may_leave store.new)) }
-    ensures fault { OnErr result
-        (Keeps (S.seen store.old) (S.seen store.new) ⊎ StaysAlike limit (S.seen store.old) (S.seen store.new)) }
-    ensures not_too_big { IsErrOf result TooBig → ⊥ }
+    ensures fault { IfErr result (λ fault.
+        IsOpenFault limit most (S.seen store.old) (S.seen store.new) (OpenFault.Store fault)) }
     ensures any_moment { LeavesOnly S.moment S.left_since store.old store.new
         (LeavesAlike limit (S.seen store.old) (S.may_leave store.old)) }
-    ensures failed { OnOk result (S.failed store.new ≡ S.failed store.old) }
+    ensures failed { S.failed store.new ≡ (S.failed store.old || is_failure result) }
 {
     match found.version {
         Version::Two => {
@@ -137,12 +138,11 @@ fn write_anew<S: Store>(
     ensures holds { OnOk result
         (Becomes (S.seen store.old) (S.seen store.new) (journal_spelling Two found.now.journal.records)) }
     ensures settled { OnOk result (IsSettled (S.seen store.new) (S.may_leave store.new)) }
-    ensures fault { OnErr result
-        (Keeps (S.seen store.old) (S.seen store.new) ⊎ StaysAlike limit (S.seen store.old) (S.seen store.new)) }
-    ensures not_too_big { IsErrOf result TooBig → ⊥ }
+    ensures fault { IfErr result (λ fault.
+        IsOpenFault limit most (S.seen store.old) (S.seen store.new) (OpenFault.Store fault)) }
     ensures any_moment { LeavesOnly S.moment S.left_since store.old store.new
         (LeavesAlike limit (S.seen store.old) (S.may_leave store.old)) }
-    ensures failed { OnOk result (S.failed store.new ≡ S.failed store.old) }
+    ensures failed { S.failed store.new ≡ (S.failed store.old || is_failure result) }
 {
     let Ok(bytes) = found.journal.to_bytes(alloc) else {
         return Err(StoreFault::NoMemory);
@@ -166,12 +166,11 @@ fn cut_behind<S: Store>(
     ensures holds { OnOk result
         (Becomes (S.seen store.old) (S.seen store.new) (journal_spelling Two found.now.journal.records)) }
     ensures settled { OnOk result (IsSettled (S.seen store.new) (S.may_leave store.new)) }
-    ensures fault { OnErr result
-        (Keeps (S.seen store.old) (S.seen store.new) ⊎ StaysAlike limit (S.seen store.old) (S.seen store.new)) }
-    ensures not_too_big { IsErrOf result TooBig → ⊥ }
+    ensures fault { IfErr result (λ fault.
+        IsOpenFault limit most (S.seen store.old) (S.seen store.new) (OpenFault.Store fault)) }
     ensures any_moment { LeavesOnly S.moment S.left_since store.old store.new
         (LeavesAlike limit (S.seen store.old) (S.may_leave store.old)) }
-    ensures failed { OnOk result (S.failed store.new ≡ S.failed store.old) }
+    ensures failed { S.failed store.new ≡ (S.failed store.old || is_failure result) }
 {
     if !store.cut(found.counted) {
         return Err(StoreFault::Failed);
@@ -196,14 +195,14 @@ fn sync_whole<S: Store>(
     ensures holds { OnOk result
         (Becomes (S.seen store.old) (S.seen store.new) (journal_spelling Two found.now.journal.records)) }
     ensures settled { OnOk result (IsSettled (S.seen store.new) (S.may_leave store.new)) }
-    ensures same { S.seen store.new ≡ S.seen store.old }
-    ensures not_too_big { IsErrOf result TooBig → ⊥ }
-    ensures any_moment { LeavesOnly S.moment S.left_since store.old store.new (S.may_leave store.old) }
-    ensures failed { OnOk result (S.failed store.new ≡ S.failed store.old) }
+    ensures fault { IfErr result (λ fault.
+        IsOpenFault limit most (S.seen store.old) (S.seen store.new) (OpenFault.Store fault)) }
+    ensures any_moment { LeavesOnly S.moment S.left_since store.old store.new
+        (LeavesAlike limit (S.seen store.old) (S.may_leave store.old)) }
+    ensures failed { S.failed store.new ≡ (S.failed store.old || is_failure result) }
 {
-    if store.sync() {
-        Ok(())
-    } else {
-        Err(StoreFault::Failed)
+    if !store.sync() {
+        return Err(StoreFault::Failed);
     }
+    Ok(())
 }

@@ -4,7 +4,8 @@ ghost use Rattle.std.specs.Prelude.{IfOk, IfSome, IsErrOf, OnOk, OnErr};
 ghost use Rattle.std.specs.Io.KnownBytes.{Appends};
 ghost use Rattle.dali_store.specs.declared.store.StoreFault.TheVariants.{TooBig};
 ghost use Rattle.dali_store.specs.Stores.{Shows, IsSettled, IsBetween, IsWithin, MayAlso, Elapses, LeavesOnly};
-ghost use Rattle.dali_store.specs.Stores.{Takes, CutsTo, IsBehind, IsLonger, Becomes, KeepsOrBecomes, is_refusal, is_failure};
+ghost use Rattle.dali_store.specs.Stores.{Takes, CutsTo, IsBehind, IsLonger, Becomes, KeepsOrBecomes};
+ghost use Rattle.dali_store.specs.Stores.{is_refusal, is_failure};
 
 use std::alloc::{AllocError, AllocFailed, Global};
 

@@ -1,8 +1,7 @@
-use Rattle.std.proofs.Common.{◌≡◌, inl, inr, ⊎_elim, ◌∙◌, subst, List, ℕ}
-use Rattle.dali_store.specs.Stores.{Becomes}
-use Rattle.dali_store.specs.Opened.{LeavesAlike}
+use Rattle.std.proofs.Common.{inl, inr}
 use Rattle.dali_store.proofs.Moments.{goes_on}
-use Rattle.dali_store.proofs.OpenLemmas.{one_call, also_alike, behind_found, stays_found, cut_found, cut_within, not_zero}
+use Rattle.dali_store.proofs.OpenLemmas.{one_call, also_alike, behind_found, stays_found, cut_found, cut_within}
+use Rattle.dali_store.proofs.OpenLemmas.{not_zero}
 use Rattle.dali_store.proofs.opening.cut_behind.Goals as goal
 
 pub cut-requires : goal.cut-requires
@@ -26,7 +25,8 @@ returns-then-sync-clause-any_moment g c =
     let so = also_alike _ _ _ _ _ (behind_found _ _ _ _ _ _ c.requires.found some) c.cut.ensures.stop in
     let first = one_call g.S.Store.moment g.S.Store.left_since _ _ _ _
     (λ d left. inl (g.met.S.Store.only_now c.args.store.now d left)) c.cut.ensures.time so in
-    goes_on g.S.Store.moment g.S.Store.left_since _ _ _ _ _ first c.sync.ensures.time (λ d left. so d (c.sync.ensures.stop d left))
+    goes_on g.S.Store.moment g.S.Store.left_since _ _ _ _ _ first c.sync.ensures.time
+    (λ d left. so d (c.sync.ensures.stop d left))
 
 pub returns-else-sync-clause-fault : goal.returns-else-sync-clause-fault
 returns-else-sync-clause-fault g c =
@@ -40,4 +40,5 @@ returns-else-sync-clause-any_moment g c =
     let so = also_alike _ _ _ _ _ (behind_found _ _ _ _ _ _ c.requires.found some) c.cut.ensures.stop in
     let first = one_call g.S.Store.moment g.S.Store.left_since _ _ _ _
     (λ d left. inl (g.met.S.Store.only_now c.args.store.now d left)) c.cut.ensures.time so in
-    goes_on g.S.Store.moment g.S.Store.left_since _ _ _ _ _ first c.sync.ensures.time (λ d left. so d (c.sync.ensures.stop d left))
+    goes_on g.S.Store.moment g.S.Store.left_since _ _ _ _ _ first c.sync.ensures.time
+    (λ d left. so d (c.sync.ensures.stop d left))

@@ -1,14 +1,14 @@
-use Rattle.std.proofs.Common.{◌≡◌, ◌+◌, length, refl, take, arith, length-take, length-drop}
+use Rattle.std.proofs.Common.{◌+◌, refl, arith, length-take, length-drop}
 use Rattle.std.proofs.lemmas.Grind.{common_steps}
 use Rattle.std.proofs.KnownBytes.{Appends-nil}
-use Rattle.std.specs.Io.KnownBytes.{Appends}
 use Rattle.dali_store.proofs.Moments.{started}
 use Rattle.dali_store.proofs.Betweens.{settled_between, left_more, grown, put_more}
 use Rattle.dali_store.proofs.store.append_all.Goals as goal
 
 pub loop-done-init : goal.loop-done-init
 loop-done-init g c =
-    let stop = settled_between (g.S.Store.seen c.args.store.now) (g.S.Store.may_leave c.args.store.now) c.requires.settled in
+    let old = c.args.store.now in
+    let stop = settled_between (g.S.Store.seen old) (g.S.Store.may_leave old) c.requires.settled in
     record {
       within = omega arith;
       bytes = Appends-nil (g.S.Store.seen c.args.store.now);
@@ -27,8 +27,8 @@ loop-done-preserved g c =
           let room = i.within in grind (arith, length-take, length-drop);
       bytes = put_more _ _ _ _ _ _ i.bytes put;
       stop = left_more _ _ _ _ _ _ _ i.bytes put i.stop c.in-Some.ensures.stop;
-      moments = grown g.S.Store.moment g.S.Store.left_since _ _ _ _ _ _ _ _ _ _ i.bytes put i.stop c.in-Some.ensures.stop
-          i.moments c.in-Some.ensures.time;
+      moments = grown g.S.Store.moment g.S.Store.left_since _ _ _ _ _ _ _ _ _ _ i.bytes put i.stop
+          c.in-Some.ensures.stop i.moments c.in-Some.ensures.time;
       failed =
           let h = c.in-Some.ensures.failed in
           let f = i.failed in let n = c.if-count-gt0.true in grind (arith, common_steps);

@@ -13,8 +13,7 @@ use Rattle.dali_laws.proofs.TakenLemmas.{kept_are_taken}
 use Rattle.dali_store.specs.Opened.{Loads, IsOpenFault}
 use Rattle.dali_store.specs.declared.opening.OpenFault.{OpenFault}
 use Rattle.dali_store.specs.declared.opening.OpenFault.TheVariants as openings
-use Rattle.dali_store.specs.declared.store.StoreFault.TheVariants.{TooBig, Failed}
-use Rattle.dali_store.specs.declared.store.StoreFault.TheVariants as stores
+use Rattle.dali_store.specs.declared.store.StoreFault.TheVariants.{TooBig, Failed, NoMemory}
 use Rattle.dali_drive.specs.Sittings.{BrokeOff}
 use Rattle.dali_drive.specs.Repeats.{IsSameFile, HasSat, HaveSat, ActOnce}
 use Rattle.dali_drive.proofs.SittingLemmas.{IsSat, sat_ended, sat_broken}
@@ -41,8 +40,7 @@ unopened_same limit most found left (openings.Journal fault) (why, same) = inl s
 unopened_same limit most found left (openings.Store TooBig) (long, same) = inl same
 unopened_same limit most found left (openings.Store Failed) (inl same) = inl same
 unopened_same limit most found left (openings.Store Failed) (inr alike) = inr alike
-unopened_same limit most found left (openings.Store stores.NoMemory) (inl same) = inl same
-unopened_same limit most found left (openings.Store stores.NoMemory) (inr alike) = inr alike
+unopened_same limit most found left (openings.Store NoMemory) same = inl same
 
 -- the same file loads to the same records
 loads_still : (limit : ℕ) (records : List Record) (old new : List ℕ) → IsSameFile limit old new

@@ -1,5 +1,5 @@
 -- A drive over a store: its journal is opened there, and what it keeps goes there.
-use Rattle.std.specs.Prelude.{◌⊎◌, ℕ, List, Option, Some, None, ⊤}
+use Rattle.std.specs.Prelude.{◌≡◌, ◌⊎◌, ℕ, Bool, false, List, Option, Some, None, ⊤}
 use Rattle.std.specs.Io.KnownBytes.{Keeps}
 use Rattle.dali_bank.specs.Order.{Contents}
 use Rattle.dali_journal.specs.declared.version.Version.TheVariants.{Two}
@@ -8,11 +8,11 @@ use Rattle.dali_journal.specs.Spelling.{journal_spelling}
 use Rattle.dali_journal.specs.JournalState.{JournalState}
 use Rattle.dali_writer.specs.WriterState.{WriterState, start_of}
 use Rattle.dali_store.specs.Stores.{Becomes, IsBetween}
-use Rattle.dali_store.specs.Opened.{IsOpened, IsOpenFault, Loads, LoadsAlike, LeavesAlike}
+use Rattle.dali_store.specs.Opened.{IsOpened, IsOpenFault, Loads, LoadsAlike, LeavesAlike, is_store_failure}
 use Rattle.dali_drive.specs.declared.stored.StoredFault.{StoredFault}
 use Rattle.dali_drive.specs.declared.stored.StoredFault.TheVariants.{Open, Drive}
 use Rattle.dali_drive.specs.Transcript.{Streams}
-use Rattle.dali_drive.specs.Driven.{IsDrive, BreaksOff}
+use Rattle.dali_drive.specs.Driven.{IsDrive, BreaksOff, FailedAs}
 
 -- the journal of what the store showed, and what it showed once that was opened: its bytes in version 2
 pub record IsBegun (limit most : ℕ) (first : Streams) : Type 0 where
@@ -42,6 +42,12 @@ IsStoredFault limit most orders moment (Open fault) first before last after =
 IsStoredFault limit most orders moment (Drive fault) first before last after =
     (begun : IsBegun limit most first)
     × BreaksOff (start_of begun.journal) orders moment fault (record first { journal = begun.middle }) last after
+
+-- which streams have failed where this fault comes, as for a drive
+abbrev pub StoredFailedAs : StoredFault → Bool → Bool → Bool → Bool → Type 0
+StoredFailedAs (Open fault) store link_out link_in out =
+    (store ≡ is_store_failure fault) × (link_out ≡ false) × (link_in ≡ false) × (out ≡ false)
+StoredFailedAs (Drive fault) store link_out link_in out = FailedAs fault store link_out link_in out
 
 -- the bytes in version 2 of the records that a store showed, and behind them a first part of what was put until now
 abbrev pub IsPartBehind : ℕ → Option (List ℕ) → Option (List ℕ) → List ℕ → Type 0

@@ -1,8 +1,10 @@
 // A journal is opened over a store, and orders are driven with it.
 ghost use Rattle.std.specs.Prelude.{◌≡◌, false, IfOk, IfErr, OnOk};
 ghost use Rattle.dali_store.specs.Stores.{IsSettled, LeavesOnly};
-ghost use Rattle.dali_drive.specs.Stored.{IsStoredDrive, IsStoredFault, LeavesPart};
+ghost use Rattle.dali_drive.specs.Stored.{IsStoredDrive, IsStoredFault, StoredFailedAs, LeavesPart};
 ghost use Rattle.dali_drive.specs.Transcript.{shown};
+ghost use Rattle.dali_drive.specs.Driven.{NoneFailed};
+ghost use Rattle.dali_writer.specs.WriterState.{IsAtRest};
 
 use crate::driving::drive;
 use crate::fault::DriveFault;
@@ -44,9 +46,14 @@ pub fn drive_stored<I: Source, L: Sink, S: Store, O: Sink>(
     ensures driven { IfOk result (λ writer. IsStoredDrive limit most orders.now moment
         (shown (S.seen store.old) (L.held link_out.old) (I.left link_in.old) (O.held out.old))
         writer (shown (S.seen store.new) (L.held link_out.new) (I.left link_in.new) (O.held out.new))) }
+    ensures rests { IfOk result IsAtRest }
+    ensures ok { OnOk result
+        (NoneFailed (S.failed store.new) (L.failed link_out.new) (I.failed link_in.new) (O.failed out.new)) }
     ensures broken { IfErr result (λ fault. IsStoredFault limit most orders.now moment fault
         (shown (S.seen store.old) (L.held link_out.old) (I.left link_in.old) (O.held out.old)) (S.may_leave store.old)
         (shown (S.seen store.new) (L.held link_out.new) (I.left link_in.new) (O.held out.new)) (S.may_leave store.new)) }
+    ensures err { IfErr result (λ fault. StoredFailedAs fault
+        (S.failed store.new) (L.failed link_out.new) (I.failed link_in.new) (O.failed out.new)) }
     ensures settled { OnOk result (IsSettled (S.seen store.new) (S.may_leave store.new)) }
     ensures any_moment { LeavesOnly S.moment S.left_since store.old store.new
         (LeavesPart limit (S.seen store.old) (S.seen store.new) (S.may_leave store.old)) }

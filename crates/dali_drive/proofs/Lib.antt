@@ -5,3 +5,4 @@ pub mod SittingLemmas
 pub mod KillLemmas
 pub mod RepeatLemmas
 pub mod WorkedDriveLemmas
+pub mod WorkedSittingLemmas

@@ -26,7 +26,7 @@ sat_as limit most found sitting left b =
     (sat_broken limit most found b.first b.last b.is_found b.begun b.orders b.moment b.fault b.drive left b.is_left
     b.past b.happened b.finished b.counts)
 
-sat_so : (limit most : ℕ) (found : List ℕ) (sitting : Sitting) (left : List ℕ) → HasSat limit most found sitting left
+pub sat_so : (limit most : ℕ) (found : List ℕ) (sitting : Sitting) (left : List ℕ) → HasSat limit most found sitting left
     → IsSat limit found sitting left
 sat_so limit most found sitting left (inl ended) = sat_ended limit most found sitting left ended
 sat_so limit most found sitting left (inr (inl broken)) = sat_as limit most found sitting left broken
@@ -43,7 +43,7 @@ unopened_same limit most found left (openings.Store Failed) (inr alike) = inr al
 unopened_same limit most found left (openings.Store NoMemory) same = inl same
 
 -- the same file loads to the same records
-loads_still : (limit : ℕ) (records : List Record) (old new : List ℕ) → IsSameFile limit old new
+pub loads_still : (limit : ℕ) (records : List Record) (old new : List ℕ) → IsSameFile limit old new
     → Loads limit records old → Loads limit records new
 loads_still limit records old new (inl same) loads =
     subst (λ (l : List ℕ). Loads limit records l) (sym same) loads

@@ -23,18 +23,13 @@ use Rattle.dali_trace.specs.Replies.{reply_line}
 use Rattle.dali_drive.specs.Transcript.{Streams}
 use Rattle.dali_drive.specs.Driven.{IsDriven, BrokenOff, IsInTurn, NoneFailed, FailedAs}
 use Rattle.dali_drive.specs.Faults.{drive_number}
-use Rattle.dali_store.specs.Opened.{Loads}
-use Rattle.dali_trace.specs.Trace.{records_of}
-use Rattle.dali_journal.specs.JournalState.{AreKept}
-use Rattle.dali_journal.specs.Loading.{IsLoadable}
 use Rattle.dali_trace.specs.Worked.{empty, first_order, begun}
 use Rattle.dali_trace.specs.WorkedPlans.{half_tried}
-use Rattle.dali_drive.specs.WorkedDrives.{before_two, after_two, torn_file, old_file}
+use Rattle.dali_drive.specs.WorkedDrives.{before_two, after_two}
 use Rattle.dali_trace.proofs.WorkedLemmas.{begun_legal}
 use Rattle.dali_trace.proofs.WorkedPlanLemmas.{first_planned, not_another_first, next_frame_planned}
-use Rattle.dali_drive.proofs.KillLemmas.{one_records}
 
-first_is_record : IsRecord Two (Began first_order 7)
+pub first_is_record : IsRecord Two (Began first_order 7)
 first_is_record = (
   omega arith,
   omega arith,
@@ -82,7 +77,7 @@ one_line = record {
 pub kept_line : reply_line 7 (replies.Kept DoubtOpen) ≡ codes "reply 7 kept 5 DoubtOpen\n"
 kept_line = rw (decimal_digit 7 (omega arith), decimal_digit 5 (omega arith)) refl
 
-taken_line : reply_line 1 replies.Taken ≡ codes "reply 1 taken\n"
+pub taken_line : reply_line 1 replies.Taken ≡ codes "reply 1 taken\n"
 taken_line = rw (decimal_digit 1 (omega arith)) refl
 
 pub first_next : IsNext empty begun (Sent (Dtr1 1) None)
@@ -104,34 +99,10 @@ two_driven = record {
   };
 }
 
-pub torn_is : Loads empty.limit (records_of empty begun) torn_file
-torn_is = record {
-  version = Two;
-  len = 35;
-  kept = record { in_range = (first_is_record, tt); whole = ((tt, tt, refl), omega arith) };
-  loadable = record {
-    rest = 79 ∷ [];
-    spelled = refl;
-    cut = (Opened 5, (omega arith, 5 ∷ [], (λ none. cc), refl));
-    counts = refl;
-  };
-}
-
-pub not_empty : Loads empty.limit empty.records torn_file → ⊥
-not_empty file = let never = one_records empty.limit torn_file (records_of empty begun) empty.records torn_is file in cc
-
--- a file of version 1 has no moment but 0
-pub old_is_another : Loads empty.limit (records_of empty begun) old_file → ⊥
-old_is_another file = by file.version file.kept file.loadable where
-  by : (version : Version) → AreKept version empty.limit (records_of empty begun)
-      → IsLoadable version old_file (records_of empty begun) file.len → ⊥
-  by One kept loadable = let moment = kept.in_range.0.4 in omega (arith, moment)
-  by Two kept loadable = let never = ap (λ bytes. get_or bytes 0 0) loadable.spelled in omega (arith, never)
-
 pub not_another_frame : IsNext empty begun (Sent (Dtr0 0) None) → ⊥
 not_another_frame next = not_another_first (first_planned.0, next.planned)
 
-no_record : (entry : Record) → IsNext empty begun (Kept entry) → ⊥
+pub no_record : (entry : Record) → IsNext empty begun (Kept entry) → ⊥
 no_record (Began order moment) next = absurd next.may.whole.0.1
 no_record (Opened unit) next = let planned = next.planned in none_ended 5 _ _ planned.0 planned.1
 no_record (Ended code) next = let planned = next.planned in none_ended 5 _ _ planned.0 planned.1

@@ -10,3 +10,4 @@ pub mod Sittings
 pub mod Kills
 pub mod Repeats
 pub mod WorkedDrives
+pub mod WorkedSittings

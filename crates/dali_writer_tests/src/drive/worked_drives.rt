@@ -13,20 +13,19 @@ ghost use Rattle.dali_trace.specs.Replies.{reply_line};
 ghost use Rattle.dali_drive.specs.Transcript.{Streams, Transcript};
 ghost use Rattle.dali_drive.specs.Driven.{IsInTurn, KeepsRecords, IsDriven, BrokenOff};
 ghost use Rattle.dali_laws.specs.Joined.{FollowOn};
-ghost use Rattle.dali_store.specs.Opened.{Loads};
-ghost use Rattle.dali_trace.specs.Trace.{records_of};
 ghost use Rattle.dali_drive.specs.Sittings.{MayHaveHappened};
-ghost use Rattle.dali_trace.specs.Worked.{empty, second_order, asked, taken, begun};
+ghost use Rattle.dali_trace.specs.Worked.{empty, second_order, asked, taken, begun, alone, blank_unit};
 ghost use Rattle.dali_trace.specs.WorkedPlans.{half_tried};
 ghost use Rattle.dali_drive.specs.WorkedDrives.{before_two, after_two, frames_turned, one_line_read, record_left_out};
-ghost use Rattle.dali_drive.specs.WorkedDrives.{first_sitting, torn_file, old_file};
+ghost use Rattle.dali_drive.specs.Repeats.{IsSameFile, HasSat, HaveSat, ActOnce};
+ghost use Rattle.dali_drive.specs.WorkedSittings.{begun_file, torn_file, first_sitting, second_sitting};
+ghost use Rattle.dali_drive.specs.WorkedSittings.{second_without_the_frame, both_sittings, worlds};
 
 // An order is begun, and two frames are sent and answered, the second with a carriage return.
 fn two_frames_are_driven()
     ensures driven { IsDriven empty half_tried before_two after_two }
     ensures reply { reply_line 7 (replies.Kept DoubtOpen) ≡ codes "reply 7 kept 5 DoubtOpen\n" }
     ensures next { IsNext empty begun (Sent (Dtr1 1) None) }
-    ensures file { Loads empty.limit (records_of empty begun) torn_file }
 {}
 
 // What isn't its text, nor an answer's line, nor what is read of one.
@@ -56,9 +55,20 @@ fn other_steps()
         → ¬ BrokenOff empty begun rest faults.NoMemory old new }
 {}
 
-// A file is that of no other records, and of no other moments, in no version, and no sitting forgets what stands in it.
+// Of two drives over a store the first is killed while it puts a record, and the second stopped while a frame is under
+// way. Along the worlds of a unit that hears none of it they act as one.
+fn two_drives_are_sittings()
+    ensures sat { HaveSat 10 100 [] (second_sitting ∷ first_sitting ∷ []) begun_file }
+    ensures once { ActOnce (alone blank_unit) [] empty (second_sitting ∷ first_sitting ∷ []) begun_file both_sittings
+        (alone blank_unit) worlds }
+{}
+
+// No sitting is from fewer records than were found, none has a record that isn't whole, and none leaves one out that
+// is.
 fn other_sittings()
-    ensures file { ¬ Loads empty.limit empty.records torn_file }
-    ensures old { ¬ Loads empty.limit (records_of empty begun) old_file }
-    ensures forgotten { ¬ FollowOn empty (first_sitting ∷ first_sitting ∷ []) }
+    ensures fewer { (left : List ℕ) → ¬ HasSat 10 100 begun_file first_sitting left }
+    ensures cut { ¬ HasSat 10 100 [] second_without_the_frame torn_file }
+    ensures whole { ¬ HasSat 10 100 [] first_sitting begun_file }
+    ensures file { ¬ IsSameFile 10 begun_file torn_file }
+    ensures forgotten { ¬ FollowOn empty (second_sitting ∷ second_without_the_frame ∷ []) }
 {}

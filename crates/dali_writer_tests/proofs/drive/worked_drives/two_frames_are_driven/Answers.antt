@@ -1,4 +1,4 @@
-use Rattle.dali_drive.proofs.WorkedDriveLemmas.{two_driven, kept_line, first_next, torn_is}
+use Rattle.dali_drive.proofs.WorkedDriveLemmas.{two_driven, kept_line, first_next}
 use Rattle.dali_writer_tests.proofs.drive.worked_drives.two_frames_are_driven.Goals as goal
 
 pub returns-clause-driven : goal.returns-clause-driven
@@ -9,6 +9,3 @@ returns-clause-reply c = kept_line
 
 pub returns-clause-next : goal.returns-clause-next
 returns-clause-next c = first_next
-
-pub returns-clause-file : goal.returns-clause-file
-returns-clause-file c = torn_is

@@ -12,7 +12,7 @@ use Rattle.dali_store.specs.Opened.{IsOpened, IsOpenFault, Loads, LoadsAlike, Le
 use Rattle.dali_drive.specs.declared.stored.StoredFault.{StoredFault}
 use Rattle.dali_drive.specs.declared.stored.StoredFault.TheVariants.{Open, Drive}
 use Rattle.dali_drive.specs.Transcript.{Streams}
-use Rattle.dali_drive.specs.Driven.{IsDrive, BreaksOff, FailedAs}
+use Rattle.dali_drive.specs.Driven.{IsDrive, IsBrokenDrive, LeavesBetween, FailedAs}
 
 -- the journal of what the store showed, and what it showed once that was opened: its bytes in version 2
 pub record IsBegun (limit most : ℕ) (first : Streams) : Type 0 where
@@ -33,15 +33,30 @@ pub record Untouched (first last : Streams) : Type 0 where
   pub answers : Keeps first.answers last.answers
   pub out : Keeps first.out last.out
 
--- why not all was driven, and what a stop may leave, before and after
-abbrev pub IsStoredFault : ℕ → ℕ → List Contents → ℕ → StoredFault → Streams → (List ℕ → Type 0) → Streams
-    → (List ℕ → Type 0) → Type 0
-IsStoredFault limit most orders moment (Open fault) first before last after =
+-- why not all was driven
+abbrev pub IsStoredFault : ℕ → ℕ → List Contents → ℕ → StoredFault → Streams → Streams → Type 0
+IsStoredFault limit most orders moment (Open fault) first last =
     IsOpenFault limit most first.journal last.journal fault × Untouched first last
-    × ((c : List ℕ) → after c → LeavesAlike limit first.journal before c)
-IsStoredFault limit most orders moment (Drive fault) first before last after =
+IsStoredFault limit most orders moment (Drive fault) first last =
     (begun : IsBegun limit most first)
-    × BreaksOff (start_of begun.journal) orders moment fault (record first { journal = begun.middle }) last after
+    × IsBrokenDrive (start_of begun.journal) orders moment fault (record first { journal = begun.middle }) last
+
+-- what a stop may leave then: where no journal was opened, what it might have left before or the same records; else at
+-- least what was kept before the step that was broken off
+abbrev pub LeavesAtFault : (limit most : ℕ) (orders : List Contents) (moment : ℕ) (fault : StoredFault)
+    (first last : Streams) → IsStoredFault limit most orders moment fault first last
+    → (List ℕ → Type 0) → (List ℕ → Type 0) → Type 0
+LeavesAtFault limit most orders moment (Open fault) first last is before after =
+    (c : List ℕ) → after c → LeavesAlike limit first.journal before c
+LeavesAtFault limit most orders moment (Drive fault) first last (begun, broken) before after =
+    LeavesBetween broken.middle.journal last.journal after
+
+-- why not all was driven, and what a stop may leave, before and after
+abbrev pub EndsAtFault : ℕ → ℕ → List Contents → ℕ → StoredFault → Streams → (List ℕ → Type 0) → Streams
+    → (List ℕ → Type 0) → Type 0
+EndsAtFault limit most orders moment fault first before last after =
+    (is : IsStoredFault limit most orders moment fault first last)
+    × LeavesAtFault limit most orders moment fault first last is before after
 
 -- which streams have failed where this fault comes, as for a drive
 abbrev pub StoredFailedAs : StoredFault → Bool → Bool → Bool → Bool → Type 0

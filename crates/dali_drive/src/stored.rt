@@ -1,7 +1,7 @@
 // A journal is opened over a store, and orders are driven with it.
 ghost use Rattle.std.specs.Prelude.{◌≡◌, false, IfOk, IfErr, OnOk};
 ghost use Rattle.dali_store.specs.Stores.{IsSettled, LeavesOnly};
-ghost use Rattle.dali_drive.specs.Stored.{IsStoredDrive, IsStoredFault, StoredFailedAs, LeavesPart};
+ghost use Rattle.dali_drive.specs.Stored.{IsStoredDrive, EndsAtFault, StoredFailedAs, LeavesPart};
 ghost use Rattle.dali_drive.specs.Transcript.{shown};
 ghost use Rattle.dali_drive.specs.Driven.{NoneFailed};
 ghost use Rattle.dali_writer.specs.WriterState.{IsAtRest};
@@ -49,7 +49,7 @@ pub fn drive_stored<I: Source, L: Sink, S: Store, O: Sink>(
     ensures rests { IfOk result IsAtRest }
     ensures ok { OnOk result
         (NoneFailed (S.failed store.new) (L.failed link_out.new) (I.failed link_in.new) (O.failed out.new)) }
-    ensures broken { IfErr result (λ fault. IsStoredFault limit most orders.now moment fault
+    ensures broken { IfErr result (λ fault. EndsAtFault limit most orders.now moment fault
         (shown (S.seen store.old) (L.held link_out.old) (I.left link_in.old) (O.held out.old)) (S.may_leave store.old)
         (shown (S.seen store.new) (L.held link_out.new) (I.left link_in.new) (O.held out.new)) (S.may_leave store.new)) }
     ensures err { IfErr result (λ fault. StoredFailedAs fault

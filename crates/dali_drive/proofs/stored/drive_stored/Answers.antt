@@ -13,15 +13,19 @@ returns-in-Ok-drive-clause-driven g c = record {
 }
 
 pub returns-in-Err-drive-clause-broken : goal.returns-in-Err-drive-clause-broken
-returns-in-Err-drive-clause-broken g c = (
-  record {
-    journal = c.in-Ok.journal;
-    opened = c.in-Ok.ensures.journal;
-    middle = g.S.Store.seen c.open.new.store;
-    written = c.in-Ok.ensures.holds;
-  },
-  rw c.new.ensures.journal at c.in-Err-drive.ensures.broken,
-)
+returns-in-Err-drive-clause-broken g c =
+    let off = rw c.new.ensures.journal at c.in-Err-drive.ensures.broken in (
+      (
+        record {
+          journal = c.in-Ok.journal;
+          opened = c.in-Ok.ensures.journal;
+          middle = g.S.Store.seen c.open.new.store;
+          written = c.in-Ok.ensures.holds;
+        },
+        off.drive,
+      ),
+      off.left,
+    )
 
 pub returns-in-Ok-drive-clause-any_moment : goal.returns-in-Ok-drive-clause-any_moment
 returns-in-Ok-drive-clause-any_moment g c =

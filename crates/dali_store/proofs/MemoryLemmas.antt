@@ -29,6 +29,10 @@ still_left : (unsynced : Contents) (old : Vec ℕ Global) (new c : List ℕ) →
 still_left unsynced old new c (inl now) = inr (newest unsynced old c now)
 still_left unsynced old new c (inr had) = inr (stays unsynced old c had)
 
+pub put_still : (unsynced then : Contents) (old : Vec ℕ Global) (new c : List ℕ) → then ≡ unsynced ++ old ∷ []
+    → MayBeLeft old.items unsynced c → MayBeLeft new then c
+put_still unsynced then old new c same left = rw same (still_left unsynced old new c left)
+
 put_left : (unsynced : Contents) (old : Vec ℕ Global) (new : List ℕ)
     → MayAlso (λ c. c ≡ new) (MayBeLeft old.items unsynced) (MayBeLeft new (unsynced ++ old ∷ []))
 put_left unsynced old new c (inl now) = inr now

@@ -1,7 +1,7 @@
 -- A store's bytes as a journal.
 use Rattle.std.proofs.Common.{◌≡◌, ◌≢◌, ◌≤◌, ◌<◌, ◌^◌, inl, inr, ⊎_elim, refl, sym, ap, ◌∙◌, subst}
 use Rattle.std.proofs.Common.{ℕ, List, [], ◌∷◌, ◌++◌}
-use Rattle.std.proofs.Common.{Option, Some, None, length, take, arith, length-append}
+use Rattle.std.proofs.Common.{Option, Some, None, length, take, arith}
 use Rattle.std.proofs.lemmas.List.{append_assoc, append-nil, take_at}
 use Rattle.std.specs.List.{AllByRecursion}
 use Rattle.dali_journal.specs.declared.record.Record.{Record}
@@ -13,7 +13,7 @@ use Rattle.dali_journal.specs.Spelling.{spelling, journal_spelling, IsRecord}
 use Rattle.dali_journal.specs.Reading.{IsCutOf}
 use Rattle.dali_journal.specs.JournalState.{JournalState, AreKept}
 use Rattle.dali_journal.specs.Loading.{IsTorn, IsLoadable}
-use Rattle.dali_store.specs.Stores.{Shows, Becomes, AreFirst, IsWithin, IsBehind, MayAlso, Elapses, LeavesOnly}
+use Rattle.dali_store.specs.Stores.{Shows, Becomes, AreFirst, IsBehind, MayAlso, Elapses, LeavesOnly}
 use Rattle.dali_store.specs.Opened.{Loads, IsFound, LoadsAlike, StaysAlike, LeavesAlike}
 use Rattle.dali_store.proofs.Moments.{started, goes_on}
 
@@ -159,15 +159,17 @@ module _ {S : Type 0} (moment : S → ℕ) (left_since : S → ℕ → List ℕ 
   one_call old new P now here time then =
       goes_on moment left_since old old new P now (started moment left_since old P here) time then
 
--- a cut to what counts
+  -- and one behind it, after which a stop leaves no more
+  pub two_calls : (old mid new : S) (P between now : List ℕ → Type 0)
+      → ((c : List ℕ) → left_since old (moment old) c → P c)
+      → Elapses (moment old) (moment mid) (left_since old) (left_since mid) between → ((c : List ℕ) → between c → P c)
+      → Elapses (moment mid) (moment new) (left_since mid) (left_since new) now → ((c : List ℕ) → now c → between c)
+      → LeavesOnly moment left_since old new P
+  two_calls old mid new P between now here first so second no_more =
+      goes_on moment left_since old mid new P now (one_call old mid P between here first so) second
+      (λ c left. so c (no_more c left))
 
-pub cut_within : (limit most : ℕ) (seen : Option (List ℕ)) (journal : JournalState) (version : Version)
-    (counted total : ℕ) → IsFound limit most seen journal version counted total → counted < total
-    → IsWithin counted seen
-cut_within limit most None journal version counted total f less = tt
-cut_within limit most (Some known) journal version counted total f less =
-    let same : length known ≡ length f.bytes = ap (λ (l : List ℕ). length l) f.shown in
-    omega (arith, same, f.total_is, less)
+-- a cut to what counts
 
 pub cut_becomes : (seen new : Option (List ℕ)) (records : List Record) (bytes : List ℕ) (len : ℕ) → Shows seen bytes
     → IsTorn Two bytes records len → AreFirst len seen new → Becomes seen new (journal_spelling Two records)

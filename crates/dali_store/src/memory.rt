@@ -1,8 +1,9 @@
 // A store in memory. It keeps each content that it had, so that a test can go through all that a stop might have left.
-ghost use Rattle.std.specs.Prelude.{◌≡◌, List, ℕ, [], ◌∷◌, ◌++◌, ◌||◌, Some, true, false, not, length, IfOk};
+ghost use Rattle.std.specs.Prelude.{◌≡◌, ◌<◌, ◌≤◌, ℕ, List, [], ◌∷◌, ◌++◌, ◌||◌, not, true, false, length};
+ghost use Rattle.std.specs.Prelude.{Some, IfOk, IfSome};
 ghost use Rattle.std.proofs.Common.{inl};
 ghost use Rattle.dali_store.specs.Memory.{memory_leaves, memory_left, only_now};
-ghost use Rattle.dali_store.specs.Stores.{Elapses, MayAlso};
+ghost use Rattle.dali_store.specs.Stores.{Takes, CutsTo, IsBetween, IsBehind, MayAlso, Elapses, is_refusal};
 
 use crate::store::{Store, StoreFault};
 use std::alloc::{AllocError, Global};
@@ -65,6 +66,7 @@ impl MemoryStore {
             → self.new.unsynced.items ≡ self.old.unsynced.items ++ self.old.bytes ∷ [] }
         ensures same { result ≡ false → self.new.bytes.items ≡ self.old.bytes.items }
         ensures none { result ≡ false → (c : List ℕ) → memory_leaves self.new c → memory_leaves self.old c }
+        ensures still { (c : List ℕ) → memory_leaves self.old c → memory_leaves self.new c }
         ensures stop { MayAlso (λ c. c ≡ next.items) (memory_leaves self.old) (memory_leaves self.new) }
         ensures time { Elapses (length self.old.past.items) (length self.new.past.items) (memory_left self.old)
             (memory_left self.new) (memory_leaves self.new) }
@@ -137,7 +139,19 @@ impl Store for MemoryStore {
     }
 
     // One byte alone, so that each first part of what is put is a content of its own.
-    fn append(&mut self, bytes: &[u8]) -> Option<usize> {
+    fn append(&mut self, bytes: &[u8]) -> Option<usize>
+        requires { 0 < length bytes.now }
+        ensures bytes { Takes (Some self.old.bytes.items) (Some self.new.bytes.items) result bytes.now }
+        ensures stop { MayAlso (IsBetween (Some self.old.bytes.items) (Some self.new.bytes.items))
+            (memory_leaves self.old) (memory_leaves self.new) }
+        ensures time { Elapses (length self.old.past.items) (length self.new.past.items) (memory_left self.old)
+            (memory_left self.new) (memory_leaves self.new) }
+        ensures failed { self.new.failed ≡ (self.old.failed || is_refusal result) }
+        ensures one { IfSome result (λ count. count ≡ 1) }
+
+        // Nothing is synced by the way.
+        ensures unsynced { (c : List ℕ) → memory_leaves self.old c → memory_leaves self.new c }
+    {
         let Ok(next) = with_byte(self.alloc, &self.bytes, bytes[0]) else {
             self.failed = true;
             return None;
@@ -145,7 +159,18 @@ impl Store for MemoryStore {
         if self.put(next) { Some(1) } else { None }
     }
 
-    fn cut(&mut self, len: usize) -> bool {
+    fn cut(&mut self, len: usize) -> bool
+        requires { len ≤ length self.old.bytes.items }
+        ensures bytes { CutsTo len (Some self.old.bytes.items) (Some self.new.bytes.items) result }
+        ensures stop { MayAlso (IsBehind len (Some self.old.bytes.items)) (memory_leaves self.old)
+            (memory_leaves self.new) }
+        ensures time { Elapses (length self.old.past.items) (length self.new.past.items) (memory_left self.old)
+            (memory_left self.new) (memory_leaves self.new) }
+        ensures failed { self.new.failed ≡ (self.old.failed || not result) }
+
+        // Nothing is synced by the way.
+        ensures unsynced { (c : List ℕ) → memory_leaves self.old c → memory_leaves self.new c }
+    {
         let Ok(next) = self.bytes[..len].to_vec(self.alloc) else {
             self.failed = true;
             return false;

@@ -1,5 +1,5 @@
 use Rattle.std.proofs.Common.{rules, ap, refl}
-use Rattle.dali_store.proofs.MemoryLemmas.{put_stop, put_elapses}
+use Rattle.dali_store.proofs.MemoryLemmas.{put_still, put_stop, put_elapses}
 use Rattle.dali_store.proofs.memory.MemoryStore.put.Goals as goal
 
 pub returns-in-Ok-clause-stop : goal.returns-in-Ok-clause-stop
@@ -10,3 +10,6 @@ returns-in-Ok-clause-stop c =
 pub returns-in-Ok-clause-time : goal.returns-in-Ok-clause-time
 returns-in-Ok-clause-time c =
     put_elapses _ _ _ _ c.args.self.now.bytes _ (search rules) refl
+
+pub returns-in-Ok-clause-still : goal.returns-in-Ok-clause-still
+returns-in-Ok-clause-still c = λ d left. put_still _ _ c.args.self.now.bytes _ d (search rules) left

@@ -1,3 +1,4 @@
 pub mod Stores
 pub mod Past
 pub mod Opened
+pub mod Files

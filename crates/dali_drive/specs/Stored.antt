@@ -1,5 +1,5 @@
 -- A drive over a store: its journal is opened there, and what it keeps goes there.
-use Rattle.std.specs.Prelude.{◌⊎◌, ℕ, List, Option, Some, None, ⊤}
+use Rattle.std.specs.Prelude.{◌≡◌, ◌⊎◌, ℕ, Bool, false, List, Option, Some, None, ⊤}
 use Rattle.std.specs.Io.KnownBytes.{Keeps}
 use Rattle.dali_bank.specs.Order.{Contents}
 use Rattle.dali_journal.specs.declared.version.Version.TheVariants.{Two}
@@ -13,7 +13,7 @@ use Rattle.dali_drive.specs.declared.fault.DriveFault.TheVariants.{Journal}
 use Rattle.dali_drive.specs.declared.stored.StoredFault.{StoredFault}
 use Rattle.dali_drive.specs.declared.stored.StoredFault.TheVariants.{Open, Drive}
 use Rattle.dali_drive.specs.Transcript.{Streams}
-use Rattle.dali_drive.specs.Driven.{IsDrive, IsBrokenDrive}
+use Rattle.dali_drive.specs.Driven.{IsDrive, IsBrokenDrive, FailedAs}
 
 -- the journal of what the store showed, and what it showed once that was opened: its bytes in version 2
 pub record IsBegun (limit most : ℕ) (first : Streams) : Type 0 where
@@ -41,6 +41,12 @@ IsStoredFault limit most orders moment (Open fault) first last =
 IsStoredFault limit most orders moment (Drive fault) first last =
     (begun : IsBegun limit most first)
     × IsBrokenDrive (start_of begun.journal) orders moment fault (record first { journal = begun.middle }) last
+
+-- which of the store, the link out, the link in and the stream of the replies have failed where this fault comes: a
+-- store that isn't opened may have
+abbrev pub HasFailedAs : StoredFault → Bool → Bool → Bool → Bool → Type 0
+HasFailedAs (Open fault) store link_out link_in out = (link_out ≡ false) × (link_in ≡ false) × (out ≡ false)
+HasFailedAs (Drive fault) store link_out link_in out = FailedAs fault store link_out link_in out
 
 -- where the store failed nothing is said
 abbrev pub IsSettledBy : StoredFault → Type 0 → Type 0

@@ -2,7 +2,7 @@
 ghost use Rattle.std.specs.Prelude.{◌≡◌, ◌≢◌, ℕ, List, true, false, IfOk, IfErr, OnOk};
 ghost use Rattle.dali_store.specs.Stores.{IsSettled, LeavesOnly};
 ghost use Rattle.dali_drive.specs.Driven.{NoneFailed};
-ghost use Rattle.dali_drive.specs.Stored.{IsStoredDrive, IsStoredFault, IsSettledBy, IfUnopened, LeavesPart};
+ghost use Rattle.dali_drive.specs.Stored.{IsStoredDrive, IsStoredFault, HasFailedAs, IsSettledBy, IfUnopened, LeavesPart};
 ghost use Rattle.dali_store.specs.Opened.{LeavesAlike};
 ghost use Rattle.dali_drive.specs.Transcript.{shown};
 
@@ -49,6 +49,10 @@ pub fn drive_stored<I: Source, L: Sink, S: Store, O: Sink>(
     ensures broken { IfErr result (λ fault. IsStoredFault limit most orders.now moment fault
         (shown (S.seen store.old) (L.held link_out.old) (I.left link_in.old) (O.held out.old))
         (shown (S.seen store.new) (L.held link_out.new) (I.left link_in.new) (O.held out.new))) }
+    ensures ok { OnOk result
+        (NoneFailed (S.failed store.new) (L.failed link_out.new) (I.failed link_in.new) (O.failed out.new)) }
+    ensures err { IfErr result (λ fault.
+        HasFailedAs fault (S.failed store.new) (L.failed link_out.new) (I.failed link_in.new) (O.failed out.new)) }
     ensures settled { OnOk result (IsSettled (S.seen store.new) (S.may_leave store.new)) }
     ensures settled_first { IfErr result (λ fault. IsSettledBy fault (IsSettled (S.seen store.new) (S.may_leave store.new))) }
     ensures unopened { IfErr result (λ fault. IfUnopened fault (LeavesOnly S.moment S.left_since store.old store.new

@@ -47,9 +47,10 @@ struct Opened {
     is_settled: bool,
 }
 
-// Where a regular file stands, by its canonical name, and its folder.
+// Where a regular file stands, by its canonical name, its folder, and how it was found there.
 #[derive(Drop)]
 struct Place {
+    found: Metadata,
     name: String,
     new_name: String,
     folder_name: String,
@@ -250,7 +251,7 @@ fn open<R: Files<File = File>>(
     }
     lock(alloc, &file, name)?;
     let place = if found.is_file() {
-        Some(place_of(rt, alloc, name, &found)?)
+        Some(place_of(rt, alloc, name, found)?)
     } else {
         None
     };
@@ -279,11 +280,11 @@ fn place_of<R: Files<File = File>>(
     rt: &R,
     alloc: Global,
     name: &str,
-    found: &Metadata,
+    found: Metadata,
 ) -> Result<Place, Hindrance> {
     let (canonical, new_name, folder_name) = given(alloc, name, names_of(rt, alloc, name))?;
     let named = given(alloc, name, fs::metadata(rt, canonical.as_str()))?;
-    if id_of(&named) != id_of(found) {
+    if id_of(&named) != id_of(&found) {
         return Err(in_use(alloc, name));
     }
     let folder = given(
@@ -292,6 +293,7 @@ fn place_of<R: Files<File = File>>(
         fs::open(rt, folder_name.as_str()),
     )?;
     Ok(Place {
+        found,
         name: canonical,
         new_name,
         folder_name,
@@ -437,7 +439,7 @@ fn put_anew<R: Files<File = File> + AllocGlobal>(
     let Some(place) = &opened.place else {
         return begin(alloc, name, opened, bytes);
     };
-    let file = successor(rt, place, &opened.file, bytes)?;
+    let file = successor(rt, place, bytes)?;
     opened.file = file;
     opened.is_settled = false;
     sync_folder(alloc, place)?;
@@ -458,14 +460,13 @@ fn begin(alloc: Global, name: &str, opened: &mut Opened, bytes: &[u8]) -> Result
 fn successor<R: Files<File = File> + AllocGlobal>(
     rt: &R,
     place: &Place,
-    old: &File,
     bytes: &[u8],
 ) -> Result<File, Hindrance> {
     let mut file = new_file(rt, place.new_name.as_str(), bytes)?;
     given(
         rt.alloc(),
         place.new_name.as_str(),
-        fill(rt, place, old, &mut file, bytes),
+        fill(rt, place, &mut file, bytes),
     )?;
     Ok(file)
 }
@@ -473,12 +474,11 @@ fn successor<R: Files<File = File> + AllocGlobal>(
 fn fill<R: Files<File = File>>(
     rt: &R,
     place: &Place,
-    old: &File,
     file: &mut File,
     bytes: &[u8],
 ) -> io::Result<()> {
     file.set_len(0)?;
-    file.set_permissions(old.metadata()?.permissions())?;
+    file.set_permissions(place.found.permissions())?;
     file.write_all(bytes)?;
     file.sync_all()?;
     fs::rename(rt, place.new_name.as_str(), place.name.as_str())

@@ -251,7 +251,8 @@ def fails_on_drives(program):
                                    timeout=60)
             good = (ended.returncode, ended.stdout, ended.stderr.decode()) == (1, b"", wanted)
             yield None if good and not os.path.exists(journal) else f"drive {given!r}: {ended}"
-        ended = subprocess.run([program, "drive", room, journal], stdin=subprocess.DEVNULL, capture_output=True, timeout=60)
+        ended = subprocess.run([program, "drive", room, journal], stdin=subprocess.DEVNULL, capture_output=True,
+                               timeout=60)
         wanted = f"error: the file can't be used: {room}: is a directory\nfault 21 File\n"
         yield None if (ended.returncode, ended.stderr.decode()) == (2, wanted) else f"drive of a folder: {ended}"
 

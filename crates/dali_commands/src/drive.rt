@@ -17,7 +17,8 @@ use dali_drive::{Sink, Source, StoredFault, drive_stored};
 use dali_input::{Input, ORDERS_LIMIT, read_input, read_orders};
 use dali_store::Store;
 use std::alloc::Global;
-use std::io::{Read, Write};
+use std::io;
+use std::io::{ErrorKind, Read, Write};
 
 /// What a person calls the orders and the journal of a drive.
 #[derive(Clone, Copy)]
@@ -67,7 +68,21 @@ pub fn drive_input<R: Read, I: Source, L: Sink, S: Store, W: Write>(
             store,
             lines,
         ),
-        Err(fault) => tell_unread(alloc, &mut lines.output, names.orders, fault, input.cause()),
+        Err(fault) => tell_unread(
+            alloc,
+            &mut lines.output,
+            names.orders,
+            fault,
+            failure_of(input.cause()),
+        ),
+    }
+}
+
+// The failure of this kind.
+fn failure_of(cause: Option<ErrorKind>) -> Option<io::Error> {
+    match cause {
+        Some(kind) => Some(io::Error::from(kind)),
+        None => None,
     }
 }
 

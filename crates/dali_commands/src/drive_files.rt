@@ -36,13 +36,7 @@ pub fn drive_files<
                 ErrorKind::OutOfMemory => InputFault::Memory,
                 _ => InputFault::File,
             };
-            tell_unread(
-                rt.alloc(),
-                &mut lines.output,
-                orders,
-                fault,
-                Some(error.kind()),
-            )
+            tell_unread(rt.alloc(), &mut lines.output, orders, fault, Some(error))
         }
     }
 }

@@ -16,7 +16,8 @@ use dali_notes::Escaped;
 use dali_store::{OpenFault, StoreFault};
 use dali_text::{Output, OutputFailed};
 use std::alloc::Global;
-use std::io::{ErrorKind, Write};
+use std::io;
+use std::io::Write;
 
 /// Writes the fault of a drive, where the replies could be written.
 pub fn tell_fault<W: Write>(lines: &mut Lines<W>, fault: DriveFault) -> Status
@@ -119,13 +120,13 @@ fn write_unopened<W: Write>(
     }
 }
 
-/// Writes why there are no orders, and of what kind the failure of their reader was, if it failed.
+/// Writes why there are no orders, and what the system says of that, where their reader failed.
 pub fn tell_unread<W: Write>(
     alloc: Global,
     output: &mut Output<W>,
     name: &str,
     fault: InputFault,
-    cause: Option<ErrorKind>,
+    cause: Option<io::Error>,
 ) -> Status
     ensures told { IsFileFaultTold (Fault.Input fault) result
         (held W.contents output.old) (held W.contents output.new) }
@@ -141,7 +142,7 @@ fn write_unread<W: Write>(
     output: &mut Output<W>,
     name: &str,
     fault: InputFault,
-    cause: Option<ErrorKind>,
+    cause: Option<io::Error>,
 ) -> Result<Status, OutputFailed>
     ensures told { IfOk result (λ status. (status ≡ status_of (Fault.Input fault))
         × TellsFileFault (Fault.Input fault) (held W.contents output.old) (held W.contents output.new)) }
@@ -154,12 +155,12 @@ fn write_unread<W: Write>(
     }
 }
 
-// Writes that a file can't be read, and of what kind that failure was.
+// Writes that a file can't be read, and what the system says of that.
 fn write_unreadable<W: Write>(
     alloc: Global,
     output: &mut Output<W>,
     name: &str,
-    cause: Option<ErrorKind>,
+    cause: Option<io::Error>,
 ) -> Result<Status, OutputFailed>
     ensures told { IfOk result (λ status. (status ≡ Status.Failed)
         × TellsWorded (Fault.Input InputFault.File) (held W.contents output.old) (held W.contents output.new)) }

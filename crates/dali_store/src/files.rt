@@ -66,7 +66,8 @@ enum Hindrance {
 }
 
 impl<'a, R: Files<File = File> + AllocGlobal> FileStore<'a, R> {
-    /// The store in the file of this name, which isn't touched before `read`. That can't be the file of the orders.
+    /// The store in the file of this name, which isn't touched before `read`. That can't be the file of the orders,
+    /// which has to stay open until then: its number is given to another file once it is gone.
     pub fn new(rt: &'a R, name: &'a str, orders: &Metadata) -> FileStore<'a, R>
         ensures { has_failed result ≡ false }
     {

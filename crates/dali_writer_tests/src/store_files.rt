@@ -1,12 +1,9 @@
 // A store in a file beside one in memory, of which all is proved: the same calls on both.
-ghost use Rattle.std.specs.Prelude.{};
 
 use crate::expected::expect_that;
 use dali_store::{FileStore, MemoryStore, Store, StoreFault};
 use std::alloc::Global;
 use std::fs;
-use std::fs::Metadata;
-use std::io;
 use std::test::Fail;
 
 const LIMIT: usize = 100;
@@ -49,10 +46,6 @@ static REPLACED: [Call; 8] = [
     Call::Replace(b"ijklm"),
     Call::Sync,
 ];
-
-static RUNS: [&[Call]; 3] = [&GROWN, &CUT, &REPLACED];
-
-static STARTS: [&[u8]; 3] = [b"", b"xyz", b"0123456789"];
 
 // Makes a call, and tells what it answers.
 fn answer<S: Store>(alloc: Global, store: &mut S, call: Call) -> Result<bool, StoreFault> {
@@ -101,51 +94,52 @@ fn show_alike<S: Store, T: Store>(
 }
 
 // Makes calls on both, over these bytes, and tests that they agree, and the file at the end.
-fn judge(rt: &HostRuntime, start: &[u8], calls: &[Call]) -> Result<(), Fail> {
-    fs::write(rt, "store_files.journal", start)?;
-    let other = other_file(rt)?;
+fn judge(rt: &HostRuntime, name: &str, start: &[u8], calls: &[Call]) -> Result<(), Fail> {
+    fs::write(rt, name, start)?;
+    let other = fs::metadata(rt, "/")?;
     let alloc = rt.alloc();
     let mut memory = MemoryStore::new(alloc, start.to_vec(alloc)?);
-    let mut file = FileStore::new(rt, "store_files.journal", &other);
+    let mut file = FileStore::new(rt, name, &other);
     let is_same = matches!(show_alike(alloc, &mut file, &mut memory, LIMIT), Ok(true));
     expect_that(is_same, "the same bytes at the start")?;
     for &call in calls {
         if let Call::Start = call {
-            file = FileStore::new(rt, "store_files.journal", &other);
+            file = FileStore::new(rt, name, &other);
         }
         let is_same = matches!(agree(alloc, &mut file, &mut memory, call), Ok(true));
         expect_that(is_same, "the same answers and bytes")?;
     }
-    let held = fs::read(rt, "store_files.journal")?;
-    fs::remove_file(rt, "store_files.journal")?;
-    expect_that(
-        held.as_slice() == memory.bytes(),
-        "what the file has",
-    )
+    let held = fs::read(rt, name)?;
+    fs::remove_file(rt, name)?;
+    expect_that(held.as_slice() == memory.bytes(), "what the file has")
 }
 
-// A file that is none of a store.
-fn other_file(rt: &HostRuntime) -> io::Result<Metadata> {
-    fs::write(rt, "store_files.orders", b"[]")?;
-    let found = fs::metadata(rt, "store_files.orders")?;
-    fs::remove_file(rt, "store_files.orders")?;
-    Ok(found)
+// The same over a few bytes at the start.
+fn judge_each(rt: &HostRuntime, name: &str, calls: &[Call]) -> Result<(), Fail> {
+    judge(rt, name, b"", calls)?;
+    judge(rt, name, b"xyz", calls)?;
+    judge(rt, name, b"0123456789", calls)
 }
 
 #[test]
-fn a_file_is_as_memory(rt: HostRuntime) -> Result<(), Fail> {
-    for start in STARTS {
-        for calls in RUNS {
-            judge(&rt, start, calls)?;
-        }
-    }
-    Ok(())
+fn a_file_grows_as_memory(rt: HostRuntime) -> Result<(), Fail> {
+    judge_each(&rt, "store_files.grown", &GROWN)
+}
+
+#[test]
+fn a_file_is_cut_as_memory(rt: HostRuntime) -> Result<(), Fail> {
+    judge_each(&rt, "store_files.cut", &CUT)
+}
+
+#[test]
+fn a_file_is_replaced_as_memory(rt: HostRuntime) -> Result<(), Fail> {
+    judge_each(&rt, "store_files.replaced", &REPLACED)
 }
 
 #[test]
 fn too_many_bytes(rt: HostRuntime) -> Result<(), Fail> {
     fs::write(&rt, "store_files.big", b"abcd")?;
-    let other = other_file(&rt)?;
+    let other = fs::metadata(&rt, "/")?;
     let alloc = rt.alloc();
     let mut memory = MemoryStore::new(alloc, b"abcd".to_vec(alloc)?);
     let mut file = FileStore::new(&rt, "store_files.big", &other);
@@ -153,16 +147,13 @@ fn too_many_bytes(rt: HostRuntime) -> Result<(), Fail> {
     expect_that(is_same, "too big")?;
     let is_same = matches!(show_alike(alloc, &mut file, &mut memory, 4), Ok(true));
     fs::remove_file(&rt, "store_files.big")?;
-    expect_that(
-        is_same && !file.has_failed(),
-        "just as many as may be",
-    )
+    expect_that(is_same && !file.has_failed(), "just as many as may be")
 }
 
 // Nothing is made where no call reads first.
 #[test]
 fn a_file_that_is_not_read_first(rt: HostRuntime) -> Result<(), Fail> {
-    let other = other_file(&rt)?;
+    let other = fs::metadata(&rt, "/")?;
     let mut file = FileStore::new(&rt, "store_files.unread", &other);
     let is_refused = file.append(b"a").is_none() && !file.replace(b"a") && !file.sync();
     expect_that(is_refused && file.has_failed(), "a failure")?;
@@ -170,8 +161,5 @@ fn a_file_that_is_not_read_first(rt: HostRuntime) -> Result<(), Fail> {
         file.cause() == Some("the file isn't open: store_files.unread"),
         "its cause",
     )?;
-    expect_that(
-        !fs::exists(&rt, "store_files.unread")?,
-        "no file",
-    )
+    expect_that(!fs::exists(&rt, "store_files.unread")?, "no file")
 }

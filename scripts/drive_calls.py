@@ -15,6 +15,7 @@ from drive_desk import (
     desk_of,
     goes_on,
     last_line,
+    new_of,
     parts,
     put_journal,
     settings,
@@ -147,6 +148,15 @@ def faults_of(call):
     return ("drive fault 1 Journal",) if is_of_record else ("fault 21 File",)
 
 
+def check_named(desk, call, ended):
+    """Raise unless a file's fault has a line before it that names the file on which the call failed."""
+    files = {"orders": [desk.orders], "journal": [desk.journal], "new": [new_of(desk)],
+             "folder": [desk.journal.parent, "/"]}
+    if call.target in files and ended.told.endswith("fault 21 File\n"):
+        line = ended.told.splitlines()[-2]
+        assert line.startswith("error: ") and any(f": {it}: " in line for it in files[call.target]), (call, ended)
+
+
 def absent_calls(desk, start):
     """Give the calls of the absent unit's run from a journal of these bytes, or from none."""
     put_journal(desk, start)
@@ -182,6 +192,7 @@ def test_each_call_failing(folder, part, _):
     for desk, call, ended in each_call_spoiled(folder, "fail", (errno.EIO, errno.ENOSPC)[part]):
         status, sent, line = last_line(ended)
         assert status == 2 and line in faults_of(call), (call, ended)
+        check_named(desk, call, ended)
         assert ABSENT_FRAMES.startswith(sent), (call, sent)
         assert sent == b"" or call.target in ("in", "out", "err") or call.is_of_record, (call, sent)
         assert not desk.journal.exists() or records_of(desk.held()), call

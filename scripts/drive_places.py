@@ -38,6 +38,60 @@ def test_journal_that_is_a_folder(folder):
     want(last_line(desk.give(SILENCE)), FAULT_21)
 
 
+def test_journal_that_is_a_named_pipe(folder):
+    desk = desk_of(folder, ABSENT)
+    os.mkfifo(desk.journal)
+    told = f"error: the journal is a named pipe: {desk.journal}\nfault 21 File\n"
+    want(desk.give(SILENCE, timeout=5), Ended(2, b"", told))
+
+
+def test_orders_and_journal_in_one_file(folder):
+    for orders in (ABSENT, []):
+        for make in (os.symlink, os.link, None):
+            desk = desk_of(folder, orders)
+            if make:
+                make(desk.orders, desk.journal)
+            else:
+                desk.journal = desk.orders
+            told = f"error: ORDERS and JOURNAL are one file: {desk.journal}\nfault 21 File\n"
+            want((make, desk.give(SILENCE)), (make, Ended(2, b"", told)))
+            want((desk.orders.read_text(), new_of(desk).exists()), (driven.json.dumps(orders), False))
+            if make:
+                desk.journal.unlink()
+
+
+def test_a_folder_whose_name_is_no_text(folder):
+    odd = os.path.join(os.fsencode(folder), b"\xff")
+    os.mkdir(odd)
+    desk = desk_of(folder, ABSENT)
+    desk.journal = pathlib.Path("bench.journal")
+    place = os.path.join(odd, b"bench.journal")
+    for start in (ABSENT_BEGAN + b"E", ABSENT_BEGAN, OLD_ABSENT_BEGAN, b""):
+        with open(place, "wb") as file:
+            file.write(start)
+        ended = desk.give(SILENCE, cwd=odd)
+        want(last_line(ended), FAULT_21)
+        assert ended.told.startswith("error: the file can't be used: bench.journal: "), ended
+        with open(place, "rb") as file:
+            want((file.read(), os.listdir(odd)), (start, [b"bench.journal"]))
+
+
+def test_a_folder_that_can_not_be_read(folder):
+    inner = folder / "inner"
+    inner.mkdir()
+    desk = desk_of(folder, ABSENT)
+    desk.journal = inner / "bench.journal"
+    for start in (ABSENT_BEGAN + b"E", ABSENT_BEGAN, OLD_ABSENT_BEGAN, b""):
+        desk.journal.write_bytes(start)
+        desk.journal.chmod(0o666)
+        inner.chmod(0o333)
+        ended = as_nobody(desk)
+        inner.chmod(0o755)
+        want(last_line(ended), FAULT_21)
+        assert ended.told.startswith(f"error: the file can't be used: {inner}: "), ended
+        want((desk.held(), os.listdir(inner)), (start, ["bench.journal"]))
+
+
 def test_journal_in_a_folder_that_is_not_there(folder):
     desk = desk_of(folder, ABSENT)
     desk.journal = folder / "none" / "bench.journal"

@@ -10,7 +10,7 @@ import termios
 import time
 
 import driven
-from drive_calls import acts_on, calls_of, check_order, shim
+from drive_calls import acts_on, calls_of, check_named, check_order, shim
 from drive_desk import (
     ABSENT,
     ABSENT_BEGAN,
@@ -221,19 +221,75 @@ def test_failures_amid_an_upgrade(folder, part, _):
             put_journal(desk, start)
             bus = bus_for(start)
             act = call.act("fail", (errno.EIO, errno.ENOSPC)[part])
-            want((call, last_line(desk.over(bus, environment=shim(desk, act)))), (call, FAULT_21))
+            ended = desk.over(bus, environment=shim(desk, act))
+            want((call, last_line(ended)), (call, FAULT_21))
+            check_named(desk, call, ended)
             want((call, desk.held()), (call, in_version_2(start) if is_renamed else start))
             want((call, end_of(desk, bus)), (call, end))
             is_renamed = is_renamed or call.kind == "rename"
 
 
-def test_what_an_earlier_upgrade_left(folder):
+def test_what_a_stopped_drive_left(folder):
     desk = desk_of(folder, ABSENT)
-    for left in (b"", b"\xff" * 5000, b"D", HEADER, DONE_JOURNAL, many_orders(*range(50)), OLD_JOURNAL):
-        for start in ABSENT_STARTS:
+    for start in ABSENT_STARTS:
+        whole = in_version_2(start or b"")
+        for length in range(len(whole) + 1):
+            put_journal(desk, start)
+            new_of(desk).write_bytes(whole[:length])
+            new_of(desk).chmod(0o600)
+            goes_on(desk)
+
+
+def check_in_the_way(desk, start, others=()):
+    """Raise unless what stands where the journal is to be written anew is refused by name, and all stays as it is."""
+    new = new_of(desk)
+    before = [path.read_bytes() for path in others]
+    kind, names = new.lstat().st_mode, sorted({*os.listdir(desk.folder), desk.journal.name})
+    told = f"error: what stands in the way was not left by a drive of this journal: {new}\nfault 21 File\n"
+    want((start, desk.give(SILENCE)), (start, Ended(2, b"", told)))
+    want((desk.held(), [path.read_bytes() for path in others]), (start or b"", before))
+    want((new.lstat().st_mode, sorted(os.listdir(desk.folder))), (kind, names))
+
+
+def test_what_no_drive_left(folder):
+    desk = desk_of(folder, ABSENT)
+    for start in ABSENT_STARTS:
+        whole = in_version_2(start or b"")
+        for left in (whole + b"B", whole[:-1] + b"\xff", DONE_JOURNAL, many_orders(*range(50)), OLD_JOURNAL,
+                     b"\xff" * 5000, b"\0" * len(whole)):
             put_journal(desk, start)
             new_of(desk).write_bytes(left)
-            goes_on(desk)
+            check_in_the_way(desk, start, [new_of(desk)])
+
+
+def test_what_is_no_file_of_its_own_where_it_would_be_written(folder):
+    desk, other = desk_of(folder, ABSENT), folder / "other.journal"
+    for start in ABSENT_STARTS:
+        for held in (b"", HEADER, DONE_JOURNAL):
+            for make in (os.symlink, os.link):
+                put_journal(desk, start)
+                other.write_bytes(held)
+                make(other, new_of(desk))
+                check_in_the_way(desk, start, [other])
+        for make in (os.mkfifo, lambda path: os.symlink(folder / "none", path)):
+            put_journal(desk, start)
+            make(new_of(desk))
+            check_in_the_way(desk, start)
+
+
+def test_orders_where_the_journal_would_be_written(folder):
+    desk = desk_of(folder, ABSENT)
+    orders = desk.orders
+    for start in (b"", OLD_ABSENT_BEGAN):
+        for make in (os.symlink, os.link):
+            put_journal(desk, start)
+            make(orders, new_of(desk))
+            check_in_the_way(desk, start, [orders])
+        put_journal(desk, start)
+        desk.orders = new_of(desk)
+        desk.write_orders(ABSENT)
+        check_in_the_way(desk, start, [desk.orders])
+        desk.orders = orders
 
 
 def test_a_folder_stands_where_it_would_be_written(folder):
@@ -241,8 +297,7 @@ def test_a_folder_stands_where_it_would_be_written(folder):
     for start in (b"", OLD_ABSENT_BEGAN):
         put_journal(desk, start)
         new_of(desk).mkdir()
-        want(last_line(desk.give(SILENCE)), FAULT_21)
-        want(desk.held(), start)
+        check_in_the_way(desk, start)
         new_of(desk).rmdir()
         goes_on(desk)
 
@@ -331,9 +386,8 @@ def test_a_drive_that_opened_the_old_file_is_kept_out(folder):
             nonlocal first
             first = desk.start()
             want(driven.line_from(first.stdout), ABSENT_FRAMES[:5])
-            # The new file is told from the old one by its length alone, and where that is the same by its time alone.
-            if len(start) != len(ABSENT_BEGAN):
-                os.utime(desk.journal, ns=(changed, changed))
+            # Neither its time nor, in the last case, its length tells the new file from the old one.
+            os.utime(desk.journal, ns=(changed, changed))
 
         try:
             second, _ = give_around(desk, "lock journal 1 pause", begin)

@@ -209,18 +209,12 @@ def judge_drive(status, stdout, stderr):
     """Judge what `drive` printed: frames to standard output, and all else to standard error."""
     sent, told = lines_of(stdout), lines_of(stderr)
     assert all(re.fullmatch("[0-9A-F]{4}", line) for line in sent), sent
-    if told and JOURNAL_FAULT.fullmatch(told[-1]):
+    if told and (JOURNAL_FAULT.fullmatch(told[-1]) or is_file_fault(told[-1])):
         assert len(told) == 1 and not sent, (told, sent)
-        return check_status(status, 1)
-    if told and is_file_fault(told[-1]):
-        assert not sent, sent
-        judge_notes(told[-1:], "".join(f"{it}\n" for it in told[:-1]).encode())
         return check_status(status, 1)
     refused = [re.fullmatch(f"item ({NUMBER}) fault .*", line) for line in told]
     if any(refused):
-        at = next(place for place, found in enumerate(refused) if found)
-        assert not sent and all(found and is_item_fault(found[0], "item", found[1]) for found in refused[at:]), told
-        judge_notes(told[at:], "".join(f"{it}\n" for it in told[:at]).encode())
+        assert not sent and all(found and is_item_fault(found[0], "item", found[1]) for found in refused), told
         return check_status(status, 1)
     fault = re.fullmatch("drive fault (.*)", told[-1]) if told else None
     assert all(REPLY.fullmatch(line) for line in (told[:-1] if fault else told)), told

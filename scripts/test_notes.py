@@ -240,11 +240,10 @@ def fails_on_drives(program):
     with tempfile.TemporaryDirectory() as room:
         orders, journal = os.path.join(room, "orders.json"), os.path.join(room, "journal")
         for given, wanted in (
-            (b'[{"order": 6, "unit": 5, "yeer": 1}]',
-             "item 1 order 6: yeer: no such key (year?)\nitem 1 fault 10 Key\n"),
-            (REFUSED, "\n".join([*REFUSED_FIRST, *REFUSED_THIRD, "item 1 fault 10 Key", "item 3 fault 1 Unit", ""])),
-            (b'[{"order": 6,}]', f"line 1 column 14: {JSON}\nfault 11 Json\n"),
-            (b"{}", "the input is an object, and orders are an array\nfault 12 Document\n"),
+            (b'[{"order": 6, "unit": 5, "yeer": 1}]', "item 1 fault 10 Key\n"),
+            (REFUSED, "item 1 fault 10 Key\nitem 3 fault 1 Unit\n"),
+            (b'[{"order": 6,}]', "fault 11 Json\n"),
+            (b"{}", "fault 12 Document\n"),
         ):
             with open(orders, "wb") as file:
                 file.write(given)
@@ -252,7 +251,8 @@ def fails_on_drives(program):
                                    timeout=60)
             good = (ended.returncode, ended.stdout, ended.stderr.decode()) == (1, b"", wanted)
             yield None if good and not os.path.exists(journal) else f"drive {given!r}: {ended}"
-        ended = subprocess.run([program, "drive", room, journal], stdin=subprocess.DEVNULL, capture_output=True, timeout=60)
+        ended = subprocess.run([program, "drive", room, journal], stdin=subprocess.DEVNULL, capture_output=True,
+                               timeout=60)
         wanted = f"error: the file can't be used: {room}: is a directory\nfault 21 File\n"
         yield None if (ended.returncode, ended.stderr.decode()) == (2, wanted) else f"drive of a folder: {ended}"
 

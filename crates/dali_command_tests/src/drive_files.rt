@@ -364,12 +364,23 @@ fn is_refused_over<R: Files<File = File> + AllocGlobal>(rt: &R, folder: &str) ->
     Ok(driven.is_refused())
 }
 
-// A drive that was stopped left a file beside the journal, and then a folder stands there.
+// Whether a drive is refused where what no drive left stands beside the journal, which stays, as that does.
+fn is_refused_beside<R: Files<File = File> + AllocGlobal>(rt: &R, new: &str) -> io::Result<bool> {
+    fs::write(rt, new, "what nobody left")?;
+    let driven = driven_files(rt, &OLD_WITH_NEW)?;
+    Ok(driven.is_refused() && holds(rt, new, b"what nobody left")?)
+}
+
+// A drive that was stopped left a first part of a file beside the journal, and then others stand there.
 #[test]
 fn what_stands_where_a_journal_is_written_anew(rt: HostRuntime) -> Result<(), Fail> {
     let new = "drive_files_left.journal.new";
-    fs::write(&rt, new, "what an earlier drive left")?;
+    fs::write(&rt, new, &SILENT[..20])?;
     judge(&rt, &OLD_WITH_NEW)?;
+    expect_that(
+        is_refused_beside(&rt, new)?,
+        "fault 21 File where another file stands",
+    )?;
     expect_that(
         is_refused_over(&rt, new)?,
         "fault 21 File where a folder stands",
@@ -385,12 +396,7 @@ const NO_ITEMS: Drive<'static> = Drive {
     answers: 0,
     status: Status::Refused,
     pairs: 0,
-    lines: concat!(
-        "item 1 order 1: unit: the number 64, and a short address is 0 to 63\n",
-        "item 3: order: missing, and it is a whole number from 0 to 18446744073709551615\n",
-        "item 3: unit: missing, and it is a whole number from 0 to 18446744073709551615\n",
-        "item 1 fault 1 Unit\nitem 3 fault 9 Shape\n",
-    ),
+    lines: "item 1 fault 1 Unit\nitem 3 fault 9 Shape\n",
     after: None,
     ..NEW
 };
@@ -403,7 +409,7 @@ const OLD_AND_NO_ITEMS: Drive<'static> = Drive {
 
 const NO_LIST: Drive<'static> = Drive {
     orders: "{}",
-    lines: "the input is an object, and orders are an array\nfault 12 Document\n",
+    lines: "fault 12 Document\n",
     ..NO_ITEMS
 };
 

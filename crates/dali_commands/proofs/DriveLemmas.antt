@@ -1,54 +1,76 @@
 -- Lemmas on how a drive ended.
 use Rattle.std.proofs.Common.{◌≡◌, refl, ℕ, ◌+◌, ◌<◌, Bool, true, false, ◌||◌, List, [], Option, arith}
-use Rattle.std.proofs.Common.{length, get_or, take, ap, inl, inr, subst, sym, ◌∙◌}
+use Rattle.std.proofs.Common.{IfOk, OnOk, Result, Ok, Err, length, get_or, take, ap, inl, inr, subst, sym, ◌∙◌}
 use Rattle.std.proofs.Math.Seq.{take-length}
 use Rattle.std.specs.Io.KnownBytes.{Appends, Keeps}
 use Rattle.std.specs.List.{flat_map}
 use Rattle.std.proofs.lemmas.List.{flat_map_more, take_more}
-use Rattle.dali_bank.specs.Order.{Contents}
-use Rattle.dali_journal.specs.JournalState.{JournalState}
 use Rattle.dali_input.specs.declared.item.ItemFault.{ItemFault}
+use Rattle.dali_bank.specs.Order.{Contents}
+use Rattle.dali_store.specs.declared.opening.OpenFault.{OpenFault}
+use Rattle.dali_input.specs.Input.{InputState, ReadsInput}
+use Rattle.dali_input.specs.Orders.{orders_limit}
+use Rattle.dali_text.specs.declared.output.OutputFailed.{OutputFailed}
+use Rattle.dali_drive.specs.declared.stored.StoredFault.{StoredFault}
+use Rattle.dali_drive.specs.declared.stored.StoredFault.TheVariants as stored
+use Rattle.dali_drive.specs.Stored.{IsStoredFault}
+use Rattle.dali_drive.specs.Transcript.{Streams}
 use Rattle.dali_drive.specs.declared.fault.DriveFault.{DriveFault}
 use Rattle.dali_drive.specs.declared.fault.DriveFault.TheVariants as drives
 use Rattle.dali_drive.specs.Streams.{PutsFirst}
-use Rattle.dali_drive.specs.Driven.{IsDrive, IsBrokenDrive}
-use Rattle.dali_writer.specs.WriterState.{WriterState, start_of}
-use Rattle.dali_drive.specs.Transcript.{Streams}
 use Rattle.dali_commands.specs.declared.fault.Status.{Status}
-use Rattle.dali_commands.specs.declared.fault.Status.TheVariants.{Good, Unwritten}
-use Rattle.dali_commands.specs.DriveAnswers.{IsDriveAnswer, IsFaultTold, is_out, refused_lines}
+use Rattle.dali_commands.specs.declared.fault.Status.TheVariants.{Unwritten}
+use Rattle.dali_commands.specs.DriveAnswers.{IsDriveAnswer, IsInputAnswer, IsInputDriven, IsFaultTold, IsFileFaultTold}
+use Rattle.dali_commands.specs.DriveAnswers.{TellsWorded, error_line, fault_unopened, is_out, refused_lines}
+use Rattle.dali_commands.specs.JournalAnswers.{journal_limit, order_limit}
+use Rattle.dali_commands.specs.declared.fault.Fault.{Fault}
 use Rattle.dali_commands.specs.declared.fault.Fault.TheVariants.{Drive}
 use Rattle.dali_commands.specs.Faults.{item_line, status_of, told_line}
 use Rattle.dali_text.proofs.StreamLemmas.{appends_both, appends_kept}
 
--- the drive of a writer that was made from the journal came to its end
-pub ends_well : (journal : JournalState) (made : WriterState) (orders : List Contents) (moment : ℕ)
-    (first last : Streams) (writer : WriterState)
-    (status : Status)
-    → made.journal ≡ journal
-    → IsDrive (start_of made.journal) orders moment first writer last → status ≡ Good
-    → IsDriveAnswer (start_of journal) orders moment first status last
-ends_well journal made orders moment first last writer status is driven good = inl (record {
-  writer = writer;
-  driven = subst (λ (j : JournalState). IsDrive (start_of j) orders moment first writer last) is driven;
-  status_is = good;
-})
+-- the journal wasn't opened, and its fault was told
+pub ends_unopened : (orders : List Contents) (moment : ℕ) (first last : Streams) (replies : Option (List ℕ))
+    (fault : StoredFault) (why : OpenFault) (status : Status) → fault ≡ stored.Open why
+    → IsStoredFault order_limit journal_limit orders moment fault first (record last { out = replies })
+    → IsFileFaultTold (fault_unopened why) status replies last.out → IsDriveAnswer orders moment first status last
+ends_unopened orders moment first last replies fault why status is unopened told = inr (inl (record {
+  fault = why;
+  replies = replies;
+  unopened =
+      subst (λ (f : StoredFault). IsStoredFault order_limit journal_limit orders moment f first
+      (record last { out = replies })) is unopened;
+  told = told;
+}))
 
 -- it broke off, and its fault was told
-pub ends_broken : (journal : JournalState) (made : WriterState) (orders : List Contents) (moment : ℕ)
-    (first last : Streams)
-    (replies : Option (List ℕ)) (fault : DriveFault) (status : Status)
-    → made.journal ≡ journal
-    → IsBrokenDrive (start_of made.journal) orders moment fault first (record last { out = replies })
-    → IsFaultTold fault status replies last.out → IsDriveAnswer (start_of journal) orders moment first status last
-ends_broken journal made orders moment first last replies fault status is broken told = inr (record {
-  fault = fault;
+pub ends_broken : (orders : List Contents) (moment : ℕ) (first last : Streams) (replies : Option (List ℕ))
+    (fault : StoredFault) (why : DriveFault) (status : Status) → fault ≡ stored.Drive why
+    → IsStoredFault order_limit journal_limit orders moment fault first (record last { out = replies })
+    → IsFaultTold why status replies last.out → IsDriveAnswer orders moment first status last
+ends_broken orders moment first last replies fault why status is broken told = inr (inr (record {
+  fault = why;
   replies = replies;
   broken =
-      subst (λ (j : JournalState). IsBrokenDrive (start_of j) orders moment fault first (record last { out = replies }))
-      is broken;
+      subst (λ (f : StoredFault). IsStoredFault order_limit journal_limit orders moment f first
+      (record last { out = replies })) is broken;
   told = told;
-})
+}))
+
+-- the bytes that were read are those that were driven
+pub read_and_driven : (before after : InputState) (moment : ℕ) (first last : Streams) (status : Status)
+    (input given : List ℕ) → given ≡ input → ReadsInput orders_limit before after input
+    → IsInputAnswer given moment first status last → IsInputDriven before after moment first status last
+read_and_driven before after moment first last status input given is read driven =
+    inl (input, read, subst (λ (bytes : List ℕ). IsInputAnswer bytes moment first status last) is driven)
+
+-- a line in words was written, and then the fault's
+pub worded : (result : Result Status OutputFailed) (fault : Fault) (words : List ℕ) (before mid after : Option (List ℕ))
+    → Appends before mid (error_line words) → OnOk result (Appends mid after (told_line fault))
+    → IfOk result (λ status. status ≡ status_of fault)
+    → IfOk result (λ status. (status ≡ status_of fault) × TellsWorded fault before after)
+worded (Ok status) fault words before mid after line told is =
+    (is, (words, appends_both before mid after (error_line words) (told_line fault) line told))
+worded (Err error) fault words before mid after line told is = tt
 
 -- one refused item more is told; any default serves
 pub refused_more : (refused : List (ℕ × ItemFault)) (i : ℕ) (default : ℕ × ItemFault) (before mid now : Option (List ℕ))

@@ -3,7 +3,10 @@ use Rattle.std.proofs.Common.{◌≡◌, refl, inl, inr, ap, ℕ, zero, suc, Lis
 use Rattle.std.proofs.Common.{get_or, arith}
 use Rattle.dali_drive.specs.declared.fault.DriveFault.TheVariants as faults
 use Rattle.dali_commands.specs.declared.fault.Status.TheVariants.{Good, Refused, Failed, Unwritten}
-use Rattle.dali_commands.specs.DriveAnswers.{IsFaultTold}
+use Rattle.dali_input.specs.declared.fault.InputFault.TheVariants.{File, TooBig}
+use Rattle.dali_commands.specs.declared.fault.Fault.TheVariants.{Input}
+use Rattle.dali_commands.specs.DriveAnswers.{IsFaultTold, TellsFileFault, error_line}
+use Rattle.dali_commands.specs.Faults.{told_line}
 
 pub out_told_by_its_status : (written : Option (List ℕ)) → IsFaultTold faults.Out Unwritten written written
 out_told_by_its_status written = (refl, refl)
@@ -32,3 +35,17 @@ nothing_else_in_part (inr (is, (suc k, within, part))) =
 pub not_in_part_and_refused : IsFaultTold faults.End Refused (Some []) (Some []) → ⊥
 not_in_part_and_refused (inl told) = let none : [] ≡ codes "drive fault " ++ _ = told.1 in cc
 not_in_part_and_refused (inr told) = let is : Refused ≡ Unwritten = told.0 in cc
+
+-- a file's fault has a line in words before its own, and that of too many bytes has none
+pub told_with_words : TellsFileFault (Input File) (Some []) (Some (error_line (codes "x") ++ told_line (Input File)))
+told_with_words = (codes "x", refl)
+
+pub not_without_words : TellsFileFault (Input File) (Some []) (Some (codes "fault 21 File\n")) → ⊥
+not_without_words (words, told) =
+    let first : 102 ≡ 101 = ap (λ (text : List ℕ). get_or text 0 0) told in omega (arith, first)
+
+pub told_alone : TellsFileFault (Input TooBig) (Some []) (Some (told_line (Input TooBig)))
+told_alone = refl
+
+pub not_with_words : TellsFileFault (Input TooBig) (Some []) (Some (codes "error: x\nfault 13 TooBig\n")) → ⊥
+not_with_words told = let first : 101 ≡ 102 = ap (λ (text : List ℕ). get_or text 0 0) told in omega (arith, first)

@@ -1,132 +1,180 @@
-ghost use Rattle.std.specs.Prelude.{◌≡◌, ◌≢◌, ◌↔◌, IfOk, IfErr, OnOk, false, true};
+ghost use Rattle.std.specs.Prelude.{◌≡◌, ◌↔◌, false, true};
+ghost use Rattle.dali_drive.specs.Stored.{LeavesPart};
 ghost use Rattle.dali_drive.specs.Transcript.{shown};
-ghost use Rattle.dali_store.specs.Stores.{IsSettled, IsBetween, LeavesOnly};
-ghost use Rattle.dali_text.specs.Output.{TellsFailure, Takes, has_failed, held, is_flushed};
-ghost use Rattle.dali_commands.specs.Ends.{TellsEnd};
-ghost use Rattle.dali_writer.specs.WriterState.{start_of};
-ghost use Rattle.dali_commands.specs.DriveAnswers.{IsDriveAnswer, IsFaultTold, is_out, refused_lines};
+ghost use Rattle.dali_input.specs.Input.{ReadsAtMost, state_of};
+ghost use Rattle.dali_input.specs.Orders.{orders_limit};
+ghost use Rattle.dali_store.specs.Stores.{IsSettled, LeavesOnly};
+ghost use Rattle.dali_text.specs.Output.{has_failed, held};
+ghost use Rattle.dali_commands.specs.DriveAnswers.{IsDriveAnswer, IsInputAnswer, IsInputDriven};
+ghost use Rattle.dali_commands.specs.JournalAnswers.{order_limit};
 
-use crate::fault::{Fault, Status};
-use crate::fault_lines::{drive_line, write_refused_item};
+use crate::drive_lines::{tell_fault, tell_refused, tell_unopened, tell_unread};
+use crate::fault::Status;
+use crate::journal::{JOURNAL_LIMIT, MOST_ORDERS};
 use crate::lines::Lines;
 use dali_bank::Order;
-use dali_drive::{DriveFault, Sink, Source, drive, put_all};
-use dali_input::ItemFault;
-use dali_journal::Journal;
+use dali_drive::{Sink, Source, StoredFault, drive_stored};
+use dali_input::{Input, ORDERS_LIMIT, read_input, read_orders};
 use dali_store::Store;
-use dali_text::{Output, OutputFailed};
-use dali_writer::Writer;
-use std::io::Write;
+use std::alloc::Global;
+use std::io;
+use std::io::{ErrorKind, Read, Write};
 
-/// Carries out what a journal still asks for, and then the orders one after the other, each at this moment, over
-/// streams that haven't failed. Where that breaks off it writes the fault's line: 1 Journal, 2 Link, 3 Line, 4 End, 6
-/// TooLong, or 20 Memory. Where `lines` fails it is 7 Out, or there stands a first part of the fault's line; later calls
-/// of it write nothing more.
-pub fn drive_over<I: Source, L: Sink, J: Store, W: Write>(
-    journal: Journal,
+/// What a person calls the orders and the journal of a drive.
+#[derive(Clone, Copy)]
+pub struct DriveNames<'a> {
+    /// ORDERS.
+    pub orders: &'a str,
+    /// JOURNAL.
+    pub journal: &'a str,
+}
+
+/// Carries out the orders that a reader gives over a link, with the journal that a store holds, as `drive_orders` does.
+///
+/// Where an item is refused, the lines of all that are, are written, and nothing else is touched; nor is it where there
+/// are no orders: 13 TooBig over 16777216 bytes, 11 Json, 12 Document, 20 Memory or 21 File.
+pub fn drive_input<R: Read, I: Source, L: Sink, S: Store, W: Write>(
+    alloc: Global,
+    names: DriveNames<'_>,
+    input: &mut Input<R>,
+    moment: u64,
+    link_in: &mut I,
+    link_out: &mut L,
+    store: &mut S,
+    lines: &mut Lines<W>,
+) -> Status
+    requires store { S.failed store.old ≡ false }
+    requires link_out { L.failed link_out.old ≡ false }
+    requires link_in { I.failed link_in.old ≡ false }
+    requires lines { has_failed lines.old.output ≡ false }
+    ensures driven { IsInputDriven (state_of R.remaining input.old) (state_of R.remaining input.new) moment
+        (shown (S.seen store.old) (L.held link_out.old) (I.left link_in.old) (held W.contents lines.old.output))
+        result
+        (shown (S.seen store.new) (L.held link_out.new) (I.left link_in.new) (held W.contents lines.new.output)) }
+    ensures read { ReadsAtMost orders_limit (state_of R.remaining input.old) (state_of R.remaining input.new) }
+    ensures unwritten { result ≡ Status.Unwritten ↔ has_failed lines.new.output ≡ true }
+    ensures settled { result ≡ Status.Good → IsSettled (S.seen store.new) (S.may_leave store.new) }
+    ensures any_moment { LeavesOnly S.moment S.left_since store.old store.new
+        (LeavesPart order_limit (S.seen store.old) (S.seen store.new) (S.may_leave store.old)) }
+{
+    match read_input(alloc, input, ORDERS_LIMIT) {
+        Ok(bytes) => drive_bytes(
+            alloc,
+            names,
+            bytes.as_slice(),
+            moment,
+            link_in,
+            link_out,
+            store,
+            lines,
+        ),
+        Err(fault) => tell_unread(
+            alloc,
+            &mut lines.output,
+            names.orders,
+            fault,
+            failure_of(input.cause()),
+        ),
+    }
+}
+
+// The failure of this kind.
+fn failure_of(cause: Option<ErrorKind>) -> Option<io::Error> {
+    match cause {
+        Some(kind) => Some(io::Error::from(kind)),
+        None => None,
+    }
+}
+
+// Carries out the orders that these bytes spell.
+fn drive_bytes<I: Source, L: Sink, S: Store, W: Write>(
+    alloc: Global,
+    names: DriveNames<'_>,
+    input: &[u8],
+    moment: u64,
+    link_in: &mut I,
+    link_out: &mut L,
+    store: &mut S,
+    lines: &mut Lines<W>,
+) -> Status
+    requires store { S.failed store.old ≡ false }
+    requires link_out { L.failed link_out.old ≡ false }
+    requires link_in { I.failed link_in.old ≡ false }
+    requires lines { has_failed lines.old.output ≡ false }
+    ensures answer { IsInputAnswer input.now moment
+        (shown (S.seen store.old) (L.held link_out.old) (I.left link_in.old) (held W.contents lines.old.output))
+        result
+        (shown (S.seen store.new) (L.held link_out.new) (I.left link_in.new) (held W.contents lines.new.output)) }
+    ensures unwritten { result ≡ Status.Unwritten ↔ has_failed lines.new.output ≡ true }
+    ensures settled { result ≡ Status.Good → IsSettled (S.seen store.new) (S.may_leave store.new) }
+    ensures any_moment { LeavesOnly S.moment S.left_since store.old store.new
+        (LeavesPart order_limit (S.seen store.old) (S.seen store.new) (S.may_leave store.old)) }
+{
+    match read_orders(alloc, input) {
+        Ok(Ok(orders)) => drive_orders(
+            alloc,
+            names.journal,
+            orders.as_slice(),
+            moment,
+            link_in,
+            link_out,
+            store,
+            lines,
+        ),
+        Ok(Err(refused)) => tell_refused(&mut lines.output, refused.as_slice()),
+        Err(fault) => tell_unread(alloc, &mut lines.output, names.orders, fault, None),
+    }
+}
+
+/// Carries out what the journal of a store still asks for, and then the orders one after the other, each at this
+/// moment, over streams that haven't failed. Each reply has its line in `lines`, and so has the fault that ends it.
+///
+/// Nothing is sent where no journal is opened, for at most 100000 orders and of at most 33554432 bytes: 13 TooBig, 7
+/// Header, 3 Record, 4 Sequence, 5 Repeated, 6 Full, 20 Memory or 21 File. A drive breaks off at 1 Journal, 2 Link, 3
+/// Line, 4 End, 6 TooLong or 20 Memory. Where `lines` fails it is 7 Out, or there stands a first part of the fault's
+/// line; later calls of it write nothing more.
+pub fn drive_orders<I: Source, L: Sink, S: Store, W: Write>(
+    alloc: Global,
+    name: &str,
     orders: &[Order],
     moment: u64,
     link_in: &mut I,
     link_out: &mut L,
-    journal_out: &mut J,
+    store: &mut S,
     lines: &mut Lines<W>,
 ) -> Status
-    requires journal { J.failed journal_out.old ≡ false }
-    requires settled { IsSettled (J.seen journal_out.old) (J.may_leave journal_out.old) }
+    requires store { S.failed store.old ≡ false }
     requires link_out { L.failed link_out.old ≡ false }
     requires link_in { I.failed link_in.old ≡ false }
     requires lines { has_failed lines.old.output ≡ false }
-    ensures answer { IsDriveAnswer (start_of journal) orders.now moment
-        (shown (J.seen journal_out.old) (L.held link_out.old) (I.left link_in.old) (held W.contents lines.old.output))
+    ensures answer { IsDriveAnswer orders.now moment
+        (shown (S.seen store.old) (L.held link_out.old) (I.left link_in.old) (held W.contents lines.old.output))
         result
-        (shown (J.seen journal_out.new) (L.held link_out.new) (I.left link_in.new) (held W.contents lines.new.output)) }
+        (shown (S.seen store.new) (L.held link_out.new) (I.left link_in.new) (held W.contents lines.new.output)) }
     ensures unwritten { result ≡ Status.Unwritten ↔ has_failed lines.new.output ≡ true }
-    ensures any_moment { LeavesOnly J.moment J.left_since journal_out.old journal_out.new
-        (IsBetween (J.seen journal_out.old) (J.seen journal_out.new)) }
+    ensures settled { result ≡ Status.Good → IsSettled (S.seen store.new) (S.may_leave store.new) }
+    ensures any_moment { LeavesOnly S.moment S.left_since store.old store.new
+        (LeavesPart order_limit (S.seen store.old) (S.seen store.new) (S.may_leave store.old)) }
 {
-    let writer = Writer::new(journal);
-    match drive(
-        writer,
+    match drive_stored(
+        alloc,
+        MOST_ORDERS,
+        JOURNAL_LIMIT as usize,
         orders,
         moment,
         link_in,
         link_out,
-        journal_out,
+        store,
         lines,
     ) {
         Ok(_) => Status::Good,
-        Err(fault) => tell_fault(lines, fault),
-    }
-}
-
-// Writes the fault of a drive, where the replies could be written.
-fn tell_fault<W: Write>(lines: &mut Lines<W>, fault: DriveFault) -> Status
-    requires { has_failed lines.old.output ≡ is_out fault }
-    ensures told { IsFaultTold fault result
-        (held W.contents lines.old.output) (held W.contents lines.new.output) }
-    ensures unwritten { result ≡ Status.Unwritten ↔ has_failed lines.new.output ≡ true }
-{
-    if let DriveFault::Out = fault {
-        return Status::Unwritten;
-    }
-    if !put_all(lines, drive_line(fault).as_bytes()) {
-        return Status::Unwritten;
-    }
-    if !lines.flush() {
-        return Status::Unwritten;
-    }
-    Fault::Drive(fault).status()
-}
-
-/// Writes the refused items of a list of orders, and nothing after them.
-///
-/// Where a call of the output fails later ones write nothing more to it, and it ends as `Unwritten`.
-pub fn tell_refused<W: Write>(output: &mut Output<W>, refused: &[(u64, ItemFault)]) -> Status
-    ensures told { result ≢ Status.Unwritten → (result ≡ Status.Refused)
-        × Takes W.contents output.old output.new (refused_lines refused.now) }
-    ensures unwritten { result ≡ Status.Unwritten ↔ has_failed output.new ≡ true }
-    ensures flushed { result ≢ Status.Unwritten → is_flushed output.new ≡ true }
-{
-    written_status(write_refused(output, refused))
-}
-
-// The same, or that the output has failed.
-#[tactic(auto, using(dali_text::proofs::StreamLemmas::appends_kept))]
-fn write_refused<W: Write>(
-    output: &mut Output<W>,
-    refused: &[(u64, ItemFault)],
-) -> Result<Status, OutputFailed>
-    ensures told { IfOk result (λ status. (status ≡ Status.Refused)
-        × Takes W.contents output.old output.new (refused_lines refused.now)) }
-    ensures end { TellsEnd result output.new }
-{
-    write_items(output, refused)?;
-    output.flush()?;
-    Ok(Status::Refused)
-}
-
-// Writes a line for each refused item.
-#[tactic(auto, using(dali_text::proofs::StreamLemmas::appends_both))]
-fn write_items<W: Write>(
-    output: &mut Output<W>,
-    refused: &[(u64, ItemFault)],
-) -> Result<(), OutputFailed>
-    ensures lines { OnOk result (Takes W.contents output.old output.new (refused_lines refused.now)) }
-    ensures failed { TellsFailure result output.old output.new }
-{
-    for &(item, fault) in refused {
-        write_refused_item(output, item, fault)?;
-    }
-    Ok(())
-}
-
-/// How a command ended that wrote what it tells, or couldn't.
-pub fn written_status(written: Result<Status, OutputFailed>) -> Status
-    ensures ok { IfOk written (λ status. result ≡ status) }
-    ensures err { IfErr written (λ _. result ≡ Status.Unwritten) }
-{
-    match written {
-        Ok(status) => status,
-        Err(_) => Status::Unwritten,
+        Err(StoredFault::Open(fault)) => tell_unopened(
+            alloc,
+            &mut lines.output,
+            name,
+            fault,
+            store.cause(),
+        ),
+        Err(StoredFault::Drive(fault)) => tell_fault(lines, fault),
     }
 }

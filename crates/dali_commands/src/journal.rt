@@ -1,7 +1,6 @@
 ghost use Rattle.std.specs.Prelude.{◌≡◌, ◌≢◌, ◌↔◌, List, ℕ, IfErr, IfOk, true};
 ghost use Rattle.dali_text.specs.Output.{Takes, has_failed, is_flushed};
 ghost use Rattle.dali_input.specs.Input.{ReadsAtMost, state_of};
-ghost use Rattle.dali_commands.specs.DriveAnswers.{HasJournal, HasNoJournal};
 ghost use Rattle.dali_commands.specs.Ends.{TellsEnd};
 ghost use Rattle.dali_commands.specs.JournalAnswers.{IsJournalAnswer, IsJournalIn, IsUnloaded, TellsInput};
 ghost use Rattle.dali_commands.specs.JournalAnswers.{journal_limit};
@@ -18,7 +17,7 @@ use std::io::{Read, Write};
 pub const JOURNAL_LIMIT: u32 = 33_554_432;
 
 /// The most orders of a journal that a file holds.
-const MOST_ORDERS: u32 = 100_000;
+pub const MOST_ORDERS: u32 = 100_000;
 
 /// Reads a writer's journal, and writes its version, a line for each whole record, the oldest first, then
 /// how many bytes count of all, how many orders were begun, and the standing. The journal may end in a cut
@@ -83,42 +82,6 @@ fn write_input<W: Write>(
             Ok(Status::Good)
         }
         Err(fault) => write_failure(output, fault),
-    }
-}
-
-/// A journal that was read: its version, how many bytes count, and how many there are.
-#[derive(Drop)]
-pub(crate) struct Found {
-    pub(crate) journal: Journal,
-    pub(crate) version: Version,
-    pub(crate) counted: usize,
-    pub(crate) total: usize,
-}
-
-/// Reads a writer's journal.
-///
-/// The fault is 13 TooBig over 33554432 bytes; 7 Header; with the place of the record 3 Record, 4 Sequence, 5
-/// Repeated, 6 Full (over 100000 orders); 20 Memory, or 21 File where the reader failed.
-pub(crate) fn read_journal<R: Read>(alloc: Global, input: &mut Input<R>) -> Result<Found, Fault>
-    ensures ok { IfOk result (λ found. HasJournal (state_of R.remaining input.old) (state_of R.remaining input.new)
-        found.journal found.version found.counted found.total) }
-    ensures err { IfErr result (HasNoJournal (state_of R.remaining input.old) (state_of R.remaining input.new)) }
-    ensures read { ReadsAtMost journal_limit (state_of R.remaining input.old) (state_of R.remaining input.new) }
-{
-    match read_input(alloc, input, JOURNAL_LIMIT) {
-        Ok(bytes) => {
-            let total = bytes.len();
-            match journal_in(alloc, bytes) {
-                Ok((journal, counted, version)) => Ok(Found {
-                    journal,
-                    version,
-                    counted,
-                    total,
-                }),
-                Err(fault) => Err(fault),
-            }
-        }
-        Err(fault) => Err(Fault::Input(fault)),
     }
 }
 

@@ -3,15 +3,15 @@
 #![tactic(auto)]
 
 pub mod check;
-mod drive;
+pub mod drive;
 pub mod drive_files;
+mod drive_lines;
 mod fault;
 mod fault_lines;
 mod file_command;
 pub mod frame;
 pub mod journal;
-mod journal_file;
-mod lines;
+pub mod lines;
 mod notes;
 pub mod run_scenario;
 pub mod show;

@@ -1,35 +1,100 @@
-// A store in a regular file. No contract tells of a real file, so its bytes aren't known: that it does what a store
-// does is trusted.
-ghost use Rattle.std.specs.Prelude.{◌≡◌, None, ⊤, ◌≤◌, length, IfOk};
+// The file of a journal as a store. No contract tells of a real file: its bytes aren't known, and that these calls do
+// what a store's do is trusted.
+ghost use Rattle.std.specs.Prelude.{◌≡◌, ◌<◌, ◌≤◌, IfOk, false, true, length};
+ghost use Rattle.dali_store.specs.Files.{has_failed};
 
 use crate::store::{Store, StoreFault};
 use std::alloc::Global;
-use std::fs::{File, Files, OpenOptions};
-use std::io::{ErrorKind, Read, Write};
+use std::fs::{File, Files, Metadata, OpenOptions, TryLockError};
+use std::io::{ErrorKind, Read, Seek, SeekFrom, Write};
+use std::os::unix::fs::{FileTypeExt, MetadataExt};
 use std::{fs, io};
 
-/// A regular file, locked for as long as it is open (profile).
+// How many bytes are read at a time.
+const CHUNK: usize = 65536;
+
+/// The file of a journal (profile). The first call has to be `read`, which opens the file, made where there is none,
+/// and locks it for as long as the store lasts; any other fails before it.
+///
+/// What is no regular file, as a terminal, is neither replaced, cut nor synced: where it gave no byte, `replace` writes
+/// to it, and else both calls fail. A named pipe is refused.
 #[derive(Drop)]
 pub struct FileStore<'a, R> {
     rt: &'a R,
     name: &'a str,
-    file: File,
+    orders: FileId,
+    opened: Option<Opened>,
     failed: bool,
+    // The first failure, in words for a person, where there was memory for them.
+    cause: Option<String>,
+}
+
+// Which file it is, by whatever name.
+#[derive(Clone, Copy, PartialEq, Eq)]
+struct FileId {
+    dev: u64,
+    ino: u64,
+}
+
+#[derive(Drop)]
+struct Opened {
+    file: File,
+    // Of a regular file.
+    place: Option<Place>,
+    // Whether it has given no byte, and taken none.
+    is_empty: bool,
+    // Whether its length and its name are on the disk, so that of what is appended only the data has to be synced.
+    is_settled: bool,
+}
+
+// Where a regular file stands, by its canonical name, its folder, and how it was found there.
+#[derive(Drop)]
+struct Place {
+    found: Metadata,
+    name: String,
+    new_name: String,
+    folder_name: String,
+    folder: File,
+}
+
+// Why a call doesn't do what is asked: with the words for a person, where it fails.
+#[derive(Drop)]
+enum Hindrance {
+    Failed(Option<String>),
+    TooBig,
+    NoMemory,
 }
 
 impl<'a, R: Files<File = File> + AllocGlobal> FileStore<'a, R> {
-    /// A store in a file that is open and locked, to read it and to append to it, under this name.
-    pub fn new(rt: &'a R, name: &'a str, file: File) -> FileStore<'a, R> {
+    /// The store in the file of this name, which isn't touched before `read`. That can't be the file of the orders,
+    /// which has to stay open until then: its number is given to another file once it is gone.
+    pub fn new(rt: &'a R, name: &'a str, orders: &Metadata) -> FileStore<'a, R>
+        ensures { has_failed result ≡ false }
+    {
         FileStore {
             rt,
             name,
-            file,
+            orders: id_of(orders),
+            opened: None,
             failed: false,
+            cause: None,
         }
+    }
+
+    // Notes a failure, and the words of the first one.
+    fn note(&mut self, hindrance: Hindrance)
+        ensures { self.new.failed ≡ true }
+    {
+        if let (false, Hindrance::Failed(words)) = (self.failed, hindrance) {
+            self.cause = words;
+        }
+        self.failed = true;
     }
 }
 
 impl<'a, R: Files<File = File> + AllocGlobal> Store for FileStore<'a, R> {
+    ghost use Rattle.std.specs.Prelude.{None, ⊤};
+
     ghost seen = { λ s. None };
 
     ghost may_leave = { λ s c. ⊤ };
@@ -45,52 +110,62 @@ impl<'a, R: Files<File = File> + AllocGlobal> Store for FileStore<'a, R> {
     ghost only_now = { λ s c left. tt };
 
     fn read(&mut self, alloc: Global, limit: usize) -> Result<Vec<u8>, StoreFault> {
-        match read_up_to(alloc, &mut self.file, limit) {
+        match bytes_of(
+            self.rt,
+            alloc,
+            self.name,
+            self.orders,
+            &mut self.opened,
+            limit,
+        ) {
             Ok(bytes) => Ok(bytes),
-            Err(StoreFault::Failed) => {
-                self.failed = true;
+            Err(Hindrance::TooBig) => Err(StoreFault::TooBig),
+            Err(Hindrance::NoMemory) => Err(StoreFault::NoMemory),
+            Err(hindrance) => {
+                self.note(hindrance);
                 Err(StoreFault::Failed)
             }
-            Err(fault) => Err(fault),
         }
     }
 
     fn append(&mut self, bytes: &[u8]) -> Option<usize> {
-        match self.file.write(bytes) {
-            Ok(count) => {
-                self.failed |= count == 0;
-                Some(count)
-            }
-            Err(_) => {
-                self.failed = true;
+        match put(self.rt.alloc(), self.name, &mut self.opened, bytes) {
+            Ok(count) => Some(count),
+            Err(hindrance) => {
+                self.note(hindrance);
                 None
             }
         }
     }
 
     fn cut(&mut self, len: usize) -> bool {
-        let done = self.file.set_len(len as u64).is_ok();
-        self.failed |= !done;
-        done
+        match shorten(self.rt.alloc(), self.name, &mut self.opened, len) {
+            Ok(()) => true,
+            Err(hindrance) => {
+                self.note(hindrance);
+                false
+            }
+        }
     }
 
     fn replace(&mut self, bytes: &[u8]) -> bool {
-        match replaced(self.rt, self.name, &self.file, bytes) {
-            Some(file) => {
-                self.file = file;
-                true
-            }
-            None => {
-                self.failed = true;
+        match put_anew(self.rt, self.name, &mut self.opened, bytes) {
+            Ok(()) => true,
+            Err(hindrance) => {
+                self.note(hindrance);
                 false
             }
         }
     }
 
     fn sync(&mut self) -> bool {
-        let done = self.file.sync_all().is_ok();
-        self.failed |= !done;
-        done
+        match settle(self.rt.alloc(), self.name, &mut self.opened) {
+            Ok(()) => true,
+            Err(hindrance) => {
+                self.note(hindrance);
+                false
+            }
+        }
     }
 
     fn has_failed(&self) -> bool {
@@ -98,64 +173,391 @@ impl<'a, R: Files<File = File> + AllocGlobal> Store for FileStore<'a, R> {
     }
 
     fn cause(&self) -> Option<&str> {
-        None
+        match &self.cause {
+            Some(words) if self.failed => Some(words.as_str()),
+            _ => None,
+        }
     }
 }
 
-// All the bytes of a file, where there are no more than so many.
-fn read_up_to(alloc: Global, file: &mut File, limit: usize) -> Result<Vec<u8>, StoreFault>
+// What a failure of the system means for a file.
+fn unusable(alloc: Global, name: &str, cause: io::Error) -> Hindrance {
+    if cause.kind() == ErrorKind::OutOfMemory {
+        return Hindrance::NoMemory;
+    }
+    Hindrance::Failed(format!(in alloc; "the file can't be used: {name}: {cause}").ok())
+}
+
+fn refused(alloc: Global, why: &str, name: &str) -> Hindrance {
+    Hindrance::Failed(format!(in alloc; "{why}: {name}").ok())
+}
+
+// What the system gives, or what its failure means for a file.
+fn given<T: Drop>(alloc: Global, name: &str, ended: io::Result<T>) -> Result<T, Hindrance> {
+    match ended {
+        Ok(value) => Ok(value),
+        Err(cause) => Err(unusable(alloc, name, cause)),
+    }
+}
+
+fn id_of(found: &Metadata) -> FileId {
+    FileId {
+        dev: found.dev(),
+        ino: found.ino(),
+    }
+}
+
+// Opens the file where it isn't open yet, and reads all that it has, where that are no more bytes than the limit.
+fn bytes_of<R: Files<File = File>>(
+    rt: &R,
+    alloc: Global,
+    name: &str,
+    orders: FileId,
+    opened: &mut Option<Opened>,
+    limit: usize,
+) -> Result<Vec<u8>, Hindrance>
+    ensures { IfOk result (λ bytes. length bytes.items ≤ limit) }
+{
+    match opened {
+        Some(opened) => {
+            given(alloc, name, opened.file.seek(SeekFrom::Start(0)))?;
+            read_up_to(alloc, name, &mut opened.file, limit)
+        }
+        None => {
+            let mut fresh = open(rt, alloc, name, orders)?;
+            let bytes = read_up_to(alloc, name, &mut fresh.file, limit)?;
+            fresh.is_empty = bytes.is_empty();
+            *opened = Some(fresh);
+            Ok(bytes)
+        }
+    }
+}
+
+// Opens a file to read it and to append to it, made where there is none, and locks it.
+fn open<R: Files<File = File>>(
+    rt: &R,
+    alloc: Global,
+    name: &str,
+    orders: FileId,
+) -> Result<Opened, Hindrance> {
+    let mut how = OpenOptions::new();
+    how.read(true).append(true).create(true);
+    let file = given(alloc, name, how.open(rt, name))?;
+    let found = given(alloc, name, file.metadata())?;
+    if found.file_type().is_fifo() {
+        return Err(refused(alloc, "the journal is a named pipe", name));
+    }
+    if id_of(&found) == orders {
+        return Err(refused(alloc, "ORDERS and JOURNAL are one file", name));
+    }
+    lock(alloc, &file, name)?;
+    let place = if found.is_file() {
+        Some(place_of(rt, alloc, name, found)?)
+    } else {
+        None
+    };
+    Ok(Opened {
+        file,
+        place,
+        is_empty: false,
+        is_settled: false,
+    })
+}
+
+fn lock(alloc: Global, file: &File, name: &str) -> Result<(), Hindrance> {
+    match file.try_lock() {
+        Ok(()) => Ok(()),
+        Err(TryLockError::WouldBlock) => Err(in_use(alloc, name)),
+        Err(TryLockError::Error(cause)) => Err(unusable(alloc, name, cause)),
+    }
+}
+
+fn in_use(alloc: Global, name: &str) -> Hindrance {
+    refused(alloc, "the journal is in use by another drive", name)
+}
+
+// Where a locked file stands. The name has to mean it still: another drive may have replaced it before the lock.
+fn place_of<R: Files<File = File>>(
+    rt: &R,
+    alloc: Global,
+    name: &str,
+    found: Metadata,
+) -> Result<Place, Hindrance> {
+    let (canonical, new_name, folder_name) = given(alloc, name, names_of(rt, alloc, name))?;
+    let named = given(alloc, name, fs::metadata(rt, canonical.as_str()))?;
+    if id_of(&named) != id_of(&found) {
+        return Err(in_use(alloc, name));
+    }
+    let folder = given(
+        alloc,
+        folder_name.as_str(),
+        fs::open(rt, folder_name.as_str()),
+    )?;
+    Ok(Place {
+        found,
+        name: canonical,
+        new_name,
+        folder_name,
+        folder,
+    })
+}
+
+// The canonical name of a file, that of the file which may take its place, and that of its folder.
+fn names_of<R: Files<File = File>>(
+    rt: &R,
+    alloc: Global,
+    name: &str,
+) -> io::Result<(String, String, String)> {
+    let path = rt.canonicalize(alloc, name)?;
+    let shown = path.display();
+    let folder = match path.as_path().parent() {
+        Some(folder) => format!(in alloc; "{}", folder.display())?,
+        None => format!(in alloc; "/")?,
+    };
+    Ok((
+        format!(in alloc; "{shown}")?,
+        format!(in alloc; "{shown}.new")?,
+        folder,
+    ))
+}
+
+// All the bytes that a file gives from here on, where there are no more than the limit.
+fn read_up_to(
+    alloc: Global,
+    name: &str,
+    file: &mut File,
+    limit: usize,
+) -> Result<Vec<u8>, Hindrance>
     ensures { IfOk result (λ bytes. length bytes.items ≤ limit) }
 {
     let mut bytes = Vec::new(alloc);
-    let mut piece = [0u8; 4096];
+    let mut piece = [0u8; CHUNK];
     for _ in 0..u64::MAX {
         match file.read(&mut piece) {
-            Ok(0) => return Ok(bytes),
+            Ok(0) => break,
+            Ok(count) if count > limit - bytes.len() => return Err(Hindrance::TooBig),
             Ok(count) => {
-                if count > limit - bytes.len() {
-                    return Err(StoreFault::TooBig);
+                if bytes.extend_from_slice(&piece[..count]).is_err() {
+                    return Err(Hindrance::NoMemory);
                 }
-                bytes.extend_from_slice(&piece[..count])?;
             }
             Err(error) if error.kind() == ErrorKind::Interrupted => {}
-            Err(_) => break,
+            Err(cause) => return Err(unusable(alloc, name, cause)),
         }
     }
-    Err(StoreFault::Failed)
+    Ok(bytes)
 }
 
-// A new file with these bytes, which has taken the name of the old one, both on the disk. It is locked before that.
-fn replaced<R: Files<File = File> + AllocGlobal>(
+fn unopened(alloc: Global, name: &str) -> Hindrance {
+    refused(alloc, "the file isn't open", name)
+}
+
+// Appends some of the bytes, at least one.
+fn put(
+    alloc: Global,
+    name: &str,
+    opened: &mut Option<Opened>,
+    bytes: &[u8],
+) -> Result<usize, Hindrance>
+    ensures { IfOk result (λ count. (0 < count) × (count ≤ length bytes.now)) }
+{
+    let Some(opened) = opened else {
+        return Err(unopened(alloc, name));
+    };
+    let mut cause = ErrorKind::Interrupted;
+    for _ in 0..u64::MAX {
+        cause = match opened.file.write(bytes) {
+            Ok(0) => ErrorKind::WriteZero,
+            Ok(count) => {
+                opened.is_empty = false;
+                return Ok(count);
+            }
+            Err(error) => error.kind(),
+        };
+        if cause != ErrorKind::Interrupted {
+            break;
+        }
+    }
+    Err(unusable(alloc, name, io::Error::from(cause)))
+}
+
+// Cuts a regular file.
+fn shorten(
+    alloc: Global,
+    name: &str,
+    opened: &mut Option<Opened>,
+    len: usize,
+) -> Result<(), Hindrance> {
+    match opened {
+        Some(
+            Opened {
+                file,
+                place: Some(_),
+                ..
+            },
+        ) => given(alloc, name, file.set_len(len as u64)),
+        Some(_) => Err(irregular(alloc, name)),
+        None => Err(unopened(alloc, name)),
+    }
+}
+
+fn irregular(alloc: Global, name: &str) -> Hindrance {
+    unusable(alloc, name, io::Error::from(ErrorKind::InvalidInput))
+}
+
+// Waits until a regular file is on the disk, at first with its length and its name.
+fn settle(alloc: Global, name: &str, opened: &mut Option<Opened>) -> Result<(), Hindrance> {
+    let Some(opened) = opened else {
+        return Err(unopened(alloc, name));
+    };
+    let Some(place) = &opened.place else {
+        return Ok(());
+    };
+    if opened.is_settled {
+        return given(alloc, name, opened.file.sync_data());
+    }
+    given(alloc, name, opened.file.sync_all())?;
+    sync_folder(alloc, place)?;
+    opened.is_settled = true;
+    Ok(())
+}
+
+fn sync_folder(alloc: Global, place: &Place) -> Result<(), Hindrance> {
+    given(alloc, place.folder_name.as_str(), place.folder.sync_all())
+}
+
+// Has a new file with these bytes take the place of a regular one. One that is none begins with them.
+fn put_anew<R: Files<File = File> + AllocGlobal>(
     rt: &R,
     name: &str,
-    old: &File,
+    opened: &mut Option<Opened>,
     bytes: &[u8],
-) -> Option<File> {
-    let path = rt.canonicalize(rt.alloc(), name).ok()?;
-    let shown = path.display();
-    let new_name = format!(in rt.alloc(); "{shown}.new").ok()?;
-    let mut file = OpenOptions::new()
-        .read(true)
-        .append(true)
-        .create(true)
-        .open(rt, new_name.as_str())
-        .ok()?;
-    file.try_lock().ok()?;
-    file.set_len(0).ok()?;
-    file.set_permissions(old.metadata().ok()?.permissions())
-        .ok()?;
-    file.write_all(bytes).ok()?;
-    file.sync_all().ok()?;
-    fs::rename(rt, new_name.as_str(), &path).ok()?;
-    sync_folder(rt, name).ok()?;
-    Some(file)
+) -> Result<(), Hindrance> {
+    let alloc = rt.alloc();
+    let Some(opened) = opened else {
+        return Err(unopened(alloc, name));
+    };
+    let Some(place) = &opened.place else {
+        return begin(alloc, name, opened, bytes);
+    };
+    let file = successor(rt, place, bytes)?;
+    opened.file = file;
+    opened.is_settled = false;
+    sync_folder(alloc, place)?;
+    opened.is_settled = true;
+    Ok(())
 }
 
-// Waits until the name of a file is on the disk.
-fn sync_folder<R: Files<File = File> + AllocGlobal>(rt: &R, name: &str) -> io::Result<()> {
-    let path = rt.canonicalize(rt.alloc(), name)?;
-    match path.as_path().parent() {
-        Some(folder) => fs::open(rt, folder)?.sync_all(),
-        None => Ok(()),
+// Writes the first bytes to what is no regular file.
+fn begin(alloc: Global, name: &str, opened: &mut Opened, bytes: &[u8]) -> Result<(), Hindrance> {
+    if !opened.is_empty {
+        return Err(irregular(alloc, name));
     }
+    opened.is_empty = false;
+    given(alloc, name, opened.file.write_all(bytes))
+}
+
+// A new file with these bytes, on the disk, which has taken the name of the old one. It is locked before that.
+fn successor<R: Files<File = File> + AllocGlobal>(
+    rt: &R,
+    place: &Place,
+    bytes: &[u8],
+) -> Result<File, Hindrance> {
+    let mut file = new_file(rt, place.new_name.as_str(), bytes)?;
+    given(
+        rt.alloc(),
+        place.new_name.as_str(),
+        fill(rt, place, &mut file, bytes),
+    )?;
+    Ok(file)
+}
+
+fn fill<R: Files<File = File>>(
+    rt: &R,
+    place: &Place,
+    file: &mut File,
+    bytes: &[u8],
+) -> io::Result<()> {
+    file.set_len(0)?;
+    file.set_permissions(place.found.permissions())?;
+    file.write_all(bytes)?;
+    file.sync_all()?;
+    fs::rename(rt, place.new_name.as_str(), place.name.as_str())
+}
+
+// The new file, locked, made where there is none.
+fn new_file<R: Files<File = File> + AllocGlobal>(
+    rt: &R,
+    name: &str,
+    bytes: &[u8],
+) -> Result<File, Hindrance> {
+    let alloc = rt.alloc();
+    let mut how = OpenOptions::new();
+    how.read(true).append(true);
+    match fs::symlink_metadata(rt, name) {
+        Ok(found) if is_alone(&found) => {
+            let mut file = given(alloc, name, how.open(rt, name))?;
+            lock(alloc, &file, name)?;
+            if given(alloc, name, is_left(rt, name, &mut file, bytes))? {
+                Ok(file)
+            } else {
+                Err(foreign(alloc, name))
+            }
+        }
+        Ok(_) => Err(foreign(alloc, name)),
+        Err(error) if error.kind() == ErrorKind::NotFound => {
+            let file = given(alloc, name, how.create_new(true).open(rt, name))?;
+            lock(alloc, &file, name)?;
+            Ok(file)
+        }
+        Err(cause) => Err(unusable(alloc, name, cause)),
+    }
+}
+
+fn foreign(alloc: Global, name: &str) -> Hindrance {
+    refused(
+        alloc,
+        "what stands in the way was not left by a drive of this journal",
+        name,
+    )
+}
+
+// Whether this is a regular file with one name.
+fn is_alone(found: &Metadata) -> bool {
+    found.is_file() && found.nlink() == 1
+}
+
+// Whether a locked file is what a drive left that was stopped as it wrote these bytes: what the name means still, that
+// alone, with a first part of them.
+fn is_left<R: Files<File = File>>(
+    rt: &R,
+    name: &str,
+    file: &mut File,
+    bytes: &[u8],
+) -> io::Result<bool> {
+    let named = fs::symlink_metadata(rt, name)?;
+    if !is_alone(&named) || id_of(&named) != id_of(&file.metadata()?) {
+        return Ok(false);
+    }
+    begins(file, bytes)
+}
+
+// Whether all that a file gives from here on is a first part of these bytes.
+fn begins(file: &mut File, bytes: &[u8]) -> io::Result<bool> {
+    let mut rest = bytes;
+    let mut piece = [0u8; CHUNK];
+    for _ in 0..u64::MAX {
+        match file.read(&mut piece) {
+            Ok(0) => return Ok(true),
+            Ok(count) => {
+                if count > rest.len() || rest[..count] != piece[..count] {
+                    return Ok(false);
+                }
+                rest = &rest[count..];
+            }
+            Err(error) if error.kind() == ErrorKind::Interrupted => {}
+            Err(cause) => return Err(cause),
+        }
+    }
+    Ok(false)
 }

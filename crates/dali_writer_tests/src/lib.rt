@@ -10,4 +10,6 @@ mod gtin;
 #[cfg(test)]
 mod own_bus;
 #[cfg(test)]
+mod store_files;
+#[cfg(test)]
 mod writer;

@@ -1,6 +1,6 @@
 use Rattle.std.proofs.Common.{refl, ◌∙◌}
 use Rattle.dali_commands.proofs.DriveLemmas.{unflushed, flushed, not_unwritten, failed_now, never_failed}
-use Rattle.dali_commands.proofs.drive.tell_fault.Goals as goal
+use Rattle.dali_commands.proofs.drive_lines.tell_fault.Goals as goal
 
 pub returns-then-not-flush : goal.returns-then-not-flush
 returns-then-not-flush g c = record {

@@ -2,7 +2,7 @@ use Rattle.std.proofs.Common.{◌∙◌}
 use Rattle.dali_bank.specs.declared.fault.BankFault.TheVariants.{Unit}
 use Rattle.dali_input.specs.declared.item.ItemFault.TheVariants.{Bank}
 use Rattle.dali_commands.proofs.DriveLemmas.{refused_more}
-use Rattle.dali_commands.proofs.drive.write_items.Goals as goal
+use Rattle.dali_commands.proofs.drive_lines.write_items.Goals as goal
 
 pub loop-item-preserved : goal.loop-item-preserved
 loop-item-preserved g c = record {

@@ -1,0 +1,248 @@
+// How a drive's end is told.
+ghost use Rattle.std.specs.Prelude.{◌≡◌, ◌≢◌, ◌↔◌, ◌++◌, IfOk, IfErr, OnOk, true};
+ghost use Rattle.dali_text.specs.Output.{TellsFailure, Takes, has_failed, held, is_flushed};
+ghost use Rattle.dali_commands.specs.Ends.{TellsEnd};
+ghost use Rattle.dali_commands.specs.Faults.{status_of, told_line};
+ghost use Rattle.dali_commands.specs.DriveAnswers.{IsFaultTold, IsFileFaultTold, TellsFileFault, TellsWorded};
+ghost use Rattle.dali_commands.specs.DriveAnswers.{error_line, fault_unopened, is_out, refused_lines};
+
+use crate::fault::{Fault, Status};
+use crate::fault_lines::{drive_line, write_failure, write_refused_item};
+use crate::lines::Lines;
+use dali_drive::{DriveFault, Sink, put_all};
+use dali_input::{InputFault, ItemFault};
+use dali_journal::JournalFault;
+use dali_notes::Escaped;
+use dali_store::{OpenFault, StoreFault};
+use dali_text::{Output, OutputFailed};
+use std::alloc::Global;
+use std::io;
+use std::io::Write;
+
+/// Writes the fault of a drive, where the replies could be written.
+pub fn tell_fault<W: Write>(lines: &mut Lines<W>, fault: DriveFault) -> Status
+    requires { has_failed lines.old.output ≡ is_out fault }
+    ensures told { IsFaultTold fault result
+        (held W.contents lines.old.output) (held W.contents lines.new.output) }
+    ensures unwritten { result ≡ Status.Unwritten ↔ has_failed lines.new.output ≡ true }
+{
+    if let DriveFault::Out = fault {
+        return Status::Unwritten;
+    }
+    if !put_all(lines, drive_line(fault).as_bytes()) {
+        return Status::Unwritten;
+    }
+    if !lines.flush() {
+        return Status::Unwritten;
+    }
+    Fault::Drive(fault).status()
+}
+
+/// Writes the refused items of a list of orders, and nothing after them.
+///
+/// Where a call of the output fails later ones write nothing more to it, and it ends as `Unwritten`.
+pub fn tell_refused<W: Write>(output: &mut Output<W>, refused: &[(u64, ItemFault)]) -> Status
+    ensures told { result ≢ Status.Unwritten → (result ≡ Status.Refused)
+        × Takes W.contents output.old output.new (refused_lines refused.now) }
+    ensures unwritten { result ≡ Status.Unwritten ↔ has_failed output.new ≡ true }
+    ensures flushed { result ≢ Status.Unwritten → is_flushed output.new ≡ true }
+{
+    written_status(write_refused(output, refused))
+}
+
+// The same, or that the output has failed.
+#[tactic(auto, using(dali_text::proofs::StreamLemmas::appends_kept))]
+fn write_refused<W: Write>(
+    output: &mut Output<W>,
+    refused: &[(u64, ItemFault)],
+) -> Result<Status, OutputFailed>
+    ensures told { IfOk result (λ status. (status ≡ Status.Refused)
+        × Takes W.contents output.old output.new (refused_lines refused.now)) }
+    ensures end { TellsEnd result output.new }
+{
+    write_items(output, refused)?;
+    output.flush()?;
+    Ok(Status::Refused)
+}
+
+// Writes a line for each refused item.
+#[tactic(auto, using(dali_text::proofs::StreamLemmas::appends_both))]
+fn write_items<W: Write>(
+    output: &mut Output<W>,
+    refused: &[(u64, ItemFault)],
+) -> Result<(), OutputFailed>
+    ensures lines { OnOk result (Takes W.contents output.old output.new (refused_lines refused.now)) }
+    ensures failed { TellsFailure result output.old output.new }
+{
+    for &(item, fault) in refused {
+        write_refused_item(output, item, fault)?;
+    }
+    Ok(())
+}
+
+/// Writes why a journal isn't opened, with the words that its store has for that.
+pub fn tell_unopened<W: Write>(
+    alloc: Global,
+    output: &mut Output<W>,
+    name: &str,
+    fault: OpenFault,
+    cause: Option<&str>,
+) -> Status
+    ensures told { IsFileFaultTold (fault_unopened fault) result
+        (held W.contents output.old) (held W.contents output.new) }
+    ensures unwritten { result ≡ Status.Unwritten ↔ has_failed output.new ≡ true }
+    ensures not_good { result ≢ Status.Good }
+{
+    written_status(write_unopened(alloc, output, name, fault, cause))
+}
+
+// The same, or that the output has failed.
+fn write_unopened<W: Write>(
+    alloc: Global,
+    output: &mut Output<W>,
+    name: &str,
+    fault: OpenFault,
+    cause: Option<&str>,
+) -> Result<Status, OutputFailed>
+    ensures told { IfOk result (λ status. (status ≡ status_of (fault_unopened fault))
+        × TellsFileFault (fault_unopened fault) (held W.contents output.old) (held W.contents output.new)) }
+    ensures end { TellsEnd result output.new }
+{
+    match fault {
+        OpenFault::Journal(JournalFault::NoMemory) | OpenFault::Store(StoreFault::NoMemory) => {
+            write_no_memory(alloc, output, name)
+        }
+        OpenFault::Journal(fault) => write_failure(output, Fault::Journal(fault)),
+        OpenFault::Store(StoreFault::TooBig) => {
+            write_failure(output, Fault::Input(InputFault::TooBig))
+        }
+        OpenFault::Store(StoreFault::Failed) => write_unusable(alloc, output, name, cause),
+    }
+}
+
+/// Writes why there are no orders, and what the system says of that, where their reader failed.
+pub fn tell_unread<W: Write>(
+    alloc: Global,
+    output: &mut Output<W>,
+    name: &str,
+    fault: InputFault,
+    cause: Option<io::Error>,
+) -> Status
+    ensures told { IsFileFaultTold (Fault.Input fault) result
+        (held W.contents output.old) (held W.contents output.new) }
+    ensures unwritten { result ≡ Status.Unwritten ↔ has_failed output.new ≡ true }
+    ensures not_good { result ≢ Status.Good }
+{
+    written_status(write_unread(alloc, output, name, fault, cause))
+}
+
+// The same, or that the output has failed.
+fn write_unread<W: Write>(
+    alloc: Global,
+    output: &mut Output<W>,
+    name: &str,
+    fault: InputFault,
+    cause: Option<io::Error>,
+) -> Result<Status, OutputFailed>
+    ensures told { IfOk result (λ status. (status ≡ status_of (Fault.Input fault))
+        × TellsFileFault (Fault.Input fault) (held W.contents output.old) (held W.contents output.new)) }
+    ensures end { TellsEnd result output.new }
+{
+    match fault {
+        InputFault::Memory => write_no_memory(alloc, output, name),
+        InputFault::File => write_unreadable(alloc, output, name, cause),
+        fault => write_failure(output, Fault::Input(fault)),
+    }
+}
+
+// Writes that a file can't be read, and what the system says of that.
+fn write_unreadable<W: Write>(
+    alloc: Global,
+    output: &mut Output<W>,
+    name: &str,
+    cause: Option<io::Error>,
+) -> Result<Status, OutputFailed>
+    ensures told { IfOk result (λ status. (status ≡ Status.Failed)
+        × TellsWorded (Fault.Input InputFault.File) (held W.contents output.old) (held W.contents output.new)) }
+    ensures end { TellsEnd result output.new }
+{
+    let Some(cause) = cause else {
+        return write_unusable(alloc, output, name, None);
+    };
+    match format!(in alloc; "the file can't be used: {name}: {cause}") {
+        Ok(words) => write_unusable(alloc, output, name, Some(words.as_str())),
+        Err(_) => write_unusable(alloc, output, name, None),
+    }
+}
+
+// Writes that a file can't be used: the words for that, where there are any.
+fn write_unusable<W: Write>(
+    alloc: Global,
+    output: &mut Output<W>,
+    name: &str,
+    words: Option<&str>,
+) -> Result<Status, OutputFailed>
+    ensures told { IfOk result (λ status. (status ≡ Status.Failed)
+        × TellsWorded (Fault.Input InputFault.File) (held W.contents output.old) (held W.contents output.new)) }
+    ensures end { TellsEnd result output.new }
+{
+    let made = match words {
+        Some(words) => {
+            let words = Escaped::whole(words);
+            format!(in alloc; "{words}")
+        }
+        None => {
+            let name = Escaped::whole(name);
+            format!(in alloc; "the file can't be used: {name}")
+        }
+    };
+    let fault = Fault::Input(InputFault::File);
+    match made {
+        Ok(words) => write_worded(output, words.as_str(), fault),
+        Err(_) => write_worded(output, "the file can't be used", fault),
+    }
+}
+
+// Writes that memory ran out over a file.
+fn write_no_memory<W: Write>(
+    alloc: Global,
+    output: &mut Output<W>,
+    name: &str,
+) -> Result<Status, OutputFailed>
+    ensures told { IfOk result (λ status. (status ≡ Status.Failed)
+        × TellsWorded (Fault.Input InputFault.Memory) (held W.contents output.old) (held W.contents output.new)) }
+    ensures end { TellsEnd result output.new }
+{
+    let fault = Fault::Input(InputFault::Memory);
+    let name = Escaped::whole(name);
+    match format!(in alloc; "memory ran out: {name}") {
+        Ok(words) => write_worded(output, words.as_str(), fault),
+        Err(_) => write_worded(output, "memory ran out", fault),
+    }
+}
+
+// Writes a line in words for a person, and then the fault.
+#[tactic(auto, using(dali_text::proofs::StreamLemmas::appends_both))]
+fn write_worded<W: Write>(
+    output: &mut Output<W>,
+    words: &str,
+    fault: Fault,
+) -> Result<Status, OutputFailed>
+    ensures told { IfOk result (λ status. (status ≡ status_of fault)
+        × TellsWorded fault (held W.contents output.old) (held W.contents output.new)) }
+    ensures end { fault ≢ Fault.Drive DriveFault.Out → TellsEnd result output.new }
+{
+    writeln!(output, "error: {words}")?;
+    write_failure(output, fault)
+}
+
+// How a command ended that wrote what it tells, or couldn't.
+fn written_status(written: Result<Status, OutputFailed>) -> Status
+    ensures ok { IfOk written (λ status. result ≡ status) }
+    ensures err { IfErr written (λ _. result ≡ Status.Unwritten) }
+{
+    match written {
+        Ok(status) => status,
+        Err(_) => Status::Unwritten,
+    }
+}

@@ -1,0 +1,165 @@
+// A store in a file beside one in memory, of which all is proved: the same calls on both.
+
+use crate::expected::expect_that;
+use dali_store::{FileStore, MemoryStore, Store, StoreFault};
+use std::alloc::Global;
+use std::fs;
+use std::test::Fail;
+
+const LIMIT: usize = 100;
+
+// A call of a store, or that the program starts anew, over what the last one left.
+#[derive(Clone, Copy)]
+enum Call {
+    Append(&'static [u8]),
+    Cut(usize),
+    Replace(&'static [u8]),
+    Sync,
+    Start,
+}
+
+static GROWN: [Call; 5] = [
+    Call::Append(b"abc"),
+    Call::Sync,
+    Call::Append(b"d"),
+    Call::Start,
+    Call::Append(b"ef"),
+];
+
+static CUT: [Call; 7] = [
+    Call::Append(b"abcdef"),
+    Call::Cut(4),
+    Call::Sync,
+    Call::Append(b"g"),
+    Call::Cut(5),
+    Call::Start,
+    Call::Cut(0),
+];
+
+static REPLACED: [Call; 8] = [
+    Call::Replace(b"abc"),
+    Call::Append(b"de"),
+    Call::Sync,
+    Call::Start,
+    Call::Replace(b""),
+    Call::Append(b"fgh"),
+    Call::Replace(b"ijklm"),
+    Call::Sync,
+];
+
+// Makes a call, and tells what it answers.
+fn answer<S: Store>(alloc: Global, store: &mut S, call: Call) -> Result<bool, StoreFault> {
+    match call {
+        Call::Append(bytes) if !bytes.is_empty() => Ok(store.append(bytes) == Some(bytes.len())),
+        Call::Cut(len) => cut(alloc, store, len),
+        Call::Replace(bytes) => Ok(store.replace(bytes)),
+        Call::Sync => Ok(store.sync()),
+        Call::Append(_) | Call::Start => Ok(true),
+    }
+}
+
+// Cuts a store that has so many bytes.
+fn cut<S: Store>(alloc: Global, store: &mut S, len: usize) -> Result<bool, StoreFault> {
+    let held = store.read(alloc, LIMIT)?;
+    if len <= held.len() {
+        Ok(store.cut(len))
+    } else {
+        Ok(false)
+    }
+}
+
+// Whether two stores answer the same, and show the same then.
+fn agree<S: Store, T: Store>(
+    alloc: Global,
+    first: &mut S,
+    second: &mut T,
+    call: Call,
+) -> Result<bool, StoreFault> {
+    let is_same = answer(alloc, first, call)? == answer(alloc, second, call)?;
+    Ok(is_same && show_alike(alloc, first, second, LIMIT)?)
+}
+
+// Whether two stores show the same bytes, up to a limit.
+fn show_alike<S: Store, T: Store>(
+    alloc: Global,
+    first: &mut S,
+    second: &mut T,
+    limit: usize,
+) -> Result<bool, StoreFault> {
+    match (first.read(alloc, limit), second.read(alloc, limit)) {
+        (Ok(one), Ok(other)) => Ok(one.as_slice() == other.as_slice()),
+        (Err(one), Err(other)) => Ok(one == other && one == StoreFault::TooBig),
+        _ => Ok(false),
+    }
+}
+
+// Makes calls on both, over these bytes, and tests that they agree, and the file at the end.
+fn judge(rt: &HostRuntime, name: &str, start: &[u8], calls: &[Call]) -> Result<(), Fail> {
+    fs::write(rt, name, start)?;
+    let other = fs::metadata(rt, "/")?;
+    let alloc = rt.alloc();
+    let mut memory = MemoryStore::new(alloc, start.to_vec(alloc)?);
+    let mut file = FileStore::new(rt, name, &other);
+    let is_same = matches!(show_alike(alloc, &mut file, &mut memory, LIMIT), Ok(true));
+    expect_that(is_same, "the same bytes at the start")?;
+    for &call in calls {
+        if let Call::Start = call {
+            file = FileStore::new(rt, name, &other);
+        }
+        let is_same = matches!(agree(alloc, &mut file, &mut memory, call), Ok(true));
+        expect_that(is_same, "the same answers and bytes")?;
+    }
+    let held = fs::read(rt, name)?;
+    fs::remove_file(rt, name)?;
+    expect_that(held.as_slice() == memory.bytes(), "what the file has")
+}
+
+// The same over a few bytes at the start.
+fn judge_each(rt: &HostRuntime, name: &str, calls: &[Call]) -> Result<(), Fail> {
+    judge(rt, name, b"", calls)?;
+    judge(rt, name, b"xyz", calls)?;
+    judge(rt, name, b"0123456789", calls)
+}
+
+#[test]
+fn a_file_grows_as_memory(rt: HostRuntime) -> Result<(), Fail> {
+    judge_each(&rt, "store_files.grown", &GROWN)
+}
+
+#[test]
+fn a_file_is_cut_as_memory(rt: HostRuntime) -> Result<(), Fail> {
+    judge_each(&rt, "store_files.cut", &CUT)
+}
+
+#[test]
+fn a_file_is_replaced_as_memory(rt: HostRuntime) -> Result<(), Fail> {
+    judge_each(&rt, "store_files.replaced", &REPLACED)
+}
+
+#[test]
+fn too_many_bytes(rt: HostRuntime) -> Result<(), Fail> {
+    fs::write(&rt, "store_files.big", b"abcd")?;
+    let other = fs::metadata(&rt, "/")?;
+    let alloc = rt.alloc();
+    let mut memory = MemoryStore::new(alloc, b"abcd".to_vec(alloc)?);
+    let mut file = FileStore::new(&rt, "store_files.big", &other);
+    let is_same = matches!(show_alike(alloc, &mut file, &mut memory, 3), Ok(true));
+    expect_that(is_same, "too big")?;
+    let is_same = matches!(show_alike(alloc, &mut file, &mut memory, 4), Ok(true));
+    fs::remove_file(&rt, "store_files.big")?;
+    expect_that(is_same && !file.has_failed(), "just as many as may be")
+}
+
+// Nothing is made where no call reads first.
+#[test]
+fn a_file_that_is_not_read_first(rt: HostRuntime) -> Result<(), Fail> {
+    let other = fs::metadata(&rt, "/")?;
+    let mut file = FileStore::new(&rt, "store_files.unread", &other);
+    let is_refused = file.append(b"a").is_none() && !file.replace(b"a") && !file.sync();
+    expect_that(is_refused && file.has_failed(), "a failure")?;
+    expect_that(
+        file.cause() == Some("the file isn't open: store_files.unread"),
+        "its cause",
+    )?;
+    expect_that(!fs::exists(&rt, "store_files.unread")?, "no file")
+}

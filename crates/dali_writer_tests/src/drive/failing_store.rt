@@ -2,7 +2,7 @@
 ghost use Rattle.std.specs.Prelude.{◌≡◌, ◌||◌, None, false, not, ⊤};
 
 use crate::drive::stops::{
-    ENDS, Run, drive_over, end_of, judge_end, old_begun, runs_of, said_from, whole_file,
+    ENDS, Left, Run, drive_over, end_of, judge_end, old_begun, runs_of, said_from, whole_file,
 };
 use crate::drive::streams::MANY;
 use crate::drive::sweeps::Seen;
@@ -131,15 +131,40 @@ impl<'a> Run<'a> {
     }
 }
 
-// What a drive leaves where a call fails, if any does, and so many frames were sent before it.
-fn judge_failure(
+// How many replies are said before the record behind so many: two of each order that ended, and that one is taken.
+fn replies_before(run: &Run<'_>, records: usize) -> usize {
+    match records / 3 {
+        0 if run.records == 0 => 1,
+        0 => 0,
+        1 => 3,
+        _ => 5,
+    }
+}
+
+// What a drive is to leave: its fault, if a call failed, and what was sent and how much was said before it.
+#[derive(Clone, Copy)]
+struct Point<'a> {
+    fault: Option<StoredFault>,
+    frames: &'a [Frame],
+    replies: usize,
+}
+
+fn is_left(run: &Run<'_>, seen: &Seen, point: &Point<'_>, left: &Left) -> bool {
+    left.fault == point.fault
+        && left.link.len() / 5 == point.frames.len()
+        && seen.link.starts_with(&left.link)
+        && left.out.iter().filter(|byte| **byte == b'\n').count() == point.replies
+        && said_from(run.records).as_bytes().starts_with(&left.out)
+}
+
+// A drive where the call behind so many fails, and what goes on from there.
+fn judge_point(
     alloc: Global,
     run: &Run<'_>,
     seen: &Seen,
     good: usize,
     late: bool,
-    fault: Option<StoredFault>,
-    frames: &[Frame],
+    point: &Point<'_>,
 ) -> Result<(), Fail> {
     let mut store = Failing {
         store: MemoryStore::new(alloc, run.file.to_vec(alloc)?),
@@ -148,15 +173,11 @@ fn judge_failure(
         failed: false,
     };
     let left = drive_over(alloc, &mut store, &seen.answers)?;
-    let is_told = left.fault == fault && store.failed == fault.is_some();
-    expect_that(is_told, "the fault of a call that failed")?;
-    let is_last = seen.link.starts_with(&left.link) && left.link.len() / 5 == frames.len();
-    expect_that(is_last, "no frame behind it")?;
-    let said = said_from(run.records).as_bytes();
-    expect_that(said.starts_with(&left.out), "first replies")?;
+    expect_that(is_left(run, seen, point, &left), "a drive cut there")?;
+    expect_that(store.failed == point.fault.is_some(), "a store that failed")?;
     let bytes = store.store.bytes();
     let records = records_in(bytes.len()).max(run.records);
-    judge_end(alloc, run.whole, bytes, records, frames)?;
+    judge_end(alloc, run.whole, bytes, records, point.frames)?;
     Ok(())
 }
 
@@ -166,36 +187,52 @@ fn judge_calls(
     run: &Run<'_>,
     seen: &Seen,
     calls: Range<usize>,
-    fault: StoredFault,
-    frames: &[Frame],
+    point: &Point<'_>,
 ) -> Result<(), Fail> {
     for good in calls {
-        judge_failure(alloc, run, seen, good, false, Some(fault), frames)?;
-        judge_failure(alloc, run, seen, good, true, Some(fault), frames)?;
+        judge_point(alloc, run, seen, good, false, point)?;
+        judge_point(alloc, run, seen, good, true, point)?;
+    }
+    Ok(())
+}
+
+// Each call of a record fails in turn.
+fn judge_records(alloc: Global, run: &Run<'_>, seen: &Seen) -> Result<(), Fail> {
+    for (records, &sent) in (run.records..9).zip(&seen.kept) {
+        let calls = run.calls_before(records)..run.calls_before(records.saturating_add(1));
+        let point = Point {
+            fault: Some(StoredFault::Drive(DriveFault::Journal)),
+            frames: seen.frames.get(..sent).unwrap_or_default(),
+            replies: replies_before(run, records),
+        };
+        judge_calls(alloc, run, seen, calls, &point)?;
     }
     Ok(())
 }
 
 // Each call fails in turn, and then none.
-fn judge_failures(alloc: Global, run: &Run<'_>) -> Result<(), Fail> {
+fn judge_run(alloc: Global, run: &Run<'_>) -> Result<(), Fail> {
     let (seen, _) = judge_end(alloc, run.whole, run.file, run.records, &[])?;
-    let fault = StoredFault::Open(OpenFault::Store(StoreFault::Failed));
-    judge_calls(alloc, run, &seen, 0..run.opening, fault, &[])?;
-    for (records, &sent) in (run.records..9).zip(&seen.kept) {
-        let calls = run.calls_before(records)..run.calls_before(records.saturating_add(1));
-        let fault = StoredFault::Drive(DriveFault::Journal);
-        let frames = seen.frames.get(..sent).unwrap_or_default();
-        judge_calls(alloc, run, &seen, calls, fault, frames)?;
-    }
-    let good = run.calls_before(9);
-    judge_failure(alloc, run, &seen, good, false, None, &seen.frames)
+    let unopened = Point {
+        fault: Some(StoredFault::Open(OpenFault::Store(StoreFault::Failed))),
+        frames: &[],
+        replies: 0,
+    };
+    judge_calls(alloc, run, &seen, 0..run.opening, &unopened)?;
+    judge_records(alloc, run, &seen)?;
+    let whole = Point {
+        fault: None,
+        frames: &seen.frames,
+        replies: 6,
+    };
+    judge_point(alloc, run, &seen, run.calls_before(9), false, &whole)
 }
 
 #[test]
 fn each_call_of_a_store_failing(rt: HostRuntime) -> Result<(), Fail> {
     let whole = whole_file(rt.alloc())?;
     for run in &runs_of(&whole, &old_begun()) {
-        judge_failures(rt.alloc(), run)?;
+        judge_run(rt.alloc(), run)?;
     }
     Ok(())
 }

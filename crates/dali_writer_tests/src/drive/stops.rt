@@ -41,7 +41,8 @@ pub(crate) fn said_from(records: usize) -> &'static str {
         3 =>
             "reply 1 kept 0 Done\nreply 2 taken\nreply 2 kept 0 Done\nreply 3 taken\nreply 3 kept 0 Done\n",
         4 | 5 => {
-            "reply 2 kept 0 Done\nreply 1 kept 0 Done\nreply 2 kept 0 Done\nreply 3 taken\nreply 3 kept 0 Done\n"
+            "reply 2 kept 0 Done\nreply 1 kept 0 Done\nreply 2 kept 0 Done\n\
+             reply 3 taken\nreply 3 kept 0 Done\n"
         }
         6 => "reply 1 kept 0 Done\nreply 2 kept 0 Done\nreply 3 taken\nreply 3 kept 0 Done\n",
         7 | 8 =>
@@ -223,6 +224,7 @@ pub(crate) struct Run<'a> {
 // A stop at each moment.
 fn judge_stops(alloc: Global, run: &Run<'_>) -> Result<(), Fail> {
     let (seen, store) = judge_end(alloc, run.whole, run.file, run.records, &[])?;
+    expect_that(seen.frames.len() > 336, "more frames than with no loss")?;
     let [opened, rest @ ..] = store.past() else {
         return Err("an opening".into());
     };

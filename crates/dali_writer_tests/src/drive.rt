@@ -1,4 +1,6 @@
 mod driving;
+mod failing_store;
+mod stops;
 mod streams;
 mod sweeps;
 mod worked_drives;

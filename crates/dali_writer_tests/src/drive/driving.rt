@@ -1,5 +1,7 @@
 // What drives leave, where each stream does as it should and where one fails.
-use crate::drive::streams::{ALL, Fickle, Good, Left, MANY, Shelf, Wanted, drive_from, drive_on, file_of};
+use crate::drive::streams::{
+    ALL, Fickle, Good, Left, MANY, Shelf, Wanted, drive_from, drive_on, file_of,
+};
 use crate::expected::expect_that;
 use crate::gtin::GTIN;
 use dali_bank::Order;
@@ -22,7 +24,7 @@ pub(crate) const SILENT_RECORDS: [u8; 33] = [
 const BEGAN: usize = 31;
 
 // Those of Began in version 1.
-const OLD_BEGAN: [u8; 23] = [
+pub(crate) const OLD_BEGAN: [u8; 23] = [
     0x42, 0x00, 0x00, 0x00, 0x00, 0x00, 0x00, 0x00, 0x01, 0x09, 0x06, 0x03, 0x03, 0x04, 0xA4, 0x05,
     0xCE, 0x06, 0xEF, 0x07, 0xAD, 0x08, 0xAB,
 ];
@@ -43,11 +45,15 @@ fn silence(alloc: Global) -> Result<Vec<u8>, Fail> {
     Ok(b"--\n".repeat(alloc, 16)?)
 }
 
-pub(crate) fn gtin_order(unit: u8) -> Result<Order, Fail> {
-    match Order::from_pairs(1, unit, &GTIN) {
+pub(crate) fn gtin_order_of(id: u64, unit: u8) -> Result<Order, Fail> {
+    match Order::from_pairs(id, unit, &GTIN) {
         Some(order) => Ok(order),
         None => Err("an order".into()),
     }
+}
+
+pub(crate) fn gtin_order(unit: u8) -> Result<Order, Fail> {
+    gtin_order_of(1, unit)
 }
 
 // What the whole run leaves, of these answers.

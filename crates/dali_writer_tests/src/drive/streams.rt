@@ -15,10 +15,22 @@ use std::test::Fail;
 
 // Gives these bytes. After so many of them it fails, if there is another one.
 #[derive(Drop)]
-struct Script<'a> {
-    bytes: &'a [u8],
+pub(crate) struct Script<'a> {
+    pub(crate) bytes: &'a [u8],
     good: usize,
     failed: bool,
+}
+
+impl<'a> Script<'a> {
+    pub(crate) fn new(bytes: &'a [u8], good: usize) -> Script<'a>
+        ensures { result.failed ≡ false }
+    {
+        Script {
+            bytes,
+            good,
+            failed: false,
+        }
+    }
 }
 
 impl<'a> Source for Script<'a> {
@@ -251,11 +263,7 @@ pub(crate) fn drive_from(
     good: Good,
 ) -> Result<Left, Fail> {
     let (journal, _, _) = Journal::load(alloc, 10, file)?;
-    let mut link_in = Script {
-        bytes: answers,
-        good: good.answers,
-        failed: false,
-    };
+    let mut link_in = Script::new(answers, good.answers);
     let mut link_out = Shelf::new(alloc, good.link, good.link_flushes, good.counts);
     let mut journal_out = Shelf::new(alloc, good.journal, good.journal_flushes, good.counts);
     let mut out = Shelf::new(alloc, good.out, 0, good.counts);

@@ -4,6 +4,7 @@ use crate::drive::streams::{ALL, Good, Left, Wanted, drive_on, file_of};
 use crate::expected::expect_that;
 use crate::gtin::GTIN_RECORDS;
 use crate::writer::case::{ENOUGH, put};
+use dali_bank::Order;
 use dali_drive::DriveFault;
 use dali_frame::{Frame, byte_digits, line_of};
 use dali_gear::{Bus, GearFault, SimBus, Unit};
@@ -22,7 +23,7 @@ fn one_unit(alloc: Global) -> Result<SimBus, GearFault> {
 
 // What a unit answers to a frame of this line, and what is told in its place.
 #[derive(Clone, Copy)]
-struct Lie {
+pub(crate) struct Lie {
     line: [u8; 5],
     answered: u8,
     told: u8,
@@ -41,10 +42,12 @@ fn told(lie: Option<Lie>, line: [u8; 5], answer: Option<u8>) -> Option<u8> {
 
 // The frames that were sent by hand, their lines, and the lines of the answers that were told.
 #[derive(Drop)]
-struct Seen {
-    frames: Vec<Frame>,
-    link: Vec<u8>,
-    answers: Vec<u8>,
+pub(crate) struct Seen {
+    pub(crate) frames: Vec<Frame>,
+    pub(crate) link: Vec<u8>,
+    pub(crate) answers: Vec<u8>,
+    // How many frames were sent before each record.
+    pub(crate) kept: Vec<usize>,
 }
 
 impl Seen {
@@ -74,7 +77,10 @@ fn serve(
 ) -> Result<(), Fail> {
     match writer.want() {
         Want::Idle => {}
-        Want::Keep(_) => writer.kept(),
+        Want::Keep(_) => {
+            put(&mut seen.kept, seen.frames.len())?;
+            writer.kept();
+        }
         Want::Send(frame) => {
             let line = line_of(&frame);
             let answer = told(lie, line, bus.carry(&frame));
@@ -102,6 +108,30 @@ fn work_by_hand(
     Err("an idle writer".into())
 }
 
+// Goes on from what a file holds, and then submits the orders.
+pub(crate) fn work_from(
+    alloc: Global,
+    bus: &mut SimBus,
+    file: &[u8],
+    orders: &[Order],
+    lie: Option<Lie>,
+) -> Result<Seen, Fail> {
+    let (journal, _, _) = Journal::load(alloc, 10, file)?;
+    let mut writer = Writer::new(journal);
+    let mut seen = Seen {
+        frames: Vec::new(alloc),
+        link: Vec::new(alloc),
+        answers: Vec::new(alloc),
+        kept: Vec::new(alloc),
+    };
+    work_by_hand(bus, &mut writer, &mut seen, lie)?;
+    for order in orders {
+        let _reply = writer.submit(order.copy(), 0)?;
+        work_by_hand(bus, &mut writer, &mut seen, lie)?;
+    }
+    Ok(seen)
+}
+
 // Goes on from these records, and then submits the order for a unit.
 fn by_hand(
     alloc: Global,
@@ -110,17 +140,8 @@ fn by_hand(
     unit: u8,
     lie: Option<Lie>,
 ) -> Result<Seen, Fail> {
-    let (journal, _, _) = Journal::load(alloc, 10, &file_of(alloc, records)?)?;
-    let mut writer = Writer::new(journal);
-    let mut seen = Seen {
-        frames: Vec::new(alloc),
-        link: Vec::new(alloc),
-        answers: Vec::new(alloc),
-    };
-    work_by_hand(bus, &mut writer, &mut seen, lie)?;
-    let _reply = writer.submit(gtin_order(unit)?, 0)?;
-    work_by_hand(bus, &mut writer, &mut seen, lie)?;
-    Ok(seen)
+    let orders = [gtin_order(unit)?];
+    work_from(alloc, bus, &file_of(alloc, records)?, &orders, lie)
 }
 
 // A stream, and how its points are counted.
@@ -274,7 +295,7 @@ impl<'a> Run<'a> {
 }
 
 // Carries the frames again. Whether all are proper ones.
-fn carry_again(bus: &mut SimBus, frames: &[Frame]) -> bool {
+pub(crate) fn carry_again(bus: &mut SimBus, frames: &[Frame]) -> bool {
     for frame in frames {
         if !frame.is_proper() {
             return false;

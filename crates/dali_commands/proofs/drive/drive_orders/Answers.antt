@@ -12,8 +12,8 @@ returns-clause-answer g c = elim c.match-drive_stored.branch [
   }))
   | in-Err-Open w ↦ rw (w.lines-is, w.result-is)
       (ends_unopened _ _ _ _ _ w.in-Err-Open.field-0 w.in-Err-Open.fault _ w.in-Err-Open.field-0-is
-      w.in-Err-Open.ensures.broken w.tell_unopened.ensures.told)
+      w.in-Err-Open.ensures.broken.0 w.tell_unopened.ensures.told)
   | in-Err-Drive w ↦ rw (w.lines-is, w.result-is)
       (ends_broken _ _ _ _ _ w.in-Err-Drive.field-0 w.in-Err-Drive.fault _ w.in-Err-Drive.field-0-is
-      w.in-Err-Drive.ensures.broken w.tell_fault.ensures.told)
+      w.in-Err-Drive.ensures.broken.0 w.tell_fault.ensures.told)
 ]

@@ -462,7 +462,7 @@ def terminal_that_says(data):
 def test_a_terminal_is_never_replaced(folder):
     done = (0, ABSENT_FRAMES, KEPT_SILENT.strip())
     for start, written, ended in [(b"", ABSENT_JOURNAL, done), (ABSENT_BEGAN, ABSENT_RECORDS[-2:], done),
-                                  (OLD_ABSENT_BEGAN, b"", FAULT_21),
+                                  (OLD_ABSENT_BEGAN, b"", FAULT_21), (ABSENT_BEGAN + b"E", b"", FAULT_21),
                                   (b"DB1", b"", (1, b"", "journal fault 7 Header"))]:
         near, far, name = terminal_that_says(start)
         desk = desk_of(folder, ABSENT)

@@ -5,18 +5,18 @@ use std::fs::{File, Files};
 use std::test::Fail;
 use std::{fs, io};
 
-const ORDER: &str = "[{\"order\":1,\"unit\":9,\"gtin\":\"4006381333931\"}]";
+pub(crate) const ORDER: &str = "[{\"order\":1,\"unit\":9,\"gtin\":\"4006381333931\"}]";
 
 const ORDER_FOR_UNIT_5: &str = "[{\"order\":1,\"unit\":5,\"gtin\":\"4006381333931\"}]";
 
-const REFUSED: &str =
+pub(crate) const REFUSED: &str =
     "[{\"order\":1,\"unit\":64,\"year\":1},{\"order\":2,\"unit\":9,\"year\":1},{}]";
 
 // The header of a journal.
 const HEADER: [u8; 4] = [0x44, 0x42, 0x31, 0x02];
 
 // Order 1 for unit 9 with a GTIN, of the moment 0, which ended as 3 Silent.
-const SILENT: [u8; 37] = [
+pub(crate) const SILENT: [u8; 37] = [
     0x44, 0x42, 0x31, 0x02, 0x42, 0x00, 0x00, 0x00, 0x00, 0x00, 0x00, 0x00, 0x01, 0x00, 0x00, 0x00,
     0x00, 0x00, 0x00, 0x00, 0x00, 0x09, 0x06, 0x03, 0x03, 0x04, 0xA4, 0x05, 0xCE, 0x06, 0xEF, 0x07,
     0xAD, 0x08, 0xAB, 0x45, 0x03,
@@ -73,11 +73,11 @@ const FOR_UNIT_5: [u8; 37] = [
 ];
 
 // The frames that look for unit 9, and for unit 5.
-const PAIR: &str = "C301\n139C\n";
+pub(crate) const PAIR: &str = "C301\n139C\n";
 
 const PAIR_FOR_UNIT_5: &str = "C301\n0B9C\n";
 
-const TAKEN: &str = "reply 1 taken\nreply 1 kept 3 Silent\n";
+pub(crate) const TAKEN: &str = "reply 1 taken\nreply 1 kept 3 Silent\n";
 
 const KEPT: &str = "reply 1 kept 3 Silent\n";
 

@@ -9,6 +9,8 @@ mod check;
 #[cfg(test)]
 mod drive_files;
 #[cfg(test)]
+mod drive_memory;
+#[cfg(test)]
 mod expected;
 #[cfg(test)]
 mod frame;

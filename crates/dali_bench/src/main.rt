@@ -1,9 +1,11 @@
 //! A bench for luminaire data in memory bank 1 of DALI control gear.
 #![tactic(auto)]
 
+use dali_commands::drive::DriveNames;
 use dali_commands::drive_files::drive_files;
 use dali_commands::frame::frame;
-use dali_commands::{Fault, FileCommand, Status, write_fault};
+use dali_commands::lines::Lines;
+use dali_commands::{Fault, FileCommand, Status, StdSink, StdSource, write_fault};
 use dali_input::{Input, InputFault};
 use dali_job::{Job, job_of};
 use dali_notes::{Escaped, FirstLines};
@@ -68,7 +70,7 @@ fn run(rt: &HostRuntime, words: &Vec<String>) -> Status {
                 journal,
                 moment,
             },
-        ) => on_link(rt, orders, journal, moment),
+        ) => on_link(rt, DriveNames { orders, journal }, moment),
         Err(error) if error.kind() == clap::error::ErrorKind::OutOfMemory => out_of_memory(
             rt, stream,
         ),
@@ -166,14 +168,24 @@ fn on_input<R: Read, W: Write>(
 }
 
 // Carries out orders over standard input and output. Where standard error can't be written, nothing more is.
-fn on_link(rt: &HostRuntime, orders: &str, journal: &str, moment: u64) -> Status {
+fn on_link(rt: &HostRuntime, names: DriveNames<'_>, moment: u64) -> Status {
     let Ok(lines) = LineWriter::new(rt.alloc(), rt.stderr()) else {
         return out_of_memory(rt, FaultStream::Lines);
     };
     // A file that is opened takes the number of a standard stream that is closed. These do so before the journal.
     match (fs::open(rt, "/"), fs::open(rt, "/"), fs::open(rt, "/")) {
         (Ok(_first), Ok(_second), Ok(_third)) => {
-            match drive_files(rt, orders, journal, moment, rt.stdin(), rt.stdout(), lines) {
+            let mut lines = Lines {
+                output: Output::new(lines),
+            };
+            match drive_files(
+                rt,
+                names,
+                moment,
+                &mut StdSource::new(rt.stdin()),
+                &mut StdSink::new(rt.stdout()),
+                &mut lines,
+            ) {
                 Status::Unwritten => Status::Failed,
                 status => status,
             }

@@ -1,6 +1,9 @@
 use crate::expected::expect_that;
-use dali_commands::Status;
+use dali_commands::drive::DriveNames;
 use dali_commands::drive_files::drive_files;
+use dali_commands::lines::Lines;
+use dali_commands::{Status, StdSink, StdSource};
+use dali_text::Output;
 use std::fs::{File, Files};
 use std::test::Fail;
 use std::{fs, io};
@@ -121,14 +124,19 @@ fn driven_files<R: Files<File = File> + AllocGlobal>(
     let answers = b"--\n".repeat(rt.alloc(), drive.answers)?;
     let mut sent = Vec::new(rt.alloc());
     let mut told = Vec::new(rt.alloc());
+    let names = DriveNames {
+        orders: name,
+        journal: drive.journal,
+    };
     let status = drive_files(
         rt,
-        name,
-        drive.journal,
+        names,
         drive.moment,
-        answers.as_slice(),
-        &mut sent,
-        &mut told,
+        &mut StdSource::new(answers.as_slice()),
+        &mut StdSink::new(&mut sent),
+        &mut Lines {
+            output: Output::new(&mut told),
+        },
     );
     fs::remove_file(rt, name)?;
     Ok(Driven { status, sent, told })

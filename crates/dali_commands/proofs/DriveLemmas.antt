@@ -20,7 +20,7 @@ use Rattle.dali_drive.specs.declared.fault.DriveFault.TheVariants as drives
 use Rattle.dali_drive.specs.Streams.{PutsFirst}
 use Rattle.dali_commands.specs.declared.fault.Status.{Status}
 use Rattle.dali_commands.specs.declared.fault.Status.TheVariants.{Unwritten}
-use Rattle.dali_commands.specs.DriveAnswers.{IsDriveAnswer, IsInputAnswer, IsInputDriven, IsFaultTold, IsFileFaultTold}
+use Rattle.dali_commands.specs.DriveAnswers.{IsDriveAnswer, IsInputAnswer, IsInputDriven, IsFileDriven, IsFaultTold, IsFileFaultTold}
 use Rattle.dali_commands.specs.DriveAnswers.{TellsWorded, error_line, fault_unopened, is_out, refused_lines}
 use Rattle.dali_commands.specs.JournalAnswers.{journal_limit, order_limit}
 use Rattle.dali_commands.specs.declared.fault.Fault.{Fault}
@@ -161,3 +161,9 @@ never_failed fault true mid new other at first second =
     let off = not_out fault other in cc
 never_failed fault false true new other at first second = cc
 never_failed fault false false new other at first second = second
+
+-- what a reader gave are some bytes
+pub file_driven : (before after : InputState) (moment : ℕ) (first : Streams) (status : Status) (last : Streams)
+    → IsInputDriven before after moment first status last → IsFileDriven moment first status last
+file_driven before after moment first status last (inl (input, read, answer)) = inl (input, answer)
+file_driven before after moment first status last (inr (fault, failure, undriven)) = inr (fault, undriven)

@@ -138,3 +138,9 @@ abbrev pub IsInputDriven : InputState → InputState → ℕ → Streams → Sta
 IsInputDriven before after moment first status last =
     ((input : List ℕ) × ReadsInput orders_limit before after input × IsInputAnswer input moment first status last)
     ⊎ ((fault : InputFault) × IsReadFailure before after fault × EndsUndriven fault first status last)
+
+-- The same of a file of orders, of which nothing is known: of some bytes, or of an input that fails.
+abbrev pub IsFileDriven : ℕ → Streams → Status → Streams → Type 0
+IsFileDriven moment first status last =
+    ((input : List ℕ) × IsInputAnswer input moment first status last)
+    ⊎ ((fault : InputFault) × EndsUndriven fault first status last)

@@ -1,3 +1,9 @@
+ghost use Rattle.std.specs.Prelude.{◌≡◌, ◌↔◌, None, true, false};
+ghost use Rattle.dali_drive.specs.StdStreams.{source_left, source_failed, sink_held, sink_failed};
+ghost use Rattle.dali_drive.specs.Transcript.{shown};
+ghost use Rattle.dali_text.specs.Output.{has_failed, held};
+ghost use Rattle.dali_commands.specs.DriveAnswers.{IsFileDriven};
+
 use crate::drive::{DriveNames, drive_input};
 use crate::drive_lines::tell_unread;
 use crate::fault::Status;
@@ -5,38 +11,50 @@ use crate::lines::Lines;
 use dali_drive::{StdSink, StdSource};
 use dali_input::{Input, InputFault};
 use dali_store::FileStore;
-use dali_text::Output;
 use std::fs::{File, Files, Metadata};
 use std::io::{ErrorKind, Read, Write};
 use std::{fs, io};
 
 /// Carries out the orders of a file over a link, with the journal that another file holds, as `drive_input` does.
-pub fn drive_files<
-    R: Files<File = File> + AllocGlobal,
-    I: Read + Drop,
-    L: Write + Drop,
-    O: Write + Drop,
->(rt: &R, orders: &str, journal: &str, moment: u64, link_in: I, link_out: L, lines: O) -> Status {
-    let mut lines = Lines {
-        output: Output::new(lines),
-    };
-    match opened(rt, orders) {
+///
+/// No contract tells what a file holds. Whatever the orders' gave, the drive is that of the orders which these bytes
+/// spell, at this moment.
+pub fn drive_files<R: Files<File = File> + AllocGlobal, I: Read, L: Write, O: Write>(
+    rt: &R,
+    names: DriveNames<'_>,
+    moment: u64,
+    link_in: &mut StdSource<I>,
+    link_out: &mut StdSink<L>,
+    lines: &mut Lines<O>,
+) -> Status
+    requires link_out { sink_failed link_out.old ≡ false }
+    requires link_in { source_failed link_in.old ≡ false }
+    requires lines { has_failed lines.old.output ≡ false }
+    ensures driven { IsFileDriven moment
+        (shown None (sink_held L.contents link_out.old) (source_left I.remaining link_in.old)
+        (held O.contents lines.old.output))
+        result
+        (shown None (sink_held L.contents link_out.new) (source_left I.remaining link_in.new)
+        (held O.contents lines.new.output)) }
+    ensures unwritten { result ≡ Status.Unwritten ↔ has_failed lines.new.output ≡ true }
+{
+    match opened(rt, names.orders) {
         Ok((file, found)) => drive_input(
             rt.alloc(),
-            DriveNames { orders, journal },
+            names,
             &mut Input::new(file),
             moment,
-            &mut StdSource::new(link_in),
-            &mut StdSink::new(link_out),
-            &mut FileStore::new(rt, journal, &found),
-            &mut lines,
+            link_in,
+            link_out,
+            &mut FileStore::new(rt, names.journal, &found),
+            lines,
         ),
         Err(error) => {
             let fault = match error.kind() {
                 ErrorKind::OutOfMemory => InputFault::Memory,
                 _ => InputFault::File,
             };
-            tell_unread(rt.alloc(), &mut lines.output, orders, fault, Some(error))
+            tell_unread(rt.alloc(), &mut lines.output, names.orders, fault, Some(error))
         }
     }
 }

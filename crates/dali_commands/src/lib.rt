@@ -16,6 +16,7 @@ mod notes;
 pub mod run_scenario;
 pub mod show;
 
+pub use dali_drive::{StdSink, StdSource};
 pub use fault::{Fault, Status};
 pub use fault_lines::write_fault;
 pub use file_command::FileCommand;

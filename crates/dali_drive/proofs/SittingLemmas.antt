@@ -172,9 +172,6 @@ module _ (limit most : ℕ) (found : List ℕ) (first : Streams) (is : first.jou
   abbrev pub start : Start
   start = start_of b.journal
 
-  abbrev pub begun : Streams
-  begun = record first { journal = b.middle }
-
   pub made : b.middle ≡ Some (journal_spelling Two b.journal.records)
   made = some_becomes first.journal b.middle found (journal_spelling Two b.journal.records) is b.written
 
@@ -265,9 +262,6 @@ module _ (limit most : ℕ) (found : List ℕ) (first last : Streams) (is : firs
     (b : IsBegun limit most first) (orders : List Contents) (moment : ℕ) (fault : DriveFault)
     (d : IsBrokenDrive (start_of b.journal) orders moment fault (record first { journal = b.middle }) last)
     (left : List ℕ) (between : IsBetween d.middle.journal last.journal left) where
-  abbrev pub trace : List Happening
-  trace = d.past
-
   abbrev pub was : List ℕ
   was = journal_spelling Two (records_of (start_of b.journal) d.past)
 

@@ -9,7 +9,7 @@ use Rattle.dali_store.specs.Stores.{IsSettled, IsBetween, Becomes, LeavesOnly}
 use Rattle.dali_store.specs.Opened.{Loads, IsOpened, LeavesAlike}
 use Rattle.dali_store.proofs.OpenLemmas.{found_loads}
 use Rattle.dali_drive.specs.Stored.{LeavesPart}
-use Rattle.dali_store.proofs.Moments.{started, so_too, and_then}
+use Rattle.dali_store.proofs.Moments.{started, and_then}
 use Rattle.dali_store.proofs.Betweens.{settled_between, between_first, between_second}
 
 pub more_of : (a b d : Option (List ℕ)) → ((more : List ℕ) × Appends a b more) → ((more : List ℕ) × Appends b d more)
@@ -63,12 +63,6 @@ part_of_between limit most (Some bytes) (Some now) new before journal opened bec
 
 module _ {S : Type 0} (seen : S → Option (List ℕ)) (may_leave : S → List ℕ → Type 0) (moment : S → ℕ)
     (left_since : S → ℕ → List ℕ → Type 0) (limit most : ℕ) where
-  pub opened_part : (old mid : S)
-      → LeavesOnly moment left_since old mid (LeavesAlike limit (seen old) (may_leave old))
-      → LeavesOnly moment left_since old mid (LeavesPart limit (seen old) (seen mid) (may_leave old))
-  opened_part old mid opening =
-      so_too moment left_since old mid _ _ opening (part_of_alike limit (seen old) (seen mid) (may_leave old))
-
   pub driven_part : (old mid new : S) (journal : JournalState) → IsOpened limit most (seen old) journal
       → Becomes (seen old) (seen mid) (journal_spelling Two journal.records)
       → LeavesOnly moment left_since old mid (LeavesAlike limit (seen old) (may_leave old))

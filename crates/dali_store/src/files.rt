@@ -3,6 +3,7 @@
 ghost use Rattle.std.specs.Prelude.{◌≡◌, ◌<◌, ◌≤◌, IfOk, false, true, length};
 ghost use Rattle.dali_store.specs.Files.{has_failed};
 
+use crate::new_file::successor;
 use crate::store::{Store, StoreFault};
 use std::alloc::Global;
 use std::fs::{File, Files, Metadata, OpenOptions, TryLockError};
@@ -31,7 +32,7 @@ pub struct FileStore<'a, R> {
 
 // Which file it is, by whatever name.
 #[derive(Clone, Copy, PartialEq, Eq)]
-struct FileId {
+pub(crate) struct FileId {
     dev: u64,
     ino: u64,
 }
@@ -49,17 +50,17 @@ struct Opened {
 
 // Where a regular file stands, by its canonical name, its folder, and how it was found there.
 #[derive(Drop)]
-struct Place {
-    found: Metadata,
-    name: String,
-    new_name: String,
+pub(crate) struct Place {
+    pub(crate) found: Metadata,
+    pub(crate) name: String,
+    pub(crate) new_name: String,
     folder_name: String,
     folder: File,
 }
 
 // Why a call doesn't do what is asked: with the words for a person, where it fails.
 #[derive(Drop)]
-enum Hindrance {
+pub(crate) enum Hindrance {
     Failed(Option<String>),
     TooBig,
     NoMemory,
@@ -181,26 +182,26 @@ impl<'a, R: Files<File = File> + AllocGlobal> Store for FileStore<'a, R> {
 }
 
 // What a failure of the system means for a file.
-fn unusable(alloc: Global, name: &str, cause: io::Error) -> Hindrance {
+pub(crate) fn unusable(alloc: Global, name: &str, cause: io::Error) -> Hindrance {
     if cause.kind() == ErrorKind::OutOfMemory {
         return Hindrance::NoMemory;
     }
     Hindrance::Failed(format!(in alloc; "the file can't be used: {name}: {cause}").ok())
 }
 
-fn refused(alloc: Global, why: &str, name: &str) -> Hindrance {
+pub(crate) fn refused(alloc: Global, why: &str, name: &str) -> Hindrance {
     Hindrance::Failed(format!(in alloc; "{why}: {name}").ok())
 }
 
 // What the system gives, or what its failure means for a file.
-fn given<T: Drop>(alloc: Global, name: &str, ended: io::Result<T>) -> Result<T, Hindrance> {
+pub(crate) fn given<T: Drop>(alloc: Global, name: &str, ended: io::Result<T>) -> Result<T, Hindrance> {
     match ended {
         Ok(value) => Ok(value),
         Err(cause) => Err(unusable(alloc, name, cause)),
     }
 }
 
-fn id_of(found: &Metadata) -> FileId {
+pub(crate) fn id_of(found: &Metadata) -> FileId {
     FileId {
         dev: found.dev(),
         ino: found.ino(),
@@ -264,7 +265,7 @@ fn open<R: Files<File = File>>(
     })
 }
 
-fn lock(alloc: Global, file: &File, name: &str) -> Result<(), Hindrance> {
+pub(crate) fn lock(alloc: Global, file: &File, name: &str) -> Result<(), Hindrance> {
     match file.try_lock() {
         Ok(()) => Ok(()),
         Err(TryLockError::WouldBlock) => Err(in_use(alloc, name)),
@@ -455,109 +456,4 @@ fn begin(alloc: Global, name: &str, opened: &mut Opened, bytes: &[u8]) -> Result
     }
     opened.is_empty = false;
     given(alloc, name, opened.file.write_all(bytes))
-}
-
-// A new file with these bytes, on the disk, which has taken the name of the old one. It is locked before that.
-fn successor<R: Files<File = File> + AllocGlobal>(
-    rt: &R,
-    place: &Place,
-    bytes: &[u8],
-) -> Result<File, Hindrance> {
-    let mut file = new_file(rt, place.new_name.as_str(), bytes)?;
-    given(
-        rt.alloc(),
-        place.new_name.as_str(),
-        fill(rt, place, &mut file, bytes),
-    )?;
-    Ok(file)
-}
-
-fn fill<R: Files<File = File>>(
-    rt: &R,
-    place: &Place,
-    file: &mut File,
-    bytes: &[u8],
-) -> io::Result<()> {
-    file.set_len(0)?;
-    file.set_permissions(place.found.permissions())?;
-    file.write_all(bytes)?;
-    file.sync_all()?;
-    fs::rename(rt, place.new_name.as_str(), place.name.as_str())
-}
-
-// The new file, locked, made where there is none.
-fn new_file<R: Files<File = File> + AllocGlobal>(
-    rt: &R,
-    name: &str,
-    bytes: &[u8],
-) -> Result<File, Hindrance> {
-    let alloc = rt.alloc();
-    let mut how = OpenOptions::new();
-    how.read(true).append(true);
-    match fs::symlink_metadata(rt, name) {
-        Ok(found) if is_alone(&found) => {
-            let mut file = given(alloc, name, how.open(rt, name))?;
-            lock(alloc, &file, name)?;
-            if given(alloc, name, is_left(rt, name, &mut file, bytes))? {
-                Ok(file)
-            } else {
-                Err(foreign(alloc, name))
-            }
-        }
-        Ok(_) => Err(foreign(alloc, name)),
-        Err(error) if error.kind() == ErrorKind::NotFound => {
-            let file = given(alloc, name, how.create_new(true).open(rt, name))?;
-            lock(alloc, &file, name)?;
-            Ok(file)
-        }
-        Err(cause) => Err(unusable(alloc, name, cause)),
-    }
-}
-
-fn foreign(alloc: Global, name: &str) -> Hindrance {
-    refused(
-        alloc,
-        "what stands in the way was not left by a drive of this journal",
-        name,
-    )
-}
-
-// Whether this is a regular file with one name.
-fn is_alone(found: &Metadata) -> bool {
-    found.is_file() && found.nlink() == 1
-}
-
-// Whether a locked file is what a drive left that was stopped as it wrote these bytes: what the name means still, that
-// alone, with a first part of them.
-fn is_left<R: Files<File = File>>(
-    rt: &R,
-    name: &str,
-    file: &mut File,
-    bytes: &[u8],
-) -> io::Result<bool> {
-    let named = fs::symlink_metadata(rt, name)?;
-    if !is_alone(&named) || id_of(&named) != id_of(&file.metadata()?) {
-        return Ok(false);
-    }
-    begins(file, bytes)
-}
-
-// Whether all that a file gives from here on is a first part of these bytes.
-fn begins(file: &mut File, bytes: &[u8]) -> io::Result<bool> {
-    let mut rest = bytes;
-    let mut piece = [0u8; CHUNK];
-    for _ in 0..u64::MAX {
-        match file.read(&mut piece) {
-            Ok(0) => return Ok(true),
-            Ok(count) => {
-                if count > rest.len() || rest[..count] != piece[..count] {
-                    return Ok(false);
-                }
-                rest = &rest[count..];
-            }
-            Err(error) if error.kind() == ErrorKind::Interrupted => {}
-            Err(cause) => return Err(cause),
-        }
-    }
-    Ok(false)
 }

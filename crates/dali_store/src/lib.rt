@@ -3,6 +3,7 @@
 
 mod files;
 mod memory;
+mod new_file;
 mod opening;
 mod store;
 

@@ -1,4 +1,4 @@
-// A store in memory. It keeps each content that it had, so that a test can go through all that a stop might have left.
+// A store in memory.
 ghost use Rattle.std.specs.Prelude.{◌≡◌, ◌<◌, ◌≤◌, ℕ, List, [], ◌∷◌, ◌++◌, ◌||◌, not, true, false, length};
 ghost use Rattle.std.specs.Prelude.{Some, IfOk, IfSome};
 ghost use Rattle.std.proofs.Common.{inl};

@@ -1,0 +1,115 @@
+// The new file that takes the place of a journal's, beside it. No contract tells of a real file: this is trusted.
+use crate::files::{Hindrance, Place, given, id_of, lock, refused, unusable};
+use std::alloc::Global;
+use std::fs::{File, Files, Metadata, OpenOptions};
+use std::io::{ErrorKind, Read, Write};
+use std::os::unix::fs::MetadataExt;
+use std::{fs, io};
+
+// How many bytes are read at a time.
+const CHUNK: usize = 65536;
+
+// A new file with these bytes, on the disk, which has taken the name of the old one. It is locked before that.
+pub(crate) fn successor<R: Files<File = File> + AllocGlobal>(
+    rt: &R,
+    place: &Place,
+    bytes: &[u8],
+) -> Result<File, Hindrance> {
+    let mut file = new_file(rt, place.new_name.as_str(), bytes)?;
+    given(
+        rt.alloc(),
+        place.new_name.as_str(),
+        fill(rt, place, &mut file, bytes),
+    )?;
+    Ok(file)
+}
+
+fn fill<R: Files<File = File>>(
+    rt: &R,
+    place: &Place,
+    file: &mut File,
+    bytes: &[u8],
+) -> io::Result<()> {
+    file.set_len(0)?;
+    file.set_permissions(place.found.permissions())?;
+    file.write_all(bytes)?;
+    file.sync_all()?;
+    fs::rename(rt, place.new_name.as_str(), place.name.as_str())
+}
+
+// The new file, locked, made where there is none.
+fn new_file<R: Files<File = File> + AllocGlobal>(
+    rt: &R,
+    name: &str,
+    bytes: &[u8],
+) -> Result<File, Hindrance> {
+    let alloc = rt.alloc();
+    let mut how = OpenOptions::new();
+    how.read(true).append(true);
+    match fs::symlink_metadata(rt, name) {
+        Ok(found) if is_alone(&found) => {
+            let mut file = given(alloc, name, how.open(rt, name))?;
+            lock(alloc, &file, name)?;
+            if given(alloc, name, is_left(rt, name, &mut file, bytes))? {
+                Ok(file)
+            } else {
+                Err(foreign(alloc, name))
+            }
+        }
+        Ok(_) => Err(foreign(alloc, name)),
+        Err(error) if error.kind() == ErrorKind::NotFound => {
+            let file = given(alloc, name, how.create_new(true).open(rt, name))?;
+            lock(alloc, &file, name)?;
+            Ok(file)
+        }
+        Err(cause) => Err(unusable(alloc, name, cause)),
+    }
+}
+
+fn foreign(alloc: Global, name: &str) -> Hindrance {
+    refused(
+        alloc,
+        "what stands in the way was not left by a drive of this journal",
+        name,
+    )
+}
+
+// Whether this is a regular file with one name.
+fn is_alone(found: &Metadata) -> bool {
+    found.is_file() && found.nlink() == 1
+}
+
+// Whether a locked file is what a drive left that was stopped as it wrote these bytes: what the name means still, that
+// alone, with a first part of them.
+fn is_left<R: Files<File = File>>(
+    rt: &R,
+    name: &str,
+    file: &mut File,
+    bytes: &[u8],
+) -> io::Result<bool> {
+    let named = fs::symlink_metadata(rt, name)?;
+    if !is_alone(&named) || id_of(&named) != id_of(&file.metadata()?) {
+        return Ok(false);
+    }
+    begins(file, bytes)
+}
+
+// Whether all that a file gives from here on is a first part of these bytes.
+fn begins(file: &mut File, bytes: &[u8]) -> io::Result<bool> {
+    let mut rest = bytes;
+    let mut piece = [0u8; CHUNK];
+    for _ in 0..u64::MAX {
+        match file.read(&mut piece) {
+            Ok(0) => return Ok(true),
+            Ok(count) => {
+                if count > rest.len() || rest[..count] != piece[..count] {
+                    return Ok(false);
+                }
+                rest = &rest[count..];
+            }
+            Err(error) if error.kind() == ErrorKind::Interrupted => {}
+            Err(cause) => return Err(cause),
+        }
+    }
+    Ok(false)
+}

@@ -1,5 +1,5 @@
 -- A drive over a store that is killed at some moment.
-use Rattle.std.proofs.Common.{◌≡◌, ◌<◌, ◌≤◌, ◌⊎◌, refl, sym, ap, ◌∙◌, subst, inl, inr, ⊎_elim, ℕ, List, [], ◌∷◌, ◌++◌, Option}
+use Rattle.std.proofs.Common.{◌≡◌, ◌<◌, ◌≤◌, ◌⊎◌, refl, sym, ap, ◌∙◌, subst, inl, inr, ℕ, List, [], ◌∷◌, ◌++◌, Option}
 use Rattle.std.proofs.Common.{Some, None, length, take, drop, arith, length-append, take-append-drop}
 use Rattle.std.proofs.lemmas.Bool.{cases_lt}
 use Rattle.std.proofs.lemmas.List.{append_assoc, append-nil}
@@ -22,12 +22,12 @@ use Rattle.dali_store.proofs.OpenLemmas.{split_front}
 use Rattle.dali_drive.specs.declared.fault.DriveFault.{DriveFault}
 use Rattle.dali_drive.specs.declared.fault.DriveFault.TheVariants.{Journal, Link, Line, End, NoMemory, TooLong, Out}
 use Rattle.dali_drive.specs.Transcript.{Streams, Transcript, AreAnswers, recorded, sent_lines, said_lines}
-use Rattle.dali_drive.specs.Driven.{IsInTurn, KeepsRecords, IsDriven, IsDrive, IsBrokenDrive, BrokenOff, CutRecord}
-use Rattle.dali_drive.specs.Stored.{IsBegun, IsPartBehind, IsStoredDrive}
+use Rattle.dali_drive.specs.Driven.{KeepsRecords, IsDriven, IsDrive, IsBrokenDrive, BrokenOff, CutRecord}
+use Rattle.dali_drive.specs.Stored.{IsBegun, IsPartBehind}
 use Rattle.dali_drive.specs.Sittings.{IsBrokenStep, MayHaveHappened}
 use Rattle.dali_drive.specs.Kills.{IsKilledAt, WasKilled, MayHaveDriven, StoodOnce}
 use Rattle.dali_drive.proofs.SittingLemmas.{IsSat, sat_whole, sat_cut, made, loads, drive_holds, journal_recorded}
-use Rattle.dali_drive.proofs.SittingLemmas.{shows_more, shows_still, one_some, no_bytes, first_part, frame_finished}
+use Rattle.dali_drive.proofs.SittingLemmas.{shows_more, shows_still, one_some, no_bytes, first_part}
 use Rattle.dali_drive.proofs.SittingLemmas.{record_finished, link_keeps}
 use Rattle.dali_drive.proofs.DriveLemmas.{keeps_on}
 
@@ -70,7 +70,7 @@ text_before (Sent frame answer) past first last t =
     let taken = subst (λ (l : List ℕ). Consumes first.answers last.answers l) t.lines.4 t.answers in (
       prepend_known line last.answers,
       text_at past first (prepend_known line last.answers) was t.lines.2
-      (consumes_front first.answers last.answers was line taken),
+          (consumes_front first.answers last.answers was line taken),
     )
 text_before (Asked order moment) past first last t =
     (last.answers, text_at past first last.answers t.heard t.lines t.answers)
@@ -109,23 +109,23 @@ pub sat_killed : (limit most : ℕ) (found : List ℕ) (sitting : Sitting) (left
     → WasKilled limit most found sitting left → IsSat limit found sitting left
 sat_killed limit most found sitting left k =
     subst (λ (s : Sitting). IsSat limit found s left) (sym k.is) (by k.at) where
-  by : IsKilledAt (start_of k.begun.journal) k.older k.past left
-      → IsSat limit found (record { start = start_of k.begun.journal; past = k.past }) left
-  by (inl none) =
-      sat_whole limit most found k.first k.is_found k.begun k.past left (rw none.is k.driven.legal)
-      (rw none.is k.driven.planned) (rw none.is none.finished) (rw none.is k.driven.in_range) (rw none.is none.bytes)
-  by (inr (inl frame)) =
-      sat_whole limit most found k.first k.is_found k.begun k.past left (rw frame.is (k.driven.legal, frame.next.may))
-      (rw frame.is (k.driven.planned, frame.next.planned)) (rw frame.is tt) (rw frame.is k.driven.in_range)
-      (rw frame.is frame.bytes)
-  by (inr (inr (inl cut))) =
-      sat_cut limit most found k.first k.is_found k.begun k.past left cut.entry cut.count (rw cut.is k.driven.legal)
-      (rw cut.is k.driven.planned) (rw cut.is (record_finished (start_of k.begun.journal) k.older cut.entry cut.next))
-      (rw cut.is k.driven.in_range) cut.in_range cut.less (rw cut.is cut.bytes)
-  by (inr (inr (inr reply))) =
-      sat_whole limit most found k.first k.is_found k.begun k.past left (rw reply.is (k.driven.legal, reply.next.may))
-      (rw reply.is (k.driven.planned, reply.next.planned)) (rw reply.is tt) (rw reply.is k.driven.in_range)
-      (rw reply.is reply.bytes)
+      by : IsKilledAt (start_of k.begun.journal) k.older k.past left
+          → IsSat limit found (record { start = start_of k.begun.journal; past = k.past }) left
+      by (inl none) =
+          sat_whole limit most found k.first k.is_found k.begun k.past left (rw none.is k.driven.legal)
+          (rw none.is k.driven.planned) (rw none.is none.finished) (rw none.is k.driven.in_range) (rw none.is none.bytes)
+      by (inr (inl frame)) =
+          sat_whole limit most found k.first k.is_found k.begun k.past left (rw frame.is (k.driven.legal, frame.next.may))
+          (rw frame.is (k.driven.planned, frame.next.planned)) (rw frame.is tt) (rw frame.is k.driven.in_range)
+          (rw frame.is frame.bytes)
+      by (inr (inr (inl cut))) =
+          sat_cut limit most found k.first k.is_found k.begun k.past left cut.entry cut.count (rw cut.is k.driven.legal)
+          (rw cut.is k.driven.planned) (rw cut.is (record_finished (start_of k.begun.journal) k.older cut.entry cut.next))
+          (rw cut.is k.driven.in_range) cut.in_range cut.less (rw cut.is cut.bytes)
+      by (inr (inr (inr reply))) =
+          sat_whole limit most found k.first k.is_found k.begun k.past left (rw reply.is (k.driven.legal, reply.next.may))
+          (rw reply.is (k.driven.planned, reply.next.planned)) (rw reply.is tt) (rw reply.is k.driven.in_range)
+          (rw reply.is reply.bytes)
 
 -- Some moment of a trail at which it was killed so that this is left
 
@@ -163,8 +163,14 @@ stands_at : (start : Start) (past : List Happening) (left more rest : List ℕ)
 stands_at start [] left more rest legal planned keeps is all =
     let J = journal_spelling Two start.records in
     let short : length more ≤ 0 =
-    omega (arith, ap (λ (l : List ℕ). length l) is, ap (λ (l : List ℕ). length l) all, length-append J more,
-    length-append J [], length-append left rest) in
+    omega (
+      arith,
+      ap (λ (l : List ℕ). length l) is,
+      ap (λ (l : List ℕ). length l) all,
+      length-append J more,
+      length-append J [],
+      length-append left rest,
+    ) in
     stands_whole start [] left tt (is ∙ ap (λ (l : List ℕ). J ++ l) (no_bytes more short) ∙ append-nil J)
 stands_at start (Kept entry ∷ past) left more rest legal planned keeps is all =
     by (cases_lt (length left) (length B)) (λ m is_part. stands_at start past left more m legal.0 planned.0 keeps.1 is is_part)
@@ -253,7 +259,7 @@ module _ (limit most : ℕ) (found seen left : List ℕ) (first last : Streams) 
   stood trail rest end d drove all =
       let at = stands_at (start_of b.journal) trail left part.2.0 rest d.legal d.planned d.in_range front all in
       let older = driven_older (start_of b.journal) at.newer at.older begun end
-          (subst (λ (l : List Happening). IsDriven (start_of b.journal) l begun end) at.split d) in record {
+      (subst (λ (l : List Happening). IsDriven (start_of b.journal) l begun end) at.split d) in record {
         trail = trail;
         drove = drove;
         sitting = record { start = start_of b.journal; past = at.past };
@@ -305,16 +311,16 @@ module _ (limit most : ℕ) (found seen left : List ℕ) (first last : Streams) 
         let sp = spelling Two entry in
         let n = cut.journal.count in
         let now : seen ≡ (J ++ recorded d.past) ++ take n sp =
-            one_some last.journal seen (was ++ take n sp) held
-            (shows_more d.middle.journal last.journal was (take n sp) at_middle cut.journal.part)
-            ∙ ap (λ (l : List ℕ). l ++ take n sp) (journal_recorded (start_of b.journal) d.past) in
+        one_some last.journal seen (was ++ take n sp) held
+        (shows_more d.middle.journal last.journal was (take n sp) at_middle cut.journal.part)
+        ∙ ap (λ (l : List ℕ). l ++ take n sp) (journal_recorded (start_of b.journal) d.past) in
         let all : J ++ (recorded d.past ++ sp) ≡ left ++ (part.2.1 ++ drop n sp) =
-            ap (λ (l : List ℕ). J ++ (recorded d.past ++ l)) (sym (take-append-drop n sp))
-            ∙ ap (λ (l : List ℕ). J ++ l) (sym (append_assoc (recorded d.past) (take n sp) (drop n sp)))
-            ∙ sym (append_assoc J (recorded d.past ++ take n sp) (drop n sp))
-            ∙ ap (λ (l : List ℕ). l ++ drop n sp)
-            (sym (append_assoc J (recorded d.past) (take n sp)) ∙ sym now ∙ part.2.3)
-            ∙ append_assoc left part.2.1 (drop n sp) in
+        ap (λ (l : List ℕ). J ++ (recorded d.past ++ l)) (sym (take-append-drop n sp))
+        ∙ ap (λ (l : List ℕ). J ++ l) (sym (append_assoc (recorded d.past) (take n sp) (drop n sp)))
+        ∙ sym (append_assoc J (recorded d.past ++ take n sp) (drop n sp))
+        ∙ ap (λ (l : List ℕ). l ++ drop n sp)
+        (sym (append_assoc J (recorded d.past) (take n sp)) ∙ sym now ∙ part.2.3)
+        ∙ append_assoc left part.2.1 (drop n sp) in
         let more = append_known d.middle.journal sp in
         stood (Kept entry ∷ d.past) (part.2.1 ++ drop n sp) (record d.middle { journal = more })
         (keeps_on (start_of b.journal) d.past begun d.middle.journal more d.middle.link d.middle.answers d.middle.out entry

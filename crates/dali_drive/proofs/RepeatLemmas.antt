@@ -1,5 +1,5 @@
 -- Drives over a store, one after another, are one trace.
-use Rattle.std.proofs.Common.{◌≡◌, refl, sym, ap, ◌∙◌, subst, inl, inr, ℕ, List, [], ◌∷◌, Some}
+use Rattle.std.proofs.Common.{◌≡◌, sym, ap, subst, inl, inr, ℕ, List, [], ◌∷◌, Some}
 use Rattle.dali_bus.specs.World.{World}
 use Rattle.dali_journal.specs.declared.record.Record.{Record}
 use Rattle.dali_trace.specs.declared.happening.Happening.{Happening}
@@ -71,10 +71,10 @@ sittings_follow start most first last (newest ∷ older) loads (found, left, sat
     let old = sittings_follow start most first found older loads sat in
     let one = sat_so start.limit most found newest left newest_sat in
     let records : newest.start.records ≡ records_of start (joined older) =
-        one_records start.limit found (records_of start (joined older)) newest.start.records old.1 one.found_loads in (
+    one_records start.limit found (records_of start (joined older)) newest.start.records old.1 one.found_loads in (
       (one.legal, one.planned, one.finished, records, one.limit_is, old.0),
       loads_still start.limit (records_of start (joined (newest ∷ older))) left last same
-      (subst (λ (r : List Record). Loads start.limit r left) (sym (joined_after start newest older records)) one.left_loads),
+          (subst (λ (r : List Record). Loads start.limit r left) (sym (joined_after start newest older records)) one.left_loads),
     )
 
 pub act_once : (zero : World) (lost : List ℕ) (start : Start) (most : ℕ) (first left : List ℕ)

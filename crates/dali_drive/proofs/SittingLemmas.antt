@@ -1,5 +1,5 @@
 -- What a drive over a store leaves.
-use Rattle.std.proofs.Common.{◌≡◌, ◌<◌, ◌≤◌, ◌⊎◌, ◌↔◌, refl, sym, ap, ◌∙◌, subst, inl, inr, ℕ, List, [], ◌∷◌, ◌++◌}
+use Rattle.std.proofs.Common.{◌≡◌, ◌<◌, ◌≤◌, ◌⊎◌, refl, sym, ap, ◌∙◌, subst, inl, inr, ℕ, List, [], ◌∷◌, ◌++◌}
 use Rattle.std.proofs.Common.{Option, Some, None, length, take, drop, arith, length-append, length-take, take-append-drop, ⊎_elim}
 use Rattle.std.proofs.lemmas.List.{append_assoc, append-nil, take_at}
 use Rattle.std.specs.Prelude.{⊤}
@@ -11,8 +11,7 @@ use Rattle.dali_journal.specs.declared.record.Record.{Record}
 use Rattle.dali_journal.specs.declared.record.Record.TheVariants.{Began, Opened, Ended, Closed}
 use Rattle.dali_journal.specs.declared.version.Version.TheVariants.{Two}
 use Rattle.dali_journal.specs.Spelling.{spelling, journal_spelling, IsRecord}
-use Rattle.dali_journal.specs.JournalState.{JournalState, AreKept}
-use Rattle.dali_trace.specs.declared.happening.Reply.{Reply}
+use Rattle.dali_journal.specs.JournalState.{AreKept}
 use Rattle.dali_trace.specs.declared.happening.Happening.{Happening}
 use Rattle.dali_trace.specs.declared.happening.Happening.TheVariants.{Asked, Answered, Sent, Kept}
 use Rattle.dali_trace.specs.Trace.{Start, records_of}
@@ -25,14 +24,14 @@ use Rattle.dali_laws.proofs.RepeatLemmas.{legal_sentence}
 use Rattle.dali_writer.specs.WriterState.{start_of}
 use Rattle.dali_writer.proofs.StopLemmas.{cut_of_some}
 use Rattle.dali_store.specs.Stores.{Shows, Becomes, IsBetween}
-use Rattle.dali_store.specs.Opened.{Loads, IsOpened}
+use Rattle.dali_store.specs.Opened.{Loads}
 use Rattle.dali_store.proofs.OpenLemmas.{found_loads, found_kept, whole_loads}
 use Rattle.dali_drive.specs.declared.fault.DriveFault.{DriveFault}
 use Rattle.dali_drive.specs.declared.fault.DriveFault.TheVariants.{Journal, Link, Line, End, NoMemory, TooLong, Out}
 use Rattle.dali_drive.specs.Transcript.{Streams, recorded}
 use Rattle.dali_drive.specs.Driven.{KeepsRecords, IsDriven, IsBrokenDrive, BrokenOff, CutRecord, CutFrame, Unanswered}
 use Rattle.dali_drive.specs.Stored.{IsBegun}
-use Rattle.dali_drive.specs.Sittings.{IsBrokenStep, MayHaveHappened, KeptWhereWhole, CameToItsEnd, BrokeOff}
+use Rattle.dali_drive.specs.Sittings.{MayHaveHappened, KeptWhereWhole, CameToItsEnd, BrokeOff}
 
 -- what a sitting is to the sittings around it
 pub record IsSat (limit : ℕ) (found : List ℕ) (sitting : Sitting) (left : List ℕ) : Type 0 where
@@ -100,7 +99,7 @@ between_known (Some x) (Some y) was more c is now (front, rest, begins, whole) =
       rest,
       here,
       cancel was more (front ++ rest)
-      (sym all ∙ whole ∙ ap (λ (l : List ℕ). l ++ rest) here ∙ append_assoc was front rest),
+          (sym all ∙ whole ∙ ap (λ (l : List ℕ). l ++ rest) here ∙ append_assoc was front rest),
     )
 
 between_still : (old new : Option (List ℕ)) (was c : List ℕ) → old ≡ Some was → Keeps old new → IsBetween old new c
@@ -281,9 +280,9 @@ module _ (limit most : ℕ) (found : List ℕ) (first last : Streams) (is : firs
       let sp = spelling Two entry in
       let n = cut.journal.count in
       let k = between_known d.middle.journal last.journal was (take n sp) left at_middle
-          (shows_more d.middle.journal last.journal was (take n sp) at_middle cut.journal.part) between in
+      (shows_more d.middle.journal last.journal was (take n sp) at_middle cut.journal.part) between in
       let whole : sp ≡ k.0 ++ (k.1 ++ drop n sp) =
-          sym (take-append-drop n sp) ∙ ap (λ (l : List ℕ). l ++ drop n sp) k.3 ∙ append_assoc k.0 k.1 (drop n sp) in
+      sym (take-append-drop n sp) ∙ ap (λ (l : List ℕ). l ++ drop n sp) k.3 ∙ append_assoc k.0 k.1 (drop n sp) in
       ⊎_elim (λ part. inl (part.0, part.1, k.2 ∙ ap (λ (l : List ℕ). was ++ l) part.2))
       (λ all. inr (k.2 ∙ ap (λ (l : List ℕ). was ++ l) all)) (first_part sp k.0 (k.1 ++ drop n sp) whole)
 
@@ -319,12 +318,18 @@ module _ (limit most : ℕ) (found : List ℕ) (first last : Streams) (is : firs
         (rw is_trace d.driven.planned) finished (rw is_trace d.driven.in_range) cut.in_range less (rw is_trace same)
     by (inl (count, less, same)) (inr (_, (other, is_kept, other_next), is_more)) =
         let one : Kept other ≡ Kept entry =
-            one_next (start_of b.journal) d.past (Kept entry) (Kept other) d.driven.legal next (rw is_kept at other_next) in
+        one_next (start_of b.journal) d.past (Kept entry) (Kept other) d.driven.legal next (rw is_kept at other_next) in
         let grown : past ≡ Kept entry ∷ d.past = is_more ∙ ap (λ (h : Happening). h ∷ d.past) (is_kept ∙ one) in
         let all = (counts entry next).0 grown in
-        absurd (omega (arith, less, ap (λ (l : List ℕ). length l) all, ap (λ (l : List ℕ). length l) same,
-        length-append was (spelling Two entry), length-append was (take count (spelling Two entry)),
-        length-take count (spelling Two entry)))
+        absurd (omega (
+          arith,
+          less,
+          ap (λ (l : List ℕ). length l) all,
+          ap (λ (l : List ℕ). length l) same,
+          length-append was (spelling Two entry),
+          length-append was (take count (spelling Two entry)),
+          length-take count (spelling Two entry),
+        ))
 
   pub sat_broken : (past : List Happening) → MayHaveHappened (start_of b.journal) d.past fault past → IsFinished past
       → KeptWhereWhole (start_of b.journal) d.past past left → IsSat limit found (record { start = start_of b.journal; past = past }) left
@@ -363,22 +368,25 @@ module _ (limit most : ℕ) (found : List ℕ) (first last : Streams) (is : firs
   broke_off : (past : List Happening) → MayHaveHappened (start_of b.journal) d.past fault past → IsFinished past
       → KeptWhereWhole (start_of b.journal) d.past past left
       → (past : List Happening) × BrokeOff limit most found (record { start = start_of b.journal; past = past }) left
-  broke_off past happened finished counts = (past, record {
-    orders = orders;
-    moment = moment;
-    fault = fault;
-    first = first;
-    last = last;
-    is_found = is;
-    begun = b;
-    drive = d;
-    is_left = between;
-    past = past;
-    happened = happened;
-    finished = finished;
-    counts = counts;
-    is = refl;
-  })
+  broke_off past happened finished counts = (
+    past,
+    record {
+      orders = orders;
+      moment = moment;
+      fault = fault;
+      first = first;
+      last = last;
+      is_found = is;
+      begun = b;
+      drive = d;
+      is_left = between;
+      past = past;
+      happened = happened;
+      finished = finished;
+      counts = counts;
+      is = refl;
+    },
+  )
 
   abbrev pub Made : Type 0
   Made = (past : List Happening) × BrokeOff limit most found (record { start = start_of b.journal; past = past }) left
@@ -411,9 +419,15 @@ module _ (limit most : ℕ) (found : List ℕ) (first last : Streams) (is : firs
         (λ other also.
         let one = same_record entry other next also in (
           λ grown. absurd (no_newer d.past (Kept other) grown),
-          λ whole. absurd (omega (arith, less, ap (λ (l : List ℕ). length l) (rw one at whole), ap (λ (l : List ℕ). length l) same,
-          length-append was (spelling Two entry), length-append was (take count (spelling Two entry)),
-          length-take count (spelling Two entry))),
+          λ whole. absurd (omega (
+            arith,
+            less,
+            ap (λ (l : List ℕ). length l) (rw one at whole),
+            ap (λ (l : List ℕ). length l) same,
+            length-append was (spelling Two entry),
+            length-append was (take count (spelling Two entry)),
+            length-take count (spelling Two entry),
+          )),
         ))
 
     by : (f : DriveFault) (rest : List Contents) → BrokenOff (start_of b.journal) d.past rest f d.middle last → Makes f → Made

@@ -1,5 +1,5 @@
 -- A store along a drive.
-use Rattle.std.proofs.Common.{◌≡◌, ◌++◌, inl, inr, ⊎_elim, sym, subst, ℕ, List, [], Option, Some, None}
+use Rattle.std.proofs.Common.{◌++◌, inl, inr, ⊎_elim, sym, subst, ℕ, List, [], Option, Some, None}
 use Rattle.std.specs.Io.KnownBytes.{Appends}
 use Rattle.std.proofs.KnownBytes.{Appends-nil, Appends-trans}
 use Rattle.dali_journal.specs.declared.version.Version.TheVariants.{Two}

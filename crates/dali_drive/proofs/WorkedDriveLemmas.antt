@@ -1,5 +1,5 @@
 -- A small drive, and what is near it and isn't one.
-use Rattle.std.proofs.Common.{get_or, ap, ◌≡◌, ◌≢◌, inl, inr, refl, sym, ℕ, List, [], ◌∷◌, Some, None, codes}
+use Rattle.std.proofs.Common.{ap, ◌≡◌, ◌≢◌, inl, inr, refl, sym, List, [], ◌∷◌, Some, None, codes}
 use Rattle.std.proofs.Common.{Bool, true, false, not, ◌⊎◌, arith}
 use Rattle.std.proofs.lemmas.Fmt.{decimal_digit}
 use Rattle.std.proofs.lemmas.List.Elements.{All-from_recursion}
@@ -8,8 +8,7 @@ use Rattle.dali_frame.specs.declared.forward.Frame.TheVariants.{Dtr0, Dtr1}
 use Rattle.dali_journal.specs.declared.record.Code.TheVariants.{DoubtOpen}
 use Rattle.dali_journal.specs.declared.record.Record.{Record}
 use Rattle.dali_journal.specs.declared.record.Record.TheVariants.{Began, Opened, Ended, Closed}
-use Rattle.dali_journal.specs.declared.version.Version.TheVariants.{One, Two}
-use Rattle.dali_journal.specs.declared.version.Version.{Version}
+use Rattle.dali_journal.specs.declared.version.Version.TheVariants.{Two}
 use Rattle.dali_journal.specs.Spelling.{IsRecord}
 use Rattle.dali_write.proofs.NextLemmas.{none_ended}
 use Rattle.dali_trace.specs.declared.happening.Reply.TheVariants as replies

@@ -1,10 +1,9 @@
 -- Two drives over a store, one after the other, are sittings, and what is near them is not.
-use Rattle.std.proofs.Common.{◌≡◌, ◌≢◌, ◌⊎◌, refl, sym, ap, inl, inr, ℕ, List, [], ◌∷◌, ◌++◌, Bool, true, false, Option, Some, None, take, drop, arith}
+use Rattle.std.proofs.Common.{◌≡◌, refl, sym, ap, inl, inr, ℕ, List, [], ◌∷◌, Option, Some, None, take, drop, arith}
 use Rattle.std.specs.Prelude.{length}
-use Rattle.dali_bus.specs.World.{Gear, World}
+use Rattle.dali_bus.specs.World.{Gear}
 use Rattle.dali_bus.specs.Carry.{Carry, MayHear}
 use Rattle.dali_frame.specs.declared.forward.Frame.TheVariants.{Dtr1}
-use Rattle.dali_journal.specs.declared.record.Record.{Record}
 use Rattle.dali_journal.specs.declared.record.Record.TheVariants.{Began}
 use Rattle.dali_journal.specs.declared.version.Version.TheVariants.{Two}
 use Rattle.dali_journal.specs.Spelling.{spelling}
@@ -13,18 +12,15 @@ use Rattle.dali_journal.specs.Loading.{IsTorn}
 use Rattle.dali_trace.specs.declared.happening.Happening.{Happening}
 use Rattle.dali_trace.specs.declared.happening.Happening.TheVariants.{Sent, Kept}
 use Rattle.dali_trace.specs.Next.{IsNext}
-use Rattle.dali_trace.specs.Trace.{records_of}
 use Rattle.dali_trace.specs.Moments.{Along}
 use Rattle.dali_trace.specs.Worked.{empty, first_order, taken, begun, alone, blank_unit}
 use Rattle.dali_trace.specs.WorkedPlans.{first_frame}
 use Rattle.dali_trace.proofs.WorkedLemmas.{begun_legal}
 use Rattle.dali_trace.proofs.WorkedPlanLemmas.{first_planned}
 use Rattle.dali_trace.proofs.BlankLemmas.{goes_along}
-use Rattle.dali_laws.specs.Joined.{Sitting}
 use Rattle.dali_store.specs.Opened.{Loads}
 use Rattle.dali_store.proofs.OpenLemmas.{whole_loads}
 use Rattle.dali_drive.specs.declared.fault.DriveFault.TheVariants.{Link, NoMemory}
-use Rattle.dali_drive.specs.Transcript.{shown}
 use Rattle.dali_drive.specs.Driven.{IsDriven, IsBrokenDrive, LeavesBetween}
 use Rattle.dali_drive.specs.Stored.{IsBegun, IsPartBehind}
 use Rattle.dali_drive.specs.Sittings.{MayHaveHappened, KeptWhereWhole, BrokeOff}
@@ -32,7 +28,6 @@ use Rattle.dali_drive.specs.Kills.{WasKilled}
 use Rattle.dali_drive.specs.Repeats.{IsSameFile, HasSat, HaveSat, ActOnce}
 use Rattle.dali_drive.specs.WorkedSittings.{bare_file, begun_file, torn_file, before_on, after_taken, after_begun, amid_frame}
 use Rattle.dali_drive.specs.WorkedSittings.{first_sitting, second_sitting, second_without_the_frame, both_sittings, worlds}
-use Rattle.dali_drive.proofs.SittingLemmas.{IsSat}
 use Rattle.dali_drive.proofs.KillLemmas.{one_records}
 use Rattle.dali_drive.proofs.RepeatLemmas.{sat_so, loads_still, act_once}
 use Rattle.dali_drive.proofs.WorkedDriveLemmas.{first_is_record, first_next, taken_line, no_record}
@@ -256,7 +251,7 @@ not_from_fewer left sat =
 pub not_kept_unless_whole : HasSat 10 100 [] second_without_the_frame torn_file → ⊥
 not_kept_unless_whole sat =
     let here : Loads 10 (Began first_order 7 ∷ []) torn_file =
-        (sat_so 10 100 [] second_without_the_frame torn_file sat).left_loads in
+    (sat_so 10 100 [] second_without_the_frame torn_file sat).left_loads in
     let never = one_records 10 torn_file [] (Began first_order 7 ∷ []) torn_loads here in cc
 
 pub kept_where_whole : HasSat 10 100 [] first_sitting begun_file → ⊥

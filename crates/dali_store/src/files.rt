@@ -194,7 +194,11 @@ pub(crate) fn refused(alloc: Global, why: &str, name: &str) -> Hindrance {
 }
 
 // What the system gives, or what its failure means for a file.
-pub(crate) fn given<T: Drop>(alloc: Global, name: &str, ended: io::Result<T>) -> Result<T, Hindrance> {
+pub(crate) fn given<T: Drop>(
+    alloc: Global,
+    name: &str,
+    ended: io::Result<T>,
+) -> Result<T, Hindrance> {
     match ended {
         Ok(value) => Ok(value),
         Err(cause) => Err(unusable(alloc, name, cause)),

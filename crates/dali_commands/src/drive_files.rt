@@ -54,7 +54,13 @@ pub fn drive_files<R: Files<File = File> + AllocGlobal, I: Read, L: Write, O: Wr
                 ErrorKind::OutOfMemory => InputFault::Memory,
                 _ => InputFault::File,
             };
-            tell_unread(rt.alloc(), &mut lines.output, names.orders, fault, Some(error))
+            tell_unread(
+                rt.alloc(),
+                &mut lines.output,
+                names.orders,
+                fault,
+                Some(error),
+            )
         }
     }
 }

@@ -50,12 +50,22 @@ static REPLACED: [Call; 8] = [
 // Makes a call, and tells what it answers.
 fn answer<S: Store>(alloc: Global, store: &mut S, call: Call) -> Result<bool, StoreFault> {
     match call {
-        Call::Append(bytes) if !bytes.is_empty() => Ok(store.append(bytes) == Some(bytes.len())),
+        Call::Append(bytes) => Ok(append(store, bytes)),
         Call::Cut(len) => cut(alloc, store, len),
         Call::Replace(bytes) => Ok(store.replace(bytes)),
         Call::Sync => Ok(store.sync()),
-        Call::Append(_) | Call::Start => Ok(true),
+        Call::Start => Ok(true),
     }
+}
+
+// Appends the bytes one by one, since the store in memory takes one a call.
+fn append<S: Store>(store: &mut S, bytes: &[u8]) -> bool {
+    for &byte in bytes {
+        if store.append(&[byte]) != Some(1) {
+            return false;
+        }
+    }
+    true
 }
 
 // Cuts a store that has so many bytes.

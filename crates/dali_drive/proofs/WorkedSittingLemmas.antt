@@ -11,6 +11,7 @@ use Rattle.dali_journal.specs.JournalState.{AreKept}
 use Rattle.dali_journal.specs.Loading.{IsTorn}
 use Rattle.dali_trace.specs.declared.happening.Happening.{Happening}
 use Rattle.dali_trace.specs.declared.happening.Happening.TheVariants.{Sent, Kept}
+use Rattle.dali_trace.specs.Legal.{IsFinished}
 use Rattle.dali_trace.specs.Next.{IsNext}
 use Rattle.dali_trace.specs.Moments.{Along}
 use Rattle.dali_trace.specs.Worked.{empty, first_order, taken, begun, alone, blank_unit}
@@ -166,44 +167,32 @@ frame_broken = record {
   );
 }
 
-none_counts : (past : List Happening) → KeptWhereWhole empty begun past begun_file
-none_counts past entry next = absurd (no_record entry next)
+-- after the begun order no record is next, so none counts
+stopped_amid_frame : (past : List Happening) → MayHaveHappened empty begun Link past → IsFinished past
+    → BrokeOff 10 100 torn_file (record { start = empty; past = past }) begun_file
+stopped_amid_frame past happened finished = record {
+  orders = first_order ∷ [];
+  moment = 7;
+  fault = Link;
+  first = before_on torn_file;
+  last = amid_frame;
+  is_found = refl;
+  begun = begun_on_torn;
+  drive = frame_broken;
+  is_left = ([], [], refl, refl);
+  past = past;
+  happened = happened;
+  finished = finished;
+  counts = λ entry next. absurd (no_record entry next);
+  is = refl;
+}
 
 pub second_broke_off : BrokeOff 10 100 torn_file second_sitting begun_file
-second_broke_off = record {
-  orders = first_order ∷ [];
-  moment = 7;
-  fault = Link;
-  first = before_on torn_file;
-  last = amid_frame;
-  is_found = refl;
-  begun = begun_on_torn;
-  drive = frame_broken;
-  is_left = ([], [], refl, refl);
-  past = first_frame;
-  happened = inr (Sent (Dtr1 1) None, (Dtr1 1, None, refl, first_next), refl);
-  finished = tt;
-  counts = none_counts first_frame;
-  is = refl;
-}
+second_broke_off =
+    stopped_amid_frame first_frame (inr (Sent (Dtr1 1) None, (Dtr1 1, None, refl, first_next), refl)) tt
 
 pub or_without_the_frame : BrokeOff 10 100 torn_file second_without_the_frame begun_file
-or_without_the_frame = record {
-  orders = first_order ∷ [];
-  moment = 7;
-  fault = Link;
-  first = before_on torn_file;
-  last = amid_frame;
-  is_found = refl;
-  begun = begun_on_torn;
-  drive = frame_broken;
-  is_left = ([], [], refl, refl);
-  past = begun;
-  happened = inl refl;
-  finished = tt;
-  counts = none_counts begun;
-  is = refl;
-}
+or_without_the_frame = stopped_amid_frame begun (inl refl) tt
 
 pub both_sat : HaveSat 10 100 [] (second_sitting ∷ first_sitting ∷ []) begun_file
 both_sat = (

@@ -113,17 +113,21 @@ sat_killed limit most found sitting left k =
           → IsSat limit found (record { start = start_of k.begun.journal; past = k.past }) left
       by (inl none) =
           sat_whole limit most found k.first k.is_found k.begun k.past left (rw none.is k.driven.legal)
-          (rw none.is k.driven.planned) (rw none.is none.finished) (rw none.is k.driven.in_range) (rw none.is none.bytes)
+          (rw none.is k.driven.planned) (rw none.is none.finished) (rw none.is k.driven.in_range)
+          (rw none.is none.bytes)
       by (inr (inl frame)) =
-          sat_whole limit most found k.first k.is_found k.begun k.past left (rw frame.is (k.driven.legal, frame.next.may))
+          sat_whole limit most found k.first k.is_found k.begun k.past left
+          (rw frame.is (k.driven.legal, frame.next.may))
           (rw frame.is (k.driven.planned, frame.next.planned)) (rw frame.is tt) (rw frame.is k.driven.in_range)
           (rw frame.is frame.bytes)
       by (inr (inr (inl cut))) =
           sat_cut limit most found k.first k.is_found k.begun k.past left cut.entry cut.count (rw cut.is k.driven.legal)
-          (rw cut.is k.driven.planned) (rw cut.is (record_finished (start_of k.begun.journal) k.older cut.entry cut.next))
+          (rw cut.is k.driven.planned)
+          (rw cut.is (record_finished (start_of k.begun.journal) k.older cut.entry cut.next))
           (rw cut.is k.driven.in_range) cut.in_range cut.less (rw cut.is cut.bytes)
       by (inr (inr (inr reply))) =
-          sat_whole limit most found k.first k.is_found k.begun k.past left (rw reply.is (k.driven.legal, reply.next.may))
+          sat_whole limit most found k.first k.is_found k.begun k.past left
+          (rw reply.is (k.driven.legal, reply.next.may))
           (rw reply.is (k.driven.planned, reply.next.planned)) (rw reply.is tt) (rw reply.is k.driven.in_range)
           (rw reply.is reply.bytes)
 
@@ -173,7 +177,8 @@ stands_at start [] left more rest legal planned keeps is all =
     ) in
     stands_whole start [] left tt (is ∙ ap (λ (l : List ℕ). J ++ l) (no_bytes more short) ∙ append-nil J)
 stands_at start (Kept entry ∷ past) left more rest legal planned keeps is all =
-    by (cases_lt (length left) (length B)) (λ m is_part. stands_at start past left more m legal.0 planned.0 keeps.1 is is_part)
+    by (cases_lt (length left) (length B))
+    (λ m is_part. stands_at start past left more m legal.0 planned.0 keeps.1 is is_part)
   where
     B : List ℕ
     B = journal_spelling Two start.records ++ recorded past
@@ -301,7 +306,9 @@ module _ (limit most : ℕ) (found seen left : List ℕ) (first last : Streams) 
         stood d.past part.2.1 d.middle d.driven (b, orders, moment, inr (fault, d, inl refl))
         (sym (journal_recorded (start_of b.journal) d.past)
         ∙ one_some last.journal (journal_spelling Two (records_of (start_of b.journal) d.past)) seen
-        (shows_still d.middle.journal last.journal (journal_spelling Two (records_of (start_of b.journal) d.past)) at_middle keeps) held
+        (shows_still d.middle.journal last.journal (journal_spelling Two (records_of (start_of b.journal) d.past))
+        at_middle keeps)
+        held
         ∙ part.2.3)
 
     entered : (entry : Record) → IsNext (start_of b.journal) d.past (Kept entry) → CutRecord entry d.middle last
@@ -323,7 +330,8 @@ module _ (limit most : ℕ) (found seen left : List ℕ) (first last : Streams) 
         ∙ append_assoc left part.2.1 (drop n sp) in
         let more = append_known d.middle.journal sp in
         stood (Kept entry ∷ d.past) (part.2.1 ++ drop n sp) (record d.middle { journal = more })
-        (keeps_on (start_of b.journal) d.past begun d.middle.journal more d.middle.link d.middle.answers d.middle.out entry
+        (keeps_on (start_of b.journal) d.past begun d.middle.journal more d.middle.link d.middle.answers
+        d.middle.out entry
         d.driven next cut.in_range (appends_known d.middle.journal (spelling Two entry)))
         (b, orders, moment, inr (fault, d, may)) all
 

@@ -26,8 +26,8 @@ sat_as limit most found sitting left b =
     (sat_broken limit most found b.first b.last b.is_found b.begun b.orders b.moment b.fault b.drive left b.is_left
     b.past b.happened b.finished b.counts)
 
-pub sat_so : (limit most : ℕ) (found : List ℕ) (sitting : Sitting) (left : List ℕ) → HasSat limit most found sitting left
-    → IsSat limit found sitting left
+pub sat_so : (limit most : ℕ) (found : List ℕ) (sitting : Sitting) (left : List ℕ)
+    → HasSat limit most found sitting left → IsSat limit found sitting left
 sat_so limit most found sitting left (inl ended) = sat_ended limit most found sitting left ended
 sat_so limit most found sitting left (inr (inl broken)) = sat_as limit most found sitting left broken
 sat_so limit most found sitting left (inr (inr killed)) = sat_killed limit most found sitting left killed
@@ -74,7 +74,8 @@ sittings_follow start most first last (newest ∷ older) loads (found, left, sat
     one_records start.limit found (records_of start (joined older)) newest.start.records old.1 one.found_loads in (
       (one.legal, one.planned, one.finished, records, one.limit_is, old.0),
       loads_still start.limit (records_of start (joined (newest ∷ older))) left last same
-          (subst (λ (r : List Record). Loads start.limit r left) (sym (joined_after start newest older records)) one.left_loads),
+          (subst (λ (r : List Record). Loads start.limit r left) (sym (joined_after start newest older records))
+          one.left_loads),
     )
 
 pub act_once : (zero : World) (lost : List ℕ) (start : Start) (most : ℕ) (first left : List ℕ)

@@ -29,7 +29,7 @@ use Rattle.dali_store.proofs.OpenLemmas.{found_loads, found_kept, whole_loads}
 use Rattle.dali_drive.specs.declared.fault.DriveFault.{DriveFault}
 use Rattle.dali_drive.specs.declared.fault.DriveFault.TheVariants.{Journal, Link, Line, End, NoMemory, TooLong, Out}
 use Rattle.dali_drive.specs.Transcript.{Streams, recorded}
-use Rattle.dali_drive.specs.Driven.{KeepsRecords, IsDriven, IsBrokenDrive, BrokenOff, CutRecord, CutFrame, Unanswered}
+use Rattle.dali_drive.specs.Driven.{KeepsRecords, IsDriven, IsNextFrame, IsBrokenDrive, BrokenOff, CutRecord, CutFrame, Unanswered}
 use Rattle.dali_drive.specs.Stored.{IsBegun}
 use Rattle.dali_drive.specs.Sittings.{MayHaveHappened, KeptWhereWhole, CameToItsEnd, BrokeOff}
 
@@ -51,7 +51,8 @@ pub shows_one : (seen : Option (List ℕ)) (bytes found : List ℕ) → seen ≡
 shows_one None bytes found is shown = cc
 shows_one (Some known) bytes found is shown = let same : known ≡ bytes = cc in sym same ∙ shown
 
-some_becomes : (old mid : Option (List ℕ)) (bytes now : List ℕ) → old ≡ Some bytes → Becomes old mid now → mid ≡ Some now
+some_becomes : (old mid : Option (List ℕ)) (bytes now : List ℕ) → old ≡ Some bytes → Becomes old mid now
+    → mid ≡ Some now
 some_becomes None mid bytes now is becomes = cc
 some_becomes (Some old) None bytes now is becomes = absurd becomes
 some_becomes (Some old) (Some new) bytes now is becomes = ap Some becomes
@@ -105,7 +106,8 @@ between_known (Some x) (Some y) was more c is now (front, rest, begins, whole) =
 between_still : (old new : Option (List ℕ)) (was c : List ℕ) → old ≡ Some was → Keeps old new → IsBetween old new c
     → c ≡ was
 between_still old new was c is same between =
-    let k = between_known old new was [] c is (shows_still old new was is same ∙ ap Some (sym (append-nil was))) between in
+    let shown : new ≡ Some (was ++ []) = shows_still old new was is same ∙ ap Some (sym (append-nil was)) in
+    let k = between_known old new was [] c is shown between in
     let none : k.0 ≡ [] =
     no_bytes k.0 (omega (arith, ap (λ (l : List ℕ). length l) k.3, length-append k.0 k.1)) in
     k.2 ∙ ap (λ (l : List ℕ). was ++ l) none ∙ append-nil was
@@ -220,7 +222,8 @@ module _ (limit most : ℕ) (found : List ℕ) (first : Streams) (is : first.jou
       → left ≡ journal_spelling Two (records_of start past) ++ take count (spelling Two entry)
       → IsSat limit found (record { start = start; past = past }) left
   sat_cut past left entry count legal planned finished keeps range less same =
-      sat_with past left legal planned finished (subst (λ (l : List ℕ). Loads limit (records_of (start_of b.journal) past) l) (sym same) (record {
+      sat_with past left legal planned finished
+      (subst (λ (l : List ℕ). Loads limit (records_of (start_of b.journal) past) l) (sym same) (record {
         version = Two;
         len = length (journal_spelling Two (records_of (start_of b.journal) past));
         kept = so past legal keeps;
@@ -261,15 +264,21 @@ module _ (limit most : ℕ) (found : List ℕ) (first last : Streams) (is : firs
     (b : IsBegun limit most first) (orders : List Contents) (moment : ℕ) (fault : DriveFault)
     (d : IsBrokenDrive (start_of b.journal) orders moment fault (record first { journal = b.middle }) last)
     (left : List ℕ) (between : IsBetween d.middle.journal last.journal left) where
-  abbrev pub was : List ℕ
-  was = journal_spelling Two (records_of (start_of b.journal) d.past)
+  abbrev pub begins : Start
+  begins = start_of b.journal
 
-  at_middle : d.middle.journal ≡ Some (journal_spelling Two (records_of (start_of b.journal) d.past))
+  abbrev pub Sat : List Happening → Type 0
+  Sat past = IsSat limit found (record { start = start_of b.journal; past = past }) left
+
+  abbrev pub was : List ℕ
+  was = journal_spelling Two (records_of begins d.past)
+
+  at_middle : d.middle.journal ≡ Some (journal_spelling Two (records_of begins d.past))
   at_middle =
-      drive_holds (start_of b.journal) d.past (record first { journal = b.middle }) d.middle d.driven
+      drive_holds begins d.past (record first { journal = b.middle }) d.middle d.driven
       (made limit most found first is b)
 
-  still : Keeps d.middle.journal last.journal → left ≡ journal_spelling Two (records_of (start_of b.journal) d.past)
+  still : Keeps d.middle.journal last.journal → left ≡ journal_spelling Two (records_of begins d.past)
   still same = between_still d.middle.journal last.journal was left at_middle same between
 
   -- this much of a record was put, or all of it
@@ -288,8 +297,8 @@ module _ (limit most : ℕ) (found : List ℕ) (first last : Streams) (is : firs
 
   -- no record was put, and this happened
   sat_still : (past : List Happening) → IsFinished past → left ≡ was
-      → (past ≡ d.past) ⊎ ((next : Happening) × IsStep next × IsNext (start_of b.journal) d.past next × (past ≡ next ∷ d.past))
-      → IsSat limit found (record { start = start_of b.journal; past = past }) left
+      → (past ≡ d.past) ⊎ ((next : Happening) × IsStep next × IsNext begins d.past next × (past ≡ next ∷ d.past))
+      → Sat past
   sat_still past finished same (inl is_trace) =
       sat_whole limit most found first is b past left (rw is_trace d.driven.legal) (rw is_trace d.driven.planned)
       finished (rw is_trace d.driven.in_range) (rw is_trace same)
@@ -301,13 +310,13 @@ module _ (limit most : ℕ) (found : List ℕ) (first last : Streams) (is : firs
       (rw is_more (d.driven.planned, next.planned)) finished (rw is_more d.driven.in_range) (rw is_more same)
   sat_still past finished same (inr (other, step, next, is_more)) = absurd step
 
-  sat_record : (past : List Happening) (entry : Record) → IsFinished past → IsNext (start_of b.journal) d.past (Kept entry)
-      → CutRecord entry d.middle last → KeptWhereWhole (start_of b.journal) d.past past left
-      → MayHaveHappened (start_of b.journal) d.past Journal past → IsSat limit found (record { start = start_of b.journal; past = past }) left
+  sat_record : (past : List Happening) (entry : Record) → IsFinished past → IsNext begins d.past (Kept entry)
+      → CutRecord entry d.middle last → KeptWhereWhole begins d.past past left
+      → MayHaveHappened begins d.past Journal past → Sat past
   sat_record past entry finished next cut counts happened = by (part_left entry cut) happened where
     by : ((count : ℕ) × (count < length (spelling Two entry)) × (left ≡ was ++ take count (spelling Two entry)))
-        ⊎ (left ≡ was ++ spelling Two entry) → MayHaveHappened (start_of b.journal) d.past Journal past
-        → IsSat limit found (record { start = start_of b.journal; past = past }) left
+        ⊎ (left ≡ was ++ spelling Two entry) → MayHaveHappened begins d.past Journal past
+        → Sat past
     by (inr all) happened =
         let is_more = (counts entry next).1 all in
         sat_whole limit most found first is b past left (rw is_more (d.driven.legal, next.may))
@@ -318,7 +327,7 @@ module _ (limit most : ℕ) (found : List ℕ) (first last : Streams) (is : firs
         (rw is_trace d.driven.planned) finished (rw is_trace d.driven.in_range) cut.in_range less (rw is_trace same)
     by (inl (count, less, same)) (inr (_, (other, is_kept, other_next), is_more)) =
         let one : Kept other ≡ Kept entry =
-        one_next (start_of b.journal) d.past (Kept entry) (Kept other) d.driven.legal next (rw is_kept at other_next) in
+        one_next begins d.past (Kept entry) (Kept other) d.driven.legal next (rw is_kept at other_next) in
         let grown : past ≡ Kept entry ∷ d.past = is_more ∙ ap (λ (h : Happening). h ∷ d.past) (is_kept ∙ one) in
         let all = (counts entry next).0 grown in
         absurd (omega (
@@ -331,19 +340,20 @@ module _ (limit most : ℕ) (found : List ℕ) (first last : Streams) (is : firs
           length-take count (spelling Two entry),
         ))
 
-  pub sat_broken : (past : List Happening) → MayHaveHappened (start_of b.journal) d.past fault past → IsFinished past
-      → KeptWhereWhole (start_of b.journal) d.past past left → IsSat limit found (record { start = start_of b.journal; past = past }) left
+  pub sat_broken : (past : List Happening) → MayHaveHappened begins d.past fault past → IsFinished past
+      → KeptWhereWhole begins d.past past left → Sat past
   sat_broken past happened finished counts = by fault d.rest d.broken happened where
     frames : Keeps d.middle.journal last.journal → (past ≡ d.past)
         ⊎ ((next : Happening) × ((frame : Frame) × (answer : Option ℕ) × (next ≡ Sent frame answer)
-        × IsNext (start_of b.journal) d.past next) × (past ≡ next ∷ d.past))
-        → IsSat limit found (record { start = start_of b.journal; past = past }) left
+        × IsNext begins d.past next) × (past ≡ next ∷ d.past))
+        → Sat past
     frames keeps (inl is_trace) = sat_still past finished (still keeps) (inl is_trace)
     frames keeps (inr (next, (frame, answer, is_sent, is_next), is_more)) =
-        sat_still past finished (still keeps) (inr (Sent frame answer, tt, rw is_sent at is_next, rw is_sent at is_more))
+        sat_still past finished (still keeps)
+        (inr (Sent frame answer, tt, rw is_sent at is_next, rw is_sent at is_more))
 
-    by : (f : DriveFault) (rest : List Contents) → BrokenOff (start_of b.journal) d.past rest f d.middle last
-        → MayHaveHappened (start_of b.journal) d.past f past → IsSat limit found (record { start = start_of b.journal; past = past }) left
+    by : (f : DriveFault) (rest : List Contents) → BrokenOff begins d.past rest f d.middle last
+        → MayHaveHappened begins d.past f past → Sat past
     by Journal rest (entry, next, cut) may = sat_record past entry finished next cut counts may
     by Link rest (frame, next, cut) may = frames (link_keeps frame d.middle last cut) may
     by (Line fault) rest (frame, next, unanswered) may = frames unanswered.journal may
@@ -361,13 +371,13 @@ module _ (limit most : ℕ) (found : List ℕ) (first last : Streams) (is : firs
   -- Something may have happened
 
   counts_still : (past : List Happening) → left ≡ was
-      → ((entry : Record) → past ≡ Kept entry ∷ d.past → ⊥) → KeptWhereWhole (start_of b.journal) d.past past left
+      → ((entry : Record) → past ≡ Kept entry ∷ d.past → ⊥) → KeptWhereWhole begins d.past past left
   counts_still past same none entry next =
       (λ grown. absurd (none entry grown), λ whole. absurd (not_longer was entry (sym same ∙ whole)))
 
-  broke_off : (past : List Happening) → MayHaveHappened (start_of b.journal) d.past fault past → IsFinished past
-      → KeptWhereWhole (start_of b.journal) d.past past left
-      → (past : List Happening) × BrokeOff limit most found (record { start = start_of b.journal; past = past }) left
+  broke_off : (past : List Happening) → MayHaveHappened begins d.past fault past → IsFinished past
+      → KeptWhereWhole begins d.past past left
+      → (past : List Happening) × BrokeOff limit most found (record { start = begins; past = past }) left
   broke_off past happened finished counts = (
     past,
     record {
@@ -389,24 +399,26 @@ module _ (limit most : ℕ) (found : List ℕ) (first last : Streams) (is : firs
   )
 
   abbrev pub Made : Type 0
-  Made = (past : List Happening) × BrokeOff limit most found (record { start = start_of b.journal; past = past }) left
+  Made = (past : List Happening) × BrokeOff limit most found (record { start = begins; past = past }) left
 
   abbrev pub Makes : DriveFault → Type 0
   Makes f =
-      (past : List Happening) → MayHaveHappened (start_of b.journal) d.past f past → IsFinished past
-      → KeptWhereWhole (start_of b.journal) d.past past left → Made
+      (past : List Happening) → MayHaveHappened begins d.past f past → IsFinished past
+      → KeptWhereWhole begins d.past past left → Made
 
   pub some_broken : Made
   some_broken = by fault d.rest d.broken broke_off where
-    trace_alone : left ≡ was → KeptWhereWhole (start_of b.journal) d.past d.past left
+    trace_alone : left ≡ was → KeptWhereWhole begins d.past d.past left
     trace_alone same = counts_still d.past same (λ entry grown. no_newer d.past (Kept entry) grown)
 
-    same_record : (entry other : Record) → IsNext (start_of b.journal) d.past (Kept entry) → IsNext (start_of b.journal) d.past (Kept other)
+    same_record : (entry other : Record) → IsNext begins d.past (Kept entry) → IsNext begins d.past (Kept other)
         → other ≡ entry
     same_record entry other next also =
-        let one : Kept other ≡ Kept entry = one_next (start_of b.journal) d.past (Kept entry) (Kept other) d.driven.legal next also in cc
+        let one : Kept other ≡ Kept entry =
+        one_next begins d.past (Kept entry) (Kept other) d.driven.legal next also in
+        cc
 
-    of_record : (entry : Record) → IsNext (start_of b.journal) d.past (Kept entry) → Makes Journal
+    of_record : (entry : Record) → IsNext begins d.past (Kept entry) → Makes Journal
         → ((count : ℕ) × (count < length (spelling Two entry)) × (left ≡ was ++ take count (spelling Two entry)))
         ⊎ (left ≡ was ++ spelling Two entry) → Made
     of_record entry next make (inr all) =
@@ -415,7 +427,7 @@ module _ (limit most : ℕ) (found : List ℕ) (first last : Streams) (is : firs
         let one = same_record entry other next also in
         (λ grown. rw one all, λ whole. ap (λ (e : Record). Kept e ∷ d.past) (sym one)))
     of_record entry next make (inl (count, less, same)) =
-        make d.past (inl refl) (record_finished (start_of b.journal) d.past entry next)
+        make d.past (inl refl) (record_finished begins d.past entry next)
         (λ other also.
         let one = same_record entry other next also in (
           λ grown. absurd (no_newer d.past (Kept other) grown),
@@ -430,17 +442,17 @@ module _ (limit most : ℕ) (found : List ℕ) (first last : Streams) (is : firs
           )),
         ))
 
-    by : (f : DriveFault) (rest : List Contents) → BrokenOff (start_of b.journal) d.past rest f d.middle last → Makes f → Made
+    of_frame : (f : DriveFault) (frame : Frame) → IsNextFrame begins d.past frame → Keeps d.middle.journal last.journal
+        → Makes f → Made
+    of_frame f frame next keeps make =
+        make d.past (inl refl) (frame_finished begins d.past frame None (next None)) (trace_alone (still keeps))
+
+    by : (f : DriveFault) (rest : List Contents) → BrokenOff begins d.past rest f d.middle last → Makes f → Made
     by Journal rest (entry, next, cut) make = of_record entry next make (part_left entry cut)
-    by Link rest (frame, next, cut) make =
-        make d.past (inl refl) (frame_finished (start_of b.journal) d.past frame None (next None))
-        (trace_alone (still (link_keeps frame d.middle last cut)))
-    by (Line fault) rest (frame, next, unanswered) make =
-        make d.past (inl refl) (frame_finished (start_of b.journal) d.past frame None (next None)) (trace_alone (still unanswered.journal))
-    by End rest (frame, next, unanswered) make =
-        make d.past (inl refl) (frame_finished (start_of b.journal) d.past frame None (next None)) (trace_alone (still unanswered.journal))
-    by TooLong rest (frame, next, unanswered) make =
-        make d.past (inl refl) (frame_finished (start_of b.journal) d.past frame None (next None)) (trace_alone (still unanswered.journal))
+    by Link rest (frame, next, cut) make = of_frame Link frame next (link_keeps frame d.middle last cut) make
+    by (Line fault) rest (frame, next, unanswered) make = of_frame (Line fault) frame next unanswered.journal make
+    by End rest (frame, next, unanswered) make = of_frame End frame next unanswered.journal make
+    by TooLong rest (frame, next, unanswered) make = of_frame TooLong frame next unanswered.journal make
     by NoMemory (order ∷ rest) (finished, _, _, none) make =
         make d.past (inl refl) finished (trace_alone (still none.journal))
     by NoMemory [] never make = absurd never

@@ -40,7 +40,8 @@ returns-clause-driven g c =
       past = i.past;
       driven = i.driven.driven;
       asked =
-          asked_all c.args.moment c.args.orders.now (orders_asked i.past) c.loop-order.order-index c.loop-order-test.false i.orders;
+          asked_all c.args.moment c.args.orders.now (orders_asked i.past) c.loop-order.order-index c.loop-order-test.false
+          i.orders;
       quiet = i.quiet;
       described = i.driven.described;
       follows = i.driven.follows;
@@ -105,7 +106,8 @@ returns-then-not-put_all-clause-broken g c =
         middle = _;
         driven = asks_on start i.past _ _ order c.args.moment i.driven.driven i.quiet described.legal.0;
         asked =
-            asked_so_far c.args.moment all ((order, c.args.moment) ∷ orders_asked i.past) (c.loop-order.order-index + 1) (asked_more c.args.moment all
+            asked_so_far c.args.moment all ((order, c.args.moment) ∷ orders_asked i.past) (c.loop-order.order-index + 1)
+            (asked_more c.args.moment all
             (orders_asked i.past) c.loop-order.order-index _ order c.loop-order-test.true c.order-item.is i.orders);
         broken =
             breaks_saying start (Asked order c.args.moment ∷ i.past) rest _ _ _ _ _ order.id c.in-Ok.reply
@@ -158,7 +160,8 @@ loop-order-preserved g c =
       journal = c.in_ok-work-2.ensures.ok.0;
       settled = c.in_ok-work-2.ensures.settled;
       grown = more_of _ _ _ i.grown c.in_ok-work-2.ensures.grown;
-      moments = then_on g.J.Store.seen g.J.Store.may_leave g.J.Store.moment g.J.Store.left_since _ _ _ i.grown c.in_ok-work-2.ensures.grown i.moments c.in_ok-work-2.ensures.any_moment;
+      moments = then_on g.J.Store.seen g.J.Store.may_leave g.J.Store.moment g.J.Store.left_since _ _ _ i.grown
+          c.in_ok-work-2.ensures.grown i.moments c.in_ok-work-2.ensures.any_moment;
       link_out = c.in_ok-work-2.ensures.ok.1;
       link_in = c.in_ok-work-2.ensures.ok.2;
       out = c.in_ok-work-2.ensures.ok.3;
@@ -170,4 +173,5 @@ returns-in_err-work-2-clause-grown g c = more_of _ _ _ c.loop-order.invariant.gr
 pub returns-in_err-work-2-clause-any_moment : goal.returns-in_err-work-2-clause-any_moment
 returns-in_err-work-2-clause-any_moment g c =
     let i = c.loop-order.invariant in
-    then_on g.J.Store.seen g.J.Store.may_leave g.J.Store.moment g.J.Store.left_since _ _ _ i.grown c.in_err-work-2.ensures.grown i.moments c.in_err-work-2.ensures.any_moment
+    then_on g.J.Store.seen g.J.Store.may_leave g.J.Store.moment g.J.Store.left_since _ _ _ i.grown
+    c.in_err-work-2.ensures.grown i.moments c.in_err-work-2.ensures.any_moment

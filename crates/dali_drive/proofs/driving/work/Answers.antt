@@ -12,7 +12,9 @@ loop-preserved g c = record {
   settled = c.in_ok-advance.ensures.settled;
   grown = more_of _ _ _ c.loop.invariant.grown c.in_ok-advance.ensures.grown;
   moments =
-      then_on g.J.Store.seen g.J.Store.may_leave g.J.Store.moment g.J.Store.left_since _ _ _ c.loop.invariant.grown c.in_ok-advance.ensures.grown c.loop.invariant.moments c.in_ok-advance.ensures.any_moment;
+      then_on g.J.Store.seen g.J.Store.may_leave g.J.Store.moment g.J.Store.left_since _ _ _
+      c.loop.invariant.grown c.in_ok-advance.ensures.grown c.loop.invariant.moments
+      c.in_ok-advance.ensures.any_moment;
   link_out = c.in_ok-advance.ensures.ok.1;
   link_in = c.in_ok-advance.ensures.ok.2;
   out = c.in_ok-advance.ensures.ok.3;
@@ -55,11 +57,13 @@ returns-clause-grown g c = more_of _ _ _ c.loop.invariant.grown c.in_ok-advance.
 
 pub returns-clause-any_moment : goal.returns-clause-any_moment
 returns-clause-any_moment g c =
-    then_on g.J.Store.seen g.J.Store.may_leave g.J.Store.moment g.J.Store.left_since _ _ _ c.loop.invariant.grown c.in_ok-advance.ensures.grown c.loop.invariant.moments c.in_ok-advance.ensures.any_moment
+    then_on g.J.Store.seen g.J.Store.may_leave g.J.Store.moment g.J.Store.left_since _ _ _
+    c.loop.invariant.grown c.in_ok-advance.ensures.grown c.loop.invariant.moments c.in_ok-advance.ensures.any_moment
 
 pub returns-in_err-advance-clause-grown : goal.returns-in_err-advance-clause-grown
 returns-in_err-advance-clause-grown g c = more_of _ _ _ c.loop.invariant.grown c.in_err-advance.ensures.grown
 
 pub returns-in_err-advance-clause-any_moment : goal.returns-in_err-advance-clause-any_moment
 returns-in_err-advance-clause-any_moment g c =
-    then_on g.J.Store.seen g.J.Store.may_leave g.J.Store.moment g.J.Store.left_since _ _ _ c.loop.invariant.grown c.in_err-advance.ensures.grown c.loop.invariant.moments c.in_err-advance.ensures.any_moment
+    then_on g.J.Store.seen g.J.Store.may_leave g.J.Store.moment g.J.Store.left_since _ _ _
+    c.loop.invariant.grown c.in_err-advance.ensures.grown c.loop.invariant.moments c.in_err-advance.ensures.any_moment

@@ -29,10 +29,12 @@ returns-in-Err-drive-clause-broken g c =
 
 pub returns-in-Ok-drive-clause-any_moment : goal.returns-in-Ok-drive-clause-any_moment
 returns-in-Ok-drive-clause-any_moment g c =
-    driven_part g.S.Store.seen g.S.Store.may_leave g.S.Store.moment g.S.Store.left_since c.args.limit c.args.most _ _ _ _
+    driven_part g.S.Store.seen g.S.Store.may_leave g.S.Store.moment g.S.Store.left_since c.args.limit
+    c.args.most _ _ _ _
     c.in-Ok.ensures.journal c.in-Ok.ensures.holds c.in-Ok.ensures.any_moment c.in-Ok-drive.ensures.any_moment
 
 pub returns-in-Err-drive-clause-any_moment : goal.returns-in-Err-drive-clause-any_moment
 returns-in-Err-drive-clause-any_moment g c =
-    driven_part g.S.Store.seen g.S.Store.may_leave g.S.Store.moment g.S.Store.left_since c.args.limit c.args.most _ _ _ _
+    driven_part g.S.Store.seen g.S.Store.may_leave g.S.Store.moment g.S.Store.left_since c.args.limit
+    c.args.most _ _ _ _
     c.in-Ok.ensures.journal c.in-Ok.ensures.holds c.in-Ok.ensures.any_moment c.in-Err-drive.ensures.any_moment

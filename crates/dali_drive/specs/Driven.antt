@@ -103,6 +103,11 @@ pub record Unanswered (frame : Frame) (fault : DriveFault) (old new : Streams) :
   pub answers : TakesLine old.answers new.answers (Err fault)
   pub out : Keeps old.out new.out
 
+-- the fault broke the exchange of this frame off
+abbrev pub BreaksFrame : Frame → DriveFault → Streams → Streams → Type 0
+BreaksFrame frame Link old new = CutFrame frame old new ⊎ Unanswered frame Link old new
+BreaksFrame frame fault old new = Unanswered frame fault old new
+
 -- this frame is next, whatever its answer
 abbrev pub IsNextFrame : Start → List Happening → Frame → Type 0
 IsNextFrame start past frame = (answer : Option ℕ) → IsNext start past (Sent frame answer)
@@ -111,14 +116,14 @@ IsNextFrame start past frame = (answer : Option ℕ) → IsNext start past (Sent
 abbrev pub BrokenOff : Start → List Happening → List Contents → DriveFault → Streams → Streams → Type 0
 BrokenOff start past rest Journal old new = (entry : Record) × IsNext start past (Kept entry) × CutRecord entry old new
 BrokenOff start past rest Link old new =
-    (frame : Frame) × IsNextFrame start past frame × (CutFrame frame old new ⊎ Unanswered frame Link old new)
+    (frame : Frame) × IsNextFrame start past frame × BreaksFrame frame Link old new
 BrokenOff start past (order ∷ rest) NoMemory old new =
     IsFinished past × (is_busy start past ≡ false) × IsReply start past order replies.Taken × NoMore old new
 BrokenOff start past [] NoMemory old new = ⊥
 BrokenOff start past rest Out old new =
     (id : ℕ) × (reply : Reply) × IsNext start past (Answered id reply) × CutReply id reply old new
 BrokenOff start past rest fault old new =
-    (frame : Frame) × IsNextFrame start past frame × Unanswered frame fault old new
+    (frame : Frame) × IsNextFrame start past frame × BreaksFrame frame fault old new
 
 -- What a drive comes to
 
@@ -148,7 +153,7 @@ pub record IsBrokenDrive (start : Start) (orders : List Contents) (moment : ℕ)
 abbrev pub LeavesBetween : Option (List ℕ) → Option (List ℕ) → (List ℕ → Type 0) → Type 0
 LeavesBetween then now may_leave = (c : List ℕ) → may_leave c → IsBetween then now c
 
--- the same, and of the journal a stop leaves all that was kept before the step that was broken off
+-- a drive that a fault broke off; and of the journal a stop leaves all that was kept before the step that was broken off
 pub record BreaksOff (start : Start) (orders : List Contents) (moment : ℕ) (fault : DriveFault)
     (first last : Streams) (may_leave : List ℕ → Type 0) : Type 0 where
   pub drive : IsBrokenDrive start orders moment fault first last

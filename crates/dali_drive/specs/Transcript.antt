@@ -1,5 +1,5 @@
 -- What is written and read along a trace. A trace has the newest happening first.
-use Rattle.std.specs.Prelude.{◌≡◌, ℕ, List, [], ◌∷◌, ◌++◌, Option}
+use Rattle.std.specs.Prelude.{◌≡◌, ℕ, List, [], ◌∷◌, ◌++◌, Option, None}
 use Rattle.std.specs.Io.KnownBytes.{Appends, Consumes}
 use Rattle.dali_journal.specs.declared.version.Version.TheVariants.{Two}
 use Rattle.dali_journal.specs.Spelling.{records_spelling}
@@ -42,6 +42,10 @@ pub record Streams : Type 0 where
 -- the same, in this order
 abbrev pub shown : Option (List ℕ) → Option (List ℕ) → Option (List ℕ) → Option (List ℕ) → Streams
 shown journal link answers out = record { journal = journal; link = link; answers = answers; out = out }
+
+-- what a link shows alone
+abbrev pub link_shown : Option (List ℕ) → Option (List ℕ) → Streams
+link_shown link answers = shown None link answers None
 
 -- From first to last the text of this trace was written and read, and nothing else.
 pub record Transcript (past : List Happening) (first last : Streams) : Type 0 where

@@ -11,10 +11,10 @@ ghost use Rattle.dali_store.specs.Stores.{IsSettled, IsBetween, LeavesOnly};
 ghost use Rattle.dali_drive.specs.WorkedOn.{IsDrivenAt, WorkedOn};
 
 use crate::fault::DriveFault;
-use crate::lines::{read_answer, reply_line};
-use crate::streams::{Sink, Source, put_all, send};
+use crate::lines::reply_line;
+use crate::link::exchange;
+use crate::streams::{Sink, Source, put_all};
 use dali_bank::Order;
-use dali_frame::line_of;
 use dali_store::{Store, keep};
 use dali_writer::{Want, Writer};
 
@@ -59,10 +59,7 @@ fn advance<I: Source, L: Sink, J: Store, O: Sink>(
             writer.kept();
         }
         Want::Send(frame) => {
-            if !send(link_out, &line_of(&frame)) {
-                return Err(DriveFault::Link);
-            }
-            let answer = read_answer(link_in)?;
+            let answer = exchange(&frame, link_in, link_out)?;
             writer.heard(answer);
         }
         Want::Say(id, reply) => {

@@ -7,12 +7,14 @@ mod driving;
 mod fault;
 pub mod laws;
 mod lines;
+mod link;
 mod std_streams;
 mod stored;
 mod streams;
 
 pub use driving::drive;
 pub use fault::DriveFault;
+pub use link::exchange;
 pub use std_streams::{StdSink, StdSource};
 pub use stored::{StoredFault, drive_stored};
 pub use streams::{Got, Sink, Source, put_all};

@@ -27,8 +27,11 @@ impl Access {
     }
 }
 
-// The frames that set bank 1 and a location, and ask both back.
-fn selection(unit: u8, location: u8) -> [Request; 4]
+/// The frames that select a location of memory bank 1 at a unit, and make sure of it: they set DTR1 and DTR0, and ask
+/// each back (IEC 62386-102: memory access).
+///
+/// They are proper where the short address is at most 63.
+pub fn selection(unit: u8, location: u8) -> [Request; 4]
     ensures requests { result ≡ select_requests unit location }
     ensures proper { unit ≤ 63 → All (λ request. IsProper request.frame) result }
 {

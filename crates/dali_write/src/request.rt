@@ -3,9 +3,9 @@ ghost use Rattle.dali_write.specs.Requests.{Meets, byte_after as next_byte};
 
 use dali_frame::Frame;
 
-/// The answer that a frame wants.
+/// The answer that a frame of a try wants (profile).
 #[derive(Clone, Copy, Debug, PartialEq, Eq)]
-pub(crate) enum Wish {
+pub enum Wish {
     /// None: one that comes is passed over.
     Nothing,
     /// This byte.
@@ -15,8 +15,8 @@ pub(crate) enum Wish {
 }
 
 impl Wish {
-    // Whether the answer is as wished.
-    pub(crate) fn is_met(&self, answer: Option<u8>) -> bool
+    /// Whether the answer is as wished.
+    pub fn is_met(&self, answer: Option<u8>) -> bool
         ensures { IsTrue result ↔ Meets self.now answer }
     {
         match self {
@@ -27,11 +27,13 @@ impl Wish {
     }
 }
 
-/// A frame of a try, with the answer that it wants.
+/// A frame of a try, with the answer that it wants (profile).
 #[derive(Clone, Copy, Debug, PartialEq, Eq)]
-pub(crate) struct Request {
-    pub(crate) frame: Frame,
-    pub(crate) wish: Wish,
+pub struct Request {
+    /// The frame.
+    pub frame: Frame,
+    /// The answer without which the try misses.
+    pub wish: Wish,
 }
 
 // The byte that a try has read or written, after one more answer.

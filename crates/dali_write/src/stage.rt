@@ -146,8 +146,8 @@ fn judge_length(updates: &[(u8, u8)], outcome: Option<u8>) -> Stage
     }
 }
 
-// The greatest location of the updates.
-fn greatest_location(updates: &[(u8, u8)]) -> u8
+/// The greatest location of the updates, each a location and a byte; 0 where there are none.
+pub fn greatest_location(updates: &[(u8, u8)]) -> u8
     ensures { result ≡ greatest updates.now }
 {
     let mut greatest = 0;

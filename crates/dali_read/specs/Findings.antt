@@ -1,0 +1,32 @@
+-- What the bytes that were read for an order say of it.
+use Rattle.std.specs.Prelude.{◌≡◌, ◌≢◌, ◌⊎◌, ◌≤◌, ◌<◌, ℕ, List, [], ◌∷◌, ◌++◌, map}
+use Rattle.dali_write.specs.Plans.{greatest}
+use Rattle.dali_read.specs.declared.finding.Finding.{Finding}
+use Rattle.dali_read.specs.declared.finding.Finding.TheVariants.{Same, Other, Short, Format}
+
+-- the bytes that the updates write
+abbrev pub own_bytes : List (ℕ × ℕ) → List ℕ
+own_bytes updates = map (λ update. update.1) updates
+
+-- the first of the bytes are those of the updates; or the first other one is this
+abbrev pub IsFirstOther : List (ℕ × ℕ) → List ℕ → Finding → Type 0
+IsFirstOther updates bytes Same = (more : List ℕ) × (bytes ≡ own_bytes updates ++ more)
+IsFirstOther updates bytes (Other location byte) =
+    (before : List (ℕ × ℕ)) × (own : ℕ) × (behind : List (ℕ × ℕ)) × (more : List ℕ)
+    × (updates ≡ before ++ (location, own) ∷ behind) × (bytes ≡ own_bytes before ++ byte ∷ more) × (byte ≢ own)
+IsFirstOther updates bytes Short = ⊥
+IsFirstOther updates bytes Format = ⊥
+
+-- The first byte is that of 00h. Where an update is at 13h or above the next two are the content format, and else what
+-- follows is that of the updates.
+abbrev pub IsFound : List (ℕ × ℕ) → List ℕ → Finding → Type 0
+IsFound updates bytes Short = (last : ℕ) × (more : List ℕ) × (bytes ≡ last ∷ more) × (last < greatest updates)
+IsFound updates bytes Format =
+    (last : ℕ) × (high : ℕ) × (low : ℕ) × (more : List ℕ) × (bytes ≡ last ∷ high ∷ low ∷ more)
+    × (greatest updates ≤ last) × (0x13 ≤ greatest updates) × ((high ≡ 0x00) × (low ≡ 0x03) → ⊥)
+IsFound updates bytes found = (last : ℕ) × (greatest updates ≤ last) × IsBehind updates bytes last found where
+  IsBehind : List (ℕ × ℕ) → List ℕ → ℕ → Finding → Type 0
+  IsBehind updates bytes last found =
+      ((more : List ℕ) × (bytes ≡ last ∷ more) × (greatest updates < 0x13) × IsFirstOther updates more found)
+      ⊎ ((more : List ℕ) × (bytes ≡ last ∷ 0x00 ∷ 0x03 ∷ more) × (0x13 ≤ greatest updates)
+      × IsFirstOther updates more found)

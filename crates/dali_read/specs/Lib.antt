@@ -1,0 +1,7 @@
+pub mod Blocks
+pub mod Readings
+pub mod Places
+pub mod Findings
+pub mod WhenBlock
+pub mod Shown
+pub mod Counts

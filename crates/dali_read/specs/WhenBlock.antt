@@ -1,0 +1,55 @@
+-- When the bytes of a block read were there, and how long its unit kept its power. Exchanges have the newest first.
+use Rattle.std.specs.Prelude.{◌≡◌, ℕ, ◌+◌, List, ◌++◌, length, slice_get, Some}
+use Rattle.dali_bus.specs.World.{World, byte_at}
+use Rattle.dali_bus.specs.Carry.{WorldStep}
+use Rattle.dali_write.specs.Exchanges.{Exchange}
+use Rattle.dali_write.specs.Worlds.{Run}
+use Rattle.dali_write.specs.WhenRead.{AllBut}
+use Rattle.dali_read.specs.declared.block.Block.{Block}
+use Rattle.dali_read.specs.Blocks.{bytes_of, IsBlockRead}
+
+-- Among the reads of a block, which lead from the first world to the last, so many came before this one. The unit held
+-- the byte at the location in the world in which the read reached it.
+pub record HeldAt (loses : ℕ → Type 0) (each : List Exchange) (first last : World) (unit location index byte : ℕ)
+    : Type 0 where
+  pub newer : List Exchange
+  pub older : List Exchange
+  pub parts : each ≡ newer ++ older
+  pub index_is : length older ≡ index
+  pub reached : World
+  pub before : Run WorldStep loses older first reached
+  pub behind : Run WorldStep loses newer reached last
+  pub held : byte_at reached unit 1 location ≡ Some byte
+
+-- Among these exchanges, which lead from the first world to the last, is a read of the block, answered by the bytes. The
+-- unit held each of them at its place when its read reached it; from the answer to the second frame to that to the last
+-- one it kept its power, while others may have lost theirs; and when that last answer came, all of them were there.
+pub record WhenBlock (loses : ℕ → Type 0) (told : List Exchange) (first last : World) (unit : ℕ) (block : Block)
+    (bytes : List ℕ) : Type 0 where
+  -- what came behind it; its last two frames, its reads, the two before them and its first two; and what came before it
+  pub newer : List Exchange
+  pub back : List Exchange
+  pub each : List Exchange
+  pub middle : List Exchange
+  pub two : List Exchange
+  pub older : List Exchange
+  pub parts : told ≡ newer ++ ((back ++ (each ++ (middle ++ two))) ++ older)
+  pub read : IsBlockRead unit block bytes (back ++ (each ++ (middle ++ two)))
+  pub counts : (length back ≡ 2) × (length each ≡ block.count) × (length middle ≡ 2) × (length two ≡ 2)
+  pub bytes_are : bytes_of each ≡ bytes
+  -- the worlds before it, behind its second frame, before its first read, behind its last read and behind its last frame
+  pub begun : World
+  pub asked : World
+  pub selected : World
+  pub moved : World
+  pub answered : World
+  pub before : Run WorldStep loses older first begun
+  pub asking : Run WorldStep loses two begun asked
+  pub selecting : Run WorldStep (AllBut unit loses) middle asked selected
+  pub reading : Run WorldStep (AllBut unit loses) each selected moved
+  pub asking_back : Run WorldStep (AllBut unit loses) back moved answered
+  pub behind : Run WorldStep loses newer answered last
+  pub held : (index byte : ℕ) → slice_get bytes index ≡ Some byte
+      → HeldAt (AllBut unit loses) each selected moved unit (block.location + index) index byte
+  pub together : (index byte : ℕ) → slice_get bytes index ≡ Some byte
+      → byte_at answered unit 1 (block.location + index) ≡ Some byte

@@ -1,0 +1,46 @@
+ghost use Rattle.std.specs.Prelude.{◌≡◌, ◌≤◌, length, None};
+ghost use Rattle.dali_read.specs.Places.{order_course};
+ghost use Rattle.dali_read.specs.Findings.{IsFound, IsFirstOther};
+
+use dali_bank::Order;
+use dali_write::greatest_location;
+
+/// How the memory bank 1 of an order's unit stands to the order (profile).
+#[derive(Clone, Copy, Debug, PartialEq, Eq, Hash)]
+pub enum Finding {
+    /// Each location that the order writes holds the order's byte.
+    Same,
+    /// This location, the first one that the order writes and that doesn't hold the order's byte, holds this one.
+    Other(u8, u8),
+    /// The bank is too short for the order.
+    Short,
+    /// The content format isn't 0003h, and the order writes from 13h on.
+    Format,
+}
+
+/// What the bytes say of the order that were read for it, in the blocks of `Places::Order`, to the end.
+pub fn compare(order: &Order, bytes: &[u8]) -> Finding
+    requires { order_course order.now.updates bytes.now ≡ None }
+    ensures { IsFound order.now.updates bytes.now result }
+{
+    let updates = order.updates();
+    let greatest = greatest_location(updates);
+    match bytes {
+        [last, ..] if *last < greatest => Finding::Short,
+        [_, bytes @ ..] if greatest < 0x13 => first_other(updates, bytes),
+        [_, 0x00, 0x03, bytes @ ..] => first_other(updates, bytes),
+        _ => Finding::Format,
+    }
+}
+
+// Whether the first bytes are those of the updates, and else the first other one.
+fn first_other(updates: &[(u8, u8)], bytes: &[u8]) -> Finding
+    requires { length updates.now ≤ length bytes.now }
+    ensures { IsFirstOther updates.now bytes.now result }
+{
+    match (updates, bytes) {
+        ([(location, own), ..], [byte, ..]) if byte != own => Finding::Other(*location, *byte),
+        ([_, updates @ ..], [_, bytes @ ..]) => first_other(updates, bytes),
+        _ => Finding::Same,
+    }
+}

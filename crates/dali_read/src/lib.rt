@@ -1,0 +1,12 @@
+//! Reading of memory bank 1, several locations at a time (profile, over IEC 62386-102: memory access): which blocks of
+//! locations are read, by which frames, and what their answers show.
+#![tactic(auto)]
+
+mod block;
+mod finding;
+pub mod laws;
+mod places;
+
+pub use block::Block;
+pub use finding::{Finding, compare};
+pub use places::Places;

@@ -19,6 +19,7 @@ pub enum Finding {
 }
 
 /// What the bytes say of the order that were read for it, in the blocks of `Places::Order`, to the end.
+#[tactic(auto, using(crate::proofs::FindingLemmas::enough_plain, crate::proofs::FindingLemmas::enough_formatted, crate::proofs::FindingLemmas::found_plain, crate::proofs::FindingLemmas::found_formatted))]
 pub fn compare(order: &Order, bytes: &[u8]) -> Finding
     requires { order_course order.now.updates bytes.now ≡ None }
     ensures { IsFound order.now.updates bytes.now result }
@@ -38,9 +39,15 @@ fn first_other(updates: &[(u8, u8)], bytes: &[u8]) -> Finding
     requires { length updates.now ≤ length bytes.now }
     ensures { IsFirstOther updates.now bytes.now result }
 {
-    match (updates, bytes) {
-        ([(location, own), ..], [byte, ..]) if byte != own => Finding::Other(*location, *byte),
-        ([_, updates @ ..], [_, bytes @ ..]) => first_other(updates, bytes),
-        _ => Finding::Same,
+    let [(location, own), updates @ ..] = updates else {
+        return Finding::Same;
+    };
+    let [byte, bytes @ ..] = bytes else {
+        return Finding::Same;
+    };
+    if byte == own {
+        first_other(updates, bytes)
+    } else {
+        Finding::Other(*location, *byte)
     }
 }

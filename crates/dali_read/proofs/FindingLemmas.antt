@@ -1,0 +1,119 @@
+-- How the bytes of an order are compared, from the first one on.
+use Rattle.std.proofs.Common.{◌≡◌, ◌≢◌, ◌≤◌, ◌<◌, ◌-◌, ◌∙◌, inl, inr, refl, sym, ap, subst, ℕ, zero, suc, List, [], ◌∷◌, ◌++◌}
+use Rattle.std.proofs.Common.{length, take, drop, Bool, true, false, Option, Some, None, nat_lt, if◌then◌else◌, slice_index_or, arith}
+use Rattle.std.proofs.lemmas.List.{take_all, length-drop}
+use Rattle.std.proofs.lemmas.Bool.{lt-ltb, le-ltb}
+use Rattle.dali_write.specs.Plans.{greatest}
+use Rattle.dali_read.specs.declared.block.Block.{Block}
+use Rattle.dali_read.specs.declared.finding.Finding.{Finding}
+use Rattle.dali_read.specs.declared.finding.Finding.TheVariants.{Same, Other, Short, Format}
+use Rattle.dali_read.specs.Findings.{own_bytes, IsFirstOther, IsFound}
+use Rattle.dali_read.specs.Places.{row_of, order_course}
+
+-- the elements behind the first so many
+abbrev pub behind : {A : Type 0} → ℕ → List A → List A
+behind count xs = take (length xs - count) (drop count xs)
+
+behind_is : {A : Type 0} (count : ℕ) (xs : List A) → behind count xs ≡ drop count xs
+behind_is count xs = let long = length-drop count xs in take_all (length xs - count) (drop count xs) (omega (arith, long))
+
+pub no_updates : (updates : List (ℕ × ℕ)) (bytes : List ℕ) → length updates < 1 → IsFirstOther updates bytes Same
+no_updates [] bytes none = (bytes, refl)
+no_updates (update ∷ updates) bytes none = absurd (omega arith)
+
+-- what is so of those behind the first one is so of all, where that one is the update's own
+further : (update : ℕ × ℕ) (updates : List (ℕ × ℕ)) (bytes : List ℕ) (finding : Finding)
+    → IsFirstOther updates bytes finding → IsFirstOther (update ∷ updates) (update.1 ∷ bytes) finding
+further update updates bytes Same (more, is) = (more, ap (λ (l : List ℕ). update.1 ∷ l) is)
+further update updates bytes (Other location byte) (before, own, behind, more, splits, is, other) = (
+  update ∷ before,
+  own,
+  behind,
+  more,
+  ap (λ (l : List (ℕ × ℕ)). update ∷ l) splits,
+  ap (λ (l : List ℕ). update.1 ∷ l) is,
+  other,
+)
+further update updates bytes Short never = never
+further update updates bytes Format never = never
+
+pub first_is_own : (updates : List (ℕ × ℕ)) (bytes : List ℕ) (finding : Finding) → 1 ≤ length updates
+    → 1 ≤ length bytes → slice_index_or bytes 0 0 ≡ (slice_index_or updates 0 (0, 0)).1
+    → IsFirstOther (behind 1 updates) (behind 1 bytes) finding → IsFirstOther updates bytes finding
+first_is_own [] bytes finding some more own rest = absurd (omega arith)
+first_is_own (update ∷ updates) [] finding some more own rest = absurd (omega arith)
+first_is_own (update ∷ updates) (byte ∷ bytes) finding some more own rest =
+    rw own (further update updates bytes finding
+    (subst (λ (l : List ℕ). IsFirstOther updates l finding) (behind_is 1 (byte ∷ bytes))
+    (subst (λ (l : List (ℕ × ℕ)). IsFirstOther l (behind 1 (byte ∷ bytes)) finding) (behind_is 1 (update ∷ updates))
+    rest)))
+
+pub first_is_other : (updates : List (ℕ × ℕ)) (bytes : List ℕ) → 1 ≤ length updates → 1 ≤ length bytes
+    → slice_index_or bytes 0 0 ≢ (slice_index_or updates 0 (0, 0)).1
+    → IsFirstOther updates bytes (Other (slice_index_or updates 0 (0, 0)).0 (slice_index_or bytes 0 0))
+first_is_other [] bytes some more other = absurd (omega arith)
+first_is_other (update ∷ updates) [] some more other = absurd (omega arith)
+first_is_other (update ∷ updates) (byte ∷ bytes) some more other = ([], update.1, updates, bytes, refl, refl, other)
+
+-- where no row is left, none of the updates is
+row_over : (updates : List (ℕ × ℕ)) (count : ℕ) → row_of (drop count updates) ≡ None → length updates ≤ count
+row_over [] count over = omega arith
+row_over (update ∷ updates) zero over = cc
+row_over (update ∷ updates) (suc count) over = let rest = row_over updates count over in omega arith
+
+-- the updates have a byte each, behind that of 00h
+pub enough_plain : (updates : List (ℕ × ℕ)) (bytes : List ℕ) → order_course updates bytes ≡ None → 1 ≤ length bytes
+    → greatest updates ≤ slice_index_or bytes 0 0
+    → greatest updates < 0x13 → length updates ≤ length (behind 1 bytes)
+enough_plain updates [] over some reaches plain = absurd (omega arith)
+enough_plain updates (last ∷ more) over some reaches plain =
+    let row : row_of (drop (length more) updates) ≡ None =
+    rw (le-ltb last (greatest updates) reaches, lt-ltb (greatest updates) 0x13 plain) at over in
+    let all = ap (λ (l : List ℕ). length l) (behind_is 1 (last ∷ more)) in
+    let count = row_over updates (length more) row in
+    omega arith
+
+-- or behind the content format
+pub enough_formatted : (updates : List (ℕ × ℕ)) (bytes : List ℕ) → order_course updates bytes ≡ None
+    → 3 ≤ length bytes → greatest updates ≤ slice_index_or bytes 0 0 → 0x13 ≤ greatest updates
+    → slice_index_or bytes 1 0 ≡ 0x00 → slice_index_or bytes 2 0 ≡ 0x03 → length updates ≤ length (behind 3 bytes)
+enough_formatted updates [] over some reaches late high low = absurd (omega arith)
+enough_formatted updates (last ∷ []) over some reaches late high low = absurd (omega arith)
+enough_formatted updates (last ∷ first ∷ []) over some reaches late high low = absurd (omega arith)
+enough_formatted updates (last ∷ first ∷ second ∷ more) over some reaches late high low =
+    let row : row_of (drop (length more) updates) ≡ None =
+    rw (le-ltb last (greatest updates) reaches, le-ltb (greatest updates) 0x13 late, high, low) at over in
+    let all = ap (λ (l : List ℕ). length l) (behind_is 3 (last ∷ first ∷ second ∷ more)) in
+    let count = row_over updates (length more) row in
+    omega arith
+
+pub found_plain : (updates : List (ℕ × ℕ)) (bytes : List ℕ) (finding : Finding) → 1 ≤ length bytes
+    → greatest updates ≤ slice_index_or bytes 0 0 → greatest updates < 0x13
+    → IsFirstOther updates (behind 1 bytes) finding → IsFound updates bytes finding
+found_plain updates [] finding some reaches plain is = absurd (omega arith)
+found_plain updates (last ∷ more) finding some reaches plain is =
+    by finding (subst (λ (l : List ℕ). IsFirstOther updates l finding) (behind_is 1 (last ∷ more)) is)
+  where
+    by : (finding : Finding) → IsFirstOther updates more finding → IsFound updates (last ∷ more) finding
+    by Same is = (last, reaches, inl (more, refl, plain, is))
+    by (Other location byte) is = (last, reaches, inl (more, refl, plain, is))
+    by Short never = absurd never
+    by Format never = absurd never
+
+pub found_formatted : (updates : List (ℕ × ℕ)) (bytes : List ℕ) (finding : Finding) → 3 ≤ length bytes
+    → greatest updates ≤ slice_index_or bytes 0 0 → 0x13 ≤ greatest updates
+    → slice_index_or bytes 1 0 ≡ 0x00 → slice_index_or bytes 2 0 ≡ 0x03
+    → IsFirstOther updates (behind 3 bytes) finding → IsFound updates bytes finding
+found_formatted updates [] finding some reaches late high low is = absurd (omega arith)
+found_formatted updates (last ∷ []) finding some reaches late high low is = absurd (omega arith)
+found_formatted updates (last ∷ first ∷ []) finding some reaches late high low is = absurd (omega arith)
+found_formatted updates (last ∷ first ∷ second ∷ more) finding some reaches late high low is =
+    rw (high, low) (by finding
+    (subst (λ (l : List ℕ). IsFirstOther updates l finding) (behind_is 3 (last ∷ first ∷ second ∷ more)) is))
+  where
+    by : (finding : Finding) → IsFirstOther updates more finding
+        → IsFound updates (last ∷ 0x00 ∷ 0x03 ∷ more) finding
+    by Same is = (last, reaches, inr (more, refl, late, is))
+    by (Other location byte) is = (last, reaches, inr (more, refl, late, is))
+    by Short never = absurd never
+    by Format never = absurd never

@@ -1,5 +1,5 @@
 -- How a driven trace grows, and how it is broken off.
-use Rattle.std.proofs.Common.{◌≡◌, ◌<◌, ◌≤◌, ◌+◌, ◌∙◌, refl, sym, ap, get_or, inl, inr, ℕ, suc, List, [], ◌∷◌, ◌++◌}
+use Rattle.std.proofs.Common.{◌≡◌, ◌<◌, ◌≤◌, ◌+◌, ◌∙◌, refl, sym, ap, subst, get_or, inl, inr, ℕ, suc, List, [], ◌∷◌, ◌++◌}
 use Rattle.std.proofs.Common.{Option, Ok, Err, false, length, take, drop, drop-cons, reverse}
 use Rattle.std.proofs.lemmas.List.{take_more, take_all, take-append-drop, reverse-append, reverse-reverse}
 use Rattle.std.specs.Io.KnownBytes.{Appends}
@@ -24,9 +24,9 @@ use Rattle.dali_writer.specs.WriterState.{WriterState}
 use Rattle.dali_writer.specs.Describes.{Describes}
 use Rattle.dali_writer.specs.Follows.{Follows}
 use Rattle.dali_drive.specs.WorkedOn.{IsDrivenAt}
-use Rattle.dali_drive.specs.Lines.{link_line, TakesLine}
-use Rattle.dali_drive.specs.Transcript.{Streams, Transcript, shown}
-use Rattle.dali_drive.specs.Driven.{at_moment, IsInTurn, KeepsRecords, IsDriven, IsNextFrame, BrokenOff, AppendsPart}
+use Rattle.dali_drive.specs.Lines.{link_line, IsAnswerLine, TakesLine}
+use Rattle.dali_drive.specs.Transcript.{Streams, Transcript, shown, link_shown}
+use Rattle.dali_drive.specs.Driven.{at_moment, IsInTurn, KeepsRecords, IsDriven, IsNextFrame, BreaksFrame, BrokenOff, AppendsPart}
 
 -- nothing has happened yet
 driven_nothing : (start : Start) (j l a o : Option (List ℕ)) → Legal start []
@@ -82,19 +82,31 @@ keeps_on start past first j more l a o entry d next range added =
       out = d.text.out;
     })
 
+-- the line of one answer
+only_line : (answer : Option ℕ) (heard before last : List ℕ) → before ≡ [] → IsAnswerLine answer last
+    → heard ≡ before ++ last → IsAnswerLine answer heard
+only_line answer heard before last none line is =
+    subst (λ (l : List ℕ). IsAnswerLine answer l) (sym (is ∙ ap (λ (l : List ℕ). l ++ last) none)) line
+
 pub sends_on : (start : Start) (past : List Happening) (first : Streams) (j l more a less o : Option (List ℕ))
     (frame : Frame) (answer : Option ℕ)
     → IsDriven start past first (shown j l a o) → IsNext start past (Sent frame answer)
-    → Appends l more (link_line frame) → TakesLine a less (Ok answer)
+    → Transcript (Sent frame answer ∷ []) (link_shown l a) (link_shown more less)
     → IsDriven start (Sent frame answer ∷ past) first (shown j more less o)
-sends_on start past first j l more a less o frame answer d next added taken =
+sends_on start past first j l more a less o frame answer d next one =
     goes_on start past (Sent frame answer) first (shown j l a o) (shown j more less o) d next tt (λ t. t)
     (record {
-      heard = d.text.heard ++ taken.0;
-      lines = (d.text.heard, taken.0, d.text.lines, taken.1, refl);
+      heard = d.text.heard ++ one.heard;
+      lines = (
+            d.text.heard,
+            one.heard,
+            d.text.lines,
+            only_line answer one.heard one.lines.0 one.lines.1 one.lines.2 one.lines.3 one.lines.4,
+            refl,
+          );
       journal = d.text.journal;
-      link = Appends-trans _ _ _ _ _ d.text.link added;
-      answers = Consumes-trans _ _ _ _ _ d.text.answers taken.2;
+      link = Appends-trans _ _ _ _ _ d.text.link one.link;
+      answers = Consumes-trans _ _ _ _ _ d.text.answers one.answers;
       out = d.text.out;
     })
 
@@ -218,20 +230,25 @@ breaks_record start past rest j more l a o entry next range cut = (
   },
 )
 
-pub breaks_frame : (start : Start) (past : List Happening) (rest : List Contents) (j l more a o : Option (List ℕ))
-    (frame : Frame)
+-- a fault broke the exchange of the frame that is next off
+pub breaks_exchange : (fault : DriveFault) (start : Start) (past : List Happening) (rest : List Contents)
+    (j l more a less o : Option (List ℕ)) (frame : Frame)
     → IsNextFrame start past frame
-    → IsCut l more (link_line frame) → BrokenOff start past rest Link (shown j l a o) (shown j more a o)
-breaks_frame start past rest j l more a o frame next cut = (
-  frame,
-  next,
-  inl (record {
-    journal = Keeps-refl j;
-    link = part_of_it l more (link_line frame) cut;
-    answers = Keeps-refl a;
-    out = Keeps-refl o;
-  }),
-)
+    → BreaksFrame frame fault (link_shown l a) (link_shown more less)
+    → BrokenOff start past rest fault (shown j l a o) (shown j more less o)
+breaks_exchange Journal start past rest j l more a less o frame next broken = absurd broken.answers
+breaks_exchange NoMemory start past rest j l more a less o frame next broken = absurd broken.answers
+breaks_exchange Out start past rest j l more a less o frame next broken = absurd broken.answers
+breaks_exchange Link start past rest j l more a less o frame next (inl cut) =
+    (frame, next, inl (record { journal = Keeps-refl j; link = cut.link; answers = cut.answers; out = Keeps-refl o }))
+breaks_exchange Link start past rest j l more a less o frame next (inr none) =
+    (frame, next, inr (record { journal = Keeps-refl j; link = none.link; answers = none.answers; out = Keeps-refl o }))
+breaks_exchange (Line fault) start past rest j l more a less o frame next none =
+    (frame, next, record { journal = Keeps-refl j; link = none.link; answers = none.answers; out = Keeps-refl o })
+breaks_exchange End start past rest j l more a less o frame next none =
+    (frame, next, record { journal = Keeps-refl j; link = none.link; answers = none.answers; out = Keeps-refl o })
+breaks_exchange TooLong start past rest j l more a less o frame next none =
+    (frame, next, record { journal = Keeps-refl j; link = none.link; answers = none.answers; out = Keeps-refl o })
 
 pub breaks_saying : (start : Start) (past : List Happening) (rest : List Contents) (j l a o more : Option (List ℕ))
     (id : ℕ) (reply : Reply)
@@ -260,20 +277,3 @@ breaks_memory start past order rest j l a o finished quiet due = (
   due,
   record { journal = Keeps-refl j; link = Keeps-refl l; answers = Keeps-refl a; out = Keeps-refl o },
 )
-
-pub breaks_reading : (fault : DriveFault) (start : Start) (past : List Happening) (rest : List Contents)
-    (j l more a less o : Option (List ℕ)) (frame : Frame)
-    → IsNextFrame start past frame
-    → Appends l more (link_line frame) → TakesLine a less (Err fault)
-    → BrokenOff start past rest fault (shown j l a o) (shown j more less o)
-breaks_reading Journal start past rest j l more a less o frame next added taken = absurd taken
-breaks_reading NoMemory start past rest j l more a less o frame next added taken = absurd taken
-breaks_reading Out start past rest j l more a less o frame next added taken = absurd taken
-breaks_reading Link start past rest j l more a less o frame next added taken =
-    (frame, next, inr (record { journal = Keeps-refl j; link = added; answers = taken; out = Keeps-refl o }))
-breaks_reading (Line fault) start past rest j l more a less o frame next added taken =
-    (frame, next, record { journal = Keeps-refl j; link = added; answers = taken; out = Keeps-refl o })
-breaks_reading End start past rest j l more a less o frame next added taken =
-    (frame, next, record { journal = Keeps-refl j; link = added; answers = taken; out = Keeps-refl o })
-breaks_reading TooLong start past rest j l more a less o frame next added taken =
-    (frame, next, record { journal = Keeps-refl j; link = added; answers = taken; out = Keeps-refl o })

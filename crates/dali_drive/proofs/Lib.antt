@@ -6,3 +6,4 @@ pub mod KillLemmas
 pub mod RepeatLemmas
 pub mod WorkedDriveLemmas
 pub mod WorkedSittingLemmas
+pub mod ReadingLemmas

@@ -4,6 +4,7 @@ pub mod StdStreams
 pub mod Lines
 pub mod Transcript
 pub mod Driven
+pub mod UnitRead
 pub mod WorkedOn
 pub mod Stored
 pub mod Sittings

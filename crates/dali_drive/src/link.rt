@@ -1,4 +1,5 @@
 ghost use Rattle.std.specs.Prelude.{◌≡◌, ◌∷◌, [], IfOk, IfErr, OnOk, false};
+ghost use Rattle.dali_frame.specs.Frame.{IsProper};
 ghost use Rattle.dali_trace.specs.declared.happening.Happening.TheVariants.{Sent};
 ghost use Rattle.dali_drive.specs.Transcript.{Transcript, link_shown};
 ghost use Rattle.dali_drive.specs.Driven.{BreaksFrame, FailedAs};
@@ -11,8 +12,8 @@ use dali_frame::{Frame, line_of};
 /// Sends a frame over a link, and gives what came back (profile): the byte that was answered, or none.
 ///
 /// The frame's line is written to `link_out` and flushed, and then one line is read from `link_in`: the answer, `--` or
-/// two hexadecimal digits, ended by a line feed, before which a carriage return is dropped. No stream of the link may
-/// have failed.
+/// two hexadecimal digits, ended by a line feed, before which a carriage return is dropped. The frame has to be proper,
+/// and no stream of the link may have failed.
 ///
 /// `Link`, `Line`, `End` and `TooLong` say what ended it.
 pub fn exchange<I: Source, L: Sink>(
@@ -20,6 +21,7 @@ pub fn exchange<I: Source, L: Sink>(
     link_in: &mut I,
     link_out: &mut L,
 ) -> Result<Option<u8>, DriveFault>
+    requires proper { IsProper frame.now }
     requires link_in { I.failed link_in.old ≡ false }
     requires link_out { L.failed link_out.old ≡ false }
     ensures told { IfOk result (λ answer. Transcript (Sent frame.now answer ∷ [])

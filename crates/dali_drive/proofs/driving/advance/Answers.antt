@@ -3,8 +3,8 @@ use Rattle.std.proofs.lemmas.Result.{err_from_is_err_and}
 use Rattle.std.specs.Io.KnownBytes.{Appends}
 use Rattle.dali_trace.specs.declared.happening.Happening.TheVariants.{Kept, Sent, Answered}
 use Rattle.dali_trace.specs.Replies.{reply_line}
-use Rattle.dali_drive.proofs.DriveLemmas.{keeps_on, sends_on, says_on, breaks_record, breaks_frame, breaks_saying}
-use Rattle.dali_drive.proofs.DriveLemmas.{breaks_reading, IsCut}
+use Rattle.dali_drive.proofs.DriveLemmas.{keeps_on, sends_on, says_on, breaks_record, breaks_exchange, breaks_saying}
+use Rattle.dali_drive.proofs.DriveLemmas.{IsCut}
 use Rattle.dali_store.proofs.Betweens.{settled_between}
 use Rattle.dali_drive.proofs.StoreLemmas.{untouched}
 use Rattle.dali_drive.proofs.driving.advance.Goals as goal
@@ -23,29 +23,16 @@ returns-then-not-keep-clause-worked g c = λ start past first d.
       asked_are = refl;
     }
 
-pub returns-then-not-send-clause-worked : goal.returns-then-not-send-clause-worked
-returns-then-not-send-clause-worked g c = λ start past first d. record {
-  past = past;
-  middle = _;
-  driven = d.driven;
-  broken = λ rest. breaks_frame start past rest _ _ _ _ _ c.in-Send.frame
-      (λ answer. c.in-Send.ensures.done start past d.described d.follows (Sent c.in-Send.frame answer) (answer, refl))
-      (subst (IsCut _ _) c.line_of.ensures.line (c.if-not-send.ensures.cut refl));
-  left = settled_between _ _ c.requires.settled;
-  asked_are = refl;
-}
-
 pub returns-in_err-answer-in-Send-clause-worked : goal.returns-in_err-answer-in-Send-clause-worked
 returns-in_err-answer-in-Send-clause-worked g c = λ start past first d.
     let p = err_from_is_err_and c.from_residual.result c.from_residual.ensures.1 in rw (p.1, p.2) (record {
       past = past;
       middle = _;
       driven = d.driven;
-      broken = λ rest. breaks_reading c.in_err-answer-in-Send.field-0.0 start past rest _ _ _ _ _ _ c.in-Send.frame
+      broken = λ rest. breaks_exchange c.in_err-answer-in-Send.field-0.0 start past rest _ _ _ _ _ _ c.in-Send.frame
           (λ answer.
           c.in-Send.ensures.done start past d.described d.follows (Sent c.in-Send.frame answer) (answer, refl))
-          (subst (Appends _ _) c.line_of.ensures.line (c.if-not-send.ensures.whole refl))
-          c.in_err-answer-in-Send.ensures.line;
+          c.in_err-answer-in-Send.ensures.broken;
       left = settled_between _ _ c.requires.settled;
       asked_are = refl;
     })
@@ -86,8 +73,7 @@ returns-in_ok-answer-in-Send-clause-worked g c = λ start past first d.
       record {
         driven = sends_on start past first _ _ _ _ _ _ frame answer d.driven
             (c.in-Send.ensures.done start past d.described d.follows (Sent frame answer) (answer, refl))
-            (subst (Appends _ _) c.line_of.ensures.line (c.if-not-send.ensures.whole refl))
-            c.in_ok-answer-in-Send.ensures.line;
+            c.in_ok-answer-in-Send.ensures.told;
         described = c.heard.ensures.described start past frame (sym c.in-Send.ensures.phase) d.described;
         follows = c.heard.ensures.follows start past frame (sym c.in-Send.ensures.phase) d.described d.follows;
       },
@@ -114,8 +100,8 @@ returns-in-Idle-clause-any_moment g c =
     untouched g.J.Store.seen g.J.Store.may_leave g.J.Store.moment g.J.Store.left_since c.args.journal_out.now
     c.requires.settled (g.met.J.Store.only_now c.args.journal_out.now)
 
-pub returns-then-not-send-clause-any_moment : goal.returns-then-not-send-clause-any_moment
-returns-then-not-send-clause-any_moment g c =
+pub returns-in_err-answer-in-Send-clause-any_moment : goal.returns-in_err-answer-in-Send-clause-any_moment
+returns-in_err-answer-in-Send-clause-any_moment g c =
     untouched g.J.Store.seen g.J.Store.may_leave g.J.Store.moment g.J.Store.left_since c.args.journal_out.now
     c.requires.settled (g.met.J.Store.only_now c.args.journal_out.now)
 

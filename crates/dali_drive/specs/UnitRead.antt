@@ -1,0 +1,98 @@
+-- Readings of a unit over a link.
+use Rattle.std.specs.Prelude.{◌≡◌, ℕ, List, ◌∷◌, Option, drop, map}
+use Rattle.dali_frame.specs.declared.forward.Frame.{Frame}
+use Rattle.dali_trace.specs.declared.happening.Happening.TheVariants.{Sent}
+use Rattle.dali_write.specs.Exchanges.{Exchange}
+use Rattle.dali_write.specs.Tries.{Trying, Missed, Misses}
+use Rattle.dali_write.specs.declared.request.Request.{Request}
+use Rattle.dali_read.specs.declared.block.Block.{Block}
+use Rattle.dali_read.specs.Blocks.{block_requests, bytes_of, IsBlockRead, Succeeds, Fails, Stands}
+use Rattle.dali_read.specs.Readings.{Course, Done, InTurn, Ends, IsReading, bytes_in, told_in}
+use Rattle.dali_drive.specs.declared.fault.DriveFault.{DriveFault}
+use Rattle.dali_drive.specs.Transcript.{Streams, Transcript}
+use Rattle.dali_drive.specs.Driven.{BreaksFrame}
+
+-- From first to last the lines of these exchanges were written and read, and nothing else; the newest comes first.
+abbrev pub LinkText : List Exchange → Streams → Streams → Type 0
+LinkText told first last = Transcript (map (λ x. Sent x.frame x.answer) told) first last
+
+-- after these exchanges the fault broke that of the frame off
+pub record BreaksAfter (told : List Exchange) (frame : Frame) (fault : DriveFault) (first last : Streams) : Type 0 where
+  pub middle : Streams
+  pub text : LinkText told first middle
+  pub broken : BreaksFrame frame fault middle last
+
+-- One try of a block
+
+-- it told these bytes so far, and the requests from this number on are left
+pub record TriedTo (unit : ℕ) (block : Block) (bytes : List ℕ) (number : ℕ) (first last : Streams) : Type 0 where
+  pub told : List Exchange
+  pub try : Trying (block_requests unit block) told (drop number (block_requests unit block))
+  pub bytes_are : bytes_of told ≡ bytes
+  pub text : LinkText told first last
+
+-- it came to its end and told these bytes
+pub record TryTold (unit : ℕ) (block : Block) (bytes : List ℕ) (first last : Streams) : Type 0 where
+  pub told : List Exchange
+  pub read : IsBlockRead unit block bytes told
+  pub text : LinkText told first last
+
+-- it missed
+pub record TryMissed (unit : ℕ) (block : Block) (first last : Streams) : Type 0 where
+  pub told : List Exchange
+  pub missed : Missed (block_requests unit block) told
+  pub text : LinkText told first last
+
+-- a fault broke it off
+pub record TryBroke (unit : ℕ) (block : Block) (fault : DriveFault) (first last : Streams) : Type 0 where
+  pub told : List Exchange
+  pub next : Request
+  pub left : List Request
+  pub try : Trying (block_requests unit block) told (next ∷ left)
+  pub broke : BreaksAfter told next.frame fault first last
+
+-- One block
+
+-- so many tries missed
+pub record MissedSoOften (unit : ℕ) (block : Block) (misses : ℕ) (first last : Streams) : Type 0 where
+  pub told : List Exchange
+  pub misses_are : Misses (block_requests unit block) misses told
+  pub text : LinkText told first last
+
+pub record BlockTold (unit : ℕ) (block : Block) (bytes : List ℕ) (first last : Streams) : Type 0 where
+  pub told : List Exchange
+  pub succeeds : Succeeds unit block bytes told
+  pub text : LinkText told first last
+
+pub record BlockFailed (unit : ℕ) (block : Block) (first last : Streams) : Type 0 where
+  pub told : List Exchange
+  pub fails : Fails unit block told
+  pub text : LinkText told first last
+
+pub record BlockBroke (unit : ℕ) (block : Block) (fault : DriveFault) (first last : Streams) : Type 0 where
+  pub told : List Exchange
+  pub frame : Frame
+  pub stands : Stands unit block told frame
+  pub broke : BreaksAfter told frame fault first last
+
+-- A whole reading
+
+-- these bytes were read so far
+pub record ReadSoFar (unit : ℕ) (course : Course) (bytes : List ℕ) (first last : Streams) : Type 0 where
+  pub done : List Done
+  pub in_turn : InTurn unit course done
+  pub bytes_are : bytes_in done ≡ bytes
+  pub text : LinkText (told_in done) first last
+
+-- it came to its end: with these bytes, or where all tries of a block missed with none
+pub record IsUnitRead (unit : ℕ) (course : Course) (outcome : Option (List ℕ)) (first last : Streams) : Type 0 where
+  pub told : List Exchange
+  pub ends : Ends unit course outcome told
+  pub text : LinkText told first last
+
+-- a fault broke it off
+pub record UnitReadBroke (unit : ℕ) (course : Course) (fault : DriveFault) (first last : Streams) : Type 0 where
+  pub told : List Exchange
+  pub frame : Frame
+  pub reading : IsReading unit course told frame
+  pub broke : BreaksAfter told frame fault first last

@@ -1,0 +1,139 @@
+ghost use Rattle.std.specs.Prelude.{◌≡◌, ◌≤◌, ◌+◌, ◌++◌, Some, None, IfOk, IfErr, OnOk, IfSome, IsNone, length, false};
+ghost use Rattle.dali_read.specs.Blocks.{Fits, read_answer};
+ghost use Rattle.dali_read.specs.Places.{course_of};
+ghost use Rattle.dali_drive.specs.Transcript.{link_shown};
+ghost use Rattle.dali_drive.specs.Driven.{FailedAs};
+ghost use Rattle.dali_drive.specs.UnitRead.{TryTold, TryMissed, TryBroke, BlockTold, BlockFailed, BlockBroke};
+ghost use Rattle.dali_drive.specs.UnitRead.{IsUnitRead, UnitReadBroke};
+
+use crate::fault::DriveFault;
+use crate::link::exchange;
+use crate::streams::{Sink, Source};
+use arrayvec::ArrayVec;
+use dali_frame::Frame;
+use dali_read::{Block, Places};
+
+// The most tries of a block.
+const MOST_TRIES: u8 = 8;
+
+// The most bytes of a block.
+const MOST_OF_BLOCK: usize = 16;
+
+// The most bytes of a bank that can be read.
+const MOST_OF_BANK: usize = 255;
+
+// Keeps what was answered to a read.
+fn keep_answer(bytes: &mut ArrayVec<u8, MOST_OF_BLOCK>, frame: &Frame, answer: Option<u8>)
+    requires { length bytes.old.items + length (read_answer frame.now answer) ≤ 16 }
+    ensures { bytes.new.items ≡ bytes.old.items ++ read_answer frame.now answer }
+{
+    if let (Frame::Read(_), Some(byte)) = (frame, answer) {
+        let _fits = bytes.try_push(byte);
+    }
+}
+
+// Tries to read a block once: its bytes, or none where a frame missed the answer that it wants.
+fn try_block<I: Source, L: Sink>(
+    unit: u8,
+    block: Block,
+    link_in: &mut I,
+    link_out: &mut L,
+) -> Result<Option<ArrayVec<u8, MOST_OF_BLOCK>>, DriveFault>
+    requires unit { unit ≤ 63 }
+    requires fits { Fits block }
+    requires link_in { I.failed link_in.old ≡ false }
+    requires link_out { L.failed link_out.old ≡ false }
+    ensures read { IfOk result (λ outcome. IfSome outcome (λ bytes. TryTold unit block bytes.items
+        (link_shown (L.held link_out.old) (I.left link_in.old))
+        (link_shown (L.held link_out.new) (I.left link_in.new)))) }
+    ensures missed { IfOk result (λ outcome. IsNone outcome → TryMissed unit block
+        (link_shown (L.held link_out.old) (I.left link_in.old))
+        (link_shown (L.held link_out.new) (I.left link_in.new))) }
+    ensures broken { IfErr result (λ fault. TryBroke unit block fault
+        (link_shown (L.held link_out.old) (I.left link_in.old))
+        (link_shown (L.held link_out.new) (I.left link_in.new))) }
+    ensures ok { OnOk result ((I.failed link_in.new ≡ false) × (L.failed link_out.new ≡ false)) }
+    ensures err { IfErr result (λ fault. FailedAs fault false (L.failed link_out.new) (I.failed link_in.new) false) }
+{
+    let mut bytes = ArrayVec::new();
+    let mut number = 0;
+    while let Some(request) = block.request(unit, number) {
+        let answer = exchange(&request.frame, link_in, link_out)?;
+        if !request.wish.is_met(answer) {
+            return Ok(None);
+        }
+        keep_answer(&mut bytes, &request.frame, answer);
+        number += 1;
+    }
+    Ok(Some(bytes))
+}
+
+// Reads a block: its bytes, or none where all tries missed.
+fn read_block<I: Source, L: Sink>(
+    unit: u8,
+    block: Block,
+    link_in: &mut I,
+    link_out: &mut L,
+) -> Result<Option<ArrayVec<u8, MOST_OF_BLOCK>>, DriveFault>
+    requires unit { unit ≤ 63 }
+    requires fits { Fits block }
+    requires link_in { I.failed link_in.old ≡ false }
+    requires link_out { L.failed link_out.old ≡ false }
+    ensures read { IfOk result (λ outcome. IfSome outcome (λ bytes. BlockTold unit block bytes.items
+        (link_shown (L.held link_out.old) (I.left link_in.old))
+        (link_shown (L.held link_out.new) (I.left link_in.new)))) }
+    ensures silent { IfOk result (λ outcome. IsNone outcome → BlockFailed unit block
+        (link_shown (L.held link_out.old) (I.left link_in.old))
+        (link_shown (L.held link_out.new) (I.left link_in.new))) }
+    ensures broken { IfErr result (λ fault. BlockBroke unit block fault
+        (link_shown (L.held link_out.old) (I.left link_in.old))
+        (link_shown (L.held link_out.new) (I.left link_in.new))) }
+    ensures ok { OnOk result ((I.failed link_in.new ≡ false) × (L.failed link_out.new ≡ false)) }
+    ensures err { IfErr result (λ fault. FailedAs fault false (L.failed link_out.new) (I.failed link_in.new) false) }
+{
+    for _ in 0..MOST_TRIES {
+        let outcome = try_block(unit, block, link_in, link_out)?;
+        if outcome.is_some() {
+            return Ok(outcome);
+        }
+    }
+    Ok(None)
+}
+
+/// Reads locations of memory bank 1 of the unit at a short address, at most 63, block by block (profile): gives their
+/// bytes in this order, or none where eight tries of one block missed.
+///
+/// The link is used as by `drive`, and nothing is written to a unit and none is write-enabled: each frame sets DTR0 or
+/// DTR1, asks for one of them or reads. No stream of the link may have failed.
+///
+/// `Link`, `Line`, `End` and `TooLong` say what ended it. It is simply begun anew then.
+pub fn read_unit<I: Source, L: Sink>(
+    unit: u8,
+    places: &Places,
+    link_in: &mut I,
+    link_out: &mut L,
+) -> Result<Option<ArrayVec<u8, MOST_OF_BANK>>, DriveFault>
+    requires unit { unit ≤ 63 }
+    requires link_in { I.failed link_in.old ≡ false }
+    requires link_out { L.failed link_out.old ≡ false }
+    ensures read { IfOk result (λ outcome. IfSome outcome (λ bytes. IsUnitRead unit (course_of places.now)
+        (Some bytes.items) (link_shown (L.held link_out.old) (I.left link_in.old))
+        (link_shown (L.held link_out.new) (I.left link_in.new)))) }
+    ensures silent { IfOk result (λ outcome. IsNone outcome → IsUnitRead unit (course_of places.now) None
+        (link_shown (L.held link_out.old) (I.left link_in.old))
+        (link_shown (L.held link_out.new) (I.left link_in.new))) }
+    ensures broken { IfErr result (λ fault. UnitReadBroke unit (course_of places.now) fault
+        (link_shown (L.held link_out.old) (I.left link_in.old))
+        (link_shown (L.held link_out.new) (I.left link_in.new))) }
+    ensures ok { OnOk result ((I.failed link_in.new ≡ false) × (L.failed link_out.new ≡ false)) }
+    ensures err { IfErr result (λ fault. FailedAs fault false (L.failed link_out.new) (I.failed link_in.new) false) }
+{
+    let mut bytes = ArrayVec::new();
+    while let Some(block) = places.next(&bytes) {
+        let Some(more) = read_block(unit, block, link_in, link_out)? else {
+            return Ok(None);
+        };
+        let _fits = bytes.try_extend_from_slice(&more);
+    }
+    Ok(Some(bytes))
+}

@@ -1,1 +1,3 @@
 pub mod BlockShapeLemmas
+pub mod BlockBytesLemmas
+pub mod BlockLemmas

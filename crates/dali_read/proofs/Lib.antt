@@ -1,3 +1,4 @@
 pub mod BlockShapeLemmas
 pub mod BlockBytesLemmas
 pub mod BlockLemmas
+pub mod QuietLemmas

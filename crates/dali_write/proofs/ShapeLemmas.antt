@@ -42,7 +42,7 @@ drop_next (suc number) [] next left is = cc
 drop_next (suc number) (first ∷ requests) next left is = drop_next number requests next left is
 
 -- those that are left are the last ones
-left_is : (requests : List Request) (tried : List Exchange) (left : List Request) → Trying requests tried left
+pub left_is : (requests : List Request) (tried : List Exchange) (left : List Request) → Trying requests tried left
     → left ≡ drop (length tried) requests
 left_is requests [] left try = try
 left_is requests (x ∷ tried) left try =
@@ -50,7 +50,7 @@ left_is requests (x ∷ tried) left try =
     (left_is requests tried (request x.frame try.0 ∷ left) try.2)
 
 -- a try of the requests before the last ones
-cut : (front back : List Request) (tried : List Exchange) (left : List Request)
+pub cut : (front back : List Request) (tried : List Exchange) (left : List Request)
     → Trying (front ++ back) tried (left ++ back) → Trying front tried left
 cut front back [] left try = append_cancel_right left front back try
 cut front back (x ∷ tried) left try = (try.0, try.1, cut front back tried (request x.frame try.0 ∷ left) try.2)
@@ -60,7 +60,7 @@ pub record Got (x : Exchange) (frame : Frame) (wish : Wish) : Type 0 where
   pub frame_is : x.frame ≡ frame
   pub meets : Meets wish x.answer
 
-got : (x : Exchange) (wish : Wish) (next : Request) → request x.frame wish ≡ next → Meets wish x.answer
+pub got : (x : Exchange) (wish : Wish) (next : Request) → request x.frame wish ≡ next → Meets wish x.answer
     → Got x next.frame next.wish
 got x wish next same meets =
     record {
@@ -68,10 +68,10 @@ got x wish next same meets =
       meets = subst (λ (w : Wish). Meets w x.answer) (ap (λ (l : Request). l.wish) same) meets;
     }
 
-head_is : (x y : Request) (xs ys : List Request) → x ∷ xs ≡ y ∷ ys → x ≡ y
+pub head_is : (x y : Request) (xs ys : List Request) → x ∷ xs ≡ y ∷ ys → x ≡ y
 head_is x y xs ys same = cc
 
-tail_is : (x y : Request) (xs ys : List Request) → x ∷ xs ≡ y ∷ ys → xs ≡ ys
+pub tail_is : (x y : Request) (xs ys : List Request) → x ∷ xs ≡ y ∷ ys → xs ≡ ys
 tail_is x y xs ys same = cc
 
 pub record Selected (unit location : ℕ) (tried : List Exchange) : Type 0 where

@@ -115,7 +115,7 @@ answers_read at old to v new h = told h.obeys where
   told (inr (isnt, ignores)) = let never = ignores.1 in cc
 
 -- what a read tells of a unit that has the bank and the location
-shown : (old : World) (unit location byte : ℕ) (new : World) → Carry old (Read unit) (Some byte) new
+pub shown : (old : World) (unit location byte : ℕ) (new : World) → Carry old (Read unit) (Some byte) new
     → dtr1_in (old unit) ≡ Some 1 → dtr0_in (old unit) ≡ Some location
     → (byte_in (new unit) 1 location ≡ Some byte) × (is_open (new unit) ≡ false)
 shown old unit location byte new carry bank place =
@@ -162,7 +162,7 @@ quiet_byte old frame answer new unit location byte quiet carry holds =
       stays.off holds.1,
     )
 
-shows_now : {loses : ℕ → Type 0} (world : World) (unit location byte : ℕ) (gear : Option Gear) → world unit ≡ gear
+pub shows_now : {loses : ℕ → Type 0} (world : World) (unit location byte : ℕ) (gear : Option Gear) → world unit ≡ gear
     → (byte_in gear 1 location ≡ Some byte) × (is_open gear ≡ false) → Shows loses world unit location byte
 shows_now world unit location byte None is holds = let never = holds.0 in cc
 shows_now world unit location byte (Some gear) is holds =

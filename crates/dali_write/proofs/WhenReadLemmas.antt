@@ -36,11 +36,11 @@ drifts_apart unit first last (Loses {mid = mid} at of_these drifts lost) bank = 
 ]
 
 -- none of the frames sets DTR1
-abbrev AllLeave : List Exchange → Type 0
+abbrev pub AllLeave : List Exchange → Type 0
 AllLeave [] = ⊤
 AllLeave (x ∷ told) = LeavesDtr1 x.frame × AllLeave told
 
-kept_on : (loses : ℕ → Type 0) (unit : ℕ) (told : List Exchange) (first last : World) → AllLeave told
+pub kept_on : (loses : ℕ → Type 0) (unit : ℕ) (told : List Exchange) (first last : World) → AllLeave told
     → Leads WorldStep loses told first last → dtr1_in (last unit) ≡ Some 1
     → Leads WorldStep (AllBut unit loses) told first last × (dtr1_in (first unit) ≡ Some 1)
 kept_on loses unit [] first last leaves run bank = drifts_apart unit first last run bank
@@ -50,7 +50,7 @@ kept_on loses unit (x ∷ told) first last leaves run bank =
     let rest = kept_on loses unit told first run.0 leaves.1 run.2 before in
     ((run.0, run.1, rest.0, run.3, after.0), rest.1)
 
-leaves : (x : Exchange) (frame : Frame) → x.frame ≡ frame → LeavesDtr1 frame → LeavesDtr1 x.frame
+pub leaves : (x : Exchange) (frame : Frame) → x.frame ≡ frame → LeavesDtr1 frame → LeavesDtr1 x.frame
 leaves x frame is so = subst LeavesDtr1 (sym is) so
 
 -- of a checked read with exchanges before it

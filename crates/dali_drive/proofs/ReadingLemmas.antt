@@ -19,6 +19,7 @@ use Rattle.dali_write.specs.declared.request.Wish.TheVariants.{Exactly}
 use Rattle.dali_read.specs.declared.block.Block.{Block}
 use Rattle.dali_read.specs.Blocks.{Fits, block_requests, reads, read_answer, bytes_of, IsBlockRead, Succeeds, Stands}
 use Rattle.dali_read.specs.Readings.{Course, Done, InTurn, bytes_in, told_in, IsRead, IsSilent, IsReading}
+use Rattle.dali_read.proofs.BlockBytesLemmas.{block_count}
 use Rattle.dali_drive.specs.declared.fault.DriveFault.{DriveFault}
 use Rattle.dali_drive.specs.Lines.{IsAnswerLine, link_line}
 use Rattle.dali_drive.specs.Transcript.{Streams, Transcript, AreAnswers, sent_lines, said_lines, recorded}
@@ -130,15 +131,15 @@ at_hand unit block bytes number first mid next t is =
     subst (λ (left : List Request). Trying (block_requests unit block) t.told left)
     (left_from (block_requests unit block) number next is) t.try
 
-pub try_goes_on : (unit : ℕ) (block : Block) (bytes : List ℕ) (number : ℕ) (first mid last : Streams) (next : Request)
-    (answer : Option ℕ)
-    → TriedTo unit block bytes number first mid → slice_get (block_requests unit block) number ≡ Some next
+pub try_goes_on : (unit : ℕ) (block : Block) (bytes all : List ℕ) (number : ℕ) (first mid last : Streams)
+    (next : Request) (answer : Option ℕ)
+    → all ≡ bytes ++ read_answer next.frame answer → TriedTo unit block bytes number first mid → slice_get (block_requests unit block) number ≡ Some next
     → Meets next.wish answer → Transcript (Sent next.frame answer ∷ []) mid last
-    → TriedTo unit block (bytes ++ read_answer next.frame answer) (number + 1) first last
-try_goes_on unit block bytes number first mid last next answer t is meets text = record {
+    → TriedTo unit block all (number + 1) first last
+try_goes_on unit block bytes all number first mid last next answer more t is meets text = record {
   told = record { frame = next.frame; answer = answer } ∷ t.told;
   try = (next.wish, meets, at_hand unit block bytes number first mid next t is);
-  bytes_are = ap (λ (l : List ℕ). l ++ read_answer next.frame answer) t.bytes_are;
+  bytes_are = ap (λ (l : List ℕ). l ++ read_answer next.frame answer) t.bytes_are ∙ sym more;
   text = told_both (record { frame = next.frame; answer = answer } ∷ []) t.told first mid last t.text text;
 }
 
@@ -257,3 +258,139 @@ few_requests unit block number next fits is =
     let count = reads_long unit block.count in
     let all = length-append (reads unit block.count) (asking_back unit block) in
     let most = fits.few in (below, omega arith)
+
+-- One block
+
+pub no_miss : (unit : ℕ) (block : Block) (first : Streams) → MissedSoOften unit block 0 first first
+no_miss unit block first = record { told = []; misses_are = refl; text = told_nothing first }
+
+pub one_miss_more : (unit : ℕ) (block : Block) (misses : ℕ) (first mid last : Streams)
+    → MissedSoOften unit block misses first mid → TryMissed unit block mid last
+    → MissedSoOften unit block (misses + 1) first last
+one_miss_more unit block misses first mid last m t =
+    let same : suc misses ≡ misses + 1 = omega arith in
+    record {
+      told = t.told ++ m.told;
+      misses_are = subst (λ (n : ℕ). Misses (block_requests unit block) n (t.told ++ m.told)) same
+          (t.told, m.told, refl, t.missed, m.misses_are);
+      text = told_both t.told m.told first mid last m.text t.text;
+    }
+
+pub block_told : (unit : ℕ) (block : Block) (bytes : List ℕ) (misses : ℕ) (first mid last : Streams)
+    → MissedSoOften unit block misses first mid → misses < most_tries → TryTold unit block bytes mid last
+    → BlockTold unit block bytes first last
+block_told unit block bytes misses first mid last m few t = record {
+  told = t.told ++ m.told;
+  succeeds = record {
+    tried = t.told;
+    missed = m.told;
+    misses = misses;
+    parts = refl;
+    read = t.read;
+    few = few;
+    misses_are = m.misses_are;
+  };
+  text = told_both t.told m.told first mid last m.text t.text;
+}
+
+pub block_failed : (unit : ℕ) (block : Block) (misses : ℕ) (first last : Streams)
+    → MissedSoOften unit block misses first last → misses ≡ most_tries → BlockFailed unit block first last
+block_failed unit block misses first last m all = record {
+  told = m.told;
+  fails = subst (λ (n : ℕ). Misses (block_requests unit block) n m.told) all m.misses_are;
+  text = m.text;
+}
+
+pub block_breaks : (unit : ℕ) (block : Block) (misses : ℕ) (first mid last : Streams) (fault : DriveFault)
+    → MissedSoOften unit block misses first mid → misses < most_tries → TryBroke unit block fault mid last
+    → BlockBroke unit block fault first last
+block_breaks unit block misses first mid last fault m few t = record {
+  told = t.told ++ m.told;
+  frame = t.next.frame;
+  stands = record {
+    tried = t.told;
+    missed = m.told;
+    misses = misses;
+    next = t.next;
+    left = t.left;
+    parts = refl;
+    few = few;
+    misses_are = m.misses_are;
+    try = t.try;
+    frame_is = refl;
+  };
+  broke = breaks_later t.told m.told t.next.frame fault first mid last m.text t.broke;
+}
+
+-- A whole reading
+
+pub reading_begins : (unit : ℕ) (course : Course) (first : Streams) → ReadSoFar unit course [] first first
+reading_begins unit course first =
+    record { done = []; in_turn = tt; bytes_are = refl; text = told_nothing first }
+
+-- the block that is next, after the bytes that were read
+next_is : (unit : ℕ) (course : Course) (bytes : List ℕ) (first mid : Streams) (block : Block)
+    → (r : ReadSoFar unit course bytes first mid) → course bytes ≡ Some block → course (bytes_in r.done) ≡ Some block
+next_is unit course bytes first mid block r next = ap course r.bytes_are ∙ next
+
+pub reading_goes_on : (unit : ℕ) (course : Course) (bytes more all : List ℕ) (first mid last : Streams) (block : Block)
+    → all ≡ bytes ++ more → ReadSoFar unit course bytes first mid → Fits block → course bytes ≡ Some block
+    → BlockTold unit block more mid last → ReadSoFar unit course all first last
+reading_goes_on unit course bytes more all first mid last block joined r fits next t = record {
+  done = record { block = block; bytes = more; told = t.told } ∷ r.done;
+  in_turn = (r.in_turn, fits, next_is unit course bytes first mid block r next, t.succeeds);
+  bytes_are = ap (λ (l : List ℕ). l ++ more) r.bytes_are ∙ sym joined;
+  text = told_both t.told (told_in r.done) first mid last r.text t.text;
+}
+
+pub reading_ends : (unit : ℕ) (course : Course) (bytes : List ℕ) (first last : Streams)
+    → ReadSoFar unit course bytes first last → course bytes ≡ None
+    → IsUnitRead unit course (Some bytes) first last
+reading_ends unit course bytes first last r over = record {
+  told = told_in r.done;
+  ends = record { done = r.done; in_turn = r.in_turn; bytes_are = r.bytes_are; told_are = refl; over = over };
+  text = r.text;
+}
+
+pub reading_is_silent : (unit : ℕ) (course : Course) (bytes : List ℕ) (first mid last : Streams) (block : Block)
+    → ReadSoFar unit course bytes first mid → Fits block → course bytes ≡ Some block
+    → BlockFailed unit block mid last → IsUnitRead unit course None first last
+reading_is_silent unit course bytes first mid last block r fits next f = record {
+  told = f.told ++ told_in r.done;
+  ends = record {
+    done = r.done;
+    in_turn = r.in_turn;
+    block = block;
+    fits = fits;
+    next = next_is unit course bytes first mid block r next;
+    missed = f.told;
+    fails = f.fails;
+    told_are = refl;
+  };
+  text = told_both f.told (told_in r.done) first mid last r.text f.text;
+}
+
+pub reading_breaks : (unit : ℕ) (course : Course) (bytes : List ℕ) (first mid last : Streams) (block : Block)
+    (fault : DriveFault)
+    → ReadSoFar unit course bytes first mid → Fits block → course bytes ≡ Some block
+    → BlockBroke unit block fault mid last → UnitReadBroke unit course fault first last
+reading_breaks unit course bytes first mid last block fault r fits next b = record {
+  told = b.told ++ told_in r.done;
+  frame = b.frame;
+  reading = record {
+    done = r.done;
+    in_turn = r.in_turn;
+    block = block;
+    fits = fits;
+    next = next_is unit course bytes first mid block r next;
+    tried = b.told;
+    stands = b.stands;
+    told_are = refl;
+  };
+  broke = breaks_later b.told (told_in r.done) b.frame fault first mid last r.text b.broke;
+}
+
+-- a block that was read has told a byte of each of its locations
+pub told_count : (unit : ℕ) (block : Block) (bytes : List ℕ) (first last : Streams)
+    → BlockTold unit block bytes first last → length bytes ≡ block.count
+told_count unit block bytes first last t = block_count unit block bytes t.succeeds.tried t.succeeds.read

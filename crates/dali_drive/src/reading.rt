@@ -92,9 +92,8 @@ fn read_block<I: Source, L: Sink>(
     ensures err { IfErr result (λ fault. FailedAs fault false (L.failed link_out.new) (I.failed link_in.new) false) }
 {
     for _ in 0..MOST_TRIES {
-        let outcome = try_block(unit, block, link_in, link_out)?;
-        if outcome.is_some() {
-            return Ok(outcome);
+        if let Some(bytes) = try_block(unit, block, link_in, link_out)? {
+            return Ok(Some(bytes));
         }
     }
     Ok(None)

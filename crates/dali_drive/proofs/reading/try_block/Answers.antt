@@ -14,7 +14,7 @@ returns-in_err-answer-clause-broken g c =
 pub returns-then-not-is_met-clause-missed : goal.returns-then-not-is_met-clause-missed
 returns-then-not-is_met-clause-missed g c = λ none.
     try_misses c.args.unit c.args.block _ _ _ _ _ c.in-Some.request _ c.loop-request.invariant.tried
-    (sym c.in-Some.ensures.request) (λ meets. c.if-not-is_met.ensures.1 meets) c.in_ok-answer.ensures.told
+    (sym c.in-Some.ensures.request) (λ meets. let never = c.if-not-is_met.ensures.1 meets in cc) c.in_ok-answer.ensures.told
 
 pub keep_answer-requires : goal.keep_answer-requires
 keep_answer-requires g c =
@@ -36,15 +36,14 @@ loop-request-smaller g c =
     omega (arith, few.0)
 
 pub loop-request-preserved : goal.loop-request-preserved
-loop-request-preserved g c =
-    let goes_on = try_goes_on c.args.unit c.args.block _ _ _ _ _ c.in-Some.request c.in_ok-answer.answer
-    c.loop-request.invariant.tried (sym c.in-Some.ensures.request) (c.if-not-is_met.ensures.0 tt)
-    c.in_ok-answer.ensures.told in
-    record {
-      tried = subst (λ (l : List ℕ). TriedTo c.args.unit c.args.block l _ _ _) (sym c.keep_answer.ensures) goes_on;
-      link_out = c.in_ok-answer.ensures.ok.1;
-      link_in = c.in_ok-answer.ensures.ok.0;
-    }
+loop-request-preserved g c = record {
+  tried =
+      try_goes_on c.args.unit c.args.block _ _ _ _ _ _ c.in-Some.request c.in_ok-answer.answer c.keep_answer.ensures
+      c.loop-request.invariant.tried (sym c.in-Some.ensures.request) (c.if-not-is_met.ensures.0 refl)
+      c.in_ok-answer.ensures.told;
+  link_out = c.in_ok-answer.ensures.ok.1;
+  link_in = c.in_ok-answer.ensures.ok.0;
+}
 
 pub returns-clause-read : goal.returns-clause-read
 returns-clause-read g c =

@@ -1,1 +1,2 @@
 pub mod BlockShapeLemmas
+pub mod BlockMissLemmas

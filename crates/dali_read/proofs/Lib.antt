@@ -1,2 +1,5 @@
 pub mod BlockShapeLemmas
+pub mod BlockBytesLemmas
+pub mod BlockLemmas
+pub mod QuietLemmas
 pub mod BlockMissLemmas

@@ -1,13 +1,13 @@
 -- How often block reads miss, and how many frames they take.
-use Rattle.std.proofs.Common.{◌≡◌, refl, sym, ap, subst, ◌∙◌, ℕ, zero, suc, ◌+◌, ◌*◌, ◌≤◌, ◌<◌, List, []}
-use Rattle.std.proofs.Common.{◌∷◌, ◌++◌, append_assoc, length, length-append, arith}
+use Rattle.std.proofs.Common.{◌≡◌, refl, sym, ap, subst, ℕ, zero, suc, ◌+◌, ◌*◌, ◌≤◌, ◌<◌, List, []}
+use Rattle.std.proofs.Common.{◌++◌, append_assoc, length, length-append, arith}
 use Rattle.std.proofs.lemmas.Bool.{ne_eqb}
 use Rattle.std.proofs.lemmas.Nat.{mul-le}
 use Rattle.dali_bus.specs.Hears.{up}
 use Rattle.dali_write.specs.Exchanges.{Exchange}
 use Rattle.dali_write.specs.declared.request.Wish.TheVariants.{Exactly}
 use Rattle.dali_write.specs.Tries.{most_tries, Misses}
-use Rattle.dali_write.specs.Misses.{misses_in}
+use Rattle.dali_write.specs.Misses.{location_in, misses_in}
 use Rattle.dali_write.proofs.ShapeLemmas.{trying_length}
 use Rattle.dali_write.proofs.CountLemmas.{misses_length, times_most}
 use Rattle.dali_write.proofs.MissLemmas.{Apt, trying, missed}
@@ -43,7 +43,9 @@ pub block_misses : (unit : ℕ) (block : Block) (count : ℕ) (told older : List
 block_misses unit block zero told older fits are = rw are (omega arith)
 block_misses unit block (suc count) told older fits are =
     let before = block_misses unit block count are.1 older fits are.4 in
-    let last = missed (block_requests unit block) are.0 (are.1 ++ older) (apt_block unit block _ fits) are.3 in
+    let last =
+    missed (block_requests unit block) are.0 (are.1 ++ older) (apt_block unit block (location_in (are.1 ++ older)) fits)
+    are.3 in
     let joined = append_assoc are.0 are.1 older in
     let same : misses_in (told ++ older) ≡ misses_in (are.0 ++ (are.1 ++ older)) = rw are.2 (ap misses_in joined) in
     omega arith
@@ -55,7 +57,8 @@ pub success_misses : (unit : ℕ) (block : Block) (bytes : List ℕ) (told older
 success_misses unit block bytes told older fits done =
     let before = block_misses unit block done.misses done.missed older fits done.misses_are in
     let last =
-    (trying (block_requests unit block) done.tried [] (done.missed ++ older) (apt_block unit block _ fits) done.read.0).0 in
+    (trying (block_requests unit block) done.tried [] (done.missed ++ older)
+    (apt_block unit block (location_in (done.missed ++ older)) fits) done.read.0).0 in
     let joined = append_assoc done.tried done.missed older in
     let same : misses_in (told ++ older) ≡ misses_in (done.tried ++ (done.missed ++ older)) =
     rw done.parts (ap misses_in joined) in

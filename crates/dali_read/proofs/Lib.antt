@@ -3,3 +3,7 @@ pub mod BlockBytesLemmas
 pub mod BlockLemmas
 pub mod QuietLemmas
 pub mod BlockMissLemmas
+pub mod TurnLemmas
+pub mod BankFramesLemmas
+pub mod RowLemmas
+pub mod OrderFramesLemmas

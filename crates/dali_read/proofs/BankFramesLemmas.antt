@@ -83,7 +83,7 @@ bank_step frames count end more so below is =
     fuller true e here = let less = ltb-true (end - count) 16 e in inr (omega arith)
     fuller false e here = let no_less = ltb-false (end - count) 16 e in inl (omega arith)
 
-if_next : (b : Bool) (x y : Block) → (if b then Some x else None) ≡ Some y → (b ≡ true) × (x ≡ y)
+pub if_next : (b : Bool) (x y : Block) → (if b then Some x else None) ≡ Some y → (b ≡ true) × (x ≡ y)
 if_next true x y e = (refl, cc)
 if_next false x y e = cc
 

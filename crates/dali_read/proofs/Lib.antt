@@ -7,3 +7,6 @@ pub mod TurnLemmas
 pub mod BankFramesLemmas
 pub mod RowLemmas
 pub mod OrderFramesLemmas
+pub mod BlockLossLemmas
+pub mod SparedLemmas
+pub mod StaysLemmas

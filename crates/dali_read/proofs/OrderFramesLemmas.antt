@@ -44,11 +44,11 @@ abbrev OrderSoFar : List (ℕ × ℕ) → ℕ → ℕ → List ℕ → Type 0
 OrderSoFar updates frames last more =
     ((more ≡ []) × (frames ≡ 7)) ⊎ (LowRows updates frames last more ⊎ HighRows updates frames last more)
 
-if_not : (b : Bool) (x : Option Block) (y : Block) → (if b then None else x) ≡ Some y → (b ≡ false) × (x ≡ Some y)
+pub if_not : (b : Bool) (x : Option Block) (y : Block) → (if b then None else x) ≡ Some y → (b ≡ false) × (x ≡ Some y)
 if_not true x y e = cc
 if_not false x y e = (refl, e)
 
-if_so : (b : Bool) (x : Option Block) (y : Block) → (if b then x else None) ≡ Some y → (b ≡ true) × (x ≡ Some y)
+pub if_so : (b : Bool) (x : Option Block) (y : Block) → (if b then x else None) ≡ Some y → (b ≡ true) × (x ≡ Some y)
 if_so true x y e = (refl, e)
 if_so false x y e = cc
 

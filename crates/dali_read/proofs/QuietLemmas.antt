@@ -114,8 +114,8 @@ reads_ask P unit zero back read all = all
 reads_ask P unit (suc count) back read all = (read, reads_ask P unit count back read all)
 
 -- the frames of a block read, one by one
-pub block_asks : (P : Frame → Type 0) (unit : ℕ) (block : Block) → P (Dtr1 1) → P (AskDtr1 unit) → P (Dtr0 block.location)
-    → P (AskDtr0 unit) → P (Read unit) → Asks P (block_requests unit block)
+pub block_asks : (P : Frame → Type 0) (unit : ℕ) (block : Block) → P (Dtr1 1) → P (AskDtr1 unit)
+    → P (Dtr0 block.location) → P (AskDtr0 unit) → P (Read unit) → Asks P (block_requests unit block)
 block_asks P unit block set ask1 place ask0 read = (
   set,
   (

@@ -2,6 +2,9 @@ pub mod BlockShapeLemmas
 pub mod BlockBytesLemmas
 pub mod BlockLemmas
 pub mod QuietLemmas
+pub mod InBlockLemmas
+pub mod CourseLemmas
+pub mod FindLemmas
 pub mod BlockMissLemmas
 pub mod TurnLemmas
 pub mod BankFramesLemmas

@@ -54,7 +54,7 @@ last_took told unit bytes read = by (last_so_far unit read.done read.in_turn)
 -- a whole bank: so many of its locations behind 00h were read by blocks of sixteen, which took so many frames
 record BankSoFar (frames count end : ℕ) : Type 0 where
   blocks : ℕ
-  frames_are : frames ≡ 7 + (count + 6 * blocks)
+  frames_are : frames ≡ block_frames 1 + (count + 6 * blocks)
   within : count ≤ end
   least : count ≤ 16 * blocks
   most : 16 * blocks < count + 16
@@ -139,7 +139,7 @@ if_over true x e = cc
 if_over false x e = refl
 
 bank_over : (frames count end : ℕ) → BankSoFar frames count end → end ≤ count
-    → frames ≡ 7 + (end + 6 * ((end + 15) / 16))
+    → frames ≡ block_frames 1 + (end + 6 * ((end + 15) / 16))
 bank_over frames count end so over =
     let frames_are = so.frames_are in
     let within = so.within in
@@ -162,17 +162,17 @@ bank_took told unit last more read =
 
 -- the limit
 
-few_frames : (frames count end : ℕ) → BankSoFar frames count end → end ≤ 0xFE → frames ≤ 357
+few_frames : (frames count end : ℕ) → BankSoFar frames count end → end ≤ 0xFE → frames ≤ bank_frames 0xFE
 few_frames frames count end so small =
     let frames_are = so.frames_are in
     let within = so.within in
     let most = so.most in
     omega arith
 
-bank_few : (unit : ℕ) (done : List Done) → InTurn unit bank_course done → frames_of done ≤ 357
+bank_few : (unit : ℕ) (done : List Done) → InTurn unit bank_course done → frames_of done ≤ bank_frames 0xFE
 bank_few unit done turn = by (bytes_in done) refl
   where
-    by : (bytes : List ℕ) → bytes_in done ≡ bytes → frames_of done ≤ 357
+    by : (bytes : List ℕ) → bytes_in done ≡ bytes → frames_of done ≤ bank_frames 0xFE
     by [] none =
         let nothing : frames_of done ≡ 0 = ap frames_of (none_done unit bank_course done turn none) in omega arith
     by (last ∷ more) are =
@@ -181,10 +181,10 @@ bank_few unit done turn = by (bytes_in done) refl
 
 next_few : (unit : ℕ) (done : List Done) (next : Block) → InTurn unit bank_course done
     → bank_course (bytes_in done) ≡ Some next
-    → block_frames next.count + frames_of done ≤ 357
+    → block_frames next.count + frames_of done ≤ bank_frames 0xFE
 next_few unit done next turn is = by (bytes_in done) refl
   where
-    by : (bytes : List ℕ) → bytes_in done ≡ bytes → block_frames next.count + frames_of done ≤ 357
+    by : (bytes : List ℕ) → bytes_in done ≡ bytes → block_frames next.count + frames_of done ≤ bank_frames 0xFE
     by [] none =
         let nothing : frames_of done ≡ 0 = ap frames_of (none_done unit bank_course done turn none) in
         let both : Some first_block ≡ Some next = ap bank_course (sym none) ∙ is in

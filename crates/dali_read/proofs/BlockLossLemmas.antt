@@ -1,6 +1,6 @@
 -- On the simulated bus: tries of a block miss only by losses, and what a block read tells is what the bank has.
 use Rattle.std.proofs.Common.{◌≡◌, refl, sym, ap, subst, ◌∙◌, ℕ, zero, suc, ◌+◌, ◌≤◌, Bool, true, false, List, []}
-use Rattle.std.proofs.Common.{◌∷◌, ◌++◌, length, Option, Some, None, IsSome, is_some, arith}
+use Rattle.std.proofs.Common.{◌∷◌, ◌++◌, length, Some, IsSome, is_some, arith}
 use Rattle.std.specs.Prelude.{slice_get, if◌then◌else◌}
 use Rattle.std.proofs.lemmas.Bool.{eq-eqb}
 use Rattle.std.proofs.Math.Nat.{pos_of_ne-zero}
@@ -24,11 +24,11 @@ use Rattle.dali_write.proofs.KeptLemmas.{parts}
 use Rattle.dali_write.proofs.SuccessLemmas.{world_alone, unlost, byte_there}
 use Rattle.dali_write.proofs.RunLemmas.{Leads, losses_along, UnrefusedAlong, sim_run}
 use Rattle.dali_read.specs.declared.block.Block.{Block}
-use Rattle.dali_read.specs.Blocks.{Fits, reads, block_requests, IsBlockRead, Succeeds}
+use Rattle.dali_read.specs.Blocks.{Fits, reads, block_requests, IsBlockRead}
 use Rattle.dali_read.proofs.BlockShapeLemmas.{back_requests}
 use Rattle.dali_read.proofs.BlockMissLemmas.{up_below}
 use Rattle.dali_read.proofs.BlockLemmas.{block_true}
-use Rattle.dali_read.proofs.QuietLemmas.{Sent, OfBlocks, block_asks, block_sent, trying_sent, misses_sent}
+use Rattle.dali_read.proofs.QuietLemmas.{Sent, OfBlocks, block_asks, trying_sent, misses_sent}
 
 -- so many reads, where the first of their locations is selected
 suits_reads : (at place count last : ℕ) (unit : UnitState) → unit.address ≡ at → unit.dtr0 ≡ place → unit.dtr1 ≡ 1

@@ -1,7 +1,6 @@
 -- How often block reads miss, and how many frames they take.
-use Rattle.std.proofs.Common.{◌≡◌, refl, sym, ap, subst, ℕ, zero, suc, ◌+◌, ◌*◌, ◌≤◌, ◌<◌, List, []}
+use Rattle.std.proofs.Common.{◌≡◌, refl, sym, ap, subst, ◌∙◌, ℕ, zero, suc, ◌+◌, ◌*◌, ◌≤◌, ◌<◌, List, []}
 use Rattle.std.proofs.Common.{◌++◌, append_assoc, length, length-append, arith}
-use Rattle.std.proofs.lemmas.Bool.{ne_eqb}
 use Rattle.std.proofs.lemmas.Nat.{mul-le}
 use Rattle.dali_bus.specs.Hears.{up}
 use Rattle.dali_write.specs.Exchanges.{Exchange}
@@ -12,14 +11,14 @@ use Rattle.dali_write.proofs.ShapeLemmas.{trying_length}
 use Rattle.dali_write.proofs.CountLemmas.{misses_length, times_most}
 use Rattle.dali_write.proofs.MissLemmas.{Apt, trying, missed}
 use Rattle.dali_read.specs.declared.block.Block.{Block}
-use Rattle.dali_read.specs.Blocks.{Fits, reads, block_requests, Succeeds, Fails}
+use Rattle.dali_read.specs.Blocks.{most_locations, Fits, reads, block_requests, Succeeds, Fails}
 use Rattle.dali_read.specs.Counts.{block_frames}
+use Rattle.dali_read.proofs.BlockLemmas.{up_one}
 use Rattle.dali_read.proofs.BlockShapeLemmas.{back_requests, block_frames_are}
 
 -- DTR0 moves on by one below FFh
 pub up_below : (place : ℕ) → place < 0xFF → up place ≡ suc place
-up_below place below =
-    rw (ne_eqb place 0xFF (λ same. absurd (omega arith))) (omega arith)
+up_below place below = up_one place below ∙ omega arith
 
 -- each request wishes what its frame asks for
 apt_reads : (unit count place last : ℕ) → last ≤ 0xFF → place + count ≡ last
@@ -67,14 +66,15 @@ success_misses unit block bytes told older fits done =
 -- it took the frames of one try, and for each miss at most those of one more
 pub success_frames : (unit : ℕ) (block : Block) (bytes : List ℕ) (told : List Exchange) → Fits block
     → (done : Succeeds unit block bytes told)
-    → (more : ℕ) × (length told ≡ block_frames block.count + more) × (more ≤ 22 * done.misses)
+    → (more : ℕ) × (length told ≡ block_frames block.count + more) × (more ≤ block_frames most_locations * done.misses)
 success_frames unit block bytes told fits done =
     let whole = trying_length (block_requests unit block) done.tried [] done.read.0 in
     let older = misses_length (block_requests unit block) done.misses done.missed done.misses_are in
     let requests = block_frames_are unit block in
     let few = fits.few in
-    let most : done.misses * length (block_requests unit block) ≤ done.misses * 22 =
-    mul-le done.misses (length (block_requests unit block)) done.misses 22 (omega arith) (omega arith) in
+    let whole_block = block_frames most_locations in
+    let most : done.misses * length (block_requests unit block) ≤ done.misses * whole_block =
+    mul-le done.misses (length (block_requests unit block)) done.misses whole_block (omega arith) (omega arith) in
     let both = ap (λ (t : List Exchange). length t) done.parts in
     let joined = length-append done.tried done.missed in
     (length done.missed, omega arith, omega arith)

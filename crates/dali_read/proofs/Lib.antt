@@ -13,3 +13,4 @@ pub mod OrderFramesLemmas
 pub mod BlockLossLemmas
 pub mod SparedLemmas
 pub mod StaysLemmas
+pub mod SparedCourseLemmas

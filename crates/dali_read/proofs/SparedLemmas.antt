@@ -1,5 +1,5 @@
 -- On the simulated bus a reading that loses little comes to its end, and its unit stays as it was.
-use Rattle.std.proofs.Common.{◌≡◌, ◌≢◌, refl, sym, ap, subst, ◌∙◌, ℕ, zero, suc, ◌+◌, ◌≤◌, ◌<◌, List, []}
+use Rattle.std.proofs.Common.{◌≡◌, ◌≢◌, refl, sym, ap, subst, ◌∙◌, ℕ, ◌+◌, ◌≤◌, List, []}
 use Rattle.std.proofs.Common.{◌∷◌, ◌++◌, append_assoc, length, length-append, Option, Some, None, arith}
 use Rattle.std.specs.Prelude.{slice_get}
 use Rattle.dali_gear.specs.Faults.{IsBank}

@@ -1,14 +1,11 @@
 -- The blocks of a reading, one after another: how many frames they take.
 use Rattle.std.proofs.Common.{◌≡◌, refl, ap, ℕ, ◌+◌, ◌*◌, ◌≤◌, List, []}
 use Rattle.std.proofs.Common.{◌∷◌, length, length-append, arith}
-use Rattle.dali_write.specs.Exchanges.{Exchange}
 use Rattle.dali_write.specs.Tries.{most_tries}
-use Rattle.dali_read.specs.declared.block.Block.{Block}
-use Rattle.dali_read.specs.Blocks.{Succeeds}
 use Rattle.dali_read.specs.Readings.{Course, Done, bytes_in, told_in, InTurn}
 use Rattle.dali_read.specs.Counts.{block_frames, AreSoMany}
 use Rattle.dali_read.proofs.BlockMissLemmas.{success_misses, success_frames, success_limit}
-use Rattle.dali_read.proofs.BlockBytesLemmas.{block_count}
+use Rattle.dali_read.proofs.InBlockLemmas.{done_count}
 
 -- the frames of one try of each block
 abbrev pub frames_of : List Done → ℕ
@@ -39,11 +36,6 @@ turn_limit unit course (newest ∷ done) turn =
     let joined = length-append newest.told (told_in done) in
     omega arith
 
--- each block told as many bytes as it has locations
-pub done_count : (unit : ℕ) (block : Block) (bytes : List ℕ) (told : List Exchange)
-    → Succeeds unit block bytes told → length bytes ≡ block.count
-done_count unit block bytes told done = block_count unit block bytes done.tried done.read
-
 -- where no byte was read no block was
 pub none_done : (unit : ℕ) (course : Course) (done : List Done) → InTurn unit course done → bytes_in done ≡ []
     → done ≡ []
@@ -55,7 +47,7 @@ none_done unit course (newest ∷ done) turn none =
     let joined = length-append (bytes_in done) newest.bytes in
     let no : ⊥ = omega arith in absurd no
 
--- what the newest block adds
+-- the newest block adds as many bytes as it has locations
 pub added : (unit : ℕ) (course : Course) (newest : Done) (done : List Done)
     → InTurn unit course (newest ∷ done) → length newest.bytes ≡ newest.block.count
 added unit course newest done turn = done_count unit newest.block newest.bytes newest.told turn.3

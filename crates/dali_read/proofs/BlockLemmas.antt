@@ -11,7 +11,7 @@ use Rattle.dali_bus.specs.Carry.{Carry, WorldStep}
 use Rattle.dali_write.specs.Exchanges.{Exchange}
 use Rattle.dali_write.specs.Requests.{select_requests}
 use Rattle.dali_write.specs.Tries.{Trying}
-use Rattle.dali_write.specs.Worlds.{Run, Shows}
+use Rattle.dali_write.specs.Worlds.{Shows}
 use Rattle.dali_write.specs.WhenRead.{AllBut}
 use Rattle.dali_write.proofs.GearLemmas.{IsQuiet, carry_stays, carry_dtr1, dtr0_in, dtr1_in, asked1, end_steady}
 use Rattle.dali_write.proofs.PowerLemmas.{shows_kept, stays_keeps, drifts_keep}
@@ -308,6 +308,9 @@ when_block {loses} newer tried older first last unit block bytes fits run read =
     let w = (when_just_block loses tried older first q.0 p.0 unit block bytes fits q.1 q.2 read).0 in
     let behind =
     run_joined loses newer w.newer w.answered p.0 last (leads_of w.newer w.answered p.0 w.behind) p.2 in
+    let rest : List Exchange = (w.back ++ (w.each ++ (w.middle ++ w.two))) ++ w.older in
+    let told : List Exchange = w.newer ++ rest in
+    let whole : List Exchange = (newer ++ w.newer) ++ rest in
     record {
       newer = newer ++ w.newer;
       back = w.back;
@@ -315,8 +318,8 @@ when_block {loses} newer tried older first last unit block bytes fits run read =
       middle = w.middle;
       two = w.two;
       older = w.older;
-      parts = ap (λ (t : List Exchange). newer ++ t) w.parts
-          ∙ sym (append_assoc newer w.newer ((w.back ++ (w.each ++ (w.middle ++ w.two))) ++ w.older));
+      parts = ◌∙◌ {c = whole} (ap (λ (t : List Exchange). newer ++ t) {y = told} w.parts)
+          (sym {a = whole} {b = newer ++ told} (append_assoc newer w.newer rest));
       read = w.read;
       counts = w.counts;
       bytes_are = w.bytes_are;

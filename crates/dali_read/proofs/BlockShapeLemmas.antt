@@ -143,12 +143,17 @@ was_block unit block tried try =
     let b = both _ _ q.newer q.newer_is in
     let long = trying_length (reads unit block.count) q.older [] q.older_is in
     let so = reads_length unit block.count in
+    let back : List Exchange = b.x2 ∷ b.x1 ∷ [] in
+    let newer : List Exchange = back ++ q.older in
+    let newer_is : p.newer ≡ newer =
+    ◌∙◌ {c = newer} q.is (ap (λ (t : List Exchange). t ++ q.older) {y = back} b.is) in
+    let whole : List Exchange = newer ++ p.older in
     record {
       y1 = b.x1;
       y2 = b.x2;
       each = q.older;
       older = p.older;
-      is = p.is ∙ ap (λ (t : List Exchange). t ++ p.older) (q.is ∙ ap (λ (t : List Exchange). t ++ q.older) b.is);
+      is = ◌∙◌ {c = whole} p.is (ap (λ (t : List Exchange). t ++ p.older) {y = newer} newer_is);
       selects = p.older_is;
       all = all_reads unit block.count q.older [] q.older_is;
       count_is = omega arith;

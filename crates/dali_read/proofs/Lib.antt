@@ -3,3 +3,15 @@ pub mod BlockShapeLemmas
 pub mod BlockBytesLemmas
 pub mod BlockLemmas
 pub mod QuietLemmas
+pub mod InBlockLemmas
+pub mod CourseLemmas
+pub mod FindLemmas
+pub mod BlockMissLemmas
+pub mod TurnLemmas
+pub mod BankFramesLemmas
+pub mod RowLemmas
+pub mod OrderFramesLemmas
+pub mod BlockLossLemmas
+pub mod SparedLemmas
+pub mod StaysLemmas
+pub mod SparedCourseLemmas

@@ -1,6 +1,6 @@
 -- The frames of block reads and of readings: what holds of each frame of a block that fits holds of all of them.
-use Rattle.std.proofs.Common.{◌≡◌, ◌⊎◌, inl, inr, refl, sym, subst, ℕ, zero, suc, ◌+◌, ◌<◌, ◌≤◌, List, [], ◌∷◌, ◌++◌, Option, Some, None}
-use Rattle.std.proofs.Common.{arith}
+use Rattle.std.proofs.Common.{◌⊎◌, inl, inr, refl, sym, subst, ℕ, zero, suc, ◌+◌, ◌<◌, ◌≤◌, List, [], ◌∷◌, ◌++◌}
+use Rattle.std.proofs.Common.{Option, Some, None, arith}
 use Rattle.std.specs.List.{AllByRecursion}
 use Rattle.dali_frame.specs.declared.forward.Frame.{Frame}
 use Rattle.dali_frame.specs.declared.forward.Frame.TheVariants.{Dtr0, Dtr1, Dtr2, Write, WriteSilent, Enable, AskDtr0}
@@ -20,8 +20,8 @@ use Rattle.dali_write.proofs.ShapeLemmas.{AllOf, left_all}
 use Rattle.dali_write.proofs.RunLemmas.{Leads}
 use Rattle.dali_write.proofs.TruthLemmas.{AllQuiet, run_keeps}
 use Rattle.dali_read.specs.declared.block.Block.{Block}
-use Rattle.dali_read.specs.Blocks.{Fits, block_requests, reads, Succeeds, Fails, Stands}
-use Rattle.dali_read.specs.Readings.{Course, Done, told_in, InTurn, IsRead, IsSilent, Ends, IsReading}
+use Rattle.dali_read.specs.Blocks.{Fits, block_requests, reads, Succeeds}
+use Rattle.dali_read.specs.Readings.{Course, Done, told_in, InTurn, Ends, IsReading}
 use Rattle.dali_read.proofs.BlockShapeLemmas.{back_requests}
 
 -- it holds of each frame that was sent
@@ -114,8 +114,8 @@ reads_ask P unit zero back read all = all
 reads_ask P unit (suc count) back read all = (read, reads_ask P unit count back read all)
 
 -- the frames of a block read, one by one
-block_asks : (P : Frame → Type 0) (unit : ℕ) (block : Block) → P (Dtr1 1) → P (AskDtr1 unit) → P (Dtr0 block.location)
-    → P (AskDtr0 unit) → P (Read unit) → Asks P (block_requests unit block)
+pub block_asks : (P : Frame → Type 0) (unit : ℕ) (block : Block) → P (Dtr1 1) → P (AskDtr1 unit)
+    → P (Dtr0 block.location) → P (AskDtr0 unit) → P (Read unit) → Asks P (block_requests unit block)
 block_asks P unit block set ask1 place ask0 read = (
   set,
   (

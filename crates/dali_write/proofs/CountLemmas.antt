@@ -44,7 +44,7 @@ misses_length requests (suc misses) told is =
     omega arith
 
 -- an access takes no more than its most tries of its requests
-times_most : (misses requests few more : ℕ) → misses < most_tries → more ≤ misses * requests → few ≤ requests
+pub times_most : (misses requests few more : ℕ) → misses < most_tries → more ≤ misses * requests → few ≤ requests
     → few + more ≤ most_tries * requests
 times_most misses requests few more below older newer =
     let most : misses * requests ≤ (most_tries - 1) * requests =

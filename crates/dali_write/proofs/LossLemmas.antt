@@ -36,11 +36,11 @@ pub all_for : (at : ℕ) (access : Access) → AllFor at (access_requests at acc
 all_for at (ReadFrom location) = (tt, (refl, (tt, (refl, (refl, (refl, (refl, tt)))))))
 all_for at (WriteTo location byte) = (refl, (refl, (tt, (refl, (tt, (refl, (tt, tt)))))))
 
-after_reading : (at : ℕ) (unit : UnitState) → unit.address ≡ at → unit.dtr1 ≡ 1
+pub after_reading : (at : ℕ) (unit : UnitState) → unit.address ≡ at → unit.dtr1 ≡ 1
     → after_frame false unit (Read at) ≡ record unit { half_pair = false; enabled = false; dtr0 = up unit.dtr0 }
 after_reading at unit is bank = rw (eq-eqb at unit.address (sym is), bank) refl
 
-suits_asking : (at location : ℕ) (unit : UnitState) → unit.address ≡ at → unit.dtr0 ≡ location → unit.dtr1 ≡ 1
+pub suits_asking : (at location : ℕ) (unit : UnitState) → unit.address ≡ at → unit.dtr0 ≡ location → unit.dtr1 ≡ 1
     → Suits (request (AskDtr0 at) (Exactly location) ∷ request (AskDtr1 at) (Exactly 1) ∷ []) unit
 suits_asking at location unit is place bank = rw (eq-eqb at unit.address (sym is), place, bank) (refl, (refl, tt))
 
@@ -162,7 +162,7 @@ suited loses at requests left unit (x ∷ told) first last run keeps_power for s
     }
 
 -- and so it doesn't miss
-ends : (loses : ℕ → Type 0) (at : ℕ) (requests : List Request) (unit : UnitState) (told : List Exchange)
+pub ends : (loses : ℕ → Type 0) (at : ℕ) (requests : List Request) (unit : UnitState) (told : List Exchange)
     (first last : SimState) (run : Leads SimStep loses told first last)
     → (loses at → ⊥) → AllFor at requests → Suits requests unit → IsAlone at unit first.units
     → losses_along at loses told first last run ≡ 0 → UnrefusedAlong loses told first last run → Missed requests told

@@ -19,7 +19,7 @@ use Rattle.dali_write.specs.Doubts.{EndsInFailure, HasFailed}
 use Rattle.dali_write.specs.Misses.{location_after, location_in, wish_of, is_missed, misses_in, IsLong}
 
 -- each request wishes what its frame asks for, where DTR0 should stand so before the first one
-abbrev Apt : ℕ → List Request → Type 0
+abbrev pub Apt : ℕ → List Request → Type 0
 Apt location [] = ⊤
 Apt location (next ∷ left) = (next.wish ≡ wish_of next.frame location) × Apt (location_after next.frame location) left
 
@@ -48,7 +48,7 @@ more : (x : Exchange) (told : List Exchange) (wish : Wish) (b : Bool) → wish �
 more x told wish b same is = rw (← same, is) refl
 
 -- a part of a try has no miss
-trying : (requests : List Request) (tried : List Exchange) (left : List Request) (older : List Exchange)
+pub trying : (requests : List Request) (tried : List Exchange) (left : List Request) (older : List Exchange)
     → Apt (location_in older) requests → Trying requests tried left
     → (misses_in (tried ++ older) ≡ misses_in older) × Apt (location_in (tried ++ older)) left
 trying requests [] left older apt try = (refl, subst (Apt (location_in older)) (sym try) apt)
@@ -58,7 +58,7 @@ trying requests (x ∷ tried) left older apt try =
     let rest = before.0 in
     (omega arith, before.1.1)
 
-missed : (requests : List Request) (tried older : List Exchange) → Apt (location_in older) requests
+pub missed : (requests : List Request) (tried older : List Exchange) → Apt (location_in older) requests
     → Missed requests tried
     → misses_in (tried ++ older) ≡ 1 + misses_in older
 missed requests [] older apt ends = absurd ends

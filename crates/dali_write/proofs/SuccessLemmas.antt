@@ -61,7 +61,7 @@ world_alone at unit (first ∷ units) (inr further) =
     rw (ne_eqb at first.address (λ same. further.0.0 (sym same))) (world_alone at unit units further.1)
 
 -- a byte of a unit that doesn't lose its power
-unlost : (lost : Type 0) (location : ℕ) (old new : Option ℕ) → (lost → ⊥) → MayRelock lost 1 location old new
+pub unlost : (lost : Type 0) (location : ℕ) (old new : Option ℕ) → (lost → ⊥) → MayRelock lost 1 location old new
     → new ≡ old
 unlost lost location old new keeps_power (inl same) = same
 unlost lost location old new keeps_power (inr relocks) = absurd (keeps_power relocks.0)
@@ -224,7 +224,7 @@ succeeds loses P verdict end at plan unit told first last spared way wants =
     (all.ends, omega arith)
 
 -- a session that has ended sent a frame, and so its unit had a bank
-alone_bank : (at : ℕ) (unit : UnitState) (units : List UnitState) → IsAlone at unit units → AreBanks units
+pub alone_bank : (at : ℕ) (unit : UnitState) (units : List UnitState) → IsAlone at unit units → AreBanks units
     → IsBank unit.bank1.bytes
 alone_bank at unit [] alone are = absurd alone
 alone_bank at unit (first ∷ units) (inl here) are = subst (λ (u : UnitState). IsBank u.bank1.bytes) here.0 are.0
@@ -269,7 +269,7 @@ closing_succeeds loses at unit verdict told first last spared wants =
 
 -- a fresh session
 
-byte_there : (bytes : List ℕ) (location : ℕ) → location < length bytes
+pub byte_there : (bytes : List ℕ) (location : ℕ) → location < length bytes
     → slice_get bytes location ≡ Some (slice_index bytes location)
 byte_there bytes location long = slice_get-get_or bytes location 0 long
 

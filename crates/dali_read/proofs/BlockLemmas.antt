@@ -43,6 +43,7 @@ answers_moves at old to v new h = told h.obeys where
   told (inl (is, inr nothing)) = let never = nothing.1.3 in cc
   told (inr (isnt, ignores)) = let never = ignores.1 in cc
 
+-- so the unit that answered has moved on
 moves_on : (old : World) (unit location byte : ℕ) (new : World) → Carry old (Read unit) (Some byte) new
     → dtr0_in (old unit) ≡ Some location → dtr0_in (new unit) ≡ Some (up location)
 moves_on old unit location byte new carry place =
@@ -135,6 +136,7 @@ abbrev pub ShowsEach : (ℕ → Type 0) → World → ℕ → ℕ → List ℕ �
 ShowsEach loses world unit location bytes =
     (index byte : ℕ) → slice_get bytes index ≡ Some byte → Shows loses world unit (location + index) byte
 
+-- after so many reads a unit that keeps its power shows each byte that they told
 reads_show : (loses : ℕ → Type 0) (unit location : ℕ) (each : List Exchange) (first last : World)
     → Leads WorldStep (AllBut unit loses) each first last → AllReads unit each → location + length each ≤ 0xFF
     → StandsAt (first unit) location → ShowsEach (AllBut unit loses) last unit location (bytes_of each)
@@ -204,6 +206,7 @@ run_joined loses [] (x ∷ older) first mid last one two =
 run_joined loses (x ∷ newer) older first mid last one two =
     (two.0, two.1, run_joined loses newer older first mid two.0 one two.2, two.3, two.4)
 
+-- reads set no DTR1
 reads_leave : (unit : ℕ) (each : List Exchange) → AllReads unit each → AllLeave each
 reads_leave unit [] all = tt
 reads_leave unit (x ∷ each) all = (leaves x (Read unit) all.0 tt, reads_leave unit each all.2)
@@ -318,7 +321,7 @@ when_block {loses} newer tried older first last unit block bytes fits run read =
       middle = w.middle;
       two = w.two;
       older = w.older;
-      parts = ◌∙◌ {c = whole} (ap (λ (t : List Exchange). newer ++ t) {y = told} w.parts)
+      parts = ◌∙◌ {b = newer ++ told} {c = whole} (ap (λ (t : List Exchange). newer ++ t) {y = told} w.parts)
           (sym {a = whole} {b = newer ++ told} (append_assoc newer w.newer rest));
       read = w.read;
       counts = w.counts;

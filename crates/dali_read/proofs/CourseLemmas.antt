@@ -80,6 +80,7 @@ in_row location (update ∷ updates) (suc index) below =
     by true next below = next (omega arith) ∙ ap Some (omega arith)
     by false next below = absurd (omega arith)
 
+-- the places behind so many updates
 drop_get : (updates : List (ℕ × ℕ)) (before index number : ℕ) → number ≡ before + index
     → slice_get (own_places updates) number ≡ slice_get (own_places (drop before updates)) index
 drop_get updates zero index number is =
@@ -121,6 +122,7 @@ picked row format last greatest this next = by (nat_lt last greatest) refl (nat_
   by false e true f next = (ltb-false last greatest e, inl (ltb-true greatest 0x13 f, next))
   by false e false f next = (ltb-false last greatest e, inr (ltb-false greatest 0x13 f, next))
 
+-- behind the first byte of a short order, and behind the third of a long one
 near_follows : (updates : List (ℕ × ℕ)) (before number : ℕ) (this : Block) → greatest updates < 0x13
     → number ≡ suc before → row_of (drop before updates) ≡ Some this → At (order_place updates) number this
 near_follows updates before number this near is next index below =
@@ -148,6 +150,7 @@ low_follows : (updates : List (ℕ × ℕ)) → 0x13 ≤ greatest updates → At
 low_follows updates far zero below = ap (λ (l : List ℕ). slice_get l 2) (far_places updates far)
 low_follows updates far (suc index) below = absurd (omega arith)
 
+-- of 00h
 first_follows : (updates : List (ℕ × ℕ)) → At (order_place updates) 0 first_block
 first_follows updates zero below = refl
 first_follows updates (suc index) below = absurd (omega arith)
@@ -209,6 +212,7 @@ one_byte [] one = absurd (omega arith)
 one_byte (byte ∷ []) one = (byte, refl)
 one_byte (byte ∷ next ∷ more) one = absurd (omega arith)
 
+-- one block more
 bank_next : (older newer : List ℕ) (this : Block) → BankLong older → bank_course older ≡ Some this
     → length newer ≡ this.count → BankLong (older ++ newer)
 bank_next [] newer this long next count =

@@ -78,6 +78,7 @@ pub done_count : (unit : ℕ) (this : Block) (bytes : List ℕ) (told : List Exc
     → length bytes ≡ this.count
 done_count unit this bytes told done = block_count unit this bytes done.tried done.read
 
+-- of blocks that were read in turn each byte was told by a whole read of its location
 pub in_turn_tells : (place : ℕ → Option ℕ) (unit : ℕ) (course : Course) → Follows course place → (done : List Done)
     → InTurn unit course done → Tells (InBlock (told_in done) unit) place (bytes_in done)
 in_turn_tells place unit course follows [] in_turn index location byte is at =

@@ -32,11 +32,13 @@ Sent P told = AllByRecursion (λ x. P x.frame) told
 abbrev pub Asks : (Frame → Type 0) → List Request → Type 0
 Asks P requests = AllOf (λ next. P next.frame) requests
 
+-- of newer exchanges behind older ones
 pub sent_both : (P : Frame → Type 0) (newer older : List Exchange) → Sent P newer → Sent P older
     → Sent P (newer ++ older)
 sent_both P [] older one two = two
 sent_both P (x ∷ newer) older one two = (one.0, sent_both P newer older one.1 two)
 
+-- of a try
 pub trying_sent : (P : Frame → Type 0) (requests : List Request) (tried : List Exchange) (left : List Request)
     → Asks P requests → Trying requests tried left → Sent P tried
 trying_sent P requests [] left all try = tt
@@ -45,6 +47,7 @@ trying_sent P requests (x ∷ tried) left all try = (
   trying_sent P requests tried (request x.frame try.0 ∷ left) all try.2,
 )
 
+-- of so many tries that missed
 pub misses_sent : (P : Frame → Type 0) (requests : List Request) (misses : ℕ) (told : List Exchange)
     → Asks P requests → Misses requests misses told → Sent P told
 misses_sent P requests zero told all is = subst (λ (t : List Exchange). Sent P t) (sym is) tt
@@ -63,6 +66,7 @@ misses_sent P requests (suc misses) told all is =
 abbrev pub OfBlocks : (Frame → Type 0) → ℕ → Type 0
 OfBlocks P unit = (block : Block) → Fits block → Asks P (block_requests unit block)
 
+-- so of all that its tries sent
 pub block_sent : (P : Frame → Type 0) (unit : ℕ) → OfBlocks P unit → (block : Block) (bytes : List ℕ)
     (told : List Exchange) → Fits block → Succeeds unit block bytes told → Sent P told
 block_sent P unit all block bytes told fits done =
@@ -71,6 +75,7 @@ block_sent P unit all block bytes told fits done =
     (trying_sent P (block_requests unit block) done.tried [] (all block fits) done.read.0)
     (misses_sent P (block_requests unit block) done.misses done.missed (all block fits) done.misses_are))
 
+-- and of all blocks that were read
 pub in_turn_sent : (P : Frame → Type 0) (unit : ℕ) → OfBlocks P unit → (course : Course) (done : List Done)
     → InTurn unit course done → Sent P (told_in done)
 in_turn_sent P unit all course [] in_turn = tt
@@ -108,6 +113,7 @@ reading_sent P unit all course told frame reading =
           (in_turn_sent P unit all course reading.done reading.in_turn)),
     )
 
+-- so many reads, and what is behind them
 reads_ask : (P : Frame → Type 0) (unit count : ℕ) (back : List Request) → P (Read unit) → Asks P back
     → Asks P (reads unit count ++ back)
 reads_ask P unit zero back read all = all
@@ -134,7 +140,7 @@ block_asks P unit block set ask1 place ask0 read = (
 pub blocks_passive : (unit : ℕ) → OfBlocks IsPassive unit
 blocks_passive unit block fits = block_asks IsPassive unit block tt tt tt tt tt
 
--- each is proper, writes nothing, and is to the unit or sets a register
+-- the frame is proper, writes nothing, and is to the unit or sets a register
 abbrev pub IsCalm : ℕ → Frame → Type 0
 IsCalm unit frame = IsProper frame × IsPassive frame × ((told : List Exchange) → IsGuarded [] unit told frame)
 
@@ -160,6 +166,7 @@ passive_quiet address (AskDtr2 to) passive = tt
 passive_quiet address (Read to) passive = tt
 passive_quiet address (Other word) passive = absurd passive
 
+-- and so do all of them
 sent_quiet : (address : ℕ) (told : List Exchange) → Sent IsPassive told → AllQuiet address told
 sent_quiet address [] sent = tt
 sent_quiet address (x ∷ told) sent = (passive_quiet address x.frame sent.0, sent_quiet address told sent.1)

@@ -32,6 +32,14 @@ fn keep_answer(bytes: &mut ArrayVec<u8, MOST_OF_BLOCK>, frame: &Frame, answer: O
     }
 }
 
+// Keeps the bytes of a block.
+fn keep_block(bytes: &mut ArrayVec<u8, MOST_OF_BANK>, more: &[u8])
+    requires { length bytes.old.items + length more.now ≤ 255 }
+    ensures { bytes.new.items ≡ bytes.old.items ++ more.now }
+{
+    let _fits = bytes.try_extend_from_slice(more);
+}
+
 // Tries to read a block once: its bytes, or none where a frame missed the answer that it wants.
 fn try_block<I: Source, L: Sink>(
     unit: u8,
@@ -132,7 +140,7 @@ pub fn read_unit<I: Source, L: Sink>(
         let Some(more) = read_block(unit, block, link_in, link_out)? else {
             return Ok(None);
         };
-        let _fits = bytes.try_extend_from_slice(&more);
+        keep_block(&mut bytes, &more);
     }
     Ok(Some(bytes))
 }

@@ -5,6 +5,8 @@ pub mod Lines
 pub mod Transcript
 pub mod Driven
 pub mod UnitRead
+pub mod SurveyLines
+pub mod Surveys
 pub mod WorkedOn
 pub mod Stored
 pub mod Sittings

@@ -12,6 +12,8 @@ mod reading;
 mod std_streams;
 mod stored;
 mod streams;
+mod survey;
+mod survey_lines;
 
 pub use driving::drive;
 pub use fault::DriveFault;
@@ -20,3 +22,5 @@ pub use reading::read_unit;
 pub use std_streams::{StdSink, StdSource};
 pub use stored::{StoredFault, drive_stored};
 pub use streams::{Got, Sink, Source, put_all};
+pub use survey::{scan_units, verify_orders};
+pub use survey_lines::{bytes_line, silent_line};

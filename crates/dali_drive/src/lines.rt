@@ -1,4 +1,4 @@
-// The lines that are written and read while a writer is driven.
+// The lines that are written and read while a writer is driven, and the pieces of those that tell of units.
 ghost use Rattle.std.specs.Prelude.{◌≡◌, ◌||◌, ◌+◌, ◌≤◌, ◌++◌, IfOk, IfErr, length, decimal};
 ghost use Rattle.std.specs.Io.BufRead.{strip_last};
 ghost use Rattle.arrayvec.specs.ArrayVec.{array_vec_len};
@@ -16,8 +16,11 @@ use dali_writer::Reply;
 // The most bytes of an answer's line before its line feed.
 const MOST_ANSWER: usize = 8;
 
-// No reply's line has more bytes: a number has at most twenty digits.
-const MOST_REPLY: usize = 64;
+// No line that is written has more bytes: a number has at most twenty digits.
+const MOST_LINE: usize = 80;
+
+// A line that is written.
+pub(crate) type Line = ArrayVec<u8, MOST_LINE>;
 
 // The answer on a line, which may end in a carriage return.
 fn answer_on(line: &[u8]) -> Result<Option<u8>, LineFault>
@@ -57,10 +60,10 @@ pub(crate) fn read_answer<I: Source>(link_in: &mut I) -> Result<Option<u8>, Driv
 }
 
 // The line of a reply to the order of this number, or of a saying.
-pub(crate) fn reply_line(id: u64, reply: Reply) -> ArrayVec<u8, MOST_REPLY>
+pub(crate) fn reply_line(id: u64, reply: Reply) -> Line
     ensures { result.items ≡ reply_line id reply }
 {
-    let mut line = ArrayVec::new();
+    let mut line = Line::new();
     push_text(&mut line, "reply ");
     push_decimal(&mut line, id);
     match reply {
@@ -85,8 +88,8 @@ pub(crate) fn reply_line(id: u64, reply: Reply) -> ArrayVec<u8, MOST_REPLY>
 }
 
 // Puts a text at the end of a line, which has room for it.
-fn push_text(line: &mut ArrayVec<u8, MOST_REPLY>, text: &str)
-    requires { array_vec_len line.old + length text.now ≤ 64 }
+pub(crate) fn push_text(line: &mut Line, text: &str)
+    requires { array_vec_len line.old + length text.now ≤ 80 }
     ensures items { line.new.items ≡ line.old.items ++ text.now }
     ensures len { array_vec_len line.new ≡ array_vec_len line.old + length text.now }
 {
@@ -94,8 +97,8 @@ fn push_text(line: &mut ArrayVec<u8, MOST_REPLY>, text: &str)
 }
 
 // Puts a number's decimal digits at the end of a line, which has room for them.
-fn push_decimal(line: &mut ArrayVec<u8, MOST_REPLY>, number: u64)
-    requires { array_vec_len line.old + 20 ≤ 64 }
+pub(crate) fn push_decimal(line: &mut Line, number: u64)
+    requires { array_vec_len line.old + 20 ≤ 80 }
     ensures items { line.new.items ≡ line.old.items ++ decimal number }
     ensures len { array_vec_len line.new ≡ array_vec_len line.old + length (decimal number) }
     ensures short { length (decimal number) ≤ 20 }

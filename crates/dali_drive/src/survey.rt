@@ -1,0 +1,165 @@
+ghost use Rattle.std.specs.Prelude.{◌≡◌, ◌<◌, ◌↔◌, ◌≤◌, IfOk, IfErr, OnOk, false, true, is_some};
+ghost use Rattle.dali_read.specs.Places.{last_course, order_course};
+ghost use Rattle.dali_drive.specs.Transcript.{link_shown, shown};
+ghost use Rattle.dali_drive.specs.Driven.{FailedAs, NoneFailed};
+ghost use Rattle.dali_drive.specs.Surveys.{IsScanReport, IsOrderReport, Reported, BreaksReport, IsSame};
+ghost use Rattle.dali_drive.specs.Surveys.{IsScan, ScanBroke, IsVerified, VerifyBroke};
+ghost use Rattle.std.specs.Prelude.{None};
+
+use crate::fault::DriveFault;
+use crate::reading::read_unit;
+use crate::streams::{Sink, Source, put_all};
+use crate::survey_lines::{finding_line, last_line, order_silent_line, units_line};
+use dali_bank::Order;
+use dali_read::{Finding, Places, compare};
+
+// One more than the highest short address.
+const ADDRESSES: u8 = 64;
+
+// Reads the last location of a unit, and tells of one that answers. The answer is whether it does.
+fn scan_unit<I: Source, L: Sink, O: Sink>(
+    unit: u8,
+    link_in: &mut I,
+    link_out: &mut L,
+    out: &mut O,
+) -> Result<bool, DriveFault>
+    requires unit { unit ≤ 63 }
+    requires link_in { I.failed link_in.old ≡ false }
+    requires link_out { L.failed link_out.old ≡ false }
+    requires out { O.failed out.old ≡ false }
+    ensures told { IfOk result (λ answers. Reported IsScanReport unit (λ report. answers ≡ is_some report.outcome)
+        (shown None (L.held link_out.old) (I.left link_in.old) (O.held out.old))
+        (shown None (L.held link_out.new) (I.left link_in.new) (O.held out.new))) }
+    ensures broken { IfErr result (λ fault. BreaksReport IsScanReport fault unit unit last_course
+        (shown None (L.held link_out.old) (I.left link_in.old) (O.held out.old))
+        (shown None (L.held link_out.new) (I.left link_in.new) (O.held out.new))) }
+    ensures ok { OnOk result
+        (NoneFailed false (L.failed link_out.new) (I.failed link_in.new) (O.failed out.new)) }
+    ensures err { IfErr result (λ fault.
+        FailedAs fault false (L.failed link_out.new) (I.failed link_in.new) (O.failed out.new)) }
+{
+    let Some(bytes) = read_unit(unit, &Places::Last, link_in, link_out)? else {
+        return Ok(false);
+    };
+    let [last] = *bytes.as_slice() else {
+        return Ok(false);
+    };
+    if put_all(out, &last_line(unit, last)) {
+        Ok(true)
+    } else {
+        Err(DriveFault::Out)
+    }
+}
+
+/// Asks each short address for the last location of its memory bank 1 (profile): a line `unit U last LL` to `out` for
+/// each unit that answers, as it is found, and then `units K`, where that is the answer too. A unit counts as absent
+/// where eight tries missed.
+///
+/// The link is used as by `read_unit`. No stream may have failed.
+///
+/// `Link`, `Line`, `End` and `TooLong` say what ended it, and `Out` that a line couldn't be written.
+pub fn scan_units<I: Source, L: Sink, O: Sink>(
+    link_in: &mut I,
+    link_out: &mut L,
+    out: &mut O,
+) -> Result<u8, DriveFault>
+    requires link_in { I.failed link_in.old ≡ false }
+    requires link_out { L.failed link_out.old ≡ false }
+    requires out { O.failed out.old ≡ false }
+    ensures scanned { IfOk result (λ units. IsScan units
+        (shown None (L.held link_out.old) (I.left link_in.old) (O.held out.old))
+        (shown None (L.held link_out.new) (I.left link_in.new) (O.held out.new))) }
+    ensures broken { IfErr result (λ fault. ScanBroke fault
+        (shown None (L.held link_out.old) (I.left link_in.old) (O.held out.old))
+        (shown None (L.held link_out.new) (I.left link_in.new) (O.held out.new))) }
+    ensures ok { OnOk result
+        (NoneFailed false (L.failed link_out.new) (I.failed link_in.new) (O.failed out.new)) }
+    ensures err { IfErr result (λ fault.
+        FailedAs fault false (L.failed link_out.new) (I.failed link_in.new) (O.failed out.new)) }
+{
+    let mut units = 0;
+    for unit in 0..ADDRESSES {
+        if scan_unit(unit, link_in, link_out, out)? {
+            units += 1;
+        }
+    }
+    if put_all(out, &units_line(units)) {
+        Ok(units)
+    } else {
+        Err(DriveFault::Out)
+    }
+}
+
+// Reads what an order writes, and tells what is found. The answer is whether all of it is the same.
+fn verify_order<I: Source, L: Sink, O: Sink>(
+    order: &Order,
+    link_in: &mut I,
+    link_out: &mut L,
+    out: &mut O,
+) -> Result<bool, DriveFault>
+    requires link_in { I.failed link_in.old ≡ false }
+    requires link_out { L.failed link_out.old ≡ false }
+    requires out { O.failed out.old ≡ false }
+    ensures told { IfOk result (λ same. Reported IsOrderReport order.now (λ report. (same ≡ true) ↔ IsSame report)
+        (shown None (L.held link_out.old) (I.left link_in.old) (O.held out.old))
+        (shown None (L.held link_out.new) (I.left link_in.new) (O.held out.new))) }
+    ensures broken { IfErr result (λ fault. BreaksReport IsOrderReport fault order.now order.now.unit
+        (order_course order.now.updates)
+        (shown None (L.held link_out.old) (I.left link_in.old) (O.held out.old))
+        (shown None (L.held link_out.new) (I.left link_in.new) (O.held out.new))) }
+    ensures ok { OnOk result
+        (NoneFailed false (L.failed link_out.new) (I.failed link_in.new) (O.failed out.new)) }
+    ensures err { IfErr result (λ fault.
+        FailedAs fault false (L.failed link_out.new) (I.failed link_in.new) (O.failed out.new)) }
+{
+    let Some(bytes) = read_unit(order.unit(), &Places::Order(order), link_in, link_out)? else {
+        return if put_all(out, &order_silent_line(order)) {
+            Ok(false)
+        } else {
+            Err(DriveFault::Out)
+        };
+    };
+    let finding = compare(order, &bytes);
+    if put_all(out, &finding_line(order, finding)) {
+        Ok(finding == Finding::Same)
+    } else {
+        Err(DriveFault::Out)
+    }
+}
+
+/// Reads for each of the orders, one after the other, the locations that it writes, and before them its unit's last
+/// location and where it needs that the content format (profile). A line to `out` for each: `order N unit U same`,
+/// `order N unit U other LL BB` with the first location that holds another byte than the order's, and that byte,
+/// `short`, `format` or `silent`. The answer is whether all are the same.
+///
+/// The link is used as by `read_unit`. No stream may have failed.
+///
+/// `Link`, `Line`, `End` and `TooLong` say what ended it, and `Out` that a line couldn't be written.
+pub fn verify_orders<I: Source, L: Sink, O: Sink>(
+    orders: &[Order],
+    link_in: &mut I,
+    link_out: &mut L,
+    out: &mut O,
+) -> Result<bool, DriveFault>
+    requires link_in { I.failed link_in.old ≡ false }
+    requires link_out { L.failed link_out.old ≡ false }
+    requires out { O.failed out.old ≡ false }
+    ensures verified { IfOk result (λ all_same. IsVerified orders.now all_same
+        (shown None (L.held link_out.old) (I.left link_in.old) (O.held out.old))
+        (shown None (L.held link_out.new) (I.left link_in.new) (O.held out.new))) }
+    ensures broken { IfErr result (λ fault. VerifyBroke orders.now fault
+        (shown None (L.held link_out.old) (I.left link_in.old) (O.held out.old))
+        (shown None (L.held link_out.new) (I.left link_in.new) (O.held out.new))) }
+    ensures ok { OnOk result
+        (NoneFailed false (L.failed link_out.new) (I.failed link_in.new) (O.failed out.new)) }
+    ensures err { IfErr result (λ fault.
+        FailedAs fault false (L.failed link_out.new) (I.failed link_in.new) (O.failed out.new)) }
+{
+    let mut all_same = true;
+    for order in orders {
+        if !verify_order(order, link_in, link_out, out)? {
+            all_same = false;
+        }
+    }
+    Ok(all_same)
+}

@@ -330,7 +330,6 @@ rests_on_too P Q A B updates Doubt f answered rests = answered rests
 rests_on_too P Q A B updates DoubtOpen f answered rests = tt
 rests_on_too P Q A B updates Closed f answered rests = answered rests
 rests_on_too P Q A B updates NotClosed f answered rests = tt
-rests_on_too P Q A B updates _ f answered rests = tt
 
 pub rests_too : (P Q : ℕ → ℕ → Type 0) (updates : List (ℕ × ℕ)) (verdict : Verdict) → Shown P Q
     → Rests P updates verdict → Rests Q updates verdict

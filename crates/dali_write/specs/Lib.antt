@@ -3,7 +3,6 @@ pub mod Requests
 pub mod Frames
 pub mod Plans
 pub mod Tries
-pub mod Found
 pub mod FramesLeft
 pub mod Told
 pub mod Worlds

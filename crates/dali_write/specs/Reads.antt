@@ -1,5 +1,5 @@
 -- What checked reads among exchanges show. The newest exchange comes first.
-use Rattle.std.specs.Prelude.{◌≡◌, ◌⊎◌, ℕ, suc, ◌<◌, min, List, [], ◌∷◌, ◌++◌, length, slice_get, Some, ⊤}
+use Rattle.std.specs.Prelude.{◌≡◌, ◌⊎◌, ℕ, List, [], ◌∷◌, ◌++◌, ⊤}
 use Rattle.dali_frame.specs.declared.forward.Frame.{Frame}
 use Rattle.dali_frame.specs.declared.forward.Frame.TheVariants.{Dtr0, Dtr1, Dtr2, Write, WriteSilent, Enable}
 use Rattle.dali_frame.specs.declared.forward.Frame.TheVariants.{AskDtr0, AskDtr1, AskDtr2, Read, Other}
@@ -35,12 +35,3 @@ StillRead (x ∷ told) unit location byte =
 abbrev pub HasRead : ℕ → List Exchange → Type 0
 HasRead unit [] = ⊥
 HasRead unit (x ∷ told) = ((location : ℕ) × (byte : ℕ) × EndsInRead unit location byte (x ∷ told)) ⊎ HasRead unit told
-
--- These bytes were told by checked reads, each of them still read: that of 00h, and those of each location up to the one
--- that it names, at most to FEh.
-pub record ReadsBank (told : List Exchange) (unit : ℕ) (bytes : List ℕ) : Type 0 where
-  pub last : ℕ
-  pub names : StillRead told unit 0 last
-  pub count : length bytes ≡ suc (min last 0xFE)
-  pub bytes_are : (location : ℕ) → location < length bytes
-      → (byte : ℕ) × (slice_get bytes location ≡ Some byte) × StillRead told unit location byte

@@ -65,8 +65,7 @@ impl Phase {
                     | Verdict::Format
                     | Verdict::Silent
                     | Verdict::Doubt
-                    | Verdict::DoubtOpen
-                    | Verdict::Read,
+                    | Verdict::DoubtOpen,
                 ) => Want::Say(order.id(), Reply::Blocked(session.unit())),
             },
             Phase::Says(id, code) => Want::Say(*id, Reply::Kept(*code)),
@@ -99,8 +98,7 @@ fn check_code(verdict: Verdict) -> Code
         | Verdict::Doubt
         | Verdict::DoubtOpen
         | Verdict::Closed
-        | Verdict::NotClosed
-        | Verdict::Read => Code::Silent,
+        | Verdict::NotClosed => Code::Silent,
     }
 }
 
@@ -118,8 +116,7 @@ pub(crate) fn write_code(verdict: Verdict) -> Code
         | Verdict::Format
         | Verdict::Silent
         | Verdict::Closed
-        | Verdict::NotClosed
-        | Verdict::Read => Code::DoubtOpen,
+        | Verdict::NotClosed => Code::DoubtOpen,
     }
 }
 

@@ -98,12 +98,12 @@ sends_on start past first j l more a less o frame answer d next one =
     (record {
       heard = d.text.heard ++ one.heard;
       lines = (
-            d.text.heard,
-            one.heard,
-            d.text.lines,
-            only_line answer one.heard one.lines.0 one.lines.1 one.lines.2 one.lines.3 one.lines.4,
-            refl,
-          );
+        d.text.heard,
+        one.heard,
+        d.text.lines,
+        only_line answer one.heard one.lines.0 one.lines.1 one.lines.2 one.lines.3 one.lines.4,
+        refl,
+      );
       journal = d.text.journal;
       link = Appends-trans _ _ _ _ _ d.text.link one.link;
       answers = Consumes-trans _ _ _ _ _ d.text.answers one.answers;

@@ -7,3 +7,4 @@ pub mod RepeatLemmas
 pub mod WorkedDriveLemmas
 pub mod WorkedSittingLemmas
 pub mod ReadingLemmas
+pub mod SurveyLemmas

@@ -178,7 +178,7 @@ try_ends unit block bytes number first last t is = record {
   told = t.told;
   read = (
     subst (λ (left : List Request). Trying (block_requests unit block) t.told left)
-    (none_left (block_requests unit block) number is) t.try,
+        (none_left (block_requests unit block) number is) t.try,
     t.bytes_are,
   );
   text = t.text;

@@ -41,10 +41,7 @@ fn scan_unit<I: Source, L: Sink, O: Sink>(
     let Some(bytes) = read_unit(unit, &Places::Last, link_in, link_out)? else {
         return Ok(false);
     };
-    let [last] = *bytes.as_slice() else {
-        return Ok(false);
-    };
-    if put_all(out, &last_line(unit, last)) {
+    if put_all(out, &last_line(unit, bytes[0])) {
         Ok(true)
     } else {
         Err(DriveFault::Out)
@@ -121,7 +118,7 @@ fn verify_order<I: Source, L: Sink, O: Sink>(
     };
     let finding = compare(order, &bytes);
     if put_all(out, &finding_line(order, finding)) {
-        Ok(finding == Finding::Same)
+        Ok(matches!(finding, Finding::Same))
     } else {
         Err(DriveFault::Out)
     }
@@ -157,9 +154,7 @@ pub fn verify_orders<I: Source, L: Sink, O: Sink>(
 {
     let mut all_same = true;
     for order in orders {
-        if !verify_order(order, link_in, link_out, out)? {
-            all_same = false;
-        }
+        all_same &= verify_order(order, link_in, link_out, out)?;
     }
     Ok(all_same)
 }

@@ -1,6 +1,6 @@
 -- How the bytes of an order are compared, from the first one on.
 use Rattle.std.proofs.Common.{◌≡◌, ◌≢◌, ◌≤◌, ◌<◌, ◌-◌, ◌∙◌, inl, inr, refl, sym, ap, subst, ℕ, zero, suc, List, [], ◌∷◌, ◌++◌}
-use Rattle.std.proofs.Common.{length, take, drop, Bool, true, false, Option, Some, None, nat_lt, if◌then◌else◌, slice_index_or, arith}
+use Rattle.std.proofs.Common.{append_assoc, length, take, drop, Bool, true, false, Option, Some, None, nat_lt, if◌then◌else◌, slice_index_or, arith}
 use Rattle.std.proofs.lemmas.List.{take_all, length-drop}
 use Rattle.std.proofs.lemmas.Bool.{lt-ltb, le-ltb}
 use Rattle.dali_write.specs.Plans.{greatest}
@@ -117,3 +117,55 @@ found_formatted updates (last ∷ first ∷ second ∷ more) finding some reache
     by (Other location byte) is = (last, reaches, inr (more, refl, late, is))
     by Short never = absurd never
     by Format never = absurd never
+
+-- where all is the same nothing else is found
+
+own_both : (one two : List (ℕ × ℕ)) → own_bytes (one ++ two) ≡ own_bytes one ++ own_bytes two
+own_both [] two = refl
+own_both (update ∷ one) two = ap (λ (l : List ℕ). update.1 ∷ l) (own_both one two)
+
+same_next : (front one two : List ℕ) (first second : ℕ) → front ++ first ∷ one ≡ front ++ second ∷ two
+    → first ≡ second
+same_next [] one two first second is = cc
+same_next (byte ∷ front) one two first second is =
+    let rest : front ++ first ∷ one ≡ front ++ second ∷ two = cc in same_next front one two first second rest
+
+same_first : (updates : List (ℕ × ℕ)) (bytes : List ℕ) (finding : Finding) → IsFirstOther updates bytes Same
+    → IsFirstOther updates bytes finding → finding ≡ Same
+same_first updates bytes Same same is = refl
+same_first updates bytes (Other location byte) same (before, own, behind, more, splits, is, other) =
+    let owns : own_bytes updates ≡ own_bytes before ++ own ∷ own_bytes behind =
+    ap own_bytes splits ∙ own_both before ((location, own) ∷ behind) in
+    let all : own_bytes before ++ byte ∷ more ≡ own_bytes before ++ own ∷ (own_bytes behind ++ same.0) =
+    sym is ∙ same.1 ∙ ap (λ (l : List ℕ). l ++ same.0) owns
+    ∙ append_assoc (own_bytes before) (own ∷ own_bytes behind) same.0 in
+    absurd (other (same_next (own_bytes before) more (own_bytes behind ++ same.0) byte own all))
+same_first updates bytes Short same never = absurd never
+same_first updates bytes Format same never = absurd never
+
+same_behind : (updates : List (ℕ × ℕ)) (one two : List ℕ) (finding : Finding) → one ≡ two
+    → IsFirstOther updates one Same → IsFirstOther updates two finding → finding ≡ Same
+same_behind updates one two finding same first second =
+    same_first updates two finding (subst (λ (l : List ℕ). IsFirstOther updates l Same) same first) second
+
+pub same_found : (updates : List (ℕ × ℕ)) (bytes : List ℕ) (finding : Finding) → IsFound updates bytes Same
+    → IsFound updates bytes finding → finding ≡ Same
+same_found updates bytes Same all is = refl
+same_found updates bytes (Other location byte) (last, reaches, inl (one, is1, near, same)) (last2, r2, inl (two, is2, n2, other)) =
+    let both : one ≡ two = cc in same_behind updates one two (Other location byte) both same other
+same_found updates bytes (Other location byte) (last, reaches, inr (one, is1, late, same)) (last2, r2, inr (two, is2, l2, other)) =
+    let both : one ≡ two = cc in same_behind updates one two (Other location byte) both same other
+same_found updates bytes (Other location byte) (last, reaches, inl (one, is1, near, same)) (last2, r2, inr (two, is2, l2, other)) =
+    absurd (omega arith)
+same_found updates bytes (Other location byte) (last, reaches, inr (one, is1, late, same)) (last2, r2, inl (two, is2, n2, other)) =
+    absurd (omega arith)
+same_found updates bytes Short (last, reaches, inl (one, is1, near, same)) (last2, more, is2, short) =
+    let both : last ≡ last2 = cc in absurd (omega arith)
+same_found updates bytes Short (last, reaches, inr (one, is1, late, same)) (last2, more, is2, short) =
+    let both : last ≡ last2 = cc in absurd (omega arith)
+same_found updates bytes Format (last, reaches, inl (one, is1, near, same)) (last2, high, low, more, is2, r2, late, other) =
+    absurd (omega arith)
+same_found updates bytes Format (last, reaches, inr (one, is1, late, same)) (last2, high, low, more, is2, r2, l2, other) =
+    let first : high ≡ 0x00 = cc in
+    let second : low ≡ 0x03 = cc in
+    absurd (other (first, second))

@@ -1,0 +1,187 @@
+-- How surveys of units go on, report by report, and how they are broken off.
+use Rattle.std.proofs.Common.{◌≡◌, ◌<◌, ◌∙◌, ◌↔◌, refl, sym, ap, subst, ℕ, List, [], ◌∷◌, ◌++◌, Option, Some, None, Bool, true, false}
+use Rattle.std.proofs.Common.{is_some, suc, ◌+◌, ◌≤◌, length, take, drop, drop-cons, reverse, get_or, arith}
+use Rattle.std.proofs.Common.{◌&&◌, if◌then◌else◌}
+use Rattle.std.proofs.lemmas.List.{take_more, take_all, take-append-drop, reverse-append, reverse-reverse}
+use Rattle.std.specs.Io.KnownBytes.{Appends, Keeps}
+use Rattle.std.proofs.KnownBytes.{Appends-trans, Appends-nil, Keeps-refl}
+use Rattle.std.specs.List.{AllByRecursion}
+use Rattle.dali_bank.specs.Order.{Contents}
+use Rattle.dali_read.specs.Readings.{Course}
+use Rattle.dali_read.specs.Places.{last_course, order_course}
+use Rattle.dali_read.specs.Findings.{IsFound}
+use Rattle.dali_read.specs.declared.finding.Finding.{Finding}
+use Rattle.dali_read.specs.declared.finding.Finding.TheVariants.{Same}
+use Rattle.dali_read.proofs.FindingLemmas.{same_found}
+use Rattle.dali_read.proofs.CourseLemmas.{last_read}
+use Rattle.dali_write.specs.Exchanges.{Exchange}
+use Rattle.dali_drive.specs.declared.fault.DriveFault.{DriveFault}
+use Rattle.dali_drive.specs.declared.fault.DriveFault.TheVariants.{Journal, Link, Line, End, NoMemory, TooLong, Out}
+use Rattle.dali_drive.specs.Driven.{AppendsPart}
+use Rattle.dali_drive.specs.Transcript.{Streams, shown, link_shown}
+use Rattle.dali_drive.specs.UnitRead.{LinkText, IsUnitRead, UnitReadBroke}
+use Rattle.dali_drive.specs.SurveyLines.{last_line, finding_line, order_silent_line}
+use Rattle.dali_drive.specs.Surveys.{Report, Surveyed, Reported, BreaksReport, IsScanReport, IsOrderReport, IsSame}
+use Rattle.dali_drive.specs.Surveys.{TellsLast, TellsOrder, all_told, answered, lines_in, link_of, addresses_below}
+use Rattle.dali_drive.proofs.DriveLemmas.{IsCut}
+use Rattle.dali_drive.proofs.ReadingLemmas.{told_nothing, told_both}
+
+pub surveyed_nothing : {A : Type 0} (is_report : Report A → Type 0) (first : Streams)
+    → Surveyed is_report [] first first
+surveyed_nothing is_report first =
+    record { each = tt; link = told_nothing (link_of first); out = Appends-nil first.out }
+
+pub surveyed_more : {A : Type 0} (is_report : Report A → Type 0) (reports : List (Report A)) (item : A)
+    (is_so : Report A → Type 0) (first mid last : Streams)
+    → Surveyed is_report reports first mid → (r : Reported is_report item is_so mid last)
+    → Surveyed is_report (r.report ∷ reports) first last
+surveyed_more is_report reports item is_so first mid last s r = record {
+  each = (r.is, s.each);
+  link = told_both r.report.told (all_told reports) (link_of first) (link_of mid) (link_of last) s.link r.link;
+  out = Appends-trans _ _ _ _ _ s.out r.out;
+}
+
+-- the fault broke the reading off, before its line
+pub breaks_reading : {A : Type 0} (is_report : Report A → Type 0) (fault : DriveFault) (item : A) (unit : ℕ)
+    (course : Course) (l more a less o : Option (List ℕ))
+    → UnitReadBroke unit course fault (link_shown l a) (link_shown more less)
+    → BreaksReport is_report fault item unit course (shown None l a o) (shown None more less o)
+breaks_reading is_report Out item unit course l more a less o broke = absurd broke.broke.broken.answers
+breaks_reading is_report Journal item unit course l more a less o broke = (broke, Keeps-refl o)
+breaks_reading is_report NoMemory item unit course l more a less o broke = (broke, Keeps-refl o)
+breaks_reading is_report Link item unit course l more a less o broke = (broke, Keeps-refl o)
+breaks_reading is_report (Line fault) item unit course l more a less o broke = (broke, Keeps-refl o)
+breaks_reading is_report End item unit course l more a less o broke = (broke, Keeps-refl o)
+breaks_reading is_report TooLong item unit course l more a less o broke = (broke, Keeps-refl o)
+
+-- the line of a reading that ended couldn't be written
+part_of_it : (old new : Option (List ℕ)) (bytes : List ℕ) → IsCut old new bytes → AppendsPart old new bytes
+part_of_it old new bytes cut = record { count = cut.0; within = cut.1; part = cut.2 }
+
+-- ---- which units answer
+
+module _ (unit : ℕ) (l more a less o out : Option (List ℕ)) (outcome : Option (List ℕ))
+    (r : IsUnitRead unit last_course outcome (link_shown l a) (link_shown more less)) (line : List ℕ)
+    (tells : TellsLast unit outcome line) where
+  abbrev pub scan_report : Report ℕ
+  scan_report = record { item = unit; outcome = outcome; told = r.told; line = line }
+
+  pub unit_scanned : Appends o out line
+      → Reported IsScanReport unit (λ report. is_some outcome ≡ is_some report.outcome) (shown None l a o)
+      (shown None more less out)
+  unit_scanned written = record {
+    report = scan_report;
+    item_is = refl;
+    is = (r.ends, tells);
+    so = refl;
+    link = r.text;
+    out = written;
+  }
+
+  pub scan_cut : IsCut o out line
+      → BreaksReport IsScanReport Out unit unit last_course (shown None l a o) (shown None more less out)
+  scan_cut cut = (scan_report, refl, (r.ends, tells), r.text, part_of_it o out line cut)
+
+-- the one byte that was read of a unit
+pub last_is : (unit : ℕ) (bytes : List ℕ) (first last : Streams) → IsUnitRead unit last_course (Some bytes) first last
+    → (byte : ℕ) × (bytes ≡ byte ∷ [])
+last_is unit bytes first last r = let one = last_read r.told unit bytes r.ends in (one.0, one.1)
+
+-- ---- units beside orders
+
+-- what is found of an order is all the same, or not
+pub same_told : (order : Contents) (bytes : List ℕ) (finding : Finding) (told : List Exchange) (line : List ℕ)
+    (same : Bool)
+    → IsFound order.updates bytes finding → ((same ≡ true) ↔ (finding ≡ Same))
+    → (same ≡ true) ↔ IsSame (record { item = order; outcome = Some bytes; told = told; line = line })
+same_told order bytes finding told line same found so = (
+  λ is. (bytes, refl, subst (λ (f : Finding). IsFound order.updates bytes f) (so.0 is) found),
+  λ all. let mine : bytes ≡ all.0 = cc in
+      so.1 (same_found order.updates bytes finding
+      (subst (λ (l : List ℕ). IsFound order.updates l Same) (sym mine) all.2) found),
+)
+
+pub silent_told : (order : Contents) (told : List Exchange) (line : List ℕ)
+    → (false ≡ true) ↔ IsSame (record { item = order; outcome = None; told = told; line = line })
+silent_told order told line = (λ never. cc, λ same. let never = same.1 in cc)
+
+module _ (order : Contents) (l more a less o out : Option (List ℕ)) (outcome : Option (List ℕ))
+    (r : IsUnitRead order.unit (order_course order.updates) outcome (link_shown l a) (link_shown more less))
+    (line : List ℕ) (tells : TellsOrder order outcome line) where
+  abbrev pub order_report : Report Contents
+  order_report = record { item = order; outcome = outcome; told = r.told; line = line }
+
+  pub order_verified : (same : Bool) → ((same ≡ true) ↔ IsSame order_report) → Appends o out line
+      → Reported IsOrderReport order (λ report. (same ≡ true) ↔ IsSame report) (shown None l a o)
+      (shown None more less out)
+  order_verified same so written = record {
+    report = order_report;
+    item_is = refl;
+    is = (r.ends, tells);
+    so = so;
+    link = r.text;
+    out = written;
+  }
+
+  pub verify_cut : IsCut o out line
+      → BreaksReport IsOrderReport Out order order.unit (order_course order.updates) (shown None l a o)
+      (shown None more less out)
+  verify_cut cut = (order_report, refl, (r.ends, tells), r.text, part_of_it o out line cut)
+
+-- the unit by another name
+pub read_of : {course : Course} {outcome : Option (List ℕ)} {first last : Streams} (one two : ℕ) → one ≡ two
+    → IsUnitRead one course outcome first last → IsUnitRead two course outcome first last
+read_of {course} {outcome} {first} {last} one two same read =
+    subst (λ (unit : ℕ). IsUnitRead unit course outcome first last) same read
+
+pub broke_of : {course : Course} {fault : DriveFault} {first last : Streams} (one two : ℕ) → one ≡ two
+    → UnitReadBroke one course fault first last → UnitReadBroke two course fault first last
+broke_of {course} {fault} {first} {last} one two same broke =
+    subst (λ (unit : ℕ). UnitReadBroke unit course fault first last) same broke
+
+-- one more address
+pub one_more : (address : ℕ) → addresses_below (address + 1) ≡ address ∷ addresses_below address
+one_more address = let same : address + 1 ≡ suc address = omega arith in ap addresses_below same
+
+-- one more item, of those that a list begins with
+pub items_more : (orders : List Contents) (index : ℕ) (d order : Contents) (items : List Contents)
+    → index < length orders → order ≡ get_or orders index d → items ≡ reverse (take index orders)
+    → order ∷ items ≡ reverse (take (index + 1) orders)
+items_more orders index d order items below is so =
+    rw (is, so) (sym (ap (λ (l : List Contents). reverse l) (take_more orders index d below)
+    ∙ reverse-append (take index orders) (get_or orders index d ∷ [])))
+
+-- all of them, where all were gone through
+pub items_all : (orders : List Contents) (index : ℕ) (items : List Contents) → length orders ≤ index
+    → items ≡ reverse (take index orders) → reverse items ≡ orders
+items_all orders index items all so =
+    ap (λ (l : List Contents). reverse l) so ∙ reverse-reverse (take index orders) ∙ take_all index orders all
+
+-- those that are left
+pub items_left : (orders : List Contents) (index : ℕ) (d order : Contents) (items : List Contents)
+    → index < length orders → order ≡ get_or orders index d → items ≡ reverse (take index orders)
+    → reverse items ++ order ∷ drop (suc index) orders ≡ orders
+items_left orders index d order items below is so =
+    ap (λ (l : List Contents). reverse l ++ order ∷ drop (suc index) orders) so
+    ∙ ap (λ (l : List Contents). l ++ order ∷ drop (suc index) orders) (reverse-reverse (take index orders))
+    ∙ ap (λ (o : Contents). take index orders ++ o ∷ drop (suc index) orders) is
+    ∙ ap (λ (l : List Contents). take index orders ++ l) (sym (drop-cons orders index d below))
+    ∙ take-append-drop index orders
+
+-- all so far and this one
+pub both_same : (all one : Bool) (older now : Type 0) → ((all ≡ true) ↔ older) → ((one ≡ true) ↔ now)
+    → ((all && one) ≡ true) ↔ (now × older)
+both_same true one older now so this = (λ is. (this.0 is, so.0 refl), λ both. this.1 both.0)
+both_same false one older now so this = (λ never. cc, λ both. let never = so.1 both.1 in cc)
+
+-- one more unit answered, or none
+pub counts_one : {A : Type 0} (report : Report A) (reports : List (Report A)) (answers : Bool)
+    → answers ≡ is_some report.outcome → answers ≡ true → answered (report ∷ reports) ≡ answered reports + 1
+counts_one report reports answers same is =
+    ap (λ (b : Bool). answered reports + (if b then 1 else 0)) (sym same ∙ is)
+
+pub counts_none : {A : Type 0} (report : Report A) (reports : List (Report A)) (answers : Bool)
+    → answers ≡ is_some report.outcome → answers ≡ false → answered (report ∷ reports) ≡ answered reports
+counts_none report reports answers same is =
+    let none = ap (λ (b : Bool). answered reports + (if b then 1 else 0)) (sym same ∙ is) in
+    let still : answered reports + 0 ≡ answered reports = omega arith in none ∙ still

@@ -152,10 +152,11 @@ pub(crate) const READ_BANK_HELP: &str =
 
 pub(crate) static VERIFY: Usage<'static> = Usage {
     name: "verify",
-    about: "Compares units with a file of orders over a link: standard output has the frames, standard input the answers",
+    about: "\
+Compares units with a file of orders over a link: standard output has the frames, standard input the answers",
     faults: "\
-Each order has a line on standard error: `order N unit U` and then `same`, `other LL BB` (the first location that
-holds another byte, and that byte), `short`, `format` or `silent`.
+Each order has a line on standard error: `order N unit U` and then `same`, `other LL BB` (the first location
+that holds another byte, and that byte), `short`, `format` or `silent`.
 Nothing is written to a unit, and none is write-enabled.
 Nothing is sent where an item is refused, with the faults of `check`, or where ORDERS has a fault: 11 Json,
 12 Document, 13 TooBig (over 16777216 bytes), 20 Memory, 21 File. Faults of the link as of `read`.

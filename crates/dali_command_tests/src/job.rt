@@ -23,12 +23,14 @@ fn names_each(alloc: Global, cases: &[(&str, Job<'_>)]) -> Result<(), Fail> {
     Ok(())
 }
 
-static LINES: [(&str, Job<'static>); 5] = [
+static LINES: [(&str, Job<'static>); 7] = [
     ("dali_bench check orders.json", Job::Check("orders.json")),
     ("dali_bench frame A303", Job::Frame("A303")),
     ("dali_bench frame ", Job::Frame("")),
     ("dali_bench show bank.hex", Job::Show("bank.hex")),
     ("dali_bench journal b.bin", Job::Journal("b.bin")),
+    ("dali_bench verify o.json", Job::Verify("o.json")),
+    ("dali_bench scan", Job::Scan),
 ];
 
 #[test]
@@ -81,6 +83,29 @@ fn command_lines_of_a_drive(rt: HostRuntime) -> Result<(), Fail> {
     Ok(())
 }
 
+fn reading(unit: u8) -> Job<'static> {
+    Job::Read {
+        unit,
+        bank: "bank.hex",
+    }
+}
+
+// Command lines of a reading, each and its unit with a bar between them.
+const READS: &str = "dali_bench read 0 bank.hex|0
+dali_bench read 5 bank.hex|5
+dali_bench read 63 bank.hex|63
+dali_bench read 007 bank.hex|7
+dali_bench read +9 bank.hex|9";
+
+#[test]
+fn command_lines_of_a_reading(rt: HostRuntime) -> Result<(), Fail> {
+    for case in READS.split('\n') {
+        let (line, unit) = case.split_once('|').ok_or("a command line")?;
+        names(rt.alloc(), line, reading(unit.parse()?))?;
+    }
+    Ok(())
+}
+
 // Whether a command line has an error of the kind.
 fn is_refused(alloc: Global, kind: ErrorKind, line: &str) -> Result<bool, AllocError> {
     let words = words_of(alloc, line)?;
@@ -104,7 +129,10 @@ dali_bench run --frames
 dali_bench drive
 dali_bench drive a
 dali_bench drive --moment 5
-dali_bench drive a --moment 5";
+dali_bench drive a --moment 5
+dali_bench read
+dali_bench read 5
+dali_bench verify";
 
 const UNKNOWN: &str = "dali_bench check a b
 dali_bench check --fast a
@@ -112,7 +140,13 @@ dali_bench check --frames a
 dali_bench check --moment 5 a
 dali_bench run a b
 dali_bench drive a b c
-dali_bench drive --frames a b";
+dali_bench drive --frames a b
+dali_bench read 5 a b
+dali_bench read --moment 5 5 a
+dali_bench read -1 a
+dali_bench verify a b
+dali_bench scan a
+dali_bench scan --all";
 
 const TWICE: &str = "dali_bench run --frames a --frames
 dali_bench drive --moment 1 a b --moment 1";
@@ -126,13 +160,25 @@ dali_bench drive a b --moment=-1
 dali_bench drive a b --moment=
 dali_bench drive a b --moment 18446744073709551616";
 
+// Units over 63, or that are no numbers.
+const NO_UNITS: &str = "dali_bench read 64 a
+dali_bench read 255 a
+dali_bench read 256 a
+dali_bench read 18446744073709551616 a
+dali_bench read x a
+dali_bench read 5.0 a
+dali_bench read 0x10 a
+dali_bench read  a
+dali_bench read -- -1 a";
+
 // The kind of the error of each of the command lines beside it.
-static REFUSED: [(ErrorKind, &str); 8] = [
+static REFUSED: [(ErrorKind, &str); 9] = [
     (ErrorKind::MissingSubcommand, "dali_bench"),
     (ErrorKind::MissingRequiredArgument, UNVALUED),
     (ErrorKind::UnknownArgument, UNKNOWN),
     (ErrorKind::ArgumentConflict, TWICE),
     (ErrorKind::ValueValidation, NO_MOMENTS),
+    (ErrorKind::ValueValidation, NO_UNITS),
     (ErrorKind::InvalidValue, "dali_bench drive a b --moment"),
     (ErrorKind::InvalidSubcommand, "dali_bench chek"),
     (ErrorKind::DisplayHelp, "dali_bench --help"),

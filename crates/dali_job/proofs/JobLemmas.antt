@@ -12,9 +12,9 @@ use Rattle.clap.specs.declared.builder.command.Command.{Command}
 use Rattle.clap.specs.declared.builder.command.Command.TheViews.{out-Command as fields_of}
 use Rattle.clap.specs.declared.parser.matches.ArgMatches.{ArgMatches}
 use Rattle.clap.proofs.OnLiterals.{clap_on_literals}
-use Rattle.dali_job.specs.Jobs.{HasFlag, HasOption, HasValue, IsJob, IsNoJob, IsNumber, bench_app}
+use Rattle.dali_job.specs.Jobs.{HasFlag, HasNumber, HasValue, IsEntered, IsJob, IsNoJob, IsNumber, bench_app}
 use Rattle.dali_job.specs.declared.job.Job.{Job}
-use Rattle.dali_job.specs.declared.job.Job.TheVariants.{Check, Run, Frame, Show, Journal, Drive}
+use Rattle.dali_job.specs.declared.job.Job.TheVariants.{Check, Run, Frame, Show, Journal, Drive, Read, Verify, Scan}
 
 bench_is_simple : is_simple bench_app ≡ true
 unfolding clap_on_literals
@@ -90,11 +90,11 @@ pub number_found : (E : Type 0) (G : Text → Result ℕ E → Type 0) (entered 
     → ((t : Text) (r : Result ℕ E) → G t r → ParsesUnsigned 64 10 t r)
     → entered ≡ Some (command, rows)
     → (one_of id rows ≡ None → o ≡ None) → ((t : Text) → one_of id rows ≡ Some t → ReadsOne G t o)
-    → IfSome o (HasOption entered command id)
+    → IfSome o (HasNumber entered command id)
 number_found E G entered command id rows o only e none value = found (one_of id rows) o refl none value
   where
     found : (text : Option Text) (o : Option ℕ) → one_of id rows ≡ text → (text ≡ None → o ≡ None)
-        → ((t : Text) → text ≡ Some t → ReadsOne G t o) → IfSome o (HasOption entered command id)
+        → ((t : Text) → text ≡ Some t → ReadsOne G t o) → IfSome o (HasNumber entered command id)
     found text None is none value = tt
     found None (Some n) is none value = let clash : Some n ≡ None = none refl in cc
     found (Some t) (Some n) is none value = (rows, t, e, is, number_read E G t n only (value t refl))
@@ -104,12 +104,12 @@ pub number_none : (E : Type 0) (G : Text → Result ℕ E → Type 0) (entered :
     → ((t : Text) (r : Result ℕ E) → G t r → ParsesUnsigned 64 10 t r)
     → entered ≡ Some (command, rows)
     → ((t : Text) → one_of id rows ≡ Some t → ReadsOne G t o)
-    → IfNone o ((number : ℕ) → ¬ HasOption entered command id number)
+    → IfNone o ((number : ℕ) → ¬ HasNumber entered command id number)
 number_none E G entered command id rows o only e value = not_found (one_of id rows) o refl value
   where
     not_found : (text : Option Text) (o : Option ℕ) → one_of id rows ≡ text
         → ((t : Text) → text ≡ Some t → ReadsOne G t o)
-        → IfNone o ((number : ℕ) → ¬ HasOption entered command id number)
+        → IfNone o ((number : ℕ) → ¬ HasNumber entered command id number)
     not_found text (Some n) is value = tt
     not_found None None is value =
         λ number has. no_value (one_of id) command has.1 entered rows has.0 e is has.2 has.3
@@ -139,15 +139,19 @@ pub no_job : (entered : Option (Text × List Row))
     → ((value : Text) → ¬ HasValue entered (codes "frame") (codes "HEX") value)
     → ((value : Text) → ¬ HasValue entered (codes "show") (codes "HEXFILE") value)
     → ((value : Text) → ¬ HasValue entered (codes "journal") (codes "FILE") value)
+    → ((value : Text) → ¬ HasValue entered (codes "verify") (codes "ORDERS") value)
+    → ¬ IsEntered entered (codes "scan")
+    → ((unit : ℕ) (bank : Bor Text) → ¬ IsJob entered (Read unit bank))
     → ((orders journal : Bor Text) (moment : ℕ) → ¬ IsJob entered (Drive orders journal moment)) → IsNoJob entered
-no_job entered no_orders no_scenario no_digits no_dump no_records no_drive (Check orders) = no_orders orders.now
-no_job entered no_orders no_scenario no_digits no_dump no_records no_drive (Run scenario _) =
-    λ named. no_scenario scenario.now named.0
-no_job entered no_orders no_scenario no_digits no_dump no_records no_drive (Frame digits) = no_digits digits.now
-no_job entered no_orders no_scenario no_digits no_dump no_records no_drive (Show dump) = no_dump dump.now
-no_job entered no_orders no_scenario no_digits no_dump no_records no_drive (Journal records) = no_records records.now
-no_job entered no_orders no_scenario no_digits no_dump no_records no_drive (Drive orders journal moment) =
-    no_drive orders journal moment
+no_job _ no_orders _ _ _ _ _ _ _ _ (Check orders) = no_orders orders.now
+no_job _ _ no_scenario _ _ _ _ _ _ _ (Run scenario _) = λ named. no_scenario scenario.now named.0
+no_job _ _ _ no_digits _ _ _ _ _ _ (Frame digits) = no_digits digits.now
+no_job _ _ _ _ no_dump _ _ _ _ _ (Show dump) = no_dump dump.now
+no_job _ _ _ _ _ no_records _ _ _ _ (Journal records) = no_records records.now
+no_job _ _ _ _ _ _ no_compared _ _ _ (Verify orders) = no_compared orders.now
+no_job _ _ _ _ _ _ _ no_scan _ _ Scan = no_scan
+no_job _ _ _ _ _ _ _ _ no_read _ (Read unit bank) = no_read unit bank
+no_job _ _ _ _ _ _ _ _ _ no_drive (Drive orders journal moment) = no_drive orders journal moment
 
 -- the same of what may be no job
 pub no_job_in : (entered : Option (Text × List Row)) (found : Option Job)

@@ -1,5 +1,5 @@
 -- The command line, and what it asks for.
-use Rattle.std.specs.Prelude.{◌≡◌, ◌<◌, ◌^◌, ℕ, List, [], ◌∷◌, Option, Some, codes, true}
+use Rattle.std.specs.Prelude.{◌≡◌, ◌<◌, ◌≤◌, ◌^◌, ℕ, List, [], ◌∷◌, Option, Some, codes, true}
 use Rattle.std.specs.Bool.{Decides}
 use Rattle.std.specs.Str.Parse.{IsNumeral, digits_value, without_leading_plus}
 use Rattle.clap.specs.Words.{App, Row, Rule, Text, first_of, new_app, new_rule, one_of, subcommand_of, with_rule}
@@ -7,7 +7,7 @@ use Rattle.clap.specs.Words.{with_subcommand}
 use Rattle.clap.specs.declared.builder.ArgAction.TheVariants.{Set, SetTrue}
 use Rattle.clap.specs.declared.builder.ValueParser.TheVariants.{Unsigned}
 use Rattle.dali_job.specs.declared.job.Job.{Job}
-use Rattle.dali_job.specs.declared.job.Job.TheVariants.{Check, Run, Frame, Show, Journal, Drive}
+use Rattle.dali_job.specs.declared.job.Job.TheVariants.{Check, Run, Frame, Show, Journal, Drive, Read, Verify, Scan}
 
 -- an argument that has to be there, and takes one value
 abbrev pub value_rule : Text → Rule
@@ -27,6 +27,10 @@ number_rule id missing = record (new_rule id) {
   parser = Some (Unsigned 0 18446744073709551615);
 }
 
+-- an argument that has to be there, and takes the short address of a unit
+abbrev pub unit_rule : Text → Rule
+unit_rule id = record (value_rule id) { parser = Some (Unsigned 0 63) }
+
 -- a command with one argument
 abbrev pub command_app : Text → Text → App
 command_app name id = with_rule (new_app name) (value_rule id)
@@ -44,6 +48,10 @@ abbrev pub drive_app : App
 drive_app = let files = with_rule (command_app (codes "drive") (codes "ORDERS")) (value_rule (codes "JOURNAL")) in
     with_rule files (number_rule (codes "moment") (codes "0"))
 
+-- the command that reads, with its unit and its file
+abbrev pub read_app : App
+read_app = with_rule (with_rule (new_app (codes "read")) (unit_rule (codes "UNIT"))) (value_rule (codes "HEXFILE"))
+
 -- the program's commands and their arguments, as `clap` sees them
 abbrev pub bench_app : App
 bench_app = let checks = with_subcommand top_app (command_app (codes "check") (codes "ORDERS")).top in
@@ -51,7 +59,14 @@ bench_app = let checks = with_subcommand top_app (command_app (codes "check") (c
     let frames = with_subcommand runs (command_app (codes "frame") (codes "HEX")).top in
     let shows = with_subcommand frames (command_app (codes "show") (codes "HEXFILE")).top in
     let journals = with_subcommand shows (command_app (codes "journal") (codes "FILE")).top in
-    with_subcommand journals drive_app.top
+    let drives = with_subcommand journals drive_app.top in
+    let reads = with_subcommand drives read_app.top in
+    let verifies = with_subcommand reads (command_app (codes "verify") (codes "ORDERS")).top in
+    with_subcommand verifies (new_app (codes "scan")).top
+
+-- a parse entered the command
+abbrev pub IsEntered : Option (Text × List Row) → Text → Type 0
+IsEntered entered command = (rows : List Row) × (entered ≡ Some (command, rows))
 
 -- a parse entered the command, and its argument has the value
 abbrev pub HasValue : Option (Text × List Row) → Text → Text → Text → Type 0
@@ -69,10 +84,14 @@ pub record IsNumber (text : Text) (number : ℕ) : Type 0 where
   pub value : digits_value 10 (without_leading_plus text) ≡ number
   pub fits : number < 2 ^ 64
 
--- a parse entered the command, and its option has the number
-abbrev pub HasOption : Option (Text × List Row) → Text → Text → ℕ → Type 0
-HasOption entered command id number = (rows : List Row) × (text : Text) × (entered ≡ Some (command, rows))
+-- a parse entered the command, and its argument has the number
+abbrev pub HasNumber : Option (Text × List Row) → Text → Text → ℕ → Type 0
+HasNumber entered command id number = (rows : List Row) × (text : Text) × (entered ≡ Some (command, rows))
     × (one_of id rows ≡ Some text) × IsNumber text number
+
+-- a parse entered the command, and its argument has the short address of a unit
+abbrev pub HasUnit : Option (Text × List Row) → Text → Text → ℕ → Type 0
+HasUnit entered command id unit = HasNumber entered command id unit × (unit ≤ 63)
 
 -- the job is the command that a parse entered, with its values, flags and numbers
 abbrev pub IsJob : Option (Text × List Row) → Job → Type 0
@@ -86,7 +105,12 @@ IsJob entered (Journal records) = HasValue entered (codes "journal") (codes "FIL
 IsJob entered (Drive orders journal moment) =
     HasValue entered (codes "drive") (codes "ORDERS") orders.now
     × HasValue entered (codes "drive") (codes "JOURNAL") journal.now
-    × HasOption entered (codes "drive") (codes "moment") moment
+    × HasNumber entered (codes "drive") (codes "moment") moment
+IsJob entered (Read unit bank) =
+    HasUnit entered (codes "read") (codes "UNIT") unit
+    × HasValue entered (codes "read") (codes "HEXFILE") bank.now
+IsJob entered (Verify orders) = HasValue entered (codes "verify") (codes "ORDERS") orders.now
+IsJob entered Scan = IsEntered entered (codes "scan")
 
 -- no job is that of the command that a parse entered
 abbrev pub IsNoJob : Option (Text × List Row) → Type 0

@@ -1,13 +1,18 @@
 ghost use Rattle.std.specs.Prelude.{◌≡◌, ◌⊎◌, List, ℕ, IfOk, IfErr, IfSome, IfNone, IsOkAnd, codes, false, map};
 ghost use Rattle.clap.specs.declared.builder.command.Command.TheViews.{out-Command as fields_of};
 ghost use Rattle.std.specs.Bool.{Decides};
-ghost use Rattle.clap.specs.Words.{HasKind, app_of, fault_of, rule_of, subcommand_rows_of, AddsSubcommand};
-ghost use Rattle.dali_job.specs.Jobs.{HasFlag, HasOption, HasValue, IsJob, IsJobOf, IsNoJob, NamesNoJob};
-ghost use Rattle.dali_job.specs.Jobs.{bench_app, command_app, drive_app, flag_rule};
-ghost use Rattle.dali_job.specs.Jobs.{number_rule, run_app, value_rule};
-ghost use Rattle.dali_job.specs.declared.job.Job.TheVariants.{Drive};
+ghost use Rattle.clap.specs.Words.{HasKind, app_of, fault_of, new_app, rule_of, subcommand_rows_of, AddsSubcommand};
+ghost use Rattle.dali_job.specs.Jobs.{HasFlag, HasNumber, HasUnit, HasValue, IsEntered, IsJob, IsJobOf, IsNoJob};
+ghost use Rattle.dali_job.specs.Jobs.{NamesNoJob, bench_app, command_app, drive_app, flag_rule};
+ghost use Rattle.dali_job.specs.Jobs.{number_rule, read_app, run_app, unit_rule, value_rule};
+ghost use Rattle.dali_job.specs.declared.job.Job.TheVariants.{Drive, Read};
 ghost use Rattle.std.specs.Borrow.{Bor};
 
+use crate::usages::{
+    ABOUT, Argument, CHECK, CHECK_ORDERS, DRIVE, DRIVE_JOURNAL_HELP, DRIVE_MOMENT_HELP, FRAME,
+    FRAME_HEX, JOURNAL, JOURNAL_FILE, LINK_ORDERS, READ, READ_BANK_HELP, READ_UNIT_HELP, RUN,
+    RUN_FRAMES_HELP, RUN_SCENARIO, SCAN, SHOW, SHOW_DUMP, TOP_HELP, Usage, VERIFY,
+};
 use clap::error::ErrorKind;
 use clap::{Arg, ArgAction, ArgMatches, Command, Error, value_parser};
 use std::alloc::{AllocError, Global};
@@ -36,116 +41,16 @@ pub enum Job<'a> {
         journal: &'a str,
         moment: u64,
     },
+    /// To read bank 1 of a unit over a link into a file.
+    Read {
+        unit: u8,
+        bank: &'a str,
+    },
+    /// To compare memory bank 1 of units with a file of orders, over a link.
+    Verify(&'a str),
+    /// To look which units of a link answer.
+    Scan,
 }
-
-const ABOUT: &str =
-    "Luminaire data in memory bank 1 of DALI control gear: orders checked, and run on simulated units";
-
-const TOP_HELP: &str = "\
-A file named - is standard input; not for `drive`, which has the answers there.
-`dali_bench --version` alone prints the version, and the logic that it is proved with.";
-
-const FRAMES_HELP: &str = "Prints a line for each frame, with its answer";
-
-const DRIVE_JOURNAL_HELP: &str = "The writer's journal, which is made where there is none";
-
-const DRIVE_MOMENT_HELP: &str =
-    "A whole number that is kept with each order that begins, as the seconds since 1970";
-
-// A command with an argument that has to be there: its name, what it does and its faults, the argument's name and help.
-struct Usage<'a> {
-    name: &'a str,
-    about: &'a str,
-    id: &'a str,
-    help: &'a str,
-    faults: &'a str,
-}
-
-static CHECK: Usage<'static> = Usage {
-    name: "check",
-    about: "Checks a file of orders and prints the bytes that each would write",
-    id: "ORDERS",
-    help: "A JSON array of orders; /dev/stdin for standard input",
-    faults: "\
-Faults of an order: 1 Unit (short address over 63), 2 Kind (value of another kind),
-3 Range (number out of range), 4 Gtin (length or check digit), 5 Text (length or character,
-or no 16 hexadecimal digits), 7 Voltage (minimum over maximum), 8 Empty (no field),
-9 Shape (no object, or order or unit is missing or no whole number), 10 Key (unknown key).
-Faults of the file: 11 Json, 12 Document (no array), 13 TooBig (over 16777216 bytes),
-20 Memory, 21 File (can't be opened or read).
-Exit status: 0 all accepted, 1 something refused, 2 a file, the memory or the output failed.",
-};
-
-static RUN: Usage<'static> = Usage {
-    name: "run",
-    about: "Runs the events of a scenario on simulated units and prints what happened",
-    id: "SCENARIO",
-    help: "A JSON object of limit, units, fates and events; /dev/stdin for standard input",
-    faults: "\
-Keys of a unit: address, bank, fixed, dtr; of a fate: times, lost, answer_lost, refuse;
-of an event: submit with or without moment, steps, stop or power.
-Faults of the file: 11 Json, 12 Document (an unknown key, or another form), 13 TooBig (over 16777216
-bytes, 20000 events or 20000 fates), 20 Memory, 21 File (can't be opened or read).
-Faults of a unit: 1 Address (over 63), 2 Size (not 17 to 255 bytes, or 00h isn't the last location),
-3 Fixed (locations that don't rise, below 03h or past the last);
-of the units together: 5 SameAddress.
-Faults of a submitted order: as of `check`. Fault of the run: 1 Limit (0 or over 100000).
-Exit status: 0 it ran, 1 something refused, 2 a file, the memory or the output failed.",
-};
-
-static FRAME: Usage<'static> = Usage {
-    name: "frame",
-    about: "Prints what the word of a forward frame means",
-    id: "HEX",
-    help: "Four hexadecimal digits, as A303",
-    faults: "\
-Faults: 14 Hex (not four hexadecimal digits), 20 Memory.
-Exit status: 0 printed, 1 refused, 2 the memory or the output failed.",
-};
-
-static SHOW: Usage<'static> = Usage {
-    name: "show",
-    about: "Prints what the bytes of a memory bank say",
-    id: "HEXFILE",
-    help: "The bytes as hexadecimal digits, location 00h first; /dev/stdin for standard input",
-    faults: "\
-Faults of the file: 13 TooBig (over 4096 bytes of text, or over 255 bytes of the bank),
-14 Hex (no hexadecimal digits, or an odd number of them), 20 Memory, 21 File (can't be opened or read).
-Exit status: 0 printed, 1 refused, 2 a file, the memory or the output failed.",
-};
-
-static JOURNAL: Usage<'static> = Usage {
-    name: "journal",
-    about: "Prints the records of a writer's journal, and how much of it counts",
-    id: "FILE",
-    help: "The journal's bytes; /dev/stdin for standard input",
-    faults: "\
-Faults of the journal, with the place of the record, counted from 0: 3 Record (no record stands there),
-4 Sequence (the records before don't allow it), 5 Repeated (its order number was there),
-6 Full (over 100000 orders); without a place 7 Header (the first byte is 44h, and no whole header stands there).
-A record that is cut off at the end doesn't count, and is no fault.
-Faults of the file: 13 TooBig (over 33554432 bytes), 20 Memory, 21 File (can't be opened or read).
-Exit status: 0 printed, 1 refused, 2 a file, the memory or the output failed.",
-};
-
-static DRIVE: Usage<'static> = Usage {
-    name: "drive",
-    about: "Carries out a file of orders over a link: standard output has the frames, standard input the answers",
-    id: "ORDERS",
-    help: "A JSON array of orders, as for `check`",
-    faults: "\
-Standard output has a line for each frame, four hexadecimal digits. For each, one line is read from standard
-input: two hexadecimal digits, or -- for no answer. Replies and faults go to standard error.
-Nothing is sent where an item is refused, with the faults of `check`, or where a file has a fault:
-of ORDERS 11 Json, 12 Document, 13 TooBig (over 16777216 bytes), of JOURNAL 13 TooBig (over 33554432 bytes)
-and those of `journal`; 20 Memory, 21 File (can't be opened, read, written anew or synced, or another drive has
-the journal). A journal that is empty or of version 1 is written anew, in version 2, before anything is sent.
-Faults of a drive: 1 Journal (can't be written), 2 Link (can't be read or written), 3 Line (no answer),
-4 End (no more answers), 6 TooLong (over 8 bytes in a line), 7 Out (standard error can't be written).
-After a fault the same command goes on from the journal.
-Exit status: 0 each order has its reply, whatever it says, 1 something refused, or 3 Line, 4 End, 6 TooLong,
-2 a file, the memory, the link or the output failed.",
-};
 
 /// Reads the command line, the program's name first.
 ///
@@ -214,7 +119,27 @@ fn job_in<'a>(matches: &ArgMatches<'a>) -> Option<Job<'a>>
     if let Some(records) = value_of(matches, "journal", "FILE") {
         return Some(Job::Journal(records));
     }
+    if let Some(orders) = value_of(matches, "verify", "ORDERS") {
+        return Some(Job::Verify(orders));
+    }
+    if is_entered(matches, "scan") {
+        return Some(Job::Scan);
+    }
+    if let Some(job) = read_in(matches) {
+        return Some(job);
+    }
     drive_in(matches)
+}
+
+// The job of the command that reads a bank, where a parse entered it.
+fn read_in<'a>(matches: &ArgMatches<'a>) -> Option<Job<'a>>
+    ensures named { IfSome result (IsJob (subcommand_rows_of matches.now)) }
+    ensures none { IfNone result
+        ((unit : ℕ) (bank : Bor (List ℕ)) → ¬ IsJob (subcommand_rows_of matches.now) (Read unit bank)) }
+{
+    let unit = unit_of(matches, "read", "UNIT")?;
+    let bank = value_of(matches, "read", "HEXFILE")?;
+    Some(Job::Read { unit, bank })
 }
 
 // The job of the command that drives, where a parse entered it.
@@ -246,16 +171,37 @@ fn value_of<'a>(matches: &ArgMatches<'a>, command: &str, id: &str) -> Option<&'a
     }
 }
 
-// The number that a command's option has, where a parse entered that command.
+// The number that a command's argument has, where a parse entered that command.
 fn number_of(matches: &ArgMatches<'_>, command: &str, id: &str) -> Option<u64>
-    ensures found { IfSome result (HasOption (subcommand_rows_of matches.now) command.now id.now) }
+    ensures found { IfSome result (HasNumber (subcommand_rows_of matches.now) command.now id.now) }
     ensures none { IfNone result
-        ((number : ℕ) → ¬ HasOption (subcommand_rows_of matches.now) command.now id.now number) }
+        ((number : ℕ) → ¬ HasNumber (subcommand_rows_of matches.now) command.now id.now number) }
 {
     match matches.subcommand_matches(command) {
         Some(found) => found.get_one(id),
         None => None,
     }
+}
+
+// The short address that a command's argument has, where a parse entered that command.
+fn unit_of(matches: &ArgMatches<'_>, command: &str, id: &str) -> Option<u8>
+    ensures found { IfSome result (HasUnit (subcommand_rows_of matches.now) command.now id.now) }
+    ensures none { IfNone result
+        ((unit : ℕ) → ¬ HasUnit (subcommand_rows_of matches.now) command.now id.now unit) }
+{
+    let number = number_of(matches, command, id)?;
+    if number <= 63 {
+        Some(number as u8)
+    } else {
+        None
+    }
+}
+
+// Whether a parse entered the command.
+fn is_entered(matches: &ArgMatches<'_>, command: &str) -> bool
+    ensures { Decides result (IsEntered (subcommand_rows_of matches.now) command.now) }
+{
+    matches.subcommand_matches(command).is_some()
 }
 
 // Whether a parse entered the command with its flag.
@@ -276,12 +222,15 @@ fn bench_command<'a>(alloc: Global) -> Result<Command<'a>, AllocError>
         .about(ABOUT)
         .after_help(TOP_HELP)
         .subcommand_required(true);
-    let checks = with_made(top, command_of(alloc, &CHECK))?;
+    let checks = with_made(top, command_of(alloc, &CHECK, &CHECK_ORDERS))?;
     let runs = with_made(checks, run_command(alloc))?;
-    let frames = with_made(runs, command_of(alloc, &FRAME))?;
-    let shows = with_made(frames, command_of(alloc, &SHOW))?;
-    let journals = with_made(shows, command_of(alloc, &JOURNAL))?;
-    with_made(journals, drive_command(alloc))
+    let frames = with_made(runs, command_of(alloc, &FRAME, &FRAME_HEX))?;
+    let shows = with_made(frames, command_of(alloc, &SHOW, &SHOW_DUMP))?;
+    let journals = with_made(shows, command_of(alloc, &JOURNAL, &JOURNAL_FILE))?;
+    let drives = with_made(journals, drive_command(alloc))?;
+    let reads = with_made(drives, read_command(alloc))?;
+    let verifies = with_made(reads, command_of(alloc, &VERIFY, &LINK_ORDERS))?;
+    verifies.subcommand(plain_command(alloc, &SCAN))
 }
 
 // The program with one more command, where that one could be made.
@@ -302,7 +251,7 @@ fn run_command<'a>(alloc: Global) -> Result<Command<'a>, AllocError>
     ensures app { IfOk result (λ command. app_of command ≡ run_app) }
     ensures local { IfOk result (λ command. (fields_of command).has_globals ≡ false) }
 {
-    command_of(alloc, &RUN)?.arg(frames_flag(alloc))
+    command_of(alloc, &RUN, &RUN_SCENARIO)?.arg(frames_flag(alloc))
 }
 
 // The command that carries out orders over a link.
@@ -310,7 +259,7 @@ fn drive_command<'a>(alloc: Global) -> Result<Command<'a>, AllocError>
     ensures app { IfOk result (λ command. app_of command ≡ drive_app) }
     ensures local { IfOk result (λ command. (fields_of command).has_globals ≡ false) }
 {
-    let files = command_of(alloc, &DRIVE)?.arg(value_argument(
+    let files = command_of(alloc, &DRIVE, &LINK_ORDERS)?.arg(value_argument(
         alloc,
         "JOURNAL",
         DRIVE_JOURNAL_HELP,
@@ -318,15 +267,35 @@ fn drive_command<'a>(alloc: Global) -> Result<Command<'a>, AllocError>
     files.arg(moment_option(alloc))
 }
 
-// A command with one argument, which has to be there.
-fn command_of<'a>(alloc: Global, usage: &Usage<'a>) -> Result<Command<'a>, AllocError>
-    ensures app { IfOk result (λ command. app_of command ≡ command_app usage.now.name.now usage.now.id.now) }
+// The command that reads a bank over a link.
+fn read_command<'a>(alloc: Global) -> Result<Command<'a>, AllocError>
+    ensures app { IfOk result (λ command. app_of command ≡ read_app) }
     ensures local { IfOk result (λ command. (fields_of command).has_globals ≡ false) }
+{
+    let unit = plain_command(alloc, &READ).arg(unit_argument(alloc))?;
+    unit.arg(value_argument(alloc, "HEXFILE", READ_BANK_HELP))
+}
+
+// A command with one argument, which has to be there.
+fn command_of<'a>(
+    alloc: Global,
+    usage: &Usage<'a>,
+    argument: &Argument<'a>,
+) -> Result<Command<'a>, AllocError>
+    ensures app { IfOk result (λ command. app_of command ≡ command_app usage.now.name.now argument.now.id.now) }
+    ensures local { IfOk result (λ command. (fields_of command).has_globals ≡ false) }
+{
+    plain_command(alloc, usage).arg(value_argument(alloc, argument.id, argument.help))
+}
+
+// A command with no argument.
+fn plain_command<'a>(alloc: Global, usage: &Usage<'a>) -> Command<'a>
+    ensures app { app_of result ≡ new_app usage.now.name.now }
+    ensures local { (fields_of result).has_globals ≡ false }
 {
     Command::new(alloc, usage.name)
         .about(usage.about)
         .after_help(usage.faults)
-        .arg(value_argument(alloc, usage.id, usage.help))
 }
 
 // An argument that has to be there, and takes one value.
@@ -340,6 +309,18 @@ fn value_argument<'a>(alloc: Global, id: &'a str, help: &'a str) -> Arg<'a>
         .action(ArgAction::Set)
 }
 
+// The unit of `read`, which has to be there.
+fn unit_argument<'a>(alloc: Global) -> Arg<'a>
+    ensures rule { rule_of result ≡ unit_rule (codes "UNIT") }
+    ensures local { result.global ≡ false }
+{
+    Arg::new(alloc, "UNIT")
+        .help(READ_UNIT_HELP)
+        .required(true)
+        .value_parser(value_parser!(u64).range(..=63))
+        .action(ArgAction::Set)
+}
+
 // The flag of `run`.
 fn frames_flag<'a>(alloc: Global) -> Arg<'a>
     ensures rule { rule_of result ≡ flag_rule (codes "frames") }
@@ -347,7 +328,7 @@ fn frames_flag<'a>(alloc: Global) -> Arg<'a>
 {
     Arg::new(alloc, "frames")
         .long("frames")
-        .help(FRAMES_HELP)
+        .help(RUN_FRAMES_HELP)
         .action(ArgAction::SetTrue)
 }
 

@@ -2,5 +2,6 @@
 #![tactic(auto)]
 
 mod job;
+mod usages;
 
 pub use job::{Job, job_of};

@@ -2,7 +2,7 @@ use Rattle.std.proofs.Common.{◌≡◌, ◌∙◌, ap, codes, true}
 use Rattle.std.proofs.lemmas.Result.{IfOk-weaker}
 use Rattle.clap.specs.Words.{App, app_of, with_subcommand}
 use Rattle.clap.specs.Simple.{app_of_fields}
-use Rattle.dali_job.specs.Jobs.{command_app, drive_app, run_app, top_app}
+use Rattle.dali_job.specs.Jobs.{command_app, drive_app, read_app, run_app, top_app}
 use Rattle.dali_job.proofs.JobLemmas.{with_added}
 use Rattle.dali_job.proofs.job.bench_command.Goals as goal
 
@@ -14,11 +14,17 @@ returns c =
     let show = c.command_of-3.ensures in
     let journal = c.command_of-4.ensures in
     let drive = c.drive_command.ensures in
+    let read = c.read_command.ensures in
+    let verify = c.command_of-5.ensures in
+    let scan = c.plain_command.ensures in
     let checks_app = with_subcommand top_app (command_app (codes "check") (codes "ORDERS")).top in
     let runs_app = with_subcommand checks_app run_app.top in
     let frames_app = with_subcommand runs_app (command_app (codes "frame") (codes "HEX")).top in
     let shows_app = with_subcommand frames_app (command_app (codes "show") (codes "HEXFILE")).top in
     let journals_app = with_subcommand shows_app (command_app (codes "journal") (codes "FILE")).top in
+    let drives_app = with_subcommand journals_app drive_app.top in
+    let reads_app = with_subcommand drives_app read_app.top in
+    let verifies_app = with_subcommand reads_app (command_app (codes "verify") (codes "ORDERS")).top in
     let top : app_of c.subcommand_required-top.result ≡ top_app =
     ap app_of_fields c.subcommand_required-top.ensures
     ∙ ap (λ (app : App). record app { top = record app.top { subcommand_required = true } })
@@ -38,6 +44,16 @@ returns c =
     let journals =
     with_added _ c.command_of-4.result _ c.in_ok-journals.journals shows_app _ journal.app journal.local shows
     c.in_ok-journals.ensures in
-    IfOk-weaker c.with_made-6.result _ _
-    (λ all added. with_added _ c.drive_command.result _ all journals_app drive_app drive.app drive.local journals added)
-    c.with_made-6.ensures
+    let drives =
+    with_added _ c.drive_command.result _ c.in_ok-drives.drives journals_app _ drive.app drive.local journals
+    c.in_ok-drives.ensures in
+    let reads =
+    with_added _ c.read_command.result _ c.in_ok-reads.reads drives_app _ read.app read.local drives
+    c.in_ok-reads.ensures in
+    let verifies =
+    with_added _ c.command_of-5.result _ c.in_ok-verifies.verifies reads_app _ verify.app verify.local reads
+    c.in_ok-verifies.ensures in
+    IfOk-weaker c.subcommand.result _ _
+    (λ all added. added.shape scan.local ∙ ap (λ app. with_subcommand app (app_of c.plain_command.result).top) verifies
+    ∙ ap (λ (app : App). with_subcommand verifies_app app.top) scan.app)
+    c.subcommand.ensures

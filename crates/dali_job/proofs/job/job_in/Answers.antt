@@ -1,3 +1,5 @@
+use Rattle.std.proofs.Common.{◌∙◌, sym}
+use Rattle.std.proofs.lemmas.Bool.{true≢false}
 use Rattle.dali_job.proofs.JobLemmas.{no_job, no_job_in}
 use Rattle.dali_job.proofs.job.job_in.Goals as goal
 
@@ -16,10 +18,16 @@ returns-in-Some-value_of-3-clause-named c = c.in-Some-value_of-3.ensures.found
 pub returns-in-Some-value_of-4-clause-named : goal.returns-in-Some-value_of-4-clause-named
 returns-in-Some-value_of-4-clause-named c = c.in-Some-value_of-4.ensures.found
 
+pub returns-in-Some-value_of-5-clause-named : goal.returns-in-Some-value_of-5-clause-named
+returns-in-Some-value_of-5-clause-named c = c.in-Some-value_of-5.ensures.found
+
 pub returns-clause-none : goal.returns-clause-none
 returns-clause-none c =
     no_job_in _ c.drive_in.result
     (no_job _ c.in_default.ensures.none c.in_default-value_of.ensures.none c.in_default-value_of-2.ensures.none
     c.in_default-value_of-3.ensures.none
-    c.in_default-value_of-4.ensures.none)
+    c.in_default-value_of-4.ensures.none
+    c.in_default-value_of-5.ensures.none
+    (λ entered. absurd (true≢false (sym (c.is_entered.ensures.1 entered) ∙ c.if-is_entered.false)))
+    c.in_default-read_in.ensures.none)
     c.drive_in.ensures.none

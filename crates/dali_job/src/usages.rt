@@ -1,0 +1,175 @@
+// What `--help` tells of the program's commands.
+
+// A command: its name, what it does, and its faults.
+pub(crate) struct Usage<'a> {
+    pub(crate) name: &'a str,
+    pub(crate) about: &'a str,
+    pub(crate) faults: &'a str,
+}
+
+// An argument that has to be there: its name, and what it is.
+pub(crate) struct Argument<'a> {
+    pub(crate) id: &'a str,
+    pub(crate) help: &'a str,
+}
+
+pub(crate) const ABOUT: &str =
+    "Luminaire data in memory bank 1 of DALI control gear: orders checked, and run on simulated units";
+
+pub(crate) const TOP_HELP: &str = "\
+A file named - is standard input; not for `drive` and `verify`, which have the answers there.
+`dali_bench --version` alone prints the version, and the logic that it is proved with.";
+
+pub(crate) static CHECK: Usage<'static> = Usage {
+    name: "check",
+    about: "Checks a file of orders and prints the bytes that each would write",
+    faults: "\
+Faults of an order: 1 Unit (short address over 63), 2 Kind (value of another kind),
+3 Range (number out of range), 4 Gtin (length or check digit), 5 Text (length or character,
+or no 16 hexadecimal digits), 7 Voltage (minimum over maximum), 8 Empty (no field),
+9 Shape (no object, or order or unit is missing or no whole number), 10 Key (unknown key).
+Faults of the file: 11 Json, 12 Document (no array), 13 TooBig (over 16777216 bytes),
+20 Memory, 21 File (can't be opened or read).
+Exit status: 0 all accepted, 1 something refused, 2 a file, the memory or the output failed.",
+};
+
+pub(crate) static CHECK_ORDERS: Argument<'static> = Argument {
+    id: "ORDERS",
+    help: "A JSON array of orders; /dev/stdin for standard input",
+};
+
+pub(crate) static RUN: Usage<'static> = Usage {
+    name: "run",
+    about: "Runs the events of a scenario on simulated units and prints what happened",
+    faults: "\
+Keys of a unit: address, bank, fixed, dtr; of a fate: times, lost, answer_lost, refuse;
+of an event: submit with or without moment, steps, stop or power.
+Faults of the file: 11 Json, 12 Document (an unknown key, or another form), 13 TooBig (over 16777216
+bytes, 20000 events or 20000 fates), 20 Memory, 21 File (can't be opened or read).
+Faults of a unit: 1 Address (over 63), 2 Size (not 17 to 255 bytes, or 00h isn't the last location),
+3 Fixed (locations that don't rise, below 03h or past the last);
+of the units together: 5 SameAddress.
+Faults of a submitted order: as of `check`. Fault of the run: 1 Limit (0 or over 100000).
+Exit status: 0 it ran, 1 something refused, 2 a file, the memory or the output failed.",
+};
+
+pub(crate) static RUN_SCENARIO: Argument<'static> = Argument {
+    id: "SCENARIO",
+    help: "A JSON object of limit, units, fates and events; /dev/stdin for standard input",
+};
+
+pub(crate) const RUN_FRAMES_HELP: &str = "Prints a line for each frame, with its answer";
+
+pub(crate) static FRAME: Usage<'static> = Usage {
+    name: "frame",
+    about: "Prints what the word of a forward frame means",
+    faults: "\
+Faults: 14 Hex (not four hexadecimal digits), 20 Memory.
+Exit status: 0 printed, 1 refused, 2 the memory or the output failed.",
+};
+
+pub(crate) static FRAME_HEX: Argument<'static> = Argument {
+    id: "HEX",
+    help: "Four hexadecimal digits, as A303",
+};
+
+pub(crate) static SHOW: Usage<'static> = Usage {
+    name: "show",
+    about: "Prints what the bytes of a memory bank say",
+    faults: "\
+Faults of the file: 13 TooBig (over 4096 bytes of text, or over 255 bytes of the bank),
+14 Hex (no hexadecimal digits, or an odd number of them), 20 Memory, 21 File (can't be opened or read).
+Exit status: 0 printed, 1 refused, 2 a file, the memory or the output failed.",
+};
+
+pub(crate) static SHOW_DUMP: Argument<'static> = Argument {
+    id: "HEXFILE",
+    help: "The bytes as hexadecimal digits, location 00h first; /dev/stdin for standard input",
+};
+
+pub(crate) static JOURNAL: Usage<'static> = Usage {
+    name: "journal",
+    about: "Prints the records of a writer's journal, and how much of it counts",
+    faults: "\
+Faults of the journal, with the place of the record, counted from 0: 3 Record (no record stands there),
+4 Sequence (the records before don't allow it), 5 Repeated (its order number was there),
+6 Full (over 100000 orders); without a place 7 Header (the first byte is 44h, and no whole header stands there).
+A record that is cut off at the end doesn't count, and is no fault.
+Faults of the file: 13 TooBig (over 33554432 bytes), 20 Memory, 21 File (can't be opened or read).
+Exit status: 0 printed, 1 refused, 2 a file, the memory or the output failed.",
+};
+
+pub(crate) static JOURNAL_FILE: Argument<'static> = Argument {
+    id: "FILE",
+    help: "The journal's bytes; /dev/stdin for standard input",
+};
+
+pub(crate) static DRIVE: Usage<'static> = Usage {
+    name: "drive",
+    about: "Carries out a file of orders over a link: standard output has the frames, standard input the answers",
+    faults: "\
+Standard output has a line for each frame, four hexadecimal digits. For each, one line is read from standard
+input: two hexadecimal digits, or -- for no answer. Replies and faults go to standard error.
+Nothing is sent where an item is refused, with the faults of `check`, or where a file has a fault:
+of ORDERS 11 Json, 12 Document, 13 TooBig (over 16777216 bytes), of JOURNAL 13 TooBig (over 33554432 bytes)
+and those of `journal`; 20 Memory, 21 File (can't be opened, read, written anew or synced, or another drive has
+the journal). A journal that is empty or of version 1 is written anew, in version 2, before anything is sent.
+Faults of a drive: 1 Journal (can't be written), 2 Link (can't be read or written), 3 Line (no answer),
+4 End (no more answers), 6 TooLong (over 8 bytes in a line), 7 Out (standard error can't be written).
+After a fault the same command goes on from the journal.
+Exit status: 0 each order has its reply, whatever it says, 1 something refused, or 3 Line, 4 End, 6 TooLong,
+2 a file, the memory, the link or the output failed.",
+};
+
+pub(crate) static LINK_ORDERS: Argument<'static> = Argument {
+    id: "ORDERS",
+    help: "A JSON array of orders, as for `check`",
+};
+
+pub(crate) const DRIVE_JOURNAL_HELP: &str =
+    "The writer's journal, which is made where there is none";
+
+pub(crate) const DRIVE_MOMENT_HELP: &str =
+    "A whole number that is kept with each order that begins, as the seconds since 1970";
+
+pub(crate) static READ: Usage<'static> = Usage {
+    name: "read",
+    about: "Reads memory bank 1 of a unit over a link: standard output has the frames, standard input the answers",
+    faults: "\
+The line of the unit goes to standard error: `unit U bytes N`, or `unit U silent`, and then HEXFILE stays as
+it is. Nothing is written to the unit, and it is not write-enabled.
+Faults: 2 Link (can't be read or written), 3 Line (no answer), 4 End (no more answers), 6 TooLong (over 8 bytes
+in a line), 7 Out (standard error can't be written), 20 Memory, 21 File (HEXFILE can't be written).
+The same command begins anew.
+Exit status: 0 read, 1 silent, or 3 Line, 4 End, 6 TooLong,
+2 the file, the memory, the link or the output failed.",
+};
+
+pub(crate) const READ_UNIT_HELP: &str = "The unit's short address, 0 to 63";
+
+pub(crate) const READ_BANK_HELP: &str =
+    "Where the bytes go, as `show` reads them: it takes its name once it is whole";
+
+pub(crate) static VERIFY: Usage<'static> = Usage {
+    name: "verify",
+    about: "\
+Compares units with a file of orders over a link: standard output has the frames, standard input the answers",
+    faults: "\
+Each order has a line on standard error: `order N unit U` and then `same`, `other LL BB` (the first location
+that holds another byte, and that byte), `short`, `format` or `silent`.
+Nothing is written to a unit, and none is write-enabled.
+Nothing is sent where an item is refused, with the faults of `check`, or where ORDERS has a fault: 11 Json,
+12 Document, 13 TooBig (over 16777216 bytes), 20 Memory, 21 File. Faults of the link as of `read`.
+Exit status: 0 all are the same, 1 another ends, something refused, or 3 Line, 4 End, 6 TooLong,
+2 a file, the memory, the link or the output failed.",
+};
+
+pub(crate) static SCAN: Usage<'static> = Usage {
+    name: "scan",
+    about: "Looks which units answer over a link: standard output has the frames, standard input the answers",
+    faults: "\
+A line for each unit that answers, on standard error: `unit U last LL`, its last location in hexadecimal;
+and then `units K`.
+Nothing is written to a unit, and none is write-enabled. Faults of the link as of `read`.
+Exit status: 0 all were asked, 1 for 3 Line, 4 End, 6 TooLong, 2 the memory, the link or the output failed.",
+};

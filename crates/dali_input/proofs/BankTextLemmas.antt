@@ -1,10 +1,11 @@
 -- Lemmas on the text of a bank.
-use Rattle.std.proofs.Common.{◌≡◌, ◌+◌, ◌*◌, ◌/◌, ◌%◌, ◌<◌, ◌≤◌, ◌++◌, ℕ, zero, suc, List, [], ◌∷◌, Some, Ok, false, inl, inr, not, refl, sym, ap, ◌∙◌}
-use Rattle.std.proofs.Common.{add-one, arith, codes, drop, length, slice_index, take}
+use Rattle.std.proofs.Common.{◌≡◌, ◌+◌, ◌*◌, ◌/◌, ◌%◌, ◌<◌, ◌≤◌, ◌++◌, ℕ, zero, suc, List, [], ◌∷◌, Some, Ok, false}
+use Rattle.std.proofs.Common.{inl, inr, not, refl, sym, ap, ◌∙◌, add-one, arith, codes, drop, length, slice_index, take}
 use Rattle.std.specs.List.{flat_map, range_with_len}
 use Rattle.std.proofs.lemmas.Grind.{flat_map-append}
 use Rattle.std.proofs.lemmas.Bool.{cases_lt}
-use Rattle.std.proofs.lemmas.List.{append-nil, drop-take, get_or-drop, get_or-take, get_or_past, length-take, take-append-drop, take-take, take_all}
+use Rattle.std.proofs.lemmas.List.{append-nil, drop-take, get_or-drop, get_or-take, get_or_past, length-take}
+use Rattle.std.proofs.lemmas.List.{take-append-drop, take-take, take_all}
 use Rattle.std.proofs.lemmas.List.Elements.{filter-append}
 use Rattle.hex.specs.Hex.{IsBytes, encode_upper, encode_with, hex_digit_value, upper_digits, decode_of}
 use Rattle.hex.proofs.HexLemmas.{IsDigits-upper_digits, decode_of-encode_upper}
@@ -33,10 +34,6 @@ digits_in-byte_digits byte fits =
 abbrev pub behind_space : ℕ → List ℕ
 behind_space byte = codes " " ++ byte_digits byte
 
-encode_with-cons : (byte : ℕ) (rest : List ℕ) → byte_digits byte ++ encode_upper rest ≡ encode_upper (byte ∷ rest)
-unfolding encode_with
-encode_with-cons byte rest = refl
-
 digits_in-behind_space : (row : List ℕ) → IsBytes row → digits_in (flat_map behind_space row) ≡ encode_upper row
 unfolding encode_with
 digits_in-behind_space [] are_bytes = refl
@@ -53,7 +50,8 @@ digits_in-row_text (byte ∷ rest) are_bytes =
     let here = digits_in-byte_digits byte (are_bytes 0) in
     let others = digits_in-behind_space rest (λ i. are_bytes (suc i)) in
     filter-append (λ b. not (is_blank b)) (byte_digits byte ++ flat_map behind_space rest) (codes "\n")
-    ∙ ap (λ digits. digits ++ []) (filter-append (λ b. not (is_blank b)) (byte_digits byte) (flat_map behind_space rest))
+    ∙ ap (λ digits. digits ++ [])
+    (filter-append (λ b. not (is_blank b)) (byte_digits byte) (flat_map behind_space rest))
     ∙ rw (here, others) (append-nil (encode_upper (byte ∷ rest)))
 
 -- ---- the rows
@@ -112,7 +110,8 @@ digits_in-rows bank are_bytes (suc n) =
     ∙ ap encode_upper (sym (ap (λ count. take (16 * count) bank) next ∙ take_row bank n))
 
 -- all rows spell the bank
-pub rows_spell : (bank : List ℕ) (n : ℕ) → IsBytes bank → length bank ≤ 16 * n → decode_of (digits_in (rows n bank)) ≡ Ok bank
+pub rows_spell : (bank : List ℕ) (n : ℕ) → IsBytes bank → length bank ≤ 16 * n
+    → decode_of (digits_in (rows n bank)) ≡ Ok bank
 rows_spell bank n are_bytes all =
     let whole = take_all (16 * n) bank all in
     rw (digits_in-rows bank are_bytes n, whole) (decode_of-encode_upper bank are_bytes)

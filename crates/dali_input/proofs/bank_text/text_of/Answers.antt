@@ -1,6 +1,7 @@
 use Rattle.std.proofs.Common.{◌≡◌, ◌∙◌, arith, ap, length, length-drop, length-take}
 use Rattle.std.proofs.lemmas.Grind.{div_ceil_times}
 use Rattle.std.specs.Int.{div_ceil}
+use Rattle.hex.specs.Hex.{IsBytes}
 use Rattle.dali_input.specs.BankText.{row_size, rows_text}
 use Rattle.dali_input.proofs.BankTextLemmas.{rows, rows_more, rows_spell}
 use Rattle.dali_input.proofs.bank_text.text_of.Goals as goal
@@ -27,7 +28,8 @@ returns-clause-rows c =
 pub returns-clause-read_back : goal.returns-clause-read_back
 returns-clause-read_back c =
     let ends = div_ceil_times (length c.args.bank.now) 16 (omega arith) in
-    let whole = rows_spell c.args.bank.now c.loop-number.number (λ i. omega (arith, c.type_inv.bank i)) (omega arith) in record {
+    let are_bytes : IsBytes c.args.bank.now = λ i. omega (arith, c.type_inv.bank i) in
+    let whole = rows_spell c.args.bank.now c.loop-number.number are_bytes (omega arith) in record {
       fits = omega arith;
       spelled = rw c.loop-number.invariant.items whole;
       few = c.requires;

@@ -1,9 +1,11 @@
+ghost use Rattle.std.specs.Prelude.{◌≤◌, length};
+
 use crate::expected::expect_that;
 use crate::streams::{Behind, TestReader, TestWriter};
 use crate::tried::{answers, fails_to_read, fails_to_write, refuses_past};
 use dali_commands::show::show;
 use dali_commands::{FileCommand, Status};
-use dali_input::Input;
+use dali_input::{Input, bank_of, text_of};
 use dali_text::Output;
 use std::alloc::Global;
 use std::test::Fail;
@@ -157,4 +159,44 @@ fn a_bank_whose_writer_fails_in_mid_line(rt: HostRuntime) -> Result<(), Fail> {
     let show = FileCommand::Show;
     fails_to_write(rt.alloc(), show, WHOLE.as_bytes(), WHOLE_SHOWN)?;
     fails_to_write(rt.alloc(), show, b"0", "fault 14 Hex\n")
+}
+
+// 33 bytes, and the rows of their text.
+const BANK: [u8; 33] = [
+    0x00, 0x01, 0x02, 0x03, 0x04, 0x05, 0x06, 0x07, 0x08, 0x09, 0x0A, 0x0B, 0x0C, 0x0D, 0x0E, 0x0F,
+    0xF0, 0x1E, 0x2D, 0x3C, 0x4B, 0x5A, 0x69, 0x78, 0x87, 0x96, 0xA5, 0xB4, 0xC3, 0xD2, 0xE1, 0xFF,
+    0xA0,
+];
+
+const OF_17: &str = "00 01 02 03 04 05 06 07 08 09 0A 0B 0C 0D 0E 0F\nF0\n";
+
+const OF_32: &str = "\
+00 01 02 03 04 05 06 07 08 09 0A 0B 0C 0D 0E 0F
+F0 1E 2D 3C 4B 5A 69 78 87 96 A5 B4 C3 D2 E1 FF
+";
+
+const OF_33: &str = "\
+00 01 02 03 04 05 06 07 08 09 0A 0B 0C 0D 0E 0F
+F0 1E 2D 3C 4B 5A 69 78 87 96 A5 B4 C3 D2 E1 FF
+A0
+";
+
+// Tests the text of a bank, and that the bank is read back from it.
+fn spells(alloc: Global, bank: &[u8], wanted: &str) -> Result<(), Fail>
+    requires { length bank.now ≤ 255 }
+{
+    let text = text_of(bank);
+    expect_that(text.as_slice() == wanted.as_bytes(), "the rows")?;
+    let read = bank_of(alloc, text.as_slice().to_vec(alloc)?);
+    let is_same = matches!(read, Ok(same) if same.as_slice() == bank);
+    expect_that(is_same, "the same bytes back")
+}
+
+#[test]
+fn banks_as_texts(rt: HostRuntime) -> Result<(), Fail> {
+    spells(rt.alloc(), &[], "")?;
+    spells(rt.alloc(), &BANK[..1], "00\n")?;
+    spells(rt.alloc(), &BANK[..17], OF_17)?;
+    spells(rt.alloc(), &BANK[..32], OF_32)?;
+    spells(rt.alloc(), &BANK, OF_33)
 }

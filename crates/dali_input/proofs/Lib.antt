@@ -4,4 +4,5 @@ pub mod ValueLemmas
 pub mod KeyLemmas
 pub mod SetupLemmas
 pub mod OrderLemmas
+pub mod BankTextLemmas
 pub mod WorkedSetupLemmas

@@ -1,7 +1,9 @@
--- The bank that a text spells.
-use Rattle.std.specs.Prelude.{◌≡◌, ◌==◌, ◌||◌, ◌⊎◌, ◌<◌, ◌≤◌, ℕ, List, Bool, not, Ok, ⊤, length}
-use Rattle.std.specs.List.{filter}
-use Rattle.hex.specs.Hex.{decode_of}
+-- The bank that a text spells, and the text that is written of a bank.
+use Rattle.std.specs.Prelude.{◌≡◌, ◌==◌, ◌||◌, ◌⊎◌, ◌*◌, ◌<◌, ◌≤◌, ◌++◌, ℕ, List, [], ◌∷◌, Bool, not, Ok, ⊤}
+use Rattle.std.specs.Prelude.{codes, drop, length, take}
+use Rattle.std.specs.Int.{div_ceil}
+use Rattle.std.specs.List.{filter, flat_map, join_by, range_with_len}
+use Rattle.hex.specs.Hex.{decode_of, encode_upper}
 use Rattle.dali_input.specs.declared.fault.InputFault.{InputFault}
 use Rattle.dali_input.specs.declared.fault.InputFault.TheVariants.{Json, Document, TooBig, Hex, Memory, File}
 
@@ -45,3 +47,25 @@ IsTextFault text Memory = ⊤
 IsTextFault text Json = ⊥
 IsTextFault text Document = ⊥
 IsTextFault text File = ⊥
+
+-- ---- the text of a bank
+
+-- how many bytes a row has, but for the last one
+abbrev pub row_size : ℕ
+row_size = 16
+
+-- a byte's two upper-case hexadecimal digits
+abbrev pub byte_digits : ℕ → List ℕ
+byte_digits byte = encode_upper (byte ∷ [])
+
+-- a row: the digits of its bytes with a space between them, and a line feed
+abbrev pub row_text : List ℕ → List ℕ
+row_text row = join_by byte_digits (codes " ") row ++ codes "\n"
+
+-- the bytes of a row
+abbrev pub row_of : ℕ → List ℕ → List ℕ
+row_of number bank = take row_size (drop (row_size * number) bank)
+
+-- all rows of a bank
+unfoldable pub rows_text : List ℕ → List ℕ
+rows_text bank = flat_map (λ number. row_text (row_of number bank)) (range_with_len 0 (div_ceil (length bank) row_size))

@@ -15,7 +15,7 @@ mod scenario;
 mod setup;
 mod values;
 
-pub use bank_text::{TEXT_LIMIT, bank_of};
+pub use bank_text::{MOST_BANK_TEXT, TEXT_LIMIT, bank_of, text_of};
 pub use fault::InputFault;
 pub use input::{Input, json_of, read_input};
 pub use item::{ItemFault, field_fault, order_of};

@@ -1,15 +1,17 @@
-// The file of a journal as a store. No contract tells of a real file: its bytes aren't known, and that these calls do
-// what a store's do is trusted.
+// The file of a journal or of a text as a store. No contract tells of a real file: its bytes aren't known, and that
+// these calls do what a store's do is trusted.
 ghost use Rattle.std.specs.Prelude.{◌≡◌, ◌<◌, ◌≤◌, IfOk, false, true, length};
 ghost use Rattle.dali_store.specs.Files.{has_failed};
 
-use crate::new_file::successor;
+use crate::new_file::{Writer, successor};
+use crate::place::{FileId, Place, id_of, place_of, sync_folder};
 use crate::store::{Store, StoreFault};
+use crate::text_file::put_text;
 use std::alloc::Global;
 use std::fs::{File, Files, Metadata, OpenOptions, TryLockError};
+use std::io;
 use std::io::{ErrorKind, Read, Seek, SeekFrom, Write};
-use std::os::unix::fs::{FileTypeExt, MetadataExt};
-use std::{fs, io};
+use std::os::unix::fs::FileTypeExt;
 
 // How many bytes are read at a time.
 const CHUNK: usize = 65536;
@@ -19,22 +21,18 @@ const CHUNK: usize = 65536;
 ///
 /// What is no regular file, as a terminal, is neither replaced, cut nor synced: where it gave no byte, `replace` writes
 /// to it, and else both calls fail. A named pipe is refused.
+///
+/// The file of a text is only ever replaced, whatever is there: it needn't exist, and any other call fails.
 #[derive(Drop)]
 pub struct FileStore<'a, R> {
     rt: &'a R,
     name: &'a str,
-    orders: FileId,
+    // The file of the orders, of a journal alone.
+    orders: Option<FileId>,
     opened: Option<Opened>,
     failed: bool,
     // The first failure, in words for a person, where there was memory for them.
     cause: Option<String>,
-}
-
-// Which file it is, by whatever name.
-#[derive(Clone, Copy, PartialEq, Eq)]
-pub(crate) struct FileId {
-    dev: u64,
-    ino: u64,
 }
 
 #[derive(Drop)]
@@ -46,16 +44,6 @@ struct Opened {
     is_empty: bool,
     // Whether its length and its name are on the disk, so that of what is appended only the data has to be synced.
     is_settled: bool,
-}
-
-// Where a regular file stands, by its canonical name, its folder, and how it was found there.
-#[derive(Drop)]
-pub(crate) struct Place {
-    pub(crate) found: Metadata,
-    pub(crate) name: String,
-    pub(crate) new_name: String,
-    folder_name: String,
-    folder: File,
 }
 
 // Why a call doesn't do what is asked: with the words for a person, where it fails.
@@ -75,7 +63,21 @@ impl<'a, R: Files<File = File> + AllocGlobal> FileStore<'a, R> {
         FileStore {
             rt,
             name,
-            orders: id_of(orders),
+            orders: Some(id_of(orders)),
+            opened: None,
+            failed: false,
+            cause: None,
+        }
+    }
+
+    /// The store in the file of a text, of this name.
+    pub fn for_text(rt: &'a R, name: &'a str) -> FileStore<'a, R>
+        ensures { has_failed result ≡ false }
+    {
+        FileStore {
+            rt,
+            name,
+            orders: None,
             opened: None,
             failed: false,
             cause: None,
@@ -150,7 +152,11 @@ impl<'a, R: Files<File = File> + AllocGlobal> Store for FileStore<'a, R> {
     }
 
     fn replace(&mut self, bytes: &[u8]) -> bool {
-        match put_anew(self.rt, self.name, &mut self.opened, bytes) {
+        let ended = match self.orders {
+            Some(_) => put_anew(self.rt, self.name, &mut self.opened, bytes),
+            None => put_text(self.rt, self.name, bytes),
+        };
+        match ended {
             Ok(()) => true,
             Err(hindrance) => {
                 self.note(hindrance);
@@ -205,19 +211,12 @@ pub(crate) fn given<T: Drop>(
     }
 }
 
-pub(crate) fn id_of(found: &Metadata) -> FileId {
-    FileId {
-        dev: found.dev(),
-        ino: found.ino(),
-    }
-}
-
 // Opens the file where it isn't open yet, and reads all that it has, where that are no more bytes than the limit.
 fn bytes_of<R: Files<File = File>>(
     rt: &R,
     alloc: Global,
     name: &str,
-    orders: FileId,
+    orders: Option<FileId>,
     opened: &mut Option<Opened>,
     limit: usize,
 ) -> Result<Vec<u8>, Hindrance>
@@ -229,6 +228,9 @@ fn bytes_of<R: Files<File = File>>(
             read_up_to(alloc, name, &mut opened.file, limit)
         }
         None => {
+            let Some(orders) = orders else {
+                return Err(unopened(alloc, name));
+            };
             let mut fresh = open(rt, alloc, name, orders)?;
             let bytes = read_up_to(alloc, name, &mut fresh.file, limit)?;
             fresh.is_empty = bytes.is_empty();
@@ -255,7 +257,7 @@ fn open<R: Files<File = File>>(
     if id_of(&found) == orders {
         return Err(refused(alloc, "ORDERS and JOURNAL are one file", name));
     }
-    lock(alloc, &file, name)?;
+    lock(alloc, &file, name, Writer::Drive)?;
     let place = if found.is_file() {
         Some(place_of(rt, alloc, name, found)?)
     } else {
@@ -269,65 +271,21 @@ fn open<R: Files<File = File>>(
     })
 }
 
-pub(crate) fn lock(alloc: Global, file: &File, name: &str) -> Result<(), Hindrance> {
+pub(crate) fn lock(
+    alloc: Global,
+    file: &File,
+    name: &str,
+    writer: Writer,
+) -> Result<(), Hindrance> {
     match file.try_lock() {
         Ok(()) => Ok(()),
-        Err(TryLockError::WouldBlock) => Err(in_use(alloc, name)),
+        Err(TryLockError::WouldBlock) => Err(refused(alloc, writer.in_use(), name)),
         Err(TryLockError::Error(cause)) => Err(unusable(alloc, name, cause)),
     }
 }
 
-fn in_use(alloc: Global, name: &str) -> Hindrance {
-    refused(alloc, "the journal is in use by another drive", name)
-}
-
-// Where a locked file stands. The name has to mean it still: another drive may have replaced it before the lock.
-fn place_of<R: Files<File = File>>(
-    rt: &R,
-    alloc: Global,
-    name: &str,
-    found: Metadata,
-) -> Result<Place, Hindrance> {
-    let (canonical, new_name, folder_name) = given(alloc, name, names_of(rt, alloc, name))?;
-    let named = given(alloc, name, fs::metadata(rt, canonical.as_str()))?;
-    if id_of(&named) != id_of(&found) {
-        return Err(in_use(alloc, name));
-    }
-    let folder = given(
-        alloc,
-        folder_name.as_str(),
-        fs::open(rt, folder_name.as_str()),
-    )?;
-    Ok(Place {
-        found,
-        name: canonical,
-        new_name,
-        folder_name,
-        folder,
-    })
-}
-
-// The canonical name of a file, that of the file which may take its place, and that of its folder.
-fn names_of<R: Files<File = File>>(
-    rt: &R,
-    alloc: Global,
-    name: &str,
-) -> io::Result<(String, String, String)> {
-    let path = rt.canonicalize(alloc, name)?;
-    let shown = path.display();
-    let folder = match path.as_path().parent() {
-        Some(folder) => format!(in alloc; "{}", folder.display())?,
-        None => format!(in alloc; "/")?,
-    };
-    Ok((
-        format!(in alloc; "{shown}")?,
-        format!(in alloc; "{shown}.new")?,
-        folder,
-    ))
-}
-
 // All the bytes that a file gives from here on, where there are no more than the limit.
-fn read_up_to(
+pub(crate) fn read_up_to(
     alloc: Global,
     name: &str,
     file: &mut File,
@@ -427,10 +385,6 @@ fn settle(alloc: Global, name: &str, opened: &mut Option<Opened>) -> Result<(), 
     Ok(())
 }
 
-fn sync_folder(alloc: Global, place: &Place) -> Result<(), Hindrance> {
-    given(alloc, place.folder_name.as_str(), place.folder.sync_all())
-}
-
 // Has a new file with these bytes take the place of a regular one. One that is none begins with them.
 fn put_anew<R: Files<File = File> + AllocGlobal>(
     rt: &R,
@@ -445,7 +399,7 @@ fn put_anew<R: Files<File = File> + AllocGlobal>(
     let Some(place) = &opened.place else {
         return begin(alloc, name, opened, bytes);
     };
-    let file = successor(rt, place, bytes)?;
+    let file = successor(rt, place, bytes, Writer::Drive)?;
     opened.file = file;
     opened.is_settled = false;
     sync_folder(alloc, place)?;

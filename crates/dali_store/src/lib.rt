@@ -5,7 +5,9 @@ mod files;
 mod memory;
 mod new_file;
 mod opening;
+mod place;
 mod store;
+mod text_file;
 
 pub use files::FileStore;
 pub use memory::MemoryStore;

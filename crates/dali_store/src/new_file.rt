@@ -1,5 +1,8 @@
-// The new file that takes the place of a journal's, beside it. No contract tells of a real file: this is trusted.
-use crate::files::{Hindrance, Place, given, id_of, lock, refused, unusable};
+// The new file that takes the place of a journal or a text, beside it. No contract tells of a real file: this is
+// trusted.
+use crate::files::{Hindrance, given, lock, refused, unusable};
+use crate::place::{Place, id_of};
+use crate::text_file::is_part_of_text;
 use std::alloc::Global;
 use std::fs::{File, Files, Metadata, OpenOptions};
 use std::io::{ErrorKind, Read, Write};
@@ -9,13 +12,41 @@ use std::{fs, io};
 // How many bytes are read at a time.
 const CHUNK: usize = 65536;
 
+// Who writes a file.
+#[derive(Clone, Copy)]
+pub(crate) enum Writer {
+    // A drive, its journal.
+    Drive,
+    // A reading of a unit, its text.
+    Reading,
+}
+
+impl Writer {
+    // Why a file is refused that is locked.
+    pub(crate) fn in_use(self) -> &'static str {
+        match self {
+            Writer::Drive => "the journal is in use by another drive",
+            Writer::Reading => "the file is in use by another reading of a unit",
+        }
+    }
+
+    // Why what has the name of the new file is refused.
+    fn foreign(self) -> &'static str {
+        match self {
+            Writer::Drive => "what stands in the way was not left by a drive of this journal",
+            Writer::Reading => "what stands in the way was not left by a reading of a unit",
+        }
+    }
+}
+
 // A new file with these bytes, on the disk, which has taken the name of the old one. It is locked before that.
 pub(crate) fn successor<R: Files<File = File> + AllocGlobal>(
     rt: &R,
     place: &Place,
     bytes: &[u8],
+    writer: Writer,
 ) -> Result<File, Hindrance> {
-    let mut file = new_file(rt, place.new_name.as_str(), bytes)?;
+    let mut file = new_file(rt, place.new_name.as_str(), bytes, writer)?;
     given(
         rt.alloc(),
         place.new_name.as_str(),
@@ -31,7 +62,9 @@ fn fill<R: Files<File = File>>(
     bytes: &[u8],
 ) -> io::Result<()> {
     file.set_len(0)?;
-    file.set_permissions(place.found.permissions())?;
+    if let Some(found) = &place.found {
+        file.set_permissions(found.permissions())?;
+    }
     file.write_all(bytes)?;
     file.sync_all()?;
     fs::rename(rt, place.new_name.as_str(), place.name.as_str())
@@ -42,6 +75,7 @@ fn new_file<R: Files<File = File> + AllocGlobal>(
     rt: &R,
     name: &str,
     bytes: &[u8],
+    writer: Writer,
 ) -> Result<File, Hindrance> {
     let alloc = rt.alloc();
     let mut how = OpenOptions::new();
@@ -49,29 +83,21 @@ fn new_file<R: Files<File = File> + AllocGlobal>(
     match fs::symlink_metadata(rt, name) {
         Ok(found) if is_alone(&found) => {
             let mut file = given(alloc, name, how.open(rt, name))?;
-            lock(alloc, &file, name)?;
-            if given(alloc, name, is_left(rt, name, &mut file, bytes))? {
+            lock(alloc, &file, name, writer)?;
+            if is_left(rt, name, &mut file, bytes, writer)? {
                 Ok(file)
             } else {
-                Err(foreign(alloc, name))
+                Err(refused(alloc, writer.foreign(), name))
             }
         }
-        Ok(_) => Err(foreign(alloc, name)),
+        Ok(_) => Err(refused(alloc, writer.foreign(), name)),
         Err(error) if error.kind() == ErrorKind::NotFound => {
             let file = given(alloc, name, how.create_new(true).open(rt, name))?;
-            lock(alloc, &file, name)?;
+            lock(alloc, &file, name, writer)?;
             Ok(file)
         }
         Err(cause) => Err(unusable(alloc, name, cause)),
     }
-}
-
-fn foreign(alloc: Global, name: &str) -> Hindrance {
-    refused(
-        alloc,
-        "what stands in the way was not left by a drive of this journal",
-        name,
-    )
 }
 
 // Whether this is a regular file with one name.
@@ -79,19 +105,24 @@ fn is_alone(found: &Metadata) -> bool {
     found.is_file() && found.nlink() == 1
 }
 
-// Whether a locked file is what a drive left that was stopped as it wrote these bytes: what the name means still, that
-// alone, with a first part of them.
-fn is_left<R: Files<File = File>>(
+// Whether a locked file is what a writer left that was stopped: what the name means still, that alone, with a first
+// part of these bytes where the writer is a drive, or of any text.
+fn is_left<R: Files<File = File> + AllocGlobal>(
     rt: &R,
     name: &str,
     file: &mut File,
     bytes: &[u8],
-) -> io::Result<bool> {
-    let named = fs::symlink_metadata(rt, name)?;
-    if !is_alone(&named) || id_of(&named) != id_of(&file.metadata()?) {
+    writer: Writer,
+) -> Result<bool, Hindrance> {
+    let alloc = rt.alloc();
+    let named = given(alloc, name, fs::symlink_metadata(rt, name))?;
+    if !is_alone(&named) || id_of(&named) != id_of(&given(alloc, name, file.metadata())?) {
         return Ok(false);
     }
-    begins(file, bytes)
+    match writer {
+        Writer::Drive => given(alloc, name, begins(file, bytes)),
+        Writer::Reading => is_part_of_text(alloc, name, file),
+    }
 }
 
 // Whether all that a file gives from here on is a first part of these bytes.

@@ -4,6 +4,8 @@ use crate::expected::expect_that;
 use dali_store::{FileStore, MemoryStore, Store, StoreFault};
 use std::alloc::Global;
 use std::fs;
+use std::fs::Permissions;
+use std::os::unix::fs::{PermissionsExt, symlink};
 use std::test::Fail;
 
 const LIMIT: usize = 100;
@@ -172,4 +174,90 @@ fn a_file_that_is_not_read_first(rt: HostRuntime) -> Result<(), Fail> {
         "its cause",
     )?;
     expect_that(!fs::exists(&rt, "store_files.unread")?, "no file")
+}
+
+// Puts a text in the place of what a file has, and tells whether that was done, and what the file has then.
+fn put_text(rt: &HostRuntime, name: &str, text: &[u8]) -> Result<(bool, Vec<u8>), Fail> {
+    let is_put = FileStore::for_text(rt, name).replace(text);
+    Ok((is_put, fs::read(rt, name)?))
+}
+
+#[test]
+fn a_text_takes_the_place_of_a_file(rt: HostRuntime) -> Result<(), Fail> {
+    let (is_put, held) = put_text(&rt, "store_files.text", b"00 11\n")?;
+    expect_that(
+        is_put && held.as_slice() == b"00 11\n".as_slice(),
+        "a new file",
+    )?;
+    fs::set_permissions(&rt, "store_files.text", Permissions::from_mode(0o640))?;
+    symlink(&rt, "store_files.text", "store_files.link")?;
+    let (is_put, held) = put_text(&rt, "store_files.link", b"22\n")?;
+    let is_link = fs::symlink_metadata(&rt, "store_files.link")?.is_symlink();
+    let mode = fs::metadata(&rt, "store_files.text")?.permissions().mode();
+    fs::remove_file(&rt, "store_files.link")?;
+    fs::remove_file(&rt, "store_files.text")?;
+    expect_that(
+        is_put && held.as_slice() == b"22\n".as_slice(),
+        "in the place of the old",
+    )?;
+    expect_that(
+        is_link && mode & 0o777 == 0o640,
+        "behind the link, permissions kept",
+    )?;
+    expect_that(!fs::exists(&rt, "store_files.text.new")?, "nothing is left")
+}
+
+// Puts a text in the place of a file while these bytes stand in the way, and tests whether that is done.
+fn judge_in_the_way(rt: &HostRuntime, in_the_way: &[u8], is_left: bool) -> Result<(), Fail> {
+    fs::write(rt, "store_files.kept", b"old")?;
+    fs::write(rt, "store_files.kept.new", in_the_way)?;
+    let mut file = FileStore::for_text(rt, "store_files.kept");
+    expect_that(
+        file.replace(b"33\n") == is_left,
+        "done where a reading left it",
+    )?;
+    let held = fs::read(rt, "store_files.kept")?;
+    let wanted = if is_left { "33\n" } else { "old" };
+    expect_that(held.as_slice() == wanted.as_bytes(), "what the file has")?;
+    if !is_left {
+        let new = fs::read(rt, "store_files.kept.new")?;
+        fs::remove_file(rt, "store_files.kept.new")?;
+        expect_that(new.as_slice() == in_the_way, "it is untouched")?;
+        let cause = file.cause().unwrap_or("");
+        let is_told = cause.starts_with(
+            "what stands in the way was not left by a reading of a unit: ",
+        );
+        expect_that(is_told, "the cause")?;
+    }
+    Ok(fs::remove_file(rt, "store_files.kept")?)
+}
+
+#[test]
+fn what_stands_in_the_way_of_a_text(rt: HostRuntime) -> Result<(), Fail> {
+    judge_in_the_way(&rt, b"", true)?;
+    judge_in_the_way(&rt, b"09 AF\n1", true)?;
+    judge_in_the_way(&rt, &[b'0'; 765], true)?;
+    judge_in_the_way(&rt, &[b'0'; 766], false)?;
+    judge_in_the_way(&rt, b"09 af\n", false)?;
+    judge_in_the_way(&rt, b"09\t", false)
+}
+
+#[test]
+fn a_text_is_only_replaced(rt: HostRuntime) -> Result<(), Fail> {
+    let mut file = FileStore::for_text(&rt, "store_files.only");
+    let is_read = file.read(rt.alloc(), LIMIT).is_ok();
+    let is_refused = !is_read && file.append(b"0").is_none() && !file.cut(0) && !file.sync();
+    expect_that(
+        is_refused && !fs::exists(&rt, "store_files.only")?,
+        "no other call",
+    )?;
+    let mut terminal = FileStore::for_text(&rt, "/dev/null");
+    expect_that(
+        terminal.replace(b"00\n"),
+        "what is no regular file is written to",
+    )?;
+    expect_that(
+        !FileStore::for_text(&rt, "/dev").replace(b"00\n"),
+        "a folder isn't",
+    )
 }

@@ -1,0 +1,95 @@
+// Where a file stands that another may replace. No contract tells of a real file: this is trusted.
+use crate::files::{Hindrance, given, refused};
+use crate::new_file::Writer;
+use std::alloc::Global;
+use std::fs::{File, Files, Metadata};
+use std::os::unix::fs::MetadataExt;
+use std::path::Path;
+use std::{fs, io};
+
+// Which file it is, by whatever name.
+#[derive(Clone, Copy, PartialEq, Eq)]
+pub(crate) struct FileId {
+    dev: u64,
+    ino: u64,
+}
+
+// Where a regular file stands, by its canonical name, its folder, and how it was found there, or where none stands yet.
+#[derive(Drop)]
+pub(crate) struct Place {
+    pub(crate) found: Option<Metadata>,
+    pub(crate) name: String,
+    pub(crate) new_name: String,
+    folder_name: String,
+    folder: File,
+}
+
+pub(crate) fn id_of(found: &Metadata) -> FileId {
+    FileId {
+        dev: found.dev(),
+        ino: found.ino(),
+    }
+}
+
+// Where a locked file stands. The name has to mean it still: another drive may have replaced it before the lock.
+pub(crate) fn place_of<R: Files<File = File>>(
+    rt: &R,
+    alloc: Global,
+    name: &str,
+    found: Metadata,
+) -> Result<Place, Hindrance> {
+    let names = given(alloc, name, names_of(rt, alloc, name))?;
+    let named = given(alloc, name, fs::metadata(rt, names.0.as_str()))?;
+    if id_of(&named) != id_of(&found) {
+        return Err(refused(alloc, Writer::Drive.in_use(), name));
+    }
+    place_at(rt, alloc, names, Some(found))
+}
+
+// The place with these names, whose folder is opened.
+pub(crate) fn place_at<R: Files<File = File>>(
+    rt: &R,
+    alloc: Global,
+    names: (String, String, String),
+    found: Option<Metadata>,
+) -> Result<Place, Hindrance> {
+    let (name, new_name, folder_name) = names;
+    let folder = fs::open(rt, folder_name.as_str());
+    let folder = given(alloc, folder_name.as_str(), folder)?;
+    Ok(Place {
+        found,
+        name,
+        new_name,
+        folder_name,
+        folder,
+    })
+}
+
+// The canonical name of a file, that of the file which may take its place, and that of its folder.
+pub(crate) fn names_of<R: Files<File = File>>(
+    rt: &R,
+    alloc: Global,
+    name: &str,
+) -> io::Result<(String, String, String)> {
+    let path = rt.canonicalize(alloc, name)?;
+    names_at(alloc, path.as_path())
+}
+
+// The same, where a file has this name.
+pub(crate) fn names_at(alloc: Global, path: Path<'_>) -> io::Result<(String, String, String)> {
+    let shown = path.display();
+    let folder = match path.parent() {
+        Some(folder) if folder.as_str().is_empty() => format!(in alloc; ".")?,
+        Some(folder) => format!(in alloc; "{}", folder.display())?,
+        None => format!(in alloc; "/")?,
+    };
+    Ok((
+        format!(in alloc; "{shown}")?,
+        format!(in alloc; "{shown}.new")?,
+        folder,
+    ))
+}
+
+pub(crate) fn sync_folder(alloc: Global, place: &Place) -> Result<(), Hindrance> {
+    given(alloc, place.folder_name.as_str(), place.folder.sync_all())
+}

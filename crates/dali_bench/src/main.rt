@@ -1,11 +1,11 @@
 //! A bench for luminaire data in memory bank 1 of DALI control gear.
 #![tactic(auto)]
+ghost use Rattle.dali_commands.specs.LinkCommands.{IsShort};
 
 use dali_commands::drive::DriveNames;
-use dali_commands::drive_files::drive_files;
 use dali_commands::frame::frame;
 use dali_commands::lines::Lines;
-use dali_commands::{Fault, FileCommand, Status, StdSink, StdSource, write_fault};
+use dali_commands::{Fault, FileCommand, LinkCommand, Status, StdSink, StdSource, write_fault};
 use dali_input::{Input, InputFault};
 use dali_job::{Job, job_of};
 use dali_notes::{Escaped, FirstLines};
@@ -38,7 +38,7 @@ fn main(rt: HostRuntime) -> ExitCode {
 
 // Carries out the command line.
 fn run(rt: &HostRuntime, words: &Vec<String>) -> Status {
-    let stream = if words.len() > 1 && words[1].as_str() == "drive" {
+    let stream = if words.len() > 1 && has_link(words[1].as_str()) {
         FaultStream::Lines
     } else {
         FaultStream::Output
@@ -70,7 +70,16 @@ fn run(rt: &HostRuntime, words: &Vec<String>) -> Status {
                 journal,
                 moment,
             },
-        ) => on_link(rt, DriveNames { orders, journal }, moment),
+        ) => on_link(
+            rt,
+            LinkCommand::Drive {
+                names: DriveNames { orders, journal },
+                moment,
+            },
+        ),
+        Ok(Job::Read { unit, bank }) => on_link(rt, LinkCommand::Read { unit, bank }),
+        Ok(Job::Verify(orders)) => on_link(rt, LinkCommand::Verify(orders)),
+        Ok(Job::Scan) => on_link(rt, LinkCommand::Scan),
         Err(error) if error.kind() == clap::error::ErrorKind::OutOfMemory => out_of_memory(
             rt, stream,
         ),
@@ -80,6 +89,11 @@ fn run(rt: &HostRuntime, words: &Vec<String>) -> Status {
             Err(cause) => tell_cause(rt, Status::Unwritten, Some(cause.kind())),
         },
     }
+}
+
+// Whether a command of this name has the link for its output.
+fn has_link(name: &str) -> bool {
+    matches!(name, "drive" | "read" | "verify" | "scan")
 }
 
 // Prints what `clap` says of a wrong command line, in which it repeats words of that.
@@ -167,8 +181,10 @@ fn on_input<R: Read, W: Write>(
     tell_cause(rt, status, output.cause())
 }
 
-// Carries out orders over standard input and output. Where standard error can't be written, nothing more is.
-fn on_link(rt: &HostRuntime, names: DriveNames<'_>, moment: u64) -> Status {
+// Carries out a command over standard input and output. Where standard error can't be written, nothing more is.
+fn on_link(rt: &HostRuntime, command: LinkCommand<'_>) -> Status
+    requires { IsShort command }
+{
     let Ok(lines) = LineWriter::new(rt.alloc(), rt.stderr()) else {
         return out_of_memory(rt, FaultStream::Lines);
     };
@@ -178,10 +194,8 @@ fn on_link(rt: &HostRuntime, names: DriveNames<'_>, moment: u64) -> Status {
             let mut lines = Lines {
                 output: Output::new(lines),
             };
-            match drive_files(
+            match command.carry_out(
                 rt,
-                names,
-                moment,
                 &mut StdSource::new(rt.stdin()),
                 &mut StdSink::new(rt.stdout()),
                 &mut lines,
@@ -196,7 +210,7 @@ fn on_link(rt: &HostRuntime, names: DriveNames<'_>, moment: u64) -> Status {
     }
 }
 
-// Where a fault is told that comes before its command runs: `drive` has the link for its output.
+// Where a fault is told that comes before its command runs: some have the link for their output.
 #[derive(Clone, Copy)]
 enum FaultStream {
     Output,

@@ -20,8 +20,9 @@ use Rattle.dali_drive.specs.declared.fault.DriveFault.TheVariants as drives
 use Rattle.dali_drive.specs.Streams.{PutsFirst}
 use Rattle.dali_commands.specs.declared.fault.Status.{Status}
 use Rattle.dali_commands.specs.declared.fault.Status.TheVariants.{Unwritten}
-use Rattle.dali_commands.specs.DriveAnswers.{IsDriveAnswer, IsInputAnswer, IsInputDriven, IsFileDriven, IsFaultTold, IsFileFaultTold}
-use Rattle.dali_commands.specs.DriveAnswers.{TellsWorded, error_line, fault_unopened, is_out, refused_lines}
+use Rattle.dali_commands.specs.DriveAnswers.{IsDriveAnswer, fault_unopened}
+use Rattle.dali_commands.specs.OrdersAnswers.{IsInputAnswer, IsReaderAnswer, IsFileAnswer}
+use Rattle.dali_commands.specs.Told.{IsFaultTold, IsFileFaultTold, TellsWorded, error_line, is_out, refused_lines}
 use Rattle.dali_commands.specs.JournalAnswers.{journal_limit, order_limit}
 use Rattle.dali_commands.specs.declared.fault.Fault.{Fault}
 use Rattle.dali_commands.specs.declared.fault.Fault.TheVariants.{Drive}
@@ -32,7 +33,7 @@ use Rattle.dali_text.proofs.StreamLemmas.{appends_both, appends_kept}
 pub ends_unopened : (orders : List Contents) (moment : ℕ) (first last : Streams) (replies : Option (List ℕ))
     (fault : StoredFault) (why : OpenFault) (status : Status) → fault ≡ stored.Open why
     → IsStoredFault order_limit journal_limit orders moment fault first (record last { out = replies })
-    → IsFileFaultTold (fault_unopened why) status replies last.out → IsDriveAnswer orders moment first status last
+    → IsFileFaultTold (fault_unopened why) status replies last.out → IsDriveAnswer moment orders first status last
 ends_unopened orders moment first last replies fault why status is unopened told = inr (inl (record {
   fault = why;
   replies = replies;
@@ -46,7 +47,7 @@ ends_unopened orders moment first last replies fault why status is unopened told
 pub ends_broken : (orders : List Contents) (moment : ℕ) (first last : Streams) (replies : Option (List ℕ))
     (fault : StoredFault) (why : DriveFault) (status : Status) → fault ≡ stored.Drive why
     → IsStoredFault order_limit journal_limit orders moment fault first (record last { out = replies })
-    → IsFaultTold why status replies last.out → IsDriveAnswer orders moment first status last
+    → IsFaultTold why status replies last.out → IsDriveAnswer moment orders first status last
 ends_broken orders moment first last replies fault why status is broken told = inr (inr (record {
   fault = why;
   replies = replies;
@@ -56,12 +57,13 @@ ends_broken orders moment first last replies fault why status is broken told = i
   told = told;
 }))
 
--- the bytes that were read are those that were driven
-pub read_and_driven : (before after : InputState) (moment : ℕ) (first last : Streams) (status : Status)
-    (input given : List ℕ) → given ≡ input → ReadsInput orders_limit before after input
-    → IsInputAnswer given moment first status last → IsInputDriven before after moment first status last
-read_and_driven before after moment first last status input given is read driven =
-    inl (input, read, subst (λ (bytes : List ℕ). IsInputAnswer bytes moment first status last) is driven)
+-- the bytes that were read are those that the command had
+pub read_and_answered : (answers : List Contents → Streams → Status → Streams → Type 0) (before after : InputState)
+    (first last : Streams) (status : Status) (input given : List ℕ)
+    → given ≡ input → ReadsInput orders_limit before after input
+    → IsInputAnswer answers given first status last → IsReaderAnswer answers before after first status last
+read_and_answered answers before after first last status input given is read answered =
+    inl (input, read, subst (λ (bytes : List ℕ). IsInputAnswer answers bytes first status last) is answered)
 
 -- a line in words was written, and then the fault's
 pub worded : (result : Result Status OutputFailed) (fault : Fault) (words : List ℕ) (before mid after : Option (List ℕ))
@@ -163,7 +165,8 @@ never_failed fault false true new other at first second = cc
 never_failed fault false false new other at first second = second
 
 -- what a reader gave are some bytes
-pub file_driven : (before after : InputState) (moment : ℕ) (first : Streams) (status : Status) (last : Streams)
-    → IsInputDriven before after moment first status last → IsFileDriven moment first status last
-file_driven before after moment first status last (inl (input, read, answer)) = inl (input, answer)
-file_driven before after moment first status last (inr (fault, failure, undriven)) = inr (fault, undriven)
+pub file_answered : (answers : List Contents → Streams → Status → Streams → Type 0) (before after : InputState)
+    (first : Streams) (status : Status) (last : Streams)
+    → IsReaderAnswer answers before after first status last → IsFileAnswer answers first status last
+file_answered answers before after first status last (inl (input, read, answer)) = inl (input, answer)
+file_answered answers before after first status last (inr (fault, failure, undriven)) = inr (fault, undriven)

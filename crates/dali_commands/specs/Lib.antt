@@ -5,6 +5,10 @@ pub mod FrameAnswers
 pub mod BankAnswers
 pub mod RunAnswers
 pub mod JournalAnswers
+pub mod Told
+pub mod OrdersAnswers
 pub mod DriveAnswers
+pub mod ReadAnswers
+pub mod LinkCommands
 pub mod FileCommands
 pub mod Notes

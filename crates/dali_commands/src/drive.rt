@@ -5,7 +5,8 @@ ghost use Rattle.dali_input.specs.Input.{ReadsAtMost, state_of};
 ghost use Rattle.dali_input.specs.Orders.{orders_limit};
 ghost use Rattle.dali_store.specs.Stores.{IsSettled, LeavesOnly};
 ghost use Rattle.dali_text.specs.Output.{has_failed, held};
-ghost use Rattle.dali_commands.specs.DriveAnswers.{IsDriveAnswer, IsInputAnswer, IsInputDriven};
+ghost use Rattle.dali_commands.specs.DriveAnswers.{IsDriveAnswer};
+ghost use Rattle.dali_commands.specs.OrdersAnswers.{IsInputAnswer, IsReaderAnswer};
 ghost use Rattle.dali_commands.specs.JournalAnswers.{order_limit};
 
 use crate::drive_lines::{tell_fault, tell_refused, tell_unopened, tell_unread};
@@ -47,7 +48,8 @@ pub fn drive_input<R: Read, I: Source, L: Sink, S: Store, W: Write>(
     requires link_out { L.failed link_out.old ≡ false }
     requires link_in { I.failed link_in.old ≡ false }
     requires lines { has_failed lines.old.output ≡ false }
-    ensures driven { IsInputDriven (state_of R.remaining input.old) (state_of R.remaining input.new) moment
+    ensures driven { IsReaderAnswer (IsDriveAnswer moment)
+        (state_of R.remaining input.old) (state_of R.remaining input.new)
         (shown (S.seen store.old) (L.held link_out.old) (I.left link_in.old) (held W.contents lines.old.output))
         result
         (shown (S.seen store.new) (L.held link_out.new) (I.left link_in.new) (held W.contents lines.new.output)) }
@@ -78,8 +80,8 @@ pub fn drive_input<R: Read, I: Source, L: Sink, S: Store, W: Write>(
     }
 }
 
-// The failure of this kind.
-fn failure_of(cause: Option<ErrorKind>) -> Option<io::Error> {
+/// The failure of this kind.
+pub(crate) fn failure_of(cause: Option<ErrorKind>) -> Option<io::Error> {
     match cause {
         Some(kind) => Some(io::Error::from(kind)),
         None => None,
@@ -101,7 +103,7 @@ fn drive_bytes<I: Source, L: Sink, S: Store, W: Write>(
     requires link_out { L.failed link_out.old ≡ false }
     requires link_in { I.failed link_in.old ≡ false }
     requires lines { has_failed lines.old.output ≡ false }
-    ensures answer { IsInputAnswer input.now moment
+    ensures answer { IsInputAnswer (IsDriveAnswer moment) input.now
         (shown (S.seen store.old) (L.held link_out.old) (I.left link_in.old) (held W.contents lines.old.output))
         result
         (shown (S.seen store.new) (L.held link_out.new) (I.left link_in.new) (held W.contents lines.new.output)) }
@@ -147,7 +149,7 @@ pub fn drive_orders<I: Source, L: Sink, S: Store, W: Write>(
     requires link_out { L.failed link_out.old ≡ false }
     requires link_in { I.failed link_in.old ≡ false }
     requires lines { has_failed lines.old.output ≡ false }
-    ensures answer { IsDriveAnswer orders.now moment
+    ensures answer { IsDriveAnswer moment orders.now
         (shown (S.seen store.old) (L.held link_out.old) (I.left link_in.old) (held W.contents lines.old.output))
         result
         (shown (S.seen store.new) (L.held link_out.new) (I.left link_in.new) (held W.contents lines.new.output)) }

@@ -2,15 +2,19 @@ ghost use Rattle.std.specs.Prelude.{◌≡◌, ◌↔◌, None, true, false};
 ghost use Rattle.dali_drive.specs.StdStreams.{source_left, source_failed, sink_held, sink_failed};
 ghost use Rattle.dali_drive.specs.Transcript.{shown};
 ghost use Rattle.dali_text.specs.Output.{has_failed, held};
-ghost use Rattle.dali_commands.specs.DriveAnswers.{IsFileDriven};
+ghost use Rattle.dali_commands.specs.DriveAnswers.{IsDriveAnswer};
+ghost use Rattle.dali_commands.specs.OrdersAnswers.{IsFileAnswer};
+ghost use Rattle.dali_commands.specs.Told.{IsFileFaultTold};
+ghost use Rattle.dali_input.specs.declared.fault.InputFault.{InputFault};
 
 use crate::drive::{DriveNames, drive_input};
 use crate::drive_lines::tell_unread;
-use crate::fault::Status;
+use crate::fault::{Fault, Status};
 use crate::lines::Lines;
 use dali_drive::{StdSink, StdSource};
 use dali_input::{Input, InputFault};
 use dali_store::FileStore;
+use std::alloc::Global;
 use std::fs::{File, Files, Metadata};
 use std::io::{ErrorKind, Read, Write};
 use std::{fs, io};
@@ -30,7 +34,7 @@ pub fn drive_files<R: Files<File = File> + AllocGlobal, I: Read, L: Write, O: Wr
     requires link_out { sink_failed link_out.old ≡ false }
     requires link_in { source_failed link_in.old ≡ false }
     requires lines { has_failed lines.old.output ≡ false }
-    ensures driven { IsFileDriven moment
+    ensures driven { IsFileAnswer (IsDriveAnswer moment)
         (shown None (sink_held L.contents link_out.old) (source_left I.remaining link_in.old)
         (held O.contents lines.old.output))
         result
@@ -49,24 +53,30 @@ pub fn drive_files<R: Files<File = File> + AllocGlobal, I: Read, L: Write, O: Wr
             &mut FileStore::new(rt, names.journal, &found),
             lines,
         ),
-        Err(error) => {
-            let fault = match error.kind() {
-                ErrorKind::OutOfMemory => InputFault::Memory,
-                _ => InputFault::File,
-            };
-            tell_unread(
-                rt.alloc(),
-                &mut lines.output,
-                names.orders,
-                fault,
-                Some(error),
-            )
-        }
+        Err(error) => tell_unopened_orders(rt.alloc(), lines, names.orders, error),
     }
 }
 
+// Writes that a file of orders can't be opened, and why.
+pub(crate) fn tell_unopened_orders<O: Write>(
+    alloc: Global,
+    lines: &mut Lines<O>,
+    name: &str,
+    error: io::Error,
+) -> Status
+    ensures told { (fault : InputFault) × IsFileFaultTold (Fault.Input fault) result
+        (held O.contents lines.old.output) (held O.contents lines.new.output) }
+    ensures unwritten { result ≡ Status.Unwritten ↔ has_failed lines.new.output ≡ true }
+{
+    let fault = match error.kind() {
+        ErrorKind::OutOfMemory => InputFault::Memory,
+        _ => InputFault::File,
+    };
+    tell_unread(alloc, &mut lines.output, name, fault, Some(error))
+}
+
 // Opens a file to read it, and looks which one it is.
-fn opened<R: Files<File = File>>(rt: &R, name: &str) -> io::Result<(File, Metadata)> {
+pub(crate) fn opened<R: Files<File = File>>(rt: &R, name: &str) -> io::Result<(File, Metadata)> {
     let file = fs::open(rt, name)?;
     let found = file.metadata()?;
     Ok((file, found))

@@ -3,8 +3,9 @@ ghost use Rattle.std.specs.Prelude.{◌≡◌, ◌≢◌, ◌↔◌, ◌++◌, I
 ghost use Rattle.dali_text.specs.Output.{TellsFailure, Takes, has_failed, held, is_flushed};
 ghost use Rattle.dali_commands.specs.Ends.{TellsEnd};
 ghost use Rattle.dali_commands.specs.Faults.{status_of, told_line};
-ghost use Rattle.dali_commands.specs.DriveAnswers.{IsFaultTold, IsFileFaultTold, TellsFileFault, TellsWorded};
-ghost use Rattle.dali_commands.specs.DriveAnswers.{error_line, fault_unopened, is_out, refused_lines};
+ghost use Rattle.dali_commands.specs.Told.{IsFaultTold, IsFileFaultTold, TellsFileFault, TellsWorded};
+ghost use Rattle.dali_commands.specs.Told.{error_line, is_out, refused_lines};
+ghost use Rattle.dali_commands.specs.DriveAnswers.{fault_unopened};
 
 use crate::fault::{Fault, Status};
 use crate::fault_lines::{drive_line, write_failure, write_refused_item};
@@ -118,6 +119,21 @@ fn write_unopened<W: Write>(
         }
         OpenFault::Store(StoreFault::Failed) => write_unusable(alloc, output, name, cause),
     }
+}
+
+/// Writes why a file of this name can't be used, with the words that its store has for that.
+pub fn tell_unusable<W: Write>(
+    alloc: Global,
+    output: &mut Output<W>,
+    name: &str,
+    words: Option<&str>,
+) -> Status
+    ensures told { IsFileFaultTold (Fault.Input InputFault.File) result
+        (held W.contents output.old) (held W.contents output.new) }
+    ensures unwritten { result ≡ Status.Unwritten ↔ has_failed output.new ≡ true }
+    ensures not_good { result ≢ Status.Good }
+{
+    written_status(write_unusable(alloc, output, name, words))
 }
 
 /// Writes why there are no orders, and what the system says of that, where their reader failed.

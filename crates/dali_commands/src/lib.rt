@@ -11,12 +11,17 @@ mod fault_lines;
 mod file_command;
 pub mod frame;
 pub mod journal;
+mod link_command;
 pub mod lines;
 mod notes;
+pub mod read;
 pub mod run_scenario;
 pub mod show;
+pub mod survey;
+pub mod survey_files;
 
 pub use dali_drive::{StdSink, StdSource};
 pub use fault::{Fault, Status};
 pub use fault_lines::write_fault;
 pub use file_command::FileCommand;
+pub use link_command::LinkCommand;

@@ -1,7 +1,8 @@
-use Rattle.dali_commands.proofs.DriveLemmas.{read_and_driven}
+use Rattle.dali_commands.specs.DriveAnswers.{IsDriveAnswer}
+use Rattle.dali_commands.proofs.DriveLemmas.{read_and_answered}
 use Rattle.dali_commands.proofs.drive.drive_input.Goals as goal
 
 pub returns-in-Ok-clause-driven : goal.returns-in-Ok-clause-driven
 returns-in-Ok-clause-driven g c =
-    read_and_driven _ _ _ _ _ _ _ c.as_slice.result.now c.as_slice.ensures.value c.in-Ok.ensures.ok
-    c.drive_bytes.ensures.answer
+    read_and_answered (IsDriveAnswer c.args.moment) _ _ _ _ _ _ c.as_slice.result.now c.as_slice.ensures.value
+    c.in-Ok.ensures.ok c.drive_bytes.ensures.answer

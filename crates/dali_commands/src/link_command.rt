@@ -1,0 +1,65 @@
+ghost use Rattle.std.specs.Prelude.{◌≡◌, ◌↔◌, None, true, false};
+ghost use Rattle.dali_drive.specs.StdStreams.{source_left, source_failed, sink_held, sink_failed};
+ghost use Rattle.dali_drive.specs.Transcript.{shown};
+ghost use Rattle.dali_text.specs.Output.{has_failed, held};
+ghost use Rattle.dali_commands.specs.LinkCommands.{IsShort, IsLinkAnswer};
+
+use crate::drive::DriveNames;
+use crate::drive_files::drive_files;
+use crate::fault::Status;
+use crate::lines::Lines;
+use crate::survey::scan;
+use crate::survey_files::{read_file, verify_file};
+use dali_drive::{StdSink, StdSource};
+use std::fs::{File, Files};
+use std::io::{Read, Write};
+
+/// A command over a link (profile).
+#[derive(Clone, Copy)]
+pub enum LinkCommand<'a> {
+    /// `drive`, over orders and a journal, at this moment.
+    Drive {
+        names: DriveNames<'a>,
+        moment: u64,
+    },
+    /// `read`, of the unit at a short address into a file.
+    Read { unit: u8, bank: &'a str },
+    /// `verify`, over orders.
+    Verify(&'a str),
+    /// `scan`.
+    Scan,
+}
+
+impl LinkCommand<'_> {
+    /// Carries the command out over streams that haven't failed. A short address that it names has to be at most 63.
+    pub fn carry_out<R: Files<File = File> + AllocGlobal, I: Read, L: Write, O: Write>(
+        &self,
+        rt: &R,
+        link_in: &mut StdSource<I>,
+        link_out: &mut StdSink<L>,
+        lines: &mut Lines<O>,
+    ) -> Status
+        requires short { IsShort self.now }
+        requires link_out { sink_failed link_out.old ≡ false }
+        requires link_in { source_failed link_in.old ≡ false }
+        requires lines { has_failed lines.old.output ≡ false }
+        ensures carried_out { IsLinkAnswer self.now
+            (shown None (sink_held L.contents link_out.old) (source_left I.remaining link_in.old)
+            (held O.contents lines.old.output))
+            result
+            (shown None (sink_held L.contents link_out.new) (source_left I.remaining link_in.new)
+            (held O.contents lines.new.output)) }
+        ensures unwritten { result ≡ Status.Unwritten ↔ has_failed lines.new.output ≡ true }
+    {
+        match *self {
+            LinkCommand::Drive { names, moment } => {
+                drive_files(rt, names, moment, link_in, link_out, lines)
+            }
+            LinkCommand::Read { unit, bank } => {
+                read_file(rt, unit, bank, link_in, link_out, lines)
+            }
+            LinkCommand::Verify(orders) => verify_file(rt, orders, link_in, link_out, lines),
+            LinkCommand::Scan => scan(link_in, link_out, lines),
+        }
+    }
+}

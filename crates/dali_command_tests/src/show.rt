@@ -187,8 +187,10 @@ fn spells(alloc: Global, bank: &[u8], wanted: &str) -> Result<(), Fail>
 {
     let text = text_of(bank);
     expect_that(text.as_slice() == wanted.as_bytes(), "the rows")?;
-    let read = bank_of(alloc, text.as_slice().to_vec(alloc)?);
-    let is_same = matches!(read, Ok(same) if same.as_slice() == bank);
+    let is_same = match bank_of(alloc, text.as_slice().to_vec(alloc)?) {
+        Ok(read) => read.as_slice() == bank,
+        Err(_fault) => false,
+    };
     expect_that(is_same, "the same bytes back")
 }
 

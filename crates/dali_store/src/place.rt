@@ -75,7 +75,7 @@ pub(crate) fn names_of<R: Files<File = File>>(
     names_at(alloc, path.as_path())
 }
 
-// The same, where a file has this name.
+// The same of a path as it stands, where no file needs to be.
 pub(crate) fn names_at(alloc: Global, path: Path<'_>) -> io::Result<(String, String, String)> {
     let shown = path.display();
     let folder = match path.parent() {

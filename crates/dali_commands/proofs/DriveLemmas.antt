@@ -22,6 +22,7 @@ use Rattle.dali_commands.specs.declared.fault.Status.{Status}
 use Rattle.dali_commands.specs.declared.fault.Status.TheVariants.{Unwritten}
 use Rattle.dali_commands.specs.DriveAnswers.{IsDriveAnswer, fault_unopened}
 use Rattle.dali_commands.specs.OrdersAnswers.{IsInputAnswer, IsReaderAnswer, IsFileAnswer}
+use Rattle.dali_commands.specs.ReadAnswers.{TellsLine}
 use Rattle.dali_commands.specs.Told.{IsFaultTold, IsFileFaultTold, TellsWorded, error_line, is_out, refused_lines}
 use Rattle.dali_commands.specs.JournalAnswers.{journal_limit, order_limit}
 use Rattle.dali_commands.specs.declared.fault.Fault.{Fault}
@@ -170,3 +171,9 @@ pub file_answered : (answers : List Contents → Streams → Status → Streams 
     → IsReaderAnswer answers before after first status last → IsFileAnswer answers first status last
 file_answered answers before after first status last (inl (input, read, answer)) = inl (input, answer)
 file_answered answers before after first status last (inr (fault, failure, undriven)) = inr (fault, undriven)
+
+-- the line by another name
+pub line_told : (good status : Status) (before after : Option (List ℕ)) (one two : List ℕ) → one ≡ two
+    → TellsLine one good status before after → TellsLine two good status before after
+line_told good status before after one two same told =
+    subst (λ (line : List ℕ). TellsLine line good status before after) same told

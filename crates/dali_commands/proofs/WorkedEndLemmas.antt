@@ -5,7 +5,7 @@ use Rattle.dali_drive.specs.declared.fault.DriveFault.TheVariants as faults
 use Rattle.dali_commands.specs.declared.fault.Status.TheVariants.{Good, Refused, Failed, Unwritten}
 use Rattle.dali_input.specs.declared.fault.InputFault.TheVariants.{File, TooBig}
 use Rattle.dali_commands.specs.declared.fault.Fault.TheVariants.{Input}
-use Rattle.dali_commands.specs.DriveAnswers.{IsFaultTold, TellsFileFault, error_line}
+use Rattle.dali_commands.specs.Told.{IsFaultTold, TellsFileFault, error_line}
 use Rattle.dali_commands.specs.Faults.{told_line}
 
 pub out_told_by_its_status : (written : Option (List ℕ)) → IsFaultTold faults.Out Unwritten written written

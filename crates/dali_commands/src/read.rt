@@ -1,4 +1,4 @@
-ghost use Rattle.std.specs.Prelude.{◌≡◌, ◌↔◌, ◌⊎◌, true, false};
+ghost use Rattle.std.specs.Prelude.{◌≡◌, ◌≢◌, ◌↔◌, ◌⊎◌, ◌≤◌, true, false};
 ghost use Rattle.dali_drive.specs.Transcript.{shown};
 ghost use Rattle.dali_store.specs.Stores.{LeavesOnly};
 ghost use Rattle.dali_text.specs.Output.{has_failed, held};

@@ -1,6 +1,6 @@
 use Rattle.std.proofs.Common.{◌≡◌, take}
 use Rattle.dali_text.specs.Output.{Takes, has_failed}
-use Rattle.dali_commands.specs.DriveAnswers.{refused_lines}
+use Rattle.dali_commands.specs.Told.{refused_lines}
 use Rattle.dali_commands.proofs.drive_lines.write_items.Given as goal
 
 abbrev pub invariant-loop-item : goal.invariant-loop-item

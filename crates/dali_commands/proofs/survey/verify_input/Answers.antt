@@ -1,0 +1,8 @@
+use Rattle.dali_commands.specs.ReadAnswers.{IsVerifyAnswer}
+use Rattle.dali_commands.proofs.DriveLemmas.{read_and_answered}
+use Rattle.dali_commands.proofs.survey.verify_input.Goals as goal
+
+pub returns-in-Ok-clause-verified : goal.returns-in-Ok-clause-verified
+returns-in-Ok-clause-verified g c =
+    read_and_answered IsVerifyAnswer _ _ _ _ _ _ c.as_slice.result.now c.as_slice.ensures.value c.in-Ok.ensures.ok
+    c.verify_bytes.ensures.answer

@@ -9,10 +9,11 @@ use std::os::unix::fs::FileTypeExt;
 use std::path::Path;
 use std::{fs, io};
 
-// The most bytes of a unit's text.
-const MOST_TEXT: usize = 765;
+// The most bytes of a text that `show` reads.
+const MOST_TEXT: usize = 4096;
 
-// Has a new file with these bytes take the place of a regular one, or of none. What is no regular file is written to.
+// Has a new file with these bytes take the place of a regular one, or of none. A regular one that is no text is left
+// alone: it may be a journal. What is no regular file is written to.
 pub(crate) fn put_text<R: Files<File = File> + AllocGlobal>(
     rt: &R,
     name: &str,
@@ -20,7 +21,13 @@ pub(crate) fn put_text<R: Files<File = File> + AllocGlobal>(
 ) -> Result<(), Hindrance> {
     let alloc = rt.alloc();
     let (names, found) = match fs::metadata(rt, name) {
-        Ok(found) if found.is_file() => (names_of(rt, alloc, name), Some(found)),
+        Ok(found) if found.is_file() => {
+            let mut file = given(alloc, name, fs::open(rt, name))?;
+            if !is_part_of_text(alloc, name, &mut file)? {
+                return Err(refused(alloc, "what is there is no text of a bank", name));
+            }
+            (names_of(rt, alloc, name), Some(found))
+        }
         Ok(found) if found.file_type().is_fifo() => {
             return Err(refused(alloc, "HEXFILE is a named pipe", name));
         }
@@ -42,7 +49,7 @@ fn write_to<R: Files<File = File>>(rt: &R, name: &str, bytes: &[u8]) -> io::Resu
         .write_all(bytes)
 }
 
-// Whether all that a file gives from here on may be a part of a unit's text.
+// Whether all that a file gives from here on may be a part of a bank's text.
 pub(crate) fn is_part_of_text(
     alloc: Global,
     name: &str,
@@ -55,7 +62,8 @@ pub(crate) fn is_part_of_text(
     }
 }
 
-// Whether these are upper-case hexadecimal digits, spaces and line feeds.
+// Whether these are hexadecimal digits and what may set them apart.
 fn is_text(bytes: &[u8]) -> bool {
-    bytes.iter().all(|&byte| matches!(byte, b'0'..=b'9' | b'A'..=b'F' | b' ' | b'\n'))
+    bytes.iter().all(|byte| byte.is_ascii_hexdigit()
+        || matches!(byte, b' ' | b'\t' | b'\n' | b'\r'))
 }

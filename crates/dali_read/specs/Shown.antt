@@ -28,6 +28,7 @@ pub record InBlock (told : List Exchange) (unit location byte : ℕ) : Type 0 wh
 pub record WhenTold (loses : ℕ → Type 0) (told : List Exchange) (first last : World) (unit location byte : ℕ)
     : Type 0 where
   pub block : Block
+  pub fits : Fits block
   pub bytes : List ℕ
   pub index : ℕ
   pub place : location ≡ block.location + index

@@ -1,16 +1,14 @@
 -- How many frames readings of 00h alone and of a whole bank take.
 use Rattle.std.proofs.Common.{◌≡◌, ◌⊎◌, inl, inr, refl, sym, ap, subst, ◌∙◌, ℕ, suc, ◌+◌, ◌-◌, ◌*◌, ◌/◌, ◌≤◌}
 use Rattle.std.proofs.Common.{◌<◌, min, nat_lt, Bool, true, false, if◌then◌else◌, List, [], ◌∷◌, ◌++◌, length}
-use Rattle.std.proofs.Common.{length-append, Option, Some, None, arith}
+use Rattle.std.proofs.Common.{length-append, Some, None, arith}
 use Rattle.std.proofs.lemmas.Bool.{ltb-true, ltb-false}
 use Rattle.dali_write.specs.Exchanges.{Exchange}
-use Rattle.dali_write.specs.Tries.{most_tries}
 use Rattle.dali_read.specs.declared.block.Block.{Block}
 use Rattle.dali_read.specs.Places.{first_block, last_course, bank_course}
-use Rattle.dali_read.specs.Readings.{Course, Done, bytes_in, told_in, InTurn, IsRead, Ends}
+use Rattle.dali_read.specs.Readings.{Course, Done, bytes_in, told_in, InTurn, IsRead}
 use Rattle.dali_read.specs.Counts.{block_frames, bank_frames, AreSoMany}
-use Rattle.dali_read.proofs.BlockMissLemmas.{failure_limit}
-use Rattle.dali_read.proofs.TurnLemmas.{frames_of, turn_frames, turn_limit, added, none_done}
+use Rattle.dali_read.proofs.TurnLemmas.{frames_of, turn_frames, added, none_done}
 
 -- the first of a course's blocks is that of 00h
 pub first_frames : (unit : ℕ) (course : Course) (newest : Done) (done : List Done)

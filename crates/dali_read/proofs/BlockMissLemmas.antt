@@ -32,7 +32,7 @@ apt_reads unit (suc count) place last within is = (
       (apt_reads unit count (suc place) last within (omega arith)),
 )
 
-apt_block : (unit : ℕ) (block : Block) (place : ℕ) → Fits block → Apt place (block_requests unit block)
+pub apt_block : (unit : ℕ) (block : Block) (place : ℕ) → Fits block → Apt place (block_requests unit block)
 apt_block unit block place fits =
     (refl, (refl, (refl, (refl, apt_reads unit block.count block.location _ fits.within refl))))
 

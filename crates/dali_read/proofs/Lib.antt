@@ -15,3 +15,4 @@ pub mod BlockLossLemmas
 pub mod SparedLemmas
 pub mod StaysLemmas
 pub mod SparedCourseLemmas
+pub mod WorkedReadLemmas

@@ -1,5 +1,3 @@
-use Rattle.std.specs.Prelude.{◌*◌}
-use Rattle.dali_write.specs.Tries.{most_tries}
 use Rattle.dali_read.specs.Counts.{block_frames, bank_frames, order_frames}
 use Rattle.dali_read.specs.Places.{last_course, bank_course, order_course}
 use Rattle.dali_read.proofs.TurnLemmas.{ends_limit, amid_limit}

@@ -16,3 +16,4 @@ pub mod SparedLemmas
 pub mod StaysLemmas
 pub mod SparedCourseLemmas
 pub mod WorkedReadLemmas
+pub mod WorkedPlaceLemmas

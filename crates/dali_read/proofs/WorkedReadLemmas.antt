@@ -25,6 +25,7 @@ use Rattle.dali_read.specs.Places.{block, first_block, last_course, bank_course}
 use Rattle.dali_read.specs.Readings.{Done, bytes_in, told_in, InTurn, IsRead, IsSilent, IsReading}
 use Rattle.dali_read.specs.WorkedReads.{two_locations, two_read, whole_read, missed_try, missed_tries, four_frames}
 use Rattle.dali_read.specs.WorkedReads.{last_read}
+use Rattle.dali_read.specs.WorkedReads.{first_part, second_part}
 use Rattle.dali_read.specs.WorkedReads.{seven_frames}
 use Rattle.std.proofs.lemmas.Option.{slice_get_within}
 use Rattle.dali_read.specs.Shown.{WhenTold}
@@ -265,6 +266,66 @@ last_is_read =
     record {
       done = last_done ∷ [];
       in_turn = (tt, first_fits, refl, first_succeeds);
+      bytes_are = refl;
+      told_are = refl;
+      over = refl;
+    }
+
+-- two blocks, one after the other
+
+first_part_read : Succeeds 5 first_block (0x02 ∷ []) first_part
+first_part_read =
+    record {
+      tried = first_part;
+      missed = [];
+      misses = 0;
+      parts = refl;
+      read = (
+        (
+          Exactly 1,
+          refl,
+          (Exactly 1, refl, (Anything, refl, (Exactly 0, refl, (Nothing, tt, (Exactly 1, refl, (Nothing, tt, refl)))))),
+        ),
+        refl,
+      );
+      few = omega arith;
+      misses_are = refl;
+    }
+
+second_part_read : Succeeds 5 (block 0x01 2) (0x0A ∷ 0x0B ∷ []) second_part
+second_part_read =
+    record {
+      tried = second_part;
+      missed = [];
+      misses = 0;
+      parts = refl;
+      read = (
+        (
+          Exactly 1,
+          refl,
+          (
+            Exactly 3,
+            refl,
+            (Anything, refl, (Anything, refl, (Exactly 1, refl, (Nothing, tt, (Exactly 1, refl, (Nothing, tt, refl)))))),
+          ),
+        ),
+        refl,
+      );
+      few = omega arith;
+      misses_are = refl;
+    }
+
+pub bank_is_read : IsRead 5 bank_course (0x02 ∷ 0x0A ∷ 0x0B ∷ []) (second_part ++ first_part)
+bank_is_read =
+    record {
+      done = record { block = block 0x01 2; bytes = 0x0A ∷ 0x0B ∷ []; told = second_part }
+          ∷ record { block = first_block; bytes = 0x02 ∷ []; told = first_part } ∷ [];
+      in_turn = (
+        (tt, first_fits, refl, first_part_read),
+        record { some = omega arith; few = omega arith; within = omega arith },
+        refl,
+        second_part_read,
+      );
       bytes_are = refl;
       told_are = refl;
       over = refl;

@@ -38,6 +38,17 @@ abbrev pub last_read : List Exchange
 last_read =
     sent (AskDtr1 5) (Some 0x01) ∷ sent (AskDtr0 5) (Some 0x01) ∷ sent (Read 5) (Some 0x77) ∷ four_frames
 
+-- a reading of a whole bank that ends at 02h: the block read of 00h, and behind it that of 01h and 02h
+abbrev pub first_part : List Exchange
+first_part =
+    sent (AskDtr1 5) (Some 0x01) ∷ sent (AskDtr0 5) (Some 0x01) ∷ sent (Read 5) (Some 0x02) ∷ four_frames
+
+abbrev pub second_part : List Exchange
+second_part =
+    sent (AskDtr1 5) (Some 0x01) ∷ sent (AskDtr0 5) (Some 0x03) ∷ sent (Read 5) (Some 0x0B)
+    ∷ sent (Read 5) (Some 0x0A) ∷ sent (AskDtr0 5) (Some 0x01) ∷ sent (Dtr0 0x01) None
+    ∷ sent (AskDtr1 5) (Some 0x01) ∷ sent (Dtr1 0x01) None ∷ []
+
 -- the block read of 00h of the lone unit, which lost its power before the read
 abbrev pub seven_frames : List Exchange
 seven_frames = sent (AskDtr1 9) (Some 0x00) ∷ six_frames

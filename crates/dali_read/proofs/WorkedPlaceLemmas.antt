@@ -74,11 +74,13 @@ split_row = (refl, refl)
 pub block_numbers : (block_frames 1 ≡ 7) × (block_frames 2 ≡ 8) × (block_frames 16 ≡ 22)
 block_numbers = (refl, refl, refl)
 
-pub bank_numbers : (bank_frames 0x00 ≡ 7) × (bank_frames 0x10 ≡ 29) × (bank_frames 0x11 ≡ 36) × (bank_frames 0x77 ≡ 174)
+pub bank_numbers : (bank_frames 0x00 ≡ 7) × (bank_frames 0x10 ≡ 29) × (bank_frames 0x11 ≡ 36)
+    × (bank_frames 0x77 ≡ 174)
     × (bank_frames 0xFE ≡ 357) × (bank_frames 0xFF ≡ 357)
 bank_numbers = (refl, refl, refl, refl, refl, refl)
 
-pub row_numbers : (blocks_behind 0 0 [] ≡ 0) × (blocks_behind 0 0 five_updates ≡ 3) × (blocks_behind 0 0 (row 0x20 16) ≡ 1)
+pub row_numbers : (blocks_behind 0 0 [] ≡ 0) × (blocks_behind 0 0 five_updates ≡ 3)
+    × (blocks_behind 0 0 (row 0x20 16) ≡ 1)
     × (blocks_behind 0 0 (row 0x20 17) ≡ 2)
     × (blocks_behind 0 0 (row 0x20 33) ≡ 3)
 row_numbers = (refl, refl, refl, refl, refl)
@@ -245,7 +247,8 @@ pub bank_isnt_same : Finds (Holds other_bank) three_updates Same → ⊥
 bank_isnt_same (suits, each) = omega (arith, byte_is 6 8 each.1.0)
 
 pub bank_has_other_first : Finds (Holds other_bank) three_updates (Other 0x13 5) → ⊥
-bank_has_other_first (suits, (before, own, behind, parts, each, here, differs)) = by (splits before behind 0x13 own parts)
+bank_has_other_first (suits, (before, own, behind, parts, each, here, differs)) =
+    by (splits before behind 0x13 own parts)
   where
     by : Before before 0x13 own [] 0x03 7
         ⊎ (Before before 0x13 own ((0x03, 7) ∷ []) 0x04 8
@@ -262,7 +265,8 @@ pub bank_has_no_such_byte : Finds (Holds other_bank) three_updates (Other 0x04 5
 bank_has_no_such_byte (suits, (before, own, behind, parts, each, here, differs)) = omega (arith, byte_is 6 5 here)
 
 pub own_byte_isnt_other : Finds (Holds other_bank) three_updates (Other 0x03 7) → ⊥
-own_byte_isnt_other (suits, (before, own, behind, parts, each, here, differs)) = by (splits before behind 0x03 own parts)
+own_byte_isnt_other (suits, (before, own, behind, parts, each, here, differs)) =
+    by (splits before behind 0x03 own parts)
   where
     by : Before before 0x03 own [] 0x03 7
         ⊎ (Before before 0x03 own ((0x03, 7) ∷ []) 0x04 8

@@ -306,7 +306,11 @@ second_part_read =
           (
             Exactly 3,
             refl,
-            (Anything, refl, (Anything, refl, (Exactly 1, refl, (Nothing, tt, (Exactly 1, refl, (Nothing, tt, refl)))))),
+            (
+              Anything,
+              refl,
+              (Anything, refl, (Exactly 1, refl, (Nothing, tt, (Exactly 1, refl, (Nothing, tt, refl))))),
+            ),
           ),
         ),
         refl,
@@ -440,8 +444,8 @@ four_then : (frame : Frame) → Stands 5 first_block four_frames frame → Read 
 four_then frame stands =
     let all = stands_misses 5 first_block four_frames frame first_fits stands in
     let none : misses_in four_frames ≡ 0 = refl in
-    let no_older = none_missed (block_requests 5 first_block) stands.misses stands.missed (omega arith) stands.misses_are
-    in
+    let no_older =
+    none_missed (block_requests 5 first_block) stands.misses stands.missed (omega arith) stands.misses_are in
     let parts : four_frames ≡ stands.tried =
     stands.parts
     ∙ (ap (λ (t : List Exchange). stands.tried ++ t) no_older ∙ append-nil stands.tried) in

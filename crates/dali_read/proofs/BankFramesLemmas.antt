@@ -1,16 +1,14 @@
 -- How many frames readings of 00h alone and of a whole bank take.
 use Rattle.std.proofs.Common.{◌≡◌, ◌⊎◌, inl, inr, refl, sym, ap, subst, ◌∙◌, ℕ, suc, ◌+◌, ◌-◌, ◌*◌, ◌/◌, ◌≤◌}
 use Rattle.std.proofs.Common.{◌<◌, min, nat_lt, Bool, true, false, if◌then◌else◌, List, [], ◌∷◌, ◌++◌, length}
-use Rattle.std.proofs.Common.{length-append, Option, Some, None, arith}
+use Rattle.std.proofs.Common.{length-append, Some, None, arith}
 use Rattle.std.proofs.lemmas.Bool.{ltb-true, ltb-false}
 use Rattle.dali_write.specs.Exchanges.{Exchange}
-use Rattle.dali_write.specs.Tries.{most_tries}
 use Rattle.dali_read.specs.declared.block.Block.{Block}
 use Rattle.dali_read.specs.Places.{first_block, last_course, bank_course}
-use Rattle.dali_read.specs.Readings.{Course, Done, bytes_in, told_in, InTurn, IsRead, Ends}
+use Rattle.dali_read.specs.Readings.{Course, Done, bytes_in, told_in, InTurn, IsRead}
 use Rattle.dali_read.specs.Counts.{block_frames, bank_frames, AreSoMany}
-use Rattle.dali_read.proofs.BlockMissLemmas.{failure_limit}
-use Rattle.dali_read.proofs.TurnLemmas.{frames_of, turn_frames, turn_limit, added, none_done}
+use Rattle.dali_read.proofs.TurnLemmas.{frames_of, turn_frames, added, none_done}
 
 -- the first of a course's blocks is that of 00h
 pub first_frames : (unit : ℕ) (course : Course) (newest : Done) (done : List Done)
@@ -162,6 +160,20 @@ bank_took told unit last more read =
 
 -- the limit
 
+pub last_few : (unit : ℕ) (done : List Done) (next : Block) → InTurn unit last_course done
+    → last_course (bytes_in done) ≡ Some next
+    → block_frames next.count + frames_of done ≤ block_frames 1
+last_few unit done next turn is = by (bytes_in done) refl
+  where
+    by : (bytes : List ℕ) → bytes_in done ≡ bytes → block_frames next.count + frames_of done ≤ block_frames 1
+    by [] none =
+        let nothing : frames_of done ≡ 0 = ap frames_of (none_done unit last_course done turn none) in
+        let both : Some first_block ≡ Some next = ap last_course (sym none) ∙ is in
+        let first : first_block ≡ next = cc in
+        let one : 1 ≡ next.count = ap (λ (b : Block). b.count) first in
+        omega arith
+    by (last ∷ more) are = let over : None ≡ Some next = ap last_course (sym are) ∙ is in cc
+
 few_frames : (frames count end : ℕ) → BankSoFar frames count end → end ≤ 0xFE → frames ≤ bank_frames 0xFE
 few_frames frames count end so small =
     let frames_are = so.frames_are in
@@ -169,20 +181,10 @@ few_frames frames count end so small =
     let most = so.most in
     omega arith
 
-bank_few : (unit : ℕ) (done : List Done) → InTurn unit bank_course done → frames_of done ≤ bank_frames 0xFE
-bank_few unit done turn = by (bytes_in done) refl
-  where
-    by : (bytes : List ℕ) → bytes_in done ≡ bytes → frames_of done ≤ bank_frames 0xFE
-    by [] none =
-        let nothing : frames_of done ≡ 0 = ap frames_of (none_done unit bank_course done turn none) in omega arith
-    by (last ∷ more) are =
-        few_frames (frames_of done) (length more) (min last 0xFE) (bank_so_far unit done last more turn are)
-        (omega arith)
-
-next_few : (unit : ℕ) (done : List Done) (next : Block) → InTurn unit bank_course done
+pub bank_few : (unit : ℕ) (done : List Done) (next : Block) → InTurn unit bank_course done
     → bank_course (bytes_in done) ≡ Some next
     → block_frames next.count + frames_of done ≤ bank_frames 0xFE
-next_few unit done next turn is = by (bytes_in done) refl
+bank_few unit done next turn is = by (bytes_in done) refl
   where
     by : (bytes : List ℕ) → bytes_in done ≡ bytes → block_frames next.count + frames_of done ≤ bank_frames 0xFE
     by [] none =
@@ -197,19 +199,3 @@ next_few unit done next turn is = by (bytes_in done) refl
         (bank_step (frames_of done) (length more) (min last 0xFE) next.count (bank_so_far unit done last more turn are)
         so.0 so.1)
         (omega arith)
-
-pub bank_limit : (told : List Exchange) (unit : ℕ) (outcome : Option (List ℕ)) → Ends unit bank_course outcome told
-    → length told ≤ most_tries * bank_frames 0xFE
-bank_limit told unit (Some bytes) read =
-    let few = bank_few unit read.done read.in_turn in
-    let all = turn_limit unit bank_course read.done read.in_turn in
-    let same : length (told_in read.done) ≡ length told = ap (λ (t : List Exchange). length t) read.told_are in
-    omega arith
-bank_limit told unit None silent =
-    let few = next_few unit silent.done silent.block silent.in_turn silent.next in
-    let all = turn_limit unit bank_course silent.done silent.in_turn in
-    let last = failure_limit unit silent.block silent.missed silent.fails in
-    let same : length (silent.missed ++ told_in silent.done) ≡ length told =
-    ap (λ (t : List Exchange). length t) silent.told_are in
-    let joined = length-append silent.missed (told_in silent.done) in
-    omega arith

@@ -1,7 +1,8 @@
 -- How often block reads miss, and how many frames they take.
-use Rattle.std.proofs.Common.{◌≡◌, refl, sym, ap, subst, ◌∙◌, ℕ, zero, suc, ◌+◌, ◌*◌, ◌≤◌, ◌<◌, List, []}
+use Rattle.std.proofs.Common.{◌≡◌, refl, sym, ap, subst, ◌∙◌, ℕ, zero, suc, ◌+◌, ◌*◌, ◌≤◌, ◌<◌, List, [], ◌∷◌}
 use Rattle.std.proofs.Common.{◌++◌, append_assoc, length, length-append, arith}
 use Rattle.std.proofs.lemmas.Nat.{mul-le}
+use Rattle.dali_frame.specs.declared.forward.Frame.{Frame}
 use Rattle.dali_bus.specs.Hears.{up}
 use Rattle.dali_write.specs.Exchanges.{Exchange}
 use Rattle.dali_write.specs.declared.request.Wish.TheVariants.{Exactly}
@@ -11,7 +12,7 @@ use Rattle.dali_write.proofs.ShapeLemmas.{trying_length}
 use Rattle.dali_write.proofs.CountLemmas.{misses_length, times_most}
 use Rattle.dali_write.proofs.MissLemmas.{Apt, trying, missed}
 use Rattle.dali_read.specs.declared.block.Block.{Block}
-use Rattle.dali_read.specs.Blocks.{most_locations, Fits, reads, block_requests, Succeeds, Fails}
+use Rattle.dali_read.specs.Blocks.{most_locations, Fits, reads, block_requests, Succeeds, Fails, Stands}
 use Rattle.dali_read.specs.Counts.{block_frames}
 use Rattle.dali_read.proofs.BlockLemmas.{up_one}
 use Rattle.dali_read.proofs.BlockShapeLemmas.{back_requests, block_frames_are}
@@ -31,7 +32,7 @@ apt_reads unit (suc count) place last within is = (
       (apt_reads unit count (suc place) last within (omega arith)),
 )
 
-apt_block : (unit : ℕ) (block : Block) (place : ℕ) → Fits block → Apt place (block_requests unit block)
+pub apt_block : (unit : ℕ) (block : Block) (place : ℕ) → Fits block → Apt place (block_requests unit block)
 apt_block unit block place fits =
     (refl, (refl, (refl, (refl, apt_reads unit block.count block.location _ fits.within refl))))
 
@@ -98,4 +99,18 @@ pub failure_limit : (unit : ℕ) (block : Block) (told : List Exchange) → Fail
 failure_limit unit block told failed =
     let requests = block_frames_are unit block in
     let all = misses_length (block_requests unit block) most_tries told failed in
+    omega arith
+
+-- a try more is under way
+pub amid_frames : (unit : ℕ) (block : Block) (told : List Exchange) (frame : Frame) → Stands unit block told frame
+    → length told < most_tries * block_frames block.count
+amid_frames unit block told frame stands =
+    let requests = block_frames_are unit block in
+    let some = trying_length (block_requests unit block) stands.tried (stands.next ∷ stands.left) stands.try in
+    let older = misses_length (block_requests unit block) stands.misses stands.missed stands.misses_are in
+    let most =
+    times_most stands.misses (length (block_requests unit block)) (suc (length stands.tried)) (length stands.missed)
+    stands.few older (omega arith) in
+    let both = ap (λ (t : List Exchange). length t) stands.parts in
+    let joined = length-append stands.tried stands.missed in
     omega arith

@@ -1,13 +1,12 @@
 -- How the bytes of an order are compared, from the first one on.
-use Rattle.std.proofs.Common.{◌≡◌, ◌≢◌, ◌≤◌, ◌<◌, ◌-◌, ◌∙◌, inl, inr, refl, sym, ap, subst, ℕ, zero, suc, List, [], ◌∷◌, ◌++◌}
-use Rattle.std.proofs.Common.{append_assoc, length, take, drop, Bool, true, false, Option, Some, None, nat_lt, if◌then◌else◌, slice_index_or, arith}
+use Rattle.std.proofs.Common.{◌≡◌, ◌≢◌, ◌≤◌, ◌<◌, ◌-◌, ◌∙◌, inl, inr, refl, sym, ap, subst, ℕ, zero, suc, List, []}
+use Rattle.std.proofs.Common.{◌∷◌, ◌++◌, append_assoc, length, take, drop, None, slice_index_or, arith}
 use Rattle.std.proofs.lemmas.List.{take_all, length-drop}
 use Rattle.std.proofs.lemmas.Bool.{lt-ltb, le-ltb}
 use Rattle.dali_write.specs.Plans.{greatest}
-use Rattle.dali_read.specs.declared.block.Block.{Block}
 use Rattle.dali_read.specs.declared.finding.Finding.{Finding}
 use Rattle.dali_read.specs.declared.finding.Finding.TheVariants.{Same, Other, Short, Format}
-use Rattle.dali_read.specs.Findings.{own_bytes, IsFirstOther, IsFound}
+use Rattle.dali_read.specs.Findings.{IsFirstOther, IsFound}
 use Rattle.dali_read.specs.Places.{row_of, order_course}
 
 -- the elements behind the first so many

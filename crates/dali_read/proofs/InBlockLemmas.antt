@@ -116,6 +116,7 @@ pub when_told : {loses : ℕ → Type 0} (told : List Exchange) (first last : Wo
 when_told {loses} told first last unit location byte b run =
     record {
       block = b.block;
+      fits = b.fits;
       bytes = b.bytes;
       index = b.index;
       place = b.place;

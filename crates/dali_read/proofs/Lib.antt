@@ -15,3 +15,5 @@ pub mod BlockLossLemmas
 pub mod SparedLemmas
 pub mod StaysLemmas
 pub mod SparedCourseLemmas
+pub mod WorkedReadLemmas
+pub mod WorkedPlaceLemmas

@@ -1,20 +1,21 @@
 -- How many frames a reading of what an order needs takes.
 use Rattle.std.proofs.Common.{◌≡◌, ◌⊎◌, inl, inr, refl, sym, ap, subst, ◌∙◌, ℕ, ◌+◌, ◌*◌, ◌≤◌, ◌<◌, ◌==◌}
 use Rattle.std.proofs.Common.{◌&&◌, nat_lt, Bool, true, false, if◌then◌else◌, List, [], ◌∷◌, ◌++◌, length, drop}
-use Rattle.std.proofs.Common.{length-append, Option, Some, None, arith}
+use Rattle.std.proofs.Common.{length-append, replicate, Option, Some, None, arith}
 use Rattle.std.proofs.lemmas.Bool.{ltb-true, ltb-false, lt-ltb, le-ltb}
 use Rattle.std.proofs.lemmas.Bool.{eqb-true}
+use Rattle.std.proofs.lemmas.List.{length-replicate}
 use Rattle.std.specs.Cmp.{first_so, second_so}
 use Rattle.dali_write.specs.Exchanges.{Exchange}
 use Rattle.dali_write.specs.Plans.{greatest}
 use Rattle.dali_read.specs.declared.block.Block.{Block}
 use Rattle.dali_read.specs.declared.finding.Finding.{Finding}
 use Rattle.dali_read.specs.declared.finding.Finding.TheVariants.{Same, Other, Short, Format}
-use Rattle.dali_read.specs.Places.{block, row_of, order_course}
+use Rattle.dali_read.specs.Places.{block, first_block, row_of, order_course}
 use Rattle.dali_read.specs.Readings.{Done, bytes_in, told_in, InTurn, IsRead}
 use Rattle.dali_read.specs.Findings.{IsFound, IsFirstOther}
 use Rattle.dali_read.specs.Counts.{block_frames, blocks_behind, order_frames, found_frames, AreSoMany}
-use Rattle.dali_read.proofs.TurnLemmas.{frames_of, turn_frames, added}
+use Rattle.dali_read.proofs.TurnLemmas.{frames_of, turn_frames, added, none_done}
 use Rattle.dali_read.proofs.BankFramesLemmas.{first_frames}
 use Rattle.dali_read.proofs.RowLemmas.{Rows, no_rows, more_rows, all_rows}
 
@@ -294,3 +295,40 @@ order_took told unit updates bytes finding read found =
     (subst (λ (n : ℕ). AreSoMany n (told_in read.done))
     (order_end unit updates read.done bytes finding read.in_turn read.bytes_are read.over found)
     (turn_frames unit (order_course updates) read.done read.in_turn))
+
+-- the limit
+
+few_so_far : (updates : List (ℕ × ℕ)) (frames last : ℕ) (more : List ℕ) → OrderSoFar updates frames last more
+    → frames ≤ order_frames updates
+few_so_far updates frames last more (inl none) = let seven = none.1 in omega arith
+few_so_far updates frames last more (inr (inl so)) =
+    let frames_are = so.frames_are in
+    let rows_are = so.rows_are.frames_are in
+    let few = so.rows_are.few in
+    let blocks_are = so.rows_are.blocks_are in
+    omega arith
+few_so_far updates frames last more (inr (inr so)) =
+    let high_is = le-ltb (greatest updates) 0x13 so.high in
+    let frames_are = so.frames_are in
+    let rows_are = so.rows_are.frames_are in
+    let few = so.rows_are.few in
+    let blocks_are = so.rows_are.blocks_are in
+    rw high_is (omega arith)
+
+pub order_few : (unit : ℕ) (updates : List (ℕ × ℕ)) (done : List Done) (next : Block)
+    → InTurn unit (order_course updates) done → order_course updates (bytes_in done) ≡ Some next
+    → block_frames next.count + frames_of done ≤ order_frames updates
+order_few unit updates done next turn is = by (bytes_in done) refl
+  where
+    by : (bytes : List ℕ) → bytes_in done ≡ bytes → block_frames next.count + frames_of done ≤ order_frames updates
+    by [] none =
+        let nothing : frames_of done ≡ 0 = ap frames_of (none_done unit (order_course updates) done turn none) in
+        let both : Some first_block ≡ Some next = ap (order_course updates) (sym none) ∙ is in
+        let first : first_block ≡ next = cc in
+        let one : 1 ≡ next.count = ap (λ (b : Block). b.count) first in
+        omega arith
+    by (last ∷ more) are =
+        let bytes : List ℕ = replicate next.count 0 in
+        few_so_far updates (block_frames next.count + frames_of done) last (more ++ bytes)
+        (order_step updates (frames_of done) last more bytes next (order_so_far unit updates done last more turn are)
+        (ap (order_course updates) (sym are) ∙ is) (length-replicate next.count 0))

@@ -1,10 +1,14 @@
 -- The blocks of a reading, one after another: how many frames they take.
-use Rattle.std.proofs.Common.{◌≡◌, refl, ap, ℕ, ◌+◌, ◌*◌, ◌≤◌, List, []}
-use Rattle.std.proofs.Common.{◌∷◌, length, length-append, arith}
+use Rattle.std.proofs.Common.{◌≡◌, refl, ap, ℕ, ◌+◌, ◌*◌, ◌≤◌, ◌<◌, List, []}
+use Rattle.std.proofs.Common.{◌∷◌, ◌++◌, length, length-append, Option, Some, None, arith}
+use Rattle.dali_frame.specs.declared.forward.Frame.{Frame}
+use Rattle.dali_write.specs.Exchanges.{Exchange}
 use Rattle.dali_write.specs.Tries.{most_tries}
-use Rattle.dali_read.specs.Readings.{Course, Done, bytes_in, told_in, InTurn}
+use Rattle.dali_read.specs.declared.block.Block.{Block}
+use Rattle.dali_read.specs.Readings.{Course, Done, bytes_in, told_in, InTurn, Ends, IsReading}
 use Rattle.dali_read.specs.Counts.{block_frames, AreSoMany}
 use Rattle.dali_read.proofs.BlockMissLemmas.{success_misses, success_frames, success_limit}
+use Rattle.dali_read.proofs.BlockMissLemmas.{failure_limit, amid_frames}
 use Rattle.dali_read.proofs.InBlockLemmas.{done_count}
 
 -- the frames of one try of each block
@@ -51,3 +55,45 @@ none_done unit course (newest ∷ done) turn none =
 pub added : (unit : ℕ) (course : Course) (newest : Done) (done : List Done)
     → InTurn unit course (newest ∷ done) → length newest.bytes ≡ newest.block.count
 added unit course newest done turn = done_count unit newest.block newest.bytes newest.told turn.3
+
+-- each block that is next keeps the frames of all within so many
+abbrev pub IsFew : ℕ → Course → ℕ → Type 0
+IsFew unit course most =
+    (done : List Done) (next : Block) → InTurn unit course done → course (bytes_in done) ≡ Some next
+    → block_frames next.count + frames_of done ≤ most
+
+few_done : (unit : ℕ) (course : Course) (most : ℕ) → IsFew unit course most → (done : List Done)
+    → InTurn unit course done → frames_of done ≤ most
+few_done unit course most few [] turn = omega arith
+few_done unit course most few (newest ∷ done) turn = few done newest.block turn.0 turn.2
+
+-- so a reading takes no more than so many times the most tries, however it ends
+pub ends_limit : (unit : ℕ) (course : Course) (most : ℕ) → IsFew unit course most → (told : List Exchange)
+    (outcome : Option (List ℕ))
+    → Ends unit course outcome told → length told ≤ most_tries * most
+ends_limit unit course most few told (Some bytes) read =
+    let frames = few_done unit course most few read.done read.in_turn in
+    let all = turn_limit unit course read.done read.in_turn in
+    let same : length (told_in read.done) ≡ length told = ap (λ (t : List Exchange). length t) read.told_are in
+    omega arith
+ends_limit unit course most few told None silent =
+    let frames = few silent.done silent.block silent.in_turn silent.next in
+    let all = turn_limit unit course silent.done silent.in_turn in
+    let last = failure_limit unit silent.block silent.missed silent.fails in
+    let same : length (silent.missed ++ told_in silent.done) ≡ length told =
+    ap (λ (t : List Exchange). length t) silent.told_are in
+    let joined = length-append silent.missed (told_in silent.done) in
+    omega arith
+
+-- and fewer amid its way
+pub amid_limit : (unit : ℕ) (course : Course) (most : ℕ) → IsFew unit course most → (told : List Exchange)
+    (frame : Frame)
+    → IsReading unit course told frame → length told < most_tries * most
+amid_limit unit course most few told frame reading =
+    let frames = few reading.done reading.block reading.in_turn reading.next in
+    let all = turn_limit unit course reading.done reading.in_turn in
+    let last = amid_frames unit reading.block reading.tried frame reading.stands in
+    let same : length (reading.tried ++ told_in reading.done) ≡ length told =
+    ap (λ (t : List Exchange). length t) reading.told_are in
+    let joined = length-append reading.tried (told_in reading.done) in
+    omega arith

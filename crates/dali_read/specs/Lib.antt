@@ -5,3 +5,4 @@ pub mod Findings
 pub mod WhenBlock
 pub mod Shown
 pub mod Counts
+pub mod WorkedReads

@@ -1,5 +1,5 @@
 -- Which locations of bank 1 are read, and in which blocks.
-use Rattle.std.specs.Prelude.{ℕ, suc, ◌+◌, ◌-◌, ◌==◌, ◌&&◌, nat_lt, min, drop, List, [], ◌∷◌, length, Option, Some, None}
+use Rattle.std.specs.Prelude.{ℕ, suc, ◌-◌, ◌==◌, ◌&&◌, nat_lt, min, drop, List, [], ◌∷◌, length, Option, Some, None}
 use Rattle.std.specs.Prelude.{if◌then◌else◌}
 use Rattle.dali_write.specs.Plans.{greatest}
 use Rattle.dali_read.specs.declared.block.Block.{Block}

@@ -1,5 +1,5 @@
 -- What readings show. Exchanges have the newest first.
-use Rattle.std.specs.Prelude.{◌≡◌, ◌≢◌, ℕ, suc, ◌+◌, ◌<◌, min, List, [], ◌∷◌, ◌++◌, length, slice_get, Some}
+use Rattle.std.specs.Prelude.{◌≡◌, ◌≢◌, ℕ, suc, ◌+◌, min, List, ◌∷◌, ◌++◌, length, slice_get, Some}
 use Rattle.std.specs.List.{AllByRecursion}
 use Rattle.dali_bus.specs.World.{World}
 use Rattle.dali_write.specs.Exchanges.{Exchange}
@@ -28,6 +28,7 @@ pub record InBlock (told : List Exchange) (unit location byte : ℕ) : Type 0 wh
 pub record WhenTold (loses : ℕ → Type 0) (told : List Exchange) (first last : World) (unit location byte : ℕ)
     : Type 0 where
   pub block : Block
+  pub fits : Fits block
   pub bytes : List ℕ
   pub index : ℕ
   pub place : location ≡ block.location + index

@@ -5,7 +5,6 @@ ghost use Rattle.std.specs.Prelude.{length, slice_get};
 ghost use Rattle.std.specs.List.{AllByRecursion};
 ghost use Rattle.dali_frame.specs.declared.forward.Frame.{Frame};
 ghost use Rattle.dali_frame.specs.Frame.{IsProper};
-ghost use Rattle.dali_bank.specs.Order.{AreUpdates};
 ghost use Rattle.dali_bus.specs.World.{World};
 ghost use Rattle.dali_bus.specs.Carry.{WorldStep};
 ghost use Rattle.dali_gear.specs.SimState.{SimState};
@@ -25,7 +24,7 @@ ghost use Rattle.dali_read.specs.Readings.{Course, Ends, IsRead, IsReading};
 ghost use Rattle.dali_read.specs.Findings.{IsFound};
 ghost use Rattle.dali_read.specs.Shown.{InBlock, WhenTold, ShowsBank, Finds, Holds};
 ghost use Rattle.dali_read.specs.WhenBlock.{WhenBlock};
-ghost use Rattle.dali_read.specs.Counts.{block_frames, bank_frames, found_frames, AreSoMany};
+ghost use Rattle.dali_read.specs.Counts.{block_frames, bank_frames, order_frames, found_frames, AreSoMany};
 
 /// A block read of one location is the checked read, and how many frames one has.
 pub fn blocks_are_these()
@@ -65,7 +64,7 @@ pub fn readings_are_true()
     ensures bank { (told : List Exchange) (unit : ℕ) (bytes : List ℕ) → IsRead unit bank_course bytes told
         → ShowsBank (InBlock told unit) bytes }
     ensures order { (told : List Exchange) (unit : ℕ) (updates : List (ℕ × ℕ)) (bytes : List ℕ) (finding : Finding)
-        → AreUpdates updates → IsRead unit (order_course updates) bytes told → IsFound updates bytes finding
+        → IsRead unit (order_course updates) bytes told → IsFound updates bytes finding
         → Finds (InBlock told unit) updates finding }
     ensures moments { (loses : List ℕ) (told : List Exchange) (first last : World) (unit location byte : ℕ)
         → InBlock told unit location byte → Run WorldStep (IsAmong loses) told first last
@@ -91,18 +90,28 @@ pub fn readings_are_quiet()
         → Ends unit course outcome told → AllByRecursion (λ x. IsPassive x.frame) told }
 {}
 
-/// How many frames a reading took that came to its end, and the limit of one of a bank; with those of banks of 120 and
-/// 255 locations as numbers.
+/// How many frames a reading took that came to its end. However it ends it takes at most those of eight tries of each
+/// block, and while it goes on it took fewer. With those of banks of 120 and 255 locations as numbers.
 pub fn readings_take_exactly()
     ensures last { (told : List Exchange) (unit : ℕ) (bytes : List ℕ) → IsRead unit last_course bytes told
         → AreSoMany (block_frames 1) told }
     ensures bank { (told : List Exchange) (unit last : ℕ) (more : List ℕ) → IsRead unit bank_course (last ∷ more) told
         → AreSoMany (bank_frames last) told }
     ensures order { (told : List Exchange) (unit : ℕ) (updates : List (ℕ × ℕ)) (bytes : List ℕ) (finding : Finding)
-        → AreUpdates updates → IsRead unit (order_course updates) bytes told → IsFound updates bytes finding
+        → IsRead unit (order_course updates) bytes told → IsFound updates bytes finding
         → AreSoMany (found_frames updates finding) told }
-    ensures limit { (told : List Exchange) (unit : ℕ) (outcome : Option (List ℕ)) → Ends unit bank_course outcome told
-        → length told ≤ most_tries * bank_frames 0xFE }
+    ensures last_limit { (told : List Exchange) (unit : ℕ) (outcome : Option (List ℕ))
+        → Ends unit last_course outcome told → length told ≤ most_tries * block_frames 1 }
+    ensures bank_limit { (told : List Exchange) (unit : ℕ) (outcome : Option (List ℕ))
+        → Ends unit bank_course outcome told → length told ≤ most_tries * bank_frames 0xFE }
+    ensures order_limit { (told : List Exchange) (unit : ℕ) (updates : List (ℕ × ℕ)) (outcome : Option (List ℕ))
+        → Ends unit (order_course updates) outcome told → length told ≤ most_tries * order_frames updates }
+    ensures amid_last { (told : List Exchange) (unit : ℕ) (frame : Frame) → IsReading unit last_course told frame
+        → length told < most_tries * block_frames 1 }
+    ensures amid_bank { (told : List Exchange) (unit : ℕ) (frame : Frame) → IsReading unit bank_course told frame
+        → length told < most_tries * bank_frames 0xFE }
+    ensures amid_order { (told : List Exchange) (unit : ℕ) (updates : List (ℕ × ℕ)) (frame : Frame)
+        → IsReading unit (order_course updates) told frame → length told < most_tries * order_frames updates }
     ensures whole { block_frames 16 ≡ 22 }
     ensures small { bank_frames 0x77 ≡ 174 }
     ensures large { bank_frames 0xFE ≡ 357 }
@@ -124,7 +133,7 @@ pub fn spared_readings_succeed()
     ensures order { (loses : List ℕ) (at : ℕ) (unit : UnitState) (updates : List (ℕ × ℕ))
         (outcome : Option (List ℕ)) (told : List Exchange) (first last : SimState)
         (spared : Spared (IsAmong loses) at unit told first last)
-        → AreUpdates updates → Ends at (order_course updates) outcome told
+        → Ends at (order_course updates) outcome told
         → ((bytes : List ℕ) × (outcome ≡ Some bytes) × ((finding : Finding) → IsFound updates bytes finding
         → Finds (Holds unit.bank1.bytes) updates finding))
         × MissesByLosses (IsAmong loses) at unit told first last spared }

@@ -1,4 +1,4 @@
-use Rattle.std.proofs.Common.{rules, ◌≡◌, ◌≤◌, length, arith}
+use Rattle.std.proofs.Common.{arith}
 use Rattle.dali_read.proofs.FindingLemmas.{no_updates, first_is_own, first_is_other}
 use Rattle.dali_read.proofs.finding.+first_other.Goals as goal
 

@@ -11,8 +11,7 @@ pub returns-clause-bank : goal.returns-clause-bank
 returns-clause-bank c = bank_read
 
 pub returns-clause-order : goal.returns-clause-order
-returns-clause-order c = λ told unit updates bytes finding are read found.
-    order_read told unit updates bytes finding read found
+returns-clause-order c = order_read
 
 pub returns-clause-moments : goal.returns-clause-moments
 returns-clause-moments c = λ loses told first last unit location byte in_block run.

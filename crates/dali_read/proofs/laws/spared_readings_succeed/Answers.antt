@@ -16,7 +16,7 @@ returns-clause-bank c = λ loses at unit outcome told first last spared ends.
     (all.0, few_too (IsAmong loses) at unit told first last spared all.1)
 
 pub returns-clause-order : goal.returns-clause-order
-returns-clause-order c = λ loses at unit updates outcome told first last spared are ends.
+returns-clause-order c = λ loses at unit updates outcome told first last spared ends.
     let along = spared_along (IsAmong loses) at unit told first last spared in
     let all = order_succeeds (IsAmong loses) at unit updates outcome told first last along ends in
     (all.0, few_too (IsAmong loses) at unit told first last spared all.1)

@@ -1,0 +1,311 @@
+-- Near the edges of what is read, of what is found, and of how many frames that takes.
+use Rattle.std.proofs.Common.{◌≡◌, ◌⊎◌, inl, inr, refl, sym, ap, subst, ◌∙◌, ℕ, zero, suc, ◌+◌, ◌≤◌, List, []}
+use Rattle.std.proofs.Common.{◌∷◌, ◌++◌, length, drop, Some, None, arith}
+use Rattle.std.specs.List.{AllByRecursion}
+use Rattle.dali_write.specs.Misses.{misses_in}
+use Rattle.dali_write.specs.WorkedAccesses.{after_a_miss}
+use Rattle.dali_read.specs.declared.finding.Finding.TheVariants.{Same, Other, Short, Format}
+use Rattle.dali_read.specs.Places.{block, last_course, bank_course, row_of, order_course}
+use Rattle.dali_read.specs.Findings.{own_bytes, IsFound}
+use Rattle.dali_read.specs.Shown.{ShowsBank, Finds, Holds}
+use Rattle.dali_read.specs.Counts.{block_frames, bank_frames, blocks_behind, order_frames, found_frames, AreSoMany}
+use Rattle.dali_read.specs.WorkedReads.{four_updates, five_updates, row, filled, three_updates, small_bank, other_bank}
+
+-- Which blocks of a bank are read
+
+pub bank_begins : (bank_course [] ≡ Some (block 0x00 1)) × (bank_course (0x77 ∷ []) ≡ Some (block 0x01 16))
+bank_begins = (refl, refl)
+
+pub bank_goes_on : bank_course (0x77 ∷ filled 16) ≡ Some (block 0x11 16)
+bank_goes_on = refl
+
+-- 78h locations, the last ones in a shorter block
+pub bank_ends : (bank_course (0x77 ∷ filled 112) ≡ Some (block 0x71 7)) × (bank_course (0x77 ∷ filled 119) ≡ None)
+bank_ends = (refl, refl)
+
+-- FFh isn't read, and where the last location is 00h nothing more is
+pub up_to_feh : (bank_course (0xFF ∷ filled 240) ≡ Some (block 0xF1 14)) × (bank_course (0xFF ∷ filled 254) ≡ None)
+up_to_feh = (refl, refl)
+
+pub fe_is_read : bank_course (0xFE ∷ filled 253) ≡ Some (block 0xFE 1)
+fe_is_read = refl
+
+pub nothing_more : (bank_course (0x00 ∷ []) ≡ None) × (last_course (0x77 ∷ []) ≡ None)
+nothing_more = (refl, refl)
+
+-- Which blocks of an order
+
+pub order_begins : (order_course five_updates [] ≡ Some (block 0x00 1))
+    × (order_course five_updates (0x13 ∷ []) ≡ Some (block 0x11 2))
+    × (order_course five_updates (0x13 ∷ 0x00 ∷ []) ≡ Some (block 0x12 1))
+order_begins = (refl, refl, refl)
+
+pub row_by_row : (order_course five_updates (0x13 ∷ 0x00 ∷ 0x03 ∷ []) ≡ Some (block 0x03 3))
+    × (order_course five_updates (0x13 ∷ 0x00 ∷ 0x03 ∷ filled 3) ≡ Some (block 0x10 1))
+    × (order_course five_updates (0x13 ∷ 0x00 ∷ 0x03 ∷ filled 4) ≡ Some (block 0x13 1))
+    × (order_course five_updates (0x13 ∷ 0x00 ∷ 0x03 ∷ filled 5) ≡ None)
+row_by_row = (refl, refl, refl, refl)
+
+-- a bank that is too short, and another content format
+pub short_ends : order_course five_updates (0x12 ∷ []) ≡ None
+short_ends = refl
+
+pub format_ends : (order_course five_updates (0x13 ∷ 0x01 ∷ 0x03 ∷ []) ≡ None)
+    × (order_course five_updates (0x13 ∷ 0x00 ∷ 0x02 ∷ []) ≡ None)
+format_ends = (refl, refl)
+
+-- below 13h the format isn't read
+pub no_format : (order_course four_updates (0x10 ∷ []) ≡ Some (block 0x03 3))
+    × (order_course four_updates (0x0F ∷ []) ≡ None)
+    × (order_course ((0x12, 7) ∷ []) (0x20 ∷ []) ≡ Some (block 0x12 1))
+no_format = (refl, refl, refl)
+
+-- a row of 16 is one block, and one of 17 two
+pub long_rows : (row_of (row 0x20 16) ≡ Some (block 0x20 16)) × (row_of (row 0x20 17) ≡ Some (block 0x20 16))
+    × (row_of (drop 16 (row 0x20 17)) ≡ Some (block 0x30 1))
+long_rows = (refl, refl, refl)
+
+pub split_row : (order_course (row 0x20 17) (0x77 ∷ 0x00 ∷ 0x03 ∷ filled 16) ≡ Some (block 0x30 1))
+    × (order_course (row 0x20 17) (0x77 ∷ 0x00 ∷ 0x03 ∷ filled 17) ≡ None)
+split_row = (refl, refl)
+
+-- How many frames
+
+pub block_numbers : (block_frames 1 ≡ 7) × (block_frames 2 ≡ 8) × (block_frames 16 ≡ 22)
+block_numbers = (refl, refl, refl)
+
+pub bank_numbers : (bank_frames 0x00 ≡ 7) × (bank_frames 0x10 ≡ 29) × (bank_frames 0x11 ≡ 36)
+    × (bank_frames 0x77 ≡ 174)
+    × (bank_frames 0xFE ≡ 357) × (bank_frames 0xFF ≡ 357)
+bank_numbers = (refl, refl, refl, refl, refl, refl)
+
+pub row_numbers : (blocks_behind 0 0 [] ≡ 0) × (blocks_behind 0 0 five_updates ≡ 3)
+    × (blocks_behind 0 0 (row 0x20 16) ≡ 1)
+    × (blocks_behind 0 0 (row 0x20 17) ≡ 2)
+    × (blocks_behind 0 0 (row 0x20 33) ≡ 3)
+row_numbers = (refl, refl, refl, refl, refl)
+
+pub order_numbers : (order_frames four_updates ≡ 7 + 4 + 12) × (order_frames five_updates ≡ 7 + 8 + 5 + 18)
+order_numbers = (refl, refl)
+
+pub found_numbers : (found_frames five_updates Short ≡ 7) × (found_frames five_updates Format ≡ 15)
+    × (found_frames five_updates Same ≡ 38)
+    × (found_frames five_updates (Other 0x05 0xFF) ≡ 38)
+found_numbers = (refl, refl, refl, refl)
+
+-- with one miss at most the frames of a whole block more
+frames_after : (n : ℕ) → length (after_a_miss n) ≡ 1 + n
+frames_after zero = refl
+frames_after (suc n) = let rest = frames_after n in omega arith
+
+one_miss : (n : ℕ) → misses_in (after_a_miss n) ≡ 1
+one_miss zero = refl
+one_miss (suc n) = let rest = one_miss n in omega arith
+
+pub so_many : (n : ℕ) → AreSoMany 12 (after_a_miss n) → (11 ≤ n) × (n ≤ 33)
+so_many n are =
+    let least = are.0 in
+    let most = are.1 in let all = frames_after n in let one = one_miss n in (omega arith, omega arith)
+
+pub many_enough : (n : ℕ) → (11 ≤ n) × (n ≤ 33) → AreSoMany 12 (after_a_miss n)
+many_enough n (least, most) = let all = frames_after n in let one = one_miss n in (omega arith, omega arith)
+
+byte_is : (one other : ℕ) → Some one ≡ Some other → one ≡ other
+byte_is one other same = cc
+
+-- What is found
+
+pub same_found : IsFound three_updates (0x13 ∷ 0x00 ∷ 0x03 ∷ 7 ∷ 8 ∷ 9 ∷ []) Same
+same_found = (0x13, omega arith, inr (7 ∷ 8 ∷ 9 ∷ [], refl, omega arith, ([], refl)))
+
+-- the second one is another byte, and the third one too
+pub second_found : IsFound three_updates (0x13 ∷ 0x00 ∷ 0x03 ∷ 7 ∷ 6 ∷ 5 ∷ []) (Other 0x04 6)
+second_found = (
+  0x13,
+  omega arith,
+  inr (
+    7 ∷ 6 ∷ 5 ∷ [],
+    refl,
+    omega arith,
+    (
+      (0x03, 7) ∷ [],
+      8,
+      (0x13, 9) ∷ [],
+      5 ∷ [],
+      refl,
+      refl,
+      λ
+          same. omega (arith, same),
+    ),
+  ),
+)
+
+pub low_found : IsFound four_updates (0x10 ∷ 7 ∷ 8 ∷ 9 ∷ 7 ∷ []) Same
+low_found = (0x10, omega arith, inl (7 ∷ 8 ∷ 9 ∷ 7 ∷ [], refl, omega arith, ([], refl)))
+
+pub short_found : IsFound five_updates (0x12 ∷ []) Short
+short_found = (0x12, [], refl, omega arith)
+
+pub format_found : IsFound five_updates (0x13 ∷ 0x01 ∷ 0x03 ∷ []) Format
+format_found = (0x13, 0x01, 0x03, [], refl, omega arith, omega arith, λ right. omega (arith, right.0))
+
+-- What isn't
+
+pub reaching_isnt_short : IsFound five_updates (0x13 ∷ []) Short → ⊥
+reaching_isnt_short (last, more, is, short) = let same : 0x13 ≡ last = cc in omega arith
+
+pub right_isnt_format : IsFound five_updates (0x13 ∷ 0x00 ∷ 0x03 ∷ []) Format → ⊥
+right_isnt_format (last, high, low, more, is, reaches, far, other) =
+    let zero_is : 0x00 ≡ high = cc in
+    let three_is : 0x03 ≡ low = cc in
+    other (sym zero_is, sym three_is)
+
+pub low_isnt_format : IsFound four_updates (0x13 ∷ 0x01 ∷ 0x03 ∷ []) Format → ⊥
+low_isnt_format (last, high, low, more, is, reaches, far, other) = omega arith
+
+pub short_isnt_format : IsFound five_updates (0x12 ∷ 0x01 ∷ 0x03 ∷ []) Format → ⊥
+short_isnt_format (last, high, low, more, is, reaches, far, other) = let same : 0x12 ≡ last = cc in omega arith
+
+pub other_isnt_same : IsFound three_updates (0x13 ∷ 0x00 ∷ 0x03 ∷ 7 ∷ 6 ∷ 5 ∷ []) Same → ⊥
+other_isnt_same (last, reaches, inl (more, is, near, own)) = omega arith
+other_isnt_same (last, reaches, inr (more, is, far, own)) = cc
+
+pub fewer_arent_same : IsFound three_updates (0x13 ∷ 0x00 ∷ 0x03 ∷ 7 ∷ 8 ∷ []) Same → ⊥
+fewer_arent_same (last, reaches, inl (more, is, near, own)) = omega arith
+fewer_arent_same (last, reaches, inr (more, is, far, own)) = cc
+
+pub other_format_isnt_same : IsFound three_updates (0x13 ∷ 0x01 ∷ 0x03 ∷ 7 ∷ 8 ∷ 9 ∷ []) Same → ⊥
+other_format_isnt_same (last, reaches, inl (more, is, near, own)) = omega arith
+other_format_isnt_same (last, reaches, inr (more, is, far, own)) = cc
+
+pub short_isnt_same : IsFound three_updates (0x12 ∷ 0x00 ∷ 0x03 ∷ 7 ∷ 8 ∷ 9 ∷ []) Same → ⊥
+short_isnt_same (last, reaches, inl (more, is, near, own)) = omega arith
+short_isnt_same (last, reaches, inr (more, is, far, own)) = let same : 0x12 ≡ last = cc in omega arith
+
+-- the updates before one of them
+abbrev Before : List (ℕ × ℕ) → ℕ → ℕ → List (ℕ × ℕ) → ℕ → ℕ → Type 0
+Before before location own updates place byte = (before ≡ updates) × (location ≡ place) × (own ≡ byte)
+
+splits : (before behind : List (ℕ × ℕ)) (location own : ℕ) → three_updates ≡ before ++ (location, own) ∷ behind
+    → Before before location own [] 0x03 7
+    ⊎ (Before before location own ((0x03, 7) ∷ []) 0x04 8
+    ⊎ Before before location own ((0x03, 7) ∷ (0x04, 8) ∷ []) 0x13 9)
+splits [] behind location own is =
+    let here : ◌≡◌ {A = ℕ × ℕ} (0x03, 7) (location, own) = cc in
+    inl (refl, sym (ap (λ (u : ℕ × ℕ). u.0) here), sym (ap (λ (u : ℕ × ℕ). u.1) here))
+splits (a ∷ []) behind location own is =
+    let here : ◌≡◌ {A = ℕ × ℕ} (0x04, 8) (location, own) = cc in
+    inr (inl (cc, sym (ap (λ (u : ℕ × ℕ). u.0) here), sym (ap (λ (u : ℕ × ℕ). u.1) here)))
+splits (a ∷ b ∷ []) behind location own is =
+    let here : ◌≡◌ {A = ℕ × ℕ} (0x13, 9) (location, own) = cc in
+    inr (inr (cc, sym (ap (λ (u : ℕ × ℕ). u.0) here), sym (ap (λ (u : ℕ × ℕ). u.1) here)))
+splits (a ∷ b ∷ c ∷ []) behind location own is = cc
+splits (a ∷ b ∷ c ∷ d ∷ before) behind location own is = cc
+
+-- a later one isn't the first other, and none is other than itself
+pub later_isnt_other : IsFound three_updates (0x13 ∷ 0x00 ∷ 0x03 ∷ 7 ∷ 6 ∷ 5 ∷ []) (Other 0x13 5) → ⊥
+later_isnt_other (last, reaches, inl (more, is, near, other)) = omega arith
+later_isnt_other (last, reaches, inr (more, is, far, (before, own, behind, rest, parts, bytes, differs))) =
+    by (splits before behind 0x13 own parts)
+  where
+    bytes_are : 7 ∷ 6 ∷ 5 ∷ [] ≡ own_bytes before ++ 5 ∷ rest
+    bytes_are = let here : 7 ∷ 6 ∷ 5 ∷ [] ≡ more = cc in here ∙ bytes
+
+    by : Before before 0x13 own [] 0x03 7
+        ⊎ (Before before 0x13 own ((0x03, 7) ∷ []) 0x04 8
+        ⊎ Before before 0x13 own ((0x03, 7) ∷ (0x04, 8) ∷ []) 0x13 9)
+        → ⊥
+    by (inl (none, place, byte)) = omega (arith, place)
+    by (inr (inl (one, place, byte))) = omega (arith, place)
+    by (inr (inr (two, place, byte))) =
+        let second : 7 ∷ 6 ∷ 5 ∷ [] ≡ 7 ∷ 8 ∷ 5 ∷ rest =
+        bytes_are ∙ ap (λ (l : List (ℕ × ℕ)). own_bytes l ++ 5 ∷ rest) two in
+        cc
+
+pub own_isnt_other : IsFound three_updates (0x13 ∷ 0x00 ∷ 0x03 ∷ 7 ∷ 8 ∷ 9 ∷ []) (Other 0x04 8) → ⊥
+own_isnt_other (last, reaches, inl (more, is, near, other)) = omega arith
+own_isnt_other (last, reaches, inr (more, is, far, (before, own, behind, rest, parts, bytes, differs))) =
+    by (splits before behind 0x04 own parts)
+  where
+    by : Before before 0x04 own [] 0x03 7
+        ⊎ (Before before 0x04 own ((0x03, 7) ∷ []) 0x04 8
+        ⊎ Before before 0x04 own ((0x03, 7) ∷ (0x04, 8) ∷ []) 0x13 9)
+        → ⊥
+    by (inl (none, place, byte)) = omega (arith, place)
+    by (inr (inl (one, place, byte))) = differs (sym byte)
+    by (inr (inr (two, place, byte))) = omega (arith, place)
+
+-- What a bank holds
+
+pub bank_finds_other : Finds (Holds other_bank) three_updates (Other 0x04 6)
+bank_finds_other = (
+  (0x13, refl, omega arith, λ far. (refl, refl)),
+  ((0x03, 7) ∷ [], 8, (0x13, 9) ∷ [], refl, (refl, tt), refl, λ same. omega (arith, same)),
+)
+
+pub bank_isnt_same : Finds (Holds other_bank) three_updates Same → ⊥
+bank_isnt_same (suits, each) = omega (arith, byte_is 6 8 each.1.0)
+
+pub bank_has_other_first : Finds (Holds other_bank) three_updates (Other 0x13 5) → ⊥
+bank_has_other_first (suits, (before, own, behind, parts, each, here, differs)) =
+    by (splits before behind 0x13 own parts)
+  where
+    by : Before before 0x13 own [] 0x03 7
+        ⊎ (Before before 0x13 own ((0x03, 7) ∷ []) 0x04 8
+        ⊎ Before before 0x13 own ((0x03, 7) ∷ (0x04, 8) ∷ []) 0x13 9)
+        → ⊥
+    by (inl (none, place, byte)) = omega (arith, place)
+    by (inr (inl (one, place, byte))) = omega (arith, place)
+    by (inr (inr (two, place, byte))) =
+        let all =
+        subst (λ (l : List (ℕ × ℕ)). AllByRecursion (λ update. Holds other_bank update.0 update.1) l) two each in
+        omega (arith, byte_is 6 8 all.1.0)
+
+pub bank_has_no_such_byte : Finds (Holds other_bank) three_updates (Other 0x04 5) → ⊥
+bank_has_no_such_byte (suits, (before, own, behind, parts, each, here, differs)) = omega (arith, byte_is 6 5 here)
+
+pub own_byte_isnt_other : Finds (Holds other_bank) three_updates (Other 0x03 7) → ⊥
+own_byte_isnt_other (suits, (before, own, behind, parts, each, here, differs)) =
+    by (splits before behind 0x03 own parts)
+  where
+    by : Before before 0x03 own [] 0x03 7
+        ⊎ (Before before 0x03 own ((0x03, 7) ∷ []) 0x04 8
+        ⊎ Before before 0x03 own ((0x03, 7) ∷ (0x04, 8) ∷ []) 0x13 9)
+        → ⊥
+    by (inl (none, place, byte)) = differs (sym byte)
+    by (inr (inl (one, place, byte))) = omega (arith, place)
+    by (inr (inr (two, place, byte))) = omega (arith, place)
+
+-- a bank that names 03h as its last location doesn't suit, whatever stands behind it
+pub named_too_short : Finds (Holds (0x03 ∷ 1 ∷ 0xFF ∷ 7 ∷ 8 ∷ [])) ((0x03, 7) ∷ (0x04, 8) ∷ []) Same → ⊥
+named_too_short (suits, each) =
+    let last = byte_is 0x03 suits.0 suits.1 in
+    let reaches = suits.2 in
+    omega arith
+
+pub bank_is_short : Finds (Holds small_bank) three_updates Short
+bank_is_short = (0x04, refl, omega arith)
+
+pub whole_bank : ShowsBank (Holds small_bank) small_bank
+whole_bank =
+    record { last = 0x04; names = refl; count = refl; bytes_are = λ location byte there. there }
+
+pub fewer_arent_bank : ShowsBank (Holds small_bank) (0x04 ∷ 1 ∷ 0xFF ∷ 7 ∷ []) → ⊥
+fewer_arent_bank shows =
+    let last = byte_is 0x04 shows.last shows.names in
+    let count = shows.count in
+    omega arith
+
+pub more_arent_bank : ShowsBank (Holds (0x04 ∷ 1 ∷ 0xFF ∷ 7 ∷ 8 ∷ 9 ∷ [])) (0x04 ∷ 1 ∷ 0xFF ∷ 7 ∷ 8 ∷ 9 ∷ []) → ⊥
+more_arent_bank shows =
+    let last = byte_is 0x04 shows.last shows.names in
+    let count = shows.count in
+    omega arith
+
+pub others_arent_bank : ShowsBank (Holds small_bank) (0x04 ∷ 1 ∷ 0xFF ∷ 7 ∷ 9 ∷ []) → ⊥
+others_arent_bank shows = omega (arith, byte_is 8 9 (shows.bytes_are 4 9 refl))
+
+-- FFh is no location
+pub bank_to_feh : ShowsBank (Holds (0xFF ∷ filled 254)) (0xFF ∷ filled 254)
+bank_to_feh =
+    record { last = 0xFF; names = refl; count = refl; bytes_are = λ location byte there. there }

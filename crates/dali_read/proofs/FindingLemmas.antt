@@ -6,7 +6,7 @@ use Rattle.std.proofs.lemmas.Bool.{lt-ltb, le-ltb}
 use Rattle.dali_write.specs.Plans.{greatest}
 use Rattle.dali_read.specs.declared.finding.Finding.{Finding}
 use Rattle.dali_read.specs.declared.finding.Finding.TheVariants.{Same, Other, Short, Format}
-use Rattle.dali_read.specs.Findings.{IsFirstOther, IsFound}
+use Rattle.dali_read.specs.Findings.{own_bytes, IsFirstOther, IsFound}
 use Rattle.dali_read.specs.Places.{row_of, order_course}
 
 -- the elements behind the first so many

@@ -8,3 +8,4 @@ pub mod WorkedDriveLemmas
 pub mod WorkedSittingLemmas
 pub mod ReadingLemmas
 pub mod SurveyLemmas
+pub mod WorkedSurveyLemmas

@@ -9,3 +9,4 @@ pub mod WorkedSittingLemmas
 pub mod ReadingLemmas
 pub mod SurveyLemmas
 pub mod WorkedSurveyLemmas
+pub mod WorkedVerifyLemmas

@@ -1,12 +1,11 @@
--- A scan of two units and two orders verified, by hand, and what is near them and isn't so.
-use Rattle.std.proofs.Common.{ap, ◌≡◌, ◌≢◌, ◌∙◌, inl, inr, refl, sym, subst, append_assoc, ℕ, zero, suc, List, [], ◌∷◌, ◌++◌, Some, None, codes}
-use Rattle.std.proofs.Common.{Option, true, false, is_some, get_or, take, drop, length, map, reverse, arith}
+-- A scan of two units by hand, and what is near it and isn't one.
+use Rattle.std.proofs.Common.{ap, ◌≡◌, ◌≢◌, ◌∙◌, inl, inr, refl, sym, append_assoc, ℕ, zero, suc, List, [], ◌∷◌, ◌++◌}
+use Rattle.std.proofs.Common.{Some, None, codes}
+use Rattle.std.proofs.Common.{Option, true, is_some, get_or, take, drop, length, map, arith}
 use Rattle.std.proofs.lemmas.Fmt.{decimal_digit}
 use Rattle.std.proofs.lemmas.List.{length-map}
 use Rattle.std.proofs.lemmas.List.Elements.{All-from_recursion}
 use Rattle.std.specs.Io.BufRead.{strip_last}
-use Rattle.std.specs.List.{AllByRecursion}
-use Rattle.dali_frame.specs.declared.forward.Frame.{Frame}
 use Rattle.dali_frame.specs.declared.forward.Frame.TheVariants.{Dtr0, Dtr1, AskDtr0, AskDtr1, Read}
 use Rattle.dali_frame.specs.Hex.{SpellsHexNumber, byte_digits}
 use Rattle.dali_trace.specs.declared.happening.Happening.{Happening}
@@ -15,32 +14,28 @@ use Rattle.dali_write.specs.Exchanges.{Exchange}
 use Rattle.dali_write.specs.WorkedAccesses.{sent}
 use Rattle.dali_write.specs.declared.request.Wish.TheVariants.{Nothing, Exactly, Anything}
 use Rattle.dali_write.specs.Tries.{Missed, Misses}
-use Rattle.dali_read.specs.declared.block.Block.{Block}
-use Rattle.dali_read.specs.declared.finding.Finding.{Finding}
 use Rattle.dali_read.specs.declared.finding.Finding.TheVariants.{Same, Other, Short, Format}
 use Rattle.dali_read.specs.Blocks.{Fits, block_requests, Succeeds}
-use Rattle.dali_read.specs.Places.{block, first_block, last_course, order_course}
+use Rattle.dali_read.specs.Places.{first_block, last_course}
 use Rattle.dali_read.specs.Readings.{Course, Ends, Done}
-use Rattle.dali_read.specs.Findings.{IsFound}
-use Rattle.dali_drive.specs.Lines.{IsAnswerLine, IsShort}
-use Rattle.dali_drive.specs.Transcript.{Streams, AreAnswers, link_shown}
-use Rattle.dali_drive.specs.UnitRead.{LinkText, IsUnitRead, UnitReadBroke}
+use Rattle.dali_drive.specs.Lines.{IsAnswerLine}
+use Rattle.dali_drive.specs.Transcript.{Streams, AreAnswers}
+use Rattle.dali_drive.specs.UnitRead.{LinkText, UnitReadBroke}
 use Rattle.dali_drive.specs.SurveyLines.{last_line, units_line, bytes_line, silent_line, order_head, finding_line}
 use Rattle.dali_drive.specs.SurveyLines.{order_silent_line}
-use Rattle.dali_drive.specs.Surveys.{Report, Surveyed, IsScanReport, IsOrderReport, IsSame, TellsOrder, link_of}
-use Rattle.dali_drive.specs.WorkedSurveys.{missed, length_read, byte_read, silent_unit, found_unit, two_units}
+use Rattle.dali_drive.specs.Surveys.{Report, Surveyed, IsScanReport, link_of}
+use Rattle.dali_drive.specs.WorkedSurveys.{missed, length_read, silent_unit, found_unit, two_units}
 use Rattle.dali_drive.specs.WorkedSurveys.{before_two_units, after_two_units, near_order, far_order, same_order}
-use Rattle.dali_drive.specs.WorkedSurveys.{other_order, short_order, silent_order, before_two_orders, after_two_orders}
-use Rattle.dali_drive.specs.WorkedSurveys.{amid_third_unit, silent_unit_told, before_one_unit, one_unit_and, told_of}
-use Rattle.dali_drive.specs.WorkedSurveys.{after_near_order, amid_far_order, before_frame, after_frame}
+use Rattle.dali_drive.specs.WorkedSurveys.{silent_order}
+use Rattle.dali_drive.specs.WorkedSurveys.{amid_third_unit, silent_unit_told, before_one_unit, one_unit_and}
 use Rattle.dali_drive.specs.declared.fault.DriveFault.{DriveFault}
-use Rattle.dali_drive.specs.declared.fault.DriveFault.TheVariants as faults
-use Rattle.dali_drive.specs.Driven.{BreaksFrame, AppendsPart}
-use Rattle.dali_drive.specs.Surveys.{Reported, BreaksReport, TellsLast, IsScan, BreaksScan, ScanBroke, IsVerified}
-use Rattle.dali_drive.specs.Surveys.{VerifyBroke, items_in, all_told, lines_in, answered, addresses_below}
+use Rattle.dali_drive.specs.Driven.{BreaksFrame}
+use Rattle.dali_drive.specs.Surveys.{Reported, BreaksReport, TellsLast, IsScan, BreaksScan, ScanBroke}
+use Rattle.dali_drive.specs.Surveys.{items_in, all_told, lines_in, answered, addresses_below}
 use Rattle.dali_write.specs.Requests.{request}
 use Rattle.dali_drive.proofs.ReadingLemmas.{told_nothing}
 use Rattle.dali_drive.proofs.WorkedDriveLemmas.{none_line}
+use Rattle.dali_drive.specs.declared.fault.DriveFault.TheVariants as faults
 
 -- The lines
 
@@ -86,29 +81,29 @@ byte_line c d byte one two whole spells = record {
   ended = refl;
 }
 
-line_00 : IsAnswerLine (Some 0x00) (codes "00\n")
+pub line_00 : IsAnswerLine (Some 0x00) (codes "00\n")
 line_00 = byte_line 48 48 0x00 (λ e. cc) (λ e. cc) refl ((omega arith, (omega arith, tt)), refl)
 
-line_01 : IsAnswerLine (Some 0x01) (codes "01\n")
+pub line_01 : IsAnswerLine (Some 0x01) (codes "01\n")
 line_01 = byte_line 48 49 0x01 (λ e. cc) (λ e. cc) refl ((omega arith, (omega arith, tt)), refl)
 
-line_03 : IsAnswerLine (Some 0x03) (codes "03\n")
+pub line_03 : IsAnswerLine (Some 0x03) (codes "03\n")
 line_03 = byte_line 48 51 0x03 (λ e. cc) (λ e. cc) refl ((omega arith, (omega arith, tt)), refl)
 
-line_04 : IsAnswerLine (Some 0x04) (codes "04\n")
+pub line_04 : IsAnswerLine (Some 0x04) (codes "04\n")
 line_04 = byte_line 48 52 0x04 (λ e. cc) (λ e. cc) refl ((omega arith, (omega arith, tt)), refl)
 
-line_77 : IsAnswerLine (Some 0x77) (codes "77\n")
+pub line_77 : IsAnswerLine (Some 0x77) (codes "77\n")
 line_77 = byte_line 55 55 0x77 (λ e. cc) (λ e. cc) refl ((omega arith, (omega arith, tt)), refl)
 
-line_A5 : IsAnswerLine (Some 0xA5) (codes "A5\n")
+pub line_A5 : IsAnswerLine (Some 0xA5) (codes "A5\n")
 line_A5 = byte_line 65 53 0xA5 (λ e. cc) (λ e. cc) refl ((omega arith, (omega arith, tt)), refl)
 
-abbrev as_sent : List Exchange → List Happening
+abbrev pub as_sent : List Exchange → List Happening
 as_sent told = map (λ x. Sent x.frame x.answer) told
 
 -- a read of unit 1, by the lines that tell where DTR0 stands, the byte and where it stands then
-read_heard : (told : List Exchange) (location byte after : ℕ) (heard place read moved : List ℕ)
+pub read_heard : (told : List Exchange) (location byte after : ℕ) (heard place read moved : List ℕ)
     → IsAnswerLine (Some location) place → IsAnswerLine (Some byte) read → IsAnswerLine (Some after) moved
     → AreAnswers (as_sent told) heard
     → AreAnswers (as_sent (sent (AskDtr1 1) (Some 1) ∷ sent (AskDtr0 1) (Some after) ∷ sent (Read 1) (Some byte)
@@ -121,8 +116,7 @@ read_heard told location byte after heard place read moved at is next lines =
     let three = heard ++ codes "--\n01\n--\n" in
     let four = three ++ place in
     let five = four ++ read in
-    let six = five ++ moved in
-    (
+    let six = five ++ moved in (
       six,
       codes "01\n",
       (
@@ -160,11 +154,11 @@ read_heard told location byte after heard place read moved at is next lines =
       refl,
     )
 
-abbrev lines_of : ℕ → List ℕ → List ℕ
+abbrev pub lines_of : ℕ → List ℕ → List ℕ
 lines_of zero heard = heard
 lines_of (suc tries) heard = lines_of tries heard ++ codes "--\n" ++ codes "--\n"
 
-missed_heard : (tries : ℕ) (told : List Exchange) (heard : List ℕ) → AreAnswers (as_sent told) heard
+pub missed_heard : (tries : ℕ) (told : List Exchange) (heard : List ℕ) → AreAnswers (as_sent told) heard
     → AreAnswers (as_sent (missed tries ++ told)) (lines_of tries heard)
 missed_heard zero told heard lines = lines
 missed_heard (suc tries) told heard lines = (
@@ -185,10 +179,10 @@ all_missed zero = refl
 all_missed (suc tries) =
     (sent (AskDtr1 0) None ∷ sent (Dtr1 1) None ∷ [], missed tries, refl, one_missed, all_missed tries)
 
-first_fits : Fits first_block
+pub first_fits : Fits first_block
 first_fits = record { some = omega arith; few = omega arith; within = omega arith }
 
-silent_ends : (course : Course) → course [] ≡ Some first_block → Ends 0 course None (missed 8)
+pub silent_ends : (course : Course) → course [] ≡ Some first_block → Ends 0 course None (missed 8)
 silent_ends course next = record {
   done = [];
   in_turn = tt;
@@ -203,7 +197,7 @@ silent_ends course next = record {
 pub silent_scanned : IsScanReport silent_unit
 silent_scanned = (silent_ends last_course refl, refl)
 
-length_told : Succeeds 1 first_block (0x77 ∷ []) length_read
+pub length_told : Succeeds 1 first_block (0x77 ∷ []) length_read
 length_told = record {
   tried = length_read;
   missed = [];
@@ -217,7 +211,7 @@ length_told = record {
   misses_are = refl;
 }
 
-abbrev first_done : Done
+abbrev pub first_done : Done
 first_done = record { block = first_block; bytes = 0x77 ∷ []; told = length_read }
 
 found_ends : Ends 1 last_course (Some (0x77 ∷ [])) length_read
@@ -271,7 +265,7 @@ pub not_two_bytes : (line : List ℕ) → TellsLast 1 (Some (0x77 ∷ 0x00 ∷ [
 not_two_bytes line (last, one, is) = cc
 
 -- where a reading is broken off in its first frame
-frame_broke : {fault : DriveFault} {old new : Streams} (unit : ℕ) (course : Course) → course [] ≡ Some first_block
+pub frame_broke : {fault : DriveFault} {old new : Streams} (unit : ℕ) (course : Course) → course [] ≡ Some first_block
     → BreaksFrame (Dtr1 1) fault old new → UnitReadBroke unit course fault old new
 frame_broke {fault} {old} {new} unit course next broken = record {
   told = [];
@@ -387,199 +381,3 @@ only_its_line_behind fault units old new (inr (all, is, text, part)) = is
 pub nothing_past_it : (fault : DriveFault) (units : ℕ) (old new : Streams) → BreaksScan fault 65 units old new → ⊥
 nothing_past_it fault units old new (inl (below, broke)) = omega (arith, below)
 nothing_past_it fault units old new (inr (all, is, text, part)) = let never : 65 ≡ 64 = all in omega (arith, never)
-
--- Two orders: the unit of the first one has its byte, and that of the second is silent
-
-row_fits : Fits (block 0x03 1)
-row_fits = record { some = omega arith; few = omega arith; within = omega arith }
-
-byte_told : (byte : ℕ) → Succeeds 1 (block 0x03 1) (byte ∷ []) (byte_read byte)
-byte_told byte = record {
-  tried = byte_read byte;
-  missed = [];
-  misses = 0;
-  parts = refl;
-  read = (
-    (Exactly 1, refl, (Exactly 4, refl, (Anything, refl, (Exactly 3, refl, (Nothing, tt, (Exactly 1, refl, (Nothing, tt, refl))))))),
-    refl,
-  );
-  few = omega arith;
-  misses_are = refl;
-}
-
-near_ends : (byte : ℕ)
-    → Ends 1 (order_course near_order.updates) (Some (0x77 ∷ byte ∷ [])) (byte_read byte ++ length_read)
-near_ends byte = record {
-  done = record { block = block 0x03 1; bytes = byte ∷ []; told = byte_read byte } ∷ first_done ∷ [];
-  in_turn = ((tt, first_fits, refl, length_told), row_fits, refl, byte_told byte);
-  bytes_are = refl;
-  told_are = refl;
-  over = refl;
-}
-
-same_found : IsFound near_order.updates (0x77 ∷ 0xA5 ∷ []) Same
-same_found = (0x77, omega arith, inl (0xA5 ∷ [], refl, omega arith, ([], refl)))
-
-other_found : IsFound near_order.updates (0x77 ∷ 0x5A ∷ []) (Other 0x03 0x5A)
-other_found = (0x77, omega arith, inl (0x5A ∷ [], refl, omega arith, ([], 0xA5, [], [], refl, refl, λ e. omega (arith, e))))
-
-pub same_told : IsOrderReport same_order
-same_told = (
-  near_ends 0xA5,
-  (Same, same_found, sym (rw (decimal_digit 7 (omega arith), decimal_digit 1 (omega arith)) refl)),
-)
-
-pub other_told : IsOrderReport other_order
-other_told = (
-  near_ends 0x5A,
-  (Other 0x03 0x5A, other_found, sym (rw (decimal_digit 7 (omega arith), decimal_digit 1 (omega arith)) refl)),
-)
-
-pub short_told : TellsOrder near_order (Some (0x02 ∷ [])) (codes "order 7 unit 1 short\n")
-short_told = (
-  Short,
-  (0x02, [], refl, omega arith),
-  sym (rw (decimal_digit 7 (omega arith), decimal_digit 1 (omega arith)) refl),
-)
-
-pub silent_told : IsOrderReport silent_order
-silent_told = (
-  silent_ends (order_course far_order.updates) refl,
-  sym (rw (decimal_digit 8 (omega arith), decimal_digit 0 (omega arith)) refl),
-)
-
--- which of them are the same
-
-pub is_same : IsSame same_order
-is_same = (0x77 ∷ 0xA5 ∷ [], refl, same_found)
-
-pub not_other : IsFound near_order.updates (0x77 ∷ 0x5A ∷ []) Same → ⊥
-not_other (last, enough, inl (more, e, near, (rest, own))) =
-    let same : more ≡ 0xA5 ∷ rest = own in
-    let whole : 0x77 ∷ 0x5A ∷ [] ≡ last ∷ 0xA5 ∷ rest = cc in
-    let never : 0x5A ≡ 0xA5 = ap (λ (l : List ℕ). get_or l 1 0) whole in omega (arith, never)
-not_other (last, enough, inr (more, e, far, behind)) = omega (arith, far)
-
-pub other_is_not : IsSame other_order → ⊥
-other_is_not (bytes, is, found) =
-    let same : 0x77 ∷ 0x5A ∷ [] ≡ bytes = cc in
-    not_other (subst (λ (l : List ℕ). IsFound near_order.updates l Same) (sym same) found)
-
-not_short : IsFound near_order.updates (0x02 ∷ []) Same → ⊥
-not_short (last, enough, inl (more, e, near, first)) = let same : 0x02 ≡ last = cc in omega (arith, enough, same)
-not_short (last, enough, inr (more, e, far, behind)) = omega (arith, far)
-
-pub short_is_not : IsSame short_order → ⊥
-short_is_not (bytes, is, found) =
-    let same : 0x02 ∷ [] ≡ bytes = cc in
-    not_short (subst (λ (l : List ℕ). IsFound near_order.updates l Same) (sym same) found)
-
-pub silent_is_not : IsSame silent_order → ⊥
-silent_is_not (bytes, is, found) = cc
-
--- another byte isn't told as the same
-pub not_told_same : TellsOrder near_order (Some (0x77 ∷ 0x5A ∷ [])) (codes "order 7 unit 1 same\n") → ⊥
-not_told_same (Same, found, is) = not_other found
-not_told_same (Other location byte, found, is) =
-    let other : finding_line near_order (Other location byte)
-    ≡ codes "order 7 unit 1" ++ codes " other " ++ byte_digits location ++ codes " " ++ byte_digits byte ++ codes "\n" =
-    rw (decimal_digit 7 (omega arith), decimal_digit 1 (omega arith)) refl in
-    let never = ap (λ (l : List ℕ). length l) (is ∙ other) in omega (arith, never)
-not_told_same (Short, found, is) =
-    let never = ap (λ (l : List ℕ). length l) (is ∙ findings_are.2) in omega (arith, never)
-not_told_same (Format, found, is) =
-    let never = ap (λ (l : List ℕ). length l) (is ∙ findings_are.3) in omega (arith, never)
-
--- nor a silent unit as a short one
-pub not_told_short : TellsOrder far_order None (codes "order 8 unit 0 short\n") → ⊥
-not_told_short is =
-    let silent : order_silent_line far_order ≡ codes "order 8 unit 0 silent\n" = findings_are.4 in
-    let never = ap (λ (l : List ℕ). length l) (is ∙ silent) in omega (arith, never)
-
-near_heard : AreAnswers (as_sent (byte_read 0xA5 ++ length_read))
-    (codes "--\n01\n--\n00\n77\n01\n01\n--\n01\n--\n03\nA5\n04\n01\n")
-near_heard =
-    read_heard length_read 0x03 0xA5 0x04 (codes "--\n01\n--\n00\n77\n01\n01\n") (codes "03\n") (codes "A5\n")
-    (codes "04\n") line_03 line_A5 line_04
-    (read_heard [] 0x00 0x77 0x01 [] (codes "00\n") (codes "77\n") (codes "01\n") line_00 line_77 line_01 refl)
-
-near_verified : Surveyed IsOrderReport (same_order ∷ []) before_two_orders after_near_order
-near_verified = record {
-  each = (same_told, tt);
-  link = record {
-    heard = codes "--\n01\n--\n00\n77\n01\n01\n--\n01\n--\n03\nA5\n04\n01\n";
-    lines = near_heard;
-    journal = tt;
-    link = refl;
-    answers = refl;
-    out = tt;
-  };
-  out = refl;
-}
-
-pub one_verified : IsVerified (near_order ∷ []) true before_two_orders after_near_order
-one_verified = record {
-  reports = same_order ∷ [];
-  surveyed = near_verified;
-  all = refl;
-  same = (λ is. (is_same, tt), λ all. refl);
-}
-
-pub two_verified : IsVerified (near_order ∷ far_order ∷ []) false before_two_orders after_two_orders
-two_verified = record {
-  reports = silent_order ∷ same_order ∷ [];
-  surveyed = record {
-    each = (silent_told, (same_told, tt));
-    link = record {
-      heard = lines_of 8 (codes "--\n01\n--\n00\n77\n01\n01\n--\n01\n--\n03\nA5\n04\n01\n");
-      lines =
-          missed_heard 8 (byte_read 0xA5 ++ length_read)
-          (codes "--\n01\n--\n00\n77\n01\n01\n--\n01\n--\n03\nA5\n04\n01\n") near_heard;
-      journal = tt;
-      link = refl;
-      answers = refl;
-      out = tt;
-    };
-    out = refl;
-  };
-  all = refl;
-  same = (λ e. cc, λ all. absurd (silent_is_not all.0));
-}
-
-pub far_broke : VerifyBroke (near_order ∷ far_order ∷ []) faults.Link before_two_orders amid_far_order
-far_broke = record {
-  reports = same_order ∷ [];
-  next = far_order;
-  rest = [];
-  asked = refl;
-  middle = after_near_order;
-  surveyed = near_verified;
-  broke = (frame_broke 0 (order_course far_order.updates) refl cut, refl);
-} where
-  cut : BreaksFrame (Dtr1 1) faults.Link (link_of after_near_order) (link_of amid_far_order)
-  cut = inl (record { journal = tt; link = record { count = 2; within = omega arith; part = refl }; answers = refl; out = tt })
-
--- One frame that is broken off
-
-pub cut_line_is_link : BreaksFrame (AskDtr0 5) faults.Link (before_frame []) (after_frame (codes "0B9"))
-cut_line_is_link =
-    inl (record { journal = tt; link = record { count = 3; within = omega arith; part = refl }; answers = refl; out = tt })
-
-pub half_answer_is_link : BreaksFrame (AskDtr0 5) faults.Link (before_frame (codes "0")) (after_frame (codes "0B98\n"))
-half_answer_is_link = inr (record { journal = tt; link = refl; answers = (codes "0", short, refl); out = tt }) where
-  short : IsShort (codes "0")
-  short = record { short = omega arith; inside = All-from_recursion (λ b. b ≢ 10) (codes "0") ((λ e. cc), tt) }
-
-pub no_answer_is_end : BreaksFrame (AskDtr0 5) faults.End (before_frame []) (after_frame (codes "0B98\n"))
-no_answer_is_end = record { journal = tt; link = refl; answers = ([], short, refl, refl); out = tt } where
-  short : IsShort []
-  short = record { short = omega arith; inside = All-from_recursion (λ b. b ≢ 10) [] tt }
-
-pub cut_line_is_no_end : BreaksFrame (AskDtr0 5) faults.End (before_frame []) (after_frame (codes "0B9")) → ⊥
-cut_line_is_no_end broke = let never = ap (λ (l : List ℕ). length l) broke.link in omega (arith, never)
-
-pub other_line_is_no_end : BreaksFrame (AskDtr0 5) faults.End (before_frame []) (after_frame (codes "0B9C\n")) → ⊥
-other_line_is_no_end broke = let never : 67 ≡ 56 = ap (λ (l : List ℕ). get_or l 3 0) broke.link in omega (arith, never)
-
-pub out_breaks_no_frame : (old new : Streams) → BreaksFrame (AskDtr0 5) faults.Out old new → ⊥
-out_breaks_no_frame old new broke = broke.answers

@@ -1,6 +1,6 @@
 -- How a driven trace grows, and how it is broken off.
 use Rattle.std.proofs.Common.{◌≡◌, ◌<◌, ◌≤◌, ◌+◌, ◌∙◌, refl, sym, ap, subst, get_or, inl, inr, ℕ, suc, List, [], ◌∷◌, ◌++◌}
-use Rattle.std.proofs.Common.{Option, Ok, Err, false, length, take, drop, drop-cons, reverse}
+use Rattle.std.proofs.Common.{Option, false, length, take, drop, drop-cons, reverse}
 use Rattle.std.proofs.lemmas.List.{take_more, take_all, take-append-drop, reverse-append, reverse-reverse}
 use Rattle.std.specs.Io.KnownBytes.{Appends}
 use Rattle.std.proofs.KnownBytes.{Appends-trans, Appends-nil, Consumes-trans, Consumes-nil, Keeps-refl}
@@ -24,7 +24,7 @@ use Rattle.dali_writer.specs.WriterState.{WriterState}
 use Rattle.dali_writer.specs.Describes.{Describes}
 use Rattle.dali_writer.specs.Follows.{Follows}
 use Rattle.dali_drive.specs.WorkedOn.{IsDrivenAt}
-use Rattle.dali_drive.specs.Lines.{link_line, IsAnswerLine, TakesLine}
+use Rattle.dali_drive.specs.Lines.{IsAnswerLine}
 use Rattle.dali_drive.specs.Transcript.{Streams, Transcript, shown, link_shown}
 use Rattle.dali_drive.specs.Driven.{at_moment, IsInTurn, KeepsRecords, IsDriven, IsNextFrame, BreaksFrame, BrokenOff, AppendsPart}
 

@@ -8,3 +8,5 @@ pub mod WorkedDriveLemmas
 pub mod WorkedSittingLemmas
 pub mod ReadingLemmas
 pub mod SurveyLemmas
+pub mod WorkedSurveyLemmas
+pub mod WorkedVerifyLemmas

@@ -1,8 +1,7 @@
 -- How the reading of a unit goes on, frame by frame and block by block, and how it is broken off.
 use Rattle.std.proofs.Common.{◌≡◌, ◌≤◌, ◌<◌, ◌+◌, ◌∙◌, refl, sym, ap, subst, ℕ, zero, suc, List, [], ◌∷◌, ◌++◌, length, drop, map}
-use Rattle.std.proofs.Common.{append_assoc, append-nil, length-append, Option, Some, None, slice_get, inl, inr, arith, IsSome}
-use Rattle.std.specs.Io.KnownBytes.{Appends, Consumes}
-use Rattle.std.specs.Prelude.{replicate}
+use Rattle.std.proofs.Common.{append_assoc, append-nil, length-append, Option, Some, None, slice_get, arith}
+use Rattle.std.specs.Io.KnownBytes.{Appends}
 use Rattle.std.proofs.lemmas.Option.{slice_get_within}
 use Rattle.std.proofs.KnownBytes.{Appends-trans, Appends-nil, Consumes-trans, Consumes-nil}
 use Rattle.dali_frame.specs.declared.forward.Frame.{Frame}
@@ -12,16 +11,15 @@ use Rattle.dali_trace.specs.declared.happening.Happening.{Happening}
 use Rattle.dali_trace.specs.declared.happening.Happening.TheVariants.{Sent}
 use Rattle.dali_write.specs.Exchanges.{Exchange}
 use Rattle.dali_write.specs.Requests.{Meets, request}
-use Rattle.dali_write.specs.Tries.{most_tries, Trying, Missed, Misses}
+use Rattle.dali_write.specs.Tries.{most_tries, Trying, Misses}
 use Rattle.dali_write.specs.declared.request.Request.{Request}
-use Rattle.dali_write.specs.declared.request.Wish.{Wish}
 use Rattle.dali_write.specs.declared.request.Wish.TheVariants.{Exactly}
 use Rattle.dali_read.specs.declared.block.Block.{Block}
-use Rattle.dali_read.specs.Blocks.{Fits, block_requests, reads, read_answer, bytes_of, IsBlockRead, Succeeds, Stands}
-use Rattle.dali_read.specs.Readings.{Course, Done, InTurn, bytes_in, told_in, IsRead, IsSilent, IsReading}
+use Rattle.dali_read.specs.Blocks.{Fits, block_requests, reads, read_answer, bytes_of}
+use Rattle.dali_read.specs.Readings.{Course, bytes_in, told_in}
 use Rattle.dali_read.proofs.BlockBytesLemmas.{block_count}
 use Rattle.dali_drive.specs.declared.fault.DriveFault.{DriveFault}
-use Rattle.dali_drive.specs.Lines.{IsAnswerLine, link_line}
+use Rattle.dali_drive.specs.Lines.{link_line}
 use Rattle.dali_drive.specs.Transcript.{Streams, Transcript, AreAnswers, sent_lines, said_lines, recorded}
 use Rattle.dali_drive.specs.Driven.{BreaksFrame}
 use Rattle.dali_drive.specs.UnitRead.{LinkText, BreaksAfter, TriedTo, TryTold, TryMissed, TryBroke, MissedSoOften}

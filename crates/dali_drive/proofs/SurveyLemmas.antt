@@ -3,9 +3,8 @@ use Rattle.std.proofs.Common.{◌≡◌, ◌<◌, ◌∙◌, ◌↔◌, refl, sy
 use Rattle.std.proofs.Common.{is_some, suc, ◌+◌, ◌≤◌, length, take, drop, drop-cons, reverse, get_or, arith}
 use Rattle.std.proofs.Common.{◌&&◌, if◌then◌else◌}
 use Rattle.std.proofs.lemmas.List.{take_more, take_all, take-append-drop, reverse-append, reverse-reverse}
-use Rattle.std.specs.Io.KnownBytes.{Appends, Keeps}
+use Rattle.std.specs.Io.KnownBytes.{Appends}
 use Rattle.std.proofs.KnownBytes.{Appends-trans, Appends-nil, Keeps-refl}
-use Rattle.std.specs.List.{AllByRecursion}
 use Rattle.dali_bank.specs.Order.{Contents}
 use Rattle.dali_read.specs.Readings.{Course}
 use Rattle.dali_read.specs.Places.{last_course, order_course}
@@ -19,10 +18,9 @@ use Rattle.dali_drive.specs.declared.fault.DriveFault.{DriveFault}
 use Rattle.dali_drive.specs.declared.fault.DriveFault.TheVariants.{Journal, Link, Line, End, NoMemory, TooLong, Out}
 use Rattle.dali_drive.specs.Driven.{AppendsPart}
 use Rattle.dali_drive.specs.Transcript.{Streams, shown, link_shown}
-use Rattle.dali_drive.specs.UnitRead.{LinkText, IsUnitRead, UnitReadBroke}
-use Rattle.dali_drive.specs.SurveyLines.{last_line, finding_line, order_silent_line}
+use Rattle.dali_drive.specs.UnitRead.{IsUnitRead, UnitReadBroke}
 use Rattle.dali_drive.specs.Surveys.{Report, Surveyed, Reported, BreaksReport, IsScanReport, IsOrderReport, IsSame}
-use Rattle.dali_drive.specs.Surveys.{TellsLast, TellsOrder, all_told, answered, lines_in, link_of, addresses_below}
+use Rattle.dali_drive.specs.Surveys.{TellsLast, TellsOrder, all_told, answered, link_of, addresses_below}
 use Rattle.dali_drive.proofs.DriveLemmas.{IsCut}
 use Rattle.dali_drive.proofs.ReadingLemmas.{told_nothing, told_both}
 

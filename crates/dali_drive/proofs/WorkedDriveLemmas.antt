@@ -51,7 +51,7 @@ first_is_record = (
   omega arith,
 )
 
-none_line : IsAnswerLine None (codes "--\n")
+pub none_line : IsAnswerLine None (codes "--\n")
 none_line = record {
   line = codes "--";
   is_short = record {

@@ -14,3 +14,4 @@ pub mod Kills
 pub mod Repeats
 pub mod WorkedDrives
 pub mod WorkedSittings
+pub mod WorkedSurveys

@@ -1,4 +1,4 @@
-use Rattle.std.proofs.Common.{rules, refl, sym, ◌∙◌, ◌++◌, ◌≡◌, ◌+◌, ◌<◌, ◌≤◌, length, length-append, ap, subst, ℕ, List, arith}
+use Rattle.std.proofs.Common.{refl, sym, ◌∙◌, ◌++◌, length, length-append, ap, ℕ, List, arith}
 use Rattle.std.proofs.lemmas.Result.{err_from_is_err_and}
 use Rattle.dali_read.specs.Places.{course_of}
 use Rattle.dali_drive.proofs.ReadingLemmas.{reading_breaks, reading_is_silent, reading_goes_on, told_count}

@@ -1,7 +1,6 @@
-use Rattle.std.proofs.Common.{◌+◌, ◌++◌, ◌≡◌, List, ℕ, refl, sym, ap, subst, length, arith}
+use Rattle.std.proofs.Common.{refl, sym, arith}
 use Rattle.std.proofs.lemmas.Result.{err_from_is_err_and}
-use Rattle.dali_drive.specs.UnitRead.{TriedTo}
-use Rattle.dali_drive.proofs.ReadingLemmas.{try_begins, try_goes_on, try_misses, try_breaks, try_ends, try_has_room}
+use Rattle.dali_drive.proofs.ReadingLemmas.{try_goes_on, try_misses, try_breaks, try_ends, try_has_room}
 use Rattle.dali_drive.proofs.ReadingLemmas.{few_requests}
 use Rattle.dali_drive.proofs.reading.try_block.Goals as goal
 

@@ -1,5 +1,4 @@
 use Rattle.std.proofs.Common.{refl, ap, ◌∙◌, ℕ, List, [], Some, None, slice_index_or}
-use Rattle.std.proofs.lemmas.Result.{err_from_is_err_and}
 use Rattle.std.proofs.KnownBytes.{Appends-nil}
 use Rattle.dali_drive.specs.SurveyLines.{last_line}
 use Rattle.dali_drive.proofs.SurveyLemmas.{unit_scanned, scan_cut, last_is}

@@ -1,7 +1,6 @@
 use Rattle.std.proofs.Common.{refl, ◌∙◌, ℕ, List, Some, None, subst}
 use Rattle.std.proofs.lemmas.Result.{err_from_is_err_and}
 use Rattle.dali_read.specs.Findings.{IsFound}
-use Rattle.dali_drive.specs.UnitRead.{IsUnitRead, UnitReadBroke}
 use Rattle.dali_drive.proofs.SurveyLemmas.{order_verified, verify_cut, same_told, silent_told, breaks_reading, read_of, broke_of}
 use Rattle.dali_drive.proofs.survey.verify_order.Goals as goal
 

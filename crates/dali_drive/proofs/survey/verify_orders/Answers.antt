@@ -1,8 +1,8 @@
-use Rattle.std.proofs.Common.{◌∷◌, ◌∙◌, ap, List, suc, drop, refl}
+use Rattle.std.proofs.Common.{◌∷◌, ◌∙◌, ap, suc, drop}
 use Rattle.std.proofs.lemmas.Result.{err_from_is_err_and}
 use Rattle.dali_bank.specs.Order.{Contents}
 use Rattle.dali_drive.specs.Surveys.{items_in}
-use Rattle.dali_drive.proofs.SurveyLemmas.{surveyed_more, items_more, items_all, items_left, both_same}
+use Rattle.dali_drive.proofs.SurveyLemmas.{surveyed_more, items_more, items_left, both_same}
 use Rattle.dali_drive.proofs.survey.verify_orders.Goals as goal
 
 pub returns-in_err-all_same-clause-broken : goal.returns-in_err-all_same-clause-broken

@@ -1,0 +1,383 @@
+-- A scan of two units by hand, and what is near it and isn't one.
+use Rattle.std.proofs.Common.{ap, ◌≡◌, ◌≢◌, ◌∙◌, inl, inr, refl, sym, append_assoc, ℕ, zero, suc, List, [], ◌∷◌, ◌++◌}
+use Rattle.std.proofs.Common.{Some, None, codes}
+use Rattle.std.proofs.Common.{Option, true, is_some, get_or, take, drop, length, map, arith}
+use Rattle.std.proofs.lemmas.Fmt.{decimal_digit}
+use Rattle.std.proofs.lemmas.List.{length-map}
+use Rattle.std.proofs.lemmas.List.Elements.{All-from_recursion}
+use Rattle.std.specs.Io.BufRead.{strip_last}
+use Rattle.dali_frame.specs.declared.forward.Frame.TheVariants.{Dtr0, Dtr1, AskDtr0, AskDtr1, Read}
+use Rattle.dali_frame.specs.Hex.{SpellsHexNumber, byte_digits}
+use Rattle.dali_trace.specs.declared.happening.Happening.{Happening}
+use Rattle.dali_trace.specs.declared.happening.Happening.TheVariants.{Sent}
+use Rattle.dali_write.specs.Exchanges.{Exchange}
+use Rattle.dali_write.specs.WorkedAccesses.{sent}
+use Rattle.dali_write.specs.declared.request.Wish.TheVariants.{Nothing, Exactly, Anything}
+use Rattle.dali_write.specs.Tries.{Missed, Misses}
+use Rattle.dali_read.specs.declared.finding.Finding.TheVariants.{Same, Other, Short, Format}
+use Rattle.dali_read.specs.Blocks.{Fits, block_requests, Succeeds}
+use Rattle.dali_read.specs.Places.{first_block, last_course}
+use Rattle.dali_read.specs.Readings.{Course, Ends, Done}
+use Rattle.dali_drive.specs.Lines.{IsAnswerLine}
+use Rattle.dali_drive.specs.Transcript.{Streams, AreAnswers}
+use Rattle.dali_drive.specs.UnitRead.{LinkText, UnitReadBroke}
+use Rattle.dali_drive.specs.SurveyLines.{last_line, units_line, bytes_line, silent_line, order_head, finding_line}
+use Rattle.dali_drive.specs.SurveyLines.{order_silent_line}
+use Rattle.dali_drive.specs.Surveys.{Report, Surveyed, IsScanReport, link_of}
+use Rattle.dali_drive.specs.WorkedSurveys.{missed, length_read, silent_unit, found_unit, two_units}
+use Rattle.dali_drive.specs.WorkedSurveys.{before_two_units, after_two_units, near_order, far_order, same_order}
+use Rattle.dali_drive.specs.WorkedSurveys.{silent_order}
+use Rattle.dali_drive.specs.WorkedSurveys.{amid_third_unit, silent_unit_told, before_one_unit, one_unit_and}
+use Rattle.dali_drive.specs.declared.fault.DriveFault.{DriveFault}
+use Rattle.dali_drive.specs.Driven.{BreaksFrame}
+use Rattle.dali_drive.specs.Surveys.{Reported, BreaksReport, TellsLast, IsScan, BreaksScan, ScanBroke}
+use Rattle.dali_drive.specs.Surveys.{items_in, all_told, lines_in, answered, addresses_below}
+use Rattle.dali_write.specs.Requests.{request}
+use Rattle.dali_drive.proofs.ReadingLemmas.{told_nothing}
+use Rattle.dali_drive.proofs.WorkedDriveLemmas.{none_line}
+use Rattle.dali_drive.specs.declared.fault.DriveFault.TheVariants as faults
+
+-- The lines
+
+last_told : last_line 1 0x77 ≡ codes "unit 1 last 77\n"
+last_told = rw (decimal_digit 1 (omega arith)) refl
+
+pub lines_are : (last_line 7 0xFE ≡ codes "unit 7 last FE\n") × (units_line 0 ≡ codes "units 0\n")
+    × (bytes_line 5 9 ≡ codes "unit 5 bytes 9\n") × (silent_line 6 ≡ codes "unit 6 silent\n")
+lines_are = (
+  rw (decimal_digit 7 (omega arith)) refl,
+  rw (decimal_digit 0 (omega arith)) refl,
+  rw (decimal_digit 5 (omega arith), decimal_digit 9 (omega arith)) refl,
+  rw (decimal_digit 6 (omega arith)) refl,
+)
+
+near_head : order_head near_order ≡ codes "order 7 unit 1"
+near_head = rw (decimal_digit 7 (omega arith), decimal_digit 1 (omega arith)) refl
+
+far_head : order_head far_order ≡ codes "order 8 unit 0"
+far_head = rw (decimal_digit 8 (omega arith), decimal_digit 0 (omega arith)) refl
+
+pub findings_are : (finding_line near_order Same ≡ codes "order 7 unit 1 same\n")
+    × (finding_line near_order (Other 0x0C 0x5A) ≡ codes "order 7 unit 1 other 0C 5A\n")
+    × (finding_line near_order Short ≡ codes "order 7 unit 1 short\n")
+    × (finding_line near_order Format ≡ codes "order 7 unit 1 format\n")
+    × (order_silent_line far_order ≡ codes "order 8 unit 0 silent\n")
+findings_are = (
+  rw (decimal_digit 7 (omega arith), decimal_digit 1 (omega arith)) refl,
+  rw (decimal_digit 7 (omega arith), decimal_digit 1 (omega arith)) refl,
+  rw (decimal_digit 7 (omega arith), decimal_digit 1 (omega arith)) refl,
+  rw (decimal_digit 7 (omega arith), decimal_digit 1 (omega arith)) refl,
+  rw (decimal_digit 8 (omega arith), decimal_digit 0 (omega arith)) refl,
+)
+
+-- What came back
+
+byte_line : (c d byte : ℕ) → c ≢ 10 → d ≢ 10 → strip_last 13 (c ∷ d ∷ []) ≡ c ∷ d ∷ []
+    → SpellsHexNumber (c ∷ d ∷ []) byte → IsAnswerLine (Some byte) (c ∷ d ∷ 10 ∷ [])
+byte_line c d byte one two whole spells = record {
+  line = c ∷ d ∷ [];
+  is_short = record { short = omega arith; inside = All-from_recursion (λ b. b ≢ 10) (c ∷ d ∷ []) (one, (two, tt)) };
+  spells = rw whole (refl, spells);
+  ended = refl;
+}
+
+pub line_00 : IsAnswerLine (Some 0x00) (codes "00\n")
+line_00 = byte_line 48 48 0x00 (λ e. cc) (λ e. cc) refl ((omega arith, (omega arith, tt)), refl)
+
+pub line_01 : IsAnswerLine (Some 0x01) (codes "01\n")
+line_01 = byte_line 48 49 0x01 (λ e. cc) (λ e. cc) refl ((omega arith, (omega arith, tt)), refl)
+
+pub line_03 : IsAnswerLine (Some 0x03) (codes "03\n")
+line_03 = byte_line 48 51 0x03 (λ e. cc) (λ e. cc) refl ((omega arith, (omega arith, tt)), refl)
+
+pub line_04 : IsAnswerLine (Some 0x04) (codes "04\n")
+line_04 = byte_line 48 52 0x04 (λ e. cc) (λ e. cc) refl ((omega arith, (omega arith, tt)), refl)
+
+pub line_77 : IsAnswerLine (Some 0x77) (codes "77\n")
+line_77 = byte_line 55 55 0x77 (λ e. cc) (λ e. cc) refl ((omega arith, (omega arith, tt)), refl)
+
+pub line_A5 : IsAnswerLine (Some 0xA5) (codes "A5\n")
+line_A5 = byte_line 65 53 0xA5 (λ e. cc) (λ e. cc) refl ((omega arith, (omega arith, tt)), refl)
+
+abbrev pub as_sent : List Exchange → List Happening
+as_sent told = map (λ x. Sent x.frame x.answer) told
+
+-- a read of unit 1, by the lines that tell where DTR0 stands, the byte and where it stands then
+pub read_heard : (told : List Exchange) (location byte after : ℕ) (heard place read moved : List ℕ)
+    → IsAnswerLine (Some location) place → IsAnswerLine (Some byte) read → IsAnswerLine (Some after) moved
+    → AreAnswers (as_sent told) heard
+    → AreAnswers (as_sent (sent (AskDtr1 1) (Some 1) ∷ sent (AskDtr0 1) (Some after) ∷ sent (Read 1) (Some byte)
+    ∷ sent (AskDtr0 1) (Some location) ∷ sent (Dtr0 location) None ∷ sent (AskDtr1 1) (Some 1) ∷ sent (Dtr1 1) None
+    ∷ told))
+    (heard ++ codes "--\n01\n--\n" ++ place ++ read ++ moved ++ codes "01\n")
+read_heard told location byte after heard place read moved at is next lines =
+    let one = heard ++ codes "--\n" in
+    let two = heard ++ codes "--\n01\n" in
+    let three = heard ++ codes "--\n01\n--\n" in
+    let four = three ++ place in
+    let five = four ++ read in
+    let six = five ++ moved in (
+      six,
+      codes "01\n",
+      (
+        five,
+        moved,
+        (
+          four,
+          read,
+          (
+            three,
+            place,
+            (
+              two,
+              codes "--\n",
+              (
+                one,
+                codes "01\n",
+                (heard, codes "--\n", lines, none_line, refl),
+                line_01,
+                sym (append_assoc heard (codes "--\n") (codes "01\n")),
+              ),
+              none_line,
+              sym (append_assoc heard (codes "--\n01\n") (codes "--\n")),
+            ),
+            at,
+            refl,
+          ),
+          is,
+          refl,
+        ),
+        next,
+        refl,
+      ),
+      line_01,
+      refl,
+    )
+
+abbrev pub lines_of : ℕ → List ℕ → List ℕ
+lines_of zero heard = heard
+lines_of (suc tries) heard = lines_of tries heard ++ codes "--\n" ++ codes "--\n"
+
+pub missed_heard : (tries : ℕ) (told : List Exchange) (heard : List ℕ) → AreAnswers (as_sent told) heard
+    → AreAnswers (as_sent (missed tries ++ told)) (lines_of tries heard)
+missed_heard zero told heard lines = lines
+missed_heard (suc tries) told heard lines = (
+  lines_of tries heard ++ codes "--\n",
+  codes "--\n",
+  (lines_of tries heard, codes "--\n", missed_heard tries told heard lines, none_line, refl),
+  none_line,
+  refl,
+)
+
+-- Unit 0 is silent, and unit 1 answers
+
+one_missed : Missed (block_requests 0 first_block) (sent (AskDtr1 0) None ∷ sent (Dtr1 1) None ∷ [])
+one_missed = (Exactly 1, drop 2 (block_requests 0 first_block), (λ e. cc), (Nothing, tt, refl))
+
+all_missed : (tries : ℕ) → Misses (block_requests 0 first_block) tries (missed tries)
+all_missed zero = refl
+all_missed (suc tries) =
+    (sent (AskDtr1 0) None ∷ sent (Dtr1 1) None ∷ [], missed tries, refl, one_missed, all_missed tries)
+
+pub first_fits : Fits first_block
+first_fits = record { some = omega arith; few = omega arith; within = omega arith }
+
+pub silent_ends : (course : Course) → course [] ≡ Some first_block → Ends 0 course None (missed 8)
+silent_ends course next = record {
+  done = [];
+  in_turn = tt;
+  block = first_block;
+  fits = first_fits;
+  next = next;
+  missed = missed 8;
+  fails = all_missed 8;
+  told_are = refl;
+}
+
+pub silent_scanned : IsScanReport silent_unit
+silent_scanned = (silent_ends last_course refl, refl)
+
+pub length_told : Succeeds 1 first_block (0x77 ∷ []) length_read
+length_told = record {
+  tried = length_read;
+  missed = [];
+  misses = 0;
+  parts = refl;
+  read = (
+    (Exactly 1, refl, (Exactly 1, refl, (Anything, refl, (Exactly 0, refl, (Nothing, tt, (Exactly 1, refl, (Nothing, tt, refl))))))),
+    refl,
+  );
+  few = omega arith;
+  misses_are = refl;
+}
+
+abbrev pub first_done : Done
+first_done = record { block = first_block; bytes = 0x77 ∷ []; told = length_read }
+
+found_ends : Ends 1 last_course (Some (0x77 ∷ [])) length_read
+found_ends = record {
+  done = first_done ∷ [];
+  in_turn = (tt, first_fits, refl, length_told);
+  bytes_are = refl;
+  told_are = refl;
+  over = refl;
+}
+
+pub found_scanned : IsScanReport found_unit
+found_scanned = (found_ends, (0x77, refl, sym last_told))
+
+two_heard : AreAnswers (as_sent (length_read ++ missed 8)) (lines_of 8 [] ++ codes "--\n01\n--\n00\n77\n01\n01\n")
+two_heard =
+    read_heard (missed 8) 0x00 0x77 0x01 (lines_of 8 []) (codes "00\n") (codes "77\n") (codes "01\n") line_00 line_77
+    line_01 (missed_heard 8 [] [] refl)
+
+pub two_surveyed : Surveyed IsScanReport two_units before_two_units after_two_units
+two_surveyed = record {
+  each = (found_scanned, (silent_scanned, tt));
+  link = record {
+    heard = codes "--\n--\n--\n--\n--\n--\n--\n--\n--\n--\n--\n--\n--\n--\n--\n--\n--\n01\n--\n00\n77\n01\n01\n";
+    lines = two_heard;
+    journal = tt;
+    link = refl;
+    answers = refl;
+    out = tt;
+  };
+  out = refl;
+}
+
+-- of a small survey: what its reports are for, their exchanges and lines, and how many units answered
+pub two_units_are : (items_in two_units ≡ 1 ∷ 0 ∷ []) × (all_told two_units ≡ length_read ++ missed 8)
+    × (lines_in two_units ≡ codes "unit 1 last 77\n") × (answered two_units ≡ 1)
+    × (answered (silent_unit ∷ []) ≡ 0) × (addresses_below 3 ≡ 2 ∷ 1 ∷ 0 ∷ [])
+two_units_are = (refl, refl, refl, refl, refl, refl)
+
+pub lines_in_turn : lines_in (silent_order ∷ same_order ∷ []) ≡ codes "order 7 unit 1 same\norder 8 unit 0 silent\n"
+lines_in_turn = refl
+
+-- a silent unit has no line, and a unit that answers just its own
+pub no_silent_line : Surveyed IsScanReport two_units before_two_units silent_unit_told → ⊥
+no_silent_line s = let never = ap (λ (l : List ℕ). length l) s.out in omega (arith, never)
+
+pub not_silent_with_a_line : TellsLast 0 None (codes "unit 0 last 00\n") → ⊥
+not_silent_with_a_line is = cc
+
+pub not_two_bytes : (line : List ℕ) → TellsLast 1 (Some (0x77 ∷ 0x00 ∷ [])) line → ⊥
+not_two_bytes line (last, one, is) = cc
+
+-- where a reading is broken off in its first frame
+pub frame_broke : {fault : DriveFault} {old new : Streams} (unit : ℕ) (course : Course) → course [] ≡ Some first_block
+    → BreaksFrame (Dtr1 1) fault old new → UnitReadBroke unit course fault old new
+frame_broke {fault} {old} {new} unit course next broken = record {
+  told = [];
+  frame = Dtr1 1;
+  reading = record {
+    done = [];
+    in_turn = tt;
+    block = first_block;
+    fits = first_fits;
+    next = next;
+    tried = [];
+    stands = record {
+      tried = [];
+      missed = [];
+      misses = 0;
+      next = request (Dtr1 1) Nothing;
+      left = drop 1 (block_requests unit first_block);
+      parts = refl;
+      few = omega arith;
+      misses_are = refl;
+      try = refl;
+      frame_is = refl;
+    };
+    told_are = refl;
+  };
+  broke = record { middle = old; text = told_nothing old; broken = broken };
+}
+
+-- the third unit is broken off in its first frame
+pub third_broke : ScanBroke faults.Link before_two_units amid_third_unit
+third_broke = record {
+  reports = two_units;
+  next = 2;
+  asked = refl;
+  middle = after_two_units;
+  surveyed = two_surveyed;
+  broke = inl (omega arith, (frame_broke 2 last_course refl cut, refl));
+} where
+  cut : BreaksFrame (Dtr1 1) faults.Link (link_of after_two_units) (link_of amid_third_unit)
+  cut = inl (record { journal = tt; link = record { count = 2; within = omega arith; part = refl }; answers = refl; out = tt })
+
+-- One unit, and its line whole or in part
+
+one_text : (out : List ℕ) → LinkText length_read (link_of before_one_unit) (link_of (one_unit_and out))
+one_text out = record {
+  heard = codes "--\n01\n--\n00\n77\n01\n01\n";
+  lines =
+      read_heard [] 0x00 0x77 0x01 [] (codes "00\n") (codes "77\n") (codes "01\n") line_00 line_77 line_01 refl;
+  journal = tt;
+  link = refl;
+  answers = refl;
+  out = tt;
+}
+
+pub one_reported : Reported IsScanReport 1 (λ report. true ≡ is_some report.outcome) before_one_unit
+    (one_unit_and (codes "unit 1 last 77\n"))
+one_reported = record {
+  report = found_unit;
+  item_is = refl;
+  is = found_scanned;
+  so = refl;
+  link = one_text (codes "unit 1 last 77\n");
+  out = refl;
+}
+
+pub part_written : BreaksReport IsScanReport faults.Out 1 1 last_course before_one_unit (one_unit_and (codes "unit 1"))
+part_written =
+    (found_unit, refl, found_scanned, one_text (codes "unit 1"), record { count = 6; within = omega arith; part = refl })
+
+other_part : (count : ℕ) (rest : List ℕ) → codes "unit 2" ≡ take count (codes "unit 1" ++ rest) → ⊥
+other_part zero rest e = cc
+other_part (suc zero) rest e = cc
+other_part (suc (suc zero)) rest e = cc
+other_part (suc (suc (suc zero))) rest e = cc
+other_part (suc (suc (suc (suc zero)))) rest e = cc
+other_part (suc (suc (suc (suc (suc zero))))) rest e = cc
+other_part (suc (suc (suc (suc (suc (suc count)))))) rest e =
+    let never : 50 ≡ 49 = ap (λ (l : List ℕ). get_or l 5 0) e in omega (arith, never)
+
+no_part : (unit : ℕ) (outcome : Option (List ℕ)) (line : List ℕ) (count : ℕ) → unit ≡ 1 → TellsLast unit outcome line
+    → codes "unit 2" ≡ take count line → ⊥
+no_part unit None line zero one is e = cc
+no_part unit None line (suc count) one is e =
+    let never : codes "unit 2" ≡ take (suc count) [] = e ∙ ap (λ (l : List ℕ). take (suc count) l) is in cc
+no_part unit (Some bytes) line count one (last, bytes_are, is) e =
+    other_part count (codes " last " ++ byte_digits last ++ codes "\n")
+    (e ∙ ap (λ (l : List ℕ). take count l) (is ∙ ap (λ (u : ℕ). last_line u last) one ∙ line_of_one last))
+  where
+    line_of_one : (last : ℕ) → last_line 1 last ≡ codes "unit 1" ++ (codes " last " ++ byte_digits last ++ codes "\n")
+    line_of_one last = rw (decimal_digit 1 (omega arith)) refl
+
+pub no_other_text : BreaksReport IsScanReport faults.Out 1 1 last_course before_one_unit (one_unit_and (codes "unit 2"))
+    → ⊥
+no_other_text (report, same, (ends, tells), text, part) =
+    no_part report.item report.outcome report.line part.count same tells part.part
+
+-- another fault than Out leaves no part of a line
+pub no_line_of_another_fault : BreaksReport IsScanReport faults.End 1 1 last_course before_one_unit
+    (one_unit_and (codes "unit 1")) → ⊥
+no_line_of_another_fault broke = let never : codes "unit 1" ≡ [] = broke.1 in cc
+
+-- a whole scan
+
+pub all_asked : (units : ℕ) (first last : Streams) (scan : IsScan units first last) → length scan.reports ≡ 64
+all_asked units first last scan =
+    sym (length-map scan.reports (λ (r : Report ℕ). r.item)) ∙ ap (λ (l : List ℕ). length l) scan.all
+
+pub only_its_line_behind : (fault : DriveFault) (units : ℕ) (old new : Streams) → BreaksScan fault 64 units old new
+    → fault ≡ faults.Out
+only_its_line_behind fault units old new (inl (below, broke)) = absurd (omega (arith, below))
+only_its_line_behind fault units old new (inr (all, is, text, part)) = is
+
+pub nothing_past_it : (fault : DriveFault) (units : ℕ) (old new : Streams) → BreaksScan fault 65 units old new → ⊥
+nothing_past_it fault units old new (inl (below, broke)) = omega (arith, below)
+nothing_past_it fault units old new (inr (all, is, text, part)) = let never : 65 ≡ 64 = all in omega (arith, never)

@@ -2,6 +2,7 @@
 use Rattle.std.proofs.Common.{ap, ◌≡◌, ◌≢◌, ◌∙◌, inl, inr, refl, sym, append_assoc, ℕ, zero, suc, List, [], ◌∷◌, ◌++◌}
 use Rattle.std.proofs.Common.{Some, None, codes}
 use Rattle.std.proofs.Common.{Option, true, is_some, get_or, take, drop, length, map, arith}
+use Rattle.std.proofs.Common.{◌≤◌, ◌+◌, Bool, false, if◌then◌else◌}
 use Rattle.std.proofs.lemmas.Fmt.{decimal_digit}
 use Rattle.std.proofs.lemmas.List.{length-map}
 use Rattle.std.proofs.lemmas.List.Elements.{All-from_recursion}
@@ -372,6 +373,32 @@ no_line_of_another_fault broke = let never : codes "unit 1" ≡ [] = broke.1 in 
 pub all_asked : (units : ℕ) (first last : Streams) (scan : IsScan units first last) → length scan.reports ≡ 64
 all_asked units first last scan =
     sym (length-map scan.reports (λ (r : Report ℕ). r.item)) ∙ ap (λ (l : List ℕ). length l) scan.all
+
+-- at most so many units as there are addresses
+answered_few : (reports : List (Report ℕ)) → answered reports ≤ length reports
+answered_few [] = omega arith
+answered_few (report ∷ reports) = one_more (is_some report.outcome) (answered_few reports) where
+  one_more : (answers : Bool) → answered reports ≤ length reports
+      → answered reports + (if answers then 1 else 0) ≤ length (report ∷ reports)
+  one_more true few = omega (arith, few)
+  one_more false few = omega (arith, few)
+
+pub at_most_all : (units : ℕ) (first last : Streams) → IsScan units first last → units ≤ 64
+at_most_all units first last scan =
+    let few = answered_few scan.reports in
+    let all = all_asked units first last scan in
+    let are = scan.units_are in omega (arith, few, all, are)
+
+-- a scan that is broken off has a report of each address below
+below_length : (address : ℕ) → length (addresses_below address) ≡ address
+below_length zero = refl
+below_length (suc address) = let below = below_length address in omega (arith, below)
+
+pub all_below_asked : (fault : DriveFault) (first last : Streams) (broke : ScanBroke fault first last)
+    → length broke.reports ≡ broke.next
+all_below_asked fault first last broke =
+    sym (length-map broke.reports (λ (r : Report ℕ). r.item)) ∙ ap (λ (l : List ℕ). length l) broke.asked
+    ∙ below_length broke.next
 
 pub only_its_line_behind : (fault : DriveFault) (units : ℕ) (old new : Streams) → BreaksScan fault 64 units old new
     → fault ≡ faults.Out

@@ -2,6 +2,7 @@
 
 import copy
 import json
+import pathlib
 
 import driven
 from drive_desk import settings, want
@@ -64,9 +65,13 @@ class Reading(driven.Desk):
     """Runs of `read`, `verify` or `scan` in a folder. What each of them sends is looked at, whatever it is run for."""
 
     def __init__(self, folder, command="read", unit=5, orders=()):
-        super().__init__(settings["program"], folder, list(orders) if not isinstance(orders, str) else orders)
+        self.program = settings["program"]
+        self.folder = pathlib.Path(folder)
         self.command, self.unit, self.given_orders = command, unit, orders
+        self.orders = self.folder / "orders.json"
         self.bank = self.folder / "bank.hex"
+        if command == "verify":
+            self.write_orders(orders)
 
     def words(self):
         """Give the command line."""

@@ -218,7 +218,7 @@ def test_streams_that_are_closed_at_the_start(folder):
             most = b"" if 1 in closed else most[:5] if 0 in closed else most
             assert ended.status == 2 and most.startswith(ended.sent), (case, ended)
             want((case, desk.text() in (None, TEXT_17), desk.new().exists()), (case, True, False))
-            want(desk.orders.read_text(), driven.json.dumps(PRESENT))
+            assert command != "verify" or desk.orders.read_text() == driven.json.dumps(PRESENT), case
             if 2 not in closed:
                 want((case, ended.told), (case, "drive fault 2 Link\n"))
 

@@ -9,15 +9,20 @@ import tempfile
 import traceback
 
 import driven
-from drive_desk import Skipped, parts_of, settings
+from drive_desk import Skipped, settings
 
 TESTS = {}
+
+
+def count_of(name):
+    """Give in how many parts a test runs."""
+    return getattr(TESTS[name], "parts", 1)
 
 
 def passes(name, part):
     """Run one part of a test in a folder of its own; tell whether it passed, and what is to be printed."""
     shared = "/dev/shm" if os.access("/dev/shm", os.W_OK) else None
-    arguments = (part, parts_of[name]) if name in parts_of else ()
+    arguments = (part, TESTS[name].parts) if hasattr(TESTS[name], "parts") else ()
     try:
         with tempfile.TemporaryDirectory(dir=shared) as folder:
             TESTS[name](pathlib.Path(folder), *arguments)
@@ -37,10 +42,10 @@ def build_shims(folder):
 
 def run_all():
     """Run all tests beside each other, those of several parts first; print what failed, and give the results."""
-    names = sorted(TESTS, key=lambda name: -parts_of.get(name, 1))
+    names = sorted(TESTS, key=lambda name: -count_of(name))
     results = []
     with concurrent.futures.ProcessPoolExecutor(max(4, os.cpu_count())) as pool:
-        runs = [pool.submit(passes, name, part) for name in names for part in range(parts_of.get(name, 1))]
+        runs = [pool.submit(passes, name, part) for name in names for part in range(count_of(name))]
         for run in concurrent.futures.as_completed(runs):
             result, text = run.result()
             results.append(result)

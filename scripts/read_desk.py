@@ -1,4 +1,4 @@
-"""What the tests of `read`, `verify` and `scan` share: runs of one over a link, and units that do more than the desk's."""
+"""What the tests of `read`, `verify` and `scan` share: runs over a link, and units that do more than the desk's."""
 
 import copy
 import json
@@ -45,7 +45,7 @@ class WithBank0(simulated_link.Unit):
 
 
 class Changing(simulated_link.Unit):
-    """A unit that has another byte at a location of bank 1 from its frame of a number on: {number: (location, byte)}."""
+    """A unit with another byte at a location of bank 1 from its frame of a number on: {number: (location, byte)}."""
 
     def __init__(self, short_address, bank_1, changes):
         super().__init__(short_address, bank_1)
@@ -64,8 +64,8 @@ class Changing(simulated_link.Unit):
 class Reading(driven.Desk):
     """Runs of `read`, `verify` or `scan` in a folder. What each of them sends is looked at, whatever it is run for."""
 
-    def __init__(self, folder, command="read", unit=5, orders=()):
-        self.program = settings["program"]
+    def __init__(self, folder, command="read", unit=5, orders=(), program=None):
+        self.program = program or settings["program"]
         self.folder = pathlib.Path(folder)
         self.command, self.unit, self.given_orders = command, unit, orders
         self.orders = self.folder / "orders.json"

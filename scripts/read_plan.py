@@ -1,4 +1,4 @@
-"""What `read`, `verify` and `scan` have to send and to tell, in plain Python: for scripts/test_read.py and scripts/fuzz.
+"""What `read`, `verify` and `scan` have to send and to tell, in plain Python: for test_read.py and fuzz.
 
 Nothing here comes from the program: it is written from the words of its pages alone. What an order writes is told by
 benchmarks/baseline.py, which knows nothing of the program either.
@@ -47,7 +47,7 @@ def check_passive(sent):
 
 
 def block_frames(unit, location, count):
-    """Give the frames of a try of a block, each with the answers that it wants, or with None where any is passed over."""
+    """Give the frames of a try of a block, each with the answers that it wants, or None where any is passed over."""
     to_it = 0x200 * unit + 0x100
     ask_dtr0, ask_dtr1, read = to_it + 0x98, to_it + 0x9C, to_it + 0xC5
     return [(0xC301, PASSED_OVER), (ask_dtr1, [1]), (0xA300 + location, PASSED_OVER), (ask_dtr0, [location]),

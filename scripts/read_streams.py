@@ -1,4 +1,4 @@
-"""Tests of `read`, `verify` and `scan` over streams that are known byte for byte, that end, fail, are closed or full."""
+"""Tests of `read`, `verify` and `scan` over streams that are known byte for byte, end, fail, are closed or full."""
 
 import os
 import subprocess

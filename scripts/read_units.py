@@ -227,9 +227,9 @@ def test_scans_with_losses(folder):
 
 
 def test_a_scan_of_a_unit_that_changes(folder):
-    want(scan(folder, bus_of(Changing(5, varied_bank(120), {1: (0x00, 0xFF)})), 1024 - 9), ["unit 5 last FF", "units 1"])
-    units = [WithBank0(5, varied_bank(120))]
-    want(scan(folder, bus_of(*units, lost_power=[(5, 83)]), 1024 - 2), ["unit 5 last 77", "units 1"])
+    changing, powerless = Changing(5, varied_bank(120), {1: (0x00, 0xFF)}), WithBank0(5, varied_bank(120))
+    want(scan(folder, bus_of(changing), 1024 - 9), ["unit 5 last FF", "units 1"])
+    want(scan(folder, bus_of(powerless, lost_power=[(5, 83)]), 1024 - 2), ["unit 5 last 77", "units 1"])
 
 
 # Over the adapters

@@ -97,14 +97,13 @@ def test_each_other_byte(folder, part, count):
 
 
 def test_short_banks(folder):
-    for fields, greatest in [({"year": 24}, 0x13), ({"week": 5}, 0x14), ({"cct": 4000}, 0x22), ({"luminaire": "A"}, 0x77)]:
-        for length in (greatest, greatest + 1, greatest + 2):
-            order = order_of(**fields)
-            bank = bank_of(min(length, 0x78))
-            word, more = ("short", 0) if length == greatest else ("same", None)
-            bank = bank if more == 0 else held_by(bank, order)
-            verify(folder, [order], bus_of(simulated_link.Unit(5, bank)), [f"order 1 unit 5 {word}"],
-                   7 if more == 0 else None)
+    for fields, greatest in [({"year": 24}, 0x13), ({"week": 5}, 0x14), ({"cct": 4000}, 0x22),
+                             ({"luminaire": "A"}, 0x77)]:
+        order = order_of(**fields)
+        verify(folder, [order], bus_of(simulated_link.Unit(5, bank_of(greatest))), ["order 1 unit 5 short"], 7)
+        for length in (greatest + 1, min(greatest + 2, 0x78)):
+            unit = simulated_link.Unit(5, held_by(bank_of(length), order))
+            verify(folder, [order], bus_of(unit), ["order 1 unit 5 same"])
     for last, word in [(0x07, "short"), (0x08, "other 03 FF"), (0x00, "short"), (0xFF, "other 03 FF")]:
         bus = bus_of(Changing(5, BLANK, {1: (0x00, last)}))
         verify(folder, [order_of(gtin=GTIN)], bus, [f"order 1 unit 5 {word}"], 7 if word == "short" else 19)

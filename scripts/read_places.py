@@ -369,27 +369,3 @@ def test_two_readings_at_once(folder):
     first.send_signal(signal.SIGCONT)
     sent, said = first.communicate(timeout=driven.PATIENCE)
     want((Ended(first.returncode, sent, said.decode()), desk.text()), (Ended(0, SENT_17, TOLD_17), TEXT_17))
-
-
-def test_each_allocation_refused(folder):
-    desk, ran_out = Reading(folder), 0
-    for number in range(1, 1000):
-        put(desk, (BEFORE, None))
-        preload = {"LD_PRELOAD": str(settings["shims"] / "refuse_alloc.so"), "REFUSED_ALLOCATION": str(number)}
-        ended = driven.Desk.give(desk, GIVEN_17, preload)
-        told = ended.told.replace("an allocation was refused\n", "")
-        if told == ended.told:
-            break
-        if ended.status == 0:
-            want((number, ended.sent, told, desk.text()), (number, SENT_17, TOLD_17, TEXT_17))
-        else:
-            # Before the words are read it isn't known that the command has a link. Once the unit is read it is the file
-            # that there is no memory for.
-            line = told or ended.sent.decode()
-            fault = "fault 21 File" if ended.sent == SENT_17 else "fault 20 Memory"
-            want((number, ended.status, line.splitlines()[-1]), (number, 2, fault))
-            assert ended.sent in (b"", SENT_17) or number <= 8, (number, ended)
-            ran_out += 1
-            check_whole(desk, number, (BEFORE, None), ended)
-        goes_on(desk)
-    assert ran_out, "no refused allocation ended as want of memory"

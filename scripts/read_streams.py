@@ -4,7 +4,7 @@ import os
 import subprocess
 
 import driven
-from drive_desk import ABSENT, GTIN, last_line, want
+from drive_desk import ABSENT, GTIN, last_line, settings, want
 from driven import Ended
 from read_desk import (
     ANSWERS_17,
@@ -27,6 +27,7 @@ NOBODY = {
     "scan": Ended(0, SCAN_SENT, "units 0\n"),
 }
 SILENCE = b"--\n" * 1024
+MOST_ORDERS = 16777216
 PRESENT = [{"order": 1, "unit": 5, "gtin": GTIN}]
 # A bank of 120 that has the GTIN's bytes, and the answers that it gives to `verify`.
 VERIFY_SENT = (b"C301\n0B9C\nA300\n0B98\n0BC5\n0B98\n0B9C\n"
@@ -138,11 +139,15 @@ def test_orders_that_are_refused(folder):
     for orders, line in [("[", "fault 11 Json"), ("{}", "fault 12 Document"), ("", "fault 11 Json")]:
         want((orders, last_line(desk_for(folder, "verify", orders).give(SILENCE))), (orders, (1, b"", line)))
     desk = desk_for(folder, "verify")
+    for size, line in [(MOST_ORDERS, "fault 11 Json"), (MOST_ORDERS + 1, "fault 13 TooBig")]:
+        os.truncate(desk.orders, size)
+        want((size, last_line(desk.give(SILENCE))), (size, (1, b"", line)))
     desk.orders.unlink()
     want(last_line(desk.give(SILENCE)), (2, b"", "fault 21 File"))
     desk.orders.mkdir()
     want(last_line(desk.give(SILENCE)), (2, b"", "fault 21 File"))
-    want(desk_for(folder / "orders.json", "verify", []).give(SILENCE), Ended(0, b"", ""))
+    desk.orders.rmdir()
+    want(desk_for(folder, "verify", []).give(SILENCE), Ended(0, b"", ""))
 
 
 def test_units_that_are_none(folder):
@@ -246,3 +251,29 @@ def test_show_takes_what_read_wrote(folder):
         want((shown.returncode, shown.stderr), (0, ""))
         want(shown.stdout.splitlines()[:3], ["last 10", "indicator A1", "lock FF"])
         assert "identification 898A8B8C8D8E8F90" in shown.stdout.splitlines(), shown
+
+
+def test_each_allocation_refused(folder):
+    for command, given in [("read", GIVEN_17), ("verify", as_lines(VERIFY_GIVEN)), ("scan", SILENCE)]:
+        desk, ran_out = desk_for(folder, command), 0
+        wanted = desk.wanted(carried(given))
+        for number in range(1, 10000):
+            desk.bank.unlink(missing_ok=True)
+            preload = {"LD_PRELOAD": str(settings["shims"] / "refuse_alloc.so"), "REFUSED_ALLOCATION": str(number)}
+            ended = driven.Desk.give(desk, given, preload)
+            told = ended.told.replace("an allocation was refused\n", "")
+            if told == ended.told:
+                break
+            if ended.status == 0:
+                want((command, number, ended.sent, told, desk.text()), (command, number, *wanted[1:]))
+                continue
+            # Before the words are read it isn't known that the command has a link. Once a unit is read it is HEXFILE
+            # that there is no memory for.
+            line = told or ended.sent.decode()
+            fault = "fault 21 File" if ended.sent == wanted.sent else "fault 20 Memory"
+            want((command, number, ended.status, line.splitlines()[-1]), (command, number, 2, fault))
+            assert ended.sent in (b"", wanted.sent) or number <= 8, (command, number, ended)
+            want((command, number, desk.text() in (None, wanted.text)), (command, number, True))
+            ran_out += 1
+        assert ran_out, f"no refused allocation ended as want of memory: {command}"
+        want((command, ended, desk.text()), (command, Ended(*wanted[:3]), wanted.text))

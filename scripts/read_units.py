@@ -178,6 +178,14 @@ def test_a_bank_whose_00h_is_ff(folder):
         want(bytes.fromhex(desk.text()), bytes([changes[1][1]]) + varied_bank(length)[1:])
 
 
+def test_a_unit_that_has_no_bank_1(folder):
+    unit = unit_of(17)
+    del unit.banks[1]
+    for command, told, frames in [("read", SILENT, 40), ("scan", "units 0\n", 1024 - 16 + 40)]:
+        bus = bus_of(unit)
+        want((command, Reading(folder, command).run(bus).told, bus.frames), (command, told, frames))
+
+
 def test_read_again_takes_the_place(folder):
     desk = Reading(folder)
     for length in (120, 17, 255):

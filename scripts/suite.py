@@ -59,8 +59,8 @@ def main(usage, modules, arguments):
         print(usage, file=sys.stderr)
         return 2
     for module in modules:
-        found = {name: test for name, test in vars(module).items() if name.startswith("test_")}
-        TESTS.update((name, test) for name, test in found.items() if test.__module__ == module.__name__)
+        tests = {name: test for name, test in vars(module).items() if name.startswith("test_")}
+        TESTS.update((f"{module.__name__}.{name}", test) for name, test in tests.items())
     settings["program"] = pathlib.Path(arguments[0]).resolve()
     with tempfile.TemporaryDirectory() as folder:
         settings["shims"] = pathlib.Path(arguments[1] if arguments[1:] else folder).resolve()

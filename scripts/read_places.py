@@ -11,7 +11,7 @@ import subprocess
 
 import driven
 from drive_calls import calls_in
-from drive_desk import FAULT_21, NOBODY, Skipped, last_line, parts, settings, want
+from drive_desk import NOBODY, Skipped, last_line, parts, settings, want
 from drive_places import fill
 from driven import Ended
 from read_desk import GIVEN_17, SENT_17, SILENT, TEXT_17, TOLD_17, Reading
@@ -42,7 +42,7 @@ def test_a_new_file(folder):
 
 
 def test_a_file_that_was_there(folder):
-    for mode in (0o640, 0o600, 0o444, 0o755):
+    for mode in (0o640, 0o600, 0o755):
         for before in (b"", BEFORE.encode(), TEXT_17.encode(), bytes(range(256)) * 40):
             desk = Reading(folder)
             desk.bank.write_bytes(before)

@@ -141,7 +141,7 @@ def test_orders_that_are_refused(folder):
     desk = desk_for(folder, "verify")
     for size, line in [(MOST_ORDERS, "fault 11 Json"), (MOST_ORDERS + 1, "fault 13 TooBig")]:
         os.truncate(desk.orders, size)
-        want((size, last_line(desk.give(SILENCE))), (size, (1, b"", line)))
+        want((size, last_line(desk.give(SILENCE, timeout=3 * driven.PATIENCE))), (size, (1, b"", line)))
     desk.orders.unlink()
     want(last_line(desk.give(SILENCE)), (2, b"", "fault 21 File"))
     desk.orders.mkdir()

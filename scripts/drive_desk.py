@@ -26,7 +26,6 @@ OUT_LINES = ("drive fault 7 Out", "reply 1 taken", "reply 1 kept 3 Silent", "")
 NOBODY = 65534
 
 settings = {}
-parts_of = {}
 
 
 class Skipped(Exception):
@@ -37,7 +36,7 @@ def parts(count):
     """Have a test run in so many parts beside each other: it takes its part's number and their count besides."""
 
     def mark(test):
-        parts_of[test.__name__] = count
+        test.parts = count
         return test
 
     return mark

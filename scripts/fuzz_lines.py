@@ -5,12 +5,15 @@ Each judge takes the status, standard output and standard error of a run, and ra
 
 import re
 
+from read_plan import check_passive
+
 ITEM_FAULTS = {1: "Unit", 2: "Kind", 3: "Range", 4: "Gtin", 5: "Text", 7: "Voltage", 8: "Empty", 9: "Shape", 10: "Key"}
 FILE_FAULTS = {11: "Json", 12: "Document", 13: "TooBig", 14: "Hex"}
 UNIT_FAULTS = {1: "Address", 2: "Size", 3: "Fixed"}
 CODES = ("Done", "Short", "Format", "Silent", "Doubt", "DoubtOpen")
 CODE = "|".join(f"{number} {name}" for number, name in enumerate(CODES))
 NUMBER = "(?:0|[1-9][0-9]*)"
+ADDRESS = "(?:[0-9]|[1-5][0-9]|6[0-3])"
 REPLY = re.compile(f"reply ({NUMBER}) (?:taken|reused|busy|full|blocked {NUMBER}|kept (?:{CODE}))")
 RECORD = re.compile(f"B order ({NUMBER}) unit ({NUMBER}) at ({NUMBER}) bytes ({NUMBER})|O unit ({NUMBER})|E ({CODE})|"
                     f"C unit ({NUMBER})")
@@ -23,6 +26,9 @@ FRAME = re.compile("[0-9A-F]{4} (?:(?:DTR[012]|WRITE MEMORY LOCATION(?: - NO REP
                    "unit (?:[0-9]|[1-5][0-9]|6[0-3])|OTHER)")
 UNIT = re.compile("unit [0-9]+ dtr(?: [0-9A-F]{2}){3} enabled (?:yes|no)|bank [0-9]+ [0-9A-F]0 (?:[0-9A-F]{2}){1,16}")
 JOURNAL_FAULT = re.compile(f"journal fault (?:(?:3 Record|4 Sequence|5 Repeated|6 Full) at {NUMBER}|7 Header)")
+ORDER_LINE = re.compile(f"order {NUMBER} unit {ADDRESS} "
+                        "(?:same|other ([0-9A-F]{2}) [0-9A-F]{2}|short|format|silent)")
+LAST_LINE = re.compile(f"unit ({ADDRESS}) last [0-9A-F]{{2}}")
 DRIVE_FAULTS = {"1 Journal": 2, "2 Link": 2, "3 Line": 1, "4 End": 1, "6 TooLong": 1}
 
 
@@ -205,17 +211,74 @@ def runs_of(stdout):
     return "".join(line + "\n" for line in lines[:-1]).encode()
 
 
+def judge_drive_head(told, sent):
+    """Judge the lines of refused items and of a file's fault, if it is these that were told; tell whether it is."""
+    refused = [re.fullmatch(f"item ({NUMBER}) fault .*", line) for line in told]
+    if any(refused):
+        assert not sent and all(found and is_item_fault(found[0], "item", found[1]) for found in refused), told
+        return True
+    if told and (JOURNAL_FAULT.fullmatch(told[-1]) or is_file_fault(told[-1])):
+        assert len(told) == 1 and not sent, (told, sent)
+        return True
+    return False
+
+
 def judge_drive(status, stdout, stderr):
     """Judge what `drive` printed: frames to standard output, and all else to standard error."""
     sent, told = lines_of(stdout), lines_of(stderr)
     assert all(re.fullmatch("[0-9A-F]{4}", line) for line in sent), sent
-    if told and (JOURNAL_FAULT.fullmatch(told[-1]) or is_file_fault(told[-1])):
-        assert len(told) == 1 and not sent, (told, sent)
-        return check_status(status, 1)
-    refused = [re.fullmatch(f"item ({NUMBER}) fault .*", line) for line in told]
-    if any(refused):
-        assert not sent and all(found and is_item_fault(found[0], "item", found[1]) for found in refused), told
+    if judge_drive_head(told, sent):
         return check_status(status, 1)
     fault = re.fullmatch("drive fault (.*)", told[-1]) if told else None
     assert all(REPLY.fullmatch(line) for line in (told[:-1] if fault else told)), told
     check_status(status, DRIVE_FAULTS[fault[1]] if fault else 0)
+
+
+def judge_link(status, stdout, stderr):
+    """Judge what a command sent that only reads, and its fault; give its other lines, and the status, or None there."""
+    sent, told = lines_of(stdout), lines_of(stderr)
+    check_passive(stdout)
+    fault = re.fullmatch("drive fault (.*)", told[-1]) if told else None
+    if fault:
+        check_status(status, DRIVE_FAULTS[fault[1]])
+        assert fault[1] != "1 Journal" and sent, told
+    return (told[:-1], None) if fault else (told, status)
+
+
+def judge_read(status, stdout, stderr):
+    """Judge what `read` printed."""
+    told, ended = judge_link(status, stdout, stderr)
+    if ended is None:
+        assert told == [], told
+        return None
+    found = re.fullmatch(f"unit {ADDRESS} (?:silent|bytes ([0-9]+))", told[0])
+    assert len(told) == 1 and found and (found[1] is None or 1 <= int(found[1]) <= 255), told
+    return check_status(ended, 1 if found[1] is None else 0)
+
+
+def judge_verify(status, stdout, stderr):
+    """Judge what `verify` printed."""
+    if judge_drive_head(lines_of(stderr), lines_of(stdout)):
+        return check_status(status, 1)
+    told, ended = judge_link(status, stdout, stderr)
+    found = [ORDER_LINE.fullmatch(line) for line in told]
+    assert all(found), told
+    assert all(it[1] is None or 0x03 <= int(it[1], 16) <= 0x77 for it in found), told
+    if ended is None:
+        return None
+    return check_status(ended, 0 if all(line.endswith(" same") for line in told) else 1)
+
+
+def judge_scan(status, stdout, stderr):
+    """Judge what `scan` printed."""
+    told, ended = judge_link(status, stdout, stderr)
+    if ended is not None:
+        assert told and told.pop() == f"units {len(told)}", told
+        check_status(ended, 0)
+    found = [LAST_LINE.fullmatch(line) for line in told]
+    assert all(found), told
+    addresses = [int(it[1]) for it in found]
+    assert addresses == sorted(set(addresses)), addresses
+
+
+JUDGES = {"read": judge_read, "verify": judge_verify, "scan": judge_scan}

@@ -1,0 +1,255 @@
+"""Tests of `verify` over simulated units: each finding, its frames, with losses, and behind `drive` with its kills."""
+
+import copy
+import subprocess
+
+import driven
+from drive_desk import GTIN, desk_of, parts, want
+from drive_units import BLANK, CHANGED_BY_KILLS, SCENES, bank_of, finish, whole_run
+from driven import groups_of, simulated_link
+from read_desk import Changing, Reading, WithBank0, bus_of, full_orders, unit_of
+from read_plan import bytes_of, compared
+
+# Orders for unit 5, and how many frames their locations take, each row of neighbours its own blocks, besides those of
+# the last location and of the format.
+ROWS = [
+    ({"gtin": GTIN}, 12),
+    ({"identification": "0011223344556677"}, 14),
+    ({"gtin": GTIN, "identification": "0011223344556677"}, 20),
+    ({"year": 24}, 7),
+    ({"year": 24, "week": 53}, 8),
+    ({"gtin": GTIN, "week": 53}, 12 + 7),
+    ({"year": 24, "input_power": 40, "cri": 80}, 7 + 8 + 7),
+    ({"distribution": 1, "colour": "RAL 9016"}, 22 + 15),
+    ({"cct": 4000, "distribution": 1}, 9),
+    ({"luminaire": "Panel"}, 3 * 22 + 18),
+    ({"colour": "RAL 9016", "luminaire": "Panel"}, 5 * 22 + 10),
+    ({"min_voltage": None, "gtin": None}, 12 + 8),
+]
+FULL = full_orders()
+FULL_FRAMES = 7 + 8 + 20 + 6 * 22 + 11
+
+
+def order_of(number=1, unit=5, **fields):
+    """Give an order."""
+    return {"order": number, "unit": unit, **fields}
+
+
+def held_by(bank, *orders):
+    """Give a bank that holds what these orders write."""
+    held = bytearray(bank)
+    for order in orders:
+        for location, byte in bytes_of(order).items():
+            held[location] = byte
+    return bytes(held)
+
+
+def line_by_bank(order, units):
+    """Give the line of an order by what stands in the banks, of units that answer."""
+    bank = {unit.short_address: unit.banks[1] for unit in units}.get(order["unit"])
+    updates = bytes_of(order)
+    if bank is None:
+        word = "silent"
+    elif bank[0] < max(updates):
+        word = "short"
+    elif max(updates) >= 0x13 and bank[0x11:0x13] != b"\x00\x03":
+        word = "format"
+    else:
+        word = compared(updates, bank)
+    return f"order {order['order']} unit {order['unit']} {word}"
+
+
+def verify(folder, orders, bus, lines=None, frames=None):
+    """Compare the units of a bus with orders; what is told has to be as the banks are, and as the plan has it."""
+    before = bus.frames
+    wanted = Reading(folder, "verify", orders=orders).run(bus)
+    by_bank = [line_by_bank(order, bus.units) for order in orders]
+    want(wanted.told.splitlines(), by_bank if lines is None else lines)
+    want(wanted.status, 0 if all(line.endswith(" same") for line in wanted.told.splitlines()) else 1)
+    if frames is not None:
+        want(bus.frames - before, frames)
+
+
+def test_rows(folder):
+    for fields, frames in ROWS:
+        order = order_of(**fields)
+        frames += 7 + 8 * (max(bytes_of(order)) >= 0x13)
+        unit = simulated_link.Unit(5, held_by(BLANK, order))
+        verify(folder, [order], bus_of(unit), ["order 1 unit 5 same"], frames)
+    verify(folder, FULL, bus_of(simulated_link.Unit(5, held_by(BLANK, *FULL))), ["order 1 unit 5 same"], FULL_FRAMES)
+    verify(folder, [], bus_of(), [], 0)
+
+
+@parts(2)
+def test_each_other_byte(folder, part, count):
+    held, updates = held_by(BLANK, *FULL), bytes_of(FULL[0])
+    for location in range(part, len(held), count):
+        bank = bytearray(held)
+        if location not in (0x00, 0x02, 0x11, 0x12):
+            bank[location] ^= 0x40
+        line = f"other {location:02X} {bank[location]:02X}" if location in updates else "same"
+        if location in updates:
+            # A later one that is another too isn't told.
+            bank[0x77] ^= 0x01
+        bus = bus_of(simulated_link.Unit(5, bytes(bank)))
+        line = f"order 1 unit 5 {line if location != 0x77 else f'other 77 {bank[0x77]:02X}'}"
+        verify(folder, FULL, bus, [line], FULL_FRAMES)
+
+
+def test_short_banks(folder):
+    for fields, greatest in [({"year": 24}, 0x13), ({"week": 5}, 0x14), ({"cct": 4000}, 0x22),
+                             ({"luminaire": "A"}, 0x77)]:
+        order = order_of(**fields)
+        verify(folder, [order], bus_of(simulated_link.Unit(5, bank_of(greatest))), ["order 1 unit 5 short"], 7)
+        for length in (greatest + 1, min(greatest + 2, 0x78)):
+            unit = simulated_link.Unit(5, held_by(bank_of(length), order))
+            verify(folder, [order], bus_of(unit), ["order 1 unit 5 same"])
+    for last, word in [(0x07, "short"), (0x08, "other 03 FF"), (0x00, "short"), (0xFF, "other 03 FF")]:
+        bus = bus_of(Changing(5, BLANK, {1: (0x00, last)}))
+        verify(folder, [order_of(gtin=GTIN)], bus, [f"order 1 unit 5 {word}"], 7 if word == "short" else 19)
+
+
+def test_formats(folder):
+    for first, second in [(0, 4), (1, 3), (0xFF, 0xFF), (3, 0), (0, 0)]:
+        bus = bus_of(simulated_link.Unit(5, bank_of(0x78, x11=first, x12=second)))
+        verify(folder, [order_of(gtin=GTIN, year=24)], bus, ["order 1 unit 5 format"], 15)
+        verify(folder, [order_of(year=24)], bus, ["order 1 unit 5 format"], 15)
+        verify(folder, [order_of(gtin=GTIN)], bus, ["order 1 unit 5 other 03 FF"], 19)
+    # Too short and of another format is told as short.
+    bus = bus_of(simulated_link.Unit(5, bank_of(0x13, x11=1)))
+    verify(folder, [order_of(year=24)], bus, ["order 1 unit 5 short"], 7)
+
+
+def test_several_orders(folder):
+    gtin, other = order_of(1, gtin=GTIN), order_of(2, gtin="96385074")
+    year, absent = order_of(2 ** 64 - 1, 6, year=24), order_of(0, 63, week=1)
+    units = [simulated_link.Unit(5, held_by(BLANK, gtin, other)), simulated_link.Unit(6, held_by(BLANK, year))]
+    lines = [f"order 1 unit 5 {compared(bytes_of(gtin), units[0].banks[1])}", "order 2 unit 5 same",
+             "order 18446744073709551615 unit 6 same", "order 0 unit 63 silent", "order 2 unit 5 same"]
+    assert " other 0" in lines[0], lines
+    verify(folder, [gtin, other, year, absent, other], bus_of(*units), lines, 19 + 19 + 22 + 16 + 19)
+
+
+def test_each_loss(folder):
+    orders = [order_of(gtin=GTIN, week=53)]
+    for frame in range(1, 35):
+        for losses in ({"lost_frames": [frame]}, {"lost_answers": [frame]}, {"lost_power": [(5, frame)]}):
+            bus = bus_of(WithBank0(5, held_by(BLANK, *orders)), **losses)
+            verify(folder, orders, bus, ["order 1 unit 5 same"])
+            assert bus.frames <= 34 + 12, (losses, bus.frames)
+
+
+def test_a_block_that_stays_silent(folder):
+    orders = [order_of(gtin=GTIN, week=53), order_of(2, gtin=GTIN)]
+    for first in (1, 8, 16, 28):
+        bus = bus_of(simulated_link.Unit(5, held_by(BLANK, *orders)),
+                     lost_answers=[first - 1 + 2 * turn for turn in range(1, 9)])
+        verify(folder, orders, bus, ["order 1 unit 5 silent", "order 2 unit 5 same"], first - 1 + 16 + 19)
+        bus = bus_of(simulated_link.Unit(5, held_by(BLANK, *orders)),
+                     lost_answers=[first - 1 + 2 * turn for turn in range(1, 8)])
+        verify(folder, orders, bus, ["order 1 unit 5 same", "order 2 unit 5 same"], 34 + 14 + 19)
+
+
+def test_over_the_simulated_adapter(folder):
+    orders = [order_of(gtin=GTIN), order_of(2, 9, year=24)]
+    drive, desk = desk_of(folder, orders), Reading(folder, "verify", orders=orders)
+    adapter = [driven.ROOT / "examples" / "desk" / "simulated_link.py", "--folder", folder, "--lose-answer", "5,50",
+               "--unit", "5", "--"]
+    for words, status, told in [
+            (desk.words(), 1, "order 1 unit 5 other 03 FF\norder 2 unit 9 silent\n"),
+            (drive.words(), 0, "reply 1 taken\nreply 1 kept 0 Done\nreply 2 taken\nreply 2 kept 3 Silent\n"),
+            (desk.words(), 1, "order 1 unit 5 same\norder 2 unit 9 silent\n")]:
+        ended = subprocess.run([*adapter, *words], capture_output=True, text=True, timeout=driven.PATIENCE)
+        want((ended.returncode, ended.stdout, ended.stderr), (status, "", told))
+
+
+# Behind `drive`
+
+
+def done_lines(orders, data):
+    """Give the lines that the journal's bytes promise: of orders that are done, and not written over by a later one."""
+    groups, lines = groups_of(data), {}
+    for at, group in enumerate(groups):
+        later = {location for more in groups[at + 1:] if more.unit == group.unit and more.is_opened
+                 for location, _ in more.updates}
+        if group.is_done() and not later & {location for location, _ in group.updates}:
+            lines[group.number] = f"order {group.number} unit {group.unit} same"
+    return [lines.get(order["order"]) for order in orders]
+
+
+def verify_after(folder, scene, bus, data):
+    """Verify a scene's orders over its bus, with more losses, where the journal holds these bytes."""
+    losses = bus.lost_frames, bus.lost_answers, bus.lost_power
+    bus.lost_frames, bus.lost_power = {bus.frames + at for at in (3, 20, 61)}, set()
+    bus.lost_answers = {bus.frames + at for at in (9, 40, 41)}
+    promised = done_lines(scene.orders, data)
+    lines = [line_by_bank(order, bus.units) for order in scene.orders]
+    assert all(line in (None, found) for line, found in zip(promised, lines)), (promised, lines)
+    frames = bus.frames
+    verify(folder, scene.orders, bus, lines)
+    bus.lost_frames, bus.lost_answers, bus.lost_power = losses
+    # As though nobody had asked, so that the scene's losses come where they were to come.
+    bus.frames = frames
+    return promised, lines
+
+
+def test_behind_whole_runs(folder):
+    same = {"lossy": ["same", "short", "silent", "same"], "doubtful": ["other 05 FF", "format", "same"],
+            "all fields": ["same"]}
+    for name, scene in SCENES.items():
+        room = folder / name
+        room.mkdir()
+        desk, bus, ended = whole_run(room, scene)
+        promised, lines = verify_after(room, scene, bus, desk.held())
+        is_done = [f"reply {order['order']} kept 0 Done" in ended.told.splitlines() for order in scene.orders]
+        want((name, [line is not None for line in promised]), (name, is_done))
+        if name in same:
+            want((name, [line.split(" ", 4)[4] for line in lines]), (name, same[name]))
+
+
+@parts(4)
+def test_behind_killed_runs(folder, part, count):
+    for name, scene in SCENES.items():
+        room = folder / name
+        room.mkdir()
+        desk, _, ended = whole_run(room, scene)
+        total, codes = len(ended.sent) // 5, None if name in CHANGED_BY_KILLS else scene.codes
+        step = max(7, total // 30)
+        for frame in range(1 + part * step, total + 1, count * step):
+            try:
+                desk.journal.write_bytes(b"")
+                bus = scene.bus()
+                desk.over(bus, (frame, "carried"))
+                verify_after(room, scene, bus, desk.held())
+                # Reading between a kill and the next run changes nothing of what that does.
+                finish(desk, scene, bus, codes)
+                verify_after(room, scene, bus, desk.held())
+            except Exception as fault:
+                raise AssertionError(f"{name}, killed once frame {frame} was carried") from fault
+
+
+def test_a_unit_that_drive_left_open(folder):
+    order = order_of(gtin=GTIN)
+    unit = simulated_link.Unit(5)
+    desk, bus = desk_of(folder, [order]), bus_of(unit)
+    desk.over(bus, (40, "carried"))
+    want((unit.banks[1][2], 0x03 in unit.banks[1][3:9]), (simulated_link.OPEN, True))
+    before = copy.deepcopy(unit.banks)
+    verify(folder, [order], bus)
+    Reading(folder, "read").run(bus)
+    want((unit.banks, unit.is_enabled), (before, False))
+    want((desk.over(bus).told, unit.banks[1][2]), ("reply 1 kept 0 Done\n" * 2, simulated_link.SHUT))
+    verify(folder, [order], bus, ["order 1 unit 5 same"])
+
+
+def test_read_shows_what_drive_wrote(folder):
+    desk, bus = desk_of(folder, FULL), bus_of(unit_of(255))
+    desk.over(bus)
+    reading = Reading(folder)
+    reading.over(bus)
+    held = bytes.fromhex(reading.text())
+    want(held, bytes(bus.units[0].banks[1]))
+    want({location: held[location] for location in bytes_of(FULL[0])}, bytes_of(FULL[0]))
+    shown = subprocess.run([reading.program, "show", reading.bank], capture_output=True, text=True).stdout.splitlines()
+    for line in ("gtin 04006381333931", "year 24", "week 53", "input_power 40", "luminaire text " + 60 * "B"):
+        assert line in shown, shown

@@ -100,9 +100,6 @@ breaks_later told before frame fault first mid last text broke = record {
 
 -- One try of a block
 
-pub try_begins : (unit : ℕ) (block : Block) (first : Streams) → TriedTo unit block [] 0 first first
-try_begins unit block first = record { told = []; try = refl; bytes_are = refl; text = told_nothing first }
-
 -- the request of a number is the first of those that are left
 left_behind : (requests : List Request) (number : ℕ) (next : Request) → slice_get requests number ≡ Some next
     → drop number requests ≡ next ∷ drop (suc number) requests
@@ -259,9 +256,6 @@ few_requests unit block number next fits is =
 
 -- One block
 
-pub no_miss : (unit : ℕ) (block : Block) (first : Streams) → MissedSoOften unit block 0 first first
-no_miss unit block first = record { told = []; misses_are = refl; text = told_nothing first }
-
 pub one_miss_more : (unit : ℕ) (block : Block) (misses : ℕ) (first mid last : Streams)
     → MissedSoOften unit block misses first mid → TryMissed unit block mid last
     → MissedSoOften unit block (misses + 1) first last
@@ -291,14 +285,6 @@ block_told unit block bytes misses first mid last m few t = record {
   text = told_both t.told m.told first mid last m.text t.text;
 }
 
-pub block_failed : (unit : ℕ) (block : Block) (misses : ℕ) (first last : Streams)
-    → MissedSoOften unit block misses first last → misses ≡ most_tries → BlockFailed unit block first last
-block_failed unit block misses first last m all = record {
-  told = m.told;
-  fails = subst (λ (n : ℕ). Misses (block_requests unit block) n m.told) all m.misses_are;
-  text = m.text;
-}
-
 pub block_breaks : (unit : ℕ) (block : Block) (misses : ℕ) (first mid last : Streams) (fault : DriveFault)
     → MissedSoOften unit block misses first mid → misses < most_tries → TryBroke unit block fault mid last
     → BlockBroke unit block fault first last
@@ -322,10 +308,6 @@ block_breaks unit block misses first mid last fault m few t = record {
 
 -- A whole reading
 
-pub reading_begins : (unit : ℕ) (course : Course) (first : Streams) → ReadSoFar unit course [] first first
-reading_begins unit course first =
-    record { done = []; in_turn = tt; bytes_are = refl; text = told_nothing first }
-
 -- the block that is next, after the bytes that were read
 next_is : (unit : ℕ) (course : Course) (bytes : List ℕ) (first mid : Streams) (block : Block)
     → (r : ReadSoFar unit course bytes first mid) → course bytes ≡ Some block → course (bytes_in r.done) ≡ Some block
@@ -339,15 +321,6 @@ reading_goes_on unit course bytes more all first mid last block joined r fits ne
   in_turn = (r.in_turn, fits, next_is unit course bytes first mid block r next, t.succeeds);
   bytes_are = ap (λ (l : List ℕ). l ++ more) r.bytes_are ∙ sym joined;
   text = told_both t.told (told_in r.done) first mid last r.text t.text;
-}
-
-pub reading_ends : (unit : ℕ) (course : Course) (bytes : List ℕ) (first last : Streams)
-    → ReadSoFar unit course bytes first last → course bytes ≡ None
-    → IsUnitRead unit course (Some bytes) first last
-reading_ends unit course bytes first last r over = record {
-  told = told_in r.done;
-  ends = record { done = r.done; in_turn = r.in_turn; bytes_are = r.bytes_are; told_are = refl; over = over };
-  text = r.text;
 }
 
 pub reading_is_silent : (unit : ℕ) (course : Course) (bytes : List ℕ) (first mid last : Streams) (block : Block)

@@ -1,10 +1,10 @@
 -- How surveys of units go on, report by report, and how they are broken off.
 use Rattle.std.proofs.Common.{◌≡◌, ◌<◌, ◌∙◌, ◌↔◌, refl, sym, ap, subst, ℕ, List, [], ◌∷◌, ◌++◌, Option, Some, None, Bool, true, false}
-use Rattle.std.proofs.Common.{is_some, suc, ◌+◌, ◌≤◌, length, take, drop, drop-cons, reverse, get_or, arith}
+use Rattle.std.proofs.Common.{is_some, suc, ◌+◌, length, take, drop, drop-cons, reverse, get_or, arith}
 use Rattle.std.proofs.Common.{◌&&◌, if◌then◌else◌}
-use Rattle.std.proofs.lemmas.List.{take_more, take_all, take-append-drop, reverse-append, reverse-reverse}
+use Rattle.std.proofs.lemmas.List.{take_more, take-append-drop, reverse-append, reverse-reverse}
 use Rattle.std.specs.Io.KnownBytes.{Appends}
-use Rattle.std.proofs.KnownBytes.{Appends-trans, Appends-nil, Keeps-refl}
+use Rattle.std.proofs.KnownBytes.{Appends-trans, Keeps-refl}
 use Rattle.dali_bank.specs.Order.{Contents}
 use Rattle.dali_read.specs.Readings.{Course}
 use Rattle.dali_read.specs.Places.{last_course, order_course}
@@ -22,12 +22,7 @@ use Rattle.dali_drive.specs.UnitRead.{IsUnitRead, UnitReadBroke}
 use Rattle.dali_drive.specs.Surveys.{Report, Surveyed, Reported, BreaksReport, IsScanReport, IsOrderReport, IsSame}
 use Rattle.dali_drive.specs.Surveys.{TellsLast, TellsOrder, all_told, answered, link_of, addresses_below}
 use Rattle.dali_drive.proofs.DriveLemmas.{IsCut}
-use Rattle.dali_drive.proofs.ReadingLemmas.{told_nothing, told_both}
-
-pub surveyed_nothing : {A : Type 0} (is_report : Report A → Type 0) (first : Streams)
-    → Surveyed is_report [] first first
-surveyed_nothing is_report first =
-    record { each = tt; link = told_nothing (link_of first); out = Appends-nil first.out }
+use Rattle.dali_drive.proofs.ReadingLemmas.{told_both}
 
 pub surveyed_more : {A : Type 0} (is_report : Report A → Type 0) (reports : List (Report A)) (item : A)
     (is_so : Report A → Type 0) (first mid last : Streams)
@@ -148,12 +143,6 @@ pub items_more : (orders : List Contents) (index : ℕ) (d order : Contents) (it
 items_more orders index d order items below is so =
     rw (is, so) (sym (ap (λ (l : List Contents). reverse l) (take_more orders index d below)
     ∙ reverse-append (take index orders) (get_or orders index d ∷ [])))
-
--- all of them, where all were gone through
-pub items_all : (orders : List Contents) (index : ℕ) (items : List Contents) → length orders ≤ index
-    → items ≡ reverse (take index orders) → reverse items ≡ orders
-items_all orders index items all so =
-    ap (λ (l : List Contents). reverse l) so ∙ reverse-reverse (take index orders) ∙ take_all index orders all
 
 -- those that are left
 pub items_left : (orders : List Contents) (index : ℕ) (d order : Contents) (items : List Contents)

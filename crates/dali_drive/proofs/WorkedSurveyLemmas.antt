@@ -52,10 +52,10 @@ lines_are = (
   rw (decimal_digit 6 (omega arith)) refl,
 )
 
-near_head : order_head near_order ≡ codes "order 7 unit 1"
+pub near_head : order_head near_order ≡ codes "order 7 unit 1"
 near_head = rw (decimal_digit 7 (omega arith), decimal_digit 1 (omega arith)) refl
 
-far_head : order_head far_order ≡ codes "order 8 unit 0"
+pub far_head : order_head far_order ≡ codes "order 8 unit 0"
 far_head = rw (decimal_digit 8 (omega arith), decimal_digit 0 (omega arith)) refl
 
 pub findings_are : (finding_line near_order Same ≡ codes "order 7 unit 1 same\n")

@@ -1,6 +1,6 @@
 -- The exchanges of whole block reads, part by part.
-use Rattle.std.proofs.Common.{◌≡◌, inl, inr, refl, sym, ap, subst, ◌∙◌, ℕ, zero, suc, ◌+◌, ◌≤◌, ◌<◌, List, []}
-use Rattle.std.proofs.Common.{◌∷◌, ◌++◌, length, length-append, drop, Some, slice_get, IsSome, arith}
+use Rattle.std.proofs.Common.{◌≡◌, inl, inr, refl, sym, ap, subst, ◌∙◌, ℕ, zero, suc, ◌+◌, ◌≤◌, List, []}
+use Rattle.std.proofs.Common.{◌∷◌, ◌++◌, length, length-append, drop, IsSome, arith}
 use Rattle.std.specs.Prelude.{⊤}
 use Rattle.std.proofs.lemmas.List.{nil_from_length, length-replicate}
 use Rattle.std.proofs.Math.Seq.{drop-append_seam}
@@ -168,37 +168,3 @@ block_frames_are unit block =
     let n = reads_length unit block.count in
     let all = length-append (reads unit block.count) (back_requests unit place) in
     omega arith
-
--- the requests of a block read by their numbers
-reads_at : (unit count number : ℕ) (back : List Request) → number < count
-    → slice_get (reads unit count ++ back) number ≡ Some (request (Read unit) Anything)
-reads_at unit zero number back below = absurd (omega arith)
-reads_at unit (suc count) zero back below = refl
-reads_at unit (suc count) (suc number) back below = reads_at unit count number back (omega arith)
-
-reads_past : (unit count number k : ℕ) (back : List Request) → number ≡ count + k
-    → slice_get (reads unit count ++ back) number ≡ slice_get back k
-reads_past unit zero number k back is = let same : number ≡ k = omega arith in ap (λ (n : ℕ). slice_get back n) same
-reads_past unit (suc count) zero k back is = absurd (omega arith)
-reads_past unit (suc count) (suc number) k back is = reads_past unit count number k back (omega arith)
-
--- behind the first four requests are the reads
-pub block_at_read : (unit : ℕ) (block : Block) (number : ℕ) → 4 ≤ number → number < 4 + block.count
-    → slice_get (block_requests unit block) number ≡ Some (request (Read unit) Anything)
-block_at_read unit block zero past below = absurd (omega arith)
-block_at_read unit block (suc zero) past below = absurd (omega arith)
-block_at_read unit block (suc (suc zero)) past below = absurd (omega arith)
-block_at_read unit block (suc (suc (suc zero))) past below = absurd (omega arith)
-block_at_read unit block (suc (suc (suc (suc number)))) past below =
-    reads_at unit block.count number (back_requests unit (block.location + block.count)) (omega arith)
-
--- and behind the reads the last two
-pub block_behind : (unit : ℕ) (block : Block) (number k : ℕ) → number ≡ 4 + block.count + k
-    → slice_get (block_requests unit block) number
-    ≡ slice_get (back_requests unit (block.location + block.count)) k
-block_behind unit block zero k is = absurd (omega arith)
-block_behind unit block (suc zero) k is = absurd (omega arith)
-block_behind unit block (suc (suc zero)) k is = absurd (omega arith)
-block_behind unit block (suc (suc (suc zero))) k is = absurd (omega arith)
-block_behind unit block (suc (suc (suc (suc number)))) k is =
-    reads_past unit block.count number k (back_requests unit (block.location + block.count)) (omega arith)

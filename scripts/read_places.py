@@ -362,10 +362,16 @@ def test_two_readings_at_once(folder):
     desk = Reading(folder)
     desk.bank.write_text(BEFORE)
     first = desk.start(shim(desk, "sync new 1 pause"))
-    first.stdin.write(GIVEN_17)
-    os.waitid(os.P_PID, first.pid, os.WSTOPPED | os.WNOWAIT)
-    told = f"error: the file is in use by another reading of a unit: {desk.new()}\nfault 21 File\n"
-    want((desk.give(GIVEN_17), desk.text()), (Ended(2, SENT_17, told), BEFORE))
-    first.send_signal(signal.SIGCONT)
-    sent, said = first.communicate(timeout=driven.PATIENCE)
-    want((Ended(first.returncode, sent, said.decode()), desk.text()), (Ended(0, SENT_17, TOLD_17), TEXT_17))
+    try:
+        first.stdin.write(GIVEN_17)
+        first.stdin.close()
+        want(os.waitid(os.P_PID, first.pid, os.WSTOPPED | os.WEXITED | os.WNOWAIT).si_code, os.CLD_STOPPED)
+        told = f"error: the file is in use by another reading of a unit: {desk.new()}\nfault 21 File\n"
+        want((desk.give(GIVEN_17), desk.text()), (Ended(2, SENT_17, told), BEFORE))
+        first.send_signal(signal.SIGCONT)
+        sent, said, status = first.stdout.read(), first.stderr.read().decode(), first.wait(driven.PATIENCE)
+        want((Ended(status, sent, said), desk.text()), (Ended(0, SENT_17, TOLD_17), TEXT_17))
+    finally:
+        first.kill()
+        first.stdout.close()
+        first.stderr.close()

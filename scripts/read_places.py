@@ -18,10 +18,10 @@ from read_desk import GIVEN_17, SENT_17, SILENT, TEXT_17, TOLD_17, Reading
 
 SILENCE = b"--\n" * 16
 FOREIGN = "what stands in the way was not left by a reading of a unit"
-BEFORE = "as it was\n"
+BEFORE = "AC DC 05\n"
 # What a reading that was stopped may leave in HEXFILE.new, and what it can't have left.
-LEFT = ["", TEXT_17[:1], TEXT_17[:30], TEXT_17, "FF FF\n", "00 " * 255]
-NOT_LEFT = ["x", "10 A1 FF\r\n", "10 a1 ff\n", "10,A1", "G0", "\0", "00 " * 255 + "0", "DB1\x02"]
+LEFT = ["", TEXT_17[:1], TEXT_17[:30], TEXT_17, "FF FF\n", "10 A1 FF\r\n", "10\ta1 ff\n", "00 " * 255, "0" * 4096]
+NOT_LEFT = ["x", "10,A1", "G0", "\0", "0" * 4097, "DB1\x02"]
 
 
 def mode_of(path):
@@ -43,7 +43,7 @@ def test_a_new_file(folder):
 
 def test_a_file_that_was_there(folder):
     for mode in (0o640, 0o600, 0o755):
-        for before in (b"", BEFORE.encode(), TEXT_17.encode(), bytes(range(256)) * 40):
+        for before in (b"", BEFORE.encode(), TEXT_17.encode(), b"0\t" * 2048):
             desk = Reading(folder)
             desk.bank.write_bytes(before)
             desk.bank.chmod(mode)
@@ -52,6 +52,15 @@ def test_a_file_that_was_there(folder):
             # Another file has taken its place: who has opened the old one reads that to its end.
             want((mode, mode_of(desk.bank), desk.bank.stat().st_ino != inode), (mode, mode, True))
             desk.bank.unlink()
+
+
+def test_a_file_that_is_no_text_of_a_bank(folder):
+    told = "error: what is there is no text of a bank: {}\nfault 21 File\n"
+    for before in (bytes(range(256)), driven.HEADER, b"[]", b"B" + bytes(40), b"0" * 4097, b"unit 5\n"):
+        desk = Reading(folder)
+        desk.bank.write_bytes(before)
+        want((before, desk.give(GIVEN_17)), (before, Ended(2, SENT_17, told.format(desk.bank))))
+        want((desk.bank.read_bytes(), desk.new().exists()), (before, False))
 
 
 def test_an_old_file_stays_whole_for_its_reader(folder):

@@ -1,5 +1,6 @@
 //! A bench for luminaire data in memory bank 1 of DALI control gear.
 #![tactic(auto)]
+
 ghost use Rattle.dali_commands.specs.LinkCommands.{IsShort};
 
 use dali_commands::drive::DriveNames;

@@ -18,10 +18,7 @@ use std::io::{Read, Write};
 #[derive(Clone, Copy)]
 pub enum LinkCommand<'a> {
     /// `drive`, over orders and a journal, at this moment.
-    Drive {
-        names: DriveNames<'a>,
-        moment: u64,
-    },
+    Drive { names: DriveNames<'a>, moment: u64 },
     /// `read`, of the unit at a short address into a file.
     Read { unit: u8, bank: &'a str },
     /// `verify`, over orders.

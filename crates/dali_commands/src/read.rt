@@ -45,11 +45,7 @@ pub fn read_bank<I: Source, L: Sink, S: Store, W: Write>(
     match read_unit(unit, &Places::Bank, link_in, link_out) {
         Ok(Some(bytes)) => {
             if store.replace(&text_of(&bytes)) {
-                tell_line(
-                    lines,
-                    &bytes_line(unit, bytes.len() as u8),
-                    Status::Good,
-                )
+                tell_line(lines, &bytes_line(unit, bytes.len() as u8), Status::Good)
             } else {
                 tell_unusable(alloc, &mut lines.output, name, store.cause())
             }

@@ -1,8 +1,15 @@
 //! Laws of drives, over their definitions alone. Each is the contract of a function that does nothing.
 
-ghost use Rattle.std.specs.Prelude.{◌≡◌, ℕ, List, Some};
+ghost use Rattle.std.specs.Prelude.{◌≡◌, ◌∷◌, ◌⊎◌, ℕ, List, Option, Some};
 ghost use Rattle.dali_bank.specs.Order.{Contents};
 ghost use Rattle.dali_bus.specs.World.{World};
+ghost use Rattle.dali_bus.specs.Carry.{WorldStep};
+ghost use Rattle.dali_write.specs.Worlds.{IsAmong, KeepsAt, Run};
+ghost use Rattle.dali_read.specs.declared.finding.Finding.{Finding};
+ghost use Rattle.dali_read.specs.Findings.{IsFound};
+ghost use Rattle.dali_read.specs.Places.{bank_course, order_course};
+ghost use Rattle.dali_read.specs.Readings.{Course};
+ghost use Rattle.dali_read.specs.Shown.{Finds, ShowsBank, WhenTold};
 ghost use Rattle.dali_trace.specs.declared.happening.Happening.{Happening};
 ghost use Rattle.dali_trace.specs.Trace.{Start};
 ghost use Rattle.dali_trace.specs.Moments.{Along};
@@ -19,6 +26,7 @@ ghost use Rattle.dali_drive.specs.Stored.{IsBegun, IsStoredDrive, IsPartBehind};
 ghost use Rattle.dali_drive.specs.Sittings.{CameToItsEnd, BrokeOff};
 ghost use Rattle.dali_drive.specs.Kills.{StoodOnce};
 ghost use Rattle.dali_drive.specs.Repeats.{IsSameFile, HaveSat, ActOnce};
+ghost use Rattle.dali_drive.specs.UnitRead.{IsUnitRead, UnitReadBroke};
 
 /// What a call of `drive_stored` leaves, by its contract: where it came to its end, just its trace; where it broke off,
 /// whatever a stop may leave of it bears out something that may have happened; and where no journal was opened, the
@@ -69,4 +77,33 @@ pub fn drives_act_once()
         → unpowered past ≡ joined sittings → IsPowerApart past
         → Along zero lost start now past last states
         → ActOnce zero lost start sittings left past last states }
+{}
+
+/// What a call of `read_unit` gives, by its contract, along every chain of worlds over any bus, with losses of power
+/// anywhere. Each byte of a bank, and each that something found of an order rests on, stood at its location when its
+/// read reached the unit, which had its power from the second frame of its block to the last.
+pub fn what_is_read_was_there()
+    ensures bank { (loses : List ℕ) (unit : ℕ) (bytes : List ℕ) (first last : Streams)
+        (read : IsUnitRead unit bank_course (Some bytes) first last) (begun ended : World)
+        → Run WorldStep (IsAmong loses) read.told begun ended
+        → ShowsBank (WhenTold (IsAmong loses) read.told begun ended unit) bytes }
+    ensures order { (loses : List ℕ) (unit : ℕ) (updates : List (ℕ × ℕ)) (bytes : List ℕ) (finding : Finding)
+        (first last : Streams) (read : IsUnitRead unit (order_course updates) (Some bytes) first last)
+        (begun ended : World)
+        → IsFound updates bytes finding → Run WorldStep (IsAmong loses) read.told begun ended
+        → Finds (WhenTold (IsAmong loses) read.told begun ended unit) updates finding }
+{}
+
+/// Wherever a call of `read_unit` ends or breaks off, along every such chain no memory changes but lock bytes of units
+/// that lose their power, and no unit is enabled by it; the frame at hand may have been carried then, with any answer.
+pub fn what_is_read_stays()
+    ensures ended { (loses : List ℕ) (unit : ℕ) (course : Course) (outcome : Option (List ℕ)) (first last : Streams)
+        (read : IsUnitRead unit course outcome first last) (begun ended : World)
+        → Run WorldStep (IsAmong loses) read.told begun ended
+        → (address : ℕ) → KeepsAt (IsAmong loses) begun ended address }
+    ensures broken { (loses : List ℕ) (unit : ℕ) (course : Course) (fault : DriveFault) (first last : Streams)
+        (broke : UnitReadBroke unit course fault first last) (answer : Option ℕ) (begun ended : World)
+        → Run WorldStep (IsAmong loses) broke.told begun ended
+        ⊎ Run WorldStep (IsAmong loses) (record { frame = broke.frame; answer = answer } ∷ broke.told) begun ended
+        → (address : ℕ) → KeepsAt (IsAmong loses) begun ended address }
 {}

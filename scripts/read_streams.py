@@ -269,7 +269,7 @@ def test_each_allocation_refused(folder):
                 continue
             # Before the words are read it isn't known that the command has a link. Once a unit is read it is HEXFILE
             # that there is no memory for.
-            line = told or ended.sent.decode()
+            line = told if "fault" in told else ended.sent.decode()
             fault = "fault 21 File" if ended.sent == wanted.sent else "fault 20 Memory"
             want((command, number, ended.status, line.splitlines()[-1]), (command, number, 2, fault))
             assert ended.sent in (b"", wanted.sent) or number <= 8, (command, number, ended)

@@ -55,7 +55,7 @@ def test_banks_of_each_kind_of_length(folder):
 
 def test_an_absent_unit(folder):
     desk = Reading(folder)
-    for before in (None, "as it was"):
+    for before in (None, "AC DC 05"):
         for bus in (bus_of(), bus_of(unit_of(17, 6))):
             if before:
                 desk.bank.write_text(before)
@@ -194,7 +194,7 @@ def test_read_again_takes_the_place(folder):
 
 
 def test_kills_at_each_frame(folder):
-    for before in (None, "as it was"):
+    for before in (None, "AC DC 05"):
         for frame in range(1, 30):
             for moment in ("sent", "carried"):
                 desk, bus = Reading(folder), bus_of(unit_of(17))

@@ -209,7 +209,7 @@ fn a_text_takes_the_place_of_a_file(rt: HostRuntime) -> Result<(), Fail> {
 
 // Puts a text in the place of a file while these bytes stand in the way, and tests whether that is done.
 fn judge_in_the_way(rt: &HostRuntime, in_the_way: &[u8], is_left: bool) -> Result<(), Fail> {
-    fs::write(rt, "store_files.kept", b"old")?;
+    fs::write(rt, "store_files.kept", b"11\n")?;
     fs::write(rt, "store_files.kept.new", in_the_way)?;
     let mut file = FileStore::for_text(rt, "store_files.kept");
     expect_that(
@@ -217,7 +217,7 @@ fn judge_in_the_way(rt: &HostRuntime, in_the_way: &[u8], is_left: bool) -> Resul
         "done where a reading left it",
     )?;
     let held = fs::read(rt, "store_files.kept")?;
-    let wanted = if is_left { "33\n" } else { "old" };
+    let wanted = if is_left { "33\n" } else { "11\n" };
     expect_that(held.as_slice() == wanted.as_bytes(), "what the file has")?;
     if !is_left {
         let new = fs::read(rt, "store_files.kept.new")?;
@@ -236,10 +236,11 @@ fn judge_in_the_way(rt: &HostRuntime, in_the_way: &[u8], is_left: bool) -> Resul
 fn what_stands_in_the_way_of_a_text(rt: HostRuntime) -> Result<(), Fail> {
     judge_in_the_way(&rt, b"", true)?;
     judge_in_the_way(&rt, b"09 AF\n1", true)?;
-    judge_in_the_way(&rt, &[b'0'; 765], true)?;
-    judge_in_the_way(&rt, &[b'0'; 766], false)?;
-    judge_in_the_way(&rt, b"09 af\n", false)?;
-    judge_in_the_way(&rt, b"09\t", false)
+    judge_in_the_way(&rt, b"09\taf\r\n", true)?;
+    judge_in_the_way(&rt, &[b'0'; 4096], true)?;
+    judge_in_the_way(&rt, &[b'0'; 4097], false)?;
+    judge_in_the_way(&rt, b"09 AG\n", false)?;
+    judge_in_the_way(&rt, b"DB1\x02", false)
 }
 
 #[test]

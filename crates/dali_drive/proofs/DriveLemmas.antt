@@ -9,13 +9,14 @@ use Rattle.dali_bank.specs.Order.{Contents}
 use Rattle.dali_journal.specs.declared.record.Record.{Record}
 use Rattle.dali_journal.specs.declared.version.Version.TheVariants.{Two}
 use Rattle.dali_journal.specs.Spelling.{spelling, IsRecord}
+use Rattle.dali_journal.specs.JournalState.{JournalState}
 use Rattle.dali_trace.specs.declared.happening.Reply.{Reply}
 use Rattle.dali_trace.specs.declared.happening.Reply.TheVariants as replies
 use Rattle.dali_trace.specs.declared.happening.Happening.{Happening}
 use Rattle.dali_trace.specs.declared.happening.Happening.TheVariants.{Asked, Answered, Sent, Kept}
 use Rattle.dali_drive.specs.declared.fault.DriveFault.{DriveFault}
 use Rattle.dali_drive.specs.declared.fault.DriveFault.TheVariants.{Journal, Link, Line, End, NoMemory, TooLong, Out}
-use Rattle.dali_trace.specs.Trace.{Start, is_busy}
+use Rattle.dali_trace.specs.Trace.{Start, is_busy, records_of}
 use Rattle.dali_trace.specs.Replies.{IsReply, reply_line}
 use Rattle.dali_trace.specs.Legal.{Legal, IsFinished}
 use Rattle.dali_trace.specs.ByPlan.{ByPlan}
@@ -24,7 +25,8 @@ use Rattle.dali_writer.specs.WriterState.{WriterState}
 use Rattle.dali_writer.specs.Describes.{Describes}
 use Rattle.dali_writer.specs.Follows.{Follows}
 use Rattle.dali_drive.specs.WorkedOn.{IsDrivenAt}
-use Rattle.dali_drive.specs.Lines.{IsAnswerLine}
+use Rattle.dali_drive.specs.Lines.{IsAnswerLine, TakesText}
+use Rattle.dali_drive.specs.Observed.{IsToldEnd}
 use Rattle.dali_drive.specs.Transcript.{Streams, Transcript, shown, link_shown}
 use Rattle.dali_drive.specs.Driven.{at_moment, IsInTurn, KeepsRecords, IsDriven, IsNextFrame, BreaksFrame, BrokenOff, AppendsPart}
 
@@ -167,6 +169,11 @@ replied_at start past old new first j l a o more order moment reply d quiet desc
   follows = follows;
 }
 
+-- the journal of the writer that a trace describes
+pub stands_so : (start : Start) (past : List Happening) (writer : WriterState) (journal : JournalState)
+    → Describes start past writer → journal ≡ writer.journal → records_of start past ≡ journal.records
+stands_so start past writer journal described is = rw is described.same
+
 -- The orders
 
 at_append : (moment : ℕ) (xs ys : List Contents)
@@ -249,6 +256,24 @@ breaks_exchange End start past rest j l more a less o frame next none =
     (frame, next, record { journal = Keeps-refl j; link = none.link; answers = none.answers; out = Keeps-refl o })
 breaks_exchange TooLong start past rest j l more a less o frame next none =
     (frame, next, record { journal = Keeps-refl j; link = none.link; answers = none.answers; out = Keeps-refl o })
+
+-- and what was told of it
+pub told_of_end : (fault : DriveFault) (told : List Happening → Type 0)
+    (told_end : List Happening → DriveFault → Frame → List ℕ → Type 0) (start : Start) (past : List Happening)
+    (old new : Streams) (frame : Frame) (text : List ℕ)
+    → IsNextFrame start past frame → BreaksFrame frame fault old new → TakesText fault text old.answers new.answers
+    → told_end past fault frame text → IsToldEnd told told_end start past fault old.answers new.answers
+told_of_end Journal told told_end start past old new frame text next broken taken is = absurd broken.answers
+told_of_end NoMemory told told_end start past old new frame text next broken taken is = absurd broken.answers
+told_of_end Out told told_end start past old new frame text next broken taken is = absurd broken.answers
+told_of_end Link told told_end start past old new frame text next broken taken is =
+    record { frame = frame; text = text; next = next; taken = taken; told = is }
+told_of_end (Line fault) told told_end start past old new frame text next broken taken is =
+    record { frame = frame; text = text; next = next; taken = taken; told = is }
+told_of_end End told told_end start past old new frame text next broken taken is =
+    record { frame = frame; text = text; next = next; taken = taken; told = is }
+told_of_end TooLong told told_end start past old new frame text next broken taken is =
+    record { frame = frame; text = text; next = next; taken = taken; told = is }
 
 pub breaks_saying : (start : Start) (past : List Happening) (rest : List Contents) (j l a o more : Option (List ℕ))
     (id : ℕ) (reply : Reply)

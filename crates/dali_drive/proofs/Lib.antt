@@ -1,6 +1,7 @@
 pub mod PutLemmas
 pub mod StoreLemmas
 pub mod DriveLemmas
+pub mod ObservedLemmas
 pub mod SittingLemmas
 pub mod KillLemmas
 pub mod RepeatLemmas

@@ -13,13 +13,13 @@ use Rattle.dali_read.specs.declared.finding.Finding.{Finding}
 use Rattle.dali_read.specs.declared.finding.Finding.TheVariants.{Same}
 use Rattle.dali_read.proofs.FindingLemmas.{same_found}
 use Rattle.dali_read.proofs.CourseLemmas.{last_read}
-use Rattle.dali_write.specs.Exchanges.{Exchange}
 use Rattle.dali_drive.specs.declared.fault.DriveFault.{DriveFault}
 use Rattle.dali_drive.specs.declared.fault.DriveFault.TheVariants.{Journal, Link, Line, End, NoMemory, TooLong, Out}
 use Rattle.dali_drive.specs.Driven.{AppendsPart}
 use Rattle.dali_drive.specs.Transcript.{Streams, shown, link_shown}
 use Rattle.dali_drive.specs.UnitRead.{IsUnitRead, UnitReadBroke}
 use Rattle.dali_drive.specs.Surveys.{Report, Surveyed, Reported, BreaksReport, IsScanReport, IsOrderReport, IsSame}
+use Rattle.dali_drive.specs.Surveys.{FoundOf, IsAllTold}
 use Rattle.dali_drive.specs.Surveys.{TellsLast, TellsOrder, all_told, answered, link_of, addresses_below}
 use Rattle.dali_drive.proofs.DriveLemmas.{IsCut}
 use Rattle.dali_drive.proofs.ReadingLemmas.{told_both}
@@ -83,20 +83,17 @@ last_is unit bytes first last r = let one = last_read r.told unit bytes r.ends i
 -- ---- units beside orders
 
 -- what is found of an order is all the same, or not
-pub same_told : (order : Contents) (bytes : List ℕ) (finding : Finding) (told : List Exchange) (line : List ℕ)
-    (same : Bool)
-    → IsFound order.updates bytes finding → ((same ≡ true) ↔ (finding ≡ Same))
-    → (same ≡ true) ↔ IsSame (record { item = order; outcome = Some bytes; told = told; line = line })
-same_told order bytes finding told line same found so = (
-  λ is. (bytes, refl, subst (λ (f : Finding). IsFound order.updates bytes f) (so.0 is) found),
+pub same_told : (report : Report Contents) (outcome : Option (List ℕ)) (found : Option Finding)
+    → report.outcome ≡ outcome → FoundOf report.item outcome found → (found ≡ Some Same) ↔ IsSame report
+same_told report None found is none = (λ same. let never = sym none ∙ same in cc, λ all. let never = sym is ∙ all.1 in cc)
+same_told report (Some bytes) found is (finding, so, e) = (
+  λ same. let all : finding ≡ Same = cc in
+      (bytes, is, subst (λ (f : Finding). IsFound report.item.updates bytes f) all so),
   λ all. let mine : bytes ≡ all.0 = cc in
-      so.1 (same_found order.updates bytes finding
-      (subst (λ (l : List ℕ). IsFound order.updates l Same) (sym mine) all.2) found),
+      let same = same_found report.item.updates bytes finding
+      (subst (λ (l : List ℕ). IsFound report.item.updates l Same) (sym mine) all.2) so in
+      e ∙ ap (λ (f : Finding). Some f) same,
 )
-
-pub silent_told : (order : Contents) (told : List Exchange) (line : List ℕ)
-    → (false ≡ true) ↔ IsSame (record { item = order; outcome = None; told = told; line = line })
-silent_told order told line = (λ never. cc, λ same. let never = same.1 in cc)
 
 module _ (order : Contents) (l more a less o out : Option (List ℕ)) (outcome : Option (List ℕ))
     (r : IsUnitRead order.unit (order_course order.updates) outcome (link_shown l a) (link_shown more less))
@@ -104,10 +101,10 @@ module _ (order : Contents) (l more a less o out : Option (List ℕ)) (outcome :
   abbrev pub order_report : Report Contents
   order_report = record { item = order; outcome = outcome; told = r.told; line = line }
 
-  pub order_verified : (same : Bool) → ((same ≡ true) ↔ IsSame order_report) → Appends o out line
-      → Reported IsOrderReport order (λ report. (same ≡ true) ↔ IsSame report) (shown None l a o)
+  pub order_verified : (found : Option Finding) → FoundOf order outcome found → Appends o out line
+      → Reported IsOrderReport order (λ report. FoundOf report.item report.outcome found) (shown None l a o)
       (shown None more less out)
-  order_verified same so written = record {
+  order_verified found so written = record {
     report = order_report;
     item_is = refl;
     is = (r.ends, tells);
@@ -160,6 +157,22 @@ pub both_same : (all one : Bool) (older now : Type 0) → ((all ≡ true) ↔ ol
     → ((all && one) ≡ true) ↔ (now × older)
 both_same true one older now so this = (λ is. (this.0 is, so.0 refl), λ both. this.1 both.0)
 both_same false one older now so this = (λ never. cc, λ both. let never = so.1 both.1 in cc)
+
+-- the same of what is the same
+pub same_by : {A B C : Type 0} → (A ↔ B) → (B ↔ C) → A ↔ C
+same_by first second = (λ a. second.0 (first.0 a), λ c. first.1 (second.1 c))
+
+-- one more order was told
+pub told_more : {B : Type 0} (told : B → B → List (Contents × Option Finding) → Type 0)
+    (reports : List (Report Contents)) (first mid last : B) (order : Contents) (found : Option Finding)
+    (report : Report Contents) → report.item ≡ order → FoundOf report.item report.outcome found
+    → (t : IsAllTold told reports first mid) → told first last ((order, found) ∷ t.found)
+    → IsAllTold told (report ∷ reports) first last
+told_more told reports first mid last order found report is so t more = record {
+  found = (order, found) ∷ t.found;
+  are_found = (sym is, so, t.are_found);
+  told_all = more;
+}
 
 -- one more unit answered, or none
 pub counts_one : {A : Type 0} (report : Report A) (reports : List (Report A)) (answers : Bool)

@@ -7,8 +7,9 @@ pub mod Driven
 pub mod UnitRead
 pub mod SurveyLines
 pub mod Surveys
-pub mod WorkedOn
 pub mod Stored
+pub mod Observed
+pub mod WorkedOn
 pub mod Sittings
 pub mod Kills
 pub mod Repeats

@@ -39,3 +39,8 @@ TakesLine old new (Err (Line fault)) =
 TakesLine old new (Err End) = (bytes : List ℕ) × IsShort bytes × Consumes old new bytes × IsAtEnd new
 TakesLine old new (Err TooLong) = (bytes : List ℕ) × (length bytes ≡ 9) × IsInLine bytes × Consumes old new bytes
 TakesLine old new (Err other) = ⊥
+
+-- what was read of an answer's line when this fault broke it off: a line that is no answer was read with its line feed
+abbrev pub TakesText : DriveFault → List ℕ → Option (List ℕ) → Option (List ℕ) → Type 0
+TakesText (Line fault) text old new = Consumes old new (text ++ 10 ∷ [])
+TakesText fault text old new = Consumes old new text

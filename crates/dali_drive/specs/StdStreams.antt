@@ -1,5 +1,5 @@
 -- What the streams over std's readers and writers show.
-use Rattle.std.specs.Prelude.{ℕ, Bool, List, Option}
+use Rattle.std.specs.Prelude.{ℕ, Bool, List, Option, is_some}
 use Rattle.dali_drive.specs.declared.std_streams.StdSource.{StdSource}
 use Rattle.dali_drive.specs.declared.std_streams.StdSink.{StdSink}
 
@@ -8,11 +8,11 @@ abbrev pub source_left : {R : Type 0} → (R → Option (List ℕ)) → StdSourc
 source_left remaining source = remaining source.reader
 
 abbrev pub source_failed : {R : Type 0} → StdSource R → Bool
-source_failed source = source.failed
+source_failed source = is_some source.cause
 
 -- the bytes that a sink holds: those of its writer
 abbrev pub sink_held : {W : Type 0} → (W → Option (List ℕ)) → StdSink W → Option (List ℕ)
 sink_held contents sink = contents sink.writer
 
 abbrev pub sink_failed : {W : Type 0} → StdSink W → Bool
-sink_failed sink = sink.failed
+sink_failed sink = is_some sink.cause

@@ -144,3 +144,36 @@ pub record VerifyBroke (orders : List Contents) (fault : DriveFault) (first last
   pub middle : Streams
   pub surveyed : Surveyed IsOrderReport reports first middle
   pub broke : BreaksReport IsOrderReport fault next next.unit (order_course next.updates) middle last
+
+-- what was found of an order: nothing of a silent unit
+abbrev pub FoundOf : Contents → Option (List ℕ) → Option Finding → Type 0
+FoundOf order None found = found ≡ None
+FoundOf order (Some bytes) found = (finding : Finding) × IsFound order.updates bytes finding × (found ≡ Some finding)
+
+-- this was found of the orders that were read, the newest first
+abbrev pub AreFound : List (Report Contents) → List (Contents × Option Finding) → Type 0
+AreFound [] found = found ≡ []
+AreFound (report ∷ reports) [] = ⊥
+AreFound (report ∷ reports) (one ∷ found) =
+    (one.0 ≡ report.item) × FoundOf report.item report.outcome one.1 × AreFound reports found
+
+-- and all of it was told
+pub record IsAllTold {B : Type 0} (told : B → B → List (Contents × Option Finding) → Type 0)
+    (reports : List (Report Contents)) (before after : B) : Type 0 where
+  pub found : List (Contents × Option Finding)
+  pub are_found : AreFound reports found
+  pub told_all : told before after found
+
+-- units were read beside orders, and what was found was told
+pub record IsVerifiedTold {B : Type 0} (told : B → B → List (Contents × Option Finding) → Type 0)
+    (orders : List Contents) (all_same : Bool) (first : Streams) (before : B) (last : Streams) (after : B)
+    : Type 0 where
+  pub verified : IsVerified orders all_same first last
+  pub told_all : IsAllTold told verified.reports before after
+
+-- the same where a fault broke it off: of the order at which it came nothing was told
+pub record VerifyBrokeTold {B : Type 0} (told : B → B → List (Contents × Option Finding) → Type 0)
+    (orders : List Contents) (fault : DriveFault) (first : Streams) (before : B) (last : Streams) (after : B)
+    : Type 0 where
+  pub broke : VerifyBroke orders fault first last
+  pub told_all : IsAllTold told broke.reports before after

@@ -9,34 +9,39 @@ ghost use Rattle.dali_drive.specs.Transcript.{Streams, shown};
 ghost use Rattle.dali_drive.specs.Driven.{orders_asked, IsDrive, BreaksOff, NoneFailed, FailedAs};
 ghost use Rattle.dali_store.specs.Stores.{IsSettled, IsBetween, LeavesOnly};
 ghost use Rattle.dali_drive.specs.WorkedOn.{IsDrivenAt, WorkedOn};
+ghost use Rattle.dali_drive.specs.Observed.{IsObserved, IsObservedBreak};
 
 use crate::fault::DriveFault;
-use crate::lines::reply_line;
-use crate::link::exchange;
+use crate::lines::{AnswerText, reply_line};
+use crate::link::exchange_noting;
+use crate::observer::{Nobody, Observer};
 use crate::streams::{Sink, Source, put_all};
 use dali_bank::Order;
 use dali_store::{Store, keep};
+use dali_trace::Happening;
 use dali_writer::{Want, Writer};
 
 // Does once what the writer wants. The answer is whether it wanted anything.
-fn advance<I: Source, L: Sink, J: Store, O: Sink>(
+fn advance<I: Source, L: Sink, J: Store, O: Sink, B: Observer>(
     writer: &mut Writer,
     link_in: &mut I,
     link_out: &mut L,
     journal_out: &mut J,
     out: &mut O,
+    observer: &mut B,
 ) -> Result<bool, DriveFault>
     requires journal { J.failed journal_out.old ≡ false }
     requires settled { IsSettled (J.seen journal_out.old) (J.may_leave journal_out.old) }
     requires link_out { L.failed link_out.old ≡ false }
     requires link_in { I.failed link_in.old ≡ false }
     requires out { O.failed out.old ≡ false }
-    ensures worked { (start : Start) (past : List Happening) (first : Streams)
+    ensures worked { (start : Start) (past : List Happening) (first : Streams) (since : B)
         → IsDrivenAt start past writer.old first
         (shown (J.seen journal_out.old) (L.held link_out.old) (I.left link_in.old) (O.held out.old))
+        → B.told start since observer.old past
         → WorkedOn start (orders_asked past) first result writer.new
         (shown (J.seen journal_out.new) (L.held link_out.new) (I.left link_in.new) (O.held out.new))
-        (J.may_leave journal_out.new) }
+        (J.may_leave journal_out.new) (B.told start since observer.new) (B.told_end start since observer.new) }
     ensures fewer { IfOk result (λ busy. busy ≡ true → work_left writer.new.phase < work_left writer.old.phase) }
     ensures rests { IfOk result (λ busy. busy ≡ false → IsAtRest writer.new) }
     ensures quiet { IfOk result (λ busy. busy ≡ false → (start : Start) (past : List Happening)
@@ -57,40 +62,52 @@ fn advance<I: Source, L: Sink, J: Store, O: Sink>(
                 return Err(DriveFault::Journal);
             }
             writer.kept();
+            observer.see(&Happening::Kept(entry), writer.journal());
         }
         Want::Send(frame) => {
-            let answer = exchange(&frame, link_in, link_out)?;
+            let mut text = AnswerText::new();
+            let answer = match exchange_noting(&frame, link_in, link_out, &mut text) {
+                Ok(answer) => answer,
+                Err(fault) => {
+                    observer.see_end(fault, &frame, &text);
+                    return Err(fault);
+                }
+            };
             writer.heard(answer);
+            observer.see(&Happening::Sent(frame, answer), writer.journal());
         }
         Want::Say(id, reply) => {
             if !put_all(out, &reply_line(id, reply)) {
                 return Err(DriveFault::Out);
             }
             writer.said();
+            observer.see(&Happening::Answered(id, reply), writer.journal());
         }
     }
     Ok(true)
 }
 
 // Does what the writer wants until it is idle.
-fn work<I: Source, L: Sink, J: Store, O: Sink>(
+fn work<I: Source, L: Sink, J: Store, O: Sink, B: Observer>(
     writer: &mut Writer,
     link_in: &mut I,
     link_out: &mut L,
     journal_out: &mut J,
     out: &mut O,
+    observer: &mut B,
 ) -> Result<(), DriveFault>
     requires journal { J.failed journal_out.old ≡ false }
     requires settled { IsSettled (J.seen journal_out.old) (J.may_leave journal_out.old) }
     requires link_out { L.failed link_out.old ≡ false }
     requires link_in { I.failed link_in.old ≡ false }
     requires out { O.failed out.old ≡ false }
-    ensures worked { (start : Start) (past : List Happening) (first : Streams)
+    ensures worked { (start : Start) (past : List Happening) (first : Streams) (since : B)
         → IsDrivenAt start past writer.old first
         (shown (J.seen journal_out.old) (L.held link_out.old) (I.left link_in.old) (O.held out.old))
+        → B.told start since observer.old past
         → WorkedOn start (orders_asked past) first result writer.new
         (shown (J.seen journal_out.new) (L.held link_out.new) (I.left link_in.new) (O.held out.new))
-        (J.may_leave journal_out.new) }
+        (J.may_leave journal_out.new) (B.told start since observer.new) (B.told_end start since observer.new) }
     ensures rests { OnOk result (IsAtRest writer.new) }
     ensures quiet { OnOk result
         ((start : Start) (past : List Happening) → Describes start past writer.new → is_busy start past ≡ false) }
@@ -103,7 +120,7 @@ fn work<I: Source, L: Sink, J: Store, O: Sink>(
     ensures any_moment { LeavesOnly J.moment J.left_since journal_out.old journal_out.new
         (IsBetween (J.seen journal_out.old) (J.seen journal_out.new)) }
 {
-    while advance(writer, link_in, link_out, journal_out, out)? {}
+    while advance(writer, link_in, link_out, journal_out, out, observer)? {}
     Ok(())
 }
 
@@ -152,6 +169,54 @@ pub fn drive<I: Source, L: Sink, J: Store, O: Sink>(
     ensures any_moment { LeavesOnly J.moment J.left_since journal_out.old journal_out.new
         (IsBetween (J.seen journal_out.old) (J.seen journal_out.new)) }
 {
+    drive_observed(
+        writer,
+        orders,
+        moment,
+        link_in,
+        link_out,
+        journal_out,
+        out,
+        &mut Nobody,
+    )
+}
+
+/// As `drive`, and an observer is told all that happens, each happening once it is done, and at 2 `Link`, 3 `Line`, 4
+/// `End` and 6 `TooLong` the frame, and what was read of its answer.
+pub fn drive_observed<I: Source, L: Sink, J: Store, O: Sink, B: Observer>(
+    writer: Writer,
+    orders: &[Order],
+    moment: u64,
+    link_in: &mut I,
+    link_out: &mut L,
+    journal_out: &mut J,
+    out: &mut O,
+    observer: &mut B,
+) -> Result<Writer, DriveFault>
+    requires rests { IsAtRest writer }
+    requires journal { J.failed journal_out.old ≡ false }
+    requires settled { IsSettled (J.seen journal_out.old) (J.may_leave journal_out.old) }
+    requires link_out { L.failed link_out.old ≡ false }
+    requires link_in { I.failed link_in.old ≡ false }
+    requires out { O.failed out.old ≡ false }
+    ensures driven { IfOk result (λ driven. IsObserved B.told (start_of writer.journal) orders.now moment
+        (shown (J.seen journal_out.old) (L.held link_out.old) (I.left link_in.old) (O.held out.old)) observer.old
+        driven (shown (J.seen journal_out.new) (L.held link_out.new) (I.left link_in.new) (O.held out.new))
+        observer.new) }
+    ensures rests { IfOk result IsAtRest }
+    ensures ok { OnOk result
+        (NoneFailed (J.failed journal_out.new) (L.failed link_out.new) (I.failed link_in.new) (O.failed out.new)) }
+    ensures broken { IfErr result (λ fault.
+        IsObservedBreak B.told B.told_end (start_of writer.journal) orders.now moment fault
+        (shown (J.seen journal_out.old) (L.held link_out.old) (I.left link_in.old) (O.held out.old)) observer.old
+        (shown (J.seen journal_out.new) (L.held link_out.new) (I.left link_in.new) (O.held out.new)) observer.new
+        (J.may_leave journal_out.new)) }
+    ensures err { IfErr result (λ fault.
+        FailedAs fault (J.failed journal_out.new) (L.failed link_out.new) (I.failed link_in.new) (O.failed out.new)) }
+    ensures settled { OnOk result (IsSettled (J.seen journal_out.new) (J.may_leave journal_out.new)) }
+    ensures any_moment { LeavesOnly J.moment J.left_since journal_out.old journal_out.new
+        (IsBetween (J.seen journal_out.old) (J.seen journal_out.new)) }
+{
     let mut writer = writer;
     match drive_all(
         &mut writer,
@@ -161,6 +226,7 @@ pub fn drive<I: Source, L: Sink, J: Store, O: Sink>(
         link_out,
         journal_out,
         out,
+        observer,
     ) {
         Ok(()) => Ok(writer),
         Err(fault) => Err(fault),
@@ -168,7 +234,7 @@ pub fn drive<I: Source, L: Sink, J: Store, O: Sink>(
 }
 
 // Carries out what the writer still has to do, and then the orders one after the other, each submitted at this moment.
-fn drive_all<I: Source, L: Sink, J: Store, O: Sink>(
+fn drive_all<I: Source, L: Sink, J: Store, O: Sink, B: Observer>(
     writer: &mut Writer,
     orders: &[Order],
     moment: u64,
@@ -176,6 +242,7 @@ fn drive_all<I: Source, L: Sink, J: Store, O: Sink>(
     link_out: &mut L,
     journal_out: &mut J,
     out: &mut O,
+    observer: &mut B,
 ) -> Result<(), DriveFault>
     requires rests { IsAtRest writer.old }
     requires journal { J.failed journal_out.old ≡ false }
@@ -183,15 +250,17 @@ fn drive_all<I: Source, L: Sink, J: Store, O: Sink>(
     requires link_out { L.failed link_out.old ≡ false }
     requires link_in { I.failed link_in.old ≡ false }
     requires out { O.failed out.old ≡ false }
-    ensures driven { OnOk result (IsDrive (start_of writer.old.journal) orders.now moment
-        (shown (J.seen journal_out.old) (L.held link_out.old) (I.left link_in.old) (O.held out.old))
-        writer.new (shown (J.seen journal_out.new) (L.held link_out.new) (I.left link_in.new) (O.held out.new))) }
+    ensures driven { OnOk result (IsObserved B.told (start_of writer.old.journal) orders.now moment
+        (shown (J.seen journal_out.old) (L.held link_out.old) (I.left link_in.old) (O.held out.old)) observer.old
+        writer.new (shown (J.seen journal_out.new) (L.held link_out.new) (I.left link_in.new) (O.held out.new))
+        observer.new) }
     ensures rests { OnOk result (IsAtRest writer.new) }
     ensures ok { OnOk result
         (NoneFailed (J.failed journal_out.new) (L.failed link_out.new) (I.failed link_in.new) (O.failed out.new)) }
-    ensures broken { IfErr result (λ fault. BreaksOff (start_of writer.old.journal) orders.now moment fault
-        (shown (J.seen journal_out.old) (L.held link_out.old) (I.left link_in.old) (O.held out.old))
-        (shown (J.seen journal_out.new) (L.held link_out.new) (I.left link_in.new) (O.held out.new))
+    ensures broken { IfErr result (λ fault.
+        IsObservedBreak B.told B.told_end (start_of writer.old.journal) orders.now moment fault
+        (shown (J.seen journal_out.old) (L.held link_out.old) (I.left link_in.old) (O.held out.old)) observer.old
+        (shown (J.seen journal_out.new) (L.held link_out.new) (I.left link_in.new) (O.held out.new)) observer.new
         (J.may_leave journal_out.new)) }
     ensures err { IfErr result (λ fault.
         FailedAs fault (J.failed journal_out.new) (L.failed link_out.new) (I.failed link_in.new) (O.failed out.new)) }
@@ -201,15 +270,18 @@ fn drive_all<I: Source, L: Sink, J: Store, O: Sink>(
         (IsBetween (J.seen journal_out.old) (J.seen journal_out.new)) }
 {
     writer.rest();
-    work(writer, link_in, link_out, journal_out, out)?;
+    observer.begin(writer.journal());
+    work(writer, link_in, link_out, journal_out, out, observer)?;
     for order in orders {
         let Ok(reply) = writer.submit(order.copy(), moment) else {
             return Err(DriveFault::NoMemory);
         };
+        observer.see(&Happening::Asked(order.copy(), moment), writer.journal());
         if !put_all(out, &reply_line(order.id(), reply)) {
             return Err(DriveFault::Out);
         }
-        work(writer, link_in, link_out, journal_out, out)?;
+        observer.see(&Happening::Answered(order.id(), reply), writer.journal());
+        work(writer, link_in, link_out, journal_out, out, observer)?;
     }
     Ok(())
 }

@@ -1,9 +1,9 @@
 // The lines that are written and read while a writer is driven, and the pieces of those that tell of units.
-ghost use Rattle.std.specs.Prelude.{◌≡◌, ◌||◌, ◌+◌, ◌≤◌, ◌++◌, IfOk, IfErr, length, decimal};
+ghost use Rattle.std.specs.Prelude.{◌≡◌, ◌||◌, ◌+◌, ◌≤◌, ◌++◌, [], IfOk, IfErr, length, decimal};
 ghost use Rattle.std.specs.Io.BufRead.{strip_last};
 ghost use Rattle.arrayvec.specs.ArrayVec.{array_vec_len};
 ghost use Rattle.dali_frame.specs.Line.{SpellsAnswer, IsLineFault};
-ghost use Rattle.dali_drive.specs.Lines.{TakesLine};
+ghost use Rattle.dali_drive.specs.Lines.{TakesLine, TakesText};
 ghost use Rattle.dali_trace.specs.Replies.{reply_line};
 ghost use Rattle.dali_drive.specs.Driven.{is_link_failure};
 
@@ -13,8 +13,11 @@ use arrayvec::ArrayVec;
 use dali_frame::{LineFault, answer_of};
 use dali_writer::Reply;
 
-// The most bytes of an answer's line before its line feed.
-const MOST_ANSWER: usize = 8;
+// The most bytes that are read of an answer's line before its line feed: it has at most one less.
+const MOST_ANSWER: usize = 9;
+
+// What was read of an answer's line, without its line feed.
+pub(crate) type AnswerText = ArrayVec<u8, MOST_ANSWER>;
 
 // No line that is written has more bytes: a number has at most twenty digits.
 const MOST_LINE: usize = 80;
@@ -33,25 +36,30 @@ fn answer_on(line: &[u8]) -> Result<Option<u8>, LineFault>
     }
 }
 
-// Reads one line, and the answer on it. Of a line that doesn't end nine bytes are read.
-pub(crate) fn read_answer<I: Source>(link_in: &mut I) -> Result<Option<u8>, DriveFault>
+// Reads one line, and the answer on it. Of a line that doesn't end nine bytes are read. The text, which has to be
+// empty, becomes what was read of the line.
+pub(crate) fn read_answer<I: Source>(
+    link_in: &mut I,
+    text: &mut AnswerText,
+) -> Result<Option<u8>, DriveFault>
+    requires { text.old.items ≡ [] }
     ensures line { TakesLine (I.left link_in.old) (I.left link_in.new) result }
+    ensures text { IfErr result (λ fault. TakesText fault text.new.items (I.left link_in.old) (I.left link_in.new)) }
     ensures failed { I.failed link_in.new ≡ (I.failed link_in.old || is_link_failure result) }
 {
-    let mut line: ArrayVec<u8, MOST_ANSWER> = ArrayVec::new();
     loop {
         match link_in.take_byte() {
             Got::Byte(b'\n') => {
-                return match answer_on(&line) {
+                return match answer_on(text) {
                     Ok(answer) => Ok(answer),
                     Err(fault) => Err(DriveFault::Line(fault)),
                 };
             }
             Got::Byte(byte) => {
-                if line.is_full() {
+                text.push(byte);
+                if text.is_full() {
                     return Err(DriveFault::TooLong);
                 }
-                line.push(byte);
             }
             Got::End => return Err(DriveFault::End),
             Got::Failed => return Err(DriveFault::Link),

@@ -3,9 +3,10 @@ ghost use Rattle.dali_frame.specs.Frame.{IsProper};
 ghost use Rattle.dali_trace.specs.declared.happening.Happening.TheVariants.{Sent};
 ghost use Rattle.dali_drive.specs.Transcript.{Transcript, link_shown};
 ghost use Rattle.dali_drive.specs.Driven.{BreaksFrame, FailedAs};
+ghost use Rattle.dali_drive.specs.Lines.{TakesText};
 
 use crate::fault::DriveFault;
-use crate::lines::read_answer;
+use crate::lines::{AnswerText, read_answer};
 use crate::streams::{Sink, Source, send};
 use dali_frame::{Frame, line_of};
 
@@ -33,8 +34,32 @@ pub fn exchange<I: Source, L: Sink>(
     ensures ok { OnOk result ((I.failed link_in.new ≡ false) × (L.failed link_out.new ≡ false)) }
     ensures err { IfErr result (λ fault. FailedAs fault false (L.failed link_out.new) (I.failed link_in.new) false) }
 {
+    exchange_noting(frame, link_in, link_out, &mut AnswerText::new())
+}
+
+// The same, and the text becomes what was read of the answer's line.
+pub(crate) fn exchange_noting<I: Source, L: Sink>(
+    frame: &Frame,
+    link_in: &mut I,
+    link_out: &mut L,
+    text: &mut AnswerText,
+) -> Result<Option<u8>, DriveFault>
+    requires proper { IsProper frame.now }
+    requires link_in { I.failed link_in.old ≡ false }
+    requires link_out { L.failed link_out.old ≡ false }
+    ensures told { IfOk result (λ answer. Transcript (Sent frame.now answer ∷ [])
+        (link_shown (L.held link_out.old) (I.left link_in.old))
+        (link_shown (L.held link_out.new) (I.left link_in.new))) }
+    ensures broken { IfErr result (λ fault. BreaksFrame frame.now fault
+        (link_shown (L.held link_out.old) (I.left link_in.old))
+        (link_shown (L.held link_out.new) (I.left link_in.new))) }
+    ensures text { IfErr result (λ fault. TakesText fault text.new.items (I.left link_in.old) (I.left link_in.new)) }
+    ensures ok { OnOk result ((I.failed link_in.new ≡ false) × (L.failed link_out.new ≡ false)) }
+    ensures err { IfErr result (λ fault. FailedAs fault false (L.failed link_out.new) (I.failed link_in.new) false) }
+{
+    text.clear();
     if !send(link_out, &line_of(frame)) {
         return Err(DriveFault::Link);
     }
-    read_answer(link_in)
+    read_answer(link_in, text)
 }

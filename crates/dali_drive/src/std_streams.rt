@@ -9,8 +9,8 @@ use std::io::{ErrorKind, Read, Write};
 #[derive(Drop)]
 pub struct StdSource<R> {
     reader: R,
-    // Whether a read has failed.
-    failed: bool,
+    // Of what kind the read was that has failed, if one has.
+    cause: Option<ErrorKind>,
 }
 
 impl<R: Read> StdSource<R> {
@@ -23,7 +23,7 @@ impl<R: Read> StdSource<R> {
     {
         StdSource {
             reader,
-            failed: false,
+            cause: None,
         }
     }
 }
@@ -37,20 +37,27 @@ impl<R: Read> Source for StdSource<R> {
 
     fn take_byte(&mut self) -> Got {
         let mut byte = [0u8; 1];
+        let mut cause = ErrorKind::Interrupted;
         for _ in 0..u64::MAX {
-            match self.reader.read(&mut byte) {
+            cause = match self.reader.read(&mut byte) {
                 Ok(0) => return Got::End,
                 Ok(_) => return Got::Byte(byte[0]),
-                Err(error) if error.kind() == ErrorKind::Interrupted => {}
-                Err(_) => break,
+                Err(error) => error.kind(),
+            };
+            if cause != ErrorKind::Interrupted {
+                break;
             }
         }
-        self.failed = true;
+        self.cause = Some(cause);
         Got::Failed
     }
 
     fn has_failed(&self) -> bool {
-        self.failed
+        self.cause.is_some()
+    }
+
+    fn cause(&self) -> Option<ErrorKind> {
+        self.cause
     }
 }
 
@@ -58,8 +65,8 @@ impl<R: Read> Source for StdSource<R> {
 #[derive(Drop)]
 pub struct StdSink<W> {
     writer: W,
-    // Whether a write or a flush has failed.
-    failed: bool,
+    // Of what kind the write or the flush was that has failed, if one has.
+    cause: Option<ErrorKind>,
 }
 
 impl<W: Write> StdSink<W> {
@@ -72,7 +79,7 @@ impl<W: Write> StdSink<W> {
     {
         StdSink {
             writer,
-            failed: false,
+            cause: None,
         }
     }
 }
@@ -85,33 +92,44 @@ impl<W: Write> Sink for StdSink<W> {
     ghost failed = { sink_failed };
 
     fn put(&mut self, bytes: &[u8]) -> Option<usize> {
+        let mut cause = ErrorKind::Interrupted;
         for _ in 0..u64::MAX {
-            match self.writer.write(bytes) {
-                Ok(count) => {
-                    self.failed |= count == 0;
-                    return Some(count);
+            cause = match self.writer.write(bytes) {
+                Ok(0) => {
+                    self.cause = Some(ErrorKind::WriteZero);
+                    return Some(0);
                 }
-                Err(error) if error.kind() == ErrorKind::Interrupted => {}
-                Err(_) => break,
+                Ok(count) => return Some(count),
+                Err(error) => error.kind(),
+            };
+            if cause != ErrorKind::Interrupted {
+                break;
             }
         }
-        self.failed = true;
+        self.cause = Some(cause);
         None
     }
 
     fn flush(&mut self) -> bool {
+        let mut cause = ErrorKind::Interrupted;
         for _ in 0..u64::MAX {
-            match self.writer.flush() {
+            cause = match self.writer.flush() {
                 Ok(()) => return true,
-                Err(error) if error.kind() == ErrorKind::Interrupted => {}
-                Err(_) => break,
+                Err(error) => error.kind(),
+            };
+            if cause != ErrorKind::Interrupted {
+                break;
             }
         }
-        self.failed = true;
+        self.cause = Some(cause);
         false
     }
 
     fn has_failed(&self) -> bool {
-        self.failed
+        self.cause.is_some()
+    }
+
+    fn cause(&self) -> Option<ErrorKind> {
+        self.cause
     }
 }

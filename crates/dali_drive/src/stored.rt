@@ -2,12 +2,14 @@
 ghost use Rattle.std.specs.Prelude.{◌≡◌, false, IfOk, IfErr, OnOk};
 ghost use Rattle.dali_store.specs.Stores.{IsSettled, LeavesOnly};
 ghost use Rattle.dali_drive.specs.Stored.{IsStoredDrive, EndsAtFault, StoredFailedAs, LeavesPart};
+ghost use Rattle.dali_drive.specs.Observed.{IsStoredObserved, EndsObserved};
 ghost use Rattle.dali_drive.specs.Transcript.{shown};
 ghost use Rattle.dali_drive.specs.Driven.{NoneFailed};
 ghost use Rattle.dali_writer.specs.WriterState.{IsAtRest};
 
-use crate::driving::drive;
+use crate::driving::drive_observed;
 use crate::fault::DriveFault;
+use crate::observer::{Nobody, Observer};
 use crate::streams::{Sink, Source};
 use dali_bank::Order;
 use dali_store::{OpenFault, Store, open};
@@ -58,11 +60,59 @@ pub fn drive_stored<I: Source, L: Sink, S: Store, O: Sink>(
     ensures any_moment { LeavesOnly S.moment S.left_since store.old store.new
         (LeavesPart limit (S.seen store.old) (S.seen store.new) (S.may_leave store.old)) }
 {
+    drive_stored_observed(
+        alloc,
+        limit,
+        most,
+        orders,
+        moment,
+        link_in,
+        link_out,
+        store,
+        out,
+        &mut Nobody,
+    )
+}
+
+/// As `drive_stored`, and an observer is told of the drive, as by `drive_observed`.
+pub fn drive_stored_observed<I: Source, L: Sink, S: Store, O: Sink, B: Observer>(
+    alloc: Global,
+    limit: u32,
+    most: usize,
+    orders: &[Order],
+    moment: u64,
+    link_in: &mut I,
+    link_out: &mut L,
+    store: &mut S,
+    out: &mut O,
+    observer: &mut B,
+) -> Result<Writer, StoredFault>
+    requires store { S.failed store.old ≡ false }
+    requires link_out { L.failed link_out.old ≡ false }
+    requires link_in { I.failed link_in.old ≡ false }
+    requires out { O.failed out.old ≡ false }
+    ensures driven { IfOk result (λ writer. IsStoredObserved B.told limit most orders.now moment
+        (shown (S.seen store.old) (L.held link_out.old) (I.left link_in.old) (O.held out.old)) observer.old
+        writer (shown (S.seen store.new) (L.held link_out.new) (I.left link_in.new) (O.held out.new)) observer.new) }
+    ensures rests { IfOk result IsAtRest }
+    ensures ok { OnOk result
+        (NoneFailed (S.failed store.new) (L.failed link_out.new) (I.failed link_in.new) (O.failed out.new)) }
+    ensures broken { IfErr result (λ fault. EndsObserved B.told B.told_end limit most orders.now moment fault
+        (shown (S.seen store.old) (L.held link_out.old) (I.left link_in.old) (O.held out.old)) (S.may_leave store.old)
+        observer.old
+        (shown (S.seen store.new) (L.held link_out.new) (I.left link_in.new) (O.held out.new)) (S.may_leave store.new)
+        observer.new) }
+    ensures err { IfErr result (λ fault. StoredFailedAs fault
+        (S.failed store.new) (L.failed link_out.new) (I.failed link_in.new) (O.failed out.new)) }
+    ensures settled { OnOk result (IsSettled (S.seen store.new) (S.may_leave store.new)) }
+    ensures any_moment { LeavesOnly S.moment S.left_since store.old store.new
+        (LeavesPart limit (S.seen store.old) (S.seen store.new) (S.may_leave store.old)) }
+{
     let journal = match open(alloc, store, limit, most) {
         Ok(journal) => journal,
         Err(fault) => return Err(StoredFault::Open(fault)),
     };
-    match drive(
+    match drive_observed(
         Writer::new(journal),
         orders,
         moment,
@@ -70,6 +120,7 @@ pub fn drive_stored<I: Source, L: Sink, S: Store, O: Sink>(
         link_out,
         store,
         out,
+        observer,
     ) {
         Ok(writer) => Ok(writer),
         Err(fault) => Err(StoredFault::Drive(fault)),

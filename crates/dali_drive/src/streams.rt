@@ -1,7 +1,9 @@
 // What a drive reads and writes, a byte or a few at a time.
-ghost use Rattle.std.specs.Prelude.{◌≡◌, ◌<◌, ◌≤◌, ◌||◌, ℕ, Bool, List, Option, not, length, take, true, false};
+ghost use Rattle.std.specs.Prelude.{◌≡◌, ◌<◌, ◌≤◌, ◌||◌, ℕ, Bool, List, Option, IfSome, not, length, take, true, false};
 ghost use Rattle.std.specs.Io.KnownBytes.{Keeps, Appends};
 ghost use Rattle.dali_drive.specs.Streams.{TakesOneByte, Puts, PutsFirst, is_failure, is_refusal};
+
+use std::io::ErrorKind;
 
 /// What a source gives for a byte (profile).
 #[derive(Clone, Copy, Debug, PartialEq, Eq)]
@@ -30,6 +32,10 @@ pub trait Source {
     /// Whether a call has failed: exactly since `take_byte` gave `Failed`.
     fn has_failed(&self) -> bool
         ensures { result ≡ failed self.now };
+
+    /// Of what kind the failure was, where there was one and that is known.
+    fn cause(&self) -> Option<ErrorKind>
+        ensures { IfSome result (λ kind. failed self.now ≡ true) };
 }
 
 /// Where bytes are put (profile).
@@ -57,6 +63,10 @@ pub trait Sink {
     /// Whether a call has failed: exactly since `put` gave `None` or `Some(0)`, or `flush` false.
     fn has_failed(&self) -> bool
         ensures { result ≡ failed self.now };
+
+    /// Of what kind the failure was, where there was one and that is known.
+    fn cause(&self) -> Option<ErrorKind>
+        ensures { IfSome result (λ kind. failed self.now ≡ true) };
 }
 
 /// Puts all the bytes, and says whether they are held. Where they aren't, just the first so many are (profile).

@@ -1,12 +1,14 @@
-ghost use Rattle.std.specs.Prelude.{◌≡◌, ◌<◌, ◌↔◌, ◌≤◌, IfOk, IfErr, OnOk, false, true, is_some};
+ghost use Rattle.std.specs.Prelude.{◌≡◌, ◌<◌, ◌↔◌, ◌≤◌, IfOk, IfErr, OnOk, Some, false, true, is_some};
 ghost use Rattle.dali_read.specs.Places.{last_course, order_course};
 ghost use Rattle.dali_drive.specs.Transcript.{link_shown, shown};
 ghost use Rattle.dali_drive.specs.Driven.{FailedAs, NoneFailed};
-ghost use Rattle.dali_drive.specs.Surveys.{IsScanReport, IsOrderReport, Reported, BreaksReport, IsSame};
-ghost use Rattle.dali_drive.specs.Surveys.{IsScan, ScanBroke, IsVerified, VerifyBroke};
+ghost use Rattle.dali_drive.specs.Surveys.{IsScanReport, IsOrderReport, Reported, BreaksReport, FoundOf};
+ghost use Rattle.dali_drive.specs.Surveys.{IsScan, ScanBroke};
+ghost use Rattle.dali_drive.specs.Surveys.{IsVerifiedTold, VerifyBrokeTold};
 ghost use Rattle.std.specs.Prelude.{None};
 
 use crate::fault::DriveFault;
+use crate::observer::FindingObserver;
 use crate::reading::read_unit;
 use crate::streams::{Sink, Source, put_all};
 use crate::survey_lines::{finding_line, last_line, order_silent_line, units_line};
@@ -87,17 +89,18 @@ pub fn scan_units<I: Source, L: Sink, O: Sink>(
     }
 }
 
-// Reads what an order writes, and tells what is found. The answer is whether all of it is the same.
+// Reads what an order writes, and tells what is found: nothing of a silent unit.
 fn verify_order<I: Source, L: Sink, O: Sink>(
     order: &Order,
     link_in: &mut I,
     link_out: &mut L,
     out: &mut O,
-) -> Result<bool, DriveFault>
+) -> Result<Option<Finding>, DriveFault>
     requires link_in { I.failed link_in.old ≡ false }
     requires link_out { L.failed link_out.old ≡ false }
     requires out { O.failed out.old ≡ false }
-    ensures told { IfOk result (λ same. Reported IsOrderReport order.now (λ report. (same ≡ true) ↔ IsSame report)
+    ensures told { IfOk result (λ found. Reported IsOrderReport order.now
+        (λ report. FoundOf report.item report.outcome found)
         (shown None (L.held link_out.old) (I.left link_in.old) (O.held out.old))
         (shown None (L.held link_out.new) (I.left link_in.new) (O.held out.new))) }
     ensures broken { IfErr result (λ fault. BreaksReport IsOrderReport fault order.now order.now.unit
@@ -111,14 +114,14 @@ fn verify_order<I: Source, L: Sink, O: Sink>(
 {
     let Some(bytes) = read_unit(order.unit(), &Places::Order(order), link_in, link_out)? else {
         return if put_all(out, &order_silent_line(order)) {
-            Ok(false)
+            Ok(None)
         } else {
             Err(DriveFault::Out)
         };
     };
     let finding = compare(order, &bytes);
     if put_all(out, &finding_line(order, finding)) {
-        Ok(matches!(finding, Finding::Same))
+        Ok(Some(finding))
     } else {
         Err(DriveFault::Out)
     }
@@ -127,26 +130,27 @@ fn verify_order<I: Source, L: Sink, O: Sink>(
 /// Reads for each of the orders, one after the other, the locations that it writes, and before them its unit's last
 /// location and where it needs that the content format (profile). A line to `out` for each: `order N unit U same`,
 /// `order N unit U other LL BB` with the first location that holds another byte than the order's, and that byte,
-/// `short`, `format` or `silent`. The answer is whether all are the same.
+/// `short`, `format` or `silent`, and then the observer is told. The answer is whether all are the same.
 ///
 /// The link is used as by `read_unit`. No stream may have failed.
 ///
 /// `Link`, `Line`, `End` and `TooLong` say what ended it, and `Out` that a line couldn't be written.
-pub fn verify_orders<I: Source, L: Sink, O: Sink>(
+pub fn verify_orders<I: Source, L: Sink, O: Sink, B: FindingObserver>(
     orders: &[Order],
     link_in: &mut I,
     link_out: &mut L,
     out: &mut O,
+    observer: &mut B,
 ) -> Result<bool, DriveFault>
     requires link_in { I.failed link_in.old ≡ false }
     requires link_out { L.failed link_out.old ≡ false }
     requires out { O.failed out.old ≡ false }
-    ensures verified { IfOk result (λ all_same. IsVerified orders.now all_same
-        (shown None (L.held link_out.old) (I.left link_in.old) (O.held out.old))
-        (shown None (L.held link_out.new) (I.left link_in.new) (O.held out.new))) }
-    ensures broken { IfErr result (λ fault. VerifyBroke orders.now fault
-        (shown None (L.held link_out.old) (I.left link_in.old) (O.held out.old))
-        (shown None (L.held link_out.new) (I.left link_in.new) (O.held out.new))) }
+    ensures verified { IfOk result (λ all_same. IsVerifiedTold B.told_found orders.now all_same
+        (shown None (L.held link_out.old) (I.left link_in.old) (O.held out.old)) observer.old
+        (shown None (L.held link_out.new) (I.left link_in.new) (O.held out.new)) observer.new) }
+    ensures broken { IfErr result (λ fault. VerifyBrokeTold B.told_found orders.now fault
+        (shown None (L.held link_out.old) (I.left link_in.old) (O.held out.old)) observer.old
+        (shown None (L.held link_out.new) (I.left link_in.new) (O.held out.new)) observer.new) }
     ensures ok { OnOk result
         (NoneFailed false (L.failed link_out.new) (I.failed link_in.new) (O.failed out.new)) }
     ensures err { IfErr result (λ fault.
@@ -154,7 +158,16 @@ pub fn verify_orders<I: Source, L: Sink, O: Sink>(
 {
     let mut all_same = true;
     for order in orders {
-        all_same &= verify_order(order, link_in, link_out, out)?;
+        let found = verify_order(order, link_in, link_out, out)?;
+        observer.find(order, found);
+        all_same &= is_same(found);
     }
     Ok(all_same)
+}
+
+// Whether each location that an order writes held the order's byte.
+fn is_same(found: Option<Finding>) -> bool
+    ensures { (result ≡ true) ↔ (found ≡ Some Finding.Same) }
+{
+    matches!(found, Some(Finding::Same))
 }

@@ -6,7 +6,7 @@ use Rattle.dali_trace.specs.Replies.{reply_line}
 use Rattle.dali_writer.specs.WriterState.{start_of}
 use Rattle.dali_drive.specs.Driven.{orders_asked}
 use Rattle.dali_trace.specs.declared.happening.Happening.TheVariants.{Asked}
-use Rattle.dali_drive.proofs.DriveLemmas.{begun_at, replied_at, reply_next, breaks_saying, breaks_memory, IsCut}
+use Rattle.dali_drive.proofs.DriveLemmas.{begun_at, replied_at, reply_next, breaks_saying, breaks_memory, IsCut, stands_so}
 use Rattle.dali_drive.proofs.DriveLemmas.{asks_on, asked_more, asked_so_far, asked_then, asked_all}
 use Rattle.dali_store.proofs.Betweens.{settled_between}
 use Rattle.dali_drive.proofs.StoreLemmas.{then_on, more_of}
@@ -15,13 +15,14 @@ use Rattle.dali_drive.proofs.driving.drive_all.Goals as goal
 pub loop-order-init : goal.loop-order-init
 loop-order-init g c =
     let w =
-    c.in_ok-work.ensures.worked (start_of c.args.writer.now.journal) [] _
+    c.in_ok-work.ensures.worked (start_of c.args.writer.now.journal) [] _ c.args.observer.now
     (begun_at (start_of c.args.writer.now.journal) c.args.writer.now _ _ _ _ c.rest.ensures.described
-    c.rest.ensures.follows) in
+    c.rest.ensures.follows) (c.begin.ensures (start_of c.args.writer.now.journal) (rw c.journal.ensures refl)) in
     record {
       past = w.0;
       driven = w.1;
       orders = w.2;
+      told = w.3;
       rests = c.in_ok-work.ensures.rests;
       quiet = c.in_ok-work.ensures.quiet _ _ w.1.described;
       journal = c.in_ok-work.ensures.ok.0;
@@ -37,34 +38,40 @@ pub returns-clause-driven : goal.returns-clause-driven
 returns-clause-driven g c =
     let i = c.loop-order.invariant in
     record {
-      past = i.past;
-      driven = i.driven.driven;
-      asked =
-          asked_all c.args.moment c.args.orders.now (orders_asked i.past) c.loop-order.order-index c.loop-order-test.false
-          i.orders;
-      quiet = i.quiet;
-      described = i.driven.described;
-      follows = i.driven.follows;
+      drive = record {
+        past = i.past;
+        driven = i.driven.driven;
+        asked =
+            asked_all c.args.moment c.args.orders.now (orders_asked i.past) c.loop-order.order-index
+            c.loop-order-test.false i.orders;
+        quiet = i.quiet;
+        described = i.driven.described;
+        follows = i.driven.follows;
+      };
+      told_all = i.told;
     }
 
 pub returns-in_err-work-clause-broken : goal.returns-in_err-work-clause-broken
 returns-in_err-work-clause-broken g c =
     let w =
-    c.in_err-work.ensures.worked (start_of c.args.writer.now.journal) [] _
+    c.in_err-work.ensures.worked (start_of c.args.writer.now.journal) [] _ c.args.observer.now
     (begun_at (start_of c.args.writer.now.journal) c.args.writer.now _ _ _ _ c.rest.ensures.described
-    c.rest.ensures.follows) in
+    c.rest.ensures.follows) (c.begin.ensures (start_of c.args.writer.now.journal) (rw c.journal.ensures refl)) in
     let p = err_from_is_err_and c.from_residual.result c.from_residual.ensures.1 in
     let all : List Contents = c.args.orders.now in
     rw (p.1, p.2) (record {
-      drive = record {
-        past = w.past;
-        rest = all;
-        middle = w.middle;
-        driven = w.driven;
-        asked = asked_so_far c.args.moment all (orders_asked w.past) 0 w.asked_are;
-        broken = w.broken all;
+      breaks = record {
+        drive = record {
+          past = w.past;
+          rest = all;
+          middle = w.middle;
+          driven = w.driven;
+          asked = asked_so_far c.args.moment all (orders_asked w.past) 0 w.asked_are;
+          broken = w.broken all;
+        };
+        left = w.left;
       };
-      left = w.left;
+      told_all = w.told_all;
     })
 
 pub returns-in_default-clause-broken : goal.returns-in_default-clause-broken
@@ -76,17 +83,20 @@ returns-in_default-clause-broken g c =
     let all : List Contents = c.args.orders.now in
     let rest = drop (suc c.loop-order.order-index) all in
     record {
-      drive = record {
-        past = i.past;
-        rest = order ∷ rest;
-        middle = _;
-        driven = i.driven.driven;
-        asked =
-            asked_then c.args.moment all (orders_asked i.past) c.loop-order.order-index _ order c.loop-order-test.true
-            c.order-item.is i.orders;
-        broken = breaks_memory start i.past order rest _ _ _ _ i.driven.described.finished i.quiet due;
+      breaks = record {
+        drive = record {
+          past = i.past;
+          rest = order ∷ rest;
+          middle = _;
+          driven = i.driven.driven;
+          asked =
+              asked_then c.args.moment all (orders_asked i.past) c.loop-order.order-index _ order c.loop-order-test.true
+              c.order-item.is i.orders;
+          broken = breaks_memory start i.past order rest _ _ _ _ i.driven.described.finished i.quiet due;
+        };
+        left = settled_between _ _ i.settled;
       };
-      left = settled_between _ _ i.settled;
+      told_all = i.told;
     }
 
 pub returns-then-not-put_all-clause-broken : goal.returns-then-not-put_all-clause-broken
@@ -100,21 +110,25 @@ returns-then-not-put_all-clause-broken g c =
     let all : List Contents = c.args.orders.now in
     let rest = drop (c.loop-order.order-index + 1) all in
     record {
-      drive = record {
-        past = Asked order c.args.moment ∷ i.past;
-        rest = rest;
-        middle = _;
-        driven = asks_on start i.past _ _ order c.args.moment i.driven.driven i.quiet described.legal.0;
-        asked =
-            asked_so_far c.args.moment all ((order, c.args.moment) ∷ orders_asked i.past) (c.loop-order.order-index + 1)
-            (asked_more c.args.moment all
-            (orders_asked i.past) c.loop-order.order-index _ order c.loop-order-test.true c.order-item.is i.orders);
-        broken =
-            breaks_saying start (Asked order c.args.moment ∷ i.past) rest _ _ _ _ _ order.id c.in-Ok.reply
-            (reply_next start i.past order c.args.moment c.in-Ok.reply described.legal follows.planned)
-            (subst (IsCut _ _) line (c.if-not-put_all.ensures.cut refl));
+      breaks = record {
+        drive = record {
+          past = Asked order c.args.moment ∷ i.past;
+          rest = rest;
+          middle = _;
+          driven = asks_on start i.past _ _ order c.args.moment i.driven.driven i.quiet described.legal.0;
+          asked =
+              asked_so_far c.args.moment all ((order, c.args.moment) ∷ orders_asked i.past) (c.loop-order.order-index + 1)
+              (asked_more c.args.moment all
+              (orders_asked i.past) c.loop-order.order-index _ order c.loop-order-test.true c.order-item.is i.orders);
+          broken =
+              breaks_saying start (Asked order c.args.moment ∷ i.past) rest _ _ _ _ _ order.id c.in-Ok.reply
+              (reply_next start i.past order c.args.moment c.in-Ok.reply described.legal follows.planned)
+              (subst (IsCut _ _) line (c.if-not-put_all.ensures.cut refl));
+        };
+        left = settled_between _ _ i.settled;
       };
-      left = settled_between _ _ i.settled;
+      told_all = rw c.copy-in-loop-order.ensures.value at (c.see.ensures start c.args.observer.now i.past i.told
+          (stands_so start _ c.submit.new.self _ described c.journal-in-loop-order.ensures));
     }
 
 pub returns-in_err-work-2-clause-broken : goal.returns-in_err-work-2-clause-broken
@@ -123,23 +137,31 @@ returns-in_err-work-2-clause-broken g c =
     let described = rw c.copy.ensures.value at (c.in-Ok.ensures.described _ i.past i.driven.described) in
     let follows = rw c.copy.ensures.value at (c.in-Ok.ensures.follows _ i.past i.driven.follows) in
     let line = c.deref.ensures.0 ∙ c.reply_line.ensures ∙ ap (λ (n : ℕ). reply_line n c.in-Ok.reply) c.id.ensures in
-    let w = c.in_err-work-2.ensures.worked _ _ _
+    let start = start_of c.args.writer.now.journal in
+    let asked = rw c.copy-in-loop-order.ensures.value at (c.see.ensures start c.args.observer.now i.past i.told
+    (stands_so start _ c.submit.new.self _ described c.journal-in-loop-order.ensures)) in
+    let told = rw c.id-in-loop-order.ensures at (c.see-in-loop-order.ensures start c.args.observer.now _ asked
+    (stands_so start _ c.submit.new.self _ described c.journal-in-loop-order-2.ensures)) in
+    let w = c.in_err-work-2.ensures.worked _ _ _ c.args.observer.now
     (replied_at _ _ _ _ _ _ _ _ _ _ _ _ c.in-Ok.reply i.driven i.quiet described follows
-    (subst (Appends _ _) line (c.if-not-put_all.ensures.whole refl))) in
+    (subst (Appends _ _) line (c.if-not-put_all.ensures.whole refl))) told in
     let rest = drop (c.loop-order.order-index + 1) c.args.orders.now in
     let p = err_from_is_err_and c.from_residual-in_err-work-2.result c.from_residual-in_err-work-2.ensures.1 in
     rw (p.1, p.2) (record {
-      drive = record {
-        past = w.past;
-        rest = rest;
-        middle = w.middle;
-        driven = w.driven;
-        asked =
-            asked_so_far c.args.moment _ _ (c.loop-order.order-index + 1)
-            (w.asked_are ∙ asked_more c.args.moment _ _ _ _ _ c.loop-order-test.true c.order-item.is i.orders);
-        broken = w.broken rest;
+      breaks = record {
+        drive = record {
+          past = w.past;
+          rest = rest;
+          middle = w.middle;
+          driven = w.driven;
+          asked =
+              asked_so_far c.args.moment _ _ (c.loop-order.order-index + 1)
+              (w.asked_are ∙ asked_more c.args.moment _ _ _ _ _ c.loop-order-test.true c.order-item.is i.orders);
+          broken = w.broken rest;
+        };
+        left = w.left;
       };
-      left = w.left;
+      told_all = w.told_all;
     })
 
 pub loop-order-preserved : goal.loop-order-preserved
@@ -148,12 +170,18 @@ loop-order-preserved g c =
     let described = rw c.copy.ensures.value at (c.in-Ok.ensures.described _ i.past i.driven.described) in
     let follows = rw c.copy.ensures.value at (c.in-Ok.ensures.follows _ i.past i.driven.follows) in
     let line = c.deref.ensures.0 ∙ c.reply_line.ensures ∙ ap (λ (n : ℕ). reply_line n c.in-Ok.reply) c.id.ensures in
-    let w = c.in_ok-work-2.ensures.worked _ _ _
+    let start = start_of c.args.writer.now.journal in
+    let asked = rw c.copy-in-loop-order.ensures.value at (c.see.ensures start c.args.observer.now i.past i.told
+    (stands_so start _ c.submit.new.self _ described c.journal-in-loop-order.ensures)) in
+    let told = rw c.id-in-loop-order.ensures at (c.see-in-loop-order.ensures start c.args.observer.now _ asked
+    (stands_so start _ c.submit.new.self _ described c.journal-in-loop-order-2.ensures)) in
+    let w = c.in_ok-work-2.ensures.worked _ _ _ c.args.observer.now
     (replied_at _ _ _ _ _ _ _ _ _ _ _ _ c.in-Ok.reply i.driven i.quiet described follows
-    (subst (Appends _ _) line (c.if-not-put_all.ensures.whole refl))) in
+    (subst (Appends _ _) line (c.if-not-put_all.ensures.whole refl))) told in
     record {
       past = w.0;
       driven = w.1;
+      told = w.3;
       orders = w.2 ∙ asked_more c.args.moment _ _ _ _ _ c.loop-order-test.true c.order-item.is i.orders;
       rests = c.in_ok-work-2.ensures.rests;
       quiet = c.in_ok-work-2.ensures.quiet _ _ w.1.described;

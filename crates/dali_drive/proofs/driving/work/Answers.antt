@@ -5,9 +5,10 @@ use Rattle.dali_drive.proofs.driving.work.Goals as goal
 
 pub loop-preserved : goal.loop-preserved
 loop-preserved g c = record {
-  worked = λ start past first d.
-      let before = c.loop.invariant.worked start past first d in
-      let next = c.in_ok-advance.ensures.worked start before.0 first before.1 in (next.0, next.1, next.2 ∙ before.2);
+  worked = λ start past first since d told.
+      let before = c.loop.invariant.worked start past first since d told in
+      let next = c.in_ok-advance.ensures.worked start before.0 first since before.1 before.3 in
+      (next.0, next.1, next.2 ∙ before.2, next.3);
   journal = c.in_ok-advance.ensures.ok.0;
   settled = c.in_ok-advance.ensures.settled;
   grown = more_of _ _ _ c.loop.invariant.grown c.in_ok-advance.ensures.grown;
@@ -21,14 +22,15 @@ loop-preserved g c = record {
 }
 
 pub returns-clause-worked : goal.returns-clause-worked
-returns-clause-worked g c = λ start past first d.
-    let before = c.loop.invariant.worked start past first d in
-    let next = c.in_ok-advance.ensures.worked start before.0 first before.1 in (next.0, next.1, next.2 ∙ before.2)
+returns-clause-worked g c = λ start past first since d told.
+    let before = c.loop.invariant.worked start past first since d told in
+    let next = c.in_ok-advance.ensures.worked start before.0 first since before.1 before.3 in
+    (next.0, next.1, next.2 ∙ before.2, next.3)
 
 pub returns-in_err-advance-clause-worked : goal.returns-in_err-advance-clause-worked
-returns-in_err-advance-clause-worked g c = λ start past first d.
-    let before = c.loop.invariant.worked start past first d in
-    let next = c.in_err-advance.ensures.worked start before.0 first before.1 in
+returns-in_err-advance-clause-worked g c = λ start past first since d told.
+    let before = c.loop.invariant.worked start past first since d told in
+    let next = c.in_err-advance.ensures.worked start before.0 first since before.1 before.3 in
     let p = err_from_is_err_and c.from_residual.result c.from_residual.ensures.1 in
     rw (p.1, p.2) (record {
       past = next.past;
@@ -37,11 +39,12 @@ returns-in_err-advance-clause-worked g c = λ start past first d.
       broken = next.broken;
       left = next.left;
       asked_are = next.asked_are ∙ before.2;
+      told_all = next.told_all;
     })
 
 pub loop-init : goal.loop-init
 loop-init g c = record {
-  worked = λ start past first d. (past, d, refl);
+  worked = λ start past first since d told. (past, d, refl, told);
   journal = c.requires.journal;
   settled = c.requires.settled;
   grown = none_more (g.J.Store.seen c.args.journal_out.now);

@@ -11,11 +11,13 @@ use Rattle.dali_drive.proofs.driving.work.Given as goal
 
 abbrev pub invariant-loop : goal.invariant-loop
 invariant-loop g l = record {
-  worked : (start : Start) (past : List Happening) (first : Streams)
+  worked : (start : Start) (past : List Happening) (first : Streams) (since : g.row.B.Denot)
       → IsDrivenAt start past l.fn.writer first (shown (g.J.Store.seen l.fn.journal_out) (g.L.Sink.held l.fn.link_out)
       (g.I.Source.left l.fn.link_in) (g.O.Sink.held l.fn.out))
+      → g.B.Observer.told start since l.fn.observer past
       → WorkedOn start (orders_asked past) first (Ok false) l.writer (shown (g.J.Store.seen l.journal_out)
-      (g.L.Sink.held l.link_out) (g.I.Source.left l.link_in) (g.O.Sink.held l.out)) (g.J.Store.may_leave l.journal_out);
+      (g.L.Sink.held l.link_out) (g.I.Source.left l.link_in) (g.O.Sink.held l.out)) (g.J.Store.may_leave l.journal_out)
+      (g.B.Observer.told start since l.observer) (g.B.Observer.told_end start since l.observer);
   journal : g.J.Store.failed l.journal_out ≡ false;
   settled : IsSettled (g.J.Store.seen l.journal_out) (g.J.Store.may_leave l.journal_out);
   grown : (more : List ℕ) × Appends (g.J.Store.seen l.fn.journal_out) (g.J.Store.seen l.journal_out) more;

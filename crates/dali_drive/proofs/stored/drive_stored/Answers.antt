@@ -1,40 +1,17 @@
-use Rattle.dali_drive.proofs.StoreLemmas.{driven_part}
+use Rattle.std.proofs.lemmas.Result.{IfOk-weaker, IfErr-weaker}
+use Rattle.std.specs.Prelude.{⊤}
+use Rattle.dali_drive.specs.declared.observer.Nobody.{Nobody}
+use Rattle.dali_drive.proofs.ObservedLemmas.{drive_of, end_of}
 use Rattle.dali_drive.proofs.stored.drive_stored.Goals as goal
 
-pub returns-in-Ok-drive-clause-driven : goal.returns-in-Ok-drive-clause-driven
-returns-in-Ok-drive-clause-driven g c = record {
-  begun = record {
-    journal = c.in-Ok.journal;
-    opened = c.in-Ok.ensures.journal;
-    middle = g.S.Store.seen c.open.new.store;
-    written = c.in-Ok.ensures.holds;
-  };
-  drive = rw c.new.ensures.journal at c.in-Ok-drive.ensures.driven;
-}
+pub returns-clause-driven : goal.returns-clause-driven
+returns-clause-driven g c =
+    IfOk-weaker c.drive_stored_observed.result _ _
+    (λ writer is. drive_of {B = Nobody} (λ _ _ _ _. ⊤) (λ _ _ _ _ _ _ _. ⊤) c.args.limit c.args.most c.args.orders.now c.args.moment _ _ _ _ writer is)
+    c.drive_stored_observed.ensures.driven
 
-pub returns-in-Err-drive-clause-broken : goal.returns-in-Err-drive-clause-broken
-returns-in-Err-drive-clause-broken g c =
-    let off = rw c.new.ensures.journal at c.in-Err-drive.ensures.broken in (
-      (
-        record {
-          journal = c.in-Ok.journal;
-          opened = c.in-Ok.ensures.journal;
-          middle = g.S.Store.seen c.open.new.store;
-          written = c.in-Ok.ensures.holds;
-        },
-        off.drive,
-      ),
-      off.left,
-    )
-
-pub returns-in-Ok-drive-clause-any_moment : goal.returns-in-Ok-drive-clause-any_moment
-returns-in-Ok-drive-clause-any_moment g c =
-    driven_part g.S.Store.seen g.S.Store.may_leave g.S.Store.moment g.S.Store.left_since c.args.limit
-    c.args.most _ _ _ _
-    c.in-Ok.ensures.journal c.in-Ok.ensures.holds c.in-Ok.ensures.any_moment c.in-Ok-drive.ensures.any_moment
-
-pub returns-in-Err-drive-clause-any_moment : goal.returns-in-Err-drive-clause-any_moment
-returns-in-Err-drive-clause-any_moment g c =
-    driven_part g.S.Store.seen g.S.Store.may_leave g.S.Store.moment g.S.Store.left_since c.args.limit
-    c.args.most _ _ _ _
-    c.in-Ok.ensures.journal c.in-Ok.ensures.holds c.in-Ok.ensures.any_moment c.in-Err-drive.ensures.any_moment
+pub returns-clause-broken : goal.returns-clause-broken
+returns-clause-broken g c =
+    IfErr-weaker c.drive_stored_observed.result _ _
+    (λ fault is. end_of {B = Nobody} (λ _ _ _ _. ⊤) (λ _ _ _ _ _ _ _. ⊤) c.args.limit c.args.most c.args.orders.now c.args.moment _ _ _ _ _ _ fault is)
+    c.drive_stored_observed.ensures.broken

@@ -1,7 +1,7 @@
 use Rattle.std.proofs.Common.{refl, ◌∙◌, ℕ, List, Some, None, subst}
 use Rattle.std.proofs.lemmas.Result.{err_from_is_err_and}
 use Rattle.dali_read.specs.Findings.{IsFound}
-use Rattle.dali_drive.proofs.SurveyLemmas.{order_verified, verify_cut, same_told, silent_told, breaks_reading, read_of, broke_of}
+use Rattle.dali_drive.proofs.SurveyLemmas.{order_verified, verify_cut, breaks_reading, read_of, broke_of}
 use Rattle.dali_drive.proofs.survey.verify_order.Goals as goal
 
 pub returns-in_err-bytes-clause-broken : goal.returns-in_err-bytes-clause-broken
@@ -15,8 +15,7 @@ returns-then-put_all-clause-told g c =
     let silent = rw c.in_default.is at c.in_ok-bytes.ensures.silent in
     let read = read_of c.unit.result c.args.order.now.unit c.unit.ensures.value (silent refl) in
     order_verified c.args.order.now _ _ _ _ _ _ None read c.deref.result.now
-    (c.deref.ensures.0 ∙ c.order_silent_line.ensures) _ (silent_told c.args.order.now read.told c.deref.result.now)
-    (c.if-put_all.ensures.whole refl)
+    (c.deref.ensures.0 ∙ c.order_silent_line.ensures) None refl (c.if-put_all.ensures.whole refl)
 
 pub returns-else-put_all-clause-broken : goal.returns-else-put_all-clause-broken
 returns-else-put_all-clause-broken g c =
@@ -25,16 +24,15 @@ returns-else-put_all-clause-broken g c =
     verify_cut c.args.order.now _ _ _ _ _ _ None read c.deref.result.now
     (c.deref.ensures.0 ∙ c.order_silent_line.ensures) (c.if-put_all.ensures.cut refl)
 
-pub returns-in-Same-clause-told : goal.returns-in-Same-clause-told
-returns-in-Same-clause-told g c =
+pub returns-then-put_all-2-clause-told : goal.returns-then-put_all-2-clause-told
+returns-then-put_all-2-clause-told g c =
     let here = rw c.in-Some.is at c.in_ok-bytes.ensures.read in
     let read = read_of c.unit.result c.args.order.now.unit c.unit.ensures.value here in
     let found = subst (λ (l : List ℕ). IsFound c.args.order.now.updates l c.compare-finding.result) c.deref-2.ensures.0
     c.compare-finding.ensures in
     order_verified c.args.order.now _ _ _ _ _ _ (Some c.in-Some.bytes.items) read c.deref-3.result.now
-    (c.compare-finding.result, found, c.deref-3.ensures.0 ∙ c.finding_line.ensures) _
-    (same_told c.args.order.now c.in-Some.bytes.items c.compare-finding.result read.told c.deref-3.result.now _ found
-    (λ t. c.in-Same.is, λ e. refl)) (c.if-put_all-2.ensures.whole refl)
+    (c.compare-finding.result, found, c.deref-3.ensures.0 ∙ c.finding_line.ensures) (Some c.compare-finding.result)
+    (c.compare-finding.result, found, refl) (c.if-put_all-2.ensures.whole refl)
 
 pub returns-else-put_all-2-clause-broken : goal.returns-else-put_all-2-clause-broken
 returns-else-put_all-2-clause-broken g c =
@@ -44,21 +42,3 @@ returns-else-put_all-2-clause-broken g c =
     c.compare-finding.ensures in
     verify_cut c.args.order.now _ _ _ _ _ _ (Some c.in-Some.bytes.items) read c.deref-3.result.now
     (c.compare-finding.result, found, c.deref-3.ensures.0 ∙ c.finding_line.ensures) (c.if-put_all-2.ensures.cut refl)
-
-pub returns-in_default-matches : goal.returns-in_default-matches
-returns-in_default-matches g c =
-    let here = rw c.in-Some.is at c.in_ok-bytes.ensures.read in
-    let read = read_of c.unit.result c.args.order.now.unit c.unit.ensures.value here in
-    let found = subst (λ (l : List ℕ). IsFound c.args.order.now.updates l c.compare-finding.result) c.deref-2.ensures.0
-    c.compare-finding.ensures in
-    record {
-      told =
-          order_verified c.args.order.now _ _ _ _ _ _ (Some c.in-Some.bytes.items) read c.deref-3.result.now
-          (c.compare-finding.result, found, c.deref-3.ensures.0 ∙ c.finding_line.ensures) _
-          (same_told c.args.order.now c.in-Some.bytes.items c.compare-finding.result read.told c.deref-3.result.now _
-          found (λ never. cc, λ e. absurd (c.in_default-matches.not-Same e)))
-          (c.if-put_all-2.ensures.whole refl);
-      broken = tt;
-      ok = (refl, c.in_ok-bytes.ensures.ok.1, c.in_ok-bytes.ensures.ok.0, rw c.requires.out at c.if-put_all-2.ensures.failed);
-      err = tt;
-    }

@@ -5,5 +5,5 @@ use Rattle.dali_drive.proofs.std_streams.StdSinkSink.put.Given as goal
 abbrev pub invariant-loop : goal.invariant-loop
 invariant-loop g l = record {
   bytes : Keeps (g.W.Write.contents l.fn.self.writer) (g.W.Write.contents l.self.writer);
-  failed : l.self.failed ≡ l.fn.self.failed;
+  cause : l.self.cause ≡ l.fn.self.cause;
 }

@@ -5,5 +5,5 @@ use Rattle.dali_drive.proofs.std_streams.StdSourceSource.take_byte.Given as goal
 abbrev pub invariant-loop : goal.invariant-loop
 invariant-loop g l = record {
   bytes : Keeps (g.R.Read.remaining l.fn.self.reader) (g.R.Read.remaining l.self.reader);
-  failed : l.self.failed ≡ l.fn.self.failed;
+  cause : l.self.cause ≡ l.fn.self.cause;
 }

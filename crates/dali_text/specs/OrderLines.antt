@@ -13,9 +13,13 @@ abbrev pub order_line : ℕ → Contents → List ℕ
 order_line number order = codes "item " ++ decimal number ++ codes " order " ++ decimal order.id
     ++ codes " unit " ++ decimal order.unit ++ codes " bytes " ++ decimal (length order.updates) ++ codes "\n"
 
+-- the updates of an order
+abbrev pub update_lines : Contents → List ℕ
+update_lines order = flat_map update_line order.updates
+
 -- an order with its updates
 abbrev pub order_lines : ℕ → Contents → List ℕ
-order_lines number order = order_line number order ++ flat_map update_line order.updates
+order_lines number order = order_line number order ++ update_lines order
 
 -- how many items were accepted and refused
 abbrev pub tally_line : ℕ → ℕ → List ℕ

@@ -3,10 +3,11 @@ ghost use Rattle.std.specs.List.{AllByRecursion, flat_map};
 ghost use Rattle.dali_journal.specs.declared.record.Record.{Record as Entry};
 ghost use Rattle.dali_journal.specs.declared.version.Version.TheVariants.{Two};
 ghost use Rattle.dali_journal.specs.Spelling.{IsRecord, spelling};
-ghost use Rattle.dali_text.specs.JournalLines.{counts_line, journal_text, record_line, records_text, standing_text};
-ghost use Rattle.dali_text.specs.JournalLines.{version_line};
+ghost use Rattle.dali_text.specs.JournalLines.{counts_line, journal_text, record_line, record_lines, records_text};
+ghost use Rattle.dali_text.specs.JournalLines.{standing_text, version_line};
 ghost use Rattle.dali_text.specs.Output.{TellsFailure, Takes};
 
+use crate::order_lines::write_updates;
 use crate::output::{Output, OutputFailed};
 use crate::record_text::RecordText;
 use dali_journal::{Journal, Piece, Record, Standing, Version};
@@ -35,6 +36,8 @@ impl fmt::Display for StandingText<'_> {
 
 /// Writes a journal (profile): the version of its file, a line for each record, the oldest first, and
 /// then how many bytes count of all that the file has, how many orders were begun, and the standing.
+/// `with_updates`, the line of a record that begins an order has that order's updates behind it, as
+/// `write_order` writes them.
 #[tactic(auto, using(crate::proofs::StreamLemmas::appends_both))]
 pub fn write_journal<W: Write>(
     output: &mut Output<W>,
@@ -42,28 +45,30 @@ pub fn write_journal<W: Write>(
     version: Version,
     counted: usize,
     total: usize,
+    with_updates: bool,
 ) -> Result<(), OutputFailed>
     ensures text { OnOk result (Takes W.contents output.old output.new
-        (journal_text version journal.now.records counted total)) }
+        (journal_text with_updates version journal.now.records counted total)) }
     ensures failed { TellsFailure result output.old output.new }
 {
     write_version(output, version)?;
-    write_told(output, journal, counted, total)
+    write_told(output, journal, counted, total, with_updates)
 }
 
-// Writes a line for each record of a journal, and what counts.
+// Writes the records of a journal, and what counts.
 #[tactic(auto, using(crate::proofs::StreamLemmas::appends_both))]
 fn write_told<W: Write>(
     output: &mut Output<W>,
     journal: &Journal,
     counted: usize,
     total: usize,
+    with_updates: bool,
 ) -> Result<(), OutputFailed>
     ensures text { OnOk result (Takes W.contents output.old output.new
-        (records_text journal.now.records counted total)) }
+        (records_text with_updates journal.now.records counted total)) }
     ensures failed { TellsFailure result output.old output.new }
 {
-    write_records(output, journal)?;
+    write_records(output, journal, with_updates)?;
     let orders = journal.orders();
     write_counts(output, counted, total, orders, &journal.standing())
 }
@@ -77,27 +82,35 @@ fn write_version<W: Write>(output: &mut Output<W>, version: Version) -> Result<(
     writeln!(output, "version {number}")
 }
 
-// Writes a line for each record of a journal, the oldest first.
-fn write_records<W: Write>(output: &mut Output<W>, journal: &Journal) -> Result<(), OutputFailed>
+// Writes each record of a journal, the oldest first.
+fn write_records<W: Write>(
+    output: &mut Output<W>,
+    journal: &Journal,
+    with_updates: bool,
+) -> Result<(), OutputFailed>
     ensures text { OnOk result (Takes W.contents output.old output.new
-        (flat_map record_line (reverse journal.now.records))) }
+        (flat_map (record_lines with_updates) (reverse journal.now.records))) }
     ensures failed { TellsFailure result output.old output.new }
 {
     // it tells that the records' numbers are in range
     let _limit = journal.limit();
-    write_each(output, journal.record_bytes())
+    write_each(output, journal.record_bytes(), with_updates)
 }
 
-// Writes a line for each record that the bytes are.
-fn write_each<W: Write>(output: &mut Output<W>, bytes: &[u8]) -> Result<(), OutputFailed>
+// Writes each record that the bytes are.
+fn write_each<W: Write>(
+    output: &mut Output<W>,
+    bytes: &[u8],
+    with_updates: bool,
+) -> Result<(), OutputFailed>
     ensures text { (records : List Entry) → AllByRecursion (IsRecord Two) records
         → bytes.now ≡ flat_map (spelling Two) records
-        → OnOk result (Takes W.contents output.old output.new (flat_map record_line records)) }
+        → OnOk result (Takes W.contents output.old output.new (flat_map (record_lines with_updates) records)) }
     ensures failed { TellsFailure result output.old output.new }
 {
     let mut rest = bytes;
     while let Piece::Whole(entry, len) = Record::read(rest) {
-        write_record(output, &entry)?;
+        write_record(output, &entry, with_updates)?;
         rest = behind(rest, len);
     }
     Ok(())
@@ -111,8 +124,25 @@ fn behind(bytes: &[u8], count: usize) -> &[u8]
     &bytes[count..]
 }
 
+// Writes a record, and where updates are wanted and it begins an order, that order's updates behind it.
+#[tactic(auto, using(crate::proofs::StreamLemmas::appends_both))]
+fn write_record<W: Write>(
+    output: &mut Output<W>,
+    entry: &Record,
+    with_updates: bool,
+) -> Result<(), OutputFailed>
+    ensures text { OnOk result (Takes W.contents output.old output.new (record_lines with_updates entry.now)) }
+    ensures failed { TellsFailure result output.old output.new }
+{
+    write_entry(output, entry)?;
+    match entry {
+        Record::Began(order, _) if with_updates => write_updates(output, order.updates()),
+        _ => Ok(()),
+    }
+}
+
 // Writes a record by itself.
-fn write_record<W: Write>(output: &mut Output<W>, entry: &Record) -> Result<(), OutputFailed>
+fn write_entry<W: Write>(output: &mut Output<W>, entry: &Record) -> Result<(), OutputFailed>
     ensures text { OnOk result (Takes W.contents output.old output.new (record_line entry.now)) }
     ensures failed { TellsFailure result output.old output.new }
 {

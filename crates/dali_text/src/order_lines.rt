@@ -41,7 +41,10 @@ fn write_heading<W: Write>(
 }
 
 // Writes the updates at once, which takes much less time than line by line.
-fn write_updates<W: Write>(output: &mut Output<W>, updates: &[(u8, u8)]) -> Result<(), OutputFailed>
+pub(crate) fn write_updates<W: Write>(
+    output: &mut Output<W>,
+    updates: &[(u8, u8)],
+) -> Result<(), OutputFailed>
     requires { length updates.now ≤ 115 }
     ensures text { OnOk result (Takes W.contents output.old output.new
         (flat_map update_line updates.now)) }

@@ -1,0 +1,121 @@
+-- How a report goes on.
+use Rattle.std.proofs.Common.{◌≡◌, ◌∙◌, refl, sym, ap, ◌||◌, ◌&&◌, ◌++◌, ℕ, Bool, true, false, List, [], ◌∷◌, Option, Some, None}
+use Rattle.std.proofs.Common.{option_map, subst, inl, inr, ◌⊎◌, IsOkAnd, IfOk, Result, Ok, Err, Vec, Global}
+use Rattle.std.specs.Io.KnownBytes.{Appends}
+use Rattle.std.proofs.KnownBytes.{Appends-trans}
+use Rattle.dali_bank.specs.Order.{Contents}
+use Rattle.dali_journal.specs.declared.record.Record.{Record}
+use Rattle.dali_journal.specs.Orders.{moment_of}
+use Rattle.dali_write.specs.Exchanges.{Exchange}
+use Rattle.dali_trace.specs.declared.happening.Reply.{Reply}
+use Rattle.dali_trace.specs.declared.happening.Reply.TheVariants as replies
+use Rattle.dali_trace.specs.declared.happening.Happening.{Happening}
+use Rattle.dali_trace.specs.declared.happening.Happening.TheVariants.{Answered}
+use Rattle.dali_trace.specs.Trace.{Start, records_of}
+use Rattle.dali_report.specs.declared.line.LastReply.{LastReply}
+use Rattle.dali_report.specs.declared.report.Report.{Report}
+use Rattle.dali_report.specs.declared.report.Spoken.{Spoken}
+use Rattle.dali_report.specs.Lines.{line_of, last_data}
+use Rattle.dali_report.specs.Reports.{resumed, spoken_of, is_number_of, exchanges, told_at, is_last_reply, is_well, report_text}
+use Rattle.dali_report.specs.Tallies.{IsTally}
+use Rattle.dali_report.specs.Told.{IsTold, HasWritten, report_held, has_failed, spoken, is_number}
+
+-- the unit and the number of what is kept of an order
+unit_of : (order : Option Contents)
+    → option_map (λ (one : Spoken). one.unit) (option_map spoken order) ≡ option_map (λ (one : Contents). one.unit) order
+unit_of None = refl
+unit_of (Some order) = refl
+
+number_of : (id : ℕ) (order : Option Contents) → is_number id (option_map spoken order) ≡ is_number_of id order
+number_of id None = refl
+number_of id (Some order) = refl
+
+-- where no line is wanted none is missed
+pub unwanted : {W : Type 0} (contents : W → Option (List ℕ)) (report : Report W) (text : List ℕ)
+    → (has_failed report ≡ true) ⊎ (report.output ≡ None) → has_failed report ≡ false
+    → Appends (report_held contents report) (report_held contents report) text
+unwanted contents report text (inl failed) well = cc
+unwanted contents report text (inr none) well = rw none tt
+
+-- where one is wanted, this one was written
+pub wanted : {W E : Type 0} (contents : W → Option (List ℕ)) (old new : Report W) (made : Result (Vec ℕ Global) E)
+    (text : List ℕ)
+    → ((has_failed old ≡ false)
+    × IsOkAnd made (λ line. Appends (report_held contents old) (report_held contents new) line.items))
+    → IfOk made (λ line. line.items ≡ text)
+    → (has_failed old ≡ false) × Appends (report_held contents old) (report_held contents new) text
+wanted contents old new (Ok line) text put is =
+    (put.0, subst (λ (l : List ℕ). Appends (report_held contents old) (report_held contents new) l) is put.1)
+wanted contents old new (Err error) text put is = absurd put.1
+
+-- a text and then a line
+pub more_written : {W : Type 0} (contents : W → Option (List ℕ)) (first old new : Report W) (text line : List ℕ)
+    → HasWritten contents first old text
+    → (has_failed new ≡ false → (has_failed old ≡ false)
+    × Appends (report_held contents old) (report_held contents new) line)
+    → HasWritten contents first new (text ++ line)
+more_written contents first old new text line before more = λ failed.
+    let now = more failed in
+    Appends-trans (report_held contents first) (report_held contents old) (report_held contents new) text line
+    (before now.0) now.1
+
+-- a last reply has its line
+text_of_last : (start : Start) (past : List Happening) (id : ℕ) (reply : Reply)
+    → is_last_reply (Answered id reply) ≡ true
+    → report_text start (Answered id reply ∷ past)
+    ≡ report_text start past ++ line_of (last_data (told_at start past id reply))
+text_of_last start past id replies.Taken last = cc
+text_of_last start past id (replies.Kept code) last = refl
+text_of_last start past id replies.IdReused last = refl
+text_of_last start past id replies.Busy last = refl
+text_of_last start past id replies.Full last = refl
+text_of_last start past id (replies.Blocked unit) last = refl
+
+-- and no exchange behind it
+none_since : (past : List Happening) (id : ℕ) (reply : Reply) → is_last_reply (Answered id reply) ≡ true
+    → exchanges (Answered id reply ∷ past) ≡ []
+none_since past id reply last = rw last refl
+
+module _ {W : Type 0} (contents : W → Option (List ℕ)) (start : Start) (first old : Report W) (past : List Happening)
+    (told : IsTold contents start first old past) (id : ℕ) (reply : Reply) where
+  -- what a report has in hand is what is told at the reply
+  pub last_is : (records : List Record) → records_of start past ≡ records → (last : LastReply)
+      → last ≡ record {
+        order = id;
+        unit = option_map (λ (one : Spoken). one.unit) old.spoken;
+        moment = moment_of id records;
+        reply = reply;
+        ended_now = old.ended || is_number id old.resumed;
+        frames = old.tally.frames;
+        misses = old.tally.misses;
+      }
+      → last ≡ told_at start past id reply
+  last_is records same last is =
+      rw (
+        is,
+        sym same,
+        told.spoken_is,
+        told.resumed_is,
+        told.ended_is,
+        told.tally_is.frames,
+        told.tally_is.misses,
+        unit_of (spoken_of start past),
+        number_of id (resumed start),
+      ) refl
+
+  -- its line was written, and the next one begins
+  pub told_last : (new : Report W) → is_last_reply (Answered id reply) ≡ true
+      → new.resumed ≡ old.resumed → new.spoken ≡ old.spoken → new.ended ≡ old.ended → IsTally [] new.tally
+      → new.all_done ≡ (old.all_done && is_well reply)
+      → (has_failed new ≡ false → (has_failed old ≡ false)
+      × Appends (report_held contents old) (report_held contents new) (line_of (last_data (told_at start past id reply))))
+      → IsTold contents start first new (Answered id reply ∷ past)
+  told_last new last resumes speaks ends tallies dones writes = record {
+    resumed_is = resumes ∙ told.resumed_is;
+    spoken_is = speaks ∙ told.spoken_is;
+    ended_is = ends ∙ told.ended_is;
+    tally_is = subst (λ (x : List Exchange). IsTally x new.tally) (sym (none_since past id reply last)) tallies;
+    done_is = dones ∙ ap (λ (b : Bool). b && is_well reply) told.done_is;
+    written = rw (text_of_last start past id reply last) (more_written contents first old new (report_text start past)
+        (line_of (last_data (told_at start past id reply))) told.written writes);
+  }

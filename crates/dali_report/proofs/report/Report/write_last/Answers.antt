@@ -1,0 +1,21 @@
+use Rattle.std.proofs.Common.{refl}
+use Rattle.dali_report.specs.Lines.{line_of, last_data}
+use Rattle.dali_report.proofs.ReportLemmas.{unwanted, wanted}
+use Rattle.dali_report.proofs.report.Report.write_last.Goals as goal
+
+pub returns-then-is_wanted : goal.returns-then-is_wanted
+returns-then-is_wanted g c = record {
+  same = c.put.ensures.same;
+  written = λ failed. wanted g.W.Write.contents c.args.self.now c.put.new.self c.line.result
+      (line_of (last_data c.args.last.now)) (c.put.ensures.put failed) c.line.ensures;
+}
+
+pub returns-else-is_wanted : goal.returns-else-is_wanted
+returns-else-is_wanted g c = record {
+  same = refl;
+  written = λ well. (
+    well,
+    unwanted g.W.Write.contents c.args.self.now (line_of (last_data c.args.last.now))
+        (c.is_wanted.ensures c.if-is_wanted.false) well,
+  );
+}

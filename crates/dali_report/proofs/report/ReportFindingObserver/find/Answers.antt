@@ -1,0 +1,21 @@
+use Rattle.dali_report.specs.Lines.{line_of, found_data}
+use Rattle.dali_report.specs.Reports.{found_lines}
+use Rattle.dali_report.proofs.ReportLemmas.{unwanted, wanted, more_written}
+use Rattle.dali_report.proofs.report.ReportFindingObserver.find.Goals as goal
+
+pub returns-then-is_wanted : goal.returns-then-is_wanted
+returns-then-is_wanted g c = λ first past told.
+    more_written g.W.Write.contents first c.args.self.now c.put.new.self (found_lines past)
+    (line_of (found_data c.args.order.now c.args.found)) told
+    (λ failed. wanted g.W.Write.contents c.args.self.now c.put.new.self c.found_line.result
+    (line_of (found_data c.args.order.now c.args.found)) (c.put.ensures.put failed) c.found_line.ensures)
+
+pub returns-else-is_wanted : goal.returns-else-is_wanted
+returns-else-is_wanted g c = λ first past told.
+    more_written g.W.Write.contents first c.args.self.now c.args.self.now (found_lines past)
+    (line_of (found_data c.args.order.now c.args.found)) told
+    (λ well. (
+      well,
+      unwanted g.W.Write.contents c.args.self.now (line_of (found_data c.args.order.now c.args.found))
+          (c.is_wanted.ensures c.if-is_wanted.false) well,
+    ))

@@ -1,0 +1,31 @@
+use Rattle.std.proofs.Common.{◌∙◌, refl}
+use Rattle.dali_report.specs.Lines.{line_of, end_data}
+use Rattle.dali_report.specs.Reports.{report_text}
+use Rattle.dali_report.proofs.ReportLemmas.{unwanted, wanted, more_written}
+use Rattle.dali_report.proofs.report.ReportObserver.see_end.Goals as goal
+
+pub returns-then-is_wanted : goal.returns-then-is_wanted
+returns-then-is_wanted g c = λ start first past told.
+    let line = line_of (end_data c.args.fault c.args.frame.now c.args.read.now) in
+    let kept = c.put.ensures.same in
+    record {
+      done_is = (rw kept refl) ∙ told.done_is;
+      written = more_written g.W.Write.contents first c.args.self.now c.put.new.self (report_text start past) line
+          told.written
+          (λ failed. wanted g.W.Write.contents c.args.self.now c.put.new.self c.end_line.result line
+          (c.put.ensures.put failed) c.end_line.ensures);
+    }
+
+pub returns-else-is_wanted : goal.returns-else-is_wanted
+returns-else-is_wanted g c = λ start first past told.
+    let line = line_of (end_data c.args.fault c.args.frame.now c.args.read.now) in
+    record {
+      done_is = told.done_is;
+      written = more_written g.W.Write.contents first c.args.self.now c.args.self.now (report_text start past) line
+          told.written
+          (λ well. (
+            well,
+            unwanted g.W.Write.contents c.args.self.now line
+                (c.is_wanted.ensures c.if-is_wanted.false) well,
+          ));
+    }

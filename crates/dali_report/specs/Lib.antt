@@ -1,0 +1,4 @@
+pub mod Lines
+pub mod Tallies
+pub mod Reports
+pub mod Told

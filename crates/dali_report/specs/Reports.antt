@@ -1,0 +1,109 @@
+-- What a report tells of a drive: a line for each order at its last reply. A trace has the newest happening first.
+use Rattle.std.specs.Prelude.{◌==◌, ◌||◌, ◌&&◌, ℕ, Bool, true, false, List, [], ◌∷◌, ◌++◌, Option, Some, None, length}
+use Rattle.std.specs.Prelude.{option_map}
+use Rattle.dali_bank.specs.Order.{Contents}
+use Rattle.dali_frame.specs.declared.forward.Frame.{Frame}
+use Rattle.dali_journal.specs.declared.record.Code.TheVariants.{Done}
+use Rattle.dali_journal.specs.declared.record.Record.TheVariants.{Ended}
+use Rattle.dali_journal.specs.declared.standing.Standing.{Standing}
+use Rattle.dali_journal.specs.declared.standing.Standing.TheVariants as standings
+use Rattle.dali_journal.specs.Orders.{moment_of}
+use Rattle.dali_journal.specs.Sentence.{standing_of}
+use Rattle.dali_read.specs.declared.finding.Finding.{Finding}
+use Rattle.dali_write.specs.Exchanges.{Exchange}
+use Rattle.dali_write.specs.Misses.{misses_in}
+use Rattle.dali_trace.specs.declared.happening.Reply.{Reply}
+use Rattle.dali_trace.specs.declared.happening.Reply.TheVariants as replies
+use Rattle.dali_trace.specs.declared.happening.Happening.{Happening}
+use Rattle.dali_trace.specs.declared.happening.Happening.TheVariants.{Asked, Answered, Kept}
+use Rattle.dali_trace.specs.Cut.{since, frames_in}
+use Rattle.dali_trace.specs.Trace.{Start, records_of}
+use Rattle.dali_drive.specs.declared.fault.DriveFault.{DriveFault}
+use Rattle.dali_report.specs.Lines.{counted, last_data, end_data, found_data, line_of}
+use Rattle.dali_report.specs.declared.line.LastReply.{LastReply}
+
+-- the order that a standing leaves unfinished
+abbrev pub unfinished_in : Standing → Option Contents
+unfinished_in (standings.Began order) = Some order
+unfinished_in (standings.Opened order) = Some order
+unfinished_in other = None
+
+-- the one that the journal had left unfinished when the drive began
+abbrev pub resumed : Start → Option Contents
+resumed start = unfinished_in (standing_of start.records)
+
+-- the order that is spoken of: the newest that was asked, and before any was the one that is resumed
+abbrev pub spoken_of : Start → List Happening → Option Contents
+spoken_of start [] = resumed start
+spoken_of start (Asked order moment ∷ past) = Some order
+spoken_of start (other ∷ past) = spoken_of start past
+
+-- ---- where a look back ends: where an order was asked, and at a last reply, which is any but `taken`
+
+abbrev pub is_asked : Happening → Bool
+is_asked (Asked order moment) = true
+is_asked other = false
+
+abbrev pub is_last_reply : Happening → Bool
+is_last_reply (Answered id replies.Taken) = false
+is_last_reply (Answered id reply) = true
+is_last_reply other = false
+
+-- an end was kept among these
+abbrev pub has_end : List Happening → Bool
+has_end [] = false
+has_end (Kept (Ended code) ∷ past) = true
+has_end (other ∷ past) = has_end past
+
+-- the end of the order of this number was kept in this drive: since it was asked, or it is the one that was resumed
+abbrev pub is_number_of : ℕ → Option Contents → Bool
+is_number_of id None = false
+is_number_of id (Some order) = order.id == id
+
+abbrev pub is_ended_now : Start → List Happening → ℕ → Bool
+is_ended_now start past id = has_end (since is_asked past) || is_number_of id (resumed start)
+
+-- the exchanges since the last reply before
+abbrev pub exchanges : List Happening → List Exchange
+exchanges past = frames_in (since is_last_reply past)
+
+-- what is told of the order of this number at this reply
+abbrev pub told_at : Start → List Happening → ℕ → Reply → LastReply
+told_at start past id reply = record {
+  order = id;
+  unit = option_map (λ order. order.unit) (spoken_of start past);
+  moment = moment_of id (records_of start past);
+  reply = reply;
+  ended_now = is_ended_now start past id;
+  frames = counted (length (exchanges past));
+  misses = counted (misses_in (exchanges past));
+}
+
+-- the text of a report: a line for each last reply
+abbrev pub report_text : Start → List Happening → List ℕ
+report_text start [] = []
+report_text start (Answered id replies.Taken ∷ past) = report_text start past
+report_text start (Answered id reply ∷ past) = report_text start past ++ line_of (last_data (told_at start past id reply))
+report_text start (other ∷ past) = report_text start past
+
+-- and with the fault of an answer
+abbrev pub broken_text : Start → List Happening → DriveFault → Frame → List ℕ → List ℕ
+broken_text start past fault frame text = report_text start past ++ line_of (end_data fault frame text)
+
+-- ---- the text of what was found of orders
+
+abbrev pub found_lines : List (Contents × Option Finding) → List ℕ
+found_lines [] = []
+found_lines (newest ∷ found) = found_lines found ++ line_of (found_data newest.0 newest.1)
+
+-- ---- each last reply is `kept 0 Done`
+
+abbrev pub is_well : Reply → Bool
+is_well replies.Taken = true
+is_well (replies.Kept Done) = true
+is_well other = false
+
+abbrev pub all_done : List Happening → Bool
+all_done [] = true
+all_done (Answered id reply ∷ past) = all_done past && is_well reply
+all_done (other ∷ past) = all_done past

@@ -1,0 +1,73 @@
+-- What a report has been told, and what it holds.
+use Rattle.std.specs.Prelude.{◌≡◌, ◌||◌, ◌==◌, ℕ, Bool, false, List, [], Option, Some, None, option_map}
+use Rattle.std.specs.Io.KnownBytes.{Appends}
+use Rattle.std.proofs.KnownBytes.{Appends-nil}
+use Rattle.dali_bank.specs.Order.{Contents}
+use Rattle.dali_frame.specs.declared.forward.Frame.{Frame}
+use Rattle.dali_read.specs.declared.finding.Finding.{Finding}
+use Rattle.dali_text.specs.declared.output.Output.{Output}
+use Rattle.dali_text.specs.Output as output
+use Rattle.dali_trace.specs.declared.happening.Happening.{Happening}
+use Rattle.dali_trace.specs.Cut.{since}
+use Rattle.dali_trace.specs.Trace.{Start}
+use Rattle.dali_drive.specs.declared.fault.DriveFault.{DriveFault}
+use Rattle.dali_report.specs.declared.report.Report.{Report}
+use Rattle.dali_report.specs.declared.report.Spoken.{Spoken}
+use Rattle.dali_report.specs.Reports.{resumed, spoken_of, is_asked, has_end, exchanges, report_text, broken_text, found_lines, all_done}
+use Rattle.dali_report.specs.Tallies.{IsTally}
+
+-- an output that may be none
+abbrev pub output_held : {W : Type 0} → (W → Option (List ℕ)) → Option (Output W) → Option (List ℕ)
+output_held contents None = None
+output_held contents (Some out) = output.held contents out
+
+abbrev pub output_failed : {W : Type 0} → Option (Output W) → Bool
+output_failed None = false
+output_failed (Some out) = output.has_failed out
+
+-- the bytes that a report holds, where they are known, and whether a line couldn't be written
+abbrev pub report_held : {W : Type 0} → (W → Option (List ℕ)) → Report W → Option (List ℕ)
+report_held contents report = output_held contents report.output
+
+abbrev pub has_failed : {W : Type 0} → Report W → Bool
+has_failed report = report.starved || output_failed report.output
+
+-- an order, in what a report keeps of it
+abbrev pub spoken : Contents → Spoken
+spoken order = record { id = order.id; unit = order.unit }
+
+-- it is that of this number
+abbrev pub is_number : ℕ → Option Spoken → Bool
+is_number id None = false
+is_number id (Some one) = one.id == id
+
+-- unless it has failed, this text stands behind what the first of the two held
+abbrev pub HasWritten : {W : Type 0} → (W → Option (List ℕ)) → Report W → Report W → List ℕ → Type 0
+HasWritten contents first now text =
+    has_failed now ≡ false → Appends (report_held contents first) (report_held contents now) text
+
+-- since it was the first of the two, it was told this trace from that start
+pub record IsTold {W : Type 0} (contents : W → Option (List ℕ)) (start : Start) (first now : Report W)
+    (past : List Happening) : Type 0 where
+  pub resumed_is : now.resumed ≡ option_map spoken (resumed start)
+  pub spoken_is : now.spoken ≡ option_map spoken (spoken_of start past)
+  pub ended_is : now.ended ≡ has_end (since is_asked past)
+  pub tally_is : IsTally (exchanges past) now.tally
+  pub done_is : now.all_done ≡ all_done past
+  pub written : HasWritten contents first now (report_text start past)
+
+-- and then that this fault broke the exchange of this frame off, with what was read of the answer
+pub record IsToldEnd {W : Type 0} (contents : W → Option (List ℕ)) (start : Start) (first now : Report W)
+    (past : List Happening) (fault : DriveFault) (frame : Frame) (text : List ℕ) : Type 0 where
+  pub done_is : now.all_done ≡ all_done past
+  pub written : HasWritten contents first now (broken_text start past fault frame text)
+
+-- it was told that this was found of these orders, the newest first
+abbrev pub IsToldFound : {W : Type 0} → (W → Option (List ℕ)) → Report W → Report W
+    → List (Contents × Option Finding) → Type 0
+IsToldFound contents first now found = HasWritten contents first now (found_lines found)
+
+-- at first, nothing
+pub none_found : {W : Type 0} (contents : W → Option (List ℕ)) (report : Report W)
+    → IsToldFound contents report report []
+none_found contents report = λ failed. Appends-nil (report_held contents report)

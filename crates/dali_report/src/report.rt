@@ -1,0 +1,261 @@
+ghost use Rattle.std.specs.Prelude.{◌≡◌, ◌∷◌, ◌⊎◌, ◌||◌, List, IsOkAnd, OnOk, None, false, true, is_some, option_map};
+ghost use Rattle.std.specs.Io.KnownBytes.{Appends};
+ghost use Rattle.dali_text.specs.Output.{Takes, TellsFailure};
+ghost use Rattle.dali_trace.specs.declared.happening.Happening.{Happening};
+ghost use Rattle.dali_trace.specs.declared.happening.Happening.TheVariants.{Answered};
+ghost use Rattle.dali_trace.specs.Trace.{Start, records_of};
+ghost use Rattle.dali_report.specs.Lines.{last_data, line_of};
+ghost use Rattle.dali_report.specs.Reports.{is_last_reply, is_well as well, resumed};
+ghost use Rattle.dali_report.specs.Told.{IsTold, IsToldEnd, output_held, output_failed, report_held};
+ghost use Rattle.dali_report.specs.Told.{has_failed as report_failed, spoken, is_number, IsToldFound, none_found};
+
+use crate::line::{LastReply, end_line, found_line};
+use crate::tally::Tally;
+use dali_bank::Order;
+use dali_drive::{DriveFault, FindingObserver, Observer};
+use dali_frame::Frame;
+use dali_journal::{Code, Journal, Record, Standing};
+use dali_read::Finding;
+use dali_text::{Output, OutputFailed};
+use dali_trace::{Happening, Reply};
+use std::alloc::{AllocError, Global};
+use std::io::{ErrorKind, Write};
+
+// An order of which is spoken.
+#[derive(Clone, Copy)]
+struct Spoken {
+    id: u64,
+    unit: u8,
+}
+
+impl Spoken {
+    fn of(order: &Order) -> Spoken
+        ensures { result ≡ spoken order.now }
+    {
+        Spoken {
+            id: order.id(),
+            unit: order.unit(),
+        }
+    }
+}
+
+/// The report of a drive (profile): a line of JSON for each order at its last reply, and one for an answer that broke
+/// the drive off. With no output it keeps in mind alone whether all were done.
+///
+/// A line is flushed before more happens. Where one can't be written, no more is.
+#[derive(Drop)]
+pub struct Report<W> {
+    alloc: Global,
+    output: Option<Output<W>>,
+    // Whether there was no memory for a line.
+    starved: bool,
+    // The order that the journal had left unfinished.
+    resumed: Option<Spoken>,
+    // The order that was asked last, or the one that is resumed.
+    spoken: Option<Spoken>,
+    // Whether an end was kept since an order was asked.
+    ended: bool,
+    tally: Tally,
+    all_done: bool,
+}
+
+impl<W: Write> Report<W> {
+    /// A report into an output, where one is wanted.
+    pub fn new(alloc: Global, output: Option<Output<W>>) -> Report<W>
+        ensures held { report_held W.contents result ≡ output_held W.contents output }
+        ensures failed { report_failed result ≡ output_failed output }
+        ensures done { result.all_done ≡ true }
+    {
+        Report {
+            alloc,
+            output,
+            starved: false,
+            resumed: None,
+            spoken: None,
+            ended: false,
+            tally: Tally::new(),
+            all_done: true,
+        }
+    }
+
+    /// Whether each last reply was `kept 0 Done`.
+    pub fn all_done(&self) -> bool
+        ensures { result ≡ self.now.all_done }
+    {
+        self.all_done
+    }
+
+    /// Whether a line couldn't be written.
+    pub fn has_failed(&self) -> bool
+        ensures { result ≡ report_failed self.now }
+    {
+        self.starved || self.output_cause().is_some()
+    }
+
+    /// Of what kind the failure of its output was; none where it was want of memory.
+    pub fn cause(&self) -> Option<ErrorKind> {
+        self.output_cause()
+    }
+
+    fn output_cause(&self) -> Option<ErrorKind>
+        ensures { is_some result ≡ output_failed self.now.output }
+    {
+        match &self.output {
+            Some(output) => output.cause(),
+            None => None,
+        }
+    }
+
+    // Tells a last reply.
+    fn tell(&mut self, id: u64, reply: Reply, journal: &Journal)
+        ensures told { (start : Start) (first : Report W) (past : List Happening)
+            → IsTold W.contents start first self.old past → records_of start past ≡ journal.now.records
+            → is_last_reply (Answered id reply) ≡ true
+            → IsTold W.contents start first self.new (Answered id reply ∷ past) }
+    {
+        self.write_last(&LastReply {
+            order: id,
+            unit: self.unit(),
+            moment: journal.moment(id),
+            reply,
+            ended_now: self.ends_now(id),
+            frames: self.tally.frames,
+            misses: self.tally.misses,
+        });
+        self.tally = Tally::new();
+        self.all_done &= is_well(reply);
+    }
+
+    // The short address of the order of which is spoken.
+    fn unit(&self) -> Option<u8>
+        ensures { result ≡ option_map (λ spoken. spoken.unit) self.now.spoken }
+    {
+        match self.spoken {
+            Some(spoken) => Some(spoken.unit),
+            None => None,
+        }
+    }
+
+    // Whether the order of this number is the one that is resumed.
+    fn is_resumed(&self, id: u64) -> bool
+        ensures { result ≡ is_number id self.now.resumed }
+    {
+        match self.resumed {
+            Some(spoken) => spoken.id == id,
+            None => false,
+        }
+    }
+
+    // Whether the end of the order of this number was kept in this drive.
+    fn ends_now(&self, id: u64) -> bool
+        ensures { result ≡ (self.now.ended || is_number id self.now.resumed) }
+    {
+        self.ended || self.is_resumed(id)
+    }
+
+    // Writes what is told of an order.
+    fn write_last(&mut self, last: &LastReply)
+        ensures same { self.new ≡ record self.old { output = self.new.output; starved = self.new.starved } }
+        ensures written { report_failed self.new ≡ false → (report_failed self.old ≡ false)
+            × Appends (report_held W.contents self.old) (report_held W.contents self.new)
+            (line_of (last_data last.now)) }
+    {
+        if self.is_wanted() {
+            self.put(last.line(self.alloc));
+        }
+    }
+
+    // Whether lines are written: there is an output, and none has failed.
+    fn is_wanted(&self) -> bool
+        ensures { (result ≡ false) → (report_failed self.now ≡ true) ⊎ (self.now.output ≡ None) }
+    {
+        self.output.is_some() && !self.has_failed()
+    }
+
+    // Writes a line, and flushes it.
+    fn put(&mut self, line: Result<Vec<u8>, AllocError>)
+        ensures same { self.new ≡ record self.old { output = self.new.output; starved = self.new.starved } }
+        ensures put { report_failed self.new ≡ false → (report_failed self.old ≡ false) × IsOkAnd line
+            (λ line. Appends (report_held W.contents self.old) (report_held W.contents self.new) line.items) }
+    {
+        let Ok(line) = line else {
+            self.starved = true;
+            return;
+        };
+        if let Some(output) = &mut self.output {
+            let _ = write_line(output, line.as_slice());
+        }
+    }
+}
+
+impl<W: Write + Drop> Observer for Report<W> {
+    ghost told = { IsTold W.contents };
+
+    ghost told_end = { IsToldEnd W.contents };
+
+    fn begin(&mut self, journal: &Journal) {
+        self.resumed = unfinished(journal);
+        self.spoken = self.resumed;
+        self.ended = false;
+        self.tally = Tally::new();
+        self.all_done = true;
+    }
+
+    fn see(&mut self, happening: &Happening, journal: &Journal) {
+        match happening {
+            Happening::Asked(order, _) => {
+                self.spoken = Some(Spoken::of(order));
+                self.ended = false;
+            }
+            Happening::Sent(frame, answer) => self.tally.add(frame, *answer),
+            Happening::Kept(Record::Ended(_)) => self.ended = true,
+            Happening::Answered(_, Reply::Taken) => {}
+            Happening::Answered(id, reply) => self.tell(*id, *reply, journal),
+            Happening::Kept(_) | Happening::Stopped | Happening::Powered(_) => {}
+        }
+    }
+
+    fn see_end(&mut self, fault: DriveFault, frame: &Frame, read: &[u8]) {
+        if self.is_wanted() {
+            self.put(end_line(self.alloc, fault, frame, read));
+        }
+    }
+}
+
+impl<W: Write + Drop> FindingObserver for Report<W> {
+    ghost told_found = { IsToldFound W.contents };
+
+    fn find(&mut self, order: &Order, found: Option<Finding>) {
+        if self.is_wanted() {
+            self.put(found_line(self.alloc, order, found));
+        }
+    }
+
+    ghost told_none = { λ observer. none_found W.contents observer };
+}
+
+// The order that a journal leaves unfinished.
+fn unfinished(journal: &Journal) -> Option<Spoken>
+    ensures { (start : Start) → start.records ≡ journal.now.records → result ≡ option_map spoken (resumed start) }
+{
+    match journal.standing() {
+        Standing::Began(order) | Standing::Opened(order) => Some(Spoken::of(&order)),
+        Standing::Idle | Standing::Left(_) => None,
+    }
+}
+
+// Whether a last reply is `kept 0 Done`.
+fn is_well(reply: Reply) -> bool
+    ensures { result ≡ well reply }
+{
+    matches!(reply, Reply::Taken | Reply::Kept(Code::Done))
+}
+
+// Writes a line, and flushes it.
+fn write_line<W: Write>(output: &mut Output<W>, line: &[u8]) -> Result<(), OutputFailed>
+    ensures line { OnOk result (Takes W.contents output.old output.new line.now) }
+    ensures failed { TellsFailure result output.old output.new }
+{
+    output.write_all(line)?;
+    output.flush()
+}

@@ -3,7 +3,7 @@
 
 ghost use Rattle.dali_commands.specs.LinkCommands.{IsShort};
 
-use dali_commands::drive::DriveNames;
+use dali_commands::drive::{DriveNames, DriveTerms};
 use dali_commands::frame::frame;
 use dali_commands::lines::Lines;
 use dali_commands::{Fault, FileCommand, LinkCommand, Status, StdSink, StdSource, write_fault};
@@ -58,28 +58,35 @@ fn run(rt: &HostRuntime, words: &Vec<String>) -> Status {
                 single_frames,
             },
         ) => on_file(rt, scenario, FileCommand::Run { single_frames }),
-        Ok(Job::Frame(digits)) => {
-            let mut output = Output::new(io::writer(rt));
-            let status = frame(digits, &mut output);
-            tell_cause(rt, status, output.cause())
-        }
+        Ok(Job::Frame(digits)) => on_word(rt, digits),
         Ok(Job::Show(dump)) => on_file(rt, dump, FileCommand::Show),
-        Ok(Job::Journal(records)) => on_file(rt, records, FileCommand::Journal),
+        Ok(
+            Job::Journal {
+                records,
+                with_updates,
+            },
+        ) => on_file(rt, records, FileCommand::Journal { with_updates }),
         Ok(
             Job::Drive {
                 orders,
                 journal,
                 moment,
+                require_done,
+                report,
             },
         ) => on_link(
             rt,
             LinkCommand::Drive {
                 names: DriveNames { orders, journal },
-                moment,
+                terms: DriveTerms {
+                    moment,
+                    require_done,
+                },
+                report,
             },
         ),
         Ok(Job::Read { unit, bank }) => on_link(rt, LinkCommand::Read { unit, bank }),
-        Ok(Job::Verify(orders)) => on_link(rt, LinkCommand::Verify(orders)),
+        Ok(Job::Verify { orders, report }) => on_link(rt, LinkCommand::Verify { orders, report }),
         Ok(Job::Scan) => on_link(rt, LinkCommand::Scan),
         Err(error) if error.kind() == clap::error::ErrorKind::OutOfMemory => out_of_memory(
             rt, stream,
@@ -137,6 +144,16 @@ fn texts_of<'a>(alloc: Global, words: &'a Vec<String>) -> Result<Vec<&'a str>, A
     Ok(texts)
 }
 
+// Prints what the word of a frame means. Standard error has why the argument is none.
+fn on_word(rt: &HostRuntime, digits: &str) -> Status {
+    let Ok(lines) = LineWriter::new(rt.alloc(), rt.stderr()) else {
+        return out_of_memory(rt, FaultStream::Output);
+    };
+    let mut output = Output::new(io::writer(rt));
+    let status = frame(rt.alloc(), digits, &mut output, &mut Output::new(lines));
+    tell_cause(rt, status, output.cause())
+}
+
 // Carries out a command over a file, or over standard input for `-`. The name `/dev/stdin` is read through the runtime
 // too, since a process may lack the right to open it by name.
 fn on_file(rt: &HostRuntime, name: &str, command: FileCommand) -> Status {
@@ -175,11 +192,31 @@ fn on_input<R: Read, W: Write>(
     let _ = notes.flush();
     let name = Escaped::whole(name);
     let _ = match input.cause() {
+        Some(ErrorKind::Uncategorized) if is_closed(rt) => {
+            eprintln!(rt; "error: the input can't be read: {name}: it is closed")
+        }
+        Some(ErrorKind::Uncategorized) => eprintln!(rt; "error: the input can't be read: {name}"),
         Some(cause) => eprintln!(rt; "error: the input can't be read: {name}: {cause}"),
         None if status == Status::Failed => eprintln!(rt; "error: memory ran out: {name}"),
+        None if status == Status::Refused && is_one_whole(command) => {
+            eprintln!(rt; "error: the input is refused: {name}")
+        }
         None => Ok(()),
     };
     tell_cause(rt, status, output.cause())
+}
+
+// Whether standard input is closed. A file that is opened while it is takes its number.
+fn is_closed(rt: &HostRuntime) -> bool {
+    match fs::metadata(rt, "/dev/fd/0") {
+        Ok(_) => false,
+        Err(error) => error.kind() == ErrorKind::NotFound,
+    }
+}
+
+// Whether what a command tells a person is of its input as a whole, so that the input's name belongs beside it.
+fn is_one_whole(command: FileCommand) -> bool {
+    matches!(command, FileCommand::Show | FileCommand::Journal { .. })
 }
 
 // Carries out a command over standard input and output. Where standard error can't be written, nothing more is.

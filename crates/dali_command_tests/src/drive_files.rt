@@ -1,8 +1,9 @@
 use crate::expected::expect_that;
-use dali_commands::drive::DriveNames;
+use dali_commands::drive::{DriveNames, DriveTerms};
 use dali_commands::drive_files::drive_files;
 use dali_commands::lines::Lines;
 use dali_commands::{Status, StdSink, StdSource};
+use dali_report::Report;
 use dali_text::Output;
 use std::fs::{File, Files};
 use std::test::Fail;
@@ -26,7 +27,7 @@ pub(crate) const SILENT: [u8; 37] = [
 ];
 
 // The same where it has begun.
-const BEGAN: [u8; 35] = [
+pub(crate) const BEGAN: [u8; 35] = [
     0x44, 0x42, 0x31, 0x02, 0x42, 0x00, 0x00, 0x00, 0x00, 0x00, 0x00, 0x00, 0x01, 0x00, 0x00, 0x00,
     0x00, 0x00, 0x00, 0x00, 0x00, 0x09, 0x06, 0x03, 0x03, 0x04, 0xA4, 0x05, 0xCE, 0x06, 0xEF, 0x07,
     0xAD, 0x08, 0xAB,
@@ -128,15 +129,21 @@ fn driven_files<R: Files<File = File> + AllocGlobal>(
         orders: name,
         journal: drive.journal,
     };
+    let terms = DriveTerms {
+        moment: drive.moment,
+        require_done: false,
+    };
+    let mut report: Report<io::Sink> = Report::new(rt.alloc(), None);
     let status = drive_files(
         rt,
         names,
-        drive.moment,
+        terms,
         &mut StdSource::new(answers.as_slice()),
         &mut StdSink::new(&mut sent),
         &mut Lines {
             output: Output::new(&mut told),
         },
+        &mut report,
     );
     fs::remove_file(rt, name)?;
     Ok(Driven { status, sent, told })

@@ -1,46 +1,66 @@
 // `drive` with everything in memory: the orders, the link, the journal and the lines.
-use crate::drive_files::{ORDER, PAIR, REFUSED, SILENT, TAKEN};
+use crate::drive_files::{BEGAN, ORDER, PAIR, REFUSED, SILENT, TAKEN};
 use crate::expected::expect_that;
 use dali_commands::Status;
-use dali_commands::drive::{DriveNames, drive_input};
+use dali_commands::drive::{DriveNames, DriveTerms, drive_input};
 use dali_commands::lines::Lines;
 use dali_drive::{StdSink, StdSource};
 use dali_input::Input;
+use dali_report::Report;
 use dali_store::MemoryStore;
 use dali_text::Output;
 use std::alloc::{AllocError, Global};
 use std::test::Fail;
 
-// How a drive ended, and what it sent, told and kept.
+// `SILENT` of the moment 7.
+const SILENT_AT_7: [u8; 37] = [
+    0x44, 0x42, 0x31, 0x02, 0x42, 0x00, 0x00, 0x00, 0x00, 0x00, 0x00, 0x00, 0x01, 0x00, 0x00, 0x00,
+    0x00, 0x00, 0x00, 0x00, 0x07, 0x09, 0x06, 0x03, 0x03, 0x04, 0xA4, 0x05, 0xCE, 0x06, 0xEF, 0x07,
+    0xAD, 0x08, 0xAB, 0x45, 0x03,
+];
+
+// How a drive ended, and what it sent, told, kept and reported.
 #[derive(Drop)]
 struct Driven {
     status: Status,
     sent: Vec<u8>,
     told: Vec<u8>,
     kept: Vec<u8>,
+    reported: Vec<u8>,
 }
 
-// Drives orders over an empty journal, with no frame answered.
-fn driven_in_memory(alloc: Global, orders: &str) -> Result<Driven, AllocError> {
-    let answers = b"--\n".repeat(alloc, 16)?;
+// Drives orders over a journal with these bytes, with these answers.
+fn driven_over(
+    alloc: Global,
+    orders: &str,
+    journal: &[u8],
+    answers: &[u8],
+    require_done: bool,
+) -> Result<Driven, AllocError> {
     let mut sent = Vec::new(alloc);
     let mut told = Vec::new(alloc);
-    let mut store = MemoryStore::new(alloc, Vec::new(alloc));
+    let mut reported = Vec::new(alloc);
+    let mut store = MemoryStore::new(alloc, journal.to_vec(alloc)?);
     let names = DriveNames {
         orders: "orders",
         journal: "journal",
+    };
+    let terms = DriveTerms {
+        moment: 7,
+        require_done,
     };
     let status = drive_input(
         alloc,
         names,
         &mut Input::new(orders.as_bytes()),
-        0,
-        &mut StdSource::new(answers.as_slice()),
+        terms,
+        &mut StdSource::new(answers),
         &mut StdSink::new(&mut sent),
         &mut store,
         &mut Lines {
             output: Output::new(&mut told),
         },
+        &mut Report::new(alloc, Some(Output::new(&mut reported))),
     );
     let kept = store.bytes().to_vec(alloc)?;
     Ok(Driven {
@@ -48,7 +68,14 @@ fn driven_in_memory(alloc: Global, orders: &str) -> Result<Driven, AllocError> {
         sent,
         told,
         kept,
+        reported,
     })
+}
+
+// Drives orders over an empty journal, with no frame answered.
+fn driven_in_memory(alloc: Global, orders: &str) -> Result<Driven, AllocError> {
+    let answers = b"--\n".repeat(alloc, 16)?;
+    driven_over(alloc, orders, b"", answers.as_slice(), false)
 }
 
 impl Driven {
@@ -65,7 +92,7 @@ fn orders_are_driven_in_memory(rt: HostRuntime) -> Result<(), Fail> {
     let found = driven_in_memory(rt.alloc(), ORDER)?;
     let sent = PAIR.as_bytes().repeat(rt.alloc(), 8)?;
     expect_that(
-        found.is(Status::Good, sent.as_slice(), TAKEN, &SILENT),
+        found.is(Status::Good, sent.as_slice(), TAKEN, &SILENT_AT_7),
         "what the drive of files does",
     )
 }
@@ -83,4 +110,102 @@ fn refused_orders_touch_nothing_in_memory(rt: HostRuntime) -> Result<(), Fail> {
         found.is(Status::Refused, b"", "fault 12 Document\n", b""),
         "the fault alone",
     )
+}
+
+// What a report has of a drive over a journal, in which some frames aren't answered and then the link ends.
+struct Reported<'a> {
+    name: &'a str,
+    orders: &'a str,
+    journal: &'a [u8],
+    answers: &'a str,
+    require_done: bool,
+    status: Status,
+    report: &'a str,
+}
+
+const OTHER: &str = "[{\"order\":1,\"unit\":8,\"year\":7}]";
+
+const NONE_16: &str = "--\n--\n--\n--\n--\n--\n--\n--\n--\n--\n--\n--\n--\n--\n--\n--\n";
+
+static REPORTS: [Reported<'static>; 7] = [
+    Reported {
+        name: "an order that ended now",
+        orders: ORDER,
+        journal: &[],
+        answers: NONE_16,
+        require_done: false,
+        status: Status::Good,
+        report: "{\"code\":3,\"ended\":\"now\",\"frames\":16,\"misses\":8,\"moment\":7,\"name\":\"Silent\",\"order\":1,\"reply\":\"kept 3 Silent\",\"unit\":9}\n",
+    },
+    Reported {
+        name: "an order that wasn't done, where it has to be",
+        orders: ORDER,
+        journal: &[],
+        answers: NONE_16,
+        require_done: true,
+        status: Status::Refused,
+        report: "{\"code\":3,\"ended\":\"now\",\"frames\":16,\"misses\":8,\"moment\":7,\"name\":\"Silent\",\"order\":1,\"reply\":\"kept 3 Silent\",\"unit\":9}\n",
+    },
+    Reported {
+        name: "an order that the journal had ended",
+        orders: ORDER,
+        journal: &SILENT,
+        answers: "",
+        require_done: false,
+        status: Status::Good,
+        report: "{\"code\":3,\"ended\":\"before\",\"frames\":0,\"misses\":0,\"moment\":0,\"name\":\"Silent\",\"order\":1,\"reply\":\"kept 3 Silent\",\"unit\":9}\n",
+    },
+    Reported {
+        name: "an order that is gone on with, and comes again",
+        orders: ORDER,
+        journal: &BEGAN,
+        answers: NONE_16,
+        require_done: false,
+        status: Status::Good,
+        report: "{\"code\":3,\"ended\":\"now\",\"frames\":16,\"misses\":8,\"moment\":0,\"name\":\"Silent\",\"order\":1,\"reply\":\"kept 3 Silent\",\"unit\":9}\n{\"code\":3,\"ended\":\"now\",\"frames\":0,\"misses\":0,\"moment\":0,\"name\":\"Silent\",\"order\":1,\"reply\":\"kept 3 Silent\",\"unit\":9}\n",
+    },
+    Reported {
+        name: "a number that was used",
+        orders: OTHER,
+        journal: &SILENT,
+        answers: "",
+        require_done: true,
+        status: Status::Refused,
+        report: "{\"code\":null,\"ended\":null,\"frames\":0,\"misses\":0,\"moment\":0,\"name\":null,\"order\":1,\"reply\":\"reused\",\"unit\":8}\n",
+    },
+    Reported {
+        name: "an answer that is none",
+        orders: ORDER,
+        journal: &[],
+        answers: "--\nz\\\u{7}\n",
+        require_done: false,
+        status: Status::Refused,
+        report: "{\"answer\":\"z\\\\x5C\\\\x07\",\"fault\":3,\"frame\":\"139C\",\"name\":\"Line\"}\n",
+    },
+    Reported {
+        name: "an answer without an end",
+        orders: ORDER,
+        journal: &[],
+        answers: "0123456789",
+        require_done: false,
+        status: Status::Refused,
+        report: "{\"answer\":\"012345678\",\"fault\":6,\"frame\":\"C301\",\"name\":\"TooLong\"}\n",
+    },
+];
+
+#[test]
+fn drives_are_reported(rt: HostRuntime) -> Result<(), Fail> {
+    for case in &REPORTS {
+        let found = driven_over(
+            rt.alloc(),
+            case.orders,
+            case.journal,
+            case.answers.as_bytes(),
+            case.require_done,
+        )?;
+        let is_right = found.status == case.status
+            && found.reported.as_slice() == case.report.as_bytes();
+        expect_that(is_right, case.name)?;
+    }
+    Ok(())
 }

@@ -4,6 +4,7 @@ use dali_commands::Status;
 use dali_commands::frame::frame;
 use dali_text::Output;
 use std::alloc::Global;
+use std::io;
 use std::test::Fail;
 
 // A word and the line of its frame, with a bar between them.
@@ -29,7 +30,8 @@ const NO_WORDS: &str = "|A3|A303 |A30311|A3G3|+A30|-A30|éé";
 // Whether the command ends so over an argument, and writes this, where there is this room.
 fn does(alloc: Global, argument: &str, room: Option<usize>, status: Status, text: &[u8]) -> bool {
     let mut writer = TestWriter::new(alloc, room);
-    let ended = frame(argument, &mut Output::new(&mut writer));
+    let mut notes = Output::new(io::sink());
+    let ended = frame(alloc, argument, &mut Output::new(&mut writer), &mut notes);
     ended == status && writer.held.as_slice() == text
 }
 

@@ -23,13 +23,11 @@ fn names_each(alloc: Global, cases: &[(&str, Job<'_>)]) -> Result<(), Fail> {
     Ok(())
 }
 
-static LINES: [(&str, Job<'static>); 7] = [
+static LINES: [(&str, Job<'static>); 5] = [
     ("dali_bench check orders.json", Job::Check("orders.json")),
     ("dali_bench frame A303", Job::Frame("A303")),
     ("dali_bench frame ", Job::Frame("")),
     ("dali_bench show bank.hex", Job::Show("bank.hex")),
-    ("dali_bench journal b.bin", Job::Journal("b.bin")),
-    ("dali_bench verify o.json", Job::Verify("o.json")),
     ("dali_bench scan", Job::Scan),
 ];
 
@@ -59,11 +57,53 @@ fn command_lines_of_a_run(rt: HostRuntime) -> Result<(), Fail> {
     names_each(rt.alloc(), &RUNS)
 }
 
-fn drive(moment: u64) -> Job<'static> {
+// Command lines of a journal, and whether each asks for the updates.
+static JOURNALS: [(&str, bool); 3] = [
+    ("dali_bench journal b.bin", false),
+    ("dali_bench journal b.bin --updates", true),
+    ("dali_bench journal --updates b.bin", true),
+];
+
+#[test]
+fn command_lines_of_a_journal(rt: HostRuntime) -> Result<(), Fail> {
+    for &(line, with_updates) in &JOURNALS {
+        let records = "b.bin";
+        names(
+            rt.alloc(),
+            line,
+            Job::Journal {
+                records,
+                with_updates,
+            },
+        )?;
+    }
+    Ok(())
+}
+
+// Command lines of a comparison, and the file of the report that each asks for.
+static COMPARISONS: [(&str, Option<&str>); 4] = [
+    ("dali_bench verify o.json", None),
+    ("dali_bench verify o.json --report r.json", Some("r.json")),
+    ("dali_bench verify --report=r.json o.json", Some("r.json")),
+    ("dali_bench verify --report= o.json", Some("")),
+];
+
+#[test]
+fn command_lines_of_a_comparison(rt: HostRuntime) -> Result<(), Fail> {
+    for &(line, report) in &COMPARISONS {
+        let orders = "o.json";
+        names(rt.alloc(), line, Job::Verify { orders, report })?;
+    }
+    Ok(())
+}
+
+fn drive(moment: u64, require_done: bool, report: Option<&str>) -> Job<'_> {
     Job::Drive {
         orders: "o.json",
         journal: "b.bin",
         moment,
+        require_done,
+        report,
     }
 }
 
@@ -78,7 +118,36 @@ dali_bench drive --moment 18446744073709551615 o.json b.bin|18446744073709551615
 fn command_lines_of_a_drive(rt: HostRuntime) -> Result<(), Fail> {
     for case in DRIVES.split('\n') {
         let (line, moment) = case.split_once('|').ok_or("a command line")?;
-        names(rt.alloc(), line, drive(moment.parse()?))?;
+        names(rt.alloc(), line, drive(moment.parse()?, false, None))?;
+    }
+    Ok(())
+}
+
+// Command lines of a drive, whether each wants all orders done, and the file of its report.
+static DRIVES_WITH_OPTIONS: [(&str, bool, Option<&str>); 5] = [
+    ("dali_bench drive --require-done o.json b.bin", true, None),
+    ("dali_bench drive o.json b.bin --require-done", true, None),
+    (
+        "dali_bench drive o.json b.bin --report r.json",
+        false,
+        Some("r.json"),
+    ),
+    (
+        "dali_bench drive o.json --report=r.json b.bin",
+        false,
+        Some("r.json"),
+    ),
+    (
+        "dali_bench drive --report r.json --require-done o.json b.bin",
+        true,
+        Some("r.json"),
+    ),
+];
+
+#[test]
+fn command_lines_of_a_drive_with_options(rt: HostRuntime) -> Result<(), Fail> {
+    for &(line, require_done, report) in &DRIVES_WITH_OPTIONS {
+        names(rt.alloc(), line, drive(0, require_done, report))?;
     }
     Ok(())
 }
@@ -130,6 +199,8 @@ dali_bench drive
 dali_bench drive a
 dali_bench drive --moment 5
 dali_bench drive a --moment 5
+dali_bench drive a --report r
+dali_bench journal --updates
 dali_bench read
 dali_bench read 5
 dali_bench verify";
@@ -138,18 +209,29 @@ const UNKNOWN: &str = "dali_bench check a b
 dali_bench check --fast a
 dali_bench check --frames a
 dali_bench check --moment 5 a
+dali_bench check --updates a
+dali_bench journal --report r a
 dali_bench run a b
 dali_bench drive a b c
 dali_bench drive --frames a b
+dali_bench drive --done a b
 dali_bench read 5 a b
 dali_bench read --moment 5 5 a
 dali_bench read -1 a
 dali_bench verify a b
+dali_bench verify --require-done a
 dali_bench scan a
 dali_bench scan --all";
 
 const TWICE: &str = "dali_bench run --frames a --frames
-dali_bench drive --moment 1 a b --moment 1";
+dali_bench drive --moment 1 a b --moment 1
+dali_bench drive --require-done a b --require-done
+dali_bench drive --report r a b --report r
+dali_bench journal --updates a --updates";
+
+const NO_VALUE: &str = "dali_bench drive a b --moment
+dali_bench drive a b --report
+dali_bench verify a --report";
 
 // Moments that are no numbers, or too large.
 const NO_MOMENTS: &str = "dali_bench drive a b --moment x
@@ -179,7 +261,7 @@ static REFUSED: [(ErrorKind, &str); 9] = [
     (ErrorKind::ArgumentConflict, TWICE),
     (ErrorKind::ValueValidation, NO_MOMENTS),
     (ErrorKind::ValueValidation, NO_UNITS),
-    (ErrorKind::InvalidValue, "dali_bench drive a b --moment"),
+    (ErrorKind::InvalidValue, NO_VALUE),
     (ErrorKind::InvalidSubcommand, "dali_bench chek"),
     (ErrorKind::DisplayHelp, "dali_bench --help"),
 ];

@@ -3,6 +3,14 @@ use dali_commands::{FileCommand, Status};
 use std::alloc::Global;
 use std::test::Fail;
 
+// The records of a journal,
+const RECORDS: FileCommand = FileCommand::Journal {
+    with_updates: false,
+};
+
+// and with them the updates of each begun order.
+const UPDATES: FileCommand = FileCommand::Journal { with_updates: true };
+
 // Order 1 for unit 5 with a GTIN, which was submitted at 1700000000 and is done.
 const DONE: [u8; 39] = [
     0x44, 0x42, 0x31, 0x02, 0x42, 0x00, 0x00, 0x00, 0x00, 0x00, 0x00, 0x00, 0x01, 0x00, 0x00, 0x00,
@@ -209,10 +217,15 @@ const OLD_FRONT_TOLD: &str = "version 1\ncounts 0 of 22 orders 0 standing idle\n
 type Cases<'a> = &'a [(&'a [u8], usize, &'a str)];
 
 // Tests how the command ends over each of the journals, and what it writes.
-fn answers_fronts(alloc: Global, status: Status, cases: Cases<'_>) -> Result<(), Fail> {
+fn answers_fronts(
+    alloc: Global,
+    command: FileCommand,
+    status: Status,
+    cases: Cases<'_>,
+) -> Result<(), Fail> {
     for &(bytes, len, text) in cases {
         let input = bytes.get(..len).ok_or(text)?;
-        answers(alloc, FileCommand::Journal, input, status, text)?;
+        answers(alloc, command, input, status, text)?;
     }
     Ok(())
 }
@@ -227,7 +240,7 @@ static SAID: [(&[u8], usize, &str); 5] = [
 
 #[test]
 fn journals_and_what_they_say(rt: HostRuntime) -> Result<(), Fail> {
-    answers_fronts(rt.alloc(), Status::Good, &SAID)
+    answers_fronts(rt.alloc(), RECORDS, Status::Good, &SAID)
 }
 
 static UNENDED: [(&[u8], usize, &str); 4] = [
@@ -239,7 +252,7 @@ static UNENDED: [(&[u8], usize, &str); 4] = [
 
 #[test]
 fn journals_that_end_within_an_order(rt: HostRuntime) -> Result<(), Fail> {
-    answers_fronts(rt.alloc(), Status::Good, &UNENDED)
+    answers_fronts(rt.alloc(), RECORDS, Status::Good, &UNENDED)
 }
 
 static OLD_SAID: [(&[u8], usize, &str); 3] = [
@@ -250,7 +263,7 @@ static OLD_SAID: [(&[u8], usize, &str); 3] = [
 
 #[test]
 fn journals_of_version_1(rt: HostRuntime) -> Result<(), Fail> {
-    answers_fronts(rt.alloc(), Status::Good, &OLD_SAID)
+    answers_fronts(rt.alloc(), RECORDS, Status::Good, &OLD_SAID)
 }
 
 static OLD_UNENDED: [(&[u8], usize, &str); 5] = [
@@ -263,7 +276,56 @@ static OLD_UNENDED: [(&[u8], usize, &str); 5] = [
 
 #[test]
 fn journals_of_version_1_that_end_within_an_order(rt: HostRuntime) -> Result<(), Fail> {
-    answers_fronts(rt.alloc(), Status::Good, &OLD_UNENDED)
+    answers_fronts(rt.alloc(), RECORDS, Status::Good, &OLD_UNENDED)
+}
+
+const DONE_UPDATES_TOLD: &str = "\
+version 2
+B order 1 unit 5 at 1700000000 bytes 6
+03 03
+04 A4
+05 CE
+06 EF
+07 AD
+08 AB
+O unit 5
+E 0 Done
+counts 39 of 39 orders 1 standing idle
+";
+
+const LARGEST_UPDATES_TOLD: &str = "\
+version 2
+B order 18446744073709551615 unit 63 at 18446744073709551615 bytes 3
+75 00
+76 00
+77 00
+counts 29 of 29 orders 1 standing began
+";
+
+const OLD_DONE_UPDATES_TOLD: &str = "\
+version 1
+B order 1 unit 5 at 0 bytes 6
+03 03
+04 A4
+05 CE
+06 EF
+07 AD
+08 AB
+O unit 5
+E 0 Done
+counts 27 of 27 orders 1 standing idle
+";
+
+static UPDATES_SAID: [(&[u8], usize, &str); 4] = [
+    (&DONE, 4, HEADER_TOLD),
+    (&DONE, 39, DONE_UPDATES_TOLD),
+    (&LARGEST, 29, LARGEST_UPDATES_TOLD),
+    (&OLD_DONE, 27, OLD_DONE_UPDATES_TOLD),
+];
+
+#[test]
+fn journals_with_their_updates(rt: HostRuntime) -> Result<(), Fail> {
+    answers_fronts(rt.alloc(), UPDATES, Status::Good, &UPDATES_SAID)
 }
 
 // Inputs that are no journal and the line that says why, with a bar between them.
@@ -281,7 +343,7 @@ DB2\x02|journal fault 7 Header
 
 #[test]
 fn inputs_that_are_no_journal(rt: HostRuntime) -> Result<(), Fail> {
-    answers_lines(rt.alloc(), FileCommand::Journal, Status::Refused, REFUSED)
+    answers_lines(rt.alloc(), RECORDS, Status::Refused, REFUSED)
 }
 
 static FAULTY: [(&[u8], usize, &str); 4] = [
@@ -293,17 +355,17 @@ static FAULTY: [(&[u8], usize, &str); 4] = [
 
 #[test]
 fn journals_with_a_fault(rt: HostRuntime) -> Result<(), Fail> {
-    answers_fronts(rt.alloc(), Status::Refused, &FAULTY)
+    answers_fronts(rt.alloc(), RECORDS, Status::Refused, &FAULTY)
 }
 
 #[test]
 fn a_journal_without_end(rt: HostRuntime) -> Result<(), Fail> {
-    refuses_past(rt.alloc(), FileCommand::Journal, 33_554_433)
+    refuses_past(rt.alloc(), RECORDS, 33_554_433)
 }
 
 #[test]
 fn a_journal_whose_reader_fails_in_mid_stream(rt: HostRuntime) -> Result<(), Fail> {
-    fails_to_read(rt.alloc(), FileCommand::Journal, &DONE)
+    fails_to_read(rt.alloc(), RECORDS, &DONE)
 }
 
 // Inputs and what is written of them.
@@ -317,7 +379,7 @@ static WRITTEN: [(&[u8], &str); 4] = [
 #[test]
 fn a_journal_whose_writer_fails_in_mid_line(rt: HostRuntime) -> Result<(), Fail> {
     for &(input, text) in &WRITTEN {
-        fails_to_write(rt.alloc(), FileCommand::Journal, input, text)?;
+        fails_to_write(rt.alloc(), RECORDS, input, text)?;
     }
-    Ok(())
+    fails_to_write(rt.alloc(), UPDATES, &DONE, DONE_UPDATES_TOLD)
 }

@@ -8,6 +8,7 @@ use dali_commands::{FileCommand, Status};
 use dali_input::{Input, bank_of, text_of};
 use dali_text::Output;
 use std::alloc::Global;
+use std::io;
 use std::test::Fail;
 
 // The first 21 bytes of a bank: its head, the fields of 6 and 8 bytes, the format, year and week.
@@ -121,7 +122,12 @@ fn texts_that_spell_no_bytes(rt: HostRuntime) -> Result<(), Fail> {
 fn ended(alloc: Global, input: &[u8]) -> Status {
     let mut reader = Input::new(TestReader::new(input, Behind::Nothing));
     let mut output = Output::new(TestWriter::new(alloc, None));
-    show(alloc, &mut reader, &mut output)
+    show(
+        alloc,
+        &mut reader,
+        &mut output,
+        &mut Output::new(io::sink()),
+    )
 }
 
 #[test]

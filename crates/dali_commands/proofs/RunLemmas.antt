@@ -19,7 +19,7 @@ use Rattle.dali_commands.specs.Faults.{told_line, status_of}
 use Rattle.dali_text.specs.declared.output.Output.{Output}
 use Rattle.dali_text.specs.Output.{held}
 use Rattle.dali_notes.specs.Notes.{Tells}
-use Rattle.dali_commands.specs.Notes.{IsNotedRun}
+use Rattle.dali_commands.specs.Notes.{IsNotedAnswer}
 use Rattle.dali_commands.proofs.NoteLemmas.{appends_nothing}
 use Rattle.dali_commands.specs.RunAnswers.{IsRan, IsRunAnswer, IsUnderstood, IsUnrun}
 
@@ -66,7 +66,7 @@ pub run_noted : {E N : Type 0} (text : List ℕ) (before now : Option (List ℕ)
     (notes : Output N) (r : Result Status E)
     → IfOk r (λ status. (status ≡ Good) × Appends before now text)
     → IfOk r (λ status. (written : List ℕ) × Appends before now written
-    × Tells contents notes notes (IsNotedRun status written))
+    × Tells contents notes notes (IsNotedAnswer status written))
 run_noted text before now contents notes (Ok status) (good, told) =
     (text, told, λ unfailed. (unfailed, ([], inl (good, refl), appends_nothing (held contents notes))))
 run_noted text before now contents notes (Err e) told = tt

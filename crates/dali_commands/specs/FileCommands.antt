@@ -16,11 +16,11 @@ abbrev pub IsCarriedOut : FileCommand → InputState → InputState → Status �
 IsCarriedOut Check input rest status text = IsChecked orders_limit input rest status text
 IsCarriedOut (Run single_frames) input rest status text = IsRunAnswer single_frames input rest status text
 IsCarriedOut Show input rest status text = ShowsInput input rest status text
-IsCarriedOut Journal input rest status text = IsJournalAnswer input rest status text
+IsCarriedOut (Journal with_updates) input rest status text = IsJournalAnswer with_updates input rest status text
 
 -- the most bytes of its input
 abbrev pub limit_of : FileCommand → ℕ
 limit_of Check = orders_limit
 limit_of (Run single_frames) = scenario_limit
 limit_of Show = text_limit
-limit_of Journal = journal_limit
+limit_of (Journal with_updates) = journal_limit

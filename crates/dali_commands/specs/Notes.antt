@@ -5,6 +5,8 @@ use Rattle.dali_input.specs.declared.fault.InputFault.{InputFault}
 use Rattle.dali_input.specs.declared.fault.InputFault.TheVariants.{Json, Document, TooBig, Hex, Memory, File}
 use Rattle.dali_input.specs.declared.setup.SetupFault.TheVariants as setup
 use Rattle.dali_input.specs.Orders.{Outcome}
+use Rattle.dali_journal.specs.declared.fault.JournalFault.{JournalFault}
+use Rattle.dali_journal.specs.declared.fault.JournalFault.TheVariants as journals
 use Rattle.dali_writer.specs.declared.fault.RunFault.TheVariants.{Limit, NoMemory}
 use Rattle.dali_commands.specs.declared.fault.Fault.{Fault}
 use Rattle.dali_commands.specs.declared.fault.Fault.TheVariants.{Input, Setup, Run, Journal, Drive}
@@ -26,15 +28,24 @@ AreItemNotes number [] note = note ≡ []
 AreItemNotes number (outcome ∷ outcomes) note = (here : List ℕ) × (later : List ℕ)
     × IsItemNote number outcome here × AreItemNotes (number + 1) outcomes later × (note ≡ here ++ later)
 
--- of a fault of a whole input: of one that is no JSON or no such document, lines; of what is too big, of want of memory
--- and of a failed reader, none
+-- of a fault of a whole input: of what it says or how long it is, lines; of want of memory and of a failed reader, none
 abbrev pub IsInputNote : InputFault → List ℕ → Type 0
 IsInputNote Json note = SomeLines [] note
 IsInputNote Document note = SomeLines [] note
-IsInputNote TooBig note = note ≡ []
-IsInputNote Hex note = note ≡ []
+IsInputNote TooBig note = SomeLines [] note
+IsInputNote Hex note = SomeLines [] note
 IsInputNote Memory note = note ≡ []
 IsInputNote File note = note ≡ []
+
+-- of why an input is no journal, lines; of want of memory, none
+abbrev pub IsJournalNote : JournalFault → List ℕ → Type 0
+IsJournalNote journals.Limit note = SomeLines [] note
+IsJournalNote journals.NoMemory note = note ≡ []
+IsJournalNote (journals.Record place) note = SomeLines [] note
+IsJournalNote (journals.Sequence place) note = SomeLines [] note
+IsJournalNote (journals.Repeated place) note = SomeLines [] note
+IsJournalNote (journals.Full place) note = SomeLines [] note
+IsJournalNote journals.Header note = SomeLines [] note
 
 -- of a fault that a command gave up at, the same for the same line: of a unit or an order of a scenario, lines with the
 -- number that its line has too; of two units at one address and of the limit, lines
@@ -46,7 +57,7 @@ IsFaultNote (Setup (setup.Order number fault)) note = SomeAbout (codes "event") 
 IsFaultNote (Setup setup.SameAddress) note = SomeLines [] note
 IsFaultNote (Run Limit) note = SomeLines [] note
 IsFaultNote (Run NoMemory) note = note ≡ []
-IsFaultNote (Journal fault) note = note ≡ []
+IsFaultNote (Journal fault) note = IsJournalNote fault note
 IsFaultNote (Drive fault) note = note ≡ []
 
 -- a command wrote a fault's line alone, and this note is of that fault
@@ -58,13 +69,13 @@ abbrev pub IsNotedCheck : List ℕ → List ℕ → Type 0
 IsNotedCheck text note = ((outcomes : List Outcome) × (text ≡ report outcomes) × AreItemNotes 1 outcomes note)
     ⊎ IsNotedFault text note
 
--- how `run` ended and what it wrote, and the note beside it: none where it ran
-abbrev pub IsNotedRun : Status → List ℕ → List ℕ → Type 0
-IsNotedRun status text note = ((status ≡ Good) × (note ≡ [])) ⊎ IsNotedFault text note
+-- how another command ended and what it wrote, and the note beside it: none where it ended well
+abbrev pub IsNotedAnswer : Status → List ℕ → List ℕ → Type 0
+IsNotedAnswer status text note = ((status ≡ Good) × (note ≡ [])) ⊎ IsNotedFault text note
 
 -- the note of a command over a file
 abbrev pub IsNoted : FileCommand → Status → List ℕ → List ℕ → Type 0
 IsNoted commands.Check status text note = IsNotedCheck text note
-IsNoted (commands.Run single_frames) status text note = IsNotedRun status text note
-IsNoted commands.Show status text note = note ≡ []
-IsNoted commands.Journal status text note = note ≡ []
+IsNoted (commands.Run single_frames) status text note = IsNotedAnswer status text note
+IsNoted commands.Show status text note = IsNotedAnswer status text note
+IsNoted (commands.Journal with_updates) status text note = IsNotedAnswer status text note

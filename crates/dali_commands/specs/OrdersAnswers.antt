@@ -1,5 +1,5 @@
 -- What a command answers and writes that has a list of orders and streams, whatever it does with the orders: 'answers'
--- says that of the orders that were read.
+-- says that of the orders that were read, and 'unreported' that nothing was reported.
 use Rattle.std.specs.Prelude.{◌≡◌, ◌≢◌, ◌⊎◌, ℕ, List}
 use Rattle.std.specs.Io.KnownBytes.{Appends}
 use Rattle.dali_bank.specs.Order.{Contents}
@@ -31,23 +31,24 @@ pub record EndsUndriven (fault : InputFault) (first : Streams) (status : Status)
   pub undriven : IsUndriven first last
   pub told : IsFileFaultTold (Input fault) status first.out last.out
 
--- how a command ended over what was read: over the orders that it spells, with refused items, or with no orders at all
-abbrev pub IsInputAnswer : (List Contents → Streams → Status → Streams → Type 0) → List ℕ → Streams → Status → Streams
-    → Type 0
-IsInputAnswer answers input first status last =
-    ((orders : List Contents) × AreOrdersIn input orders × answers orders first status last)
-    ⊎ EndsRefused input first status last
-    ⊎ ((fault : InputFault) × IsInputFault orders_limit input fault × EndsUndriven fault first status last)
+module _ (answers : List Contents → Streams → Status → Streams → Type 0) (unreported : Type 0) (first : Streams)
+    (status : Status) (last : Streams) where
+  -- how a command ended over what was read: over the orders that it spells, with refused items, or with no orders at
+  -- all
+  abbrev pub IsInputAnswer : List ℕ → Type 0
+  IsInputAnswer input =
+      ((orders : List Contents) × AreOrdersIn input orders × answers orders first status last)
+      ⊎ (EndsRefused input first status last × unreported)
+      ⊎ ((fault : InputFault) × IsInputFault orders_limit input fault × EndsUndriven fault first status last × unreported)
 
--- the same by what the reader of the orders had before and has after it
-abbrev pub IsReaderAnswer : (List Contents → Streams → Status → Streams → Type 0) → InputState → InputState → Streams
-    → Status → Streams → Type 0
-IsReaderAnswer answers before after first status last =
-    ((input : List ℕ) × ReadsInput orders_limit before after input × IsInputAnswer answers input first status last)
-    ⊎ ((fault : InputFault) × IsReadFailure before after fault × EndsUndriven fault first status last)
+  -- the same by what the reader of the orders had before and has after it
+  abbrev pub IsReaderAnswer : InputState → InputState → Type 0
+  IsReaderAnswer before after =
+      ((input : List ℕ) × ReadsInput orders_limit before after input × IsInputAnswer input)
+      ⊎ ((fault : InputFault) × IsReadFailure before after fault × EndsUndriven fault first status last × unreported)
 
--- The same of a file of orders, of which nothing is known: of some bytes, or of an input that fails.
-abbrev pub IsFileAnswer : (List Contents → Streams → Status → Streams → Type 0) → Streams → Status → Streams → Type 0
-IsFileAnswer answers first status last =
-    ((input : List ℕ) × IsInputAnswer answers input first status last)
-    ⊎ ((fault : InputFault) × EndsUndriven fault first status last)
+  -- The same of a file of orders, of which nothing is known: of some bytes, or of an input that fails.
+  abbrev pub IsFileAnswer : Type 0
+  IsFileAnswer =
+      ((input : List ℕ) × IsInputAnswer input)
+      ⊎ ((fault : InputFault) × EndsUndriven fault first status last × unreported)

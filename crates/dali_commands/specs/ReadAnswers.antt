@@ -9,9 +9,11 @@ use Rattle.dali_read.specs.Places.{bank_course}
 use Rattle.dali_drive.specs.declared.fault.DriveFault.{DriveFault}
 use Rattle.dali_drive.specs.Streams.{PutsFirst}
 use Rattle.dali_drive.specs.SurveyLines.{bytes_line, silent_line}
-use Rattle.dali_drive.specs.Surveys.{IsScan, ScanBroke, IsVerified, VerifyBroke, link_of}
+use Rattle.dali_drive.specs.Surveys.{IsScan, ScanBroke, IsVerifiedTold, VerifyBrokeTold, link_of}
 use Rattle.dali_drive.specs.Transcript.{Streams}
 use Rattle.dali_drive.specs.UnitRead.{IsUnitRead, UnitReadBroke}
+use Rattle.dali_report.specs.declared.report.Report.{Report}
+use Rattle.dali_report.specs.Told.{IsToldFound}
 use Rattle.dali_commands.specs.declared.fault.Fault.TheVariants.{Input}
 use Rattle.dali_commands.specs.declared.fault.Status.{Status}
 use Rattle.dali_commands.specs.declared.fault.Status.TheVariants.{Good, Refused, Unwritten}
@@ -62,23 +64,23 @@ IsReadAnswer unit first status last =
 
 -- ---- `verify`
 
--- the units of all the orders were read, and it ended well where all are the same
-pub record EndsVerified (orders : List Contents) (first : Streams) (status : Status) (last : Streams) : Type 0 where
-  pub all_same : Bool
-  pub verified : IsVerified orders all_same first last
-  pub status_is : status ≡ (if all_same then Good else Refused)
+module _ {N : Type 0} (contents : N → Option (List ℕ)) (before after : Report N) (orders : List Contents)
+    (first : Streams) (status : Status) (last : Streams) where
+  -- the units of all the orders were read and what was found was reported, and it ended well where all are the same
+  pub record EndsVerified : Type 0 where
+    pub all_same : Bool
+    pub verified : IsVerifiedTold (IsToldFound contents) orders all_same first before last after
+    pub status_is : status ≡ (if all_same then Good else Refused)
 
--- the link or the output broke it off, which is told
-pub record EndsUnverified (orders : List Contents) (first : Streams) (status : Status) (last : Streams)
-    : Type 0 where
-  pub fault : DriveFault
-  pub lines : Option (List ℕ)
-  pub broke : VerifyBroke orders fault first (record last { out = lines })
-  pub told : IsFaultTold fault status lines last.out
+  -- the link or the output broke it off, which is told
+  pub record EndsUnverified : Type 0 where
+    pub fault : DriveFault
+    pub lines : Option (List ℕ)
+    pub broke : VerifyBrokeTold (IsToldFound contents) orders fault first before (record last { out = lines }) after
+    pub told : IsFaultTold fault status lines last.out
 
-abbrev pub IsVerifyAnswer : List Contents → Streams → Status → Streams → Type 0
-IsVerifyAnswer orders first status last =
-    EndsVerified orders first status last ⊎ EndsUnverified orders first status last
+  abbrev pub IsVerifyAnswer : Type 0
+  IsVerifyAnswer = EndsVerified ⊎ EndsUnverified
 
 -- ---- `scan`
 

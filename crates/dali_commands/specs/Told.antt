@@ -5,7 +5,7 @@ use Rattle.std.specs.Io.KnownBytes.{Appends}
 use Rattle.dali_input.specs.declared.fault.InputFault.TheVariants.{Memory, File}
 use Rattle.dali_input.specs.declared.item.ItemFault.{ItemFault}
 use Rattle.dali_drive.specs.declared.fault.DriveFault.{DriveFault}
-use Rattle.dali_drive.specs.declared.fault.DriveFault.TheVariants.{Out}
+use Rattle.dali_drive.specs.declared.fault.DriveFault.TheVariants.{Journal, Link, Out}
 use Rattle.dali_drive.specs.Streams.{PutsFirst}
 use Rattle.dali_commands.specs.declared.fault.Fault.{Fault}
 use Rattle.dali_commands.specs.declared.fault.Fault.TheVariants.{Input, Drive}
@@ -37,13 +37,20 @@ abbrev pub is_out : DriveFault → Bool
 is_out Out = true
 is_out fault = false
 
--- how a fault is told behind the replies: by its line, or by a first part of that where the output fails then; nothing
+-- the text of a fault: its line, and where the journal or the link failed a line in words before it
+abbrev pub IsFaultText : DriveFault → List ℕ → Type 0
+IsFaultText Journal text = (words : List ℕ) × (text ≡ error_line words ++ told_line (Drive Journal))
+IsFaultText Link text = (words : List ℕ) × (text ≡ error_line words ++ told_line (Drive Link))
+IsFaultText fault text = text ≡ told_line (Drive fault)
+
+-- how a fault is told behind the replies: by its text, or by a first part of that where the output fails then; nothing
 -- is told where the replies can't be written
 abbrev pub IsFaultTold : DriveFault → Status → Option (List ℕ) → Option (List ℕ) → Type 0
 IsFaultTold Out status before after = (status ≡ Unwritten) × (after ≡ before)
 IsFaultTold fault status before after =
-    ((status ≡ status_of (Drive fault)) × Appends before after (told_line (Drive fault)))
-    ⊎ ((status ≡ Unwritten) × PutsFirst before after (told_line (Drive fault)))
+    (text : List ℕ) × IsFaultText fault text
+    × (((status ≡ status_of (Drive fault)) × Appends before after text)
+    ⊎ ((status ≡ Unwritten) × PutsFirst before after text))
 
 -- how the fault of a file is told, where the output doesn't fail
 abbrev pub IsFileFaultTold : Fault → Status → Option (List ℕ) → Option (List ℕ) → Type 0

@@ -5,17 +5,18 @@ ghost use Rattle.dali_input.specs.Input.{ReadsAtMost, state_of};
 ghost use Rattle.dali_input.specs.Orders.{orders_limit};
 ghost use Rattle.dali_store.specs.Stores.{IsSettled, LeavesOnly};
 ghost use Rattle.dali_text.specs.Output.{has_failed, held};
-ghost use Rattle.dali_commands.specs.DriveAnswers.{IsDriveAnswer};
+ghost use Rattle.dali_commands.specs.DriveAnswers.{IsDriveAnswer, ended_status as status_at_end};
 ghost use Rattle.dali_commands.specs.OrdersAnswers.{IsInputAnswer, IsReaderAnswer};
 ghost use Rattle.dali_commands.specs.JournalAnswers.{order_limit};
 
-use crate::drive_lines::{tell_fault, tell_refused, tell_unopened, tell_unread};
+use crate::drive_lines::{Causes, tell_fault, tell_refused, tell_unopened, tell_unread};
 use crate::fault::Status;
 use crate::journal::{JOURNAL_LIMIT, MOST_ORDERS};
 use crate::lines::Lines;
 use dali_bank::Order;
-use dali_drive::{Sink, Source, StoredFault, drive_stored};
+use dali_drive::{Sink, Source, StoredFault, drive_stored_observed};
 use dali_input::{Input, ORDERS_LIMIT, read_input, read_orders};
+use dali_report::Report;
 use dali_store::Store;
 use std::alloc::Global;
 use std::io;
@@ -30,29 +31,40 @@ pub struct DriveNames<'a> {
     pub journal: &'a str,
 }
 
+/// How orders are to be driven.
+#[derive(Clone, Copy)]
+pub struct DriveTerms {
+    /// The moment that is kept with each order that begins.
+    pub moment: u64,
+    /// Whether each last reply has to be `kept 0 Done`.
+    pub require_done: bool,
+}
+
 /// Carries out the orders that a reader gives over a link, with the journal that a store holds, as `drive_orders` does.
 ///
 /// Where an item is refused, the lines of all that are, are written, and nothing else is touched; nor is it where there
 /// are no orders: 13 TooBig over 16777216 bytes, 11 Json, 12 Document, 20 Memory or 21 File.
-pub fn drive_input<R: Read, I: Source, L: Sink, S: Store, W: Write>(
+pub fn drive_input<R: Read, I: Source, L: Sink, S: Store, W: Write, N: Write + Drop>(
     alloc: Global,
     names: DriveNames<'_>,
     input: &mut Input<R>,
-    moment: u64,
+    terms: DriveTerms,
     link_in: &mut I,
     link_out: &mut L,
     store: &mut S,
     lines: &mut Lines<W>,
+    report: &mut Report<N>,
 ) -> Status
     requires store { S.failed store.old ≡ false }
     requires link_out { L.failed link_out.old ≡ false }
     requires link_in { I.failed link_in.old ≡ false }
     requires lines { has_failed lines.old.output ≡ false }
-    ensures driven { IsReaderAnswer (IsDriveAnswer moment)
-        (state_of R.remaining input.old) (state_of R.remaining input.new)
+    ensures driven { IsReaderAnswer
+        (IsDriveAnswer N.contents terms.moment terms.require_done report.old report.new) (report.new ≡ report.old)
         (shown (S.seen store.old) (L.held link_out.old) (I.left link_in.old) (held W.contents lines.old.output))
         result
-        (shown (S.seen store.new) (L.held link_out.new) (I.left link_in.new) (held W.contents lines.new.output)) }
+        (shown (S.seen store.new) (L.held link_out.new) (I.left link_in.new) (held W.contents lines.new.output))
+        (state_of R.remaining input.old) (state_of R.remaining input.new) }
     ensures read { ReadsAtMost orders_limit (state_of R.remaining input.old) (state_of R.remaining input.new) }
     ensures unwritten { result ≡ Status.Unwritten ↔ has_failed lines.new.output ≡ true }
     ensures settled { result ≡ Status.Good → IsSettled (S.seen store.new) (S.may_leave store.new) }
@@ -64,11 +76,12 @@ pub fn drive_input<R: Read, I: Source, L: Sink, S: Store, W: Write>(
             alloc,
             names,
             bytes.as_slice(),
-            moment,
+            terms,
             link_in,
             link_out,
             store,
             lines,
+            report,
         ),
         Err(fault) => tell_unread(
             alloc,
@@ -89,24 +102,27 @@ pub(crate) fn failure_of(cause: Option<ErrorKind>) -> Option<io::Error> {
 }
 
 // Carries out the orders that these bytes spell.
-fn drive_bytes<I: Source, L: Sink, S: Store, W: Write>(
+fn drive_bytes<I: Source, L: Sink, S: Store, W: Write, N: Write + Drop>(
     alloc: Global,
     names: DriveNames<'_>,
     input: &[u8],
-    moment: u64,
+    terms: DriveTerms,
     link_in: &mut I,
     link_out: &mut L,
     store: &mut S,
     lines: &mut Lines<W>,
+    report: &mut Report<N>,
 ) -> Status
     requires store { S.failed store.old ≡ false }
     requires link_out { L.failed link_out.old ≡ false }
     requires link_in { I.failed link_in.old ≡ false }
     requires lines { has_failed lines.old.output ≡ false }
-    ensures answer { IsInputAnswer (IsDriveAnswer moment) input.now
+    ensures answer { IsInputAnswer
+        (IsDriveAnswer N.contents terms.moment terms.require_done report.old report.new) (report.new ≡ report.old)
         (shown (S.seen store.old) (L.held link_out.old) (I.left link_in.old) (held W.contents lines.old.output))
         result
-        (shown (S.seen store.new) (L.held link_out.new) (I.left link_in.new) (held W.contents lines.new.output)) }
+        (shown (S.seen store.new) (L.held link_out.new) (I.left link_in.new) (held W.contents lines.new.output))
+        input.now }
     ensures unwritten { result ≡ Status.Unwritten ↔ has_failed lines.new.output ≡ true }
     ensures settled { result ≡ Status.Good → IsSettled (S.seen store.new) (S.may_leave store.new) }
     ensures any_moment { LeavesOnly S.moment S.left_since store.old store.new
@@ -117,39 +133,42 @@ fn drive_bytes<I: Source, L: Sink, S: Store, W: Write>(
             alloc,
             names.journal,
             orders.as_slice(),
-            moment,
+            terms,
             link_in,
             link_out,
             store,
             lines,
+            report,
         ),
         Ok(Err(refused)) => tell_refused(&mut lines.output, refused.as_slice()),
         Err(fault) => tell_unread(alloc, &mut lines.output, names.orders, fault, None),
     }
 }
 
-/// Carries out what the journal of a store still asks for, and then the orders one after the other, each at this
-/// moment, over streams that haven't failed. Each reply has its line in `lines`, and so has the fault that ends it.
+/// Carries out what the journal of a store still asks for, and then the orders one after the other, over streams that
+/// haven't failed. Each reply has its line in `lines`, and so has the fault that ends it; the report has a line for each
+/// last reply. It ends as `Refused` where each last reply has to be `kept 0 Done` and one isn't.
 ///
 /// Nothing is sent where no journal is opened, for at most 100000 orders and of at most 33554432 bytes: 13 TooBig, 7
 /// Header, 3 Record, 4 Sequence, 5 Repeated, 6 Full, 20 Memory or 21 File. A drive breaks off at 1 Journal, 2 Link, 3
 /// Line, 4 End, 6 TooLong or 20 Memory. Where `lines` fails it is 7 Out, or there stands a first part of the fault's
 /// line; later calls of it write nothing more.
-pub fn drive_orders<I: Source, L: Sink, S: Store, W: Write>(
+pub fn drive_orders<I: Source, L: Sink, S: Store, W: Write, N: Write + Drop>(
     alloc: Global,
     name: &str,
     orders: &[Order],
-    moment: u64,
+    terms: DriveTerms,
     link_in: &mut I,
     link_out: &mut L,
     store: &mut S,
     lines: &mut Lines<W>,
+    report: &mut Report<N>,
 ) -> Status
     requires store { S.failed store.old ≡ false }
     requires link_out { L.failed link_out.old ≡ false }
     requires link_in { I.failed link_in.old ≡ false }
     requires lines { has_failed lines.old.output ≡ false }
-    ensures answer { IsDriveAnswer moment orders.now
+    ensures answer { IsDriveAnswer N.contents terms.moment terms.require_done report.old report.new orders.now
         (shown (S.seen store.old) (L.held link_out.old) (I.left link_in.old) (held W.contents lines.old.output))
         result
         (shown (S.seen store.new) (L.held link_out.new) (I.left link_in.new) (held W.contents lines.new.output)) }
@@ -158,18 +177,19 @@ pub fn drive_orders<I: Source, L: Sink, S: Store, W: Write>(
     ensures any_moment { LeavesOnly S.moment S.left_since store.old store.new
         (LeavesPart order_limit (S.seen store.old) (S.seen store.new) (S.may_leave store.old)) }
 {
-    match drive_stored(
+    match drive_stored_observed(
         alloc,
         MOST_ORDERS,
         JOURNAL_LIMIT as usize,
         orders,
-        moment,
+        terms.moment,
         link_in,
         link_out,
         store,
         lines,
+        report,
     ) {
-        Ok(_) => Status::Good,
+        Ok(_) => ended_status(terms.require_done, report.all_done()),
         Err(StoredFault::Open(fault)) => tell_unopened(
             alloc,
             &mut lines.output,
@@ -177,6 +197,24 @@ pub fn drive_orders<I: Source, L: Sink, S: Store, W: Write>(
             fault,
             store.cause(),
         ),
-        Err(StoredFault::Drive(fault)) => tell_fault(lines, fault),
+        Err(StoredFault::Drive(fault)) => {
+            let causes = Causes {
+                link_in: link_in.cause(),
+                link_out: link_out.cause(),
+                store: store.cause(),
+            };
+            tell_fault(alloc, lines, fault, causes)
+        }
+    }
+}
+
+// How a drive ends that came to its end.
+fn ended_status(require_done: bool, done: bool) -> Status
+    ensures { result ≡ status_at_end require_done done }
+{
+    if require_done && !done {
+        Status::Refused
+    } else {
+        Status::Good
     }
 }

@@ -7,12 +7,13 @@ ghost use Rattle.dali_commands.specs.OrdersAnswers.{IsFileAnswer};
 ghost use Rattle.dali_commands.specs.Told.{IsFileFaultTold};
 ghost use Rattle.dali_input.specs.declared.fault.InputFault.{InputFault};
 
-use crate::drive::{DriveNames, drive_input};
+use crate::drive::{DriveNames, DriveTerms, drive_input};
 use crate::drive_lines::tell_unread;
 use crate::fault::{Fault, Status};
 use crate::lines::Lines;
 use dali_drive::{StdSink, StdSource};
 use dali_input::{Input, InputFault};
+use dali_report::Report;
 use dali_store::FileStore;
 use std::alloc::Global;
 use std::fs::{File, Files, Metadata};
@@ -22,19 +23,27 @@ use std::{fs, io};
 /// Carries out the orders of a file over a link, with the journal that another file holds, as `drive_input` does.
 ///
 /// No contract tells what a file holds. Whatever the orders' gave, the drive is that of the orders which these bytes
-/// spell, at this moment.
-pub fn drive_files<R: Files<File = File> + AllocGlobal, I: Read, L: Write, O: Write>(
+/// spell, on these terms.
+pub fn drive_files<
+    R: Files<File = File> + AllocGlobal,
+    I: Read,
+    L: Write,
+    O: Write,
+    N: Write + Drop,
+>(
     rt: &R,
     names: DriveNames<'_>,
-    moment: u64,
+    terms: DriveTerms,
     link_in: &mut StdSource<I>,
     link_out: &mut StdSink<L>,
     lines: &mut Lines<O>,
+    report: &mut Report<N>,
 ) -> Status
     requires link_out { sink_failed link_out.old ≡ false }
     requires link_in { source_failed link_in.old ≡ false }
     requires lines { has_failed lines.old.output ≡ false }
-    ensures driven { IsFileAnswer (IsDriveAnswer moment)
+    ensures driven { IsFileAnswer
+        (IsDriveAnswer N.contents terms.moment terms.require_done report.old report.new) (report.new ≡ report.old)
         (shown None (sink_held L.contents link_out.old) (source_left I.remaining link_in.old)
         (held O.contents lines.old.output))
         result
@@ -47,11 +56,12 @@ pub fn drive_files<R: Files<File = File> + AllocGlobal, I: Read, L: Write, O: Wr
             rt.alloc(),
             names,
             &mut Input::new(file),
-            moment,
+            terms,
             link_in,
             link_out,
             &mut FileStore::new(rt, names.journal, &found),
             lines,
+            report,
         ),
         Err(error) => tell_unopened_orders(rt.alloc(), lines, names.orders, error),
     }

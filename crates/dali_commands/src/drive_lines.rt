@@ -1,10 +1,10 @@
 // How a drive's end is told.
-ghost use Rattle.std.specs.Prelude.{◌≡◌, ◌≢◌, ◌↔◌, ◌++◌, IfOk, IfErr, OnOk, true};
+ghost use Rattle.std.specs.Prelude.{◌≡◌, ◌≢◌, ◌↔◌, ◌⊎◌, ◌++◌, IfOk, IfErr, OnOk, false, true, string_bytes};
 ghost use Rattle.dali_text.specs.Output.{TellsFailure, Takes, has_failed, held, is_flushed};
 ghost use Rattle.dali_commands.specs.Ends.{TellsEnd};
 ghost use Rattle.dali_commands.specs.Faults.{status_of, told_line};
 ghost use Rattle.dali_commands.specs.Told.{IsFaultTold, IsFileFaultTold, TellsFileFault, TellsWorded};
-ghost use Rattle.dali_commands.specs.Told.{error_line, is_out, refused_lines};
+ghost use Rattle.dali_commands.specs.Told.{error_line, is_out, refused_lines, IsFaultText};
 ghost use Rattle.dali_commands.specs.DriveAnswers.{fault_unopened};
 
 use crate::fault::{Fault, Status};
@@ -16,27 +16,115 @@ use dali_journal::JournalFault;
 use dali_notes::Escaped;
 use dali_store::{OpenFault, StoreFault};
 use dali_text::{Output, OutputFailed};
-use std::alloc::Global;
+use std::alloc::{AllocError, Global};
 use std::io;
-use std::io::Write;
+use std::io::{ErrorKind, Write};
 
-/// Writes the fault of a drive, where the replies could be written.
-pub fn tell_fault<W: Write>(lines: &mut Lines<W>, fault: DriveFault) -> Status
+/// What made a drive or a reading break off: of what kind the failure of the link's streams was, and the words that the
+/// store of the journal has for its own.
+#[derive(Clone, Copy)]
+pub struct Causes<'a> {
+    pub link_in: Option<ErrorKind>,
+    pub link_out: Option<ErrorKind>,
+    pub store: Option<&'a str>,
+}
+
+impl Causes<'_> {
+    // Words for a fault, where there are any, and memory for them.
+    fn words(&self, alloc: Global, fault: DriveFault) -> Option<String> {
+        match (fault, self.link_in, self.link_out) {
+            (DriveFault::Journal, _, _) => {
+                let words = Escaped::whole(self.store?);
+                format!(in alloc; "{words}").ok()
+            }
+            (DriveFault::Link, _, Some(kind)) => {
+                format!(in alloc; "the frames can't be written to standard output: {kind}").ok()
+            }
+            (DriveFault::Link, Some(kind), None) => {
+                format!(in alloc; "the answers can't be read from standard input: {kind}").ok()
+            }
+            _ => None,
+        }
+    }
+}
+
+/// Writes the fault of a drive, where the replies could be written: its line, and before that of 1 Journal and 2 Link
+/// its cause in words.
+pub fn tell_fault<W: Write>(
+    alloc: Global,
+    lines: &mut Lines<W>,
+    fault: DriveFault,
+    causes: Causes<'_>,
+) -> Status
     requires { has_failed lines.old.output ≡ is_out fault }
     ensures told { IsFaultTold fault result
         (held W.contents lines.old.output) (held W.contents lines.new.output) }
     ensures unwritten { result ≡ Status.Unwritten ↔ has_failed lines.new.output ≡ true }
 {
-    if let DriveFault::Out = fault {
-        return Status::Unwritten;
+    match fault {
+        DriveFault::Out => Status::Unwritten,
+        DriveFault::Journal | DriveFault::Link => tell_worded(alloc, lines, fault, causes),
+        fault => tell_text(lines, fault, plain_text(fault)),
     }
-    if !put_all(lines, drive_line(fault).as_bytes()) {
+}
+
+// Writes 1 Journal or 2 Link, with its cause where there is memory for it.
+fn tell_worded<W: Write>(
+    alloc: Global,
+    lines: &mut Lines<W>,
+    fault: DriveFault,
+    causes: Causes<'_>,
+) -> Status
+    requires unfailed { has_failed lines.old.output ≡ false }
+    requires worded { (fault ≡ DriveFault.Journal) ⊎ (fault ≡ DriveFault.Link) }
+    ensures told { IsFaultTold fault result
+        (held W.contents lines.old.output) (held W.contents lines.new.output) }
+    ensures unwritten { result ≡ Status.Unwritten ↔ has_failed lines.new.output ≡ true }
+{
+    if let Some(words) = causes.words(alloc, fault) {
+        if let Ok(text) = worded_text(alloc, fault, words.as_str()) {
+            return tell_text(lines, fault, text.as_str());
+        }
+    }
+    tell_text(lines, fault, plain_text(fault))
+}
+
+// Writes the text of a fault.
+fn tell_text<W: Write>(lines: &mut Lines<W>, fault: DriveFault, text: &str) -> Status
+    requires unfailed { has_failed lines.old.output ≡ false }
+    requires other { is_out fault ≡ false }
+    requires text { IsFaultText fault text.now }
+    ensures told { IsFaultTold fault result
+        (held W.contents lines.old.output) (held W.contents lines.new.output) }
+    ensures unwritten { result ≡ Status.Unwritten ↔ has_failed lines.new.output ≡ true }
+{
+    if !put_all(lines, text.as_bytes()) {
         return Status::Unwritten;
     }
     if !lines.flush() {
         return Status::Unwritten;
     }
     Fault::Drive(fault).status()
+}
+
+// The line of a fault behind these words.
+fn worded_text(alloc: Global, fault: DriveFault, words: &str) -> Result<String, AllocError>
+    ensures { IfOk result (λ text. string_bytes text ≡ error_line words.now ++ told_line (Fault.Drive fault)) }
+{
+    let mut text = format!(in alloc; "error: {words}\n")?;
+    text.push_str(drive_line(fault))?;
+    Ok(text)
+}
+
+// The text of a fault without its cause.
+fn plain_text(fault: DriveFault) -> &'static str
+    ensures { IsFaultText fault result.now }
+{
+    match fault {
+        DriveFault::Journal => "error: the journal can't be written\ndrive fault 1 Journal\n",
+        DriveFault::Link => "error: the link can't be used\ndrive fault 2 Link\n",
+        fault => drive_line(fault),
+    }
 }
 
 /// Writes the refused items of a list of orders, and nothing after them.

@@ -24,8 +24,8 @@ pub enum FileCommand {
     Run { single_frames: bool },
     /// `show`, over the digits of a memory bank.
     Show,
-    /// `journal`, over a writer's journal.
-    Journal,
+    /// `journal`, over a writer's journal, with each order's updates or without.
+    Journal { with_updates: bool },
 }
 
 impl FileCommand {
@@ -56,8 +56,10 @@ impl FileCommand {
             FileCommand::Run { single_frames } => {
                 run_scenario(alloc, input, output, single_frames, notes)
             }
-            FileCommand::Show => show(alloc, input, output),
-            FileCommand::Journal => journal(alloc, input, output),
+            FileCommand::Show => show(alloc, input, output, notes),
+            FileCommand::Journal { with_updates } => {
+                journal(alloc, input, output, with_updates, notes)
+            }
         }
     }
 }

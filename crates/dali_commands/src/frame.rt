@@ -4,13 +4,17 @@ ghost use Rattle.dali_frame.specs.Hex.{SpellsHexNumber};
 ghost use Rattle.dali_frame.specs.declared.forward.Frame.{Frame};
 ghost use Rattle.dali_text.specs.FrameLine.{frame_line};
 ghost use Rattle.dali_text.specs.Output.{Takes, has_failed, is_flushed};
+ghost use Rattle.dali_notes.specs.Notes.{Tells};
 ghost use Rattle.dali_commands.specs.Ends.{TellsEnd};
 ghost use Rattle.dali_commands.specs.FrameAnswers.{AreFourDigits, IsFrameAnswer};
+ghost use Rattle.dali_commands.specs.Notes.{IsNotedAnswer};
 
 use crate::fault::{Fault, Status};
-use crate::fault_lines::write_failure;
+use crate::notes::write_noted_failure;
 use dali_input::InputFault;
+use dali_notes::note_of_word;
 use dali_text::{Output, OutputFailed, write_frame};
+use std::alloc::Global;
 use std::io::Write;
 
 /// Prints what the word of a forward frame means: the word, the standard's name of the frame, and its
@@ -19,27 +23,46 @@ use std::io::Write;
 /// Where the argument isn't four hexadecimal digits it writes fault 14 Hex.
 ///
 /// Where a call of the output fails later ones write nothing more to it, and it ends as `Unwritten`.
-pub fn frame<W: Write>(argument: &str, output: &mut Output<W>) -> Status
+///
+/// A person is told in `notes` why the argument is no word. Whatever becomes of the notes, the answer is the same.
+pub fn frame<W: Write, N: Write>(
+    alloc: Global,
+    argument: &str,
+    output: &mut Output<W>,
+    notes: &mut Output<N>,
+) -> Status
     ensures told { result ≢ Status.Unwritten → (text : List ℕ) × IsFrameAnswer argument.now result text
         × Takes W.contents output.old output.new text }
     ensures unwritten { result ≡ Status.Unwritten ↔ has_failed output.new ≡ true }
     ensures flushed { result ≢ Status.Unwritten → is_flushed output.new ≡ true }
+    ensures noted { result ≢ Status.Unwritten → (text : List ℕ) × Takes W.contents output.old output.new text
+        × Tells N.contents notes.old notes.new (IsNotedAnswer result text) }
 {
-    match try_frame(argument, output) {
+    match try_frame(alloc, argument, output, notes) {
         Ok(status) => status,
         Err(_) => Status::Unwritten,
     }
 }
 
 // The same, or that the output has failed.
-fn try_frame<W: Write>(argument: &str, output: &mut Output<W>) -> Result<Status, OutputFailed>
+fn try_frame<W: Write, N: Write>(
+    alloc: Global,
+    argument: &str,
+    output: &mut Output<W>,
+    notes: &mut Output<N>,
+) -> Result<Status, OutputFailed>
     ensures told { IfOk result (λ status. (text : List ℕ) × IsFrameAnswer argument.now status text
         × Takes W.contents output.old output.new text) }
+    ensures noted { IfOk result (λ status. (text : List ℕ) × Takes W.contents output.old output.new text
+        × Tells N.contents notes.old notes.new (IsNotedAnswer status text)) }
     ensures end { TellsEnd result output.new }
 {
     match word_in(argument) {
         Some(word) => write_word(output, word),
-        None => write_failure(output, Fault::Input(InputFault::Hex)),
+        None => {
+            let note = note_of_word(alloc, argument);
+            write_noted_failure(output, Fault::Input(InputFault::Hex), notes, &note)
+        }
     }
 }
 

@@ -15,6 +15,7 @@ pub mod lines;
 mod link_command;
 mod notes;
 pub mod read;
+mod report_file;
 pub mod run_scenario;
 pub mod show;
 pub mod survey;

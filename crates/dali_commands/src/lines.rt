@@ -3,7 +3,7 @@ ghost use Rattle.dali_text.specs.Output.{has_failed, held};
 
 use dali_drive::Sink;
 use dali_text::Output;
-use std::io::Write;
+use std::io::{ErrorKind, Write};
 
 /// An output as a sink.
 #[derive(Drop)]
@@ -27,5 +27,9 @@ impl<W: Write> Sink for Lines<W> {
 
     fn has_failed(&self) -> bool {
         self.output.has_failed()
+    }
+
+    fn cause(&self) -> Option<ErrorKind> {
+        self.output.cause()
     }
 }

@@ -4,10 +4,11 @@ ghost use Rattle.dali_drive.specs.Transcript.{shown};
 ghost use Rattle.dali_text.specs.Output.{has_failed, held};
 ghost use Rattle.dali_commands.specs.LinkCommands.{IsShort, IsLinkAnswer};
 
-use crate::drive::DriveNames;
+use crate::drive::{DriveNames, DriveTerms};
 use crate::drive_files::drive_files;
 use crate::fault::Status;
 use crate::lines::Lines;
+use crate::report_file::ReportFile;
 use crate::survey::scan;
 use crate::survey_files::{read_file, verify_file};
 use dali_drive::{StdSink, StdSource};
@@ -17,12 +18,22 @@ use std::io::{Read, Write};
 /// A command over a link (profile).
 #[derive(Clone, Copy)]
 pub enum LinkCommand<'a> {
-    /// `drive`, over orders and a journal, at this moment.
-    Drive { names: DriveNames<'a>, moment: u64 },
+    /// `drive`, over orders and a journal, on these terms, with a report into this file.
+    Drive {
+        names: DriveNames<'a>,
+        terms: DriveTerms,
+        report: Option<&'a str>,
+    },
     /// `read`, of the unit at a short address into a file.
-    Read { unit: u8, bank: &'a str },
-    /// `verify`, over orders.
-    Verify(&'a str),
+    Read {
+        unit: u8,
+        bank: &'a str,
+    },
+    /// `verify`, over orders, with a report into this file.
+    Verify {
+        orders: &'a str,
+        report: Option<&'a str>,
+    },
     /// `scan`.
     Scan,
 }
@@ -49,14 +60,32 @@ impl LinkCommand<'_> {
         ensures unwritten { result ≡ Status.Unwritten ↔ has_failed lines.new.output ≡ true }
     {
         match *self {
-            LinkCommand::Drive { names, moment } => {
-                drive_files(rt, names, moment, link_in, link_out, lines)
+            LinkCommand::Drive {
+                names,
+                terms,
+                report,
+            } => {
+                let mut file = ReportFile::open(rt, report);
+                let ended = drive_files(
+                    rt,
+                    names,
+                    terms,
+                    link_in,
+                    link_out,
+                    lines,
+                    &mut file.report,
+                );
+                file.end(rt.alloc(), lines, report, ended)
             }
             LinkCommand::Read { unit, bank } => {
                 read_file(rt, unit, bank, link_in, link_out, lines)
             }
-            LinkCommand::Verify(orders) => verify_file(rt, orders, link_in, link_out, lines),
-            LinkCommand::Scan => scan(link_in, link_out, lines),
+            LinkCommand::Verify { orders, report } => {
+                let mut file = ReportFile::open(rt, report);
+                let ended = verify_file(rt, orders, link_in, link_out, lines, &mut file.report);
+                file.end(rt.alloc(), lines, report, ended)
+            }
+            LinkCommand::Scan => scan(rt.alloc(), link_in, link_out, lines),
         }
     }
 }

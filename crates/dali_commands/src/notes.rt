@@ -3,12 +3,13 @@ ghost use Rattle.dali_text.specs.Output.{Takes};
 ghost use Rattle.dali_notes.specs.Notes.{Tells};
 ghost use Rattle.dali_commands.specs.Ends.{TellsEnd};
 ghost use Rattle.dali_commands.specs.Faults.{status_of, told_line};
-ghost use Rattle.dali_commands.specs.Notes.{IsFaultNote};
+ghost use Rattle.dali_commands.specs.Notes.{IsFaultNote, IsInputNote};
 
 use crate::fault::{Fault, Status};
 use crate::fault_lines::write_failure;
 use dali_drive::DriveFault;
 use dali_input::{InputFault, SetupFault};
+use dali_journal::JournalFault;
 use dali_notes::Note;
 use dali_text::{Output, OutputFailed};
 use dali_writer::RunFault;
@@ -35,21 +36,34 @@ fn note_fault<N: Write>(notes: &mut Output<N>, fault: Fault, note: &Note)
     ensures { Tells N.contents notes.old notes.new (IsFaultNote fault) }
 {
     match fault {
-        Fault::Input(InputFault::Json | InputFault::Document)
-        | Fault::Setup(
-            SetupFault::Input(InputFault::Json | InputFault::Document) | SetupFault::SameAddress,
-        )
-        | Fault::Run(RunFault::Limit) => note.tell(notes),
+        Fault::Input(fault) | Fault::Setup(SetupFault::Input(fault)) => {
+            note_input_fault(notes, fault, note)
+        }
         Fault::Setup(SetupFault::Unit(number, _)) => note.tell_about(notes, "unit", number),
         Fault::Setup(SetupFault::Order(number, _)) => note.tell_about(notes, "event", number),
-        Fault::Input(InputFault::TooBig | InputFault::Hex | InputFault::Memory | InputFault::File)
-        | Fault::Setup(
-            SetupFault::Input(
-                InputFault::TooBig | InputFault::Hex | InputFault::Memory | InputFault::File,
-            ),
-        )
-        | Fault::Run(RunFault::NoMemory)
-        | Fault::Journal(_)
-        | Fault::Drive(_) => {}
+        Fault::Setup(SetupFault::SameAddress)
+        | Fault::Run(RunFault::Limit)
+        | Fault::Journal(
+            JournalFault::Limit
+            | JournalFault::Record(_)
+            | JournalFault::Sequence(_)
+            | JournalFault::Repeated(_)
+            | JournalFault::Full(_)
+            | JournalFault::Header,
+        ) => note.tell(notes),
+        Fault::Run(RunFault::NoMemory) | Fault::Journal(JournalFault::NoMemory) | Fault::Drive(_) =>
+            {}
+    }
+}
+
+// Tells what is wrong with an input as a whole, where the fault is about what it says or how long it is.
+fn note_input_fault<N: Write>(notes: &mut Output<N>, fault: InputFault, note: &Note)
+    ensures { Tells N.contents notes.old notes.new (IsInputNote fault) }
+{
+    match fault {
+        InputFault::Json | InputFault::Document | InputFault::TooBig | InputFault::Hex => {
+            note.tell(notes)
+        }
+        InputFault::Memory | InputFault::File => {}
     }
 }

@@ -4,7 +4,7 @@ ghost use Rattle.dali_store.specs.Stores.{LeavesOnly};
 ghost use Rattle.dali_text.specs.Output.{has_failed, held};
 ghost use Rattle.dali_commands.specs.ReadAnswers.{IsReadAnswer, IsTextOfBank, TellsLine};
 
-use crate::drive_lines::{tell_fault, tell_unusable};
+use crate::drive_lines::{Causes, tell_fault, tell_unusable};
 use crate::fault::Status;
 use crate::lines::Lines;
 use dali_drive::{Sink, Source, bytes_line, put_all, read_unit, silent_line};
@@ -51,7 +51,14 @@ pub fn read_bank<I: Source, L: Sink, S: Store, W: Write>(
             }
         }
         Ok(None) => tell_line(lines, &silent_line(unit), Status::Refused),
-        Err(fault) => tell_fault(lines, fault),
+        Err(fault) => {
+            let causes = Causes {
+                link_in: link_in.cause(),
+                link_out: link_out.cause(),
+                store: None,
+            };
+            tell_fault(alloc, lines, fault, causes)
+        },
     }
 }
 

@@ -9,7 +9,7 @@ ghost use Rattle.dali_input.specs.Setup.{IsSetUp, IsSetupRefused};
 ghost use Rattle.dali_input.specs.Values.{IsNoReading};
 ghost use Rattle.dali_notes.specs.Notes.{Tells};
 ghost use Rattle.dali_commands.specs.Ends.{TellsEnd};
-ghost use Rattle.dali_commands.specs.Notes.{IsNotedRun};
+ghost use Rattle.dali_commands.specs.Notes.{IsNotedAnswer};
 ghost use Rattle.dali_commands.specs.RunAnswers.{IsRan, IsRunAnswer, IsUnrun, scenario_limit};
 
 use crate::fault::{Fault, Status};
@@ -62,7 +62,7 @@ pub fn run_scenario<R: Read, W: Write, N: Write>(
     ensures unwritten { result ≡ Status.Unwritten ↔ has_failed output.new ≡ true }
     ensures flushed { result ≢ Status.Unwritten → is_flushed output.new ≡ true }
     ensures noted { result ≢ Status.Unwritten → (text : List ℕ) × Takes W.contents output.old output.new text
-        × Tells N.contents notes.old notes.new (IsNotedRun result text) }
+        × Tells N.contents notes.old notes.new (IsNotedAnswer result text) }
 {
     match try_run(alloc, input, output, single_frames, notes) {
         Ok(status) => status,
@@ -83,7 +83,7 @@ fn try_run<R: Read, W: Write, N: Write>(
         × Takes W.contents output.old output.new text) }
     ensures read { ReadsAtMost scenario_limit (state_of R.remaining input.old) (state_of R.remaining input.new) }
     ensures noted { IfOk result (λ status. (text : List ℕ) × Takes W.contents output.old output.new text
-        × Tells N.contents notes.old notes.new (IsNotedRun status text)) }
+        × Tells N.contents notes.old notes.new (IsNotedAnswer status text)) }
     ensures end { TellsEnd result output.new }
 {
     let mut note = Note::new(alloc);

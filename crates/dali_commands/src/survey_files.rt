@@ -12,6 +12,7 @@ use crate::read::read_bank;
 use crate::survey::verify_input;
 use dali_drive::{StdSink, StdSource};
 use dali_input::Input;
+use dali_report::Report;
 use dali_store::FileStore;
 use std::fs::{File, Files};
 use std::io::{Read, Write};
@@ -19,17 +20,24 @@ use std::io::{Read, Write};
 /// Compares units with the orders of a file over a link, as `verify_input` does.
 ///
 /// No contract tells what a file holds. Whatever this one gave, the orders are those which these bytes spell.
-pub fn verify_file<R: Files<File = File> + AllocGlobal, I: Read, L: Write, O: Write>(
+pub fn verify_file<
+    R: Files<File = File> + AllocGlobal,
+    I: Read,
+    L: Write,
+    O: Write,
+    N: Write + Drop,
+>(
     rt: &R,
     name: &str,
     link_in: &mut StdSource<I>,
     link_out: &mut StdSink<L>,
     lines: &mut Lines<O>,
+    report: &mut Report<N>,
 ) -> Status
     requires link_out { sink_failed link_out.old ≡ false }
     requires link_in { source_failed link_in.old ≡ false }
     requires lines { has_failed lines.old.output ≡ false }
-    ensures verified { IsFileAnswer IsVerifyAnswer
+    ensures verified { IsFileAnswer (IsVerifyAnswer N.contents report.old report.new) (report.new ≡ report.old)
         (shown None (sink_held L.contents link_out.old) (source_left I.remaining link_in.old)
         (held O.contents lines.old.output))
         result
@@ -45,6 +53,7 @@ pub fn verify_file<R: Files<File = File> + AllocGlobal, I: Read, L: Write, O: Wr
             link_in,
             link_out,
             lines,
+            report,
         ),
         Err(error) => tell_unopened_orders(rt.alloc(), lines, name, error),
     }

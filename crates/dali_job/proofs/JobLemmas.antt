@@ -12,7 +12,7 @@ use Rattle.clap.specs.declared.builder.command.Command.{Command}
 use Rattle.clap.specs.declared.builder.command.Command.TheViews.{out-Command as fields_of}
 use Rattle.clap.specs.declared.parser.matches.ArgMatches.{ArgMatches}
 use Rattle.clap.proofs.OnLiterals.{clap_on_literals}
-use Rattle.dali_job.specs.Jobs.{HasFlag, HasNumber, HasValue, IsEntered, IsJob, IsNoJob, IsNumber, bench_app}
+use Rattle.dali_job.specs.Jobs.{HasFlag, HasNumber, HasOption, HasValue, IsEntered, IsJob, IsNoJob, IsNumber, bench_app}
 use Rattle.dali_job.specs.declared.job.Job.{Job}
 use Rattle.dali_job.specs.declared.job.Job.TheVariants.{Check, Run, Frame, Show, Journal, Drive, Read, Verify, Scan}
 
@@ -62,6 +62,19 @@ pub value_none : (entered : Option (Text × List Row)) (command id : Text) (rows
 value_none entered command id rows None e first =
     λ value has. no_value (first_of id) command value entered rows has.0 e first has.1 has.2
 value_none entered command id rows (Some x) e first = tt
+
+-- an option of a command that a parse entered has the value that was found, or none was and it is left out
+pub option_named : (entered : Option (Text × List Row)) (command id : Text) (o : Option (Bor (List ℕ)))
+    → IsEntered entered command
+    → IfSome o (λ (value : Bor (List ℕ)). HasValue entered command id value.now)
+    → IfNone o ((value : Text) → ¬ HasValue entered command id value)
+    → HasOption entered command id o
+option_named entered command id (Some x) is some none = some
+option_named entered command id None is some none = left_out (first_of id is.0) refl
+  where
+    left_out : (value : Option Text) → first_of id is.0 ≡ value → HasOption entered command id None
+    left_out None e = (is.0, is.1, e)
+    left_out (Some value) e = absurd (none value (is.0, is.1, e))
 
 -- ---- an option's number
 
@@ -142,21 +155,25 @@ pub no_job : (entered : Option (Text × List Row))
     → ((value : Text) → ¬ HasValue entered (codes "verify") (codes "ORDERS") value)
     → ¬ IsEntered entered (codes "scan")
     → ((unit : ℕ) (bank : Bor Text) → ¬ IsJob entered (Read unit bank))
-    → ((orders journal : Bor Text) (moment : ℕ) → ¬ IsJob entered (Drive orders journal moment)) → IsNoJob entered
+    → ((orders journal : Bor Text) (moment : ℕ) (require_done : Bool) (report : Option (Bor Text))
+    → ¬ IsJob entered (Drive orders journal moment require_done report)) → IsNoJob entered
 no_job _ no_orders _ _ _ _ _ _ _ _ (Check orders) = no_orders orders.now
 no_job _ _ no_scenario _ _ _ _ _ _ _ (Run scenario _) = λ named. no_scenario scenario.now named.0
 no_job _ _ _ no_digits _ _ _ _ _ _ (Frame digits) = no_digits digits.now
 no_job _ _ _ _ no_dump _ _ _ _ _ (Show dump) = no_dump dump.now
-no_job _ _ _ _ _ no_records _ _ _ _ (Journal records) = no_records records.now
-no_job _ _ _ _ _ _ no_compared _ _ _ (Verify orders) = no_compared orders.now
+no_job _ _ _ _ _ no_records _ _ _ _ (Journal records _) = λ named. no_records records.now named.0
+no_job _ _ _ _ _ _ no_compared _ _ _ (Verify orders _) = λ named. no_compared orders.now named.0
 no_job _ _ _ _ _ _ _ no_scan _ _ Scan = no_scan
 no_job _ _ _ _ _ _ _ _ no_read _ (Read unit bank) = no_read unit bank
-no_job _ _ _ _ _ _ _ _ _ no_drive (Drive orders journal moment) = no_drive orders journal moment
+no_job _ _ _ _ _ _ _ _ _ no_drive (Drive orders journal moment require_done report) =
+    no_drive orders journal moment require_done report
 
 -- the same of what may be no job
 pub no_job_in : (entered : Option (Text × List Row)) (found : Option Job)
-    → (((orders journal : Bor Text) (moment : ℕ) → ¬ IsJob entered (Drive orders journal moment)) → IsNoJob entered)
-    → IfNone found ((orders journal : Bor Text) (moment : ℕ) → ¬ IsJob entered (Drive orders journal moment))
+    → (((orders journal : Bor Text) (moment : ℕ) (require_done : Bool) (report : Option (Bor Text))
+    → ¬ IsJob entered (Drive orders journal moment require_done report)) → IsNoJob entered)
+    → IfNone found ((orders journal : Bor Text) (moment : ℕ) (require_done : Bool) (report : Option (Bor Text))
+    → ¬ IsJob entered (Drive orders journal moment require_done report))
     → IfNone found (IsNoJob entered)
 no_job_in entered None others none = others none
 no_job_in entered (Some job) others none = tt

@@ -1,6 +1,7 @@
 -- The command line, and what it asks for.
-use Rattle.std.specs.Prelude.{◌≡◌, ◌<◌, ◌≤◌, ◌^◌, ℕ, List, [], ◌∷◌, Option, Some, codes, true}
+use Rattle.std.specs.Prelude.{◌≡◌, ◌<◌, ◌≤◌, ◌^◌, ℕ, List, [], ◌∷◌, Option, Some, None, codes, true}
 use Rattle.std.specs.Bool.{Decides}
+use Rattle.std.specs.Borrow.{Bor}
 use Rattle.std.specs.Str.Parse.{IsNumeral, digits_value, without_leading_plus}
 use Rattle.clap.specs.Words.{App, Row, Rule, Text, first_of, new_app, new_rule, one_of, subcommand_of, with_rule}
 use Rattle.clap.specs.Words.{with_subcommand}
@@ -27,6 +28,10 @@ number_rule id missing = record (new_rule id) {
   parser = Some (Unsigned 0 18446744073709551615);
 }
 
+-- an option under its own name, which takes one value, and may be left out
+abbrev pub option_rule : Text → Rule
+option_rule id = record (new_rule id) { long = Some id; action = Some Set; value_names = 1 }
+
 -- an argument that has to be there, and takes the short address of a unit
 abbrev pub unit_rule : Text → Rule
 unit_rule id = record (value_rule id) { parser = Some (Unsigned 0 63) }
@@ -43,14 +48,23 @@ top_app = let app = new_app (codes "dali_bench") in record app { top = record ap
 abbrev pub run_app : App
 run_app = with_rule (command_app (codes "run") (codes "SCENARIO")) (flag_rule (codes "frames"))
 
--- the command that drives, with its two files, and the moment, which is 0 where it isn't given
+-- the command that prints a journal, with its flag
+abbrev pub journal_app : App
+journal_app = with_rule (command_app (codes "journal") (codes "FILE")) (flag_rule (codes "updates"))
+
+-- the command that drives, with its two files, the moment, which is 0 where it isn't given, its flag, and its report
 abbrev pub drive_app : App
 drive_app = let files = with_rule (command_app (codes "drive") (codes "ORDERS")) (value_rule (codes "JOURNAL")) in
-    with_rule files (number_rule (codes "moment") (codes "0"))
+    let timed = with_rule files (number_rule (codes "moment") (codes "0")) in
+    with_rule (with_rule timed (flag_rule (codes "require-done"))) (option_rule (codes "report"))
 
 -- the command that reads, with its unit and its file
 abbrev pub read_app : App
 read_app = with_rule (with_rule (new_app (codes "read")) (unit_rule (codes "UNIT"))) (value_rule (codes "HEXFILE"))
+
+-- the command that compares units with orders, with its report
+abbrev pub verify_app : App
+verify_app = with_rule (command_app (codes "verify") (codes "ORDERS")) (option_rule (codes "report"))
 
 -- the program's commands and their arguments, as `clap` sees them
 abbrev pub bench_app : App
@@ -58,10 +72,10 @@ bench_app = let checks = with_subcommand top_app (command_app (codes "check") (c
     let runs = with_subcommand checks run_app.top in
     let frames = with_subcommand runs (command_app (codes "frame") (codes "HEX")).top in
     let shows = with_subcommand frames (command_app (codes "show") (codes "HEXFILE")).top in
-    let journals = with_subcommand shows (command_app (codes "journal") (codes "FILE")).top in
+    let journals = with_subcommand shows journal_app.top in
     let drives = with_subcommand journals drive_app.top in
     let reads = with_subcommand drives read_app.top in
-    let verifies = with_subcommand reads (command_app (codes "verify") (codes "ORDERS")).top in
+    let verifies = with_subcommand reads verify_app.top in
     with_subcommand verifies (new_app (codes "scan")).top
 
 -- a parse entered the command
@@ -72,6 +86,16 @@ IsEntered entered command = (rows : List Row) × (entered ≡ Some (command, row
 abbrev pub HasValue : Option (Text × List Row) → Text → Text → Text → Type 0
 HasValue entered command id value =
     (rows : List Row) × (entered ≡ Some (command, rows)) × (first_of id rows ≡ Some value)
+
+-- a parse entered the command, and its option is left out
+abbrev pub IsLeftOut : Option (Text × List Row) → Text → Text → Type 0
+IsLeftOut entered command id =
+    (rows : List Row) × (entered ≡ Some (command, rows)) × (first_of id rows ≡ None)
+
+-- a parse entered the command, and its option has the value that is given, or is left out where none is
+abbrev pub HasOption : Option (Text × List Row) → Text → Text → Option (Bor Text) → Type 0
+HasOption entered command id (Some value) = HasValue entered command id value.now
+HasOption entered command id None = IsLeftOut entered command id
 
 -- a parse entered the command, and its flag is given
 abbrev pub HasFlag : Option (Text × List Row) → Text → Text → Type 0
@@ -93,7 +117,7 @@ HasNumber entered command id number = (rows : List Row) × (text : Text) × (ent
 abbrev pub HasUnit : Option (Text × List Row) → Text → Text → ℕ → Type 0
 HasUnit entered command id unit = HasNumber entered command id unit × (unit ≤ 63)
 
--- the job is the command that a parse entered, with its values, flags and numbers
+-- the job is the command that a parse entered, with its values, flags, numbers and options
 abbrev pub IsJob : Option (Text × List Row) → Job → Type 0
 IsJob entered (Check orders) = HasValue entered (codes "check") (codes "ORDERS") orders.now
 IsJob entered (Run scenario single_frames) =
@@ -101,15 +125,21 @@ IsJob entered (Run scenario single_frames) =
     × Decides single_frames (HasFlag entered (codes "run") (codes "frames"))
 IsJob entered (Frame digits) = HasValue entered (codes "frame") (codes "HEX") digits.now
 IsJob entered (Show dump) = HasValue entered (codes "show") (codes "HEXFILE") dump.now
-IsJob entered (Journal records) = HasValue entered (codes "journal") (codes "FILE") records.now
-IsJob entered (Drive orders journal moment) =
+IsJob entered (Journal records with_updates) =
+    HasValue entered (codes "journal") (codes "FILE") records.now
+    × Decides with_updates (HasFlag entered (codes "journal") (codes "updates"))
+IsJob entered (Drive orders journal moment require_done report) =
     HasValue entered (codes "drive") (codes "ORDERS") orders.now
     × HasValue entered (codes "drive") (codes "JOURNAL") journal.now
     × HasNumber entered (codes "drive") (codes "moment") moment
+    × Decides require_done (HasFlag entered (codes "drive") (codes "require-done"))
+    × HasOption entered (codes "drive") (codes "report") report
 IsJob entered (Read unit bank) =
     HasUnit entered (codes "read") (codes "UNIT") unit
     × HasValue entered (codes "read") (codes "HEXFILE") bank.now
-IsJob entered (Verify orders) = HasValue entered (codes "verify") (codes "ORDERS") orders.now
+IsJob entered (Verify orders report) =
+    HasValue entered (codes "verify") (codes "ORDERS") orders.now
+    × HasOption entered (codes "verify") (codes "report") report
 IsJob entered Scan = IsEntered entered (codes "scan")
 
 -- no job is that of the command that a parse entered

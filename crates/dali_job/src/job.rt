@@ -1,17 +1,19 @@
-ghost use Rattle.std.specs.Prelude.{◌≡◌, ◌⊎◌, List, ℕ, IfOk, IfErr, IfSome, IfNone, IsOkAnd, codes, false, map};
+ghost use Rattle.std.specs.Prelude.{◌≡◌, ◌⊎◌, Bool, List, ℕ, IfOk, IfErr, IfSome, IfNone, IsOkAnd, Option, codes};
+ghost use Rattle.std.specs.Prelude.{false, map};
 ghost use Rattle.clap.specs.declared.builder.command.Command.TheViews.{out-Command as fields_of};
 ghost use Rattle.std.specs.Bool.{Decides};
 ghost use Rattle.clap.specs.Words.{HasKind, app_of, fault_of, new_app, rule_of, subcommand_rows_of, AddsSubcommand};
 ghost use Rattle.dali_job.specs.Jobs.{HasFlag, HasNumber, HasUnit, HasValue, IsEntered, IsJob, IsJobOf, IsNoJob};
-ghost use Rattle.dali_job.specs.Jobs.{NamesNoJob, bench_app, command_app, drive_app, flag_rule};
-ghost use Rattle.dali_job.specs.Jobs.{number_rule, read_app, run_app, unit_rule, value_rule};
+ghost use Rattle.dali_job.specs.Jobs.{NamesNoJob, bench_app, command_app, drive_app, flag_rule, journal_app};
+ghost use Rattle.dali_job.specs.Jobs.{number_rule, option_rule, read_app, run_app, unit_rule, value_rule, verify_app};
 ghost use Rattle.dali_job.specs.declared.job.Job.TheVariants.{Drive, Read};
 ghost use Rattle.std.specs.Borrow.{Bor};
 
 use crate::usages::{
-    ABOUT, Argument, CHECK, CHECK_ORDERS, DRIVE, DRIVE_JOURNAL_HELP, DRIVE_MOMENT_HELP, FRAME,
-    FRAME_HEX, JOURNAL, JOURNAL_FILE, LINK_ORDERS, READ, READ_BANK_HELP, READ_UNIT_HELP, RUN,
-    RUN_FRAMES_HELP, RUN_SCENARIO, SCAN, SHOW, SHOW_DUMP, TOP_HELP, Usage, VERIFY,
+    ABOUT, Argument, CHECK, CHECK_ORDERS, DRIVE, DRIVE_DONE_HELP, DRIVE_JOURNAL_HELP,
+    DRIVE_MOMENT_HELP, DRIVE_REPORT_HELP, FRAME, FRAME_HEX, JOURNAL, JOURNAL_FILE,
+    JOURNAL_UPDATES_HELP, LINK_ORDERS, READ, READ_BANK_HELP, READ_UNIT_HELP, RUN, RUN_FRAMES_HELP,
+    RUN_SCENARIO, SCAN, SHOW, SHOW_DUMP, TOP_HELP, Usage, VERIFY, VERIFY_REPORT_HELP,
 };
 use clap::error::ErrorKind;
 use clap::{Arg, ArgAction, ArgMatches, Command, Error, value_parser};
@@ -32,22 +34,32 @@ pub enum Job<'a> {
     Frame(&'a str),
     /// To print what the bytes of a memory bank say.
     Show(&'a str),
-    /// To print the records of a journal.
-    Journal(&'a str),
+    /// To print the records of a journal; `with_updates`, each order's updates too.
+    Journal {
+        records: &'a str,
+        with_updates: bool,
+    },
     /// To carry out a file of orders over a link, with the journal of a file. `moment` is kept with
-    /// each order that begins.
+    /// each order that begins. With `require_done` it is to end well only where each order is done.
+    /// `report` is the file, if one is wanted, that gets a line for each order at its last reply.
     Drive {
         orders: &'a str,
         journal: &'a str,
         moment: u64,
+        require_done: bool,
+        report: Option<&'a str>,
     },
     /// To read bank 1 of a unit over a link into a file.
     Read {
         unit: u8,
         bank: &'a str,
     },
-    /// To compare memory bank 1 of units with a file of orders, over a link.
-    Verify(&'a str),
+    /// To compare memory bank 1 of units with a file of orders, over a link. `report` is the file, if
+    /// one is wanted, that gets a line for each order with what was found.
+    Verify {
+        orders: &'a str,
+        report: Option<&'a str>,
+    },
     /// To look which units of a link answer.
     Scan,
 }
@@ -117,10 +129,15 @@ fn job_in<'a>(matches: &ArgMatches<'a>) -> Option<Job<'a>>
         return Some(Job::Show(dump));
     }
     if let Some(records) = value_of(matches, "journal", "FILE") {
-        return Some(Job::Journal(records));
+        let with_updates = has_flag(matches, "journal", "updates");
+        return Some(Job::Journal {
+            records,
+            with_updates,
+        });
     }
     if let Some(orders) = value_of(matches, "verify", "ORDERS") {
-        return Some(Job::Verify(orders));
+        let report = value_of(matches, "verify", "report");
+        return Some(Job::Verify { orders, report });
     }
     if is_entered(matches, "scan") {
         return Some(Job::Scan);
@@ -146,16 +163,20 @@ fn read_in<'a>(matches: &ArgMatches<'a>) -> Option<Job<'a>>
 fn drive_in<'a>(matches: &ArgMatches<'a>) -> Option<Job<'a>>
     ensures named { IfSome result (IsJob (subcommand_rows_of matches.now)) }
     ensures none { IfNone result
-        ((orders journal : Bor (List ℕ)) (moment : ℕ)
-        → ¬ IsJob (subcommand_rows_of matches.now) (Drive orders journal moment)) }
+        ((orders journal : Bor (List ℕ)) (moment : ℕ) (require_done : Bool) (report : Option (Bor (List ℕ)))
+        → ¬ IsJob (subcommand_rows_of matches.now) (Drive orders journal moment require_done report)) }
 {
     let orders = value_of(matches, "drive", "ORDERS")?;
     let journal = value_of(matches, "drive", "JOURNAL")?;
     let moment = number_of(matches, "drive", "moment")?;
+    let require_done = has_flag(matches, "drive", "require-done");
+    let report = value_of(matches, "drive", "report");
     Some(Job::Drive {
         orders,
         journal,
         moment,
+        require_done,
+        report,
     })
 }
 
@@ -226,10 +247,10 @@ fn bench_command<'a>(alloc: Global) -> Result<Command<'a>, AllocError>
     let runs = with_made(checks, run_command(alloc))?;
     let frames = with_made(runs, command_of(alloc, &FRAME, &FRAME_HEX))?;
     let shows = with_made(frames, command_of(alloc, &SHOW, &SHOW_DUMP))?;
-    let journals = with_made(shows, command_of(alloc, &JOURNAL, &JOURNAL_FILE))?;
+    let journals = with_made(shows, journal_command(alloc))?;
     let drives = with_made(journals, drive_command(alloc))?;
     let reads = with_made(drives, read_command(alloc))?;
-    let verifies = with_made(reads, command_of(alloc, &VERIFY, &LINK_ORDERS))?;
+    let verifies = with_made(reads, verify_command(alloc))?;
     verifies.subcommand(plain_command(alloc, &SCAN))
 }
 
@@ -251,7 +272,15 @@ fn run_command<'a>(alloc: Global) -> Result<Command<'a>, AllocError>
     ensures app { IfOk result (λ command. app_of command ≡ run_app) }
     ensures local { IfOk result (λ command. (fields_of command).has_globals ≡ false) }
 {
-    command_of(alloc, &RUN, &RUN_SCENARIO)?.arg(frames_flag(alloc))
+    command_of(alloc, &RUN, &RUN_SCENARIO)?.arg(flag_of(alloc, "frames", RUN_FRAMES_HELP))
+}
+
+// The command that prints a journal, with its flag.
+fn journal_command<'a>(alloc: Global) -> Result<Command<'a>, AllocError>
+    ensures app { IfOk result (λ command. app_of command ≡ journal_app) }
+    ensures local { IfOk result (λ command. (fields_of command).has_globals ≡ false) }
+{
+    command_of(alloc, &JOURNAL, &JOURNAL_FILE)?.arg(flag_of(alloc, "updates", JOURNAL_UPDATES_HELP))
 }
 
 // The command that carries out orders over a link.
@@ -264,7 +293,17 @@ fn drive_command<'a>(alloc: Global) -> Result<Command<'a>, AllocError>
         "JOURNAL",
         DRIVE_JOURNAL_HELP,
     ))?;
-    files.arg(moment_option(alloc))
+    let timed = files.arg(moment_option(alloc))?;
+    let flagged = timed.arg(flag_of(alloc, "require-done", DRIVE_DONE_HELP))?;
+    flagged.arg(report_option(alloc, DRIVE_REPORT_HELP))
+}
+
+// The command that compares units with orders, with its report.
+fn verify_command<'a>(alloc: Global) -> Result<Command<'a>, AllocError>
+    ensures app { IfOk result (λ command. app_of command ≡ verify_app) }
+    ensures local { IfOk result (λ command. (fields_of command).has_globals ≡ false) }
+{
+    command_of(alloc, &VERIFY, &LINK_ORDERS)?.arg(report_option(alloc, VERIFY_REPORT_HELP))
 }
 
 // The command that reads a bank over a link.
@@ -321,15 +360,27 @@ fn unit_argument<'a>(alloc: Global) -> Arg<'a>
         .action(ArgAction::Set)
 }
 
-// The flag of `run`.
-fn frames_flag<'a>(alloc: Global) -> Arg<'a>
-    ensures rule { rule_of result ≡ flag_rule (codes "frames") }
+// A flag under its own name.
+fn flag_of<'a>(alloc: Global, id: &'a str, help: &'a str) -> Arg<'a>
+    ensures rule { rule_of result ≡ flag_rule id.entry.now }
     ensures local { result.global ≡ false }
 {
-    Arg::new(alloc, "frames")
-        .long("frames")
-        .help(RUN_FRAMES_HELP)
+    Arg::new(alloc, id)
+        .long(id)
+        .help(help)
         .action(ArgAction::SetTrue)
+}
+
+// The option that names the file of a report, and may be left out.
+fn report_option<'a>(alloc: Global, help: &'a str) -> Arg<'a>
+    ensures rule { rule_of result ≡ option_rule (codes "report") }
+    ensures local { result.global ≡ false }
+{
+    Arg::new(alloc, "report")
+        .long("report")
+        .value_name("FILE")
+        .help(help)
+        .action(ArgAction::Set)
 }
 
 // The option of `drive`, with the number that stands where it isn't given.

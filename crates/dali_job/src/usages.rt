@@ -13,8 +13,9 @@ pub(crate) struct Argument<'a> {
     pub(crate) help: &'a str,
 }
 
-pub(crate) const ABOUT: &str =
-    "Luminaire data in memory bank 1 of DALI control gear: orders checked, and run on simulated units";
+pub(crate) const ABOUT: &str = "\
+Writes luminaire data into memory bank 1 of DALI control gear, over a link (drive); \
+checks orders, and runs them on simulated units";
 
 pub(crate) const TOP_HELP: &str = "\
 A file named - is standard input; not for `drive` and `verify`, which have the answers there.
@@ -24,6 +25,24 @@ pub(crate) static CHECK: Usage<'static> = Usage {
     name: "check",
     about: "Checks a file of orders and prints the bytes that each would write",
     faults: "\
+An order is an object of these keys: `order`, `unit`, and at least one of the others.
+  order           number  0 to 18446744073709551615
+  unit            number  0 to 63, the unit's short address
+  gtin            string  8, 12, 13 or 14 digits, the last of them the check digit
+  identification  string  16 hexadecimal digits
+  year            number  0 to 99
+  week            number  1 to 53
+  input_power     number  0 to 65534, in W
+  min_dim_power   number  0 to 65534, in W
+  min_voltage     number  0 to 65534, in V
+  max_voltage     number  0 to 65534, in V, and not under min_voltage
+  light_output    number  0 to 16777214, in lm
+  cri             number  0 to 100
+  cct             number  0 to 65533, in K
+  distribution    number  0 to 254
+  colour          string  1 to 24 characters, each from space to ~
+  luminaire       string  1 to 60 characters, each from space to ~
+A number is whole, with no sign, fraction or exponent. From gtin on each may be null, for unknown.
 Faults of an order: 1 Unit (short address over 63), 2 Kind (value of another kind),
 3 Range (number out of range), 4 Gtin (length or check digit), 5 Text (length or character,
 or no 16 hexadecimal digits), 7 Voltage (minimum over maximum), 8 Empty (no field),
@@ -35,7 +54,7 @@ Exit status: 0 all accepted, 1 something refused, 2 a file, the memory or the ou
 
 pub(crate) static CHECK_ORDERS: Argument<'static> = Argument {
     id: "ORDERS",
-    help: "A JSON array of orders; /dev/stdin for standard input",
+    help: "A JSON array of orders; - for standard input",
 };
 
 pub(crate) static RUN: Usage<'static> = Usage {
@@ -55,7 +74,7 @@ Exit status: 0 it ran, 1 something refused, 2 a file, the memory or the output f
 
 pub(crate) static RUN_SCENARIO: Argument<'static> = Argument {
     id: "SCENARIO",
-    help: "A JSON object of limit, units, fates and events; /dev/stdin for standard input",
+    help: "A JSON object of limit, units, fates and events; - for standard input",
 };
 
 pub(crate) const RUN_FRAMES_HELP: &str = "Prints a line for each frame, with its answer";
@@ -84,7 +103,7 @@ Exit status: 0 printed, 1 refused, 2 a file, the memory or the output failed.",
 
 pub(crate) static SHOW_DUMP: Argument<'static> = Argument {
     id: "HEXFILE",
-    help: "The bytes as hexadecimal digits, location 00h first; /dev/stdin for standard input",
+    help: "The bytes as hexadecimal digits, location 00h first; - for standard input",
 };
 
 pub(crate) static JOURNAL: Usage<'static> = Usage {
@@ -101,8 +120,11 @@ Exit status: 0 printed, 1 refused, 2 a file, the memory or the output failed.",
 
 pub(crate) static JOURNAL_FILE: Argument<'static> = Argument {
     id: "FILE",
-    help: "The journal's bytes; /dev/stdin for standard input",
+    help: "The journal's bytes; - for standard input",
 };
+
+pub(crate) const JOURNAL_UPDATES_HELP: &str =
+    "Prints the bytes of each begun order too, as `check` prints them";
 
 pub(crate) static DRIVE: Usage<'static> = Usage {
     name: "drive",
@@ -116,9 +138,10 @@ and those of `journal`; 20 Memory, 21 File (can't be opened, read, written anew 
 the journal). A journal that is empty or of version 1 is written anew, in version 2, before anything is sent.
 Faults of a drive: 1 Journal (can't be written), 2 Link (can't be read or written), 3 Line (no answer),
 4 End (no more answers), 6 TooLong (over 8 bytes in a line), 7 Out (standard error can't be written).
-After a fault the same command goes on from the journal.
+After a fault, a kill or a loss of power run the same command again: it goes on from the journal.
+A report that can't be written is told and doesn't stop the drive; the status is then 2.
 Exit status: 0 each order has its reply, whatever it says, 1 something refused, or 3 Line, 4 End, 6 TooLong,
-2 a file, the memory, the link or the output failed.",
+or with --require-done an order isn't done, 2 a file, the memory, the link, the report or the output failed.",
 };
 
 pub(crate) static LINK_ORDERS: Argument<'static> = Argument {
@@ -131,6 +154,12 @@ pub(crate) const DRIVE_JOURNAL_HELP: &str =
 
 pub(crate) const DRIVE_MOMENT_HELP: &str =
     "A whole number that is kept with each order that begins, as the seconds since 1970";
+
+pub(crate) const DRIVE_DONE_HELP: &str =
+    "Ends with 1 where the last reply of some order isn't `kept 0 Done`";
+
+pub(crate) const DRIVE_REPORT_HELP: &str =
+    "A file that gets a line of JSON for each order at its last reply";
 
 pub(crate) static READ: Usage<'static> = Usage {
     name: "read",
@@ -160,9 +189,13 @@ that holds another byte, and that byte), `short`, `format` or `silent`.
 Nothing is written to a unit, and none is write-enabled.
 Nothing is sent where an item is refused, with the faults of `check`, or where ORDERS has a fault: 11 Json,
 12 Document, 13 TooBig (over 16777216 bytes), 20 Memory, 21 File. Faults of the link as of `read`.
+A report that can't be written is told and doesn't stop the comparison; the status is then 2.
 Exit status: 0 all are the same, 1 another ends, something refused, or 3 Line, 4 End, 6 TooLong,
-2 a file, the memory, the link or the output failed.",
+2 a file, the memory, the link, the report or the output failed.",
 };
+
+pub(crate) const VERIFY_REPORT_HELP: &str =
+    "A file that gets a line of JSON for each order with what was found";
 
 pub(crate) static SCAN: Usage<'static> = Usage {
     name: "scan",

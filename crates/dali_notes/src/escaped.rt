@@ -3,6 +3,22 @@ use std::fmt;
 // The most characters that are told of a value.
 const MOST: usize = 40;
 
+/// A character as a terminal may show it: one that isn't from 20h to 7Eh by its number.
+#[derive(Clone, Copy)]
+pub(crate) struct Letter(pub char);
+
+impl fmt::Display for Letter {
+    fn fmt<W: fmt::Write>(&self, f: &mut fmt::Formatter<W>) -> fmt::Result {
+        let letter = self.0;
+        if (' '..='~').contains(&letter) {
+            f.write_char(letter)
+        } else {
+            let number = letter as u32;
+            write!(f, "\\u{{{number:x}}}")
+        }
+    }
+}
+
 /// A text as a terminal may show it: each character that isn't from 20h to 7Eh by its number.
 #[derive(Clone, Copy)]
 pub struct Escaped<'a> {
@@ -32,13 +48,24 @@ impl fmt::Display for Escaped<'_> {
             if count == self.most {
                 return f.write_str("...");
             }
-            if (' '..='~').contains(&letter) {
-                f.write_char(letter)?;
-            } else {
-                let number = letter as u32;
-                write!(f, "\\u{{{number:x}}}")?;
-            }
+            let letter = Letter(letter);
+            write!(f, "{letter}")?;
         }
         Ok(())
+    }
+}
+
+/// A key as it is told: its first 40 characters, between quotes where it is empty or has a space, so that it is seen.
+#[derive(Clone, Copy)]
+pub(crate) struct ToldKey<'a>(pub &'a str);
+
+impl fmt::Display for ToldKey<'_> {
+    fn fmt<W: fmt::Write>(&self, f: &mut fmt::Formatter<W>) -> fmt::Result {
+        let key = Escaped::cut(self.0);
+        if self.0.is_empty() || self.0.as_bytes().contains(&b' ') {
+            write!(f, "\"{key}\"")
+        } else {
+            write!(f, "{key}")
+        }
     }
 }

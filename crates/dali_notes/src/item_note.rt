@@ -1,11 +1,15 @@
 use crate::described::Described;
-use crate::escaped::Escaped;
+use crate::escaped::ToldKey;
+use crate::flaw::Flaw;
 use crate::near_key::near_key;
 use crate::note::Note;
 use dali_bank::{BankFault, Field};
 use dali_input::{ItemFault, field_fault};
 use serde_json::Value as Json;
 use std::alloc::Global;
+
+// The greatest short address.
+const MOST_ADDRESS: u64 = 63;
 
 /// All that is wrong with an order object that is refused for a fault, a line each.
 pub fn note_of_item(alloc: Global, json: &Json, fault: ItemFault) -> Note {
@@ -27,13 +31,11 @@ pub fn note_of_item(alloc: Global, json: &Json, fault: ItemFault) -> Note {
 
 // Tells where the order's or the unit's number is none.
 fn note_numbers(note: &mut Note, json: &Json) {
-    for key in ["order", "unit"] {
+    for (key, most) in [("order", u64::MAX), ("unit", MOST_ADDRESS)] {
         let member = json.get(key);
         if member.and_then(Json::as_u64).is_none() {
             let found = Described(member);
-            note.add(format_args!(
-                "{key}: {found}, and it is a whole number from 0 to 18446744073709551615"
-            ));
+            note.add(format_args!("{key}: {found}, and it is a whole number from 0 to {most}"));
         }
     }
 }
@@ -63,7 +65,7 @@ fn note_key(note: &mut Note, key: &str) {
         }
         meant = meant.or(near_key(key, &[field.key()]));
     }
-    let told = Escaped::cut(key);
+    let told = ToldKey(key);
     match meant {
         Some(meant) => note.add(format_args!("{told}: no such key ({meant}?)")),
         None => note.add(format_args!("{told}: no such key")),
@@ -73,8 +75,10 @@ fn note_key(note: &mut Note, key: &str) {
 // Tells where a unit's number is no short address.
 fn note_address(note: &mut Note, json: &Json) {
     match json.get("unit").and_then(Json::as_u64) {
-        Some(unit) if unit > 63 => {
-            note.add(format_args!("unit: the number {unit}, and a short address is 0 to 63"));
+        Some(unit) if unit > MOST_ADDRESS => {
+            note.add(format_args!(
+                "unit: the number {unit}, and a short address is 0 to {MOST_ADDRESS}"
+            ));
         }
         _ => {}
     }
@@ -89,7 +93,13 @@ fn note_field(note: &mut Note, field: Field, json: Option<&Json>) {
         return;
     }
     let (key, found, rule) = (field.key(), Described(Some(json)), rule_of(field));
-    note.add(format_args!("{key}: {found}, and it is {rule}"));
+    match json.as_str() {
+        Some(text) => {
+            let flaw = Flaw { field, text };
+            note.add(format_args!("{key}: {found}, and it is {rule}{flaw}"));
+        }
+        None => note.add(format_args!("{key}: {found}, and it is {rule}")),
+    }
 }
 
 // Tells what is wrong with the fields together.

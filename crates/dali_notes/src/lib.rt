@@ -5,24 +5,34 @@
 //! more there then.
 #![tactic(auto)]
 
+mod bank_note;
 mod described;
 mod escaped;
 mod first_lines;
+mod flaw;
 mod front;
 mod item_note;
+mod journal_note;
 mod json_note;
+mod kind;
 mod near_key;
 mod note;
+mod place;
 mod repeats;
 mod scenario_note;
 mod scenario_rule;
 mod setup_note;
+mod word_note;
 
+pub use bank_note::note_of_bank;
 pub use escaped::Escaped;
 pub use first_lines::FirstLines;
 pub use item_note::note_of_item;
-pub use json_note::{note_of_json, note_of_orders};
+pub use journal_note::note_of_journal;
+pub use json_note::{note_of_json, note_of_orders, note_of_size};
+pub use kind::Kind;
 pub use note::Note;
 pub use repeats::Repeats;
 pub use scenario_note::note_of_scenario;
 pub use setup_note::note_of_setup;
+pub use word_note::note_of_word;

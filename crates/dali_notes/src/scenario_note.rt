@@ -1,5 +1,5 @@
 use crate::described::Described;
-use crate::escaped::Escaped;
+use crate::escaped::ToldKey;
 use crate::near_key::near_key;
 use crate::note::Note;
 use crate::scenario_rule::{Member, event_members, fate_members, scenario_members, unit_members};
@@ -101,7 +101,7 @@ fn note_key(note: &mut Note, path: Path, key: &str, members: &[Member]) {
         }
         meant = meant.or(near_key(key, &[member.key]));
     }
-    let (before, told) = (Before(path), Escaped::cut(key));
+    let (before, told) = (Before(path), ToldKey(key));
     match meant {
         Some(meant) => note.add(format_args!("{before}{told}: no such key ({meant}?)")),
         None => note.add(format_args!("{before}{told}: no such key")),

@@ -6,11 +6,11 @@ use std::fmt;
 pub enum Rule {
     /// A whole number from the least to the most.
     Whole { least: u64, most: u64 },
-    /// An array of whole numbers from 0 to the most.
-    Wholes { most: u64 },
+    /// An array of whole numbers from the least to the most.
+    Wholes { least: u64, most: u64 },
     /// Three whole numbers from 0 to 255.
     Registers,
-    /// An even number of hexadecimal digits, at most 512.
+    /// An even number of hexadecimal digits, 34 to 510.
     Digits,
     /// True or false.
     Truth,
@@ -25,8 +25,8 @@ impl Rule {
     pub fn suits(&self, json: &Json) -> bool {
         match *self {
             Rule::Whole { least, most } => is_whole(json, least, most),
-            Rule::Wholes { most } => are_wholes(json, most),
-            Rule::Registers => are_wholes(json, 255) && count(json) == 3,
+            Rule::Wholes { least, most } => are_wholes(json, least, most),
+            Rule::Registers => are_wholes(json, 0, 255) && count(json) == 3,
             Rule::Digits => are_digits(json),
             Rule::Truth => json.as_bool().is_some(),
             Rule::List => json.as_array().is_some(),
@@ -39,10 +39,12 @@ impl fmt::Display for Rule {
     fn fmt<W: fmt::Write>(&self, f: &mut fmt::Formatter<W>) -> fmt::Result {
         match *self {
             Rule::Whole { least, most } => write!(f, "a whole number from {least} to {most}"),
-            Rule::Wholes { most } => write!(f, "an array of whole numbers from 0 to {most}"),
+            Rule::Wholes { least, most } => {
+                write!(f, "an array of whole numbers from {least} to {most}")
+            }
             Rule::Registers => f.write_str("an array of three whole numbers from 0 to 255"),
             Rule::Digits => f.write_str(
-                "a string of at most 512 hexadecimal digits, two for each byte",
+                "a string of 34 to 510 hexadecimal digits, two for each byte",
             ),
             Rule::Truth => f.write_str("true or false"),
             Rule::List => f.write_str("an array"),
@@ -79,9 +81,14 @@ fn optional(key: &'static str, rule: Rule) -> Member {
 
 /// The keys of a scenario.
 pub fn scenario_members() -> [Member; 4] {
-    let most = u64::MAX;
     [
-        required("limit", Rule::Whole { least: 0, most }),
+        required(
+            "limit",
+            Rule::Whole {
+                least: 1,
+                most: 100_000,
+            },
+        ),
         required("units", Rule::List),
         optional("fates", Rule::List),
         required("events", Rule::List),
@@ -91,15 +98,15 @@ pub fn scenario_members() -> [Member; 4] {
 /// The keys of a unit.
 pub fn unit_members() -> [Member; 4] {
     [
-        required(
-            "address",
-            Rule::Whole {
-                least: 0,
-                most: 255,
+        required("address", Rule::Whole { least: 0, most: 63 }),
+        optional("bank", Rule::Digits),
+        optional(
+            "fixed",
+            Rule::Wholes {
+                least: 3,
+                most: 254,
             },
         ),
-        optional("bank", Rule::Digits),
-        optional("fixed", Rule::Wholes { most: 255 }),
         optional("dtr", Rule::Registers),
     ]
 }
@@ -114,7 +121,7 @@ pub fn fate_members() -> [Member; 4] {
                 most: 20_000,
             },
         ),
-        optional("lost", Rule::Wholes { most: 63 }),
+        optional("lost", Rule::Wholes { least: 0, most: 63 }),
         optional("answer_lost", Rule::Truth),
         optional("refuse", Rule::Truth),
     ]
@@ -152,13 +159,13 @@ fn is_whole(json: &Json, least: u64, most: u64) -> bool {
     }
 }
 
-// Whether the value is an array of whole numbers from 0 to the most.
-fn are_wholes(json: &Json, most: u64) -> bool {
+// Whether the value is an array of whole numbers from the least to the most.
+fn are_wholes(json: &Json, least: u64, most: u64) -> bool {
     let Some(items) = json.as_array() else {
         return false;
     };
     for item in items {
-        if !is_whole(item, 0, most) {
+        if !is_whole(item, least, most) {
             return false;
         }
     }
@@ -173,10 +180,10 @@ fn count(json: &Json) -> usize {
     }
 }
 
-// Whether the value is a string of an even number of hexadecimal digits, at most 512.
+// Whether the value is a string of an even number of hexadecimal digits, 34 to 510.
 fn are_digits(json: &Json) -> bool {
     match json.as_str() {
-        Some(text) if text.len() <= 512 && text.len() % 2 == 0 => {
+        Some(text) if 34 <= text.len() && text.len() <= 510 && text.len() % 2 == 0 => {
             text.as_bytes().iter().all(|byte| byte.is_ascii_hexdigit())
         }
         _ => false,

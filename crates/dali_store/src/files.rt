@@ -4,7 +4,7 @@ ghost use Rattle.std.specs.Prelude.{◌≡◌, ◌<◌, ◌≤◌, IfOk, false, 
 ghost use Rattle.dali_store.specs.Files.{has_failed};
 
 use crate::new_file::{Writer, successor};
-use crate::place::{FileId, Place, id_of, place_of, sync_folder};
+use crate::place::{FileId, Place, id_of, opened_or_made, place_of, sync_folder};
 use crate::store::{Store, StoreFault};
 use crate::text_file::put_text;
 use std::alloc::Global;
@@ -19,8 +19,7 @@ const CHUNK: usize = 65536;
 /// The file of a journal (profile). The first call has to be `read`, which opens the file, made where there is none,
 /// and locks it for as long as the store lasts; any other fails before it.
 ///
-/// What is no regular file, as a terminal, is neither replaced, cut nor synced: where it gave no byte, `replace` writes
-/// to it, and else both calls fail. A named pipe is refused.
+/// What is no regular file, as a named pipe or a terminal, is refused, and so is the name `-`.
 ///
 /// The file of a text is only ever replaced, whatever is there: it needn't exist, and any other call fails.
 #[derive(Drop)]
@@ -38,10 +37,7 @@ pub struct FileStore<'a, R> {
 #[derive(Drop)]
 struct Opened {
     file: File,
-    // Of a regular file.
-    place: Option<Place>,
-    // Whether it has given no byte, and taken none.
-    is_empty: bool,
+    place: Place,
     // Whether its length and its name are on the disk, so that of what is appended only the data has to be synced.
     is_settled: bool,
 }
@@ -233,7 +229,6 @@ fn bytes_of<R: Files<File = File>>(
             };
             let mut fresh = open(rt, alloc, name, orders)?;
             let bytes = read_up_to(alloc, name, &mut fresh.file, limit)?;
-            fresh.is_empty = bytes.is_empty();
             *opened = Some(fresh);
             Ok(bytes)
         }
@@ -247,28 +242,38 @@ fn open<R: Files<File = File>>(
     name: &str,
     orders: FileId,
 ) -> Result<Opened, Hindrance> {
+    if name == "-" {
+        return Err(refused(alloc, "the journal has to be a file, and no stream", name));
+    }
     let mut how = OpenOptions::new();
     how.read(true).append(true).create(true);
-    let file = given(alloc, name, how.open(rt, name))?;
+    let file = opened_or_made(rt, alloc, name, &how)?;
     let found = given(alloc, name, file.metadata())?;
-    if found.file_type().is_fifo() {
-        return Err(refused(alloc, "the journal is a named pipe", name));
+    if !found.is_file() {
+        return Err(refused(alloc, irregular(&found), name));
     }
     if id_of(&found) == orders {
         return Err(refused(alloc, "ORDERS and JOURNAL are one file", name));
     }
     lock(alloc, &file, name, Writer::Drive)?;
-    let place = if found.is_file() {
-        Some(place_of(rt, alloc, name, found)?)
-    } else {
-        None
-    };
+    let place = place_of(rt, alloc, name, found)?;
     Ok(Opened {
         file,
         place,
-        is_empty: false,
         is_settled: false,
     })
+}
+
+// Why what is no regular file can't be a journal.
+fn irregular(found: &Metadata) -> &'static str {
+    let kind = found.file_type();
+    if kind.is_fifo() {
+        "the journal is a named pipe"
+    } else if kind.is_char_device() {
+        "the journal is a character device"
+    } else {
+        "the journal is no regular file"
+    }
 }
 
 pub(crate) fn lock(
@@ -331,10 +336,7 @@ fn put(
     for _ in 0..u64::MAX {
         cause = match opened.file.write(bytes) {
             Ok(0) => ErrorKind::WriteZero,
-            Ok(count) => {
-                opened.is_empty = false;
-                return Ok(count);
-            }
+            Ok(count) => return Ok(count),
             Err(error) => error.kind(),
         };
         if cause != ErrorKind::Interrupted {
@@ -344,7 +346,6 @@ fn put(
     Err(unusable(alloc, name, io::Error::from(cause)))
 }
 
-// Cuts a regular file.
 fn shorten(
     alloc: Global,
     name: &str,
@@ -352,40 +353,26 @@ fn shorten(
     len: usize,
 ) -> Result<(), Hindrance> {
     match opened {
-        Some(
-            Opened {
-                file,
-                place: Some(_),
-                ..
-            },
-        ) => given(alloc, name, file.set_len(len as u64)),
-        Some(_) => Err(irregular(alloc, name)),
+        Some(opened) => given(alloc, name, opened.file.set_len(len as u64)),
         None => Err(unopened(alloc, name)),
     }
 }
 
-fn irregular(alloc: Global, name: &str) -> Hindrance {
-    unusable(alloc, name, io::Error::from(ErrorKind::InvalidInput))
-}
-
-// Waits until a regular file is on the disk, at first with its length and its name.
+// Waits until the file is on the disk, at first with its length and its name.
 fn settle(alloc: Global, name: &str, opened: &mut Option<Opened>) -> Result<(), Hindrance> {
     let Some(opened) = opened else {
         return Err(unopened(alloc, name));
-    };
-    let Some(place) = &opened.place else {
-        return Ok(());
     };
     if opened.is_settled {
         return given(alloc, name, opened.file.sync_data());
     }
     given(alloc, name, opened.file.sync_all())?;
-    sync_folder(alloc, place)?;
+    sync_folder(alloc, &opened.place)?;
     opened.is_settled = true;
     Ok(())
 }
 
-// Has a new file with these bytes take the place of a regular one. One that is none begins with them.
+// Has a new file with these bytes take the place of the file.
 fn put_anew<R: Files<File = File> + AllocGlobal>(
     rt: &R,
     name: &str,
@@ -396,22 +383,10 @@ fn put_anew<R: Files<File = File> + AllocGlobal>(
     let Some(opened) = opened else {
         return Err(unopened(alloc, name));
     };
-    let Some(place) = &opened.place else {
-        return begin(alloc, name, opened, bytes);
-    };
-    let file = successor(rt, place, bytes, Writer::Drive)?;
+    let file = successor(rt, &opened.place, bytes, Writer::Drive)?;
     opened.file = file;
     opened.is_settled = false;
-    sync_folder(alloc, place)?;
+    sync_folder(alloc, &opened.place)?;
     opened.is_settled = true;
     Ok(())
-}
-
-// Writes the first bytes to what is no regular file.
-fn begin(alloc: Global, name: &str, opened: &mut Opened, bytes: &[u8]) -> Result<(), Hindrance> {
-    if !opened.is_empty {
-        return Err(irregular(alloc, name));
-    }
-    opened.is_empty = false;
-    given(alloc, name, opened.file.write_all(bytes))
 }

@@ -1,7 +1,7 @@
 // The new file that takes the place of a journal or a text, beside it. No contract tells of a real file: this is
 // trusted.
 use crate::files::{Hindrance, given, lock, refused, unusable};
-use crate::place::{Place, id_of};
+use crate::place::{Place, id_of, opened_or_made};
 use crate::text_file::is_part_of_text;
 use std::alloc::Global;
 use std::fs::{File, Files, Metadata, OpenOptions};
@@ -92,7 +92,7 @@ fn new_file<R: Files<File = File> + AllocGlobal>(
         }
         Ok(_) => Err(refused(alloc, writer.foreign(), name)),
         Err(error) if error.kind() == ErrorKind::NotFound => {
-            let file = given(alloc, name, how.create_new(true).open(rt, name))?;
+            let file = opened_or_made(rt, alloc, name, how.create_new(true))?;
             lock(alloc, &file, name, writer)?;
             Ok(file)
         }

@@ -1,8 +1,9 @@
 // Where a file stands that another may replace. No contract tells of a real file: this is trusted.
-use crate::files::{Hindrance, given, refused};
+use crate::files::{Hindrance, given, refused, unusable};
 use crate::new_file::Writer;
 use std::alloc::Global;
-use std::fs::{File, Files, Metadata};
+use std::fs::{File, Files, Metadata, OpenOptions};
+use std::io::ErrorKind;
 use std::os::unix::fs::MetadataExt;
 use std::path::Path;
 use std::{fs, io};
@@ -88,6 +89,39 @@ pub(crate) fn names_at(alloc: Global, path: Path<'_>) -> io::Result<(String, Str
         format!(in alloc; "{shown}.new")?,
         folder,
     ))
+}
+
+// Opens a file so that it is made where there is none. Where the folder lets none be made, that is what is told.
+pub(crate) fn opened_or_made<R: Files<File = File>>(
+    rt: &R,
+    alloc: Global,
+    name: &str,
+    how: &OpenOptions,
+) -> Result<File, Hindrance> {
+    match how.open(rt, name) {
+        Ok(file) => Ok(file),
+        Err(cause) if cause.kind() == ErrorKind::PermissionDenied && is_absent(rt, name) => {
+            Err(unmade(alloc, name, cause))
+        }
+        Err(cause) => Err(unusable(alloc, name, cause)),
+    }
+}
+
+fn is_absent<R: Files<File = File>>(rt: &R, name: &str) -> bool {
+    match fs::symlink_metadata(rt, name) {
+        Ok(_) => false,
+        Err(error) => error.kind() == ErrorKind::NotFound,
+    }
+}
+
+// Why the folder of a name lets no file be made.
+fn unmade(alloc: Global, name: &str, cause: io::Error) -> Hindrance {
+    match names_at(alloc, Path::new(name)) {
+        Ok((_, _, folder)) => Hindrance::Failed(format!(in alloc;
+            "no file can be made in the folder: {folder}: {cause}"
+        ).ok()),
+        Err(_) => Hindrance::NoMemory,
+    }
 }
 
 pub(crate) fn sync_folder(alloc: Global, place: &Place) -> Result<(), Hindrance> {

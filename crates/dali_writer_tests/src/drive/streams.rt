@@ -54,6 +54,10 @@ impl<'a> Source for Script<'a> {
     fn has_failed(&self) -> bool {
         self.failed
     }
+
+    fn cause(&self) -> Option<ErrorKind> {
+        None
+    }
 }
 
 // Holds the bytes that it has room for, of which it takes two at most in a call, and flushes or syncs so many times.
@@ -123,6 +127,10 @@ impl Sink for Shelf {
 
     fn has_failed(&self) -> bool {
         self.failed
+    }
+
+    fn cause(&self) -> Option<ErrorKind> {
+        None
     }
 }
 

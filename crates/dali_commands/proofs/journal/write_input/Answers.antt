@@ -13,7 +13,7 @@ returns-in_ok-flush-in-Ok-clause-told g c =
         version = c.in-Ok.version;
         loaded = c.in-Ok.ensures.ok;
         status_is = refl;
-        text_is = ap (journal_text c.in-Ok.version c.in-Ok.journal.records c.in-Ok.counted) total;
+        text_is = ap (journal_text c.args.with_updates c.in-Ok.version c.in-Ok.journal.records c.in-Ok.counted) total;
       }),
       appends_kept _ _ _ _ c.in_ok-write_journal-in-Ok.ensures.text c.in_ok-flush-in-Ok.ensures.bytes,
     )

@@ -8,6 +8,11 @@ returns-clause-app c =
     let journal = c.value_argument.ensures in
     let files =
     c.in_ok-files.ensures.shape journal.local ∙ ap₂ with_rule c.in_ok-command_of.ensures.app journal.rule in
-    IfOk-weaker c.arg-2.result _ _
-    (λ command added. added.shape c.moment_option.ensures.local ∙ ap₂ with_rule files c.moment_option.ensures.rule)
-    c.arg-2.ensures
+    let moment = c.moment_option.ensures in
+    let timed = c.in_ok-timed.ensures.shape moment.local ∙ ap₂ with_rule files moment.rule in
+    let done = c.flag_of.ensures in
+    let flagged = c.in_ok-flagged.ensures.shape done.local ∙ ap₂ with_rule timed done.rule in
+    let report = c.report_option.ensures in
+    IfOk-weaker c.arg-4.result _ _
+    (λ command added. added.shape report.local ∙ ap₂ with_rule flagged report.rule)
+    c.arg-4.ensures

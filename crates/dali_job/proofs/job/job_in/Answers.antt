@@ -1,6 +1,6 @@
 use Rattle.std.proofs.Common.{◌∙◌, sym}
 use Rattle.std.proofs.lemmas.Bool.{true≢false}
-use Rattle.dali_job.proofs.JobLemmas.{no_job, no_job_in}
+use Rattle.dali_job.proofs.JobLemmas.{no_job, no_job_in, option_named}
 use Rattle.dali_job.proofs.job.job_in.Goals as goal
 
 pub returns-in-Some-clause-named : goal.returns-in-Some-clause-named
@@ -16,10 +16,12 @@ pub returns-in-Some-value_of-3-clause-named : goal.returns-in-Some-value_of-3-cl
 returns-in-Some-value_of-3-clause-named c = c.in-Some-value_of-3.ensures.found
 
 pub returns-in-Some-value_of-4-clause-named : goal.returns-in-Some-value_of-4-clause-named
-returns-in-Some-value_of-4-clause-named c = c.in-Some-value_of-4.ensures.found
+returns-in-Some-value_of-4-clause-named c = (c.in-Some-value_of-4.ensures.found, c.has_flag-with_updates.ensures)
 
 pub returns-in-Some-value_of-5-clause-named : goal.returns-in-Some-value_of-5-clause-named
-returns-in-Some-value_of-5-clause-named c = c.in-Some-value_of-5.ensures.found
+returns-in-Some-value_of-5-clause-named c =
+    let orders = c.in-Some-value_of-5.ensures.found in
+    (orders, option_named _ _ _ _ (orders.0, orders.1) c.value_of-report.ensures.found c.value_of-report.ensures.none)
 
 pub returns-clause-none : goal.returns-clause-none
 returns-clause-none c =

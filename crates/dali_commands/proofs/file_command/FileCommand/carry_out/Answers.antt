@@ -1,5 +1,3 @@
-use Rattle.std.proofs.Common.{[], refl}
-use Rattle.dali_commands.proofs.NoteLemmas.{appends_nothing}
 use Rattle.dali_commands.proofs.file_command.FileCommand.carry_out.Goals as goal
 
 pub returns-in-Run-clause-carried_out : goal.returns-in-Run-clause-carried_out
@@ -21,6 +19,7 @@ pub returns-in-Run-clause-noted : goal.returns-in-Run-clause-noted
 returns-in-Run-clause-noted g c = rw c.in-Run.is c.run_scenario.ensures.noted
 
 pub returns-in-Journal-clause-noted : goal.returns-in-Journal-clause-noted
-returns-in-Journal-clause-noted g c written =
-    let (text, is, took) = c.journal.ensures.told written in
-    (text, took, λ unfailed. (unfailed, ([], rw c.in-Journal.is refl, appends_nothing _)))
+returns-in-Journal-clause-noted g c = rw c.in-Journal.is c.journal.ensures.noted
+
+pub returns-in-Show-clause-noted : goal.returns-in-Show-clause-noted
+returns-in-Show-clause-noted g c = rw c.in-Show.is c.show.ensures.noted

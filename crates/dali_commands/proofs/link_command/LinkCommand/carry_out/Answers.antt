@@ -1,0 +1,12 @@
+use Rattle.dali_text.specs.Output.{held}
+use Rattle.dali_commands.proofs.link_command.LinkCommand.carry_out.Goals as goal
+
+pub returns-in-Drive-clause-carried_out : goal.returns-in-Drive-clause-carried_out
+returns-in-Drive-clause-carried_out g c = rw c.in-Drive.is (record {
+  before = c.open-file.result.report;
+  after = c.drive_files-ended.new.report;
+  ended = c.drive_files-ended.result;
+  lines = held g.O.Write.contents c.drive_files-ended.new.lines.output;
+  answered = c.drive_files-ended.ensures.driven;
+  reported = c.end.ensures.told;
+})

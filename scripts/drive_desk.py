@@ -73,6 +73,16 @@ def absent_records(number, moment=0):
     return b"B" + number.to_bytes(8, "big") + moment.to_bytes(8, "big") + ABSENT_RECORDS[17:]
 
 
+def unwritten(cause):
+    """Give the lines of a standard output that can't be written."""
+    return f"error: the frames can't be written to standard output: {cause}\ndrive fault 2 Link\n"
+
+
+def unread(cause):
+    """Give the lines of a standard input that can't be read."""
+    return f"error: the answers can't be read from standard input: {cause}\ndrive fault 2 Link\n"
+
+
 def last_line(ended):
     """Give the status, what was sent, and the last line that was told."""
     return ended.status, ended.sent, ended.told.rstrip("\n").rpartition("\n")[2]

@@ -27,6 +27,8 @@ from drive_desk import (
     last_line,
     new_of,
     settings,
+    unread,
+    unwritten,
     want,
 )
 from driven import HEADER, Ended
@@ -122,11 +124,24 @@ def test_journal_without_rights(folder):
 
 
 def test_folder_without_rights(folder):
+    inner = folder / "inner"
+    inner.mkdir(0o555)
+    cause = "Permission denied (os error 13)"
+    told = f"error: no file can be made in the folder: {inner}: {cause}\nfault 21 File\n"
     desk = desk_of(folder, ABSENT)
-    folder.chmod(0o555)
-    want(last_line(as_nobody(desk)), FAULT_21)
+    desk.journal = inner / "bench.journal"
+    want(as_nobody(desk), Ended(2, b"", told))
     assert not desk.journal.exists()
-    folder.chmod(0o755)
+    for start in (b"", OLD_ABSENT_BEGAN):
+        inner.chmod(0o755)
+        desk.journal.write_bytes(start)
+        desk.journal.chmod(0o666)
+        inner.chmod(0o555)
+        want((start, as_nobody(desk)), (start, Ended(2, b"", told)))
+        want((desk.held(), os.listdir(inner)), (start, ["bench.journal"]))
+    desk.journal.chmod(0o444)
+    told = f"error: the file can't be used: {desk.journal}: {cause}\nfault 21 File\n"
+    want(as_nobody(desk), Ended(2, b"", told))
 
 
 def test_journal_that_is_too_big(folder):
@@ -136,9 +151,6 @@ def test_journal_that_is_too_big(folder):
         os.truncate(desk.journal, size)
         want((size, last_line(desk.give(SILENCE))), (size, (1, b"", line)))
         want(desk.journal.stat().st_size, size)
-    desk.journal = pathlib.Path("/dev/zero")
-    status, sent, line = last_line(desk.give(SILENCE))
-    assert sent == b"" and (status, line) in [(1, "fault 13 TooBig"), FAULT_21[::2]], (status, line)
 
 
 def check_refused(folder, files):
@@ -207,7 +219,10 @@ def test_journal_on_a_full_file_system(folder):
                                  (full_page(), "drive fault 1 Journal", full_page() + ABSENT_RECORDS)]:
             desk.journal.write_bytes(start)
             fill(room / "filler")
-            want(last_line(desk.give(SILENCE)), (2, b"", told))
+            ended = desk.give(SILENCE)
+            want(last_line(ended), (2, b"", told))
+            cause = f"error: the file can't be used: {desk.journal}: no storage space"
+            assert told == "fault 21 File" or ended.told.splitlines()[-2] == cause, ended
             want(desk.held(), start)
             (room / "filler").unlink()
             goes_on(desk, end)
@@ -266,7 +281,7 @@ def test_standard_output_closed_by_its_reader(folder):
             command.stdout.close()
             command.stdin.write(b"--\n")
             told = command.stderr.read().decode()
-            want((count, command.wait(driven.PATIENCE), told), (count, 2, "reply 1 taken\ndrive fault 2 Link\n"))
+            want((count, command.wait(driven.PATIENCE), told), (count, 2, "reply 1 taken\n" + unwritten("broken pipe")))
             command.stdin.close()
             command.stderr.close()
             want(desk.held(), ABSENT_BEGAN)
@@ -280,7 +295,7 @@ def test_standard_output_closed_before_the_first_frame(folder):
         os.close(reading)
         ended = desk.give(SILENCE, stdout=writing, restore_signals=is_restored)
         os.close(writing)
-        want(ended, Ended(2, None, "reply 1 taken\ndrive fault 2 Link\n"))
+        want(ended, Ended(2, None, "reply 1 taken\n" + unwritten("broken pipe")))
         want(desk.held(), ABSENT_BEGAN)
         goes_on(desk)
 
@@ -288,7 +303,7 @@ def test_standard_output_closed_before_the_first_frame(folder):
 def test_standard_output_that_is_full(folder):
     desk = desk_of(folder, ABSENT)
     with open("/dev/full", "wb") as full:
-        want(desk.give(SILENCE, stdout=full), Ended(2, None, "reply 1 taken\ndrive fault 2 Link\n"))
+        want(desk.give(SILENCE, stdout=full), Ended(2, None, "reply 1 taken\n" + unwritten("no storage space")))
     want(desk.held(), ABSENT_BEGAN)
     goes_on(desk)
 
@@ -299,7 +314,7 @@ def test_standard_input_that_is_a_folder(folder):
     command = desk.start(stdin=inside)
     os.close(inside)
     sent, told = command.communicate(timeout=driven.PATIENCE)
-    want((command.returncode, sent, told), (2, b"C301\n", b"reply 1 taken\ndrive fault 2 Link\n"))
+    want((command.returncode, sent, told.decode()), (2, b"C301\n", "reply 1 taken\n" + unread("is a directory")))
     goes_on(desk)
 
 

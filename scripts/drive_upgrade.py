@@ -6,7 +6,6 @@ import pathlib
 import pty
 import signal
 import stat
-import termios
 import time
 
 import driven
@@ -16,7 +15,6 @@ from drive_desk import (
     ABSENT_BEGAN,
     ABSENT_FRAMES,
     ABSENT_JOURNAL,
-    ABSENT_RECORDS,
     DONE_JOURNAL,
     FAULT_21,
     GTIN,
@@ -435,43 +433,22 @@ def test_the_new_file_stands_beside_the_old_one(folder):
         want(os.listdir(folder / "inner"), ["real.journal"])
 
 
-def test_a_device_is_written_and_never_replaced(folder):
-    desk = desk_of(folder, ABSENT)
-    desk.journal = pathlib.Path("/dev/null")
-    calls, ended = calls_of(desk, lambda variables: desk.give(SILENCE, variables))
-    want(ended, Ended(0, ABSENT_FRAMES, "reply 1 taken\n" + KEPT_SILENT))
-    written = [call for call in calls if (call.kind, call.target) == ("write", "journal")]
-    want(b"".join(bytes.fromhex(call.detail) for call in written), ABSENT_JOURNAL)
-    assert not any(call.target == "new" or call.kind in ("rename", "cut", "mode") for call in calls), calls
-
-
-def terminal_that_says(data):
-    """Make a terminal from which these bytes are read, up to an end; give both of its ends and its name."""
+def test_what_is_no_regular_file_is_refused(folder):
     near, far = pty.openpty()
-    end = b"\xfe"
-    modes = termios.tcgetattr(far)
-    modes[0] = modes[1] = 0
-    modes[3] = termios.ICANON
-    modes[6] = [b"\0"] * len(modes[6])
-    modes[6][termios.VEOF] = end
-    termios.tcsetattr(far, termios.TCSANOW, modes)
-    os.write(near, data + (end if data else b"") + end)
-    return near, far, os.ttyname(far)
-
-
-def test_a_terminal_is_never_replaced(folder):
-    done = (0, ABSENT_FRAMES, KEPT_SILENT.strip())
-    for start, written, ended in [(b"", ABSENT_JOURNAL, done), (ABSENT_BEGAN, ABSENT_RECORDS[-2:], done),
-                                  (OLD_ABSENT_BEGAN, b"", FAULT_21), (ABSENT_BEGAN + b"E", b"", FAULT_21),
-                                  (b"DB1", b"", (1, b"", "journal fault 7 Header"))]:
-        near, far, name = terminal_that_says(start)
-        desk = desk_of(folder, ABSENT)
+    desk = desk_of(folder, ABSENT)
+    for name in ("/dev/null", "/dev/zero", "/dev/full", os.ttyname(far)):
         desk.journal = pathlib.Path(name)
-        want((start, last_line(desk.give(SILENCE))), (start, ended))
-        os.write(far, b".")
-        told = b""
-        while not told.endswith(b"."):
-            told += os.read(near, 1000)
-        want((start, told), (start, written + b"."))
-        os.close(near)
-        os.close(far)
+        want(desk.give(SILENCE), Ended(2, b"", f"error: the journal is a character device: {name}\nfault 21 File\n"))
+    os.close(near)
+    os.close(far)
+
+
+def test_a_stream_is_refused(folder):
+    desk = desk_of(folder, ABSENT)
+    desk.journal = pathlib.Path("-")
+    told = "error: the journal has to be a file, and no stream: -\nfault 21 File\n"
+    want(desk.give(SILENCE, cwd=folder), Ended(2, b"", told))
+    want(os.listdir(folder), ["orders.json"])
+    desk.words = lambda: [desk.program, "drive", desk.orders, "./-"]
+    want(desk.give(SILENCE, cwd=folder).status, 0)
+    want((folder / "-").read_bytes(), ABSENT_JOURNAL)

@@ -49,6 +49,13 @@ def is_item_fault(line, kind, number):
     return line in [f"{kind} {number} fault {fault} {name}" for fault, name in ITEM_FAULTS.items()]
 
 
+# Faults of a whole input or argument of which a person is told more, and of a scenario.
+NOTED = ("fault 11 Json", "fault 12 Document", "fault 13 TooBig", "fault 14 Hex", "gear fault 5 SameAddress",
+         "run fault 1 Limit")
+
+# What stands last where `show` or `journal` refuses what standard input has.
+REFUSED = "error: the input is refused: standard input"
+
 # What stands behind the lines for a person, where there are more.
 LEFT_OUT = "more is left out: these are the first 1000 lines"
 
@@ -70,7 +77,7 @@ def judge_notes(lines, stderr):
         head = re.match("(?:item|event) [0-9]+ |", note.replace(":", " ", 1))[0]
         assert not head or head in refused or ": the number of item " in note, note
     whole = lines[0] if len(lines) == 1 else ""
-    if whole in ("fault 11 Json", "fault 12 Document", "gear fault 5 SameAddress", "run fault 1 Limit"):
+    if whole in NOTED or JOURNAL_FAULT.fullmatch(whole):
         assert notes, whole
     elif not refused:
         assert all(": the number of item " in it for it in notes), notes
@@ -110,12 +117,20 @@ def check_status(status, wanted):
     assert status == wanted, f"it ended with status {status}, and not {wanted}"
 
 
+def judge_refusal(lines, stderr):
+    """Judge what is told of an input that `show` or `journal` refuses."""
+    judge_notes(lines, stderr)
+    notes = lines_of(stderr)
+    assert len(notes) == 2 and notes[1] == REFUSED, notes
+
+
 def judge_show(status, stdout, stderr):
     """Judge what `show` printed."""
     lines = lines_of(stdout)
-    assert stderr == b"", stderr
     if len(lines) == 1 and is_file_fault(lines[0]):
+        judge_refusal(lines, stderr)
         return check_status(status, 1)
+    assert stderr == b"", stderr
     assert [line.split(" ", 1)[0] for line in lines] == BANK_WORDS, lines
     assert all(BANK_TEXT.fullmatch(line.split(" ", 1)[1]) for line in lines), lines
     check_status(status, 0)
@@ -124,7 +139,8 @@ def judge_show(status, stdout, stderr):
 def judge_frame(status, stdout, stderr):
     """Judge what `frame` printed."""
     lines = lines_of(stdout)
-    assert stderr == b"" and len(lines) == 1, (lines, stderr)
+    judge_notes(lines, stderr)
+    assert len(lines) == 1, lines
     assert lines[0] == "fault 14 Hex" or FRAME.fullmatch(lines[0]), lines
     check_status(status, 1 if lines[0] == "fault 14 Hex" else 0)
 
@@ -144,9 +160,11 @@ def standing_after(found):
 def judge_journal(status, stdout, stderr):
     """Judge what `journal` printed."""
     lines = lines_of(stdout)
-    assert stderr == b"" and lines, (lines, stderr)
+    assert lines
     if len(lines) == 1 and (lines[0] == "fault 13 TooBig" or JOURNAL_FAULT.fullmatch(lines[0])):
+        judge_refusal(lines, stderr)
         return check_status(status, 1)
+    assert stderr == b"", stderr
     assert lines[0] in ("version 1", "version 2"), lines[0]
     version, found = int(lines[0][-1]), [RECORD.fullmatch(line) for line in lines[1:-1]]
     assert all(found), lines
@@ -159,6 +177,19 @@ def judge_journal(status, stdout, stderr):
     assert int(last[1]) == length <= total, lines[-1]
     assert version == 2 or total > 0 and all(it[3] in (None, "0") for it in found), lines
     check_status(status, 0)
+
+
+def without_updates(stdout):
+    """Judge the updates of each order that `journal --updates` printed, and give the rest, as `journal` prints it."""
+    lines, told, at = lines_of(stdout), [], 0
+    while at < len(lines):
+        found = RECORD.fullmatch(lines[at])
+        count = int(found[4]) if found and found[4] else 0
+        if count:
+            judge_updates(lines[at + 1:at + 1 + count], count)
+        told.append(lines[at])
+        at += 1 + count
+    return "".join(line + "\n" for line in told).encode()
 
 
 def is_setup_fault(line):
@@ -230,8 +261,16 @@ def judge_drive(status, stdout, stderr):
     if judge_drive_head(told, sent):
         return check_status(status, 1)
     fault = re.fullmatch("drive fault (.*)", told[-1]) if told else None
-    assert all(REPLY.fullmatch(line) for line in (told[:-1] if fault else told)), told
+    assert all(REPLY.fullmatch(line) for line in (without_fault(told, fault[1]) if fault else told)), told
     check_status(status, DRIVE_FAULTS[fault[1]] if fault else 0)
+
+
+def without_fault(told, fault):
+    """Give the lines before that of a fault, and before that of its cause."""
+    if fault in ("1 Journal", "2 Link"):
+        assert told[-2:-1] and told[-2].startswith("error: "), told
+        return told[:-2]
+    return told[:-1]
 
 
 def judge_link(status, stdout, stderr):
@@ -242,7 +281,7 @@ def judge_link(status, stdout, stderr):
     if fault:
         check_status(status, DRIVE_FAULTS[fault[1]])
         assert fault[1] != "1 Journal" and sent, told
-    return (told[:-1], None) if fault else (told, status)
+    return (without_fault(told, fault[1]), None) if fault else (told, status)
 
 
 def judge_read(status, stdout, stderr):

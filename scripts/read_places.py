@@ -215,7 +215,8 @@ def test_a_folder_without_rights(folder):
     for before in (None, BEFORE):
         if before:
             desk.bank.write_text(before)
-        want(last_line(as_nobody(desk)), (2, SENT_17, "fault 21 File"))
+        told = f"error: no file can be made in the folder: {folder}: Permission denied (os error 13)\nfault 21 File\n"
+        want(as_nobody(desk), Ended(2, SENT_17, told))
         want((desk.text(), desk.new().exists()), (before, False))
 
 

@@ -4,7 +4,7 @@ import os
 import subprocess
 
 import driven
-from drive_desk import ABSENT, GTIN, last_line, settings, want
+from drive_desk import ABSENT, GTIN, last_line, settings, unread, unwritten, want
 from driven import Ended
 from read_desk import (
     ANSWERS_17,
@@ -164,13 +164,13 @@ def test_standard_output_that_fails(folder):
     for command in COMMANDS:
         desk = desk_for(folder, command)
         with open("/dev/full", "wb") as full:
-            want((command, desk.give(SILENCE, stdout=full)), (command, Ended(2, None, "drive fault 2 Link\n")))
+            want((command, desk.give(SILENCE, stdout=full)), (command, Ended(2, None, unwritten("no storage space"))))
         for is_restored in (True, False):
             reading, writing = os.pipe()
             os.close(reading)
             ended = desk.give(SILENCE, stdout=writing, restore_signals=is_restored)
             os.close(writing)
-            want((command, ended), (command, Ended(2, None, "drive fault 2 Link\n")))
+            want((command, ended), (command, Ended(2, None, unwritten("broken pipe"))))
         want_no_file(desk)
 
 
@@ -181,7 +181,7 @@ def test_standard_input_that_is_a_folder(folder):
         running = desk.start(stdin=inside)
         os.close(inside)
         found = running.communicate(timeout=driven.PATIENCE)
-        want((command, running.returncode, *found), (command, 2, b"C301\n", b"drive fault 2 Link\n"))
+        want((command, running.returncode, *found), (command, 2, b"C301\n", unread("is a directory").encode()))
         want_no_file(desk)
 
 
@@ -225,7 +225,7 @@ def test_streams_that_are_closed_at_the_start(folder):
             want((case, desk.text() in (None, TEXT_17), desk.new().exists()), (case, True, False))
             assert command != "verify" or desk.orders.read_text() == driven.json.dumps(PRESENT), case
             if 2 not in closed:
-                want((case, ended.told), (case, "drive fault 2 Link\n"))
+                want((case, ended.told.splitlines()[-1:]), (case, ["drive fault 2 Link"]))
 
 
 def test_a_frame_is_sent_only_once_the_last_one_is_answered(folder):

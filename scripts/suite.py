@@ -19,9 +19,14 @@ def count_of(name):
     return getattr(TESTS[name], "parts", 1)
 
 
+def may_run_in(folder):
+    """Tell whether files may be made in a folder, and programs among them run."""
+    return os.access(folder, os.W_OK) and not os.statvfs(folder).f_flag & os.ST_NOEXEC
+
+
 def passes(name, part):
     """Run one part of a test in a folder of its own; tell whether it passed, and what is to be printed."""
-    shared = "/dev/shm" if os.access("/dev/shm", os.W_OK) else None
+    shared = "/dev/shm" if may_run_in("/dev/shm") else None
     arguments = (part, TESTS[name].parts) if hasattr(TESTS[name], "parts") else ()
     try:
         with tempfile.TemporaryDirectory(dir=shared) as folder:

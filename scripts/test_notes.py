@@ -12,6 +12,7 @@ import sys
 import tempfile
 
 WHOLE = "a whole number from 0 to 18446744073709551615"
+SHORT = "a whole number from 0 to 63"
 GTIN = "a string of 8, 12, 13 or 14 digits, the last its check digit, or null"
 IDENTIFICATION = "a string of 16 hexadecimal digits, or null"
 WATTS = "a whole number of watts from 0 to 65534, or null"
@@ -24,6 +25,25 @@ LEFT_OUT = "more is left out: these are the first 1000 lines"
 # An item whose line on standard error is long.
 LONG = '{"order": 1, "unit": 5, "luminaire": "' + 61 * "x" + '"}'
 JSON = "here the input is no JSON any more, or nests too deep"
+COMMENT = "here a comment begins, and JSON has none"
+COMMA = "the comma before this bracket is one too many"
+LINES = "here a second value follows, as in JSON lines, and the input has to be one: orders stand in one array"
+SEMICOLON = "order;unit;gtin\n1;5;4006381333931\n"
+A_JOURNAL = "the input is a journal, which `journal` takes"
+A_BANK = "the input is hexadecimal digits, as the text of a bank, which `show` takes"
+AN_ARRAY = "the input is an array of JSON, as orders are, which `check` takes"
+AN_OBJECT = "the input is an object of JSON, as a scenario is, which `run` takes"
+NO_BANK = "and the bytes of a bank are hexadecimal digits"
+# What stands behind what is wrong with an input of `show` or `journal`.
+REFUSES = "error: the input is refused: standard input"
+# A journal of version 2 with one record, that order 1 of unit 5 begins with one update, and one of version 1.
+BEGAN = bytes.fromhex("42 0000000000000001 0000000000000000 05 01 13 18")
+OLD_BEGAN = bytes.fromhex("42 0000000000000001 05 01 13 18")
+HEADER = b"DB1\x02"
+NO_HEADER = "the input begins with 44h, as a journal of version 2 does, and not with the whole header 44 42 31 02"
+NO_RECORD = "here is neither a record (B, O, E or C, and what belongs to it) nor, at the end, a part of one"
+MAY_NOT_FOLLOW = ("a record that may not follow: an order begins (B), its unit is opened (O), it ends (E), and a left"
+                  " unit is closed (C)")
 YEAR = "a whole number from 0 to 99, or null"
 ADDRESS = "and a short address is 0 to 63"
 # Two refused orders with two mistakes each, and a sound one between them; and what is told of each.
@@ -41,19 +61,44 @@ REFUSED_THIRD = [
 # Mistakes in one item: what stands behind its number 6 and its unit 5, and the lines behind `item 1 order 6: `.
 ITEMS = [
     ('"gtin": 4006381333931', [f"gtin: the number 4006381333931, and it is {GTIN}"]),
-    ('"gtin": "4006381333932"', [f'gtin: the text "4006381333932", and it is {GTIN}']),
-    ('"gtin": "400638133393"', [f'gtin: the text "400638133393", and it is {GTIN}']),
-    ('"gtin": "4006381-33393"', [f'gtin: the text "4006381-33393", and it is {GTIN}']),
+    # (GS1: behind 400638133393 the check digit is 1, and behind 40063813339 it is 0)
+    ('"gtin": "4006381333932"', [
+        f'gtin: the text "4006381333932", and it is {GTIN}; its check digit is 2, and would be 1',
+    ]),
+    ('"gtin": "04006381333930"', [
+        f'gtin: the text "04006381333930", and it is {GTIN}; its check digit is 0, and would be 1',
+    ]),
+    ('"gtin": "400638133393"', [
+        f'gtin: the text "400638133393", and it is {GTIN}; its check digit is 3, and would be 0',
+    ]),
+    ('"gtin": "12345678"', [f'gtin: the text "12345678", and it is {GTIN}; its check digit is 8, and would be 0']),
+    ('"gtin": "40063813339"', [f'gtin: the text "40063813339", and it is {GTIN}; it has 11 digits']),
+    ('"gtin": "400638133393100"', [f'gtin: the text "400638133393100", and it is {GTIN}; it has 15 digits']),
+    ('"gtin": ""', [f'gtin: the text "", and it is {GTIN}; it has 0 digits']),
+    ('"gtin": "4006381-33393"', [f'gtin: the text "4006381-33393", and it is {GTIN}; its character 8 is "-"']),
+    ('"gtin": "400638133393\u00b9"', [
+        f'gtin: the text "400638133393\\u{{b9}}", and it is {GTIN}; its character 13 is "\\u{{b9}}"',
+    ]),
     ('"gtin": true', [f"gtin: true, and it is {GTIN}"]),
     ('"gtim": "4006381333931"', ["gtim: no such key (gtin?)"]),
-    ('"GTIN": "4006381333931"', ["GTIN: no such key"]),
+    ('"GTIN": "4006381333931"', ["GTIN: no such key (gtin?)"]),
+    ('"Gtim": "4006381333931"', ["Gtim: no such key (gtin?)"]),
+    ('"InputPower": 5', ["InputPower: no such key (input_power?)"]),
+    ('"Input_Power": 5', ["Input_Power: no such key (input_power?)"]),
+    ('"ORDER": 5', ["ORDER: no such key (order?)"]),
+    ('"": 5', ['"": no such key']),
+    ('"gtin ": "4006381333931"', ['"gtin ": no such key (gtin?)']),
     ('"gitn": "4006381333931"', ["gitn: no such key (gtin?)"]),
     ('"color": "RAL 9016"', ["color: no such key (colour?)"]),
     ('"weeks": 5', ["weeks: no such key (week?)"]),
     ('"input_powe": 5', ["input_powe: no such key (input_power?)"]),
     ('"\\u001b[31m": 1', ["\\u{1b}[31m: no such key"]),
-    ('"identification": "0011223344556"', [f'identification: the text "0011223344556", and it is {IDENTIFICATION}']),
-    ('"identification": "0x112233445566"', [f'identification: the text "0x112233445566", and it is {IDENTIFICATION}']),
+    ('"identification": "0011223344556"', [
+        f'identification: the text "0011223344556", and it is {IDENTIFICATION}; it has 13 digits',
+    ]),
+    ('"identification": "0x112233445566"', [
+        f'identification: the text "0x112233445566", and it is {IDENTIFICATION}; its character 2 is "x"',
+    ]),
     ('"year": 2024', [f"year: the number 2024, and it is {YEAR}"]),
     ('"year": "24"', [f'year: the text "24", and it is {YEAR}']),
     ('"year": 24.5', [f"year: the number 24.5, and it is {YEAR}"]),
@@ -71,10 +116,21 @@ ITEMS = [
     ('"cct": 65534', ["cct: the number 65534, and it is a whole number of kelvins from 0 to 65533, or null"]),
     ('"distribution": 255', ["distribution: the number 255, and it is a whole number from 0 to 254, or null"]),
     ('"colour": ""', [f'colour: the text "", and it is {COLOUR}']),
-    ('"colour": "wei\u00df"', [f'colour: the text "wei\\u{{df}}", and it is {COLOUR}']),
+    ('"colour": "wei\u00df"', [f'colour: the text "wei\\u{{df}}", and it is {COLOUR}; its character 4 is "\\u{{df}}"']),
+    ('"colour": "' + 30 * "x" + '"', [
+        f'colour: the text "{30 * "x"}", and it is {COLOUR}; it has 30 characters, 6 too many',
+    ]),
     ('"colour": 9016', [f"colour: the number 9016, and it is {COLOUR}"]),
-    ('"luminaire": "' + 61 * "x" + '"', [f'luminaire: the text "{40 * "x"}...", and it is {LUMINAIRE}']),
-    ('"luminaire": "a\\u0000b"', [f'luminaire: the text "a\\u{{0}}b", and it is {LUMINAIRE}']),
+    ('"luminaire": "' + 61 * "x" + '"', [
+        f'luminaire: the text "{40 * "x"}...", and it is {LUMINAIRE}; it has 61 characters, 1 too many',
+    ]),
+    ('"luminaire": "a\\u0000b"', [
+        f'luminaire: the text "a\\u{{0}}b", and it is {LUMINAIRE}; its character 2 is "\\u{{0}}"',
+    ]),
+    ('"luminaire": "' + 40 * "x" + 30 * "\u00fc" + '"', [
+        f'luminaire: the text "{40 * "x"}...", and it is {LUMINAIRE};'
+        ' its character 41 is "\\u{fc}"; it has 70 characters, 10 too many',
+    ]),
     ('"year": 100, "week": 54, "yaer": 1', [
         "yaer: no such key (year?)",
         f"year: the number 100, and it is {YEAR}",
@@ -94,13 +150,44 @@ INPUTS = [
         f"item 1: order: missing, and it is {WHOLE}",
         "item 2: the number 7, and an order is an object with order, unit and fields",
     ]),
-    ("check", b'{"order": 1, "unit": 5, "year": 1}', ["the input is an object, and orders are an array"]),
+    ("check", b'[{"order": 1, "unit": "5", "year": 1}, {"order": 2, "unit": -1, "year": 1}, {"order": 3, "year": 1}]', [
+        f'item 1 order 1: unit: the text "5", and it is {SHORT}',
+        f"item 2 order 2: unit: the number -1, and it is {SHORT}",
+        f"item 3 order 3: unit: missing, and it is {SHORT}",
+    ]),
+    ("check", b'{"order": 1, "unit": 5, "year": 1}', [
+        "the input is one order, and orders are an array: it stands between [ and ]",
+    ]),
+    ("check", b'{"orders": []}', ["the input is an object, and orders are an array"]),
     ("check", b'{"limit": 1, "units": [], "events": []}', [
         "the input is an object with events, which `run` takes, and orders are an array",
     ]),
     ("check", b'', ["the input is empty, and has to be JSON"]),
-    ("check", b'[{"order": 1,}]', [f"line 1 column 14: {JSON}"]),
+    ("check", b'[{"order": 1,}]', [f"line 1 column 14: {COMMA}"]),
+    ("run", b'{"limit": 1, "units": [\n  {"address": 5},\n ],\n "events": []}', [f"line 3 column 2: {COMMA}"]),
     ("check", b'[\n{"order": 1 "unit": 5}\n]', [f"line 2 column 13: {JSON}"]),
+    ("check", '[{"colour": "\u00fc\u20ac\U0001f4a1" 1}]'.encode(), [f"line 1 column 19: {JSON}"]),
+    ("check", b'[{"order": 1, "unit": 5}', ["line 1 column 25: the input ends before its JSON does"]),
+    ("check", b'[{"order": 1}, // the first\n {"order": 2}]', [f"line 1 column 16: {COMMENT}"]),
+    ("check", b'/* orders */ []', [f"line 1 column 1: {COMMENT}"]),
+    ("check", b'[\n# the first\n]', [f"line 2 column 1: {COMMENT}"]),
+    ("check", b"[{'order': 1}]", ["line 1 column 3: here stands a single quote, and JSON has double quotes alone"]),
+    ("check", b'{"order": 1, "unit": 5}\n{"order": 2, "unit": 5}\n', [f"line 2 column 1: {LINES}"]),
+    ("check", b'{"order": 1, "unit": 5},\n{"order": 2, "unit": 5}\n', [f"line 2 column 1: {LINES}"]),
+    ("check", b'[{"order": 1, "unit": 5}]\n ]', ["line 2 column 2: here the input goes on behind its JSON"]),
+    ("check", "[{\"colour\": \"wei\u00df\"}]".encode("latin-1"), [
+        "line 1 column 17: the byte DFh is a letter in Latin-1, and the input has to be in UTF-8",
+    ]),
+    ("run", b'{\n"limit\x81": 1}', ["line 2 column 7: the byte 81h is no UTF-8 here, which the input has to be in"]),
+    ("check", SEMICOLON.encode(), ["the input is a table, as CSV, and has to be JSON"]),
+    ("check", b"\xef\xbb\xbf" + SEMICOLON.encode(), ["the input is a table, as CSV, and has to be JSON"]),
+    ("check", b"order,unit,year\r\n1,5,24\r\n", ["the input is a table, as CSV, and has to be JSON"]),
+    ("check", b"order\tunit\n1\t5\n", ["the input is a table, as CSV, and has to be JSON"]),
+    ("check", HEADER + BEGAN, [f"{A_JOURNAL}, and has to be JSON"]),
+    ("check", HEADER, [f"{A_JOURNAL}, and has to be JSON"]),
+    ("run", OLD_BEGAN, [f"{A_JOURNAL}, and has to be JSON"]),
+    ("check", b"77 FF FF 03\n", [f"{A_BANK}, and has to be JSON"]),
+    ("check", b" " * 16777217, ["the input has more than 16777216 bytes, the most that it may have"]),
     ("check", b"\xef\xbb\xbf[]", ["the input begins with a byte order mark, and has to be UTF-8 without one"]),
     ("check", b"\xff\xfe[\0]\0", ["the input is in UTF-16, and has to be in UTF-8"]),
     ("check", b'[{"order": 1, "unit": 5, "year": 1}, {"order": 1, "unit": 6, "year": 1}]', [
@@ -109,7 +196,18 @@ INPUTS = [
     ("run", b"[]", ["the input is an array: orders are for `check` and `drive`, and a scenario is an object"]),
     ("run", b'{"limit": 1, "units": [{"adress": 5}], "events": []}', [
         "units[0].adress: no such key (address?)",
-        "units[0].address: missing, and it is a whole number from 0 to 255",
+        f"units[0].address: missing, and it is {SHORT}",
+    ]),
+    ("run", b'{"limit": 1, "units": [], "": 1, "events": []}', ['"": no such key']),
+    ("run", b'{"units": [{"address": 256, "fixed": [3, -1]}], "Events": []}', [
+        "Events: no such key (events?)",
+        "limit: missing, and it is a whole number from 1 to 100000",
+        "events: missing, and it is an array",
+        f"units[0].address: the number 256, and it is {SHORT}",
+        "units[0].fixed: an array, and it is an array of whole numbers from 3 to 254",
+    ]),
+    ("run", b'{"limit": 1, "units": [], "fates": [{"times": 20000}, {"times": 1}], "events": []}', [
+        "the scenario is over 20000 events or fates, each `steps` and each fate counted as often as it stands for",
     ]),
     ("run", b'{"limit": 1, "units": [], "events": [{"steps": 1}, {"steps": 0}]}', [
         "events[1].steps: the number 0, and it is a whole number from 1 to 20000",
@@ -129,7 +227,7 @@ INPUTS = [
         "fates[0].refuse: the number 1, and it is true or false",
     ]),
     ("run", b'{"limit": 1, "units": [{"address": 5, "bank": "7 7"}], "events": []}', [
-        'units[0].bank: the text "7 7", and it is a string of at most 512 hexadecimal digits, two for each byte',
+        'units[0].bank: the text "7 7", and it is a string of 34 to 510 hexadecimal digits, two for each byte',
     ]),
     ("run", b'{"limit": 1, "units": [{"address": 5, "dtr": [1, 2]}], "events": []}', [
         "units[0].dtr: an array, and it is an array of three whole numbers from 0 to 255",
@@ -155,6 +253,47 @@ INPUTS = [
         "event 2 order 9: yeer: no such key (year?)",
         f"event 2 order 9: unit: the number 64, {ADDRESS}",
     ]),
+    ("show", b"77 FF\nF8 0G\n", ['line 2 column 5: the character "G" is no hexadecimal digit', REFUSES]),
+    ("show", b"0x77", ['line 1 column 2: the character "x" is no hexadecimal digit', REFUSES]),
+    ("show", b"77, FF", ['line 1 column 3: the character "," is no hexadecimal digit', REFUSES]),
+    ("show", b"77 \xc3\xbc", ["line 1 column 4: the byte C3h is no hexadecimal digit", REFUSES]),
+    ("show", b"77 FF F", ["the input has 5 hexadecimal digits, and each byte has two", REFUSES]),
+    ("show", 256 * b"FF ", ["the input has 256 bytes, 1 too many: a bank has at most 255", REFUSES]),
+    ("show", 4097 * b" ", ["the input has more than 4096 bytes, the most that it may have", REFUSES]),
+    ("show", b'[{"order": 1}]', [f"{AN_ARRAY}, {NO_BANK}", REFUSES]),
+    ("show", b'\n{"limit": 1}', [f"{AN_OBJECT}, {NO_BANK}", REFUSES]),
+    ("show", HEADER + BEGAN, [f"{A_JOURNAL}, {NO_BANK}", REFUSES]),
+    ("show", b"77", []),
+    ("journal", b'[{"order": 1}]', [f"{AN_ARRAY}, and no journal", REFUSES]),
+    ("journal", b'{"limit": 1}', [f"{AN_OBJECT}, and no journal", REFUSES]),
+    ("journal", b"77 FF", [f"{A_BANK}, and no journal", REFUSES]),
+    ("journal", b"order,unit\n", ["the input is a table, as CSV, and no journal", REFUSES]),
+    ("journal", b"DB1\x03", [NO_HEADER, REFUSES]),
+    ("journal", b"DB1", [NO_HEADER, REFUSES]),
+    ("journal", b"\0", [
+        f"byte 0, counted from 0: {NO_RECORD}", REFUSES,
+    ]),
+    ("journal", HEADER + BEGAN + b"X", [
+        f"byte 25, counted from 0: {NO_RECORD}", REFUSES,
+    ]),
+    ("journal", HEADER + BEGAN + b"C\x05", [
+        f"byte 25, counted from 0: {MAY_NOT_FOLLOW}", REFUSES,
+    ]),
+    ("journal", HEADER + BEGAN + b"E\x03" + BEGAN, [
+        "byte 27, counted from 0: an order begins whose number an earlier one has", REFUSES,
+    ]),
+    ("journal", 33554433 * b"B", ["the input has more than 33554432 bytes, the most that it may have", REFUSES]),
+    ("journal", HEADER + BEGAN + b"E", []),
+]
+
+# Arguments of `frame` that are no word, and what is told of each.
+WORDS = [
+    ("A30", "it has 3 hexadecimal digits, and a word is four"),
+    ("A3030", "it has 5 hexadecimal digits, and a word is four"),
+    ("", "it has 0 hexadecimal digits, and a word is four"),
+    ("A3G3", 'its character 3 is "G", and a word is four hexadecimal digits'),
+    ("+A30", 'its character 1 is "+", and a word is four hexadecimal digits'),
+    ("A3 0", 'its character 3 is " ", and a word is four hexadecimal digits'),
 ]
 
 
@@ -229,6 +368,10 @@ def fails_on_readers(program):
 
 def fails_on_words(program):
     """Give what is wrong with what is told of words that the command line doesn't take."""
+    for word, told in WORDS:
+        ended = subprocess.run([program, "frame", "--", word], capture_output=True, timeout=60)
+        wanted = (1, b"fault 14 Hex\n", f'the argument "{word}": {told}\n')
+        yield None if (ended.returncode, ended.stdout, ended.stderr.decode()) == wanted else f"frame {word}: {ended}"
     ended = subprocess.run([program, "frame", "C705", "a\x1b[31m\u00e4"], capture_output=True, timeout=60)
     first = ended.stderr.decode().split("\n", 1)[0]
     wanted = (1, b"", "error: unexpected argument 'a\\u{1b}[31m\\u{e4}' found")
@@ -271,6 +414,19 @@ def fails_on_causes(program):
             ended = subprocess.run([program, *words], capture_output=True, timeout=60)
             good = (ended.returncode, ended.stdout, ended.stderr.decode()) == (2, b"fault 21 File\n", wanted)
             yield None if good else f"{words}: {ended}"
+        spoilt = os.path.join(odd, "spoilt")
+        with open(spoilt, "wb") as file:
+            file.write(b"7")
+        for command, fault in (("show", b"fault 14 Hex\n"), ("journal", b"journal fault 3 Record at 0\n")):
+            ended = subprocess.run([program, command, spoilt], capture_output=True, timeout=60)
+            last = ended.stderr.decode().splitlines()[-1]
+            good = (ended.returncode, ended.stdout, last) == (1, fault, f"error: the input is refused: {told}/spoilt")
+            yield None if good else f"{command} of a spoilt file: {ended}"
+    for command in ("check", "run", "show", "journal"):
+        words = ["sh", "-c", 'exec "$0" "$1" - <&-', program, command]
+        ended = subprocess.run(words, capture_output=True, timeout=60)
+        wanted = (2, b"fault 21 File\n", "error: the input can't be read: standard input: it is closed\n")
+        yield None if (ended.returncode, ended.stdout, ended.stderr.decode()) == wanted else f"closed: {ended}"
 
 
 def main(program):

@@ -1,0 +1,70 @@
+#!/usr/bin/env python3
+"""Test docs/BENCH.md: run its commands, over simulated units, and compare what they print with what the page says.
+
+    test_bench.py PROGRAM [FOLDER]
+
+The page's blocks of `sh` are run one after the other in one new folder, in which `./dali_bench` is PROGRAM. Each has to
+end with status 0 and to print, on both outputs together, just the block of `text` that comes next, or nothing where
+another one comes first. FOLDER is as of test_drive.py. The last line is `N passed, M failed`, and the status is 0 only
+where none failed.
+"""
+
+import re
+import subprocess
+import sys
+
+sys.dont_write_bytecode = True
+
+import suite  # noqa: E402
+from drive_desk import settings, want  # noqa: E402
+from driven import ROOT  # noqa: E402
+
+PAGE = ROOT / "docs" / "BENCH.md"
+BLOCK = re.compile("^```([a-z]*)\n(.*?)^```$", re.MULTILINE | re.DOTALL)
+# What the page tells of besides, which no command of it shows.
+CODES = ("Done", "Short", "Format", "Silent", "Doubt", "DoubtOpen")
+REPLIES = (*(f"`kept {code} {name}`" for code, name in enumerate(CODES)), "`blocked U`", "`reused`", "`full`", "`busy`",
+           "`taken`")
+DRIVE_FAULTS = ("1 Journal", "2 Link", "3 Line", "4 End", "6 TooLong")
+
+
+def commands(page):
+    """Give the blocks of commands, each with what it is said to print."""
+    blocks = BLOCK.findall(page)
+    behind = [*blocks[1:], ("", "")]
+    pairs = zip(blocks, behind)
+    return [(text, told if kind == "text" else "") for (name, text), (kind, told) in pairs if name == "sh"]
+
+
+def run_commands(page, folder):
+    """Run the commands of a page in a folder, and raise unless each prints what is said."""
+    shown = commands(page.read_text(encoding="utf-8"))
+    assert len(shown) > 10, shown
+    for text, told in shown:
+        how = {"stdin": subprocess.DEVNULL, "stdout": subprocess.PIPE, "stderr": subprocess.STDOUT, "text": True}
+        ended = subprocess.run(["sh", "-c", text], cwd=folder, timeout=120, **how)
+        want((text, ended.returncode, ended.stdout), (text, 0, told))
+
+
+def test_commands_print_what_is_said(folder):
+    for name in ("examples", "tools"):
+        (folder / name).symlink_to(ROOT / name)
+    (folder / "dali_bench").symlink_to(settings["program"])
+    run_commands(PAGE, folder)
+
+
+def test_each_text_has_its_command(folder):
+    """A block of text that no command prints would be compared with nothing."""
+    kinds = [kind for kind, _ in BLOCK.findall(PAGE.read_text(encoding="utf-8"))]
+    want([at for at, kind in enumerate(kinds) if kind == "text" and kinds[at - 1] != "sh"], [])
+    want(set(kinds) <= {"sh", "text", "json"}, True)
+
+
+def test_each_reply_and_fault_has_its_row(folder):
+    rows = [line for line in PAGE.read_text(encoding="utf-8").splitlines() if line.startswith("|")]
+    for words in (*REPLIES, *(f"`drive fault {fault}`" for fault in DRIVE_FAULTS)):
+        want((words, sum(words in row.split("|")[1] for row in rows)), (words, 1))
+
+
+if __name__ == "__main__":
+    sys.exit(suite.main(__doc__, (sys.modules[__name__],), sys.argv[1:]))

@@ -1,5 +1,5 @@
 #!/usr/bin/env python3
-"""Test examples/desk: the simulated link and the serial link, with stand-in commands and no dali_bench.
+"""Test the adapters: the simulated link and the serial link, with stand-in commands and no dali_bench.
 
 The last line is `N passed, M failed`, and the status is 0 only where none failed.
 """
@@ -21,9 +21,9 @@ import traceback
 import tty
 
 ROOT = pathlib.Path(__file__).resolve().parent.parent
-DESK = ROOT / "examples" / "desk"
-SIMULATED = DESK / "simulated_link.py"
-SERIAL = DESK / "serial_link.py"
+ADAPTERS = ROOT / "adapters"
+SIMULATED = ADAPTERS / "simulated_link.py"
+SERIAL = ADAPTERS / "serial_link.py"
 
 # A stand-in command. Each of its words is a frame that it sends, or what it does: `pause`, `kill` itself, `close` its
 # input, `cut` a line. At its end it prints the answers to standard error, and ends with status 7; it ends with

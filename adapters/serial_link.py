@@ -1,97 +1,109 @@
 #!/usr/bin/env python3
 """Carry a command's frames over a serial DALI interface.
 
-    serial_link.py DEVICE -- COMMAND WORDS..
+    serial_link.py [options] DEVICE -- COMMAND WORDS..
 
 It starts the command, hands each of its frames to the interface and each reply back, until the command closes its
 output, and ends with its status. docs/LINK.md explains it, and has both protocols. The interface's, at 38400 baud:
 we send `S`, four hexadecimal digits and a carriage return. It replies, each with a carriage return, `J` and two
 hexadecimal digits for a backward frame, `N` for none, or `X` for a damaged one. Any other reply, or none in half a
 second, leaves it open what became of the frame: then nothing more is sent, and the command finds its input ended.
+Options have another letter in the place of `S`, another baud rate, and a line feed in the place of a carriage return.
 """
 
+import argparse
 import fcntl
+import functools
 import os
 import re
 import select
-import subprocess
 import sys
 import termios
 import time
 
+from adapter import NO_ANSWER, Broken, main
+
 TIME_OUT = 0.5  # seconds; within these the interface sends a frame and replies, or never
-FRAME_LINE = re.compile(rb"[0-9A-F]{4}\n")
-REPLY = re.compile(rb"(?:J([0-9A-Fa-f]{2})|N|X)\r")
+# What ends a line, and the replies that it ends.
+CARRIAGE_RETURN, LINE_FEED = b"\r", b"\n"
+REPLY = rb"(?:J([0-9A-Fa-f]{2})|N|X)"
+REPLIES = {CARRIAGE_RETURN: re.compile(REPLY + rb"\r"), LINE_FEED: re.compile(REPLY + rb"\r?\n")}
+# Each baud rate of the system, with the name that the system has for it.
+BAUD_RATES = {name[1:]: getattr(termios, name) for name in dir(termios) if re.fullmatch("B[1-9][0-9]*", name)}
+INTERFACES = """\
+The interface replies J and two hexadecimal digits, N or X. An interface that
+replies so, after its published driver, and not tried on hardware:
+
+  ATX LED DALI HAT    --letter h --baud 19200 --line-feed
+"""
 
 
-class Broken(Exception):
-    """What became of a frame isn't known."""
-
-
-def open_interface(device):
+def open_interface(options):
     """Open the serial line raw, for us alone, and pass over what is still under way on it."""
-    line = os.open(device, os.O_RDWR | os.O_NOCTTY | os.O_NONBLOCK)
+    line = os.open(options.device, os.O_RDWR | os.O_NOCTTY | os.O_NONBLOCK)
     fcntl.flock(line, fcntl.LOCK_EX | fcntl.LOCK_NB)
-    control = termios.tcgetattr(line)[6]
-    control[termios.VMIN], control[termios.VTIME] = 1, 0
     eight_bits = termios.CS8 | termios.CREAD | termios.CLOCAL
-    termios.tcsetattr(line, termios.TCSANOW, [0, 0, eight_bits, 0, termios.B38400, termios.B38400, control])
+    try:
+        control = termios.tcgetattr(line)[6]
+        control[termios.VMIN], control[termios.VTIME] = 1, 0
+        termios.tcsetattr(line, termios.TCSANOW, [0, 0, eight_bits, 0, options.baud, options.baud, control])
+    except termios.error as fault:
+        raise OSError(*fault.args, options.device) from fault
     time.sleep(TIME_OUT)
-    return line
+    return functools.partial(carry, line, options.letter, LINE_FEED if options.line_feed else CARRIAGE_RETURN)
 
 
-def carry(line, text):
-    """Hand the frame of a line to the interface; return the answer as the command reads it."""
-    if not FRAME_LINE.fullmatch(text):
-        raise Broken(f"the command's line {text!r} isn't four upper-case hexadecimal digits")
-    termios.tcflush(line, termios.TCIFLUSH)
-    if os.write(line, b"S" + text[:4] + b"\r") != 6:
+def carry(line, letter, end, frame):
+    """Hand a frame to the interface; return the answer as the command reads it."""
+    try:
+        termios.tcflush(line, termios.TCIFLUSH)
+    except termios.error as fault:
+        raise OSError(*fault.args) from fault
+    request = letter + frame + end
+    if os.write(line, request) != len(request):
         raise Broken("the interface takes no frame")
-    reply, end = b"", time.monotonic() + TIME_OUT
-    while not reply.endswith(b"\r") and len(reply) < 16:
-        if not select.select([line], [], [], max(0, end - time.monotonic()))[0]:
+    reply, latest = b"", time.monotonic() + TIME_OUT
+    while not reply.endswith(end) and len(reply) < 16:
+        if not select.select([line], [], [], max(0, latest - time.monotonic()))[0]:
             raise Broken(f"the interface gave no reply in {TIME_OUT} seconds")
         piece = os.read(line, 16)
         if not piece:
             raise Broken("the interface is gone")
         reply += piece
-    if not (known := REPLY.fullmatch(reply)):
+    if not (known := REPLIES[end].fullmatch(reply)):
         raise Broken(f"the interface's reply {reply!r} is none that it may give")
-    return known[1] or b"--"
+    return known[1] or NO_ANSWER
 
 
-def serve(line, words):
-    """Start the command, carry its frames, and return its status; where the link broke never 0."""
-    command = subprocess.Popen(words, stdin=subprocess.PIPE, stdout=subprocess.PIPE, bufsize=0)
-    least = 0
-    try:
-        while text := command.stdout.readline(16):
-            command.stdin.write(carry(line, text) + b"\n")
-    except BrokenPipeError:
-        pass  # the command is gone
-    except (Broken, OSError, termios.error) as fault:
-        print("serial_link:", fault, file=sys.stderr)
-        least = 1
-    finally:
-        command.stdin.close()
-        command.stdout.close()
-        status = command.wait()
-    return max(least, status if status >= 0 else 128 - status)
+def letter_of(text):
+    """Read the letter that sends a frame."""
+    if len(text) != 1 or not text.isascii() or not text.isalpha():
+        raise argparse.ArgumentTypeError(f"{text!r} isn't one letter, A to Z or a to z")
+    return text.encode()
 
 
-def main(arguments):
-    """Carry a command's frames over the interface, and return the status to end with."""
-    if len(arguments) < 3 or arguments[1] != "--":
-        print("usage: serial_link.py DEVICE -- COMMAND WORDS..", file=sys.stderr)
-        return 2
-    try:
-        return serve(open_interface(arguments[0]), arguments[2:])
-    except (OSError, termios.error) as fault:
-        print("serial_link:", fault, file=sys.stderr)
-        return 2
-    except KeyboardInterrupt:
-        return 130
+def baud_rate(text):
+    """Read a baud rate."""
+    if text not in BAUD_RATES:
+        known = ", ".join(sorted(BAUD_RATES, key=int))
+        raise argparse.ArgumentTypeError(f"{text!r} is none of the system's baud rates: {known}")
+    return BAUD_RATES[text]
+
+
+def parser():
+    """Make the reader of the options."""
+    made = argparse.ArgumentParser(usage="%(prog)s [options] DEVICE -- COMMAND WORDS..", allow_abbrev=False,
+                                   description="Carry a command's frames over a serial DALI interface.",
+                                   epilog=INTERFACES, formatter_class=argparse.RawDescriptionHelpFormatter)
+    made.add_argument("device", metavar="DEVICE", help="the serial line, as /dev/ttyUSB0")
+    made.add_argument("--letter", metavar="L", type=letter_of, default="S",
+                      help="the letter in front of a frame that is to be sent once (default: %(default)s)")
+    made.add_argument("--baud", metavar="RATE", type=baud_rate, default="38400",
+                      help="the baud rate (default: %(default)s)")
+    made.add_argument("--line-feed", action="store_true",
+                      help="lines end with a line feed, and not with a carriage return")
+    return made
 
 
 if __name__ == "__main__":
-    sys.exit(main(sys.argv[1:]))
+    sys.exit(main(parser(), open_interface, sys.argv[1:]))

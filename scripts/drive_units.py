@@ -5,7 +5,7 @@ import subprocess
 import tempfile
 
 import driven
-import test_desk as adapters
+from adapter_serial import Interface
 from drive_desk import (
     ABSENT,
     ABSENT_BEGAN,
@@ -193,7 +193,7 @@ def test_over_the_simulated_adapter(folder):
 
 def test_over_the_serial_adapter(folder):
     desk = desk_of(folder, ABSENT)
-    interface = adapters.Interface([[b"N\r"]] * 10)
+    interface = Interface([[b"N\r"]] * 10)
     adapter = [driven.ROOT / "adapters" / "serial_link.py", interface.device, "--"]
     ended = subprocess.run([*adapter, *desk.words()], capture_output=True, text=True, timeout=driven.PATIENCE)
     interface.close()

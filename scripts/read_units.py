@@ -5,7 +5,7 @@ import signal
 import subprocess
 
 import driven
-import test_desk as adapters
+from adapter_serial import Interface
 from drive_desk import parts, want
 from driven import Ended, simulated_link
 from read_desk import (
@@ -260,7 +260,7 @@ def test_over_the_simulated_adapter(folder):
 
 def test_over_the_serial_adapter(folder):
     replies = [[b"N\r" if answer == "--" else f"J{answer}\r".encode()] for answer in ANSWERS_17]
-    interface, desk = adapters.Interface(replies), Reading(folder)
+    interface, desk = Interface(replies), Reading(folder)
     adapter = [driven.ROOT / "adapters" / "serial_link.py", interface.device, "--"]
     ended = subprocess.run([*adapter, *desk.words()], capture_output=True, text=True, timeout=driven.PATIENCE)
     interface.close()

@@ -5,7 +5,7 @@ import subprocess
 import tempfile
 
 import driven
-import test_desk as adapters
+from adapter_serial import Interface
 from drive_desk import (
     ABSENT,
     ABSENT_BEGAN,
@@ -183,7 +183,7 @@ def test_a_unit_that_stays_left(folder):
 
 def test_over_the_simulated_adapter(folder):
     desk = desk_of(folder, PRESENT)
-    adapter = [driven.ROOT / "examples" / "desk" / "simulated_link.py", "--folder", folder, "--lose-answer", "50"]
+    adapter = [driven.ROOT / "adapters" / "simulated_link.py", "--folder", folder, "--lose-answer", "50"]
     for told in (DONE_TOLD, "reply 1 kept 0 Done\n"):
         words = [*adapter, "--", *desk.words()]
         ended = subprocess.run(words, capture_output=True, text=True, timeout=driven.PATIENCE)
@@ -193,8 +193,8 @@ def test_over_the_simulated_adapter(folder):
 
 def test_over_the_serial_adapter(folder):
     desk = desk_of(folder, ABSENT)
-    interface = adapters.Interface([[b"N\r"]] * 10)
-    adapter = [driven.ROOT / "examples" / "desk" / "serial_link.py", interface.device, "--"]
+    interface = Interface([[b"N\r"]] * 10)
+    adapter = [driven.ROOT / "adapters" / "serial_link.py", interface.device, "--"]
     ended = subprocess.run([*adapter, *desk.words()], capture_output=True, text=True, timeout=driven.PATIENCE)
     interface.close()
     want((ended.returncode, interface.heard), (1, ["SC301\r", "S139C\r"] * 5 + ["SC301\r"]))

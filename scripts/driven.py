@@ -31,7 +31,7 @@ def load(path):
     return module
 
 
-simulated_link = load(ROOT / "examples" / "desk" / "simulated_link.py")
+simulated_link = load(ROOT / "adapters" / "simulated_link.py")
 
 
 class Ended(NamedTuple):

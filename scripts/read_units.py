@@ -5,7 +5,7 @@ import signal
 import subprocess
 
 import driven
-import test_desk as adapters
+from adapter_serial import Interface
 from drive_desk import parts, want
 from driven import Ended, simulated_link
 from read_desk import (
@@ -27,7 +27,7 @@ from read_plan import block_frames, text_of
 
 # How many frames the reading of a bank of so many locations takes with nothing lost.
 FRAMES = {17: 29, 18: 36, 33: 51, 34: 58, 120: 174, 254: 356, 255: 357}
-ADAPTER = driven.ROOT / "examples" / "desk" / "simulated_link.py"
+ADAPTER = driven.ROOT / "adapters" / "simulated_link.py"
 
 
 def told_of(length):
@@ -260,8 +260,8 @@ def test_over_the_simulated_adapter(folder):
 
 def test_over_the_serial_adapter(folder):
     replies = [[b"N\r" if answer == "--" else f"J{answer}\r".encode()] for answer in ANSWERS_17]
-    interface, desk = adapters.Interface(replies), Reading(folder)
-    adapter = [driven.ROOT / "examples" / "desk" / "serial_link.py", interface.device, "--"]
+    interface, desk = Interface(replies), Reading(folder)
+    adapter = [driven.ROOT / "adapters" / "serial_link.py", interface.device, "--"]
     ended = subprocess.run([*adapter, *desk.words()], capture_output=True, text=True, timeout=driven.PATIENCE)
     interface.close()
     want((ended.returncode, ended.stdout, ended.stderr, desk.text()), (0, "", TOLD_17, TEXT_17))

@@ -153,7 +153,7 @@ def test_a_block_that_stays_silent(folder):
 def test_over_the_simulated_adapter(folder):
     orders = [order_of(gtin=GTIN), order_of(2, 9, year=24)]
     drive, desk = desk_of(folder, orders), Reading(folder, "verify", orders=orders)
-    adapter = [driven.ROOT / "examples" / "desk" / "simulated_link.py", "--folder", folder, "--lose-answer", "5,50",
+    adapter = [driven.ROOT / "adapters" / "simulated_link.py", "--folder", folder, "--lose-answer", "5,50",
                "--unit", "5", "--"]
     for words, status, told in [
             (desk.words(), 1, "order 1 unit 5 other 03 FF\norder 2 unit 9 silent\n"),

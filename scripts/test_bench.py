@@ -47,7 +47,7 @@ def run_commands(page, folder):
 
 
 def test_commands_print_what_is_said(folder):
-    for name in ("examples", "tools"):
+    for name in ("adapters", "tools"):
         (folder / name).symlink_to(ROOT / name)
     (folder / "dali_bench").symlink_to(settings["program"])
     run_commands(PAGE, folder)

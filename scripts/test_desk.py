@@ -1,92 +1,24 @@
 #!/usr/bin/env python3
-"""Test examples/desk: the simulated link and the serial link, with stand-in commands and no dali_bench.
+"""Test the simulated link with stand-in commands and no dali_bench.
 
 The last line is `N passed, M failed`, and the status is 0 only where none failed.
 """
 
-import concurrent.futures
-import importlib.util
 import os
-import pathlib
-import pty
 import re
-import select
 import signal
 import subprocess
 import sys
-import tempfile
-import threading
-import time
-import traceback
-import tty
 
-ROOT = pathlib.Path(__file__).resolve().parent.parent
-DESK = ROOT / "examples" / "desk"
-SIMULATED = DESK / "simulated_link.py"
-SERIAL = DESK / "serial_link.py"
+sys.dont_write_bytecode = True
 
-# A stand-in command. Each of its words is a frame that it sends, or what it does: `pause`, `kill` itself, `close` its
-# input, `cut` a line. At its end it prints the answers to standard error, and ends with status 7; it ends with
-# status 4 where its input ends.
-PLAYER = """
-import os, signal, sys, time
-answers, closed = [], False
-for word in sys.argv[1:]:
-    if word == "pause":
-        time.sleep(0.2)
-    elif word == "kill":
-        os.kill(os.getpid(), signal.SIGKILL)
-    elif word == "close":
-        os.close(0)
-        closed = True
-    elif word == "cut":
-        os.write(1, b"A3")
-        break
-    else:
-        os.write(1, word.encode() + b"\\n")
-        if closed:
-            break
-        line = sys.stdin.readline()
-        if not line.endswith("\\n"):
-            answers.append("end")
-            break
-        answers.append(line.strip())
-os.write(2, ("answers " + " ".join(answers) + "\\n").encode())
-sys.exit(4 if answers[-1:] == ["end"] else 7)
-"""
+import adapter_desk  # noqa: E402
+from adapter_desk import ADAPTERS, player, run  # noqa: E402
+from drive_desk import want  # noqa: E402
+from driven import ROOT, simulated_link  # noqa: E402
 
+SIMULATED = ADAPTERS / "simulated_link.py"
 OPENED = "0B81 0B81 C301 A302 C755".split()
-
-
-def load(path):
-    """Import a script without leaving compiled code beside it."""
-    sys.dont_write_bytecode = True
-    spec = importlib.util.spec_from_file_location(path.stem, path)
-    module = importlib.util.module_from_spec(spec)
-    spec.loader.exec_module(module)
-    return module
-
-
-simulated_link = load(SIMULATED)
-
-
-def player(words):
-    """Make the command line of a stand-in command."""
-    return [sys.executable, "-S", "-E", "-c", PLAYER, *words]
-
-
-def run(script, options, words):
-    """Run a script with a stand-in command; return its status, the answers and all of standard error."""
-    command = [sys.executable, script, *map(str, options), "--", *player(words)]
-    ended = subprocess.run(command, stdin=subprocess.DEVNULL, capture_output=True, text=True, timeout=9)
-    assert ended.stdout == "", ended.stdout
-    answers = re.search("^answers (.*)$", ended.stderr, re.MULTILINE)
-    return ended.returncode, answers[1].split() if answers else None, ended.stderr
-
-
-def want(found, wanted):
-    """Raise unless both are equal."""
-    assert found == wanted, f"found {found!r}, wanted {wanted!r}"
 
 
 def saved(folder, short_address=5):
@@ -276,149 +208,5 @@ def test_a_stopped_link_saves(folder):
     want(saved(folder), blank(x03=0x12))
 
 
-# The serial link with an interface
-
-
-class Interface:
-    """Plays a serial interface on a pseudo-terminal. Each reply is bytes, seconds to wait, or `close` to be gone."""
-
-    def __init__(self, replies):
-        self.line, self.far_line = pty.openpty()
-        tty.setraw(self.far_line)
-        self.device = os.ttyname(self.far_line)
-        self.replies = replies
-        self.heard = []
-        self.thread = threading.Thread(target=self._play, daemon=True)
-        self.thread.start()
-
-    def _play(self):
-        for turn in self.replies:
-            if not self._hear():
-                return
-            for what in turn:
-                if what == "close":
-                    os.close(self.far_line)
-                    os.close(self.line)
-                    self.line = None
-                    return
-                if isinstance(what, bytes):
-                    os.write(self.line, what)
-                else:
-                    time.sleep(what)
-        self._hear(0.3)
-
-    def _hear(self, seconds=3):
-        """Read one line of a frame, where one comes."""
-        text = b""
-        while not text.endswith(b"\r") and select.select([self.line], [], [], seconds)[0]:
-            text += os.read(self.line, 1)
-        if text:
-            self.heard.append(text.decode())
-        return text.endswith(b"\r")
-
-    def close(self):
-        """Wait for the end of what is played, and close the pseudo-terminal."""
-        self.thread.join()
-        if self.line is not None:
-            os.close(self.line)
-            os.close(self.far_line)
-
-
-def over_serial(replies, words):
-    """Run a stand-in command over the serial link; return its status, the answers, what was heard, the text."""
-    interface = Interface(replies)
-    status, answers, told = run(SERIAL, [interface.device], words)
-    interface.close()
-    assert "Traceback" not in told, told
-    return status, answers, interface.heard, told
-
-
-def test_serial_answers(folder):
-    replies = [[b"N\r"], [b"J01\r"], [b"X\r"], [b"J", 0.1, b"aF", 0.1, b"\r"], [0.3, b"N\r"]]
-    words = "C301 0B9C 0B98 0BC5 C712".split()
-    heard = [f"S{word}\r" for word in words]
-    want(over_serial(replies, words), (7, "-- 01 -- aF --".split(), heard, "answers -- 01 -- aF --\n"))
-
-
-def test_serial_silence(folder):
-    status, answers, heard, told = over_serial([[b"N\r"], []], "C301 0B9C A303".split())
-    want((status, answers, heard), (4, ["--", "end"], ["SC301\r", "S0B9C\r"]))
-    assert "no reply" in told, told
-
-
-def test_serial_device_gone(folder):
-    status, answers, heard, _ = over_serial([[b"N\r"], ["close"]], "C301 0B9C A303".split())
-    want((status, answers, heard), (4, ["--", "end"], ["SC301\r", "S0B9C\r"]))
-    status, answers, heard, _ = over_serial([[b"N\r", 0.1, "close"]], "C301 pause 0B9C A303".split())
-    want((status, answers, heard), (4, ["--", "end"], ["SC301\r"]))
-
-
-def test_serial_other_replies(folder):
-    def found(reply):
-        return reply, over_serial([[reply]], "0B9C A303".split())
-
-    replies = [b"J0\r", b"J033\r", b"J01\rN\r", b"\r", b"J01\n\r", b"F\r", b"JG1\r", b"J" * 40]
-    for reply, (status, answers, heard, told) in concurrent.futures.ThreadPoolExecutor(8).map(found, replies):
-        want((reply, status, answers, heard), (reply, 4, ["end"], ["S0B9C\r"]))
-        assert "is none that it may give" in told, told
-
-
-def test_serial_late_answer(folder):
-    interface = Interface([[0.7, b"J55\r"], [b"N\r"], [b"J01\r"]])
-    want(run(SERIAL, [interface.device], ["0B9C", "A303"])[:2], (4, ["end"]))
-    want(run(SERIAL, [interface.device], ["0B98", "0BC5"])[:2], (7, ["--", "01"]))
-    interface.close()
-    want(interface.heard, ["S0B9C\r", "S0B98\r", "S0BC5\r"])
-
-
-def test_serial_stray_reply(folder):
-    want(over_serial([[b"J01\r", 0.05, b"J02\r"], [b"N\r"]], "0B9C pause A303".split())[:2], (7, ["01", "--"]))
-
-
-def test_serial_command_gone(folder):
-    want(over_serial([[b"N\r"]], ["C301", "kill"])[0], 137)
-    want(over_serial([[b"N\r"]], ["close", "C301"]), (7, [], ["SC301\r"], "answers \n"))
-    for line in ["a303", "A30", "A3033"]:
-        status, answers, heard, told = over_serial([[b"N\r"]], ["C301", line])
-        want((status, answers, heard), (4, ["--", "end"], ["SC301\r"]))
-        assert "isn't four upper-case" in told, told
-
-
-def test_serial_cannot_start(folder):
-    interface = Interface([])
-    held = subprocess.Popen([SERIAL, interface.device, "--", *player(["pause"] * 50)], stderr=subprocess.PIPE)
-    time.sleep(0.4)
-    status, answers, told = run(SERIAL, [interface.device], ["A303"])
-    held.terminate()
-    held.wait()
-    held.stderr.close()
-    interface.close()
-    want((status, answers, interface.heard), (2, None, []))
-    assert told.startswith("serial_link: "), told
-    want(run(SERIAL, ["/dev/null"], ["A303"])[:2], (2, None))
-    want(run(SERIAL, [folder / "none"], ["A303"])[:2], (2, None))
-    want(subprocess.run([SERIAL], stderr=subprocess.DEVNULL).returncode, 2)
-
-
-def passes(name):
-    """Run one test in a folder of its own; tell whether it passed."""
-    try:
-        with tempfile.TemporaryDirectory() as folder:
-            globals()[name](pathlib.Path(folder))
-        return True
-    except Exception:
-        print(f"FAILED: {name}\n{traceback.format_exc()}")
-        return False
-
-
-def main():
-    """Run all tests beside each other, and return the status."""
-    names = [name for name in globals() if name.startswith("test_")]
-    with concurrent.futures.ThreadPoolExecutor(8) as pool:
-        results = list(pool.map(passes, names))
-    print(f"{results.count(True)} passed, {results.count(False)} failed")
-    return 0 if all(results) else 1
-
-
 if __name__ == "__main__":
-    sys.exit(main())
+    sys.exit(adapter_desk.main(sys.modules[__name__]))

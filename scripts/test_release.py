@@ -221,7 +221,8 @@ def test_archive_has_what_readme_names(folder):
     # Cases of examples/ are named without their folder and their ending.
     words |= {f"examples/{word}.{ending}" for word in words for ending in ("json", "stdout")}
     named = {word for word in words if (ROOT / word).is_file() and ".." not in word and not word.startswith("/")}
-    assert {"docs/LINK.md", "examples/run_left.json", "examples/desk/serial_link.py", *KIT_ONLY} <= named, named
+    adapters = {"adapters/serial_link.py", "adapters/daliserver_link.py", "adapters/simulated_link.py"}
+    assert {"docs/LINK.md", "examples/run_left.json", *adapters, *KIT_ONLY} <= named, named
     want(sorted(name for name in named if not (top / name).is_file() and not name.startswith("crates/")),
          sorted(KIT_ONLY))
     links = set(re.findall(r"\]\(([^)#]+)\)", text))

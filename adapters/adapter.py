@@ -1,0 +1,67 @@
+"""What the adapters to an interface share: they start a command, carry its frames, and tell where the link broke.
+
+An adapter gives `main` a function that opens its interface as the options say. What that function returns carries one
+frame: it takes the frame's four hexadecimal digits, and returns the answer as the command reads it. Where it can't
+tell what became of the frame it raises `Broken` or OSError. Then nothing more is sent.
+"""
+
+import re
+import subprocess
+import sys
+
+FRAME_LINE = re.compile(rb"([0-9A-F]{4})\n")
+NO_ANSWER = b"--"
+
+
+class Broken(Exception):
+    """What became of a frame isn't known, or the link can't be trusted with the next one."""
+
+
+def answer_to(line, carry):
+    """Carry the frame of a command's line; return its answer."""
+    known = FRAME_LINE.fullmatch(line)
+    if not known:
+        raise Broken(f"the command's line {line!r} isn't four upper-case hexadecimal digits")
+    try:
+        return carry(known[1])
+    except OSError as fault:
+        raise Broken(fault) from fault
+
+
+def tell(fault):
+    """Tell what is wrong on standard error, which the command has too."""
+    print("error:", fault, file=sys.stderr)
+
+
+def serve(carry, words):
+    """Start the command, carry its frames, and return its status; where the link broke never 0."""
+    command = subprocess.Popen(words, stdin=subprocess.PIPE, stdout=subprocess.PIPE, bufsize=0)
+    least = 0
+    try:
+        while line := command.stdout.readline(16):
+            command.stdin.write(answer_to(line, carry) + b"\n")
+    except BrokenPipeError:
+        pass  # the command is gone
+    except (Broken, OSError) as fault:
+        tell(fault)
+        least = 1
+    finally:
+        command.stdin.close()
+        command.stdout.close()
+        status = command.wait()
+    return max(least, status if status >= 0 else 128 - status)
+
+
+def main(parser, open_interface, arguments):
+    """Carry a command's frames over the interface that the options name, and return the status to end with."""
+    end = arguments.index("--") if "--" in arguments else len(arguments)
+    options, words = parser.parse_args(arguments[:end]), arguments[end + 1:]
+    if not words:
+        parser.error("there is no command: put -- and its words behind the options")
+    try:
+        return serve(open_interface(options), words)
+    except (Broken, OSError) as fault:
+        tell(fault)
+        return 2
+    except KeyboardInterrupt:
+        return 130

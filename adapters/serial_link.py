@@ -1,0 +1,109 @@
+#!/usr/bin/env python3
+"""Carry a command's frames over a serial DALI interface.
+
+    serial_link.py [options] DEVICE -- COMMAND WORDS..
+
+It starts the command, hands each of its frames to the interface and each reply back, until the command closes its
+output, and ends with its status. docs/LINK.md explains it, and has both protocols. The interface's, at 38400 baud:
+we send `S`, four hexadecimal digits and a carriage return. It replies, each with a carriage return, `J` and two
+hexadecimal digits for a backward frame, `N` for none, or `X` for a damaged one. Any other reply, or none in half a
+second, leaves it open what became of the frame: then nothing more is sent, and the command finds its input ended.
+Options have another letter in the place of `S`, another baud rate, and a line feed in the place of a carriage return.
+"""
+
+import argparse
+import fcntl
+import functools
+import os
+import re
+import select
+import sys
+import termios
+import time
+
+from adapter import NO_ANSWER, Broken, main
+
+TIME_OUT = 0.5  # seconds; within these the interface sends a frame and replies, or never
+# What ends a line, and the replies that it ends.
+CARRIAGE_RETURN, LINE_FEED = b"\r", b"\n"
+REPLY = rb"(?:J([0-9A-Fa-f]{2})|N|X)"
+REPLIES = {CARRIAGE_RETURN: re.compile(REPLY + rb"\r"), LINE_FEED: re.compile(REPLY + rb"\r?\n")}
+# Each baud rate of the system, with the name that the system has for it.
+BAUD_RATES = {name[1:]: getattr(termios, name) for name in dir(termios) if re.fullmatch("B[1-9][0-9]*", name)}
+INTERFACES = """\
+The interface replies J and two hexadecimal digits, N or X. An interface that
+replies so, after its published driver, and not tried on hardware:
+
+  ATX LED DALI HAT    --letter h --baud 19200 --line-feed
+"""
+
+
+def open_interface(options):
+    """Open the serial line raw, for us alone, and pass over what is still under way on it."""
+    line = os.open(options.device, os.O_RDWR | os.O_NOCTTY | os.O_NONBLOCK)
+    fcntl.flock(line, fcntl.LOCK_EX | fcntl.LOCK_NB)
+    eight_bits = termios.CS8 | termios.CREAD | termios.CLOCAL
+    try:
+        control = termios.tcgetattr(line)[6]
+        control[termios.VMIN], control[termios.VTIME] = 1, 0
+        termios.tcsetattr(line, termios.TCSANOW, [0, 0, eight_bits, 0, options.baud, options.baud, control])
+    except termios.error as fault:
+        raise OSError(*fault.args, options.device) from fault
+    time.sleep(TIME_OUT)
+    return functools.partial(carry, line, options.letter, LINE_FEED if options.line_feed else CARRIAGE_RETURN)
+
+
+def carry(line, letter, end, frame):
+    """Hand a frame to the interface; return the answer as the command reads it."""
+    try:
+        termios.tcflush(line, termios.TCIFLUSH)
+    except termios.error as fault:
+        raise OSError(*fault.args) from fault
+    request = letter + frame + end
+    if os.write(line, request) != len(request):
+        raise Broken("the interface takes no frame")
+    reply, latest = b"", time.monotonic() + TIME_OUT
+    while not reply.endswith(end) and len(reply) < 16:
+        if not select.select([line], [], [], max(0, latest - time.monotonic()))[0]:
+            raise Broken(f"the interface gave no reply in {TIME_OUT} seconds")
+        piece = os.read(line, 16)
+        if not piece:
+            raise Broken("the interface is gone")
+        reply += piece
+    if not (known := REPLIES[end].fullmatch(reply)):
+        raise Broken(f"the interface's reply {reply!r} is none that it may give")
+    return known[1] or NO_ANSWER
+
+
+def letter_of(text):
+    """Read the letter that sends a frame."""
+    if len(text) != 1 or not text.isascii() or not text.isalpha():
+        raise argparse.ArgumentTypeError(f"{text!r} isn't one letter, A to Z or a to z")
+    return text.encode()
+
+
+def baud_rate(text):
+    """Read a baud rate."""
+    if text not in BAUD_RATES:
+        known = ", ".join(sorted(BAUD_RATES, key=int))
+        raise argparse.ArgumentTypeError(f"{text!r} is none of the system's baud rates: {known}")
+    return BAUD_RATES[text]
+
+
+def parser():
+    """Make the reader of the options."""
+    made = argparse.ArgumentParser(usage="%(prog)s [options] DEVICE -- COMMAND WORDS..", allow_abbrev=False,
+                                   description="Carry a command's frames over a serial DALI interface.",
+                                   epilog=INTERFACES, formatter_class=argparse.RawDescriptionHelpFormatter)
+    made.add_argument("device", metavar="DEVICE", help="the serial line, as /dev/ttyUSB0")
+    made.add_argument("--letter", metavar="L", type=letter_of, default="S",
+                      help="the letter in front of a frame that is to be sent once (default: %(default)s)")
+    made.add_argument("--baud", metavar="RATE", type=baud_rate, default="38400",
+                      help="the baud rate (default: %(default)s)")
+    made.add_argument("--line-feed", action="store_true",
+                      help="lines end with a line feed, and not with a carriage return")
+    return made
+
+
+if __name__ == "__main__":
+    sys.exit(main(parser(), open_interface, sys.argv[1:]))

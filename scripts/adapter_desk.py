@@ -1,0 +1,77 @@
+"""What the tests of the adapters share: a stand-in command, a run of an adapter with it, and how tests are run."""
+
+import concurrent.futures
+import pathlib
+import re
+import subprocess
+import sys
+import tempfile
+import traceback
+
+from driven import ROOT
+
+ADAPTERS = ROOT / "adapters"
+
+# A stand-in command. Each of its words is a frame that it sends, or what it does: `pause`, `kill` itself, `close` its
+# input, `cut` a line. At its end it prints the answers to standard error, and ends with status 7; it ends with
+# status 4 where its input ends.
+PLAYER = """
+import os, signal, sys, time
+answers, closed = [], False
+for word in sys.argv[1:]:
+    if word == "pause":
+        time.sleep(0.2)
+    elif word == "kill":
+        os.kill(os.getpid(), signal.SIGKILL)
+    elif word == "close":
+        os.close(0)
+        closed = True
+    elif word == "cut":
+        os.write(1, b"A3")
+        break
+    else:
+        os.write(1, word.encode() + b"\\n")
+        if closed:
+            break
+        line = sys.stdin.readline()
+        if not line.endswith("\\n"):
+            answers.append("end")
+            break
+        answers.append(line.strip())
+os.write(2, ("answers " + " ".join(answers) + "\\n").encode())
+sys.exit(4 if answers[-1:] == ["end"] else 7)
+"""
+
+
+def player(words):
+    """Make the command line of a stand-in command."""
+    return [sys.executable, "-S", "-E", "-c", PLAYER, *words]
+
+
+def run(script, options, words):
+    """Run a script with a stand-in command; return its status, the answers and all of standard error."""
+    command = [sys.executable, script, *map(str, options), "--", *player(words)]
+    ended = subprocess.run(command, stdin=subprocess.DEVNULL, capture_output=True, text=True, timeout=20)
+    assert ended.stdout == "", ended.stdout
+    answers = re.search("^answers (.*)$", ended.stderr, re.MULTILINE)
+    return ended.returncode, answers[1].split() if answers else None, ended.stderr
+
+
+def passes(name, test):
+    """Run one test in a folder of its own; tell whether it passed."""
+    try:
+        with tempfile.TemporaryDirectory() as folder:
+            test(pathlib.Path(folder))
+        return True
+    except Exception:
+        print(f"FAILED: {name}\n{traceback.format_exc()}")
+        return False
+
+
+def main(*modules):
+    """Run all tests of the modules beside each other, and return the status."""
+    tests = [(name, test) for module in modules for name, test in vars(module).items() if name.startswith("test_")]
+    with concurrent.futures.ThreadPoolExecutor(8) as pool:
+        results = list(pool.map(passes, *zip(*tests)))
+    print(f"{results.count(True)} passed, {results.count(False)} failed")
+    return 0 if all(results) else 1

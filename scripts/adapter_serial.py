@@ -1,0 +1,218 @@
+"""Tests of the serial link, over a pseudo-terminal with an interface that a thread plays."""
+
+import concurrent.futures
+import os
+import pty
+import select
+import subprocess
+import termios
+import threading
+import time
+import tty
+
+from adapter_desk import ADAPTERS, player, run
+from drive_desk import want
+from driven import ROOT
+
+SERIAL = ADAPTERS / "serial_link.py"
+HAT = ["--letter", "h", "--baud", "19200", "--line-feed"]
+
+
+class Interface:
+    """Plays a serial interface on a pseudo-terminal. Each reply is bytes, seconds to wait, or `close` to be gone."""
+
+    def __init__(self, replies, end=b"\r"):
+        self.line, self.far_line = pty.openpty()
+        tty.setraw(self.far_line)
+        self._set_speed(termios.B75)
+        self.device = os.ttyname(self.far_line)
+        self.replies, self.end = replies, end
+        self.heard, self.speeds = [], None
+        self.thread = threading.Thread(target=self._play, daemon=True)
+        self.thread.start()
+
+    def _set_speed(self, speed):
+        attributes = termios.tcgetattr(self.far_line)
+        attributes[4:6] = speed, speed
+        termios.tcsetattr(self.far_line, termios.TCSANOW, attributes)
+
+    def _play(self):
+        for turn in self.replies:
+            if not self._hear():
+                return
+            for what in turn:
+                if what == "close":
+                    os.close(self.far_line)
+                    os.close(self.line)
+                    self.line = None
+                    return
+                if isinstance(what, bytes):
+                    os.write(self.line, what)
+                else:
+                    time.sleep(what)
+        self._hear(0.3)
+
+    def _hear(self, seconds=3):
+        """Read one line of a frame, where one comes, and the speeds that the line then has."""
+        text = b""
+        while not text.endswith(self.end) and select.select([self.line], [], [], seconds)[0]:
+            text += os.read(self.line, 1)
+        if text:
+            self.heard.append(text.decode())
+            self.speeds = termios.tcgetattr(self.far_line)[4:6]
+        return text.endswith(self.end)
+
+    def close(self):
+        """Wait for the end of what is played, and close the pseudo-terminal."""
+        self.thread.join()
+        if self.line is not None:
+            os.close(self.line)
+            os.close(self.far_line)
+
+
+def over_serial(replies, words, options=()):
+    """Run a stand-in command over the serial link; return its status, the answers, what was heard, the text."""
+    interface = Interface(replies, b"\n" if "--line-feed" in options else b"\r")
+    status, answers, told = run(SERIAL, [*options, interface.device], words)
+    interface.close()
+    assert "Traceback" not in told, told
+    return status, answers, interface.heard, told
+
+
+def test_serial_answers(folder):
+    replies = [[b"N\r"], [b"J01\r"], [b"X\r"], [b"J", 0.1, b"aF", 0.1, b"\r"], [0.3, b"N\r"]]
+    words = "C301 0B9C 0B98 0BC5 C712".split()
+    heard = [f"S{word}\r" for word in words]
+    want(over_serial(replies, words), (7, "-- 01 -- aF --".split(), heard, "answers -- 01 -- aF --\n"))
+
+
+def test_serial_silence(folder):
+    status, answers, heard, told = over_serial([[b"N\r"], []], "C301 0B9C A303".split())
+    want((status, answers, heard), (4, ["--", "end"], ["SC301\r", "S0B9C\r"]))
+    assert "no reply" in told, told
+
+
+def test_serial_device_gone(folder):
+    status, answers, heard, _ = over_serial([[b"N\r"], ["close"]], "C301 0B9C A303".split())
+    want((status, answers, heard), (4, ["--", "end"], ["SC301\r", "S0B9C\r"]))
+    status, answers, heard, _ = over_serial([[b"N\r", 0.1, "close"]], "C301 pause 0B9C A303".split())
+    want((status, answers, heard), (4, ["--", "end"], ["SC301\r"]))
+
+
+def test_serial_other_replies(folder):
+    def found(reply):
+        return reply, over_serial([[reply]], "0B9C A303".split())
+
+    replies = [b"J0\r", b"J033\r", b"J01\rN\r", b"\r", b"J01\n\r", b"F\r", b"JG1\r", b"J" * 40]
+    for reply, (status, answers, heard, told) in concurrent.futures.ThreadPoolExecutor(8).map(found, replies):
+        want((reply, status, answers, heard), (reply, 4, ["end"], ["S0B9C\r"]))
+        assert "is none that it may give" in told, told
+
+
+def test_serial_late_answer(folder):
+    interface = Interface([[0.7, b"J55\r"], [b"N\r"], [b"J01\r"]])
+    want(run(SERIAL, [interface.device], ["0B9C", "A303"])[:2], (4, ["end"]))
+    want(run(SERIAL, [interface.device], ["0B98", "0BC5"])[:2], (7, ["--", "01"]))
+    interface.close()
+    want(interface.heard, ["S0B9C\r", "S0B98\r", "S0BC5\r"])
+
+
+def test_serial_stray_reply(folder):
+    want(over_serial([[b"J01\r", 0.05, b"J02\r"], [b"N\r"]], "0B9C pause A303".split())[:2], (7, ["01", "--"]))
+
+
+def test_serial_command_gone(folder):
+    want(over_serial([[b"N\r"]], ["C301", "kill"])[0], 137)
+    want(over_serial([[b"N\r"]], ["close", "C301"]), (7, [], ["SC301\r"], "answers \n"))
+    for line in ["a303", "A30", "A3033"]:
+        status, answers, heard, told = over_serial([[b"N\r"]], ["C301", line])
+        want((status, answers, heard), (4, ["--", "end"], ["SC301\r"]))
+        assert "isn't four upper-case" in told, told
+
+
+def test_serial_cannot_start(folder):
+    interface = Interface([[b"N\r"], [b"N\r"]])
+    words = ["C301", *["pause"] * 50]
+    held = subprocess.Popen([SERIAL, interface.device, "--", *player(words)], stderr=subprocess.PIPE)
+    while interface.thread.is_alive() and not interface.heard:
+        time.sleep(0.05)
+    status, answers, told = run(SERIAL, [interface.device], ["A303"])
+    held.terminate()
+    held.wait()
+    held.stderr.close()
+    interface.close()
+    want((status, answers, interface.heard), (2, None, ["SC301\r"]))
+    assert told.startswith("error: "), told
+    want(run(SERIAL, ["/dev/null"], ["A303"])[:2], (2, None))
+    want(run(SERIAL, [folder / "none"], ["A303"])[:2], (2, None))
+    want(subprocess.run([SERIAL], stderr=subprocess.DEVNULL).returncode, 2)
+
+
+# Options
+
+
+def test_serial_letter_and_baud_rate(folder):
+    for options, sent, reply, speed in [
+            ([], "SC301\r", b"J5A\r", termios.B38400),
+            (["--letter", "h"], "hC301\r", b"J5A\r", termios.B38400),
+            (["--letter", "Z", "--baud", "115200"], "ZC301\r", b"J5A\r", termios.B115200),
+            (["--baud", "1200"], "SC301\r", b"J5A\r", termios.B1200),
+            (["--line-feed"], "SC301\n", b"J5A\n", termios.B38400),
+            (HAT, "hC301\n", b"J5A\n", termios.B19200)]:
+        interface = Interface([[reply]], sent[-1:].encode())
+        status, answers, _ = run(SERIAL, [*options, interface.device], ["C301"])
+        interface.close()
+        want((options, status, answers, interface.heard), (options, 7, ["5A"], [sent]))
+        want((options, interface.speeds), (options, [speed, speed]))
+
+
+def test_serial_line_feeds(folder):
+    replies = [[b"N\n"], [b"J01\n"], [b"X\r\n"], [b"J", 0.1, b"aF\r", 0.1, b"\n"]]
+    words = "C301 0B9C 0B98 0BC5".split()
+    want(over_serial(replies, words, HAT)[:3], (7, "-- 01 -- aF".split(), [f"h{word}\n" for word in words]))
+
+
+def test_serial_other_line_ends(folder):
+    def found(case):
+        return case, over_serial([[case[1]]], ["0B9C", "A303"], case[0])
+
+    cases = [([], b"N\n", "no reply"), ([], b"J01\n", "no reply"), ([], b"N\n\r", "none that it may give"),
+             (HAT, b"N\r", "no reply"), (HAT, b"N\r\r\n", "none that it may give"),
+             (HAT, b"J01\nN\n", "none that it may give"), (HAT, b"Z\n", "none that it may give"),
+             (HAT, b"H0B9C\n", "none that it may give"), (HAT, b"\n", "none that it may give")]
+    for case, (status, answers, heard, told) in concurrent.futures.ThreadPoolExecutor(9).map(found, cases):
+        want((case, status, answers, len(heard)), (case, 4, ["end"], 1))
+        assert case[2] in told, (case, told)
+
+
+def test_serial_wrong_options(folder):
+    interface = Interface([[b"N\r"]])
+    no_letter, no_rate = "isn't one letter, A to Z or a to z", "is none of the system's baud rates: 50, 75, 110, "
+    for options, words in [
+            *((["--letter", text], no_letter) for text in ("", "hh", "5", "\u00e9", " ", "-5")),
+            *((["--baud", text], no_rate) for text in ("", "0", "19201", "x", "-1", "19_200", " 19200", "B19200")),
+            (["--letter"], "expected one argument"), (["--baud"], "expected one argument"),
+            (["--let", "h"], "unrecognized arguments: --let"), (["/dev/null"], "unrecognized arguments")]:
+        status, answers, told = run(SERIAL, [interface.device, *options], ["A303"])
+        want((options, status, answers), (options, 2, None))
+        assert words in told and "error: " in told and "Traceback" not in told, (options, told)
+    status, answers, told = run(SERIAL, [], ["A303"])
+    want((status, answers, "required: DEVICE" in told), (2, None, True))
+    interface.close()
+    want(interface.heard, [])
+
+
+def test_serial_help_tells_who_speaks_so(folder):
+    ended = subprocess.run([SERIAL, "--help"], capture_output=True, text=True)
+    want((ended.returncode, ended.stderr), (0, ""))
+    for words in (" ".join(HAT), "(default: S)", "(default: 38400)", "not tried on hardware"):
+        assert words in ended.stdout, (words, ended.stdout)
+    assert " ".join(HAT) in (ROOT / "docs" / "LINK.md").read_text(), "LINK.md has other options"
+
+
+def test_serial_a_broken_link_is_never_status_0(folder):
+    interface = Interface([[]])
+    words = [SERIAL, interface.device, "--", "sh", "-c", "echo C301; read -r answer; exit 0"]
+    ended = subprocess.run(words, capture_output=True, text=True, timeout=9)
+    interface.close()
+    want((ended.returncode, ended.stderr), (1, "error: the interface gave no reply in 0.5 seconds\n"))

@@ -5,6 +5,7 @@ pub mod ObservedLemmas
 pub mod SittingLemmas
 pub mod KillLemmas
 pub mod RepeatLemmas
+pub mod WorkLemmas
 pub mod WorkedDriveLemmas
 pub mod WorkedSittingLemmas
 pub mod ReadingLemmas

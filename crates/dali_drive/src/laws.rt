@@ -32,14 +32,14 @@ ghost use Rattle.dali_drive.specs.UnitRead.{IsUnitRead, UnitReadBroke};
 /// whatever a stop may leave of it bears out something that may have happened; and where no journal was opened, the
 /// same records, or what a stop might have left before.
 pub fn drives_leave_what_happened()
-    ensures ended { (limit most : ℕ) (orders : List Contents) (moment : ℕ) (found left : List ℕ)
+    ensures ended { (limit most : ℕ) (orders : List (Contents × ℕ)) (found left : List ℕ)
         (first : Streams) (writer : WriterState) (last : Streams)
         → first.journal ≡ Some found → last.journal ≡ Some left
-        → (d : IsStoredDrive limit most orders moment first writer last)
+        → (d : IsStoredDrive limit most orders first writer last)
         → CameToItsEnd limit most found (record { start = start_of d.begun.journal; past = d.drive.past }) left }
-    ensures broken { (limit most : ℕ) (orders : List Contents) (moment : ℕ) (fault : DriveFault) (found left : List ℕ)
+    ensures broken { (limit most : ℕ) (orders : List (Contents × ℕ)) (fault : DriveFault) (found left : List ℕ)
         (first last : Streams) (begun : IsBegun limit most first)
-        (d : IsBrokenDrive (start_of begun.journal) orders moment fault (record first { journal = begun.middle }) last)
+        (d : IsBrokenDrive (start_of begun.journal) orders fault (record first { journal = begun.middle }) last)
         → first.journal ≡ Some found → IsBetween d.middle.journal last.journal left
         → (past : List Happening)
         × BrokeOff limit most found (record { start = start_of begun.journal; past = past }) left }
@@ -51,14 +51,14 @@ pub fn drives_leave_what_happened()
 /// it would have left if it had been killed at some moment of what may have happened: with nothing in hand, or a record
 /// that is cut off.
 pub fn stops_leave_a_part()
-    ensures ended { (limit most : ℕ) (orders : List Contents) (moment : ℕ) (found seen left : List ℕ) (first : Streams)
+    ensures ended { (limit most : ℕ) (orders : List (Contents × ℕ)) (found seen left : List ℕ) (first : Streams)
         (writer : WriterState) (last : Streams) → first.journal ≡ Some found → last.journal ≡ Some seen
-        → IsStoredDrive limit most orders moment first writer last
+        → IsStoredDrive limit most orders first writer last
         → IsPartBehind limit (Some found) (Some seen) left → StoodOnce limit most found left first last }
-    ensures broken { (limit most : ℕ) (orders : List Contents) (moment : ℕ) (fault : DriveFault)
+    ensures broken { (limit most : ℕ) (orders : List (Contents × ℕ)) (fault : DriveFault)
         (found seen left : List ℕ) (first last : Streams) (begun : IsBegun limit most first)
         → first.journal ≡ Some found → last.journal ≡ Some seen
-        → IsBrokenDrive (start_of begun.journal) orders moment fault (record first { journal = begun.middle }) last
+        → IsBrokenDrive (start_of begun.journal) orders fault (record first { journal = begun.middle }) last
         → IsPartBehind limit (Some found) (Some seen) left → StoodOnce limit most found left first last }
 {}
 

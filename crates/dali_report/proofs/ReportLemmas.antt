@@ -1,5 +1,5 @@
 -- How a report goes on.
-use Rattle.std.proofs.Common.{◌≡◌, ◌∙◌, refl, sym, ap, ◌||◌, ◌&&◌, ◌++◌, ℕ, Bool, true, false, List, [], ◌∷◌, Option, Some, None}
+use Rattle.std.proofs.Common.{◌≡◌, ◌∙◌, refl, sym, ap, true≢false, ◌||◌, ◌&&◌, ◌++◌, ℕ, Bool, true, false, List, [], ◌∷◌, Option, Some, None}
 use Rattle.std.proofs.Common.{option_map, subst, inl, inr, ◌⊎◌, IsOkAnd, IfOk, Result, Ok, Err, Vec, Global}
 use Rattle.std.specs.Io.KnownBytes.{Appends}
 use Rattle.std.proofs.KnownBytes.{Appends-trans}
@@ -18,7 +18,7 @@ use Rattle.dali_report.specs.declared.report.Spoken.{Spoken}
 use Rattle.dali_report.specs.Lines.{line_of, last_data}
 use Rattle.dali_report.specs.Reports.{resumed, spoken_of, is_number_of, exchanges, told_at, is_last_reply, is_well, report_text}
 use Rattle.dali_report.specs.Tallies.{IsTally}
-use Rattle.dali_report.specs.Told.{IsTold, HasWritten, report_held, has_failed, spoken, is_number}
+use Rattle.dali_report.specs.Told.{IsTold, HasWritten, IsSilent, report_held, has_failed, spoken, is_number}
 
 -- the unit and the number of what is kept of an order
 unit_of : (order : Option Contents)
@@ -53,11 +53,22 @@ pub more_written : {W : Type 0} (contents : W → Option (List ℕ)) (first old 
     → HasWritten contents first old text
     → (has_failed new ≡ false → (has_failed old ≡ false)
     × Appends (report_held contents old) (report_held contents new) line)
+    → (has_failed old ≡ true → IsSilent old new)
     → HasWritten contents first new (text ++ line)
-more_written contents first old new text line before more = λ failed.
-    let now = more failed in
-    Appends-trans (report_held contents first) (report_held contents old) (report_held contents new) text line
-    (before now.0) now.1
+more_written contents first old new text line before more silent = (
+  λ well.
+      let now = more well in
+      Appends-trans (report_held contents first) (report_held contents old) (report_held contents new) text line
+      (before.0 now.0) now.1,
+  λ failed.
+      let then = before.1 failed in
+      let now = silent then.0 in
+      (now.0, now.1 ∙ then.1),
+)
+
+-- where a line is wanted, none has failed
+pub not_both : {W A : Type 0} (report : Report W) → has_failed report ≡ false → has_failed report ≡ true → A
+not_both report well failed = absurd (true≢false (sym failed ∙ well))
 
 -- a last reply has its line
 text_of_last : (start : Start) (past : List Happening) (id : ℕ) (reply : Reply)
@@ -109,13 +120,14 @@ module _ {W : Type 0} (contents : W → Option (List ℕ)) (start : Start) (firs
       → new.all_done ≡ (old.all_done && is_well reply)
       → (has_failed new ≡ false → (has_failed old ≡ false)
       × Appends (report_held contents old) (report_held contents new) (line_of (last_data (told_at start past id reply))))
+      → (has_failed old ≡ true → IsSilent old new)
       → IsTold contents start first new (Answered id reply ∷ past)
-  told_last new last resumes speaks ends tallies dones writes = record {
+  told_last new last resumes speaks ends tallies dones writes silent = record {
     resumed_is = resumes ∙ told.resumed_is;
     spoken_is = speaks ∙ told.spoken_is;
     ended_is = ends ∙ told.ended_is;
     tally_is = subst (λ (x : List Exchange). IsTally x new.tally) (sym (none_since past id reply last)) tallies;
     done_is = dones ∙ ap (λ (b : Bool). b && is_well reply) told.done_is;
     written = rw (text_of_last start past id reply last) (more_written contents first old new (report_text start past)
-        (line_of (last_data (told_at start past id reply))) told.written writes);
+        (line_of (last_data (told_at start past id reply))) told.written writes silent);
   }

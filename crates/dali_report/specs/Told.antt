@@ -1,6 +1,7 @@
 -- What a report has been told, and what it holds.
-use Rattle.std.specs.Prelude.{◌≡◌, ◌||◌, ◌==◌, ℕ, Bool, false, List, [], Option, Some, None, option_map}
+use Rattle.std.specs.Prelude.{◌≡◌, ◌||◌, ◌==◌, ℕ, Bool, true, false, List, [], Option, Some, None, option_map}
 use Rattle.std.specs.Io.KnownBytes.{Appends}
+use Rattle.std.proofs.Common.{refl}
 use Rattle.std.proofs.KnownBytes.{Appends-nil}
 use Rattle.dali_bank.specs.Order.{Contents}
 use Rattle.dali_frame.specs.declared.forward.Frame.{Frame}
@@ -32,6 +33,10 @@ report_held contents report = output_held contents report.output
 abbrev pub has_failed : {W : Type 0} → Report W → Bool
 has_failed report = report.starved || output_failed report.output
 
+-- it stays failed, and its output as it is
+abbrev pub IsSilent : {W : Type 0} → Report W → Report W → Type 0
+IsSilent old new = (has_failed new ≡ true) × (new.output ≡ old.output)
+
 -- an order, in what a report keeps of it
 abbrev pub spoken : Contents → Spoken
 spoken order = record { id = order.id; unit = order.unit }
@@ -41,10 +46,12 @@ abbrev pub is_number : ℕ → Option Spoken → Bool
 is_number id None = false
 is_number id (Some one) = one.id == id
 
--- unless it has failed, this text stands behind what the first of the two held
+-- unless it has failed, this text stands behind what the first of the two held; and once that had failed nothing more
+-- was written
 abbrev pub HasWritten : {W : Type 0} → (W → Option (List ℕ)) → Report W → Report W → List ℕ → Type 0
 HasWritten contents first now text =
-    has_failed now ≡ false → Appends (report_held contents first) (report_held contents now) text
+    (has_failed now ≡ false → Appends (report_held contents first) (report_held contents now) text)
+    × (has_failed first ≡ true → IsSilent first now)
 
 -- since it was the first of the two, it was told this trace from that start
 pub record IsTold {W : Type 0} (contents : W → Option (List ℕ)) (start : Start) (first now : Report W)
@@ -70,4 +77,4 @@ IsToldFound contents first now found = HasWritten contents first now (found_line
 -- at first, nothing
 pub none_found : {W : Type 0} (contents : W → Option (List ℕ)) (report : Report W)
     → IsToldFound contents report report []
-none_found contents report = λ failed. Appends-nil (report_held contents report)
+none_found contents report = (λ failed. Appends-nil (report_held contents report), λ failed. (failed, refl))

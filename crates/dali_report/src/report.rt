@@ -159,6 +159,7 @@ impl<W: Write> Report<W> {
         ensures written { report_failed self.new ≡ false → (report_failed self.old ≡ false)
             × Appends (report_held W.contents self.old) (report_held W.contents self.new)
             (line_of (last_data last.now)) }
+        ensures silent { report_failed self.old ≡ true → self.new ≡ self.old }
     {
         if self.is_wanted() {
             self.put(last.line(self.alloc));
@@ -167,7 +168,8 @@ impl<W: Write> Report<W> {
 
     // Whether lines are written: there is an output, and none has failed.
     fn is_wanted(&self) -> bool
-        ensures { (result ≡ false) → (report_failed self.now ≡ true) ⊎ (self.now.output ≡ None) }
+        ensures wanted { (result ≡ true) → report_failed self.now ≡ false }
+        ensures unwanted { (result ≡ false) → (report_failed self.now ≡ true) ⊎ (self.now.output ≡ None) }
     {
         self.output.is_some() && !self.has_failed()
     }

@@ -20,5 +20,6 @@ returns g c = record {
             (last_is g.W.Write.contents start first c.args.self.now past told c.args.id c.args.reply
             c.args.journal.now.records same _ (rw (c.unit.ensures, c.moment.ensures, c.ends_now.ensures) refl))
             written.1,
-      ));
+      ))
+      (λ failed. rw (c.write_last.ensures.silent failed) (failed, refl));
 }

@@ -1,6 +1,7 @@
+use Rattle.std.proofs.Common.{refl}
 use Rattle.dali_report.specs.Lines.{line_of, found_data}
 use Rattle.dali_report.specs.Reports.{found_lines}
-use Rattle.dali_report.proofs.ReportLemmas.{unwanted, wanted, more_written}
+use Rattle.dali_report.proofs.ReportLemmas.{unwanted, wanted, more_written, not_both}
 use Rattle.dali_report.proofs.report.ReportFindingObserver.find.Goals as goal
 
 pub returns-then-is_wanted : goal.returns-then-is_wanted
@@ -9,6 +10,7 @@ returns-then-is_wanted g c = λ first past told.
     (line_of (found_data c.args.order.now c.args.found)) told
     (λ failed. wanted g.W.Write.contents c.args.self.now c.put.new.self c.found_line.result
     (line_of (found_data c.args.order.now c.args.found)) (c.put.ensures.put failed) c.found_line.ensures)
+    (not_both c.args.self.now (c.is_wanted.ensures.wanted c.if-is_wanted.true))
 
 pub returns-else-is_wanted : goal.returns-else-is_wanted
 returns-else-is_wanted g c = λ first past told.
@@ -17,5 +19,6 @@ returns-else-is_wanted g c = λ first past told.
     (λ well. (
       well,
       unwanted g.W.Write.contents c.args.self.now (line_of (found_data c.args.order.now c.args.found))
-          (c.is_wanted.ensures c.if-is_wanted.false) well,
+          (c.is_wanted.ensures.unwanted c.if-is_wanted.false) well,
     ))
+    (λ failed. (failed, refl))

@@ -1,7 +1,7 @@
 use Rattle.std.proofs.Common.{◌∙◌, refl}
 use Rattle.dali_report.specs.Lines.{line_of, end_data}
 use Rattle.dali_report.specs.Reports.{report_text}
-use Rattle.dali_report.proofs.ReportLemmas.{unwanted, wanted, more_written}
+use Rattle.dali_report.proofs.ReportLemmas.{unwanted, wanted, more_written, not_both}
 use Rattle.dali_report.proofs.report.ReportObserver.see_end.Goals as goal
 
 pub returns-then-is_wanted : goal.returns-then-is_wanted
@@ -13,7 +13,8 @@ returns-then-is_wanted g c = λ start first past told.
       written = more_written g.W.Write.contents first c.args.self.now c.put.new.self (report_text start past) line
           told.written
           (λ failed. wanted g.W.Write.contents c.args.self.now c.put.new.self c.end_line.result line
-          (c.put.ensures.put failed) c.end_line.ensures);
+          (c.put.ensures.put failed) c.end_line.ensures)
+          (not_both c.args.self.now (c.is_wanted.ensures.wanted c.if-is_wanted.true));
     }
 
 pub returns-else-is_wanted : goal.returns-else-is_wanted
@@ -26,6 +27,7 @@ returns-else-is_wanted g c = λ start first past told.
           (λ well. (
             well,
             unwanted g.W.Write.contents c.args.self.now line
-                (c.is_wanted.ensures c.if-is_wanted.false) well,
-          ));
+                (c.is_wanted.ensures.unwanted c.if-is_wanted.false) well,
+          ))
+          (λ failed. (failed, refl));
     }

@@ -271,9 +271,7 @@ fn drive_all<I: Source, L: Sink, J: Store, O: Sink, B: Observer>(
     ensures any_moment { LeavesOnly J.moment J.left_since journal_out.old journal_out.new
         (IsBetween (J.seen journal_out.old) (J.seen journal_out.new)) }
 {
-    writer.rest();
-    observer.begin(writer.journal());
-    work(writer, link_in, link_out, journal_out, out, observer)?;
+    begin(writer, link_in, link_out, journal_out, out, observer)?;
     for order in orders {
         carry_out(
             writer,
@@ -287,6 +285,44 @@ fn drive_all<I: Source, L: Sink, J: Store, O: Sink, B: Observer>(
         )?;
     }
     Ok(())
+}
+
+// Does what the journal leaves unfinished.
+pub(crate) fn begin<I: Source, L: Sink, J: Store, O: Sink, B: Observer>(
+    writer: &mut Writer,
+    link_in: &mut I,
+    link_out: &mut L,
+    journal_out: &mut J,
+    out: &mut O,
+    observer: &mut B,
+) -> Result<(), DriveFault>
+    requires rests { IsAtRest writer.old }
+    requires journal { J.failed journal_out.old ≡ false }
+    requires settled { IsSettled (J.seen journal_out.old) (J.may_leave journal_out.old) }
+    requires link_out { L.failed link_out.old ≡ false }
+    requires link_in { I.failed link_in.old ≡ false }
+    requires out { O.failed out.old ≡ false }
+    ensures worked { WorkedOn (start_of writer.old.journal) [] []
+        (shown (J.seen journal_out.old) (L.held link_out.old) (I.left link_in.old) (O.held out.old)) result writer.new
+        (shown (J.seen journal_out.old) (L.held link_out.old) (I.left link_in.old) (O.held out.old))
+        (shown (J.seen journal_out.new) (L.held link_out.new) (I.left link_in.new) (O.held out.new))
+        (J.may_leave journal_out.new) (B.told (start_of writer.old.journal) observer.old observer.new)
+        (B.told_end (start_of writer.old.journal) observer.old observer.new) }
+    ensures rests { OnOk result (IsAtRest writer.new) }
+    ensures quiet { OnOk result
+        ((start : Start) (past : List Happening) → Describes start past writer.new → is_busy start past ≡ false) }
+    ensures ok { OnOk result
+        (NoneFailed (J.failed journal_out.new) (L.failed link_out.new) (I.failed link_in.new) (O.failed out.new)) }
+    ensures err { IfErr result (λ fault.
+        FailedAs fault (J.failed journal_out.new) (L.failed link_out.new) (I.failed link_in.new) (O.failed out.new)) }
+    ensures settled { OnOk result (IsSettled (J.seen journal_out.new) (J.may_leave journal_out.new)) }
+    ensures grown { (more : List ℕ) × Appends (J.seen journal_out.old) (J.seen journal_out.new) more }
+    ensures any_moment { LeavesOnly J.moment J.left_since journal_out.old journal_out.new
+        (IsBetween (J.seen journal_out.old) (J.seen journal_out.new)) }
+{
+    writer.rest();
+    observer.begin(writer.journal());
+    work(writer, link_in, link_out, journal_out, out, observer)
 }
 
 // Submits an order at a moment, writes its reply, and does the work that it makes.

@@ -1,32 +1,27 @@
 use Rattle.std.proofs.Common.{◌∙◌, suc, [], ◌∷◌, ◌++◌, refl, drop}
 use Rattle.std.proofs.lemmas.Result.{err_from_is_err_and}
-use Rattle.dali_writer.specs.WriterState.{start_of}
 use Rattle.dali_drive.specs.Driven.{at_moment}
-use Rattle.dali_drive.proofs.DriveLemmas.{begun_at}
 use Rattle.dali_drive.proofs.WorkLemmas.{in_order, first_asked, asked_more, asked_then, asked_all}
 use Rattle.dali_drive.proofs.StoreLemmas.{then_on, more_of}
 use Rattle.dali_drive.proofs.driving.drive_all.Goals as goal
 
 pub loop-order-init : goal.loop-order-init
 loop-order-init g c =
-    let w =
-    c.in_ok-work.ensures.worked (start_of c.args.writer.now.journal) [] _ c.args.observer.now
-    (begun_at (start_of c.args.writer.now.journal) c.args.writer.now _ _ _ _ c.rest.ensures.described
-    c.rest.ensures.follows) (c.begin.ensures (start_of c.args.writer.now.journal) (rw c.journal.ensures refl)) in
+    let w = c.in_ok-begin.ensures.worked in
     record {
       past = w.more ++ [];
       driven = w.driven_at;
       orders = in_order w.more [] ∙ w.asked;
       told = w.told_all;
-      rests = c.in_ok-work.ensures.rests;
-      quiet = c.in_ok-work.ensures.quiet _ _ w.driven_at.described;
-      journal = c.in_ok-work.ensures.ok.0;
-      settled = c.in_ok-work.ensures.settled;
-      grown = c.in_ok-work.ensures.grown;
-      moments = c.in_ok-work.ensures.any_moment;
-      link_out = c.in_ok-work.ensures.ok.1;
-      link_in = c.in_ok-work.ensures.ok.2;
-      out = c.in_ok-work.ensures.ok.3;
+      rests = c.in_ok-begin.ensures.rests;
+      quiet = c.in_ok-begin.ensures.quiet _ _ w.driven_at.described;
+      journal = c.in_ok-begin.ensures.ok.0;
+      settled = c.in_ok-begin.ensures.settled;
+      grown = c.in_ok-begin.ensures.grown;
+      moments = c.in_ok-begin.ensures.any_moment;
+      link_out = c.in_ok-begin.ensures.ok.1;
+      link_in = c.in_ok-begin.ensures.ok.2;
+      out = c.in_ok-begin.ensures.ok.3;
     }
 
 pub returns-clause-driven : goal.returns-clause-driven
@@ -45,12 +40,9 @@ returns-clause-driven g c =
       told_all = i.told;
     }
 
-pub returns-in_err-work-clause-broken : goal.returns-in_err-work-clause-broken
-returns-in_err-work-clause-broken g c =
-    let w =
-    c.in_err-work.ensures.worked (start_of c.args.writer.now.journal) [] _ c.args.observer.now
-    (begun_at (start_of c.args.writer.now.journal) c.args.writer.now _ _ _ _ c.rest.ensures.described
-    c.rest.ensures.follows) (c.begin.ensures (start_of c.args.writer.now.journal) (rw c.journal.ensures refl)) in
+pub returns-in_err-begin-clause-broken : goal.returns-in_err-begin-clause-broken
+returns-in_err-begin-clause-broken g c =
+    let w = c.in_err-begin.ensures.worked in
     let p = err_from_is_err_and c.from_residual.result c.from_residual.ensures.1 in
     let all = at_moment c.args.moment c.args.orders.now in
     rw (p.1, p.2) (record {

@@ -22,7 +22,7 @@ use Rattle.dali_drive.specs.Driven.{orders_asked, IsDriven, LeavesBetween}
 use Rattle.dali_drive.specs.Observed.{IsToldEnd}
 use Rattle.dali_drive.specs.WorkedOn.{IsDrivenAt, HasWorked, HasBroken, WorkedOn}
 use Rattle.dali_drive.specs.Followed.{Step, happenings, told_lines, given_in, as_given, muted, IsFollowedAt}
-use Rattle.dali_drive.specs.Followed.{IsFollowed, BrokenLine, BrokenOrder, BrokenStep, IsBrokenFollow, GivenOn}
+use Rattle.dali_drive.specs.Followed.{IsFollowed, BrokenLine, BrokenOrder, BrokenStep, BreaksFollow, GivenOn}
 use Rattle.dali_drive.proofs.DriveLemmas.{IsCut}
 use Rattle.dali_drive.specs.Followed.Step.{Happened, Told}
 
@@ -161,10 +161,9 @@ module _ (start : Start) (steps : List Step) (given : List Given) (first middle 
   pub breaks_follow : (zero : Streams)
       (broken : HasBroken start (happenings steps) orders zero fault middle last may_leave told told_end)
       → IsDriven start (broken.more ++ happenings steps) (muted first) broken.then
-      → (follow : IsBrokenFollow start (as_given (reverse orders) ++ given) fault first last may_leave)
-      × IsToldEnd told told_end start (happenings follow.steps) fault follow.then.answers last.answers
-  breaks_follow zero broken driven = (
-    record {
+      → BreaksFollow start (as_given (reverse orders) ++ given) fault first last may_leave told told_end
+  breaks_follow zero broken driven = record {
+    follow = record {
       steps = map Happened broken.more ++ steps;
       then = broken.then;
       said =
@@ -178,11 +177,12 @@ module _ (start : Start) (steps : List Step) (given : List Given) (first middle 
             driven = rw (happened_first broken.more steps) driven;
             broken = rw (happened_first broken.more steps) broken.broken;
           });
-      left = broken.left;
-    },
-    subst (λ (past : List Happening). IsToldEnd told told_end start past fault broken.then.answers last.answers)
-        (sym (happened_first broken.more steps)) broken.told_all,
-  )
+    };
+    left = broken.left;
+    told_all =
+        subst (λ (past : List Happening). IsToldEnd told told_end start past fault broken.then.answers last.answers)
+        (sym (happened_first broken.more steps)) broken.told_all;
+  }
 
 -- the first work, before anything was given
 pub begins : (start : Start) (first : Streams) (writer : WriterState) (last : Streams) (told : List Happening → Type 0)
@@ -215,8 +215,7 @@ begins start first writer last told worked quiet = (
 pub begins_broken : (start : Start) (first : Streams) (fault : DriveFault) (last : Streams) (may_leave : List ℕ → Type 0)
     (told : List Happening → Type 0) (told_end : List Happening → DriveFault → Frame → List ℕ → Type 0)
     → HasBroken start [] [] first fault first last may_leave told told_end
-    → (follow : IsBrokenFollow start [] fault first last may_leave)
-    × IsToldEnd told told_end start (happenings follow.steps) fault follow.then.answers last.answers
+    → BreaksFollow start [] fault first last may_leave told told_end
 begins_broken start first fault last may_leave told told_end broken =
     breaks_follow start [] [] first first (Appends-nil first.out) refl [] fault last may_leave told told_end first broken
     (muted_driven start (broken.more ++ []) first broken.then broken.driven)
@@ -267,10 +266,9 @@ module _ (start : Start) (given : List Given) (first : Streams) (writer : Writer
   pub cuts_line : (may_leave : List ℕ → Type 0) (told : List Happening → Type 0)
       (told_end : List Happening → DriveFault → Frame → List ℕ → Type 0) → told (happenings follow.steps)
       → LeavesBetween j j may_leave → IsCut o more line.items
-      → (broken : IsBrokenFollow start (gives.Line line ∷ given) Out first (shown j l a more) may_leave)
-      × IsToldEnd told told_end start (happenings broken.steps) Out broken.then.answers a
-  cuts_line may_leave told told_end is left cut = (
-    record {
+      → BreaksFollow start (gives.Line line ∷ given) Out first (shown j l a more) may_leave told told_end
+  cuts_line may_leave told told_end is left cut = record {
+    follow = record {
       steps = follow.steps;
       then = shown j l a o;
       said = follow.at.said;
@@ -285,7 +283,7 @@ module _ (start : Start) (given : List Given) (first : Streams) (writer : Writer
         answers = Keeps-refl a;
         out = record { count = cut.0; within = cut.1; part = cut.2 };
       });
-      left = left;
-    },
-    is,
-  )
+    };
+    left = left;
+    told_all = is;
+  }

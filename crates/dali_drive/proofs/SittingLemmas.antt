@@ -103,7 +103,7 @@ between_known (Some x) (Some y) was more c is now (front, rest, begins, whole) =
           (sym all ∙ whole ∙ ap (λ (l : List ℕ). l ++ rest) here ∙ append_assoc was front rest),
     )
 
-between_still : (old new : Option (List ℕ)) (was c : List ℕ) → old ≡ Some was → Keeps old new → IsBetween old new c
+pub between_still : (old new : Option (List ℕ)) (was c : List ℕ) → old ≡ Some was → Keeps old new → IsBetween old new c
     → c ≡ was
 between_still old new was c is same between =
     let shown : new ≡ Some (was ++ []) = shows_still old new was is same ∙ ap Some (sym (append-nil was)) in

@@ -9,15 +9,18 @@ use Rattle.dali_trace.specs.declared.happening.Happening.{Happening}
 use Rattle.dali_trace.specs.declared.happening.Happening.TheVariants.{Asked, Answered}
 use Rattle.dali_trace.specs.Replies.{reply_line}
 use Rattle.dali_trace.specs.Trace.{Start, is_busy}
-use Rattle.dali_writer.specs.WriterState.{WriterState}
+use Rattle.dali_writer.specs.WriterState.{WriterState, start_of}
 use Rattle.dali_drive.specs.declared.fault.DriveFault.{DriveFault}
 use Rattle.dali_drive.specs.declared.fault.DriveFault.TheVariants.{Out}
 use Rattle.dali_drive.specs.declared.following.Given.{Given}
 use Rattle.dali_drive.specs.declared.following.Given.TheVariants as gives
+use Rattle.dali_drive.specs.declared.stored.StoredFault.{StoredFault}
+use Rattle.dali_drive.specs.declared.stored.StoredFault.TheVariants.{Open, Drive}
 use Rattle.dali_drive.specs.Transcript.{Streams}
 use Rattle.dali_drive.specs.Driven.{IsDriven, BrokenOff, AppendsPart, LeavesBetween}
 use Rattle.dali_drive.specs.WorkedOn.{IsDrivenAt}
 use Rattle.dali_drive.specs.Observed.{IsToldEnd}
+use Rattle.dali_drive.specs.Stored.{IsBegun, EndsAtFault}
 
 -- What was done: something happened, or a line was told of what is refused.
 pub data Step : Type 0 where
@@ -113,15 +116,21 @@ BrokenStep start steps given Out first then last =
     BrokenLine start steps given first then last ⊎ BrokenOrder start steps given Out first then last
 BrokenStep start steps given fault first then last = BrokenOrder start steps given fault first then last
 
--- just this was given, and after these steps one was broken off; and of the journal a stop leaves all that was kept
--- before it
+-- just this was given, and after these steps one was broken off
 pub record IsBrokenFollow (start : Start) (given : List Given) (fault : DriveFault) (first last : Streams)
-    (may_leave : List ℕ → Type 0) : Type 0 where
+    : Type 0 where
   pub steps : List Step
   pub then : Streams
   pub said : Appends first.out then.out (told_lines steps)
   pub broken : BrokenStep start steps given fault first then last
-  pub left : LeavesBetween then.journal last.journal may_leave
+
+-- and of the journal a stop leaves all that was kept before it; and all of this was told
+pub record BreaksFollow (start : Start) (given : List Given) (fault : DriveFault) (first last : Streams)
+    (may_leave : List ℕ → Type 0) (told : List Happening → Type 0)
+    (told_end : List Happening → DriveFault → Frame → List ℕ → Type 0) : Type 0 where
+  pub follow : IsBrokenFollow start given fault first last
+  pub left : LeavesBetween follow.then.journal last.journal may_leave
+  pub told_all : IsToldEnd told told_end start (happenings follow.steps) fault follow.then.answers last.answers
 
 -- what came of what was given last
 abbrev pub GivenOn : {A : Type 0} → Start → List Given → Streams → Result A DriveFault → WriterState → Streams
@@ -129,8 +138,7 @@ abbrev pub GivenOn : {A : Type 0} → Start → List Given → Streams → Resul
 GivenOn start given first (Ok done) writer last may_leave told told_end =
     (follow : IsFollowed start given first writer last) × told (happenings follow.steps)
 GivenOn start given first (Err fault) writer last may_leave told told_end =
-    (follow : IsBrokenFollow start given fault first last may_leave)
-    × IsToldEnd told told_end start (happenings follow.steps) fault follow.then.answers last.answers
+    BreaksFollow start given fault first last may_leave told told_end
 
 -- What is given is told by the source; and the observer is told the trace
 
@@ -150,6 +158,32 @@ pub record IsObservedFollowBreak {G B : Type 0} (gave : G → G → List Given �
     (may_leave : List ℕ → Type 0) : Type 0 where
   pub given : List Given
   pub gave_all : gave orders orders_left given
-  pub follow : IsBrokenFollow start given fault first last may_leave
-  pub told_all : IsToldEnd (told start before after) (told_end start before after) start (happenings follow.steps) fault
-      follow.then.answers last.answers
+  pub breaks : BreaksFollow start given fault first last may_leave (told start before after)
+      (told_end start before after)
+
+-- Orders that are followed over a store
+
+pub record IsStoredFollow {G B : Type 0} (gave : G → G → List Given → Type 0) (over : G → Type 0)
+    (told : Start → B → B → List Happening → Type 0) (limit most : ℕ) (orders : G) (first : Streams) (before : B)
+    (writer : WriterState) (orders_left : G) (last : Streams) (after : B) : Type 0 where
+  pub begun : IsBegun limit most first
+  pub observed : IsObservedFollow gave over told (start_of begun.journal) orders
+      (record first { journal = begun.middle }) before writer orders_left last after
+
+pub record IsStoredFollowBreak {G B : Type 0} (gave : G → G → List Given → Type 0)
+    (told : Start → B → B → List Happening → Type 0)
+    (told_end : Start → B → B → List Happening → DriveFault → Frame → List ℕ → Type 0) (limit most : ℕ) (orders : G)
+    (fault : DriveFault) (first : Streams) (before : B) (orders_left : G) (last : Streams) (after : B)
+    (may_leave : List ℕ → Type 0) : Type 0 where
+  pub begun : IsBegun limit most first
+  pub observed : IsObservedFollowBreak gave told told_end (start_of begun.journal) orders fault
+      (record first { journal = begun.middle }) before orders_left last after may_leave
+
+-- where no journal was opened nothing was given, and the observer was told nothing
+abbrev pub FollowEnds : {G B : Type 0} → (G → G → List Given → Type 0) → (Start → B → B → List Happening → Type 0)
+    → (Start → B → B → List Happening → DriveFault → Frame → List ℕ → Type 0) → ℕ → ℕ → G → StoredFault → Streams
+    → (List ℕ → Type 0) → B → G → Streams → (List ℕ → Type 0) → B → Type 0
+FollowEnds gave told told_end limit most orders (Open fault) first leaves before orders_left last leaves_then after =
+    EndsAtFault limit most [] (Open fault) first leaves last leaves_then × (orders_left ≡ orders) × (after ≡ before)
+FollowEnds gave told told_end limit most orders (Drive fault) first leaves before orders_left last leaves_then after =
+    IsStoredFollowBreak gave told told_end limit most orders fault first before orders_left last after leaves_then

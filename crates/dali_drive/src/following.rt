@@ -4,7 +4,8 @@ ghost use Rattle.std.specs.Io.KnownBytes.{Appends};
 ghost use Rattle.dali_drive.specs.declared.following.Given.{Given};
 ghost use Rattle.dali_drive.specs.Driven.{NoneFailed, FailedAs};
 ghost use Rattle.dali_drive.specs.Followed.{with_next, happenings, IsFollowed, GivenOn};
-ghost use Rattle.dali_drive.specs.Followed.{IsObservedFollow, IsObservedFollowBreak};
+ghost use Rattle.dali_drive.specs.Followed.{IsObservedFollow, IsObservedFollowBreak, IsStoredFollow, FollowEnds};
+ghost use Rattle.dali_drive.specs.Stored.{StoredFailedAs, LeavesPart};
 ghost use Rattle.dali_drive.specs.Transcript.{Streams, shown};
 ghost use Rattle.dali_store.specs.Stores.{IsSettled, IsBetween, LeavesOnly};
 ghost use Rattle.dali_trace.specs.Trace.{Start};
@@ -14,10 +15,12 @@ use crate::driving::{begin, carry_out};
 use crate::fault::DriveFault;
 use crate::lines::Line;
 use crate::observer::Observer;
+use crate::stored::StoredFault;
 use crate::streams::{Sink, Source, put_all};
 use dali_bank::Order;
-use dali_store::Store;
+use dali_store::{Store, open};
 use dali_writer::Writer;
+use std::alloc::Global;
 
 /// What a source of orders gives (profile).
 pub enum Given {
@@ -94,6 +97,58 @@ pub fn follow<I: Source, L: Sink, J: Store, O: Sink, G: Orders, B: Observer>(
     ) {
         Ok(()) => Ok(writer),
         Err(fault) => Err(fault),
+    }
+}
+
+/// As `drive_stored_observed`, and the orders are those that a source gives, one after another, as of `follow`.
+pub fn follow_stored<I: Source, L: Sink, S: Store, O: Sink, G: Orders, B: Observer>(
+    alloc: Global,
+    limit: u32,
+    most: usize,
+    orders: &mut G,
+    link_in: &mut I,
+    link_out: &mut L,
+    store: &mut S,
+    out: &mut O,
+    observer: &mut B,
+) -> Result<Writer, StoredFault>
+    requires store { S.failed store.old ≡ false }
+    requires link_out { L.failed link_out.old ≡ false }
+    requires link_in { I.failed link_in.old ≡ false }
+    requires out { O.failed out.old ≡ false }
+    ensures followed { IfOk result (λ writer. IsStoredFollow G.gave G.over B.told limit most orders.old
+        (shown (S.seen store.old) (L.held link_out.old) (I.left link_in.old) (O.held out.old)) observer.old
+        writer orders.new
+        (shown (S.seen store.new) (L.held link_out.new) (I.left link_in.new) (O.held out.new)) observer.new) }
+    ensures rests { IfOk result IsAtRest }
+    ensures ok { OnOk result
+        (NoneFailed (S.failed store.new) (L.failed link_out.new) (I.failed link_in.new) (O.failed out.new)) }
+    ensures broken { IfErr result (λ fault. FollowEnds G.gave B.told B.told_end limit most orders.old fault
+        (shown (S.seen store.old) (L.held link_out.old) (I.left link_in.old) (O.held out.old)) (S.may_leave store.old)
+        observer.old orders.new
+        (shown (S.seen store.new) (L.held link_out.new) (I.left link_in.new) (O.held out.new)) (S.may_leave store.new)
+        observer.new) }
+    ensures err { IfErr result (λ fault. StoredFailedAs fault
+        (S.failed store.new) (L.failed link_out.new) (I.failed link_in.new) (O.failed out.new)) }
+    ensures settled { OnOk result (IsSettled (S.seen store.new) (S.may_leave store.new)) }
+    ensures any_moment { LeavesOnly S.moment S.left_since store.old store.new
+        (LeavesPart limit (S.seen store.old) (S.seen store.new) (S.may_leave store.old)) }
+{
+    let journal = match open(alloc, store, limit, most) {
+        Ok(journal) => journal,
+        Err(fault) => return Err(StoredFault::Open(fault)),
+    };
+    match follow(
+        Writer::new(journal),
+        orders,
+        link_in,
+        link_out,
+        store,
+        out,
+        observer,
+    ) {
+        Ok(writer) => Ok(writer),
+        Err(fault) => Err(StoredFault::Drive(fault)),
     }
 }
 

@@ -31,8 +31,7 @@ returns-in_err-begin-clause-broken g c =
     rw (p.1, p.2) (record {
       given = [];
       gave_all = g.met.G.Orders.gave_none c.args.orders.now;
-      follow = broken.0;
-      told_all = broken.1;
+      breaks = broken;
     })
 
 pub returns-in_default-clause-followed : goal.returns-in_default-clause-followed
@@ -52,8 +51,7 @@ returns-in_err-take-clause-broken g c =
     rw (p.1, p.2) (record {
       given = c.in-Some.given ∷ i.given;
       gave_all = c.in-Some.ensures.given c.args.orders.now i.given i.gave;
-      follow = broken.0;
-      told_all = broken.1;
+      breaks = broken;
     })
 
 pub returns-in_err-take-clause-any_moment : goal.returns-in_err-take-clause-any_moment

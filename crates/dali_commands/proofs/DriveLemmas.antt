@@ -13,6 +13,7 @@ use Rattle.dali_text.specs.declared.output.OutputFailed.{OutputFailed}
 use Rattle.dali_store.specs.declared.opening.OpenFault.{OpenFault}
 use Rattle.dali_drive.specs.declared.stored.StoredFault.{StoredFault}
 use Rattle.dali_drive.specs.declared.stored.StoredFault.TheVariants as stored
+use Rattle.dali_drive.specs.Driven.{at_moment}
 use Rattle.dali_drive.specs.Observed.{EndsObserved}
 use Rattle.dali_report.specs.declared.report.Report.{Report}
 use Rattle.dali_report.specs.Told.{IsTold, IsToldEnd}
@@ -35,7 +36,7 @@ use Rattle.dali_text.proofs.StreamLemmas.{appends_both, appends_kept}
 module _ {N : Type 0} (contents : N → Option (List ℕ)) (moment : ℕ) (require_done : Bool) (before after : Report N)
     (orders : List Contents) (first last : Streams) (replies : Option (List ℕ)) (leaves leaves_then : List ℕ → Type 0)
     (fault : StoredFault) (status : Status)
-    (ends : EndsObserved (IsTold contents) (IsToldEnd contents) order_limit journal_limit orders moment fault first
+    (ends : EndsObserved (IsTold contents) (IsToldEnd contents) order_limit journal_limit (at_moment moment orders) fault first
     leaves before (record last { out = replies }) leaves_then after) where
   -- the journal wasn't opened, and its fault was told
   pub ends_unopened : (why : OpenFault) → fault ≡ stored.Open why
@@ -43,7 +44,7 @@ module _ {N : Type 0} (contents : N → Option (List ℕ)) (moment : ℕ) (requi
       → IsDriveAnswer contents moment require_done before after orders first status last
   ends_unopened why is told =
       let end = subst (λ (f : StoredFault). EndsObserved (IsTold contents) (IsToldEnd contents) order_limit
-      journal_limit orders moment f first leaves before (record last { out = replies }) leaves_then after) is ends in
+      journal_limit (at_moment moment orders) f first leaves before (record last { out = replies }) leaves_then after) is ends in
       inr (inl (record { fault = why; replies = replies; unopened = end.0.0; told = told; unreported = end.1 }))
 
   -- it broke off, and its fault was told
@@ -51,7 +52,7 @@ module _ {N : Type 0} (contents : N → Option (List ℕ)) (moment : ℕ) (requi
       → IsDriveAnswer contents moment require_done before after orders first status last
   ends_broken why is told =
       let end = subst (λ (f : StoredFault). EndsObserved (IsTold contents) (IsToldEnd contents) order_limit
-      journal_limit orders moment f first leaves before (record last { out = replies }) leaves_then after) is ends in
+      journal_limit (at_moment moment orders) f first leaves before (record last { out = replies }) leaves_then after) is ends in
       inr (inr (record {
         fault = why;
         replies = replies;

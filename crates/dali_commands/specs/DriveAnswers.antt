@@ -9,6 +9,7 @@ use Rattle.dali_store.specs.declared.store.StoreFault.TheVariants as stores
 use Rattle.dali_drive.specs.declared.fault.DriveFault.{DriveFault}
 use Rattle.dali_drive.specs.declared.stored.StoredFault.TheVariants as stored
 use Rattle.dali_drive.specs.Stored.{IsStoredFault}
+use Rattle.dali_drive.specs.Driven.{at_moment}
 use Rattle.dali_drive.specs.Observed.{IsStoredObserved, IsStoredBreak}
 use Rattle.dali_report.specs.declared.report.Report.{Report}
 use Rattle.dali_report.specs.Reports.{all_done}
@@ -39,7 +40,7 @@ module _ {N : Type 0} (contents : N → Option (List ℕ)) (moment : ℕ) (requi
   -- all the orders were asked at this moment, nothing more is to be done, and the report has all of it
   pub record EndsWell : Type 0 where
     pub writer : WriterState
-    pub driven : IsStoredObserved (IsTold contents) order_limit journal_limit orders moment first before writer last
+    pub driven : IsStoredObserved (IsTold contents) order_limit journal_limit (at_moment moment orders) first before writer last
         after
     pub status_is : status ≡ ended_status require_done (all_done driven.observed.drive.past)
 
@@ -47,7 +48,7 @@ module _ {N : Type 0} (contents : N → Option (List ℕ)) (moment : ℕ) (requi
   pub record EndsUnopened : Type 0 where
     pub fault : OpenFault
     pub replies : Option (List ℕ)
-    pub unopened : IsStoredFault order_limit journal_limit orders moment (stored.Open fault) first
+    pub unopened : IsStoredFault order_limit journal_limit (at_moment moment orders) (stored.Open fault) first
         (record last { out = replies })
     pub told : IsFileFaultTold (fault_unopened fault) status replies last.out
     pub unreported : after ≡ before
@@ -57,7 +58,7 @@ module _ {N : Type 0} (contents : N → Option (List ℕ)) (moment : ℕ) (requi
   pub record EndsBroken : Type 0 where
     pub fault : DriveFault
     pub replies : Option (List ℕ)
-    pub broken : IsStoredBreak (IsTold contents) (IsToldEnd contents) order_limit journal_limit orders moment fault
+    pub broken : IsStoredBreak (IsTold contents) (IsToldEnd contents) order_limit journal_limit (at_moment moment orders) fault
         first before (record last { out = replies }) after (λ left. ⊥)
     pub told : IsFaultTold fault status replies last.out
 

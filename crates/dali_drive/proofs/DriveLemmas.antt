@@ -176,40 +176,10 @@ stands_so start past writer journal described is = rw is described.same
 
 -- The orders
 
-at_append : (moment : ℕ) (xs ys : List Contents)
+pub at_append : (moment : ℕ) (xs ys : List Contents)
     → at_moment moment (xs ++ ys) ≡ at_moment moment xs ++ at_moment moment ys
 at_append moment [] ys = refl
 at_append moment (x ∷ xs) ys = ap (λ (rest : List (Contents × ℕ)). (x, moment) ∷ rest) (at_append moment xs ys)
-
--- one more was asked
-pub asked_more : (moment : ℕ) (xs : List Contents) (asked : List (Contents × ℕ)) (n : ℕ) (d order : Contents)
-    → n < length xs → order ≡ get_or xs n d → asked ≡ reverse (at_moment moment (take n xs))
-    → (order, moment) ∷ asked ≡ reverse (at_moment moment (take (n + 1) xs))
-asked_more moment xs asked n d order h is e =
-    rw (is, e) (sym (ap (λ (os : List Contents). reverse (at_moment moment os)) (take_more xs n d h)
-    ∙ ap reverse (at_append moment (take n xs) (get_or xs n d ∷ []))
-    ∙ reverse-append (at_moment moment (take n xs)) ((get_or xs n d, moment) ∷ [])))
-
--- those that were asked and those that are still to be asked are all
-pub asked_so_far : (moment : ℕ) (xs : List Contents) (asked : List (Contents × ℕ)) (n : ℕ)
-    → asked ≡ reverse (at_moment moment (take n xs))
-    → reverse asked ++ at_moment moment (drop n xs) ≡ at_moment moment xs
-asked_so_far moment xs asked n e =
-    rw e (ap (λ (front : List (Contents × ℕ)). front ++ at_moment moment (drop n xs))
-    (reverse-reverse (at_moment moment (take n xs)))
-    ∙ sym (at_append moment (take n xs) (drop n xs)) ∙ ap (at_moment moment) (take-append-drop n xs))
-
-pub asked_then : (moment : ℕ) (xs : List Contents) (asked : List (Contents × ℕ)) (n : ℕ) (d order : Contents)
-    → n < length xs → order ≡ get_or xs n d → asked ≡ reverse (at_moment moment (take n xs))
-    → reverse asked ++ at_moment moment (order ∷ drop (suc n) xs) ≡ at_moment moment xs
-asked_then moment xs asked n d order h is e =
-    rw is (ap (λ (rest : List Contents). reverse asked ++ at_moment moment rest) (sym (drop-cons xs n d h))
-    ∙ asked_so_far moment xs asked n e)
-
-pub asked_all : (moment : ℕ) (xs : List Contents) (asked : List (Contents × ℕ)) (n : ℕ) → length xs ≤ n
-    → asked ≡ reverse (at_moment moment (take n xs)) → reverse asked ≡ at_moment moment xs
-asked_all moment xs asked n all e =
-    ap reverse e ∙ reverse-reverse (at_moment moment (take n xs)) ∙ ap (at_moment moment) (take_all n xs all)
 
 -- A step that is broken off
 
@@ -220,7 +190,7 @@ IsCut old new bytes = (k : ℕ) × (k ≤ length bytes) × Appends old new (take
 part_of_it : (old new : Option (List ℕ)) (bytes : List ℕ) → IsCut old new bytes → AppendsPart old new bytes
 part_of_it old new bytes cut = record { count = cut.0; within = cut.1; part = cut.2 }
 
-pub breaks_record : (start : Start) (past : List Happening) (rest : List Contents) (j more l a o : Option (List ℕ))
+pub breaks_record : (start : Start) (past : List Happening) (rest : List (Contents × ℕ)) (j more l a o : Option (List ℕ))
     (entry : Record)
     → IsNext start past (Kept entry)
     → IsRecord Two entry → IsCut j more (spelling Two entry)
@@ -238,7 +208,7 @@ breaks_record start past rest j more l a o entry next range cut = (
 )
 
 -- a fault broke the exchange of the frame that is next off
-pub breaks_exchange : (fault : DriveFault) (start : Start) (past : List Happening) (rest : List Contents)
+pub breaks_exchange : (fault : DriveFault) (start : Start) (past : List Happening) (rest : List (Contents × ℕ))
     (j l more a less o : Option (List ℕ)) (frame : Frame)
     → IsNextFrame start past frame
     → BreaksFrame frame fault (link_shown l a) (link_shown more less)
@@ -275,7 +245,7 @@ told_of_end End told told_end start past old new frame text next broken taken is
 told_of_end TooLong told told_end start past old new frame text next broken taken is =
     record { frame = frame; text = text; next = next; taken = taken; told = is }
 
-pub breaks_saying : (start : Start) (past : List Happening) (rest : List Contents) (j l a o more : Option (List ℕ))
+pub breaks_saying : (start : Start) (past : List Happening) (rest : List (Contents × ℕ)) (j l a o more : Option (List ℕ))
     (id : ℕ) (reply : Reply)
     → IsNext start past (Answered id reply)
     → IsCut o more (reply_line id reply) → BrokenOff start past rest Out (shown j l a o) (shown j l a more)
@@ -291,12 +261,12 @@ breaks_saying start past rest j l a o more id reply next cut = (
   },
 )
 
-pub breaks_memory : (start : Start) (past : List Happening) (order : Contents) (rest : List Contents)
-    (j l a o : Option (List ℕ))
+pub breaks_memory : (start : Start) (past : List Happening) (order : Contents) (moment : ℕ)
+    (rest : List (Contents × ℕ)) (j l a o : Option (List ℕ))
     → IsFinished past
     → is_busy start past ≡ false → IsReply start past order replies.Taken
-    → BrokenOff start past (order ∷ rest) NoMemory (shown j l a o) (shown j l a o)
-breaks_memory start past order rest j l a o finished quiet due = (
+    → BrokenOff start past ((order, moment) ∷ rest) NoMemory (shown j l a o) (shown j l a o)
+breaks_memory start past order moment rest j l a o finished quiet due = (
   finished,
   quiet,
   due,

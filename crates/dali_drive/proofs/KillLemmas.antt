@@ -244,7 +244,7 @@ one_records limit bytes one other a b =
     ((torn_no_fault limit bytes a.version one a.len a.kept a.loadable).2 b.version other b.len b.kept b.loadable).1
 
 module _ (limit most : ℕ) (found seen left : List ℕ) (first last : Streams) (is : first.journal ≡ Some found)
-    (held : last.journal ≡ Some seen) (b : IsBegun limit most first) (orders : List Contents) (moment : ℕ)
+    (held : last.journal ≡ Some seen) (b : IsBegun limit most first) (orders : List (Contents × ℕ))
     (part : IsPartBehind limit (Some found) (Some seen) left) where
   abbrev pub begun : Streams
   begun = record first { journal = b.middle }
@@ -283,16 +283,16 @@ module _ (limit most : ℕ) (found seen left : List ℕ) (first last : Streams) 
         split = at.split;
       }
 
-  pub stood_in : (writer : WriterState) → IsDrive (start_of b.journal) orders moment begun writer last
+  pub stood_in : (writer : WriterState) → IsDrive (start_of b.journal) orders begun writer last
       → StoodOnce limit most found left first last
   stood_in writer d =
-      stood d.past part.2.1 last d.driven (b, orders, moment, inl (writer, d, refl))
+      stood d.past part.2.1 last d.driven (b, orders, inl (writer, d, refl))
       (sym (journal_recorded (start_of b.journal) d.past)
       ∙ one_some last.journal (journal_spelling Two (records_of (start_of b.journal) d.past)) seen
       (drive_holds (start_of b.journal) d.past begun last d.driven (made limit most found first is b)) held
       ∙ part.2.3)
 
-  pub stood_before : (fault : DriveFault) → IsBrokenDrive (start_of b.journal) orders moment fault begun last
+  pub stood_before : (fault : DriveFault) → IsBrokenDrive (start_of b.journal) orders fault begun last
       → StoodOnce limit most found left first last
   stood_before fault d = by fault d.rest d.broken (λ next step. inr (next, step, refl)) where
     was : List ℕ
@@ -303,7 +303,7 @@ module _ (limit most : ℕ) (found seen left : List ℕ) (first last : Streams) 
 
     still : Keeps d.middle.journal last.journal → StoodOnce limit most found left first last
     still keeps =
-        stood d.past part.2.1 d.middle d.driven (b, orders, moment, inr (fault, d, inl refl))
+        stood d.past part.2.1 d.middle d.driven (b, orders, inr (fault, d, inl refl))
         (sym (journal_recorded (start_of b.journal) d.past)
         ∙ one_some last.journal (journal_spelling Two (records_of (start_of b.journal) d.past)) seen
         (shows_still d.middle.journal last.journal (journal_spelling Two (records_of (start_of b.journal) d.past))
@@ -333,9 +333,9 @@ module _ (limit most : ℕ) (found seen left : List ℕ) (first last : Streams) 
         (keeps_on (start_of b.journal) d.past begun d.middle.journal more d.middle.link d.middle.answers
         d.middle.out entry
         d.driven next cut.in_range (appends_known d.middle.journal (spelling Two entry)))
-        (b, orders, moment, inr (fault, d, may)) all
+        (b, orders, inr (fault, d, may)) all
 
-    by : (f : DriveFault) (rest : List Contents) → BrokenOff (start_of b.journal) d.past rest f d.middle last
+    by : (f : DriveFault) (rest : List (Contents × ℕ)) → BrokenOff (start_of b.journal) d.past rest f d.middle last
         → ((next : Happening) → IsBrokenStep (start_of b.journal) d.past f next
         → MayHaveHappened (start_of b.journal) d.past fault (next ∷ d.past))
         → StoodOnce limit most found left first last

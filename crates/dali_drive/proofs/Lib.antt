@@ -5,7 +5,11 @@ pub mod ObservedLemmas
 pub mod SittingLemmas
 pub mod KillLemmas
 pub mod RepeatLemmas
+pub mod WorkLemmas
+pub mod FollowLemmas
+pub mod FollowLawLemmas
 pub mod WorkedDriveLemmas
+pub mod WorkedFollowLemmas
 pub mod WorkedSittingLemmas
 pub mod ReadingLemmas
 pub mod SurveyLemmas

@@ -14,13 +14,13 @@ use Rattle.dali_drive.specs.Observed.{IsStoredObserved, EndsObserved}
 
 module _ {B : Type 0} (told : Start → B → B → List Happening → Type 0)
     (told_end : Start → B → B → List Happening → DriveFault → Frame → List ℕ → Type 0) (limit most : ℕ)
-    (orders : List Contents) (moment : ℕ) (first : Streams) (before : B) (last : Streams) (after : B) where
-  pub drive_of : (writer : WriterState) → IsStoredObserved told limit most orders moment first before writer last after
-      → IsStoredDrive limit most orders moment first writer last
+    (orders : List (Contents × ℕ)) (first : Streams) (before : B) (last : Streams) (after : B) where
+  pub drive_of : (writer : WriterState) → IsStoredObserved told limit most orders first before writer last after
+      → IsStoredDrive limit most orders first writer last
   drive_of writer is = record { begun = is.begun; drive = is.observed.drive }
 
   pub end_of : (leaves leaves_then : List ℕ → Type 0) (fault : StoredFault)
-      → EndsObserved told told_end limit most orders moment fault first leaves before last leaves_then after
-      → EndsAtFault limit most orders moment fault first leaves last leaves_then
+      → EndsObserved told told_end limit most orders fault first leaves before last leaves_then after
+      → EndsAtFault limit most orders fault first leaves last leaves_then
   end_of leaves leaves_then (Open fault) is = is.0
   end_of leaves leaves_then (Drive fault) is = ((is.begun, is.observed.breaks.drive), is.observed.breaks.left)

@@ -23,7 +23,7 @@ sat_as : (limit most : ℕ) (found : List ℕ) (sitting : Sitting) (left : List 
     → BrokeOff limit most found sitting left → IsSat limit found sitting left
 sat_as limit most found sitting left b =
     subst (λ (s : Sitting). IsSat limit found s left) (sym b.is)
-    (sat_broken limit most found b.first b.last b.is_found b.begun b.orders b.moment b.fault b.drive left b.is_left
+    (sat_broken limit most found b.first b.last b.is_found b.begun b.orders b.fault b.drive left b.is_left
     b.past b.happened b.finished b.counts)
 
 pub sat_so : (limit most : ℕ) (found : List ℕ) (sitting : Sitting) (left : List ℕ)

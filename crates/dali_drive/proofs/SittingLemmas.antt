@@ -103,7 +103,7 @@ between_known (Some x) (Some y) was more c is now (front, rest, begins, whole) =
           (sym all ∙ whole ∙ ap (λ (l : List ℕ). l ++ rest) here ∙ append_assoc was front rest),
     )
 
-between_still : (old new : Option (List ℕ)) (was c : List ℕ) → old ≡ Some was → Keeps old new → IsBetween old new c
+pub between_still : (old new : Option (List ℕ)) (was c : List ℕ) → old ≡ Some was → Keeps old new → IsBetween old new c
     → c ≡ was
 between_still old new was c is same between =
     let shown : new ≡ Some (was ++ []) = shows_still old new was is same ∙ ap Some (sym (append-nil was)) in
@@ -261,8 +261,8 @@ link_keeps frame old new (inl cut) = cut.journal
 link_keeps frame old new (inr unanswered) = unanswered.journal
 
 module _ (limit most : ℕ) (found : List ℕ) (first last : Streams) (is : first.journal ≡ Some found)
-    (b : IsBegun limit most first) (orders : List Contents) (moment : ℕ) (fault : DriveFault)
-    (d : IsBrokenDrive (start_of b.journal) orders moment fault (record first { journal = b.middle }) last)
+    (b : IsBegun limit most first) (orders : List (Contents × ℕ)) (fault : DriveFault)
+    (d : IsBrokenDrive (start_of b.journal) orders fault (record first { journal = b.middle }) last)
     (left : List ℕ) (between : IsBetween d.middle.journal last.journal left) where
   abbrev pub begins : Start
   begins = start_of b.journal
@@ -352,7 +352,7 @@ module _ (limit most : ℕ) (found : List ℕ) (first last : Streams) (is : firs
         sat_still past finished (still keeps)
         (inr (Sent frame answer, tt, rw is_sent at is_next, rw is_sent at is_more))
 
-    by : (f : DriveFault) (rest : List Contents) → BrokenOff begins d.past rest f d.middle last
+    by : (f : DriveFault) (rest : List (Contents × ℕ)) → BrokenOff begins d.past rest f d.middle last
         → MayHaveHappened begins d.past f past → Sat past
     by Journal rest (entry, next, cut) may = sat_record past entry finished next cut counts may
     by Link rest (frame, next, cut) may = frames (link_keeps frame d.middle last cut) may
@@ -382,7 +382,6 @@ module _ (limit most : ℕ) (found : List ℕ) (first last : Streams) (is : firs
     past,
     record {
       orders = orders;
-      moment = moment;
       fault = fault;
       first = first;
       last = last;
@@ -447,7 +446,7 @@ module _ (limit most : ℕ) (found : List ℕ) (first last : Streams) (is : firs
     of_frame f frame next keeps make =
         make d.past (inl refl) (frame_finished begins d.past frame None (next None)) (trace_alone (still keeps))
 
-    by : (f : DriveFault) (rest : List Contents) → BrokenOff begins d.past rest f d.middle last → Makes f → Made
+    by : (f : DriveFault) (rest : List (Contents × ℕ)) → BrokenOff begins d.past rest f d.middle last → Makes f → Made
     by Journal rest (entry, next, cut) make = of_record entry next make (part_left entry cut)
     by Link rest (frame, next, cut) make = of_frame Link frame next (link_keeps frame d.middle last cut) make
     by (Line fault) rest (frame, next, unanswered) make = of_frame (Line fault) frame next unanswered.journal make

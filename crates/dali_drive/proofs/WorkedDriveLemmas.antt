@@ -1,5 +1,5 @@
 -- A small drive, and what is near it and isn't one.
-use Rattle.std.proofs.Common.{ap, ◌≡◌, ◌≢◌, inl, inr, refl, sym, List, [], ◌∷◌, Some, None, codes}
+use Rattle.std.proofs.Common.{ap, ◌≡◌, ◌≢◌, inl, inr, refl, sym, ℕ, List, [], ◌∷◌, Some, None, codes}
 use Rattle.std.proofs.Common.{Bool, true, false, not, ◌⊎◌, arith}
 use Rattle.std.proofs.lemmas.Fmt.{decimal_digit}
 use Rattle.std.proofs.lemmas.List.Elements.{All-from_recursion}
@@ -107,7 +107,7 @@ no_record (Opened unit) next = let planned = next.planned in none_ended 5 _ _ pl
 no_record (Ended code) next = let planned = next.planned in none_ended 5 _ _ planned.0 planned.1
 no_record (Closed unit) next = let planned = next.planned in none_ended 5 _ _ planned.0 planned.1
 
-pub no_record_broken : (rest : List Contents) (old new : Streams) → BrokenOff empty begun rest faults.Journal old new
+pub no_record_broken : (rest : List (Contents × ℕ)) (old new : Streams) → BrokenOff empty begun rest faults.Journal old new
     → ⊥
 no_record_broken rest old new (entry, next, cut) = no_record entry next
 

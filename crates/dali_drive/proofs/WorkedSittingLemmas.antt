@@ -153,7 +153,7 @@ first_killed = record {
 
 -- The second is stopped while the frame is under way: it was carried, or it wasn't
 
-abbrev frame_broken : IsBrokenDrive empty (first_order ∷ []) 7 Link (before_on bare_file) amid_frame
+abbrev frame_broken : IsBrokenDrive empty ((first_order, 7) ∷ []) Link (before_on bare_file) amid_frame
 frame_broken = record {
   past = begun;
   rest = [];
@@ -171,8 +171,7 @@ frame_broken = record {
 stopped_amid_frame : (past : List Happening) → MayHaveHappened empty begun Link past → IsFinished past
     → BrokeOff 10 100 torn_file (record { start = empty; past = past }) begun_file
 stopped_amid_frame past happened finished = record {
-  orders = first_order ∷ [];
-  moment = 7;
+  orders = (first_order, 7) ∷ [];
   fault = Link;
   first = before_on torn_file;
   last = amid_frame;

@@ -113,12 +113,12 @@ abbrev pub IsNextFrame : Start → List Happening → Frame → Type 0
 IsNextFrame start past frame = (answer : Option ℕ) → IsNext start past (Sent frame answer)
 
 -- the step after this trace that the fault broke off, where these orders were still to be asked
-abbrev pub BrokenOff : Start → List Happening → List Contents → DriveFault → Streams → Streams → Type 0
+abbrev pub BrokenOff : Start → List Happening → List (Contents × ℕ) → DriveFault → Streams → Streams → Type 0
 BrokenOff start past rest Journal old new = (entry : Record) × IsNext start past (Kept entry) × CutRecord entry old new
 BrokenOff start past rest Link old new =
     (frame : Frame) × IsNextFrame start past frame × BreaksFrame frame Link old new
-BrokenOff start past (order ∷ rest) NoMemory old new =
-    IsFinished past × (is_busy start past ≡ false) × IsReply start past order replies.Taken × NoMore old new
+BrokenOff start past (next ∷ rest) NoMemory old new =
+    IsFinished past × (is_busy start past ≡ false) × IsReply start past next.0 replies.Taken × NoMore old new
 BrokenOff start past [] NoMemory old new = ⊥
 BrokenOff start past rest Out old new =
     (id : ℕ) × (reply : Reply) × IsNext start past (Answered id reply) × CutReply id reply old new
@@ -127,26 +127,26 @@ BrokenOff start past rest fault old new =
 
 -- What a drive comes to
 
--- from this start all these orders were asked in their order, each at this moment, and nothing more is to be done,
--- and the trace describes the writer
-pub record IsDrive (start : Start) (orders : List Contents) (moment : ℕ) (first : Streams) (writer : WriterState)
+-- from this start all these orders were asked in their order, each at its moment, and nothing more is to be done, and
+-- the trace describes the writer
+pub record IsDrive (start : Start) (orders : List (Contents × ℕ)) (first : Streams) (writer : WriterState)
     (last : Streams) : Type 0 where
   pub past : List Happening
   pub driven : IsDriven start past first last
-  pub asked : reverse (orders_asked past) ≡ at_moment moment orders
+  pub asked : reverse (orders_asked past) ≡ orders
   pub quiet : is_busy start past ≡ false
   pub described : Describes start past writer
   pub follows : Follows start past writer
 
--- from this start the first of these orders were asked in their order, each at this moment, and after the trace at
--- most one step was broken off
-pub record IsBrokenDrive (start : Start) (orders : List Contents) (moment : ℕ) (fault : DriveFault)
+-- from this start the first of these orders were asked in their order, each at its moment, and after the trace at most
+-- one step was broken off
+pub record IsBrokenDrive (start : Start) (orders : List (Contents × ℕ)) (fault : DriveFault)
     (first last : Streams) : Type 0 where
   pub past : List Happening
-  pub rest : List Contents
+  pub rest : List (Contents × ℕ)
   pub middle : Streams
   pub driven : IsDriven start past first middle
-  pub asked : reverse (orders_asked past) ++ at_moment moment rest ≡ at_moment moment orders
+  pub asked : reverse (orders_asked past) ++ rest ≡ orders
   pub broken : BrokenOff start past rest fault middle last
 
 -- a stop leaves what the journal held then, with all or a first part of what was put since
@@ -154,9 +154,9 @@ abbrev pub LeavesBetween : Option (List ℕ) → Option (List ℕ) → (List ℕ
 LeavesBetween then now may_leave = (c : List ℕ) → may_leave c → IsBetween then now c
 
 -- a drive that a fault broke off; and of the journal a stop leaves all that was kept before the step that was broken off
-pub record BreaksOff (start : Start) (orders : List Contents) (moment : ℕ) (fault : DriveFault)
+pub record BreaksOff (start : Start) (orders : List (Contents × ℕ)) (fault : DriveFault)
     (first last : Streams) (may_leave : List ℕ → Type 0) : Type 0 where
-  pub drive : IsBrokenDrive start orders moment fault first last
+  pub drive : IsBrokenDrive start orders fault first last
   pub left : LeavesBetween drive.middle.journal last.journal may_leave
 
 -- Which streams have failed

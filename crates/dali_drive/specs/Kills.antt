@@ -72,12 +72,12 @@ pub record WasKilled (limit most : ℕ) (found : List ℕ) (sitting : Sitting) (
 -- a drive over a store came to its end and this happened, or it broke off and this may have happened
 abbrev pub MayHaveDriven : ℕ → ℕ → Streams → List Happening → Streams → Type 0
 MayHaveDriven limit most first trail last =
-    (begun : IsBegun limit most first) × (orders : List Contents) × (moment : ℕ)
+    (begun : IsBegun limit most first) × (orders : List (Contents × ℕ))
     × (((writer : WriterState)
-    × (d : IsDrive (start_of begun.journal) orders moment (record first { journal = begun.middle }) writer last)
+    × (d : IsDrive (start_of begun.journal) orders (record first { journal = begun.middle }) writer last)
     × (trail ≡ d.past))
     ⊎ ((fault : DriveFault)
-    × (b : IsBrokenDrive (start_of begun.journal) orders moment fault (record first { journal = begun.middle }) last)
+    × (b : IsBrokenDrive (start_of begun.journal) orders fault (record first { journal = begun.middle }) last)
     × MayHaveHappened (start_of begun.journal) b.past fault trail))
 
 -- Killed at some moment of such a drive, it would have left this.

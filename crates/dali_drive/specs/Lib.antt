@@ -10,6 +10,7 @@ pub mod Surveys
 pub mod Stored
 pub mod Observed
 pub mod WorkedOn
+pub mod Followed
 pub mod Sittings
 pub mod Kills
 pub mod Repeats

@@ -33,45 +33,45 @@ IsToldEnd told told_end start past fault old new = IsToldAnswer told_end start p
 
 -- a drive, and its observer was told its trace
 pub record IsObserved {B : Type 0} (told : Start → B → B → List Happening → Type 0) (start : Start)
-    (orders : List Contents) (moment : ℕ) (first : Streams) (before : B) (writer : WriterState) (last : Streams)
+    (orders : List (Contents × ℕ)) (first : Streams) (before : B) (writer : WriterState) (last : Streams)
     (after : B) : Type 0 where
-  pub drive : IsDrive start orders moment first writer last
+  pub drive : IsDrive start orders first writer last
   pub told_all : told start before after drive.past
 
 -- a drive that a fault broke off, and its observer was told the trace before that, and of an exchange that was broken off what was
 -- read of its answer
 pub record IsObservedBreak {B : Type 0} (told : Start → B → B → List Happening → Type 0)
     (told_end : Start → B → B → List Happening → DriveFault → Frame → List ℕ → Type 0) (start : Start)
-    (orders : List Contents) (moment : ℕ) (fault : DriveFault) (first : Streams) (before : B) (last : Streams)
+    (orders : List (Contents × ℕ)) (fault : DriveFault) (first : Streams) (before : B) (last : Streams)
     (after : B) (may_leave : List ℕ → Type 0) : Type 0 where
-  pub breaks : BreaksOff start orders moment fault first last may_leave
+  pub breaks : BreaksOff start orders fault first last may_leave
   pub told_all : IsToldEnd (told start before after) (told_end start before after) start breaks.drive.past fault
       breaks.drive.middle.answers last.answers
 
 -- ---- a drive over a store
 
 pub record IsStoredObserved {B : Type 0} (told : Start → B → B → List Happening → Type 0) (limit most : ℕ)
-    (orders : List Contents) (moment : ℕ) (first : Streams) (before : B) (writer : WriterState) (last : Streams)
+    (orders : List (Contents × ℕ)) (first : Streams) (before : B) (writer : WriterState) (last : Streams)
     (after : B) : Type 0 where
   pub begun : IsBegun limit most first
-  pub observed : IsObserved told (start_of begun.journal) orders moment (record first { journal = begun.middle })
+  pub observed : IsObserved told (start_of begun.journal) orders (record first { journal = begun.middle })
       before writer last after
 
 -- a drive over a store that was broken off, and what a stop may leave
 pub record IsStoredBreak {B : Type 0} (told : Start → B → B → List Happening → Type 0)
     (told_end : Start → B → B → List Happening → DriveFault → Frame → List ℕ → Type 0) (limit most : ℕ)
-    (orders : List Contents) (moment : ℕ) (fault : DriveFault) (first : Streams) (before : B) (last : Streams)
+    (orders : List (Contents × ℕ)) (fault : DriveFault) (first : Streams) (before : B) (last : Streams)
     (after : B) (may_leave : List ℕ → Type 0) : Type 0 where
   pub begun : IsBegun limit most first
-  pub observed : IsObservedBreak told told_end (start_of begun.journal) orders moment fault
+  pub observed : IsObservedBreak told told_end (start_of begun.journal) orders fault
       (record first { journal = begun.middle }) before last after may_leave
 
 -- why not all was driven; where no journal was opened the observer was told nothing
 abbrev pub EndsObserved : {B : Type 0} → (Start → B → B → List Happening → Type 0)
     → (Start → B → B → List Happening → DriveFault → Frame → List ℕ → Type 0)
-    → ℕ → ℕ → List Contents → ℕ → StoredFault → Streams → (List ℕ → Type 0) → B → Streams → (List ℕ → Type 0) → B
+    → ℕ → ℕ → List (Contents × ℕ) → StoredFault → Streams → (List ℕ → Type 0) → B → Streams → (List ℕ → Type 0) → B
     → Type 0
-EndsObserved told told_end limit most orders moment (Open fault) first leaves before last leaves_then after =
-    EndsAtFault limit most orders moment (Open fault) first leaves last leaves_then × (after ≡ before)
-EndsObserved told told_end limit most orders moment (Drive fault) first leaves before last leaves_then after =
-    IsStoredBreak told told_end limit most orders moment fault first before last after leaves_then
+EndsObserved told told_end limit most orders (Open fault) first leaves before last leaves_then after =
+    EndsAtFault limit most orders (Open fault) first leaves last leaves_then × (after ≡ before)
+EndsObserved told told_end limit most orders (Drive fault) first leaves before last leaves_then after =
+    IsStoredBreak told told_end limit most orders fault first before last after leaves_then

@@ -43,27 +43,25 @@ KeptWhereWhole start trace past left =
 
 -- From a store that showed these bytes a drive came to its end: its trace happened, and is what the store then shows.
 pub record CameToItsEnd (limit most : ℕ) (found : List ℕ) (sitting : Sitting) (left : List ℕ) : Type 0 where
-  pub orders : List Contents
-  pub moment : ℕ
+  pub orders : List (Contents × ℕ)
   pub first : Streams
   pub writer : WriterState
   pub last : Streams
   pub is_found : first.journal ≡ Some found
-  pub drive : IsStoredDrive limit most orders moment first writer last
+  pub drive : IsStoredDrive limit most orders first writer last
   pub is_left : last.journal ≡ Some left
   pub is : sitting ≡ record { start = start_of drive.begun.journal; past = drive.drive.past }
 
 -- From a store that showed these bytes a drive broke off: all that may have happened did so or did not, and this is
 -- left of what was put last.
 pub record BrokeOff (limit most : ℕ) (found : List ℕ) (sitting : Sitting) (left : List ℕ) : Type 0 where
-  pub orders : List Contents
-  pub moment : ℕ
+  pub orders : List (Contents × ℕ)
   pub fault : DriveFault
   pub first : Streams
   pub last : Streams
   pub is_found : first.journal ≡ Some found
   pub begun : IsBegun limit most first
-  pub drive : IsBrokenDrive (start_of begun.journal) orders moment fault (record first { journal = begun.middle }) last
+  pub drive : IsBrokenDrive (start_of begun.journal) orders fault (record first { journal = begun.middle }) last
   pub is_left : IsBetween drive.middle.journal last.journal left
   pub past : List Happening
   pub happened : MayHaveHappened (start_of begun.journal) drive.past fault past

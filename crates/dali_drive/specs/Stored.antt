@@ -22,10 +22,10 @@ pub record IsBegun (limit most : ℕ) (first : Streams) : Type 0 where
   pub written : Becomes first.journal middle (journal_spelling Two journal.records)
 
 -- a drive from the journal that the store showed, over that store
-pub record IsStoredDrive (limit most : ℕ) (orders : List Contents) (moment : ℕ) (first : Streams) (writer : WriterState)
+pub record IsStoredDrive (limit most : ℕ) (orders : List (Contents × ℕ)) (first : Streams) (writer : WriterState)
     (last : Streams) : Type 0 where
   pub begun : IsBegun limit most first
-  pub drive : IsDrive (start_of begun.journal) orders moment (record first { journal = begun.middle }) writer last
+  pub drive : IsDrive (start_of begun.journal) orders (record first { journal = begun.middle }) writer last
 
 -- no stream but the store was touched
 pub record Untouched (first last : Streams) : Type 0 where
@@ -34,29 +34,29 @@ pub record Untouched (first last : Streams) : Type 0 where
   pub out : Keeps first.out last.out
 
 -- why not all was driven
-abbrev pub IsStoredFault : ℕ → ℕ → List Contents → ℕ → StoredFault → Streams → Streams → Type 0
-IsStoredFault limit most orders moment (Open fault) first last =
+abbrev pub IsStoredFault : ℕ → ℕ → List (Contents × ℕ) → StoredFault → Streams → Streams → Type 0
+IsStoredFault limit most orders (Open fault) first last =
     IsOpenFault limit most first.journal last.journal fault × Untouched first last
-IsStoredFault limit most orders moment (Drive fault) first last =
+IsStoredFault limit most orders (Drive fault) first last =
     (begun : IsBegun limit most first)
-    × IsBrokenDrive (start_of begun.journal) orders moment fault (record first { journal = begun.middle }) last
+    × IsBrokenDrive (start_of begun.journal) orders fault (record first { journal = begun.middle }) last
 
 -- what a stop may leave then: where no journal was opened, what it might have left before or the same records; else at
 -- least what was kept before the step that was broken off
-abbrev pub LeavesAtFault : (limit most : ℕ) (orders : List Contents) (moment : ℕ) (fault : StoredFault)
-    (first last : Streams) → IsStoredFault limit most orders moment fault first last
+abbrev pub LeavesAtFault : (limit most : ℕ) (orders : List (Contents × ℕ)) (fault : StoredFault)
+    (first last : Streams) → IsStoredFault limit most orders fault first last
     → (List ℕ → Type 0) → (List ℕ → Type 0) → Type 0
-LeavesAtFault limit most orders moment (Open fault) first last is before after =
+LeavesAtFault limit most orders (Open fault) first last is before after =
     (c : List ℕ) → after c → LeavesAlike limit first.journal before c
-LeavesAtFault limit most orders moment (Drive fault) first last (begun, broken) before after =
+LeavesAtFault limit most orders (Drive fault) first last (begun, broken) before after =
     LeavesBetween broken.middle.journal last.journal after
 
 -- why not all was driven, and what a stop may leave, before and after
-abbrev pub EndsAtFault : ℕ → ℕ → List Contents → ℕ → StoredFault → Streams → (List ℕ → Type 0) → Streams
+abbrev pub EndsAtFault : ℕ → ℕ → List (Contents × ℕ) → StoredFault → Streams → (List ℕ → Type 0) → Streams
     → (List ℕ → Type 0) → Type 0
-EndsAtFault limit most orders moment fault first before last after =
-    (is : IsStoredFault limit most orders moment fault first last)
-    × LeavesAtFault limit most orders moment fault first last is before after
+EndsAtFault limit most orders fault first before last after =
+    (is : IsStoredFault limit most orders fault first last)
+    × LeavesAtFault limit most orders fault first last is before after
 
 -- which streams have failed where this fault comes, as for a drive
 abbrev pub StoredFailedAs : StoredFault → Bool → Bool → Bool → Bool → Type 0

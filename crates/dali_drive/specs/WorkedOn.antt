@@ -1,5 +1,6 @@
 -- What a drive has come to in its midst.
-use Rattle.std.specs.Prelude.{◌≡◌, ℕ, List, Result, Ok, Err}
+use Rattle.std.specs.Prelude.{◌≡◌, ◌++◌, ℕ, List, Option, Result, Ok, Err, reverse}
+use Rattle.std.specs.Io.KnownBytes.{Appends}
 use Rattle.dali_frame.specs.declared.forward.Frame.{Frame}
 use Rattle.dali_bank.specs.Order.{Contents}
 use Rattle.dali_trace.specs.declared.happening.Happening.{Happening}
@@ -8,7 +9,7 @@ use Rattle.dali_trace.specs.Trace.{Start}
 use Rattle.dali_writer.specs.WriterState.{WriterState}
 use Rattle.dali_writer.specs.Describes.{Describes}
 use Rattle.dali_writer.specs.Follows.{Follows}
-use Rattle.dali_drive.specs.Transcript.{Streams}
+use Rattle.dali_drive.specs.Transcript.{Streams, said_lines}
 use Rattle.dali_drive.specs.Driven.{IsDriven, BrokenOff, LeavesBetween, orders_asked}
 use Rattle.dali_drive.specs.Observed.{IsToldEnd}
 
@@ -19,25 +20,37 @@ pub record IsDrivenAt (start : Start) (past : List Happening) (writer : WriterSt
   pub described : Describes start past writer
   pub follows : Follows start past writer
 
--- after a trace in which just these orders were asked a step was broken off, and a stop may leave this; and this was
--- told of it
-pub record IsBrokenAt (start : Start) (asked : List (Contents × ℕ)) (first : Streams) (fault : DriveFault)
-    (last : Streams) (may_leave : List ℕ → Type 0) (told : List Happening → Type 0)
-    (told_end : List Happening → DriveFault → Frame → List ℕ → Type 0) : Type 0 where
-  pub past : List Happening
-  pub middle : Streams
-  pub driven : IsDriven start past first middle
-  pub broken : (rest : List Contents) → BrokenOff start past rest fault middle last
-  pub left : LeavesBetween middle.journal last.journal may_leave
-  pub asked_are : orders_asked past ≡ asked
-  pub told_all : IsToldEnd told told_end start past fault middle.answers last.answers
+-- more happened behind this trace, in which just these orders were asked and these lines were said; and the whole was
+-- told
+pub record HasWorked (start : Start) (past : List Happening) (orders : List (Contents × ℕ)) (first : Streams)
+    (writer : WriterState) (middle last : Streams) (told : List Happening → Type 0) : Type 0 where
+  pub more : List Happening
+  pub driven_at : IsDrivenAt start (more ++ past) writer first last
+  pub asked : reverse (orders_asked more) ≡ orders
+  pub said : Appends middle.out last.out (said_lines more)
+  pub told_all : told (more ++ past)
 
--- after work in which no order was asked, so that just these were: a trace that was driven, or a step that was broken
--- off; and this was told of it
-abbrev pub WorkedOn : {A : Type 0} → Start → List (Contents × ℕ) → Streams → Result A DriveFault → WriterState
-    → Streams → (List ℕ → Type 0) → (List Happening → Type 0)
+-- more happened behind this trace, in which the first of these orders were asked and these lines were said, and then a
+-- step was broken off; a stop may leave this; and this was told of it
+pub record HasBroken (start : Start) (past : List Happening) (orders : List (Contents × ℕ)) (first : Streams)
+    (fault : DriveFault) (middle last : Streams) (may_leave : List ℕ → Type 0) (told : List Happening → Type 0)
+    (told_end : List Happening → DriveFault → Frame → List ℕ → Type 0) : Type 0 where
+  pub more : List Happening
+  pub unasked : List (Contents × ℕ)
+  pub then : Streams
+  pub driven : IsDriven start (more ++ past) first then
+  pub asked : reverse (orders_asked more) ++ unasked ≡ orders
+  pub said : Appends middle.out then.out (said_lines more)
+  pub broken : (rest : List (Contents × ℕ)) → BrokenOff start (more ++ past) (unasked ++ rest) fault then last
+  pub left : LeavesBetween then.journal last.journal may_leave
+  pub told_all : IsToldEnd told told_end start (more ++ past) fault then.answers last.answers
+
+-- work behind a trace, from the streams as they were then, in which just these orders were asked; or as far as the
+-- step that was broken off
+abbrev pub WorkedOn : {A : Type 0} → Start → List Happening → List (Contents × ℕ) → Streams → Result A DriveFault
+    → WriterState → Streams → Streams → (List ℕ → Type 0) → (List Happening → Type 0)
     → (List Happening → DriveFault → Frame → List ℕ → Type 0) → Type 0
-WorkedOn start asked first (Ok done) writer last may_leave told told_end =
-    (past : List Happening) × IsDrivenAt start past writer first last × (orders_asked past ≡ asked) × told past
-WorkedOn start asked first (Err fault) writer last may_leave told told_end =
-    IsBrokenAt start asked first fault last may_leave told told_end
+WorkedOn start past orders first (Ok done) writer middle last may_leave told told_end =
+    HasWorked start past orders first writer middle last told
+WorkedOn start past orders first (Err fault) writer middle last may_leave told told_end =
+    HasBroken start past orders first fault middle last may_leave told told_end

@@ -1,4 +1,4 @@
-ghost use Rattle.std.specs.Prelude.{◌≡◌, ◌<◌, ℕ, List, true, false, IfOk, IfErr, OnOk};
+ghost use Rattle.std.specs.Prelude.{◌≡◌, ◌<◌, ◌∷◌, [], ℕ, List, true, false, IfOk, IfErr, OnOk};
 ghost use Rattle.std.specs.Io.KnownBytes.{Appends};
 ghost use Rattle.dali_trace.specs.declared.happening.Happening.{Happening};
 ghost use Rattle.dali_trace.specs.Trace.{Start, is_busy};
@@ -6,7 +6,7 @@ ghost use Rattle.dali_writer.specs.WriterState.{start_of, IsAtRest};
 ghost use Rattle.dali_writer.specs.WorkLeft.{work_left};
 ghost use Rattle.dali_writer.specs.Describes.{Describes};
 ghost use Rattle.dali_drive.specs.Transcript.{Streams, shown};
-ghost use Rattle.dali_drive.specs.Driven.{orders_asked, IsDrive, BreaksOff, NoneFailed, FailedAs};
+ghost use Rattle.dali_drive.specs.Driven.{at_moment, IsDrive, BreaksOff, NoneFailed, FailedAs};
 ghost use Rattle.dali_store.specs.Stores.{IsSettled, IsBetween, LeavesOnly};
 ghost use Rattle.dali_drive.specs.WorkedOn.{IsDrivenAt, WorkedOn};
 ghost use Rattle.dali_drive.specs.Observed.{IsObserved, IsObservedBreak};
@@ -39,7 +39,8 @@ fn advance<I: Source, L: Sink, J: Store, O: Sink, B: Observer>(
         → IsDrivenAt start past writer.old first
         (shown (J.seen journal_out.old) (L.held link_out.old) (I.left link_in.old) (O.held out.old))
         → B.told start since observer.old past
-        → WorkedOn start (orders_asked past) first result writer.new
+        → WorkedOn start past [] first result writer.new
+        (shown (J.seen journal_out.old) (L.held link_out.old) (I.left link_in.old) (O.held out.old))
         (shown (J.seen journal_out.new) (L.held link_out.new) (I.left link_in.new) (O.held out.new))
         (J.may_leave journal_out.new) (B.told start since observer.new) (B.told_end start since observer.new) }
     ensures fewer { IfOk result (λ busy. busy ≡ true → work_left writer.new.phase < work_left writer.old.phase) }
@@ -105,7 +106,8 @@ fn work<I: Source, L: Sink, J: Store, O: Sink, B: Observer>(
         → IsDrivenAt start past writer.old first
         (shown (J.seen journal_out.old) (L.held link_out.old) (I.left link_in.old) (O.held out.old))
         → B.told start since observer.old past
-        → WorkedOn start (orders_asked past) first result writer.new
+        → WorkedOn start past [] first result writer.new
+        (shown (J.seen journal_out.old) (L.held link_out.old) (I.left link_in.old) (O.held out.old))
         (shown (J.seen journal_out.new) (L.held link_out.new) (I.left link_in.new) (O.held out.new))
         (J.may_leave journal_out.new) (B.told start since observer.new) (B.told_end start since observer.new) }
     ensures rests { OnOk result (IsAtRest writer.new) }
@@ -153,13 +155,13 @@ pub fn drive<I: Source, L: Sink, J: Store, O: Sink>(
     requires link_out { L.failed link_out.old ≡ false }
     requires link_in { I.failed link_in.old ≡ false }
     requires out { O.failed out.old ≡ false }
-    ensures driven { IfOk result (λ driven. IsDrive (start_of writer.journal) orders.now moment
+    ensures driven { IfOk result (λ driven. IsDrive (start_of writer.journal) (at_moment moment orders.now)
         (shown (J.seen journal_out.old) (L.held link_out.old) (I.left link_in.old) (O.held out.old))
         driven (shown (J.seen journal_out.new) (L.held link_out.new) (I.left link_in.new) (O.held out.new))) }
     ensures rests { IfOk result IsAtRest }
     ensures ok { OnOk result
         (NoneFailed (J.failed journal_out.new) (L.failed link_out.new) (I.failed link_in.new) (O.failed out.new)) }
-    ensures broken { IfErr result (λ fault. BreaksOff (start_of writer.journal) orders.now moment fault
+    ensures broken { IfErr result (λ fault. BreaksOff (start_of writer.journal) (at_moment moment orders.now) fault
         (shown (J.seen journal_out.old) (L.held link_out.old) (I.left link_in.old) (O.held out.old))
         (shown (J.seen journal_out.new) (L.held link_out.new) (I.left link_in.new) (O.held out.new))
         (J.may_leave journal_out.new)) }
@@ -199,7 +201,7 @@ pub fn drive_observed<I: Source, L: Sink, J: Store, O: Sink, B: Observer>(
     requires link_out { L.failed link_out.old ≡ false }
     requires link_in { I.failed link_in.old ≡ false }
     requires out { O.failed out.old ≡ false }
-    ensures driven { IfOk result (λ driven. IsObserved B.told (start_of writer.journal) orders.now moment
+    ensures driven { IfOk result (λ driven. IsObserved B.told (start_of writer.journal) (at_moment moment orders.now)
         (shown (J.seen journal_out.old) (L.held link_out.old) (I.left link_in.old) (O.held out.old)) observer.old
         driven (shown (J.seen journal_out.new) (L.held link_out.new) (I.left link_in.new) (O.held out.new))
         observer.new) }
@@ -207,7 +209,7 @@ pub fn drive_observed<I: Source, L: Sink, J: Store, O: Sink, B: Observer>(
     ensures ok { OnOk result
         (NoneFailed (J.failed journal_out.new) (L.failed link_out.new) (I.failed link_in.new) (O.failed out.new)) }
     ensures broken { IfErr result (λ fault.
-        IsObservedBreak B.told B.told_end (start_of writer.journal) orders.now moment fault
+        IsObservedBreak B.told B.told_end (start_of writer.journal) (at_moment moment orders.now) fault
         (shown (J.seen journal_out.old) (L.held link_out.old) (I.left link_in.old) (O.held out.old)) observer.old
         (shown (J.seen journal_out.new) (L.held link_out.new) (I.left link_in.new) (O.held out.new)) observer.new
         (J.may_leave journal_out.new)) }
@@ -250,7 +252,7 @@ fn drive_all<I: Source, L: Sink, J: Store, O: Sink, B: Observer>(
     requires link_out { L.failed link_out.old ≡ false }
     requires link_in { I.failed link_in.old ≡ false }
     requires out { O.failed out.old ≡ false }
-    ensures driven { OnOk result (IsObserved B.told (start_of writer.old.journal) orders.now moment
+    ensures driven { OnOk result (IsObserved B.told (start_of writer.old.journal) (at_moment moment orders.now)
         (shown (J.seen journal_out.old) (L.held link_out.old) (I.left link_in.old) (O.held out.old)) observer.old
         writer.new (shown (J.seen journal_out.new) (L.held link_out.new) (I.left link_in.new) (O.held out.new))
         observer.new) }
@@ -258,7 +260,7 @@ fn drive_all<I: Source, L: Sink, J: Store, O: Sink, B: Observer>(
     ensures ok { OnOk result
         (NoneFailed (J.failed journal_out.new) (L.failed link_out.new) (I.failed link_in.new) (O.failed out.new)) }
     ensures broken { IfErr result (λ fault.
-        IsObservedBreak B.told B.told_end (start_of writer.old.journal) orders.now moment fault
+        IsObservedBreak B.told B.told_end (start_of writer.old.journal) (at_moment moment orders.now) fault
         (shown (J.seen journal_out.old) (L.held link_out.old) (I.left link_in.old) (O.held out.old)) observer.old
         (shown (J.seen journal_out.new) (L.held link_out.new) (I.left link_in.new) (O.held out.new)) observer.new
         (J.may_leave journal_out.new)) }
@@ -269,19 +271,105 @@ fn drive_all<I: Source, L: Sink, J: Store, O: Sink, B: Observer>(
     ensures any_moment { LeavesOnly J.moment J.left_since journal_out.old journal_out.new
         (IsBetween (J.seen journal_out.old) (J.seen journal_out.new)) }
 {
-    writer.rest();
-    observer.begin(writer.journal());
-    work(writer, link_in, link_out, journal_out, out, observer)?;
+    begin(writer, link_in, link_out, journal_out, out, observer)?;
     for order in orders {
-        let Ok(reply) = writer.submit(order.copy(), moment) else {
-            return Err(DriveFault::NoMemory);
-        };
-        observer.see(&Happening::Asked(order.copy(), moment), writer.journal());
-        if !put_all(out, &reply_line(order.id(), reply)) {
-            return Err(DriveFault::Out);
-        }
-        observer.see(&Happening::Answered(order.id(), reply), writer.journal());
-        work(writer, link_in, link_out, journal_out, out, observer)?;
+        carry_out(
+            writer,
+            order.copy(),
+            moment,
+            link_in,
+            link_out,
+            journal_out,
+            out,
+            observer,
+        )?;
     }
     Ok(())
+}
+
+// Does what the journal leaves unfinished.
+pub(crate) fn begin<I: Source, L: Sink, J: Store, O: Sink, B: Observer>(
+    writer: &mut Writer,
+    link_in: &mut I,
+    link_out: &mut L,
+    journal_out: &mut J,
+    out: &mut O,
+    observer: &mut B,
+) -> Result<(), DriveFault>
+    requires rests { IsAtRest writer.old }
+    requires journal { J.failed journal_out.old ≡ false }
+    requires settled { IsSettled (J.seen journal_out.old) (J.may_leave journal_out.old) }
+    requires link_out { L.failed link_out.old ≡ false }
+    requires link_in { I.failed link_in.old ≡ false }
+    requires out { O.failed out.old ≡ false }
+    ensures worked { WorkedOn (start_of writer.old.journal) [] []
+        (shown (J.seen journal_out.old) (L.held link_out.old) (I.left link_in.old) (O.held out.old)) result writer.new
+        (shown (J.seen journal_out.old) (L.held link_out.old) (I.left link_in.old) (O.held out.old))
+        (shown (J.seen journal_out.new) (L.held link_out.new) (I.left link_in.new) (O.held out.new))
+        (J.may_leave journal_out.new) (B.told (start_of writer.old.journal) observer.old observer.new)
+        (B.told_end (start_of writer.old.journal) observer.old observer.new) }
+    ensures rests { OnOk result (IsAtRest writer.new) }
+    ensures quiet { OnOk result
+        ((start : Start) (past : List Happening) → Describes start past writer.new → is_busy start past ≡ false) }
+    ensures ok { OnOk result
+        (NoneFailed (J.failed journal_out.new) (L.failed link_out.new) (I.failed link_in.new) (O.failed out.new)) }
+    ensures err { IfErr result (λ fault.
+        FailedAs fault (J.failed journal_out.new) (L.failed link_out.new) (I.failed link_in.new) (O.failed out.new)) }
+    ensures settled { OnOk result (IsSettled (J.seen journal_out.new) (J.may_leave journal_out.new)) }
+    ensures grown { (more : List ℕ) × Appends (J.seen journal_out.old) (J.seen journal_out.new) more }
+    ensures any_moment { LeavesOnly J.moment J.left_since journal_out.old journal_out.new
+        (IsBetween (J.seen journal_out.old) (J.seen journal_out.new)) }
+{
+    writer.rest();
+    observer.begin(writer.journal());
+    work(writer, link_in, link_out, journal_out, out, observer)
+}
+
+// Submits an order at a moment, writes its reply, and does the work that it makes.
+pub(crate) fn carry_out<I: Source, L: Sink, J: Store, O: Sink, B: Observer>(
+    writer: &mut Writer,
+    order: Order,
+    moment: u64,
+    link_in: &mut I,
+    link_out: &mut L,
+    journal_out: &mut J,
+    out: &mut O,
+    observer: &mut B,
+) -> Result<(), DriveFault>
+    requires rests { IsAtRest writer.old }
+    requires journal { J.failed journal_out.old ≡ false }
+    requires settled { IsSettled (J.seen journal_out.old) (J.may_leave journal_out.old) }
+    requires link_out { L.failed link_out.old ≡ false }
+    requires link_in { I.failed link_in.old ≡ false }
+    requires out { O.failed out.old ≡ false }
+    ensures worked { (start : Start) (past : List Happening) (first : Streams) (since : B)
+        → IsDrivenAt start past writer.old first
+        (shown (J.seen journal_out.old) (L.held link_out.old) (I.left link_in.old) (O.held out.old))
+        → is_busy start past ≡ false → B.told start since observer.old past
+        → WorkedOn start past ((order, moment) ∷ []) first result writer.new
+        (shown (J.seen journal_out.old) (L.held link_out.old) (I.left link_in.old) (O.held out.old))
+        (shown (J.seen journal_out.new) (L.held link_out.new) (I.left link_in.new) (O.held out.new))
+        (J.may_leave journal_out.new) (B.told start since observer.new) (B.told_end start since observer.new) }
+    ensures rests { OnOk result (IsAtRest writer.new) }
+    ensures quiet { OnOk result
+        ((start : Start) (past : List Happening) → Describes start past writer.new → is_busy start past ≡ false) }
+    ensures ok { OnOk result
+        (NoneFailed (J.failed journal_out.new) (L.failed link_out.new) (I.failed link_in.new) (O.failed out.new)) }
+    ensures err { IfErr result (λ fault.
+        FailedAs fault (J.failed journal_out.new) (L.failed link_out.new) (I.failed link_in.new) (O.failed out.new)) }
+    ensures settled { OnOk result (IsSettled (J.seen journal_out.new) (J.may_leave journal_out.new)) }
+    ensures grown { (more : List ℕ) × Appends (J.seen journal_out.old) (J.seen journal_out.new) more }
+    ensures any_moment { LeavesOnly J.moment J.left_since journal_out.old journal_out.new
+        (IsBetween (J.seen journal_out.old) (J.seen journal_out.new)) }
+{
+    let id = order.id();
+    let Ok(reply) = writer.submit(order.copy(), moment) else {
+        return Err(DriveFault::NoMemory);
+    };
+    observer.see(&Happening::Asked(order, moment), writer.journal());
+    if !put_all(out, &reply_line(id, reply)) {
+        return Err(DriveFault::Out);
+    }
+    observer.see(&Happening::Answered(id, reply), writer.journal());
+    work(writer, link_in, link_out, journal_out, out, observer)
 }

@@ -1,6 +1,6 @@
 //! Laws of drives, over their definitions alone. Each is the contract of a function that does nothing.
 
-ghost use Rattle.std.specs.Prelude.{◌≡◌, ◌∷◌, ◌⊎◌, ℕ, List, Option, Some};
+ghost use Rattle.std.specs.Prelude.{◌≡◌, ◌∷◌, ◌⊎◌, ℕ, List, Option, Some, reverse};
 ghost use Rattle.dali_bank.specs.Order.{Contents};
 ghost use Rattle.dali_bus.specs.World.{World};
 ghost use Rattle.dali_bus.specs.Carry.{WorldStep};
@@ -21,25 +21,27 @@ ghost use Rattle.dali_store.specs.Stores.{IsBetween};
 ghost use Rattle.dali_store.specs.Opened.{Loads, IsOpenFault};
 ghost use Rattle.dali_drive.specs.declared.fault.DriveFault.{DriveFault};
 ghost use Rattle.dali_drive.specs.Transcript.{Streams};
-ghost use Rattle.dali_drive.specs.Driven.{IsBrokenDrive};
+ghost use Rattle.dali_drive.specs.Driven.{IsDrive, IsBrokenDrive};
 ghost use Rattle.dali_drive.specs.Stored.{IsBegun, IsStoredDrive, IsPartBehind};
 ghost use Rattle.dali_drive.specs.Sittings.{CameToItsEnd, BrokeOff};
 ghost use Rattle.dali_drive.specs.Kills.{StoodOnce};
-ghost use Rattle.dali_drive.specs.Repeats.{IsSameFile, HaveSat, ActOnce};
+ghost use Rattle.dali_drive.specs.Repeats.{IsSameFile, HasSat, HaveSat, ActOnce};
+ghost use Rattle.dali_drive.specs.declared.following.Given.{Given};
+ghost use Rattle.dali_drive.specs.Followed.{submitted, happenings, muted, IsFollowed, IsBrokenFollow};
 ghost use Rattle.dali_drive.specs.UnitRead.{IsUnitRead, UnitReadBroke};
 
 /// What a call of `drive_stored` leaves, by its contract: where it came to its end, just its trace; where it broke off,
 /// whatever a stop may leave of it bears out something that may have happened; and where no journal was opened, the
 /// same records, or what a stop might have left before.
 pub fn drives_leave_what_happened()
-    ensures ended { (limit most : ℕ) (orders : List Contents) (moment : ℕ) (found left : List ℕ)
+    ensures ended { (limit most : ℕ) (orders : List (Contents × ℕ)) (found left : List ℕ)
         (first : Streams) (writer : WriterState) (last : Streams)
         → first.journal ≡ Some found → last.journal ≡ Some left
-        → (d : IsStoredDrive limit most orders moment first writer last)
+        → (d : IsStoredDrive limit most orders first writer last)
         → CameToItsEnd limit most found (record { start = start_of d.begun.journal; past = d.drive.past }) left }
-    ensures broken { (limit most : ℕ) (orders : List Contents) (moment : ℕ) (fault : DriveFault) (found left : List ℕ)
+    ensures broken { (limit most : ℕ) (orders : List (Contents × ℕ)) (fault : DriveFault) (found left : List ℕ)
         (first last : Streams) (begun : IsBegun limit most first)
-        (d : IsBrokenDrive (start_of begun.journal) orders moment fault (record first { journal = begun.middle }) last)
+        (d : IsBrokenDrive (start_of begun.journal) orders fault (record first { journal = begun.middle }) last)
         → first.journal ≡ Some found → IsBetween d.middle.journal last.journal left
         → (past : List Happening)
         × BrokeOff limit most found (record { start = start_of begun.journal; past = past }) left }
@@ -51,14 +53,14 @@ pub fn drives_leave_what_happened()
 /// it would have left if it had been killed at some moment of what may have happened: with nothing in hand, or a record
 /// that is cut off.
 pub fn stops_leave_a_part()
-    ensures ended { (limit most : ℕ) (orders : List Contents) (moment : ℕ) (found seen left : List ℕ) (first : Streams)
+    ensures ended { (limit most : ℕ) (orders : List (Contents × ℕ)) (found seen left : List ℕ) (first : Streams)
         (writer : WriterState) (last : Streams) → first.journal ≡ Some found → last.journal ≡ Some seen
-        → IsStoredDrive limit most orders moment first writer last
+        → IsStoredDrive limit most orders first writer last
         → IsPartBehind limit (Some found) (Some seen) left → StoodOnce limit most found left first last }
-    ensures broken { (limit most : ℕ) (orders : List Contents) (moment : ℕ) (fault : DriveFault)
+    ensures broken { (limit most : ℕ) (orders : List (Contents × ℕ)) (fault : DriveFault)
         (found seen left : List ℕ) (first last : Streams) (begun : IsBegun limit most first)
         → first.journal ≡ Some found → last.journal ≡ Some seen
-        → IsBrokenDrive (start_of begun.journal) orders moment fault (record first { journal = begun.middle }) last
+        → IsBrokenDrive (start_of begun.journal) orders fault (record first { journal = begun.middle }) last
         → IsPartBehind limit (Some found) (Some seen) left → StoodOnce limit most found left first last }
 {}
 
@@ -77,6 +79,27 @@ pub fn drives_act_once()
         → unpowered past ≡ joined sittings → IsPowerApart past
         → Along zero lost start now past last states
         → ActOnce zero lost start sittings left past last states }
+{}
+
+/// Orders that are followed are one drive of those that were given, each at its moment; and over a store they leave
+/// what such a drive leaves, whether they came to their end or broke off. So all that is so of drives one after
+/// another is so of them.
+pub fn followed_orders_are_driven()
+    ensures drive { (start : Start) (given : List Given) (first : Streams) (writer : WriterState) (last : Streams)
+        → IsFollowed start given first writer last
+        → IsDrive start (reverse (submitted given)) (muted first) writer last }
+    ensures ended { (limit most : ℕ) (given : List Given) (found left : List ℕ) (first : Streams)
+        (writer : WriterState) (last : Streams) (begun : IsBegun limit most first)
+        (follow : IsFollowed (start_of begun.journal) given (record first { journal = begun.middle }) writer last)
+        → first.journal ≡ Some found → last.journal ≡ Some left
+        → CameToItsEnd limit most found
+        (record { start = start_of begun.journal; past = happenings follow.steps }) left }
+    ensures broken { (limit most : ℕ) (given : List Given) (fault : DriveFault) (found left : List ℕ)
+        (first last : Streams) (begun : IsBegun limit most first)
+        (follow : IsBrokenFollow (start_of begun.journal) given fault (record first { journal = begun.middle }) last)
+        → first.journal ≡ Some found → IsBetween follow.then.journal last.journal left
+        → (past : List Happening)
+        × HasSat limit most found (record { start = start_of begun.journal; past = past }) left }
 {}
 
 /// What a call of `read_unit` gives, by its contract, along every chain of worlds over any bus, with losses of power

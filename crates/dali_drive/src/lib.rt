@@ -5,6 +5,7 @@
 
 mod driving;
 mod fault;
+mod following;
 pub mod laws;
 mod lines;
 mod link;
@@ -18,6 +19,8 @@ mod survey_lines;
 
 pub use driving::{drive, drive_observed};
 pub use fault::DriveFault;
+pub use following::{Given, Orders, follow, follow_stored};
+pub use lines::Line;
 pub use link::exchange;
 pub use observer::{FindingObserver, Nobody, Observer};
 pub use reading::read_unit;

@@ -22,8 +22,8 @@ pub(crate) type AnswerText = ArrayVec<u8, MOST_ANSWER>;
 // No line that is written has more bytes: a number has at most twenty digits.
 const MOST_LINE: usize = 80;
 
-// A line that is written.
-pub(crate) type Line = ArrayVec<u8, MOST_LINE>;
+/// A line that is written, of at most 80 bytes.
+pub type Line = ArrayVec<u8, MOST_LINE>;
 
 // The answer on a line, which may end in a carriage return.
 fn answer_on(line: &[u8]) -> Result<Option<u8>, LineFault>

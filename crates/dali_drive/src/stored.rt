@@ -4,7 +4,7 @@ ghost use Rattle.dali_store.specs.Stores.{IsSettled, LeavesOnly};
 ghost use Rattle.dali_drive.specs.Stored.{IsStoredDrive, EndsAtFault, StoredFailedAs, LeavesPart};
 ghost use Rattle.dali_drive.specs.Observed.{IsStoredObserved, EndsObserved};
 ghost use Rattle.dali_drive.specs.Transcript.{shown};
-ghost use Rattle.dali_drive.specs.Driven.{NoneFailed};
+ghost use Rattle.dali_drive.specs.Driven.{at_moment, NoneFailed};
 ghost use Rattle.dali_writer.specs.WriterState.{IsAtRest};
 
 use crate::driving::drive_observed;
@@ -45,13 +45,13 @@ pub fn drive_stored<I: Source, L: Sink, S: Store, O: Sink>(
     requires link_out { L.failed link_out.old ≡ false }
     requires link_in { I.failed link_in.old ≡ false }
     requires out { O.failed out.old ≡ false }
-    ensures driven { IfOk result (λ writer. IsStoredDrive limit most orders.now moment
+    ensures driven { IfOk result (λ writer. IsStoredDrive limit most (at_moment moment orders.now)
         (shown (S.seen store.old) (L.held link_out.old) (I.left link_in.old) (O.held out.old))
         writer (shown (S.seen store.new) (L.held link_out.new) (I.left link_in.new) (O.held out.new))) }
     ensures rests { IfOk result IsAtRest }
     ensures ok { OnOk result
         (NoneFailed (S.failed store.new) (L.failed link_out.new) (I.failed link_in.new) (O.failed out.new)) }
-    ensures broken { IfErr result (λ fault. EndsAtFault limit most orders.now moment fault
+    ensures broken { IfErr result (λ fault. EndsAtFault limit most (at_moment moment orders.now) fault
         (shown (S.seen store.old) (L.held link_out.old) (I.left link_in.old) (O.held out.old)) (S.may_leave store.old)
         (shown (S.seen store.new) (L.held link_out.new) (I.left link_in.new) (O.held out.new)) (S.may_leave store.new)) }
     ensures err { IfErr result (λ fault. StoredFailedAs fault
@@ -91,13 +91,13 @@ pub fn drive_stored_observed<I: Source, L: Sink, S: Store, O: Sink, B: Observer>
     requires link_out { L.failed link_out.old ≡ false }
     requires link_in { I.failed link_in.old ≡ false }
     requires out { O.failed out.old ≡ false }
-    ensures driven { IfOk result (λ writer. IsStoredObserved B.told limit most orders.now moment
+    ensures driven { IfOk result (λ writer. IsStoredObserved B.told limit most (at_moment moment orders.now)
         (shown (S.seen store.old) (L.held link_out.old) (I.left link_in.old) (O.held out.old)) observer.old
         writer (shown (S.seen store.new) (L.held link_out.new) (I.left link_in.new) (O.held out.new)) observer.new) }
     ensures rests { IfOk result IsAtRest }
     ensures ok { OnOk result
         (NoneFailed (S.failed store.new) (L.failed link_out.new) (I.failed link_in.new) (O.failed out.new)) }
-    ensures broken { IfErr result (λ fault. EndsObserved B.told B.told_end limit most orders.now moment fault
+    ensures broken { IfErr result (λ fault. EndsObserved B.told B.told_end limit most (at_moment moment orders.now) fault
         (shown (S.seen store.old) (L.held link_out.old) (I.left link_in.old) (O.held out.old)) (S.may_leave store.old)
         observer.old
         (shown (S.seen store.new) (L.held link_out.new) (I.left link_in.new) (O.held out.new)) (S.may_leave store.new)

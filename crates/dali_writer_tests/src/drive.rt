@@ -1,5 +1,6 @@
 mod driving;
 mod failing_store;
+mod following;
 mod stops;
 mod streams;
 mod sweeps;

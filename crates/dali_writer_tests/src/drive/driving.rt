@@ -36,12 +36,12 @@ const SILENT: &str = "reply 1 kept 3 Silent\n";
 const TAKEN_AND_SILENT: &str = "reply 1 taken\nreply 1 kept 3 Silent\n";
 
 // The sixteen frames that find no unit 9.
-fn silent_link(alloc: Global) -> Result<Vec<u8>, Fail> {
+pub(crate) fn silent_link(alloc: Global) -> Result<Vec<u8>, Fail> {
     Ok(b"C301\n139C\n".repeat(alloc, 8)?)
 }
 
 // As many answers of no unit.
-fn silence(alloc: Global) -> Result<Vec<u8>, Fail> {
+pub(crate) fn silence(alloc: Global) -> Result<Vec<u8>, Fail> {
     Ok(b"--\n".repeat(alloc, 16)?)
 }
 
@@ -103,7 +103,7 @@ fn an_absent_unit(rt: HostRuntime) -> Result<(), Fail> {
 }
 
 // The same records where the order was submitted at 1700000000.
-const SILENT_LATER: [u8; 33] = [
+pub(crate) const SILENT_LATER: [u8; 33] = [
     0x42, 0x00, 0x00, 0x00, 0x00, 0x00, 0x00, 0x00, 0x01, 0x00, 0x00, 0x00, 0x00, 0x65, 0x53, 0xF1,
     0x00, 0x09, 0x06, 0x03, 0x03, 0x04, 0xA4, 0x05, 0xCE, 0x06, 0xEF, 0x07, 0xAD, 0x08, 0xAB, 0x45,
     0x03,

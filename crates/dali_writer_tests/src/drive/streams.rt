@@ -4,7 +4,7 @@ ghost use Rattle.dali_drive.specs.Streams.{Puts, is_refusal};
 
 use crate::gtin::HEADER;
 use dali_bank::Order;
-use dali_drive::{DriveFault, Got, Sink, Source, drive};
+use dali_drive::{DriveFault, Got, Nobody, Orders, Sink, Source, drive, follow};
 use dali_journal::Journal;
 use dali_store::{Store, StoreFault};
 use dali_writer::Writer;
@@ -284,20 +284,71 @@ pub(crate) fn drive_from(
         &mut journal_out,
         &mut out,
     );
+    Ok(left_of(
+        driven.err(),
+        answers,
+        link_in,
+        link_out,
+        journal_out,
+        out,
+    ))
+}
+
+// Follows what a source gives with a writer that goes on from what a file holds.
+pub(crate) fn follow_from<G: Orders + Drop>(
+    alloc: Global,
+    file: &[u8],
+    orders: &mut G,
+    answers: &[u8],
+    good: Good,
+) -> Result<Left, Fail> {
+    let (journal, _, _) = Journal::load(alloc, 10, file)?;
+    let mut link_in = Script::new(answers, good.answers);
+    let mut link_out = Shelf::new(alloc, good.link, good.link_flushes, good.counts);
+    let mut journal_out = Shelf::new(alloc, good.journal, good.journal_flushes, good.counts);
+    let mut out = Shelf::new(alloc, good.out, 0, good.counts);
+    let followed = follow(
+        Writer::new(journal),
+        orders,
+        &mut link_in,
+        &mut link_out,
+        &mut journal_out,
+        &mut out,
+        &mut Nobody,
+    );
+    Ok(left_of(
+        followed.err(),
+        answers,
+        link_in,
+        link_out,
+        journal_out,
+        out,
+    ))
+}
+
+// What stands in the streams, and what was taken of these answers.
+fn left_of(
+    fault: Option<DriveFault>,
+    answers: &[u8],
+    link_in: Script<'_>,
+    link_out: Shelf,
+    journal_out: Shelf,
+    out: Shelf,
+) -> Left {
     let failed = [
         link_in.failed,
         link_out.failed,
         journal_out.failed,
         out.failed,
     ];
-    Ok(Left {
-        fault: driven.err(),
+    Left {
+        fault,
         taken: answers.len().saturating_sub(link_in.bytes.len()),
         link: link_out.bytes,
         journal: journal_out.bytes,
         out: out.bytes,
         failed,
-    })
+    }
 }
 
 // A reader and writer whose first calls fail so. Then it gives and takes at most so many bytes in a call.

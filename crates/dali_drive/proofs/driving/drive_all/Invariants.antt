@@ -17,7 +17,7 @@ invariant-loop-order g l = record {
       (g.O.Sink.held l.fn.out))
       (shown (g.J.Store.seen l.journal_out) (g.L.Sink.held l.link_out) (g.I.Source.left l.link_in)
       (g.O.Sink.held l.out));
-  orders : orders_asked past ≡ reverse (at_moment l.moment (take l.order-index l.orders));
+  orders : reverse (orders_asked past) ≡ at_moment l.moment (take l.order-index l.orders);
   told : g.B.Observer.told (start_of l.fn.writer.journal) l.fn.observer l.observer past;
   rests : IsAtRest l.writer;
   quiet : is_busy (start_of l.fn.writer.journal) past ≡ false;

@@ -1,5 +1,7 @@
-use Rattle.std.proofs.Common.{◌∙◌, refl}
+use Rattle.std.proofs.Common.{[], ◌++◌, refl}
 use Rattle.std.proofs.lemmas.Result.{err_from_is_err_and}
+use Rattle.std.proofs.KnownBytes.{Appends-nil}
+use Rattle.dali_drive.proofs.WorkLemmas.{works_on, breaks_on}
 use Rattle.dali_drive.proofs.StoreLemmas.{untouched, then_on, none_more, more_of}
 use Rattle.dali_drive.proofs.driving.work.Goals as goal
 
@@ -7,8 +9,8 @@ pub loop-preserved : goal.loop-preserved
 loop-preserved g c = record {
   worked = λ start past first since d told.
       let before = c.loop.invariant.worked start past first since d told in
-      let next = c.in_ok-advance.ensures.worked start before.0 first since before.1 before.3 in
-      (next.0, next.1, next.2 ∙ before.2, next.3);
+      works_on start past [] [] first _ _ _ _ before _ _ _
+      (c.in_ok-advance.ensures.worked start (before.more ++ past) first since before.driven_at before.told_all);
   journal = c.in_ok-advance.ensures.ok.0;
   settled = c.in_ok-advance.ensures.settled;
   grown = more_of _ _ _ c.loop.invariant.grown c.in_ok-advance.ensures.grown;
@@ -24,27 +26,26 @@ loop-preserved g c = record {
 pub returns-clause-worked : goal.returns-clause-worked
 returns-clause-worked g c = λ start past first since d told.
     let before = c.loop.invariant.worked start past first since d told in
-    let next = c.in_ok-advance.ensures.worked start before.0 first since before.1 before.3 in
-    (next.0, next.1, next.2 ∙ before.2, next.3)
+    works_on start past [] [] first _ _ _ _ before _ _ _
+    (c.in_ok-advance.ensures.worked start (before.more ++ past) first since before.driven_at before.told_all)
 
 pub returns-in_err-advance-clause-worked : goal.returns-in_err-advance-clause-worked
 returns-in_err-advance-clause-worked g c = λ start past first since d told.
     let before = c.loop.invariant.worked start past first since d told in
-    let next = c.in_err-advance.ensures.worked start before.0 first since before.1 before.3 in
+    let next =
+    c.in_err-advance.ensures.worked start (before.more ++ past) first since before.driven_at before.told_all in
     let p = err_from_is_err_and c.from_residual.result c.from_residual.ensures.1 in
-    rw (p.1, p.2) (record {
-      past = next.past;
-      middle = next.middle;
-      driven = next.driven;
-      broken = next.broken;
-      left = next.left;
-      asked_are = next.asked_are ∙ before.2;
-      told_all = next.told_all;
-    })
+    rw (p.1, p.2) (breaks_on start past [] [] first _ _ _ _ before _ _ _ _ _ next)
 
 pub loop-init : goal.loop-init
 loop-init g c = record {
-  worked = λ start past first since d told. (past, d, refl, told);
+  worked = λ start past first since d told. record {
+    more = [];
+    driven_at = d;
+    asked = refl;
+    said = Appends-nil (g.O.Sink.held c.args.out.now);
+    told_all = told;
+  };
   journal = c.requires.journal;
   settled = c.requires.settled;
   grown = none_more (g.J.Store.seen c.args.journal_out.now);

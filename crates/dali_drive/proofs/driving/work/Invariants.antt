@@ -1,10 +1,9 @@
-use Rattle.std.proofs.Common.{◌≡◌, ℕ, List, Ok, false}
+use Rattle.std.proofs.Common.{◌≡◌, ℕ, List, [], false}
 use Rattle.dali_trace.specs.declared.happening.Happening.{Happening}
 use Rattle.dali_trace.specs.Trace.{Start}
 use Rattle.dali_writer.specs.WorkLeft.{work_left}
 use Rattle.dali_drive.specs.Transcript.{Streams, shown}
-use Rattle.dali_drive.specs.Driven.{orders_asked}
-use Rattle.dali_drive.specs.WorkedOn.{IsDrivenAt, WorkedOn}
+use Rattle.dali_drive.specs.WorkedOn.{IsDrivenAt, HasWorked}
 use Rattle.std.specs.Io.KnownBytes.{Appends}
 use Rattle.dali_store.specs.Stores.{IsSettled, IsBetween, LeavesOnly}
 use Rattle.dali_drive.proofs.driving.work.Given as goal
@@ -15,9 +14,11 @@ invariant-loop g l = record {
       → IsDrivenAt start past l.fn.writer first (shown (g.J.Store.seen l.fn.journal_out) (g.L.Sink.held l.fn.link_out)
       (g.I.Source.left l.fn.link_in) (g.O.Sink.held l.fn.out))
       → g.B.Observer.told start since l.fn.observer past
-      → WorkedOn start (orders_asked past) first (Ok false) l.writer (shown (g.J.Store.seen l.journal_out)
-      (g.L.Sink.held l.link_out) (g.I.Source.left l.link_in) (g.O.Sink.held l.out)) (g.J.Store.may_leave l.journal_out)
-      (g.B.Observer.told start since l.observer) (g.B.Observer.told_end start since l.observer);
+      → HasWorked start past [] first l.writer
+      (shown (g.J.Store.seen l.fn.journal_out) (g.L.Sink.held l.fn.link_out) (g.I.Source.left l.fn.link_in)
+      (g.O.Sink.held l.fn.out))
+      (shown (g.J.Store.seen l.journal_out) (g.L.Sink.held l.link_out) (g.I.Source.left l.link_in) (g.O.Sink.held l.out))
+      (g.B.Observer.told start since l.observer);
   journal : g.J.Store.failed l.journal_out ≡ false;
   settled : IsSettled (g.J.Store.seen l.journal_out) (g.J.Store.may_leave l.journal_out);
   grown : (more : List ℕ) × Appends (g.J.Store.seen l.fn.journal_out) (g.J.Store.seen l.journal_out) more;

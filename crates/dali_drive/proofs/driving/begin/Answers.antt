@@ -1,0 +1,10 @@
+use Rattle.std.proofs.Common.{[], refl}
+use Rattle.dali_writer.specs.WriterState.{start_of}
+use Rattle.dali_drive.proofs.DriveLemmas.{begun_at}
+use Rattle.dali_drive.proofs.driving.begin.Goals as goal
+
+pub returns-clause-worked : goal.returns-clause-worked
+returns-clause-worked g c =
+    c.work.ensures.worked (start_of c.args.writer.now.journal) [] _ c.args.observer.now
+    (begun_at (start_of c.args.writer.now.journal) c.args.writer.now _ _ _ _ c.rest.ensures.described
+    c.rest.ensures.follows) (c.begin.ensures (start_of c.args.writer.now.journal) (rw c.journal.ensures refl))

@@ -6,6 +6,7 @@ pub mod SittingLemmas
 pub mod KillLemmas
 pub mod RepeatLemmas
 pub mod WorkLemmas
+pub mod HandedLemmas
 pub mod FollowLemmas
 pub mod WorkedDriveLemmas
 pub mod WorkedSittingLemmas

@@ -7,6 +7,7 @@ pub mod KillLemmas
 pub mod RepeatLemmas
 pub mod WorkLemmas
 pub mod HandedLemmas
+pub mod HandedDriveLemmas
 pub mod FollowLemmas
 pub mod WorkedDriveLemmas
 pub mod WorkedSittingLemmas

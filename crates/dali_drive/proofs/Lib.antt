@@ -6,6 +6,8 @@ pub mod SittingLemmas
 pub mod KillLemmas
 pub mod RepeatLemmas
 pub mod WorkLemmas
+pub mod HandedLemmas
+pub mod HandedDriveLemmas
 pub mod FollowLemmas
 pub mod FollowLawLemmas
 pub mod WorkedDriveLemmas

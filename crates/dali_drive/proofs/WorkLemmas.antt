@@ -44,7 +44,7 @@ pub in_order : (newer older : List Happening)
     → reverse (orders_asked (newer ++ older)) ≡ reverse (orders_asked older) ++ reverse (orders_asked newer)
 in_order newer older = ap reverse (asked_both newer older) ∙ reverse-append (orders_asked newer) (orders_asked older)
 
-both_said : (newer older : List Happening) (first middle last : Option (List ℕ))
+pub both_said : (newer older : List Happening) (first middle last : Option (List ℕ))
     → Appends first middle (said_lines older) → Appends middle last (said_lines newer)
     → Appends first last (said_lines (newer ++ older))
 both_said newer older first middle last then now =

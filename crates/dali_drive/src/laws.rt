@@ -1,6 +1,6 @@
 //! Laws of drives, over their definitions alone. Each is the contract of a function that does nothing.
 
-ghost use Rattle.std.specs.Prelude.{◌≡◌, ◌∷◌, ◌⊎◌, ℕ, List, Option, Some, reverse};
+ghost use Rattle.std.specs.Prelude.{◌≡◌, ◌∷◌, ◌++◌, ◌⊎◌, ℕ, List, Option, Some, reverse};
 ghost use Rattle.dali_bank.specs.Order.{Contents};
 ghost use Rattle.dali_bus.specs.World.{World};
 ghost use Rattle.dali_bus.specs.Carry.{WorldStep};
@@ -13,7 +13,7 @@ ghost use Rattle.dali_read.specs.Shown.{Finds, ShowsBank, WhenTold};
 ghost use Rattle.dali_trace.specs.declared.happening.Happening.{Happening};
 ghost use Rattle.dali_trace.specs.Trace.{Start};
 ghost use Rattle.dali_trace.specs.Moments.{Along};
-ghost use Rattle.dali_writer.specs.WriterState.{WriterState, start_of};
+ghost use Rattle.dali_writer.specs.WriterState.{WriterState, start_of, IsAtRest};
 ghost use Rattle.dali_laws.specs.Powered.{unpowered, IsPowerApart};
 ghost use Rattle.dali_laws.specs.Joined.{Sitting, joined, FollowOn};
 ghost use Rattle.dali_store.specs.declared.opening.OpenFault.{OpenFault};
@@ -47,6 +47,16 @@ pub fn drives_leave_what_happened()
         × BrokeOff limit most found (record { start = start_of begun.journal; past = past }) left }
     ensures unopened { (limit most : ℕ) (found left : List ℕ) (fault : OpenFault)
         → IsOpenFault limit most (Some found) (Some left) fault → IsSameFile limit found left }
+{}
+
+/// One drive after another, with the writer handed on, is one drive: from the first one's start, of the orders of both
+/// in their order, with all that both wrote and read and nothing between. The second one starts from the journal of
+/// the writer that the first one leaves; the last writer is at rest, as `drive` leaves it.
+pub fn drives_handed_on_are_one()
+    ensures { (start : Start) (orders more : List (Contents × ℕ)) (first middle last : Streams)
+        (handed writer : WriterState)
+        → IsDrive start orders first handed middle → IsDrive (start_of handed.journal) more middle writer last
+        → IsAtRest writer → IsDrive start (orders ++ more) first writer last }
 {}
 
 /// Whatever a stop may leave at some moment of a drive over a store, behind the journal that was opened there, is what

@@ -1,7 +1,6 @@
 -- How a driven trace grows, and how it is broken off.
-use Rattle.std.proofs.Common.{◌≡◌, ◌<◌, ◌≤◌, ◌+◌, ◌∙◌, refl, sym, ap, subst, get_or, inl, inr, ℕ, suc, List, [], ◌∷◌, ◌++◌}
-use Rattle.std.proofs.Common.{Option, false, length, take, drop, drop-cons, reverse}
-use Rattle.std.proofs.lemmas.List.{take_more, take_all, take-append-drop, reverse-append, reverse-reverse}
+use Rattle.std.proofs.Common.{◌≡◌, ◌≤◌, ◌∙◌, refl, sym, ap, subst, inl, inr, ℕ, List, [], ◌∷◌, ◌++◌}
+use Rattle.std.proofs.Common.{Option, false, length, take}
 use Rattle.std.specs.Io.KnownBytes.{Appends}
 use Rattle.std.proofs.KnownBytes.{Appends-trans, Appends-nil, Consumes-trans, Consumes-nil, Keeps-refl}
 use Rattle.dali_frame.specs.declared.forward.Frame.{Frame}

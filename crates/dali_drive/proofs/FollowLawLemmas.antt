@@ -1,5 +1,5 @@
 -- Orders that are followed are driven.
-use Rattle.std.proofs.Common.{◌≡◌, ◌∙◌, refl, sym, ap, append-nil, inl, inr, ℕ, List, [], ◌∷◌, ◌++◌, ◌⊎◌, reverse, Some}
+use Rattle.std.proofs.Common.{◌≡◌, ◌∙◌, refl, sym, ap, append-nil, inl, inr, ℕ, List, [], ◌∷◌, ◌++◌, reverse, Some}
 use Rattle.std.proofs.lemmas.List.{reverse-append, reverse-reverse}
 use Rattle.dali_bank.specs.Order.{Contents}
 use Rattle.dali_journal.specs.declared.version.Version.TheVariants.{Two}
@@ -12,7 +12,6 @@ use Rattle.dali_store.specs.Stores.{IsBetween}
 use Rattle.dali_drive.specs.declared.fault.DriveFault.{DriveFault}
 use Rattle.dali_drive.specs.declared.fault.DriveFault.TheVariants.{Journal, Link, Line, End, NoMemory, TooLong, Out}
 use Rattle.dali_drive.specs.declared.following.Given.{Given}
-use Rattle.dali_drive.specs.declared.following.Given.TheVariants as gives
 use Rattle.dali_drive.specs.Transcript.{Streams}
 use Rattle.dali_drive.specs.Driven.{orders_asked, IsDrive, IsBrokenDrive}
 use Rattle.dali_drive.specs.Stored.{IsBegun}
@@ -21,7 +20,7 @@ use Rattle.dali_drive.specs.Repeats.{HasSat}
 use Rattle.dali_drive.specs.Followed.{Step, happenings, given_in, submitted, as_given, muted, IsFollowed}
 use Rattle.dali_drive.specs.Followed.{BrokenLine, BrokenOrder, BrokenStep, IsBrokenFollow}
 use Rattle.dali_drive.specs.Followed.Step.{Happened, Told}
-use Rattle.dali_drive.proofs.SittingLemmas.{made, drive_holds, shows_still, between_still, some_broken}
+use Rattle.dali_drive.proofs.SittingLemmas.{made, drive_holds, between_still, some_broken}
 
 -- the orders that were asked are those that were given
 asked_given : (steps : List Step) → orders_asked (happenings steps) ≡ submitted (given_in steps)

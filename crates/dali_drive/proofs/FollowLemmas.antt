@@ -1,6 +1,6 @@
 -- How orders are followed: work behind what was done, and a line that is told.
 use Rattle.std.proofs.Common.{◌≡◌, ◌∙◌, refl, sym, ap, subst, append_assoc, append-nil, ℕ, List, [], ◌∷◌, ◌++◌, map, reverse, inl, inr}
-use Rattle.std.proofs.Common.{Option, Result, Ok, Err, OnOk, None, false}
+use Rattle.std.proofs.Common.{Option, Result, Ok, Err, OnOk, false}
 use Rattle.std.proofs.lemmas.List.{reverse-append, reverse-reverse, map-append}
 use Rattle.std.specs.Io.KnownBytes.{Appends}
 use Rattle.std.proofs.KnownBytes.{Appends-trans, Appends-nil, Keeps-refl}
@@ -22,7 +22,7 @@ use Rattle.dali_drive.specs.Driven.{orders_asked, IsDriven, LeavesBetween}
 use Rattle.dali_drive.specs.Observed.{IsToldEnd}
 use Rattle.dali_drive.specs.WorkedOn.{IsDrivenAt, HasWorked, HasBroken, WorkedOn}
 use Rattle.dali_drive.specs.Followed.{Step, happenings, told_lines, given_in, as_given, muted, IsFollowedAt}
-use Rattle.dali_drive.specs.Followed.{IsFollowed, BrokenLine, BrokenOrder, BrokenStep, BreaksFollow, GivenOn}
+use Rattle.dali_drive.specs.Followed.{IsFollowed, BrokenOrder, BrokenStep, BreaksFollow, GivenOn}
 use Rattle.dali_drive.proofs.DriveLemmas.{IsCut}
 use Rattle.dali_drive.specs.Followed.Step.{Happened, Told}
 
@@ -232,7 +232,7 @@ module _ (start : Start) (given : List Given) (first : Streams) (then : WriterSt
       → GivenOn start (gives.Order order moment ∷ given) first result writer last may_leave told told_end
   order_on (Ok done) worked quiet =
       let at = follows_on start follow.steps given first then middle follow.at ((order, moment) ∷ []) writer last told
-          worked in (
+      worked in (
         record {
           steps = map Happened worked.more ++ follow.steps;
           at = at;

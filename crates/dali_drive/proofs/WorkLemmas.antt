@@ -1,5 +1,5 @@
 -- Work behind work, and the orders that were asked in both.
-use Rattle.std.proofs.Common.{◌≡◌, ◌<◌, ◌≤◌, ◌+◌, ◌∙◌, refl, sym, ap, subst, append_assoc, append-nil, get_or, ℕ, suc, List, [], ◌∷◌, ◌++◌}
+use Rattle.std.proofs.Common.{◌≡◌, ◌<◌, ◌≤◌, ◌+◌, ◌∙◌, refl, sym, ap, append_assoc, append-nil, get_or, ℕ, suc, List, [], ◌∷◌, ◌++◌}
 use Rattle.std.proofs.Common.{Option, Result, Ok, Err, length, take, drop, drop-cons, reverse}
 use Rattle.std.proofs.lemmas.List.{take_more, take_all, take-append-drop, reverse-append}
 use Rattle.std.specs.Io.KnownBytes.{Appends}
@@ -13,9 +13,8 @@ use Rattle.dali_trace.specs.Trace.{Start}
 use Rattle.dali_writer.specs.WriterState.{WriterState}
 use Rattle.dali_drive.specs.declared.fault.DriveFault.{DriveFault}
 use Rattle.dali_drive.specs.Transcript.{Streams, said_lines}
-use Rattle.dali_drive.specs.Driven.{at_moment, orders_asked, IsDriven, BrokenOff}
-use Rattle.dali_drive.specs.Observed.{IsToldEnd}
-use Rattle.dali_drive.specs.WorkedOn.{IsDrivenAt, HasWorked, HasBroken, WorkedOn}
+use Rattle.dali_drive.specs.Driven.{at_moment, orders_asked}
+use Rattle.dali_drive.specs.WorkedOn.{HasWorked, HasBroken, WorkedOn}
 use Rattle.dali_drive.proofs.DriveLemmas.{at_append}
 
 asked_both : (newer older : List Happening) → orders_asked (newer ++ older) ≡ orders_asked newer ++ orders_asked older

@@ -192,15 +192,7 @@ fn follow_all<I: Source, L: Sink, J: Store, O: Sink, G: Orders, B: Observer>(
         let Some(given) = orders.next() else {
             return Ok(());
         };
-        take(
-            writer,
-            given,
-            link_in,
-            link_out,
-            journal_out,
-            out,
-            observer,
-        )?;
+        take(writer, given, link_in, link_out, journal_out, out, observer)?;
     }
     Ok(())
 }

@@ -1,4 +1,4 @@
-use Rattle.std.proofs.Common.{refl, ◌∙◌}
+use Rattle.std.proofs.Common.{refl}
 use Rattle.dali_commands.proofs.DriveLemmas.{unflushed, flushed, not_unwritten, failed_now, never_failed}
 use Rattle.dali_commands.proofs.drive_lines.tell_text.Goals as goal
 

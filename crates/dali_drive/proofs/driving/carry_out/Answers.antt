@@ -1,4 +1,4 @@
-use Rattle.std.proofs.Common.{◌∙◌, [], ◌∷◌, ◌++◌, refl, ap, subst, ℕ}
+use Rattle.std.proofs.Common.{◌∙◌, [], ◌∷◌, refl, ap, subst, ℕ}
 use Rattle.std.specs.Io.KnownBytes.{Appends}
 use Rattle.std.proofs.KnownBytes.{Appends-nil}
 use Rattle.dali_trace.specs.declared.happening.Happening.TheVariants.{Asked, Answered}

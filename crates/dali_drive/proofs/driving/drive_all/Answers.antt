@@ -1,4 +1,4 @@
-use Rattle.std.proofs.Common.{◌∙◌, suc, [], ◌∷◌, ◌++◌, refl, drop}
+use Rattle.std.proofs.Common.{◌∙◌, suc, [], ◌++◌, refl, drop}
 use Rattle.std.proofs.lemmas.Result.{err_from_is_err_and}
 use Rattle.dali_drive.specs.Driven.{at_moment}
 use Rattle.dali_drive.proofs.WorkLemmas.{in_order, first_asked, asked_more, asked_then, asked_all}

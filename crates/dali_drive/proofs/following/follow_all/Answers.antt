@@ -1,6 +1,5 @@
 use Rattle.std.proofs.Common.{[], ◌∷◌, refl, inl, inr, arith}
 use Rattle.std.proofs.lemmas.Result.{err_from_is_err_and}
-use Rattle.dali_writer.specs.WriterState.{start_of}
 use Rattle.dali_drive.proofs.FollowLemmas.{begins, begins_broken}
 use Rattle.dali_drive.proofs.StoreLemmas.{then_on, more_of}
 use Rattle.dali_drive.proofs.following.follow_all.Goals as goal
@@ -87,10 +86,10 @@ returns-clause-followed g c = record {
   gave_all = c.loop.invariant.gave;
   ends =
       inr (
-        let all = c.loop.invariant.count in
-        let most = c.loop.auto.counter-end in
-        let least = c.loop-test.false in
-        omega arith
+      let all = c.loop.invariant.count in
+      let most = c.loop.auto.counter-end in
+      let least = c.loop-test.false in
+      omega arith
       );
   follow = c.loop.invariant.follow;
   told_all = c.loop.invariant.told;

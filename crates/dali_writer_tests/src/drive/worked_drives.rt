@@ -49,9 +49,9 @@ fn other_steps()
     ensures stopped { ¬ IsInTurn empty (Stopped ∷ begun) }
     ensures out_of_range { ¬ KeepsRecords (Kept (Opened 64) ∷ begun) }
     ensures two_steps { ¬ MayHaveHappened empty begun faults.Link half_tried }
-    ensures no_record { (rest : List Contents) (old new : Streams)
+    ensures no_record { (rest : List (Contents × ℕ)) (old new : Streams)
         → ¬ BrokenOff empty begun rest faults.Journal old new }
-    ensures no_memory { (rest : List Contents) (old new : Streams)
+    ensures no_memory { (rest : List (Contents × ℕ)) (old new : Streams)
         → ¬ BrokenOff empty begun rest faults.NoMemory old new }
 {}
 

@@ -26,12 +26,15 @@ abbrev pub output_failed : {W : Type 0} → Option (Output W) → Bool
 output_failed None = false
 output_failed (Some out) = output.has_failed out
 
--- the bytes that a report holds, where they are known, and whether a line couldn't be written
+-- the bytes that a report holds, where they are known, whether a line couldn't be written, and whether its output failed
 abbrev pub report_held : {W : Type 0} → (W → Option (List ℕ)) → Report W → Option (List ℕ)
 report_held contents report = output_held contents report.output
 
 abbrev pub has_failed : {W : Type 0} → Report W → Bool
 has_failed report = report.starved || output_failed report.output
+
+abbrev pub has_failed_output : {W : Type 0} → Report W → Bool
+has_failed_output report = output_failed report.output
 
 -- it stays failed, and its output as it is
 abbrev pub IsSilent : {W : Type 0} → Report W → Report W → Type 0

@@ -7,7 +7,8 @@ ghost use Rattle.dali_trace.specs.Trace.{Start, records_of};
 ghost use Rattle.dali_report.specs.Lines.{last_data, line_of};
 ghost use Rattle.dali_report.specs.Reports.{is_last_reply, is_well as well, resumed};
 ghost use Rattle.dali_report.specs.Told.{IsTold, IsToldEnd, output_held, output_failed, report_held};
-ghost use Rattle.dali_report.specs.Told.{has_failed as report_failed, spoken, is_number, IsToldFound, none_found};
+ghost use Rattle.dali_report.specs.Told.{has_failed as report_failed, has_failed_output};
+ghost use Rattle.dali_report.specs.Told.{spoken, is_number, IsToldFound, none_found};
 
 use crate::line::{LastReply, end_line, found_line};
 use crate::tally::Tally;
@@ -89,16 +90,12 @@ impl<W: Write> Report<W> {
     pub fn has_failed(&self) -> bool
         ensures { result ≡ report_failed self.now }
     {
-        self.starved || self.output_cause().is_some()
+        self.starved || self.cause().is_some()
     }
 
-    /// Of what kind the failure of its output was; none where it was want of memory.
-    pub fn cause(&self) -> Option<ErrorKind> {
-        self.output_cause()
-    }
-
-    fn output_cause(&self) -> Option<ErrorKind>
-        ensures { is_some result ≡ output_failed self.now.output }
+    /// Of what kind the failure of its output was, where that has failed; none where it was want of memory.
+    pub fn cause(&self) -> Option<ErrorKind>
+        ensures { is_some result ≡ has_failed_output self.now }
     {
         match &self.output {
             Some(output) => output.cause(),

@@ -1,2 +1,3 @@
 pub mod JudgedLemmas
 pub mod GaveLemmas
+pub mod WorkedLineLemmas

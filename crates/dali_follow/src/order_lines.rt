@@ -84,8 +84,8 @@ impl<R: Source> OrderLines<R> {
         requires more { self.old.count < 2 ^ 64 - 1 }
         ensures given { (first : OrderLines R) (given : List Given) → Gave R.left R.failed first self.old given
             → Gave R.left R.failed first self.new (with_next result given) }
-        ensures counted { (self.new.is_over ≡ true) ⊎ (self.new.count ≡ self.old.count + 1) }
-        ensures no_less { (self.new.count ≡ self.old.count) ⊎ (self.new.count ≡ self.old.count + 1) }
+        ensures counted { ((self.new.is_over ≡ true) × (self.new.count ≡ self.old.count))
+            ⊎ (self.new.count ≡ self.old.count + 1) }
     {
         match read_line(&mut self.source, &mut self.buffer) {
             LineEnd::LineFeed => {}

@@ -1,5 +1,6 @@
 -- What lines give, one line after another.
-use Rattle.std.proofs.Common.{◌≡◌, ◌≢◌, refl, sym, ap, subst, ◌∙◌, ◌⊎◌, inl, inr, ℕ, ◌+◌, Bool, true, false, List, [], ◌∷◌, ◌++◌, Option, Some, None, length, arith}
+use Rattle.std.proofs.Common.{◌≡◌, ◌≢◌, refl, sym, ap, subst, ◌∙◌, ◌⊎◌, inl, inr, ℕ, ◌+◌, Bool, true, false, length}
+use Rattle.std.proofs.Common.{List, [], ◌∷◌, ◌++◌, Option, Some, None, arith}
 use Rattle.std.specs.Prelude.{◌||◌, ◌↔◌, IsTrue, codes}
 use Rattle.std.specs.List.{list_any}
 use Rattle.std.proofs.Math.Bool.{or-false}
@@ -13,7 +14,7 @@ use Rattle.dali_drive.specs.Lines.{IsInLine}
 use Rattle.dali_follow.specs.declared.order_lines.OrderLines.{OrderLines}
 use Rattle.dali_follow.specs.Lines.{bytes_of}
 use Rattle.dali_follow.specs.Read.{IsBroken}
-use Rattle.dali_follow.specs.Gave.{Gave, LineGives, LinesGive, AreLines, EndsUnended, IsCut, is_refusal, is_told}
+use Rattle.dali_follow.specs.Gave.{Gave, LineGives, LinesGive, AreLines, IsEnd, is_refusal, refuses}
 
 turned : (a b c : Bool) → ((a || b) || c) ≡ (a || (c || b))
 turned true b c = refl
@@ -24,7 +25,7 @@ turned false false false = refl
 
 -- whether a line was refused, with the next
 refused_next : (first : Bool) (given : List Given) (next : Option Given)
-    → ((first || list_any is_refusal given) || is_told next) ≡ (first || list_any is_refusal (with_next next given))
+    → ((first || list_any is_refusal given) || refuses next) ≡ (first || list_any is_refusal (with_next next given))
 refused_next first given None = or-false (first || list_any is_refusal given)
 refused_next first given (Some one) = turned first (list_any is_refusal given) (is_refusal one)
 
@@ -46,7 +47,7 @@ IsNext left old new line =
 pub gave_next : {R : Type 0} (left : R → Option (List ℕ)) (failed : R → Bool) (first old new : OrderLines R)
     (given : List Given) (line : List ℕ) (next : Option Given) → old.is_over ≡ false
     → Gave left failed first old given → IsInLine line → IsNext left old new line → new.moment ≡ old.moment
-    → new.count ≡ old.count + 1 → new.has_refused ≡ (old.has_refused || is_told next)
+    → new.count ≡ old.count + 1 → new.has_refused ≡ (old.has_refused || refuses next)
     → LineGives new.count old.moment line next → Gave left failed first new (with_next next given)
 gave_next {R} left failed first old new given line next goes_on gave inside is_next moment count refused gives =
     by (whole left failed first old gave.lines gave.bytes goes_on gave.lines_are) is_next
@@ -65,7 +66,8 @@ gave_next {R} left failed first old new given line next goes_on gave inside is_n
     )
 
     all_refused : new.has_refused ≡ (first.has_refused || list_any is_refusal (with_next next given))
-    all_refused = refused ∙ ap (λ (b : Bool). b || is_told next) gave.refused_is ∙ refused_next first.has_refused given next
+    all_refused =
+        refused ∙ ap (λ (b : Bool). b || refuses next) gave.refused_is ∙ refused_next first.has_refused given next
 
     by : (first.is_over ≡ false) × (gave.bytes ≡ bytes_of gave.lines) → IsNext left old new line
         → Gave left failed first new (with_next next given)
@@ -116,8 +118,7 @@ gave_no_more {R} left failed first old new given line goes_on gave inside over t
     before = whole left failed first old gave.lines gave.bytes goes_on gave.lines_are
 
     by : ((line ≡ []) × IsAtEnd (left new.source)) ⊎ IsBroken (failed new.source) line
-        → (IsAtEnd (left new.source) × ((gave.bytes ++ line ≡ bytes_of gave.lines) ⊎ EndsUnended gave.lines (gave.bytes ++ line)))
-        ⊎ IsCut (failed new.source) gave.lines (gave.bytes ++ line)
+        → IsEnd (left new.source) (failed new.source) gave.lines (gave.bytes ++ line)
     by (inl ended) = inl (ended.1, inl (rw (ended.0, append-nil) before.1))
     by (inr broken) = inr (record {
       begun = line;

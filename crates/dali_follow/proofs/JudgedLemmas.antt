@@ -11,14 +11,17 @@ use Rattle.dali_follow.specs.declared.fault.LineFault.TheVariants.{Input}
 use Rattle.dali_follow.specs.Judged.{Outcome, IsSubmitted, IsNoSubmission}
 
 -- a value without the key of a submission is submitted itself
-pub submitted_itself : (moment : ℕ) (json : Data) → get (codes "submit") json ≡ None → IsSubmitted moment json json moment
+pub submitted_itself : (moment : ℕ) (json : Data) → get (codes "submit") json ≡ None
+    → IsSubmitted moment json json moment
 submitted_itself moment json none = rw none (refl, refl)
 
+-- a submission says what and when
 pub submitted_by : (moment at : ℕ) (json item : Data) → IsEvent json (submit item at) → IsSubmitted moment json item at
 submitted_by moment at json item event =
     subst (λ (o : Option Data). MatchOption o ((item ≡ json) × (at ≡ moment)) (λ order. IsEvent json (submit item at)))
     (sym event.1) event
 
+-- and an object with its key that is no event of a scenario is none
 pub no_submission : (json : Data) (fault : InputFault) → IsSome (get (codes "submit") json) → fault ≡ Document
     → IsNoReading (IsEvent json) fault
     → IsNoSubmission json × (◌≡◌ {A = Outcome} (Err (Input fault)) (Err (Input Document)))

@@ -1,5 +1,6 @@
 -- Lines and what they give, by hand, on both sides of each rule.
-use Rattle.std.proofs.Common.{◌≡◌, refl, sym, ◌∙◌, ap, inl, inr, ◌⊎◌, ◌++◌, ◌-◌, ◌^◌, ℕ, Bool, true, false, List, [], ◌∷◌, Option, Some, None, Ok, Err, length, codes, decimal, arith}
+use Rattle.std.proofs.Common.{◌≡◌, refl, sym, ◌∙◌, ap, inl, inr, ◌⊎◌, ◌++◌, ◌-◌, ◌^◌, ℕ, Bool, true, false, List, []}
+use Rattle.std.proofs.Common.{◌∷◌, Option, Some, None, Ok, Err, length, codes, decimal, arith}
 use Rattle.std.proofs.lemmas.Fmt.{decimal_digit, decimal_step}
 use Rattle.std.specs.Io.KnownBytes.{IsAtEnd}
 use Rattle.arrayvec.specs.ArrayVec.{ArrayVec}
@@ -42,7 +43,8 @@ pub a_point_is_not_blank : is_blank (codes " .") ≡ false
 a_point_is_not_blank = refl
 
 -- a line feed, a vertical tab and a form feed
-pub other_controls_are_not_blank : (is_blank (10 ∷ []) ≡ false) × (is_blank (11 ∷ []) ≡ false) × (is_blank (12 ∷ []) ≡ false)
+pub other_controls_are_not_blank :
+    (is_blank (10 ∷ []) ≡ false) × (is_blank (11 ∷ []) ≡ false) × (is_blank (12 ∷ []) ≡ false)
 other_controls_are_not_blank = (refl, refl, refl)
 
 pub a_blank_line_gives_nothing : (before moment : ℕ) (given : List Given)
@@ -103,11 +105,13 @@ steps_beside_a_submission = (refl, λ item at is. let only = is.0 in cc)
 
 decimal_13 : decimal 13 ≡ codes "13"
 decimal_13 =
-    decimal_step 13 (omega arith) (omega arith) ∙ ap (λ (digits : List ℕ). digits ++ codes "3") (decimal_digit 1 (omega arith))
+    decimal_step 13 (omega arith) (omega arith)
+    ∙ ap (λ (digits : List ℕ). digits ++ codes "3") (decimal_digit 1 (omega arith))
 
 decimal_11 : decimal 11 ≡ codes "11"
 decimal_11 =
-    decimal_step 11 (omega arith) (omega arith) ∙ ap (λ (digits : List ℕ). digits ++ codes "1") (decimal_digit 1 (omega arith))
+    decimal_step 11 (omega arith) (omega arith)
+    ∙ ap (λ (digits : List ℕ). digits ++ codes "1") (decimal_digit 1 (omega arith))
 
 pub too_long_line_told : item_line 7 (Input TooBig) ≡ codes "item 7 fault 13 TooBig\n"
 too_long_line_told = rw (decimal_digit 7 (omega arith), decimal_13) refl

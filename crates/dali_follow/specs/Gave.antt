@@ -1,6 +1,6 @@
 -- What the lines of a stream give.
-use Rattle.std.specs.Prelude.{◌≡◌, ◌≢◌, ◌⊎◌, ◌||◌, ◌+◌, ◌++◌, ◌-◌, ◌^◌, ℕ, Bool, true, false, List, [], ◌∷◌, Option, Some}
-use Rattle.std.specs.Prelude.{None, Ok, Err, length}
+use Rattle.std.specs.Prelude.{◌≡◌, ◌≢◌, ◌⊎◌, ◌||◌, ◌+◌, ◌++◌, ◌-◌, ◌^◌, ℕ, Bool, true, false, List, [], ◌∷◌, length}
+use Rattle.std.specs.Prelude.{Option, Some, None, Ok, Err}
 use Rattle.std.specs.List.{All, list_any}
 use Rattle.std.specs.Io.KnownBytes.{Consumes, IsAtEnd}
 use Rattle.std.proofs.Common.{refl, sym, inl}
@@ -43,7 +43,7 @@ IsOver lines = (lines.is_over ≡ true) ⊎ (lines.count ≡ 2 ^ 64 - 1)
 
 -- ---- which lines were read
 
--- the last of these lines has no line feed, but a byte at least
+-- the newest of these lines has no line feed, but a byte at least
 abbrev pub EndsUnended : List (List ℕ) → List ℕ → Type 0
 EndsUnended [] bytes = ⊥
 EndsUnended (last ∷ lines) bytes = (last ≢ []) × (bytes ≡ bytes_of lines ++ last)
@@ -55,15 +55,18 @@ pub record IsCut (failed : Bool) (lines : List (List ℕ)) (bytes : List ℕ) : 
   pub bytes_are : bytes ≡ bytes_of lines ++ begun
   pub broken : IsBroken failed begun
 
--- these lines, the newest first, were read of a source: each with its line feed; where the stream has ended, the last
--- perhaps without; and one behind them was perhaps begun, and broken off
+-- why no more is read: the stream has ended, behind a line feed or without one; or a line was broken off
+abbrev pub IsEnd : Option (List ℕ) → Bool → List (List ℕ) → List ℕ → Type 0
+IsEnd left failed lines bytes =
+    (IsAtEnd left × ((bytes ≡ bytes_of lines) ⊎ EndsUnended lines bytes)) ⊎ IsCut failed lines bytes
+
+-- these lines, the newest first, were read of a source, and these are their bytes: each has its line feed, unless no
+-- more is read
 abbrev pub AreLines : {R : Type 0} → (R → Option (List ℕ)) → (R → Bool) → OrderLines R → OrderLines R
     → List (List ℕ) → List ℕ → Type 0
 AreLines left failed first now lines bytes =
     ((now.is_over ≡ first.is_over) × (bytes ≡ bytes_of lines))
-    ⊎ ((now.is_over ≡ true)
-    × ((IsAtEnd (left now.source) × ((bytes ≡ bytes_of lines) ⊎ EndsUnended lines bytes))
-    ⊎ IsCut (failed now.source) lines bytes))
+    ⊎ ((now.is_over ≡ true) × IsEnd (left now.source) (failed now.source) lines bytes)
 
 -- ---- what they come to
 
@@ -87,9 +90,9 @@ abbrev pub is_refusal : Given → Bool
 is_refusal (gives.Order order at) = false
 is_refusal (gives.Line text) = true
 
-abbrev pub is_told : Option Given → Bool
-is_told None = false
-is_told (Some given) = is_refusal given
+abbrev pub refuses : Option Given → Bool
+refuses None = false
+refuses (Some given) = is_refusal given
 
 -- ---- the whole
 

@@ -2,7 +2,7 @@ ghost use Rattle.std.specs.Prelude.{◌≡◌, ◌+◌, ◌<◌, ◌⊎◌, ◌^
 ghost use Rattle.dali_drive.specs.declared.following.Given.{Given};
 ghost use Rattle.dali_drive.specs.Followed.{with_next};
 ghost use Rattle.dali_follow.specs.Buffers.{Holds};
-ghost use Rattle.dali_follow.specs.Gave.{Gave, LineGives, IsOver, is_told, gave_none};
+ghost use Rattle.dali_follow.specs.Gave.{Gave, LineGives, IsOver, refuses, gave_none};
 
 use crate::fault::item_line;
 use crate::judging::judge_line;
@@ -108,7 +108,7 @@ impl<R: Source> OrderLines<R> {
     fn judge(&mut self) -> Option<Given>
         ensures given { (line : List ℕ) → Holds self.old.buffer line
             → LineGives self.old.count self.old.moment line result }
-        ensures same { self.new ≡ record self.old { has_refused = self.old.has_refused || is_told result } }
+        ensures same { self.new ≡ record self.old { has_refused = self.old.has_refused || refuses result } }
     {
         if self.buffer.is_blank {
             return None;

@@ -20,7 +20,7 @@ mod survey_lines;
 pub use driving::{drive, drive_observed};
 pub use fault::DriveFault;
 pub use following::{Given, Orders, follow, follow_stored};
-pub use lines::Line;
+pub use lines::{Line, push_decimal, push_text};
 pub use link::exchange;
 pub use observer::{FindingObserver, Nobody, Observer};
 pub use reading::read_unit;

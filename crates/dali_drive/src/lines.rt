@@ -95,8 +95,8 @@ pub(crate) fn reply_line(id: u64, reply: Reply) -> Line
     line
 }
 
-// Puts a text at the end of a line, which has room for it.
-pub(crate) fn push_text(line: &mut Line, text: &str)
+/// Puts a text at the end of a line, which has room for it.
+pub fn push_text(line: &mut Line, text: &str)
     requires { array_vec_len line.old + length text.now ≤ 80 }
     ensures items { line.new.items ≡ line.old.items ++ text.now }
     ensures len { array_vec_len line.new ≡ array_vec_len line.old + length text.now }
@@ -104,8 +104,8 @@ pub(crate) fn push_text(line: &mut Line, text: &str)
     let _fits = line.try_extend_from_slice(text.as_bytes());
 }
 
-// Puts a number's decimal digits at the end of a line, which has room for them.
-pub(crate) fn push_decimal(line: &mut Line, number: u64)
+/// Puts a number's decimal digits at the end of a line, which has room for them.
+pub fn push_decimal(line: &mut Line, number: u64)
     requires { array_vec_len line.old + 20 ≤ 80 }
     ensures items { line.new.items ≡ line.old.items ++ decimal number }
     ensures len { array_vec_len line.new ≡ array_vec_len line.old + length (decimal number) }

@@ -133,3 +133,14 @@ no_moment json order fault there none =
         absurd (only_key (codes "submit") (codes "stop") json order (λ found v. refl) only there)
     by (power address) (only, is) =
         absurd (only_key (codes "submit") (codes "power") json order (λ found v. refl) only there)
+
+-- an object with the key of a submission, and with one that no submission has
+pub no_other_key : (json order : Data) → get (codes "submit") json ≡ Some order
+    → has_only_keys (codes "submit" ∷ codes "moment" ∷ []) json ≡ false → (event : PlannedEvent) → ¬ IsEvent json event
+no_other_key json order there others (submit source moment) (only, is, since) = cc
+no_other_key json order there others (steps count) (only, is) =
+    absurd (only_key (codes "submit") (codes "steps") json order (λ found v. refl) only there)
+no_other_key json order there others (stop bytes) (only, is) =
+    absurd (only_key (codes "submit") (codes "stop") json order (λ found v. refl) only there)
+no_other_key json order there others (power address) (only, is) =
+    absurd (only_key (codes "submit") (codes "power") json order (λ found v. refl) only there)

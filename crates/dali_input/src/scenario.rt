@@ -1,12 +1,14 @@
-ghost use Rattle.std.specs.Prelude.{◌≡◌, ◌↔◌, ◌≤◌, ◌^◌, ◌-◌, [], ℕ, false, IfOk, IfErr, IsTrue, map, min};
+ghost use Rattle.std.specs.Prelude.{◌≡◌, ◌↔◌, ◌≤◌, ◌^◌, ◌-◌, [], ℕ, false, IfOk, IfErr, IfSome, IfNone, IsSome, IsTrue};
+ghost use Rattle.std.specs.Prelude.{None, codes, map, min};
 ghost use Rattle.std.specs.Int.{bit_at};
 ghost use Rattle.std.specs.List.{AllByRecursion, Contains, sum_by};
+ghost use Rattle.serde_json.specs.Find.{get};
 ghost use Rattle.serde_json.specs.View.{view};
 ghost use Rattle.dali_bank.specs.Blank.{blank_bank};
 ghost use Rattle.dali_input.specs.Values.{IsWhole, IsArrayOf, IsRequired, IsOptional, IsNoReading, value_if_any};
 ghost use Rattle.dali_input.specs.Scenario.{AreBytes, AreDtrs, AreLost, IsBankText, IsBoolean, IsEvent, IsFate};
 ghost use Rattle.dali_input.specs.Scenario.{IsScenario, IsSmall, IsUnit, event_count, event_of, most_events};
-ghost use Rattle.dali_input.specs.Scenario.{most_moment, planned_of, unit_planned};
+ghost use Rattle.dali_input.specs.Scenario.{most_moment, planned_of, submit, unit_planned};
 
 use crate::fault::InputFault;
 use crate::values::{has_only_keys, numbers_of, whole_within};
@@ -235,17 +237,39 @@ fn moment_in(json: Option<&Json>) -> Result<u64, InputFault>
     }
 }
 
+/// What an object with the key "submit" submits, whatever stands there, and at which moment: 0 where it says none
+/// (profile). None of a value that hasn't that key.
+///
+/// InputFault 12 Document where the object has other keys than "submit" and "moment", or its moment is none.
+pub fn submission_of(json: &Json) -> Option<Result<(&Json, u64), InputFault>>
+    ensures none { IfNone result (get (codes "submit") (view json.now) ≡ None) }
+    ensures some { IfSome result (λ reading. IsSome (get (codes "submit") (view json.now))) }
+    ensures ok { IfSome result (λ reading. IfOk reading (λ submission.
+        IsEvent (view json.now) (submit (view submission.0.now) submission.1))) }
+    ensures err { IfSome result (λ reading. IfErr reading (IsNoReading (IsEvent (view json.now)))) }
+    ensures document { IfSome result (λ reading. IfErr reading (λ fault. fault ≡ InputFault.Document)) }
+{
+    let Some(order) = json.get("submit") else {
+        return None;
+    };
+    if !has_only_keys(json, &["submit", "moment"]) {
+        return Some(Err(InputFault::Document));
+    }
+    match moment_in(json.get("moment")) {
+        Ok(moment) => Some(Ok((order, moment))),
+        Err(fault) => Some(Err(fault)),
+    }
+}
+
 // What an event's object says.
 fn event_plan(json: &Json) -> Result<EventPlan<'_>, InputFault>
     ensures ok { IfOk result (λ plan. IsEvent (view json.now) (event_of plan)) }
     ensures err { IfErr result (IsNoReading (IsEvent (view json.now))) }
     ensures document { IfErr result (λ fault. fault ≡ InputFault.Document) }
 {
-    if has_only_keys(json, &["submit", "moment"]) {
-        if let Some(order) = json.get("submit") {
-            let moment = moment_in(json.get("moment"))?;
-            return Ok(EventPlan::Submit(order, moment));
-        }
+    if let Some(submission) = submission_of(json) {
+        let (order, moment) = submission?;
+        return Ok(EventPlan::Submit(order, moment));
     }
     if has_only_keys(json, &["steps"]) {
         if let Some(count) = json.get("steps") {

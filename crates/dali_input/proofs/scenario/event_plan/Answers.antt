@@ -1,7 +1,7 @@
 use Rattle.std.proofs.Common.{sym}
 use Rattle.std.proofs.lemmas.Result.{err_from_is_err_and}
 use Rattle.serde_json.specs.View.{view}
-use Rattle.dali_input.proofs.KeyLemmas.{no_moment, no_steps, no_bytes, no_address}
+use Rattle.dali_input.proofs.KeyLemmas.{no_steps, no_bytes, no_address}
 use Rattle.dali_input.proofs.scenario.event_plan.Goals as goal
 
 pub returns-in_err-count-clause-err : goal.returns-in_err-count-clause-err
@@ -21,9 +21,3 @@ returns-in_err-address-clause-err c =
     let p = err_from_is_err_and c.from_residual-in_err-address.result c.from_residual-in_err-address.ensures.1 in
     rw (p.1, p.2) (no_address (view c.args.json.now) (view c.in-Some-get-3.address.now) _ (sym c.in-Some-get-3.ensures)
     c.in_err-address.ensures.err)
-
-pub returns-in_err-moment-clause-err : goal.returns-in_err-moment-clause-err
-returns-in_err-moment-clause-err c =
-    let p = err_from_is_err_and c.from_residual.result c.from_residual.ensures.1 in
-    rw (p.1, p.2) (no_moment (view c.args.json.now) (view c.in-Some.order.now) _ (sym c.in-Some.ensures)
-    (rw c.get-in-Some.ensures at c.in_err-moment.ensures.err))

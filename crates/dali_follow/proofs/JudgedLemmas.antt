@@ -1,0 +1,33 @@
+-- What is submitted on a line, and what is none.
+use Rattle.std.proofs.Common.{◌≡◌, refl, sym, ap, subst, ℕ, Option, None, Err}
+use Rattle.std.specs.Prelude.{IsSome, MatchOption, codes}
+use Rattle.serde_json.specs.Data.{Data}
+use Rattle.serde_json.specs.Find.{get}
+use Rattle.dali_input.specs.declared.fault.InputFault.{InputFault}
+use Rattle.dali_input.specs.declared.fault.InputFault.TheVariants.{Document}
+use Rattle.dali_input.specs.Scenario.{IsEvent, submit}
+use Rattle.dali_input.specs.Values.{IsNoReading}
+use Rattle.dali_follow.specs.declared.fault.LineFault.TheVariants.{Input}
+use Rattle.dali_follow.specs.Judged.{Outcome, IsSubmitted, IsNoSubmission}
+
+-- a value without the key of a submission is submitted itself
+pub submitted_itself : (moment : ℕ) (json : Data) → get (codes "submit") json ≡ None
+    → IsSubmitted moment json json moment
+submitted_itself moment json none = rw none (refl, refl)
+
+-- a submission says what and when
+pub submitted_by : (moment at : ℕ) (json item : Data) → IsEvent json (submit item at) → IsSubmitted moment json item at
+submitted_by moment at json item event =
+    subst (λ (o : Option Data). MatchOption o ((item ≡ json) × (at ≡ moment)) (λ order. IsEvent json (submit item at)))
+    (sym event.1) event
+
+-- and an object with its key that is no event of a scenario is none
+pub no_submission : (json : Data) (fault : InputFault) → IsSome (get (codes "submit") json) → fault ≡ Document
+    → IsNoReading (IsEvent json) fault
+    → IsNoSubmission json × (◌≡◌ {A = Outcome} (Err (Input fault)) (Err (Input Document)))
+no_submission json fault some document none =
+    let never = rw document at none in
+    ((some, λ item at. never (submit item at)), ap (λ (f : InputFault). refused f) document)
+  where
+    refused : InputFault → Outcome
+    refused f = Err (Input f)

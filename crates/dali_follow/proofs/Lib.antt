@@ -1,0 +1,3 @@
+pub mod JudgedLemmas
+pub mod GaveLemmas
+pub mod WorkedLineLemmas

@@ -1,0 +1,125 @@
+-- What the lines of a stream give.
+use Rattle.std.specs.Prelude.{◌≡◌, ◌≢◌, ◌⊎◌, ◌||◌, ◌+◌, ◌++◌, ◌-◌, ◌^◌, ℕ, Bool, true, false, List, [], ◌∷◌, length}
+use Rattle.std.specs.Prelude.{Option, Some, None, Ok, Err}
+use Rattle.std.specs.List.{All, list_any}
+use Rattle.std.specs.Io.KnownBytes.{Consumes, IsAtEnd}
+use Rattle.std.proofs.Common.{refl, sym, inl}
+use Rattle.std.proofs.Math.Bool.{or-false}
+use Rattle.std.proofs.Math.Nat.{add-zero}
+use Rattle.std.proofs.lemmas.List.Elements.{All-nil}
+use Rattle.std.proofs.KnownBytes.{Consumes-nil}
+use Rattle.dali_drive.specs.declared.following.Given.{Given}
+use Rattle.dali_drive.specs.declared.following.Given.TheVariants as gives
+use Rattle.dali_drive.specs.Followed.{with_next}
+use Rattle.dali_drive.specs.Lines.{IsInLine}
+use Rattle.dali_follow.specs.declared.fault.LineFault.{LineFault}
+use Rattle.dali_follow.specs.declared.order_lines.OrderLines.{OrderLines}
+use Rattle.dali_follow.specs.Faults.{item_line}
+use Rattle.dali_follow.specs.Judged.{JudgesLine}
+use Rattle.dali_follow.specs.Lines.{is_blank, bytes_of}
+use Rattle.dali_follow.specs.Read.{IsBroken}
+
+-- what is known of the orders of a source: the source, the moment of what brings none, how many lines were read,
+-- whether one was refused, and whether no more is read
+pub record LinesState (R : Type 0) : Type 0 where
+  pub source : R
+  pub moment : ℕ
+  pub count : ℕ
+  pub has_refused : Bool
+  pub is_over : Bool
+
+abbrev pub state_of : {R : Type 0} → OrderLines R → LinesState R
+state_of lines = record {
+  source = lines.source;
+  moment = lines.moment;
+  count = lines.count;
+  has_refused = lines.has_refused;
+  is_over = lines.is_over;
+}
+
+-- no more is given: the stream has ended or was broken off, or the lines can't be counted any further
+abbrev pub IsOver : {R : Type 0} → OrderLines R → Type 0
+IsOver lines = (lines.is_over ≡ true) ⊎ (lines.count ≡ 2 ^ 64 - 1)
+
+-- ---- which lines were read
+
+-- the newest of these lines has no line feed, but a byte at least
+abbrev pub EndsUnended : List (List ℕ) → List ℕ → Type 0
+EndsUnended [] bytes = ⊥
+EndsUnended (last ∷ lines) bytes = (last ≢ []) × (bytes ≡ bytes_of lines ++ last)
+
+-- behind these lines one was broken off
+pub record IsCut (failed : Bool) (lines : List (List ℕ)) (bytes : List ℕ) : Type 0 where
+  pub begun : List ℕ
+  pub inside : IsInLine begun
+  pub bytes_are : bytes ≡ bytes_of lines ++ begun
+  pub broken : IsBroken failed begun
+
+-- why no more is read: the stream has ended, behind a line feed or without one; or a line was broken off
+abbrev pub IsEnd : Option (List ℕ) → Bool → List (List ℕ) → List ℕ → Type 0
+IsEnd left failed lines bytes =
+    (IsAtEnd left × ((bytes ≡ bytes_of lines) ⊎ EndsUnended lines bytes)) ⊎ IsCut failed lines bytes
+
+-- these lines, the newest first, were read of a source, and these are their bytes: each has its line feed, unless no
+-- more is read
+abbrev pub AreLines : {R : Type 0} → (R → Option (List ℕ)) → (R → Bool) → OrderLines R → OrderLines R
+    → List (List ℕ) → List ℕ → Type 0
+AreLines left failed first now lines bytes =
+    ((now.is_over ≡ first.is_over) × (bytes ≡ bytes_of lines))
+    ⊎ ((now.is_over ≡ true) × IsEnd (left now.source) (failed now.source) lines bytes)
+
+-- ---- what they come to
+
+-- what a line of this number gives: nothing where it is blank, else its order, or the line that tells why it is refused
+abbrev pub LineGives : ℕ → ℕ → List ℕ → Option Given → Type 0
+LineGives number moment line None = is_blank line ≡ true
+LineGives number moment line (Some (gives.Order order at)) =
+    (is_blank line ≡ false) × JudgesLine moment line (Ok (order, at))
+LineGives number moment line (Some (gives.Line text)) = (is_blank line ≡ false)
+    × ((fault : LineFault) × JudgesLine moment line (Err fault) × (text.items ≡ item_line number fault))
+
+-- what lines give behind so many others, both the newest first
+abbrev pub LinesGive : ℕ → ℕ → List (List ℕ) → List Given → Type 0
+LinesGive before moment [] given = given ≡ []
+LinesGive before moment (line ∷ lines) given =
+    (next : Option Given) × (earlier : List Given) × LineGives (before + length (line ∷ lines)) moment line next
+    × LinesGive before moment lines earlier × (given ≡ with_next next earlier)
+
+-- what is given is the line of a refused item
+abbrev pub is_refusal : Given → Bool
+is_refusal (gives.Order order at) = false
+is_refusal (gives.Line text) = true
+
+abbrev pub refuses : Option Given → Bool
+refuses None = false
+refuses (Some given) = is_refusal given
+
+-- ---- the whole
+
+-- since it was the first of the two, these lines were read of the source and no other byte, and they gave this
+pub record Gave {R : Type 0} (left : R → Option (List ℕ)) (failed : R → Bool) (first now : OrderLines R)
+    (given : List Given) : Type 0 where
+  pub lines : List (List ℕ)
+  pub bytes : List ℕ
+  pub taken : Consumes (left first.source) (left now.source) bytes
+  pub inside : All IsInLine lines
+  pub lines_are : AreLines left failed first now lines bytes
+  pub moment_is : now.moment ≡ first.moment
+  pub count_is : now.count ≡ first.count + length lines
+  pub given_are : LinesGive first.count first.moment lines given
+  pub refused_is : now.has_refused ≡ (first.has_refused || list_any is_refusal given)
+
+-- at first, nothing
+pub gave_none : {R : Type 0} (left : R → Option (List ℕ)) (failed : R → Bool) (lines : OrderLines R)
+    → Gave left failed lines lines []
+gave_none left failed lines = record {
+  lines = [];
+  bytes = [];
+  taken = Consumes-nil (left lines.source);
+  inside = All-nil IsInLine;
+  lines_are = inl (refl, refl);
+  moment_is = refl;
+  count_is = sym (add-zero lines.count);
+  given_are = refl;
+  refused_is = sym (or-false lines.has_refused);
+}

@@ -1,0 +1,105 @@
+// Why a line is refused, and how that is told.
+ghost use Rattle.std.specs.Prelude.{◌≡◌, ◌≤◌, length};
+ghost use Rattle.dali_bank.specs.Faults.{name_of as bank_fault_name};
+ghost use Rattle.dali_input.specs.Faults.{name_of as input_fault_name, item_name_of};
+ghost use Rattle.dali_follow.specs.Faults.{item_line};
+
+use dali_bank::BankFault;
+use dali_drive::{Line, push_decimal, push_text};
+use dali_input::{InputFault, ItemFault};
+use std::error::Error;
+use std::fmt;
+
+/// Why a line of a stream of orders is refused (profile).
+#[derive(Clone, Copy, Debug, PartialEq, Eq)]
+pub enum LineFault {
+    /// The line is too long, no JSON, or no submission, or memory ran out.
+    Input(InputFault),
+    /// What the line submits is no order.
+    Item(ItemFault),
+}
+
+impl LineFault {
+    ghost use Rattle.dali_follow.specs.Faults.{line_number_of, line_name_of};
+
+    /// The fault's number.
+    pub fn number(&self) -> u8
+        ensures { result ≡ line_number_of self.now }
+    {
+        match self {
+            LineFault::Input(fault) => fault.number(),
+            LineFault::Item(fault) => fault.number(),
+        }
+    }
+
+    // The fault's name, of at most 8 characters.
+    fn name(&self) -> &'static str
+        ensures name { result.now ≡ line_name_of self.now }
+        ensures short { length result.now ≤ 8 }
+    {
+        match self {
+            LineFault::Input(fault) => input_name(*fault),
+            LineFault::Item(ItemFault::Bank(fault)) => bank_name(*fault),
+            LineFault::Item(ItemFault::Shape) => "Shape",
+            LineFault::Item(ItemFault::Key) => "Key",
+        }
+    }
+}
+
+impl fmt::Display for LineFault {
+    ghost use Rattle.std.specs.Prelude.{Some};
+    ghost use Rattle.dali_follow.specs.Faults.{line_name_of};
+
+    ghost output = { λ fault. Some (line_name_of fault) };
+
+    fn fmt<W: fmt::Write>(&self, f: &mut fmt::Formatter<W>) -> fmt::Result {
+        f.write_str(self.name())
+    }
+}
+
+impl Error for LineFault {}
+
+fn input_name(fault: InputFault) -> &'static str
+    ensures name { result.now ≡ input_fault_name fault }
+    ensures short { length result.now ≤ 8 }
+{
+    match fault {
+        InputFault::Json => "Json",
+        InputFault::Document => "Document",
+        InputFault::TooBig => "TooBig",
+        InputFault::Hex => "Hex",
+        InputFault::Memory => "Memory",
+        InputFault::File => "File",
+    }
+}
+
+fn bank_name(fault: BankFault) -> &'static str
+    ensures name { result.now ≡ bank_fault_name fault }
+    ensures short { length result.now ≤ 8 }
+{
+    match fault {
+        BankFault::Unit => "Unit",
+        BankFault::Kind => "Kind",
+        BankFault::Range => "Range",
+        BankFault::Gtin => "Gtin",
+        BankFault::Text => "Text",
+        BankFault::Twice => "Twice",
+        BankFault::Voltage => "Voltage",
+        BankFault::Empty => "Empty",
+    }
+}
+
+// The line of a refused item.
+pub(crate) fn item_line(number: u64, fault: LineFault) -> Line
+    ensures { result.items ≡ item_line number fault }
+{
+    let mut line = Line::new();
+    push_text(&mut line, "item ");
+    push_decimal(&mut line, number);
+    push_text(&mut line, " fault ");
+    push_decimal(&mut line, u64::from(fault.number()));
+    push_text(&mut line, " ");
+    push_text(&mut line, fault.name());
+    push_text(&mut line, "\n");
+    line
+}

@@ -1,0 +1,52 @@
+// What a line comes to.
+ghost use Rattle.std.specs.Prelude.{ℕ, List};
+ghost use Rattle.serde_json.specs.View.{view};
+ghost use Rattle.dali_follow.specs.Buffers.{Holds};
+ghost use Rattle.dali_follow.specs.Judged.{JudgesAt, JudgesValue, JudgesLine};
+
+use crate::fault::LineFault;
+use crate::line_buffer::{LINE_LIMIT, LineBuffer};
+use dali_bank::Order;
+use dali_input::{InputFault, json_of, order_of, submission_of};
+use serde_json::Value;
+use std::alloc::Global;
+
+// The order of a line and its moment: the one that stands there, or that of the stream.
+//
+// The first LineFault that stands (profile): 13 TooBig, 11 Json, 20 Memory, 12 Document, and then that of the item.
+pub(crate) fn judge_line(
+    alloc: Global,
+    line: &LineBuffer,
+    moment: u64,
+) -> Result<(Order, u64), LineFault>
+    ensures { (text : List ℕ) → Holds line.now text → JudgesLine moment text result }
+{
+    if line.is_long {
+        return Err(LineFault::Input(InputFault::TooBig));
+    }
+    match json_of(alloc, line.bytes.as_slice(), LINE_LIMIT) {
+        Ok(json) => judge_value(&json, moment),
+        Err(fault) => Err(LineFault::Input(fault)),
+    }
+}
+
+// What a value on a line comes to.
+fn judge_value(json: &Value, moment: u64) -> Result<(Order, u64), LineFault>
+    ensures { JudgesValue moment (view json.now) result }
+{
+    match submission_of(json) {
+        None => judge_at(json, moment),
+        Some(Ok((order, at))) => judge_at(order, at),
+        Some(Err(fault)) => Err(LineFault::Input(fault)),
+    }
+}
+
+// What becomes of what is submitted at a moment.
+fn judge_at(item: &Value, moment: u64) -> Result<(Order, u64), LineFault>
+    ensures { JudgesAt moment (view item.now) result }
+{
+    match order_of(item) {
+        Ok(order) => Ok((order, moment)),
+        Err(fault) => Err(LineFault::Item(fault)),
+    }
+}

@@ -1,0 +1,13 @@
+//! Orders that come line by line (profile): a stream gives one object of JSON a line, and each line comes to an order
+//! with its moment, or to the line that tells why it is refused.
+#![tactic(auto)]
+
+mod fault;
+mod judging;
+mod line_buffer;
+mod order_lines;
+mod reading;
+
+pub use fault::LineFault;
+pub use line_buffer::LINE_LIMIT;
+pub use order_lines::OrderLines;

@@ -1,0 +1,143 @@
+ghost use Rattle.std.specs.Prelude.{◌≡◌, ◌+◌, ◌<◌, ◌⊎◌, ◌^◌, ◌-◌, ◌||◌, List, ℕ, IfSome, false, true};
+ghost use Rattle.dali_drive.specs.declared.following.Given.{Given};
+ghost use Rattle.dali_drive.specs.Followed.{with_next};
+ghost use Rattle.dali_follow.specs.Buffers.{Holds};
+ghost use Rattle.dali_follow.specs.Gave.{Gave, LineGives, IsOver, refuses, gave_none};
+
+use crate::fault::item_line;
+use crate::judging::judge_line;
+use crate::line_buffer::LineBuffer;
+use crate::reading::{LineEnd, read_line};
+use dali_drive::{Given, Orders, Source};
+use std::alloc::Global;
+use std::io::ErrorKind;
+
+/// Orders that a source gives in lines (profile). A line is a value of JSON of at most 16,384 bytes: an object with the
+/// key "submit" is a submission as in a scenario, and any other value is an order itself, submitted at the moment that
+/// the stream has. A line that is refused is told as `item I fault F NAME`, where I counts the lines from 1; one of
+/// spaces, tabs and carriage returns alone is passed over. A line ends at its line feed, the last one also where the
+/// stream ends.
+///
+/// A line is read when the next order is wanted, and no further. No more is held than one line.
+#[derive(Drop)]
+pub struct OrderLines<R> {
+    alloc: Global,
+    source: R,
+    moment: u64,
+    // How many lines were read.
+    count: u64,
+    // Whether one was refused.
+    has_refused: bool,
+    // Whether no more is read: the stream has ended, or it was broken off.
+    is_over: bool,
+    buffer: LineBuffer,
+}
+
+impl<R: Source> OrderLines<R> {
+    ghost use Rattle.dali_follow.specs.Gave.{state_of};
+
+    /// The orders of a source, of which no line was read. An order without a moment is submitted at this one.
+    pub fn new(alloc: Global, source: R, moment: u64) -> OrderLines<R>
+        ensures { state_of result ≡ record {
+          source = source;
+          moment = moment;
+          count = 0;
+          has_refused = false;
+          is_over = false;
+        } }
+    {
+        OrderLines {
+            alloc,
+            source,
+            moment,
+            count: 0,
+            has_refused: false,
+            is_over: false,
+            buffer: LineBuffer::new(),
+        }
+    }
+
+    /// Whether a line was refused.
+    pub fn has_refused(&self) -> bool
+        ensures { result ≡ (state_of self.now).has_refused }
+    {
+        self.has_refused
+    }
+
+    /// Whether the source has failed.
+    pub fn has_failed(&self) -> bool
+        ensures { result ≡ R.failed (state_of self.now).source }
+    {
+        self.source.has_failed()
+    }
+
+    /// Of what kind the failure of the source was, where there was one and that is known.
+    pub fn cause(&self) -> Option<ErrorKind>
+        ensures { IfSome result (λ kind. R.failed (state_of self.now).source ≡ true) }
+    {
+        self.source.cause()
+    }
+
+    // Reads the next line, and gives what it comes to: nothing where it is blank, or where there is none.
+    fn take_line(&mut self) -> Option<Given>
+        requires goes_on { self.old.is_over ≡ false }
+        requires more { self.old.count < 2 ^ 64 - 1 }
+        ensures given { (first : OrderLines R) (given : List Given) → Gave R.left R.failed first self.old given
+            → Gave R.left R.failed first self.new (with_next result given) }
+        ensures counted { ((self.new.is_over ≡ true) × (self.new.count ≡ self.old.count))
+            ⊎ (self.new.count ≡ self.old.count + 1) }
+    {
+        match read_line(&mut self.source, &mut self.buffer) {
+            LineEnd::LineFeed => {}
+            LineEnd::Stream => {
+                self.is_over = true;
+                if self.buffer.is_empty() {
+                    return None;
+                }
+            }
+            LineEnd::Broken => {
+                self.is_over = true;
+                return None;
+            }
+        }
+        self.count += 1;
+        self.judge()
+    }
+
+    // What the line that was read comes to.
+    fn judge(&mut self) -> Option<Given>
+        ensures given { (line : List ℕ) → Holds self.old.buffer line
+            → LineGives self.old.count self.old.moment line result }
+        ensures same { self.new ≡ record self.old { has_refused = self.old.has_refused || refuses result } }
+    {
+        if self.buffer.is_blank {
+            return None;
+        }
+        match judge_line(self.alloc, &self.buffer, self.moment) {
+            Ok((order, moment)) => Some(Given::Order(order, moment)),
+            Err(fault) => {
+                self.has_refused = true;
+                Some(Given::Line(item_line(self.count, fault)))
+            }
+        }
+    }
+}
+
+impl<R: Source> Orders for OrderLines<R> {
+    ghost use Rattle.dali_follow.specs.Gave.{Gave, IsOver, gave_none};
+
+    ghost gave = { Gave R.left R.failed };
+
+    ghost over = { IsOver };
+
+    fn next(&mut self) -> Option<Given> {
+        while !self.is_over && self.count < u64::MAX {
+            if let Some(given) = self.take_line() {
+                return Some(given);
+            }
+        }
+        None
+    }
+
+    ghost gave_none = { gave_none R.left R.failed };
+}

@@ -99,10 +99,7 @@ fn orders_one_after_another(rt: HostRuntime) -> Result<(), Fail> {
 fn a_line_that_is_broken_off(rt: HostRuntime) -> Result<(), Fail> {
     let alloc = rt.alloc();
     for room in 0..FIRST.len() {
-        let good = Good {
-            out: room,
-            ..ALL
-        };
+        let good = Good { out: room, ..ALL };
         let wanted = Wanted {
             fault: Some(DriveFault::Out),
             taken: 0,

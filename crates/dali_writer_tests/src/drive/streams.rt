@@ -284,14 +284,7 @@ pub(crate) fn drive_from(
         &mut journal_out,
         &mut out,
     );
-    Ok(left_of(
-        driven.err(),
-        answers,
-        link_in,
-        link_out,
-        journal_out,
-        out,
-    ))
+    Ok(left_of(driven.err(), answers, link_in, link_out, journal_out, out))
 }
 
 // Follows what a source gives with a writer that goes on from what a file holds.
@@ -316,14 +309,7 @@ pub(crate) fn follow_from<G: Orders + Drop>(
         &mut out,
         &mut Nobody,
     );
-    Ok(left_of(
-        followed.err(),
-        answers,
-        link_in,
-        link_out,
-        journal_out,
-        out,
-    ))
+    Ok(left_of(followed.err(), answers, link_in, link_out, journal_out, out))
 }
 
 // What stands in the streams, and what was taken of these answers.

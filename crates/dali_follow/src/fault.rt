@@ -1,7 +1,7 @@
 // Why a line is refused, and how that is told.
 ghost use Rattle.std.specs.Prelude.{◌≡◌, ◌≤◌, length};
 ghost use Rattle.dali_bank.specs.Faults.{name_of as bank_fault_name};
-ghost use Rattle.dali_input.specs.Faults.{name_of as input_fault_name, item_name_of};
+ghost use Rattle.dali_input.specs.Faults.{name_of as input_fault_name};
 ghost use Rattle.dali_follow.specs.Faults.{item_line};
 
 use dali_bank::BankFault;

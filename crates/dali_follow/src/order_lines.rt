@@ -2,7 +2,7 @@ ghost use Rattle.std.specs.Prelude.{◌≡◌, ◌+◌, ◌<◌, ◌⊎◌, ◌^
 ghost use Rattle.dali_drive.specs.declared.following.Given.{Given};
 ghost use Rattle.dali_drive.specs.Followed.{with_next};
 ghost use Rattle.dali_follow.specs.Buffers.{Holds};
-ghost use Rattle.dali_follow.specs.Gave.{Gave, LineGives, IsOver, refuses, gave_none};
+ghost use Rattle.dali_follow.specs.Gave.{Gave, LineGives, refuses};
 
 use crate::fault::item_line;
 use crate::judging::judge_line;

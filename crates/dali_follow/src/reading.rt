@@ -1,5 +1,5 @@
 // One line, read from its source.
-ghost use Rattle.std.specs.Prelude.{◌≡◌, List, ℕ};
+ghost use Rattle.std.specs.Prelude.{List, ℕ};
 ghost use Rattle.dali_drive.specs.Lines.{IsInLine};
 ghost use Rattle.dali_follow.specs.Buffers.{Holds};
 ghost use Rattle.dali_follow.specs.Read.{ReadsLine};

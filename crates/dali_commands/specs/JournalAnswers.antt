@@ -1,7 +1,7 @@
 -- What `journal` answers and writes.
 use Rattle.std.specs.Prelude.{◌≡◌, ◌⊎◌, ◌<◌, ◌≤◌, Bool, ℕ, List, length}
 use Rattle.dali_journal.specs.declared.version.Version.{Version}
-use Rattle.dali_journal.specs.JournalState.{JournalState}
+use Rattle.dali_journal.specs.JournalState.{JournalState, HoldsOrders}
 use Rattle.dali_journal.specs.Loading.{IsLoaded, IsLoadFault}
 use Rattle.dali_text.specs.JournalLines.{journal_text}
 use Rattle.dali_input.specs.declared.fault.InputFault.TheVariants.{TooBig}
@@ -27,7 +27,7 @@ IsJournalIn input journal counted version =
 -- why an input is no journal; want of memory may come at any
 abbrev pub IsUnloaded : List ℕ → Fault → Type 0
 IsUnloaded input (Input TooBig) = journal_limit < length input
-IsUnloaded input (Journal fault) = (length input ≤ journal_limit) × IsLoadFault order_limit input fault
+IsUnloaded input (Journal fault) = (length input ≤ journal_limit) × IsLoadFault HoldsOrders order_limit input fault
 IsUnloaded input other = ⊥
 
 -- the status and the text of a journal, with the updates of each begun order or without

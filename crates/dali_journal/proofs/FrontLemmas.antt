@@ -23,7 +23,7 @@ use Rattle.dali_journal.specs.Sentence.{Allows, next_standing, standing_of, is_b
 use Rattle.dali_journal.specs.Orders.{orders_of, kept_among, kept_of, moment_of}
 use Rattle.dali_journal.specs.Spelling.{spelling, records_spelling, header, IsRecord}
 use Rattle.dali_journal.specs.Decoding.{records_in}
-use Rattle.dali_journal.specs.JournalState.{bytes_due, IsLimit}
+use Rattle.dali_journal.specs.JournalState.{bytes_due, HoldsOrders}
 use Rattle.dali_journal.specs.Loading.{IsLoadFault}
 use Rattle.dali_journal.specs.Index.{index_entry, is_begun_at, Agrees, IsSound}
 use Rattle.dali_journal.specs.GroupAhead.{HasGroup, IsFront, end_records}
@@ -279,8 +279,8 @@ front_more limit bytes at len orders id code index new_index front more has none
 -- a number that is in the index is repeated
 pub front_repeated : (limit : ℕ) (bytes : List ℕ) (at len orders id : ℕ) (code : Code) (index : List (ℕ × IndexEntry))
     (known : IndexEntry)
-    → IsLimit limit → IsFront limit bytes at orders index → HasGroup id code len (drop at bytes)
-    → lookup (nat_eq id) index ≡ Some known → IsLoadFault limit (header Two ++ bytes) (faults.Repeated (4 + at))
+    → HoldsOrders limit → IsFront limit bytes at orders index → HasGroup id code len (drop at bytes)
+    → lookup (nat_eq id) index ≡ Some known → IsLoadFault HoldsOrders limit (header Two ++ bytes) (faults.Repeated (4 + at))
 front_repeated limit bytes at len orders id code index known is front has found =
     let records : List Record = records_in Two (take at bytes) in
     let sound = front.sound in

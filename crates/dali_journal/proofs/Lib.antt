@@ -11,6 +11,7 @@ pub mod AheadLemmas
 pub mod FrontLemmas
 pub mod LoadLemmas
 pub mod TornLemmas
+pub mod BehindLemmas
 pub mod FaultLemmas
 pub mod KeptLemmas
 pub mod MomentLemmas

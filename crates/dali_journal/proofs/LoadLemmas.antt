@@ -11,7 +11,7 @@ use Rattle.dali_journal.specs.declared.version.Version.{Version}
 use Rattle.dali_journal.specs.declared.version.Version.TheVariants.{Two}
 use Rattle.dali_journal.specs.Sentence.{IsSentenceWithin}
 use Rattle.dali_journal.specs.Reading.{BeginsWith}
-use Rattle.dali_journal.specs.JournalState.{JournalState, IsLimit, IsJournal, AreKept}
+use Rattle.dali_journal.specs.JournalState.{JournalState, HoldsOrders, IsJournal, AreKept}
 use Rattle.dali_journal.specs.Loading.{HasVersion, MayNotFollow, IsRecordRefused, IsFault, HasFault, IsLoadFault}
 use Rattle.dali_journal.specs.Loading.{JournalsLoadAgain}
 use Rattle.dali_journal.proofs.DecodeLemmas.{AreRecords}
@@ -27,9 +27,9 @@ behind_records version limit bytes records rest fault v s k f =
 -- a record that may not stand is a fault of the bytes
 pub fault_of : (version : Version) (fault : JournalFault) (limit : ℕ) (bytes : List ℕ) (records : List Record)
     (rest : List ℕ) (at : ℕ) (entry : Record)
-    → IsLimit limit → HasVersion version bytes → bytes ≡ journal_spelling version records ++ rest
+    → HoldsOrders limit → HasVersion version bytes → bytes ≡ journal_spelling version records ++ rest
     → at ≡ length (journal_spelling version records) → AreKept version limit records
-    → BeginsWith version rest entry → IsRecordRefused fault limit at records entry → IsLoadFault limit bytes fault
+    → BeginsWith version rest entry → IsRecordRefused fault limit at records entry → IsLoadFault HoldsOrders limit bytes fault
 fault_of version faults.Limit limit bytes records rest at entry i v s p k b f = absurd f
 fault_of version faults.NoMemory limit bytes records rest at entry i v s p k b f = i
 fault_of version faults.Header limit bytes records rest at entry i v s p k b f = absurd f

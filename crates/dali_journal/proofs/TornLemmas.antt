@@ -67,7 +67,7 @@ pub record Torn (version : Version) (bytes : List ℕ) (records : List Record) :
   pub cut : (last : Record) × IsCutOf version rest last
 
 -- the records of a torn journal are those that its bytes begin with
-torn_read : (version : Version) (bytes : List ℕ) (records : List Record) → AreRecords version records → Torn version bytes records
+pub torn_read : (version : Version) (bytes : List ℕ) (records : List Record) → AreRecords version records → Torn version bytes records
     → records_in version bytes ≡ records
 torn_read version bytes records are torn =
     let enough = enough_bytes version records in
@@ -233,7 +233,7 @@ header_behind version bytes records rest spelled =
     ap (behind_header version) (spelled ∙ append_assoc (header version) (records_spelling version records) rest)
     ∙ drop-append_seam (header version) (records_spelling version records ++ rest)
 
-torn_behind : (version : Version) (bytes : List ℕ) (records : List Record) (len : ℕ) → IsTorn version bytes records len
+pub torn_behind : (version : Version) (bytes : List ℕ) (records : List Record) (len : ℕ) → IsTorn version bytes records len
     → Torn version (behind_header version bytes) records
 torn_behind version bytes records len torn = record {
   rest = torn.rest;
@@ -280,7 +280,7 @@ records_old (newest ∷ older) rest old =
     (records_old older (spelling One newest ++ rest) (record_old newest rest))
 
 -- the version of bytes that a journal is loaded from
-torn_version : (version : Version) (first : ℕ) (bytes : List ℕ) (records : List Record) (len : ℕ)
+pub torn_version : (version : Version) (first : ℕ) (bytes : List ℕ) (records : List Record) (len : ℕ)
     → IsTorn version (first ∷ bytes) records len → HasVersion version (first ∷ bytes)
 torn_version One first bytes records len torn = (
   first,
@@ -351,16 +351,16 @@ torn_no_fault limit (first ∷ bytes) version records len kept torn =
     )
 
 -- so bytes that a journal may be loaded from are refused for want of memory alone
-pub torn_memory : (limit : ℕ) (bytes : List ℕ) (fault : JournalFault) → IsLoadFault limit bytes fault
-    → IsLoadableWithin limit bytes → fault ≡ faults.NoMemory
-torn_memory limit bytes faults.Limit f t = absurd (f t.0)
-torn_memory limit bytes faults.NoMemory f t = refl
-torn_memory limit bytes faults.Header f t = absurd ((torn_no_fault limit bytes t.1 t.2 t.3 t.4 t.5).1 f.1)
-torn_memory limit bytes (faults.Record at) f t =
+pub torn_memory : (MayBe : ℕ → Type 0) (limit : ℕ) (bytes : List ℕ) (fault : JournalFault)
+    → IsLoadFault MayBe limit bytes fault → IsLoadableWithin MayBe limit bytes → fault ≡ faults.NoMemory
+torn_memory MayBe limit bytes faults.Limit f t = absurd (f t.0)
+torn_memory MayBe limit bytes faults.NoMemory f t = refl
+torn_memory MayBe limit bytes faults.Header f t = absurd ((torn_no_fault limit bytes t.1 t.2 t.3 t.4 t.5).1 f.1)
+torn_memory MayBe limit bytes (faults.Record at) f t =
     absurd ((torn_no_fault limit bytes t.1 t.2 t.3 t.4 t.5).0 (faults.Record at) f.1)
-torn_memory limit bytes (faults.Sequence at) f t =
+torn_memory MayBe limit bytes (faults.Sequence at) f t =
     absurd ((torn_no_fault limit bytes t.1 t.2 t.3 t.4 t.5).0 (faults.Sequence at) f.1)
-torn_memory limit bytes (faults.Repeated at) f t =
+torn_memory MayBe limit bytes (faults.Repeated at) f t =
     absurd ((torn_no_fault limit bytes t.1 t.2 t.3 t.4 t.5).0 (faults.Repeated at) f.1)
-torn_memory limit bytes (faults.Full at) f t =
+torn_memory MayBe limit bytes (faults.Full at) f t =
     absurd ((torn_no_fault limit bytes t.1 t.2 t.3 t.4 t.5).0 (faults.Full at) f.1)

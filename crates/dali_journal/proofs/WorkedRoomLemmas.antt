@@ -6,7 +6,7 @@ use Rattle.dali_journal.specs.declared.record.Code.{Code}
 use Rattle.dali_journal.specs.declared.record.Record.TheVariants.{Began, Opened, Ended, Closed}
 use Rattle.dali_journal.specs.declared.version.Version.TheVariants.{Two}
 use Rattle.dali_journal.specs.Faults.{IsNewFault}
-use Rattle.dali_journal.specs.JournalState.{JournalState, HasRoom, KeepsRoom, IsLimit}
+use Rattle.dali_journal.specs.JournalState.{HoldsOrders, JournalState, HasRoom, KeepsRoom, IsLimit}
 use Rattle.dali_journal.specs.Loading.{IsLoadFault}
 use Rattle.dali_journal.specs.Spelling.{spelling}
 
@@ -41,14 +41,18 @@ none_within limit = omega (arith, limit.0)
 past_the_most : IsLimit 100001 → ⊥
 past_the_most limit = omega (arith, limit.1)
 
-pub limit_is_the_fault : IsLoadFault 0 [] faults.Limit × IsLoadFault 100001 [] faults.Limit
+pub limit_is_the_fault : IsLoadFault IsLimit 0 [] faults.Limit × IsLoadFault IsLimit 100001 [] faults.Limit
 limit_is_the_fault = (none_within, past_the_most)
 
-pub no_want_of_memory : (IsLoadFault 0 [] faults.NoMemory → ⊥) × (IsLoadFault 100001 [] faults.NoMemory → ⊥)
+pub no_want_of_memory : (IsLoadFault IsLimit 0 [] faults.NoMemory → ⊥) × (IsLoadFault IsLimit 100001 [] faults.NoMemory → ⊥)
 no_want_of_memory = (none_within, past_the_most)
 
 pub no_want_of_memory_for_a_new_one : (IsNewFault 0 faults.NoMemory → ⊥) × (IsNewFault 100001 faults.NoMemory → ⊥)
 no_want_of_memory_for_a_new_one = (none_within, past_the_most)
 
-pub memory_may_be_wanted_within : IsLoadFault 1 [] faults.NoMemory × IsLoadFault 100000 [] faults.NoMemory
+pub memory_may_be_wanted_within : IsLoadFault IsLimit 1 [] faults.NoMemory × IsLoadFault IsLimit 100000 [] faults.NoMemory
 memory_may_be_wanted_within = ((omega arith, omega arith), (omega arith, omega arith))
+
+-- behind older journals a journal may hold their orders too, but some order at least
+pub more_behind_older : HoldsOrders 100001 × (HoldsOrders 0 → ⊥)
+more_behind_older = (omega arith, λ none. omega (arith, none))

@@ -53,9 +53,13 @@ abbrev pub KeepsRoom : Record → JournalState → JournalState → Type 0
 KeepsRoom (Began begun moment) old new = ⊤
 KeepsRoom other old new = (order : Contents) → HasRoom old order → HasRoom new order
 
--- the limits that a journal may have
+-- a journal may hold an order: so may each
+abbrev pub HoldsOrders : ℕ → Type 0
+HoldsOrders limit = 1 ≤ limit
+
+-- the limits that a journal may have which stands alone; one behind older journals may hold all their orders too
 abbrev pub IsLimit : ℕ → Type 0
-IsLimit limit = (1 ≤ limit) × (limit ≤ 100000)
+IsLimit limit = HoldsOrders limit × (limit ≤ 100000)
 
 -- the records of a journal for at most so many orders, as a version may write them
 pub record AreKept (version : Version) (limit : ℕ) (records : List Record) : Type 0 where
@@ -65,5 +69,5 @@ pub record AreKept (version : Version) (limit : ℕ) (records : List Record) : T
 -- what is so of every journal, and that there is memory for what is due
 pub record IsJournal (journal : JournalState) : Type 0 where
   pub kept : AreKept Two journal.limit journal.records
-  pub limited : IsLimit journal.limit
+  pub limited : HoldsOrders journal.limit
   pub due : bytes_due (standing_of journal.records) ≤ journal.room

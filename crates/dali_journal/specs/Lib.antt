@@ -8,5 +8,6 @@ pub mod Decoding
 pub mod Index
 pub mod Loading
 pub mod JournalState
+pub mod Behind
 pub mod Faults
 pub mod Law

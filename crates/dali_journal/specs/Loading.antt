@@ -11,7 +11,7 @@ use Rattle.dali_journal.specs.Sentence.{Allows, standing_of, is_begun}
 use Rattle.dali_journal.specs.Orders.{orders_of}
 use Rattle.dali_journal.specs.Spelling.{header, journal_spelling}
 use Rattle.dali_journal.specs.Reading.{BeginsWith, IsCutOf}
-use Rattle.dali_journal.specs.JournalState.{JournalState, AreKept, IsLimit, IsJournal}
+use Rattle.dali_journal.specs.JournalState.{JournalState, AreKept, HoldsOrders, IsJournal}
 
 -- the bytes are of this version: of version 1 they begin with another byte than the header does
 abbrev pub HasVersion : Version → List ℕ → Type 0
@@ -73,17 +73,17 @@ pub record HasFault (limit : ℕ) (bytes : List ℕ) (fault : JournalFault) : Ty
 abbrev pub HasBrokenHeader : List ℕ → Type 0
 HasBrokenHeader bytes = ((rest : List ℕ) × (bytes ≡ 0x44 ∷ rest)) × (¬ HasVersion Two bytes)
 
--- why no journal is loaded from the bytes for at most so many orders
-abbrev pub IsLoadFault : ℕ → List ℕ → JournalFault → Type 0
-IsLoadFault limit bytes faults.Limit = ¬ IsLimit limit
-IsLoadFault limit bytes faults.NoMemory = IsLimit limit
-IsLoadFault limit bytes faults.Header = IsLimit limit × HasBrokenHeader bytes
-IsLoadFault limit bytes fault = IsLimit limit × HasFault limit bytes fault
+-- why no journal is loaded from the bytes for at most so many orders, where these limits may be
+abbrev pub IsLoadFault : (ℕ → Type 0) → ℕ → List ℕ → JournalFault → Type 0
+IsLoadFault MayBe limit bytes faults.Limit = ¬ MayBe limit
+IsLoadFault MayBe limit bytes faults.NoMemory = MayBe limit
+IsLoadFault MayBe limit bytes faults.Header = MayBe limit × HasBrokenHeader bytes
+IsLoadFault MayBe limit bytes fault = MayBe limit × HasFault limit bytes fault
 
 -- a journal for at most so many orders may be loaded from the bytes
-abbrev pub IsLoadableWithin : ℕ → List ℕ → Type 0
-IsLoadableWithin limit bytes =
-    IsLimit limit × (version : Version) × (records : List Record) × (len : ℕ) × AreKept version limit records
+abbrev pub IsLoadableWithin : (ℕ → Type 0) → ℕ → List ℕ → Type 0
+IsLoadableWithin MayBe limit bytes =
+    MayBe limit × (version : Version) × (records : List Record) × (len : ℕ) × AreKept version limit records
     × IsLoadable version bytes records len
 
 -- Bytes that a journal within the limit is loaded from have no fault, and are the journal of no other records, in no
@@ -109,6 +109,6 @@ BytesHaveOneFault =
 abbrev pub JournalsLoadAgain : Type 0
 JournalsLoadAgain =
     (journal : JournalState) (last : Record) (cut : List ℕ) → IsJournal journal → IsCutOf Two cut last
-    → IsLimit journal.limit × AreKept Two journal.limit journal.records
+    → HoldsOrders journal.limit × AreKept Two journal.limit journal.records
     × IsLoadable Two (journal_spelling Two journal.records ++ cut) journal.records
     (length (journal_spelling Two journal.records))

@@ -2,7 +2,7 @@
 ghost use Rattle.std.specs.Prelude.{◌++◌, IsTrue, IfSome, IfOk, IfErr};
 ghost use Rattle.dali_journal.specs.declared.version.Version.TheVariants.{Two};
 ghost use Rattle.dali_journal.specs.Spelling.{header};
-ghost use Rattle.dali_journal.specs.JournalState.{IsLimit};
+ghost use Rattle.dali_journal.specs.JournalState.{HoldsOrders};
 ghost use Rattle.dali_journal.specs.Loading.{IsLoadFault};
 ghost use Rattle.dali_journal.specs.GroupAhead.{AreUpdatesAbove, HasUpdates, HasBegan, HasEnd, HasGroup, IsFront};
 
@@ -45,9 +45,9 @@ struct Head {
 //
 // Repeated where a number stands twice; NoMemory.
 pub(crate) fn groups_ahead(alloc: Global, limit: u32, bytes: &[u8]) -> Result<Groups, JournalFault>
-    requires { IsLimit limit }
+    requires { HoldsOrders limit }
     ensures ok { IfOk result (λ groups. IsFront limit bytes.now groups.len groups.orders groups.index.entries) }
-    ensures err { IfErr result (λ fault. IsLoadFault limit (header Two ++ bytes.now) fault) }
+    ensures err { IfErr result (λ fault. IsLoadFault HoldsOrders limit (header Two ++ bytes.now) fault) }
 {
     let most = (bytes.len() / LEAST_BYTES).min(limit as usize);
     let Ok(mut index) = IndexMap::with_capacity(alloc, most) else {

@@ -7,7 +7,7 @@ ghost use Rattle.dali_journal.specs.declared.version.Version.TheVariants.{One, T
 ghost use Rattle.dali_journal.specs.Orders.{kept_of, moment_of};
 ghost use Rattle.dali_journal.specs.Index.{orders_begun};
 ghost use Rattle.dali_journal.specs.Spelling.{spelling, records_spelling, header, journal_spelling};
-ghost use Rattle.dali_journal.specs.JournalState.{HasRoom, MayBegin, KeepsRoom, IsLimit, AreKept, IsJournal};
+ghost use Rattle.dali_journal.specs.JournalState.{HasRoom, MayBegin, KeepsRoom, HoldsOrders, IsLimit, AreKept, IsJournal};
 ghost use Rattle.dali_journal.specs.JournalState.{order_count, bytes_due};
 ghost use Rattle.dali_journal.specs.Faults.{IsNewFault};
 ghost use Rattle.dali_journal.specs.Loading.{HasVersion, HasBrokenHeader, IsTorn, IsLoaded, IsLoadableWithin};
@@ -23,7 +23,7 @@ use crate::standing::Standing;
 use crate::version::{HEADER, Version};
 use dali_bank::Order;
 use indexmap::IndexMap;
-use std::alloc::{AllocError, Global};
+use std::alloc::Global;
 use std::marker::Model;
 use std::mem;
 
@@ -100,13 +100,23 @@ impl Journal {
         if limit < 1 || limit > MOST_ORDERS {
             return Err(JournalFault::Limit);
         }
-        Ok(Journal {
+        Ok(Journal::empty(alloc, limit))
+    }
+
+    // An empty journal for at most so many orders.
+    fn empty(alloc: Global, limit: u32) -> Journal
+        requires { HoldsOrders limit }
+        ensures records { result.records ≡ [] }
+        ensures limit { result.limit ≡ limit }
+        ensures room { (result.room ≡ 0) × (result.numbers ≡ []) }
+    {
+        Journal {
             limit,
             orders: 0,
             standing: Standing::Idle,
             bytes: Vec::new(alloc),
             index: IndexMap::new(alloc),
-        })
+        }
     }
 
     /// The journal of these bytes, how many of them count, those of the header and the whole records, and their
@@ -126,42 +136,37 @@ impl Journal {
     ) -> Result<(Journal, usize, Version), JournalFault>
         ensures accepted { OnOk result (IsLimit limit) }
         ensures ok { IfOk result (λ loaded. IsLoaded limit bytes.now loaded.0 loaded.1 loaded.2) }
-        ensures err { IfErr result (λ fault. IsLoadFault limit bytes.now fault) }
-        ensures torn { IfErr result (λ fault. IsLoadableWithin limit bytes.now → fault ≡ JournalFault.NoMemory) }
+        ensures err { IfErr result (λ fault. IsLoadFault IsLimit limit bytes.now fault) }
+        ensures torn { IfErr result (λ fault.
+            IsLoadableWithin IsLimit limit bytes.now → fault ≡ JournalFault.NoMemory) }
     {
-        let journal = match Journal::new(alloc, limit) {
-            Ok(journal) => journal,
-            Err(fault) => return Err(fault),
-        };
-        if bytes.is_empty() {
-            return Ok((journal, 0, Version::Two));
+        if limit < 1 || limit > MOST_ORDERS {
+            return Err(JournalFault::Limit);
         }
-        match version_of(bytes) {
-            None => Err(JournalFault::Header),
-            Some(Version::One) => journal.upgraded(bytes),
-            Some(Version::Two) => match copy_in_room(alloc, &bytes[HEADER.len()..]) {
-                Ok(copy) => journal.filled(alloc, copy),
-                Err(_) => Err(JournalFault::NoMemory),
-            },
+        match bytes.to_vec(alloc) {
+            Ok(bytes) => Journal::load_vec(alloc, limit, bytes),
+            Err(_) => Err(JournalFault::NoMemory),
         }
     }
 
     /// The same as `load`, of bytes that become the journal's own where they are of version 2, so that there is no
-    /// second copy of them.
+    /// second copy of them. The limit may be larger than 100000, for the orders of older journals that stand in front:
+    /// fault 1 Limit comes where it is 0 alone.
     pub fn load_vec(
         alloc: Global,
         limit: u32,
         bytes: Vec<u8>,
     ) -> Result<(Journal, usize, Version), JournalFault>
-        ensures accepted { OnOk result (IsLimit limit) }
+        ensures accepted { OnOk result (HoldsOrders limit) }
         ensures ok { IfOk result (λ loaded. IsLoaded limit bytes.items loaded.0 loaded.1 loaded.2) }
-        ensures err { IfErr result (λ fault. IsLoadFault limit bytes.items fault) }
-        ensures torn { IfErr result (λ fault. IsLoadableWithin limit bytes.items → fault ≡ JournalFault.NoMemory) }
+        ensures err { IfErr result (λ fault. IsLoadFault HoldsOrders limit bytes.items fault) }
+        ensures torn { IfErr result (λ fault.
+            IsLoadableWithin HoldsOrders limit bytes.items → fault ≡ JournalFault.NoMemory) }
     {
-        let journal = match Journal::new(alloc, limit) {
-            Ok(journal) => journal,
-            Err(fault) => return Err(fault),
-        };
+        if limit < 1 {
+            return Err(JournalFault::Limit);
+        }
+        let journal = Journal::empty(alloc, limit);
         if bytes.is_empty() {
             return Ok((journal, 0, Version::Two));
         }
@@ -177,8 +182,8 @@ impl Journal {
         requires empty { self.records ≡ [] }
         requires version { HasVersion One bytes.now }
         ensures ok { IfOk result (λ loaded. IsLoaded self.limit bytes.now loaded.0 loaded.1 loaded.2) }
-        ensures err { IfErr result (λ fault. IsLoadFault self.limit bytes.now fault) }
-        ensures torn { IfErr result (λ fault. IsLoadableWithin self.limit bytes.now → fault ≡ JournalFault.NoMemory) }
+        ensures err { IfErr result (λ fault. IsLoadFault HoldsOrders self.limit bytes.now fault) }
+        ensures torn { IfErr result (λ fault. IsLoadableWithin HoldsOrders self.limit bytes.now → fault ≡ JournalFault.NoMemory) }
     {
         match self.take_rest(Version::One, 0, bytes) {
             Ok(len) => Ok((self, len, Version::One)),
@@ -193,8 +198,8 @@ impl Journal {
         bytes: Vec<u8>,
     ) -> Result<(Journal, usize, Version), JournalFault>
         ensures ok { IfOk result (λ loaded. IsLoaded self.limit (header Two ++ bytes.items) loaded.0 loaded.1 loaded.2) }
-        ensures err { IfErr result (λ fault. IsLoadFault self.limit (header Two ++ bytes.items) fault) }
-        ensures torn { IfErr result (λ fault. IsLoadableWithin self.limit (header Two ++ bytes.items)
+        ensures err { IfErr result (λ fault. IsLoadFault HoldsOrders self.limit (header Two ++ bytes.items) fault) }
+        ensures torn { IfErr result (λ fault. IsLoadableWithin HoldsOrders self.limit (header Two ++ bytes.items)
             → fault ≡ JournalFault.NoMemory) }
     {
         let whole = HEADER.len() + bytes.len();
@@ -214,7 +219,7 @@ impl Journal {
         ensures journal { OnOk result (IsJournal self.new) }
         ensures limit { OnOk result (self.new.limit ≡ self.old.limit) }
         ensures spelled { IfOk result (λ rest. bytes.items ≡ records_spelling Two self.new.records ++ rest.items) }
-        ensures err { IfErr result (λ fault. IsLoadFault self.old.limit (header Two ++ bytes.items) fault) }
+        ensures err { IfErr result (λ fault. IsLoadFault HoldsOrders self.old.limit (header Two ++ bytes.items) fault) }
     {
         // it tells the groups what is so of every limit
         let limit = self.limit();
@@ -251,7 +256,7 @@ impl Journal {
         ensures ok { IfOk result (λ len.
             IsTorn version (journal_spelling version self.old.records ++ rest.now) self.new.records len) }
         ensures err { IfErr result (λ fault.
-            IsLoadFault self.old.limit (journal_spelling version self.old.records ++ rest.now) fault) }
+            IsLoadFault HoldsOrders self.old.limit (journal_spelling version self.old.records ++ rest.now) fault) }
     {
         let mut at = 0;
         'records: loop {
@@ -296,7 +301,7 @@ impl Journal {
     }
 
     // Whether an order of this number was begun.
-    fn has_begun(&self, id: u64) -> bool
+    pub(crate) fn has_begun(&self, id: u64) -> bool
         ensures { result ≡ is_begun id self.now.records }
     {
         index_entry(&self.index, id).is_begun()
@@ -444,15 +449,6 @@ fn bytes_wanted(standing: &Standing, order: &Order) -> usize
 {
     let began_bytes = Version::Two.began_head_len() + 2 * order.updates().len();
     standing.bytes_due() + began_bytes + BYTES_BEHIND_BEGAN
-}
-
-// A copy of the bytes, with room for what ends the last order.
-fn copy_in_room(alloc: Global, bytes: &[u8]) -> Result<Vec<u8>, AllocError>
-    ensures { IfOk result (λ copy. copy.items ≡ bytes.now) }
-{
-    let mut copy = Vec::with_capacity(alloc, bytes.len() + BYTES_BEHIND_BEGAN)?;
-    copy.extend_from_slice(bytes)?;
-    Ok(copy)
 }
 
 // How many orders a record begins.

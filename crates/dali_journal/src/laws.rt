@@ -2,6 +2,7 @@
 
 ghost use Rattle.dali_journal.specs.Law.{SentencesAreGroups, KeptIsInTheGroups, NoSpellingBeginsAnother};
 ghost use Rattle.dali_journal.specs.Law.{BytesBeginWithOnePiece, MomentsAreKept};
+ghost use Rattle.dali_journal.specs.Behind.{OwnRecordsStandAlone, OlderOrdersAreKept};
 ghost use Rattle.dali_journal.specs.Loading.{TornHasNoFault, BytesHaveOneFault, JournalsLoadAgain};
 
 /// What the table of standings allows, record by record, is a list of groups, one for each order.
@@ -44,4 +45,14 @@ pub fn journals_load_again()
 /// Bytes have one fault at most, at one place.
 pub fn bytes_have_one_fault()
     ensures { BytesHaveOneFault }
+{}
+
+/// A journal behind older ones that are at rest is a journal by itself.
+pub fn own_records_stand_alone()
+    ensures { OwnRecordsStandAlone }
+{}
+
+/// Behind older journals that are at rest no number is used again, and what they have kept of theirs is kept.
+pub fn older_orders_are_kept()
+    ensures { OlderOrdersAreKept }
 {}

@@ -1,10 +1,11 @@
 //! The journal of a writer (profile): which orders it began, and how far each has come.
 //!
 //! A journal is a list of records, held as their bytes. What it has begun it can always end without
-//! taking memory. Only `Journal::load`, `load_vec`, `reserve` and `to_bytes` take memory. It is written in
+//! taking memory. Only `Journal::load`, `load_vec`, `behind`, `reserve` and `to_bytes` take memory. It is written in
 //! version 2 alone, and read in both.
 #![tactic(auto)]
 
+mod behind;
 mod fault;
 mod group;
 mod index;
@@ -16,6 +17,7 @@ mod record;
 mod standing;
 mod version;
 
+pub use behind::JoinFault;
 pub use fault::{JournalFault, NoMemory};
 pub use journal::Journal;
 pub use kept::{Kept, Progress};

@@ -3,7 +3,7 @@ use Rattle.std.specs.Prelude.{◌≡◌, ◌⊎◌, ◌≤◌, ℕ, List, Option
 use Rattle.std.specs.Io.KnownBytes.{Keeps}
 use Rattle.dali_journal.specs.declared.record.Record.{Record}
 use Rattle.dali_journal.specs.declared.version.Version.{Version}
-use Rattle.dali_journal.specs.JournalState.{JournalState, AreKept}
+use Rattle.dali_journal.specs.JournalState.{JournalState, AreKept, HoldsOrders}
 use Rattle.dali_journal.specs.Loading.{IsLoadable, IsLoaded, IsLoadFault}
 use Rattle.dali_store.specs.declared.opening.OpenFault.{OpenFault}
 use Rattle.dali_store.specs.declared.opening.OpenFault.TheVariants.{Store, Journal}
@@ -51,7 +51,7 @@ LeavesAlike limit seen before c = before c ⊎ LoadsAlike limit seen c
 -- a store that failed holds the same bytes, or bytes of the same records.
 abbrev pub IsOpenFault : ℕ → ℕ → Option (List ℕ) → Option (List ℕ) → OpenFault → Type 0
 IsOpenFault limit most old new (Journal fault) =
-    ((bytes : List ℕ) × Shows old bytes × (length bytes ≤ most) × IsLoadFault limit bytes fault) × Keeps old new
+    ((bytes : List ℕ) × Shows old bytes × (length bytes ≤ most) × IsLoadFault HoldsOrders limit bytes fault) × Keeps old new
 IsOpenFault limit most old new (Store TooBig) = IsLonger most old × Keeps old new
 IsOpenFault limit most old new (Store NoMemory) = Keeps old new
 IsOpenFault limit most old new (Store Failed) = Keeps old new ⊎ StaysAlike limit old new

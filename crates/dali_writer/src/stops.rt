@@ -111,7 +111,7 @@ fn loaded_again(alloc: Global, journal: &Journal, cut: &[u8]) -> Result<Journal,
 {
     let mut left = journal.to_bytes(alloc)?;
     left.extend_from_slice(cut)?;
-    match Journal::load(alloc, journal.limit(), &left) {
+    match Journal::load_vec(alloc, journal.limit(), left) {
         Ok((again, _, _)) => Ok(again),
         Err(JournalFault::NoMemory) => Err(NoMemory),
         Err(_) => unreachable!(),

@@ -11,6 +11,7 @@ pub mod Stored
 pub mod Observed
 pub mod WorkedOn
 pub mod Followed
+pub mod Behind
 pub mod Sittings
 pub mod Kills
 pub mod Repeats

@@ -3,6 +3,7 @@
 //! broken off.
 #![tactic(auto)]
 
+mod behind;
 mod driving;
 mod fault;
 mod following;
@@ -17,6 +18,7 @@ mod streams;
 mod survey;
 mod survey_lines;
 
+pub use behind::{BehindFault, follow_behind};
 pub use driving::{drive, drive_observed};
 pub use fault::DriveFault;
 pub use following::{Given, Orders, follow, follow_stored};

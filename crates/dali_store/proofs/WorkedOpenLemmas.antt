@@ -176,7 +176,7 @@ too_big_past_the_limit = ((omega arith, refl), λ fault. let longer = fault.0 in
 
 pub broken_header_told : IsOpenFault 1 100 (Some (0x44 ∷ [])) (Some (0x44 ∷ [])) (Journal faults.Header)
 broken_header_told =
-    ((0x44 ∷ [], refl, omega arith, ((omega arith, omega arith), (([], refl), λ is. let same = is.1 in cc))), refl)
+    ((0x44 ∷ [], refl, omega arith, (omega arith, (([], refl), λ is. let same = is.1 in cc))), refl)
 
 pub not_told_of_a_journal : IsOpenFault 1 100 (Some with_cut) (Some with_cut) (Journal faults.Header) → ⊥
 not_told_of_a_journal ((bytes, shown, within, (limit, broken)), keeps) =

@@ -130,7 +130,7 @@ in_range start [] all keeps = all
 in_range start (Kept entry ∷ past) all keeps = (keeps.0, in_range start past all keeps.1)
 in_range start (_ ∷ past) all keeps = in_range start past all keeps
 
-kept_so : (start : Start) (past : List Happening) → AreKept Two start.limit start.records → Legal start past
+pub kept_so : (start : Start) (past : List Happening) → AreKept Two start.limit start.records → Legal start past
     → KeepsRecords past → AreKept Two start.limit (records_of start past)
 kept_so start past kept legal keeps =
     record { in_range = in_range start past kept.in_range keeps; whole = legal_sentence start past legal }

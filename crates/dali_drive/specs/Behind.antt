@@ -1,16 +1,21 @@
 -- Orders that are followed behind older journals: the records of these stand behind those of the store in one journal,
 -- and the store keeps its own alone.
-use Rattle.std.specs.Prelude.{◌≡◌, ◌+◌, ◌++◌, ℕ, Bool, List, [], Option, option_map, drop, length}
+use Rattle.std.specs.Prelude.{◌≡◌, ◌+◌, ◌++◌, ℕ, Bool, true, false, List, [], Option, option_map, drop, length}
+use Rattle.dali_bank.specs.Order.{Contents}
 use Rattle.dali_frame.specs.declared.forward.Frame.{Frame}
 use Rattle.dali_journal.specs.declared.behind.JoinFault.{JoinFault}
 use Rattle.dali_journal.specs.declared.record.Record.{Record}
 use Rattle.dali_journal.specs.declared.version.Version.TheVariants.{Two}
 use Rattle.dali_journal.specs.Behind.{IsJoinFault}
 use Rattle.dali_journal.specs.JournalState.{JournalState, AreKept, order_count}
+use Rattle.dali_journal.specs.Orders.{kept_of}
+use Rattle.dali_journal.specs.Sentence.{is_begun}
 use Rattle.dali_journal.specs.Spelling.{header, journal_spelling}
 use Rattle.dali_store.specs.Stores.{IsSettled}
 use Rattle.dali_trace.specs.declared.happening.Happening.{Happening}
-use Rattle.dali_trace.specs.Trace.{Start}
+use Rattle.dali_trace.specs.declared.happening.Reply.{Reply}
+use Rattle.dali_trace.specs.Replies.{IsReply, IsKnownReply}
+use Rattle.dali_trace.specs.Trace.{Start, records_of}
 use Rattle.dali_writer.specs.WriterState.{WriterState, start_of}
 use Rattle.dali_drive.specs.declared.behind.BehindFault.{BehindFault}
 use Rattle.dali_drive.specs.declared.behind.BehindFault.TheVariants.{Open, Join, Drive}
@@ -80,6 +85,17 @@ BehindFailedAs (Open fault) store link_out link_in out = StoredFailedAs (stored.
 BehindFailedAs (Join fault) store link_out link_in out = NoneFailed store link_out link_in out
 BehindFailedAs (Drive fault) store link_out link_in out =
     StoredFailedAs (stored.Drive fault) store link_out link_in out
+
+-- Behind older journals each order acts once: of all that were begun those of the older ones are no others, each that
+-- they have gets the reply that they keep for it, or its number is another order's, and the records that the store keeps
+-- are a journal by themselves.
+pub record ActsOnceBehind (older : JournalState) (limit : ℕ) (start : Start) (past : List Happening) : Type 0 where
+  pub own : List Record
+  pub records_are : records_of start past ≡ own ++ older.records
+  pub alone : AreKept Two limit own
+  pub apart : (id : ℕ) → is_begun id older.records ≡ true → is_begun id own ≡ false
+  pub known : (order : Contents) (reply : Reply) → is_begun order.id older.records ≡ true
+      → IsReply start past order reply → IsKnownReply order (kept_of order.id older.records) reply
 
 -- What a store's bytes are behind older records
 

@@ -19,9 +19,14 @@ ghost use Rattle.dali_laws.specs.Joined.{Sitting, joined, FollowOn};
 ghost use Rattle.dali_store.specs.declared.opening.OpenFault.{OpenFault};
 ghost use Rattle.dali_store.specs.Stores.{IsBetween};
 ghost use Rattle.dali_store.specs.Opened.{Loads, IsOpenFault};
+ghost use Rattle.dali_journal.specs.declared.standing.Standing.TheVariants.{Idle};
+ghost use Rattle.dali_journal.specs.JournalState.{JournalState};
+ghost use Rattle.dali_journal.specs.Sentence.{standing_of};
+ghost use Rattle.dali_trace.specs.Legal.{Legal};
+ghost use Rattle.dali_drive.specs.Behind.{IsBegunBehind, ActsOnceBehind};
 ghost use Rattle.dali_drive.specs.declared.fault.DriveFault.{DriveFault};
 ghost use Rattle.dali_drive.specs.Transcript.{Streams};
-ghost use Rattle.dali_drive.specs.Driven.{IsDrive, IsBrokenDrive};
+ghost use Rattle.dali_drive.specs.Driven.{IsDrive, IsBrokenDrive, KeepsRecords};
 ghost use Rattle.dali_drive.specs.Stored.{IsBegun, IsStoredDrive, IsPartBehind};
 ghost use Rattle.dali_drive.specs.Sittings.{CameToItsEnd, BrokeOff};
 ghost use Rattle.dali_drive.specs.Kills.{StoodOnce};
@@ -139,4 +144,15 @@ pub fn what_is_read_stays()
         → Run WorldStep (IsAmong loses) broke.told begun ended
         ⊎ Run WorldStep (IsAmong loses) (record { frame = broke.frame; answer = answer } ∷ broke.told) begun ended
         → (address : ℕ) → KeepsAt (IsAmong loses) begun ended address }
+{}
+
+/// Behind older journals that are at rest, along each trace that may follow, each order acts once over all of them: an
+/// order that one of them has ended gets that reply, and since that isn't Taken no frame is sent for it; a number that
+/// one of them has with other contents is refused as `reused`; and no number is begun twice in all. What the store
+/// keeps is a journal by itself.
+pub fn older_orders_act_once()
+    ensures { (older : JournalState) (limit most : ℕ) (first : Streams) (past : List Happening)
+        (b : IsBegunBehind older limit most first) → standing_of older.records ≡ Idle
+        → Legal (start_of b.journal) past → KeepsRecords past
+        → ActsOnceBehind older limit (start_of b.journal) past }
 {}

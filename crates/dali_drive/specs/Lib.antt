@@ -11,6 +11,7 @@ pub mod Stored
 pub mod Observed
 pub mod WorkedOn
 pub mod Followed
+pub mod Listed
 pub mod Behind
 pub mod Sittings
 pub mod Kills

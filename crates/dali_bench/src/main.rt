@@ -71,20 +71,18 @@ fn run(rt: &HostRuntime, words: &Vec<String>) -> Status {
                 orders,
                 journal,
                 moment,
+                follow,
                 require_done,
                 report,
             },
-        ) => on_link(
-            rt,
-            LinkCommand::Drive {
-                names: DriveNames { orders, journal },
-                terms: DriveTerms {
-                    moment,
-                    require_done,
-                },
-                report,
-            },
-        ),
+        ) => {
+            let names = DriveNames { orders, journal };
+            let terms = DriveTerms {
+                moment,
+                require_done,
+            };
+            on_link(rt, LinkCommand::driving(follow, names, terms, report))
+        }
         Ok(Job::Read { unit, bank }) => on_link(rt, LinkCommand::Read { unit, bank }),
         Ok(Job::Verify { orders, report }) => on_link(rt, LinkCommand::Verify { orders, report }),
         Ok(Job::Scan) => on_link(rt, LinkCommand::Scan),

@@ -13,7 +13,7 @@ use std::alloc::{AllocError, Global};
 use std::test::Fail;
 
 // `SILENT` of the moment 7.
-const SILENT_AT_7: [u8; 37] = [
+pub(crate) const SILENT_AT_7: [u8; 37] = [
     0x44, 0x42, 0x31, 0x02, 0x42, 0x00, 0x00, 0x00, 0x00, 0x00, 0x00, 0x00, 0x01, 0x00, 0x00, 0x00,
     0x00, 0x00, 0x00, 0x00, 0x07, 0x09, 0x06, 0x03, 0x03, 0x04, 0xA4, 0x05, 0xCE, 0x06, 0xEF, 0x07,
     0xAD, 0x08, 0xAB, 0x45, 0x03,
@@ -125,7 +125,7 @@ struct Reported<'a> {
 
 const OTHER: &str = "[{\"order\":1,\"unit\":8,\"year\":7}]";
 
-const NONE_16: &str = "--\n--\n--\n--\n--\n--\n--\n--\n--\n--\n--\n--\n--\n--\n--\n--\n";
+pub(crate) const NONE_16: &str = "--\n--\n--\n--\n--\n--\n--\n--\n--\n--\n--\n--\n--\n--\n--\n--\n";
 
 static REPORTS: [Reported<'static>; 7] = [
     Reported {

@@ -97,11 +97,12 @@ fn command_lines_of_a_comparison(rt: HostRuntime) -> Result<(), Fail> {
     Ok(())
 }
 
-fn drive(moment: u64, require_done: bool, report: Option<&str>) -> Job<'_> {
+fn drive(moment: u64, follow: bool, require_done: bool, report: Option<&str>) -> Job<'_> {
     Job::Drive {
         orders: "o.json",
         journal: "b.bin",
         moment,
+        follow,
         require_done,
         report,
     }
@@ -118,27 +119,39 @@ dali_bench drive --moment 18446744073709551615 o.json b.bin|18446744073709551615
 fn command_lines_of_a_drive(rt: HostRuntime) -> Result<(), Fail> {
     for case in DRIVES.split('\n') {
         let (line, moment) = case.split_once('|').ok_or("a command line")?;
-        names(rt.alloc(), line, drive(moment.parse()?, false, None))?;
+        names(rt.alloc(), line, drive(moment.parse()?, false, false, None))?;
     }
     Ok(())
 }
 
-// Command lines of a drive, whether each wants all orders done, and the file of its report.
-static DRIVES_WITH_OPTIONS: [(&str, bool, Option<&str>); 5] = [
-    ("dali_bench drive --require-done o.json b.bin", true, None),
-    ("dali_bench drive o.json b.bin --require-done", true, None),
+// Command lines of a drive, whether each has orders that come line by line, and wants all orders done, and the file of
+// its report.
+static DRIVES_WITH_OPTIONS: [(&str, bool, bool, Option<&str>); 8] = [
+    ("dali_bench drive --require-done o.json b.bin", false, true, None),
+    ("dali_bench drive o.json b.bin --require-done", false, true, None),
+    ("dali_bench drive --follow o.json b.bin", true, false, None),
+    ("dali_bench drive o.json b.bin --follow", true, false, None),
     (
         "dali_bench drive o.json b.bin --report r.json",
+        false,
         false,
         Some("r.json"),
     ),
     (
         "dali_bench drive o.json --report=r.json b.bin",
         false,
+        false,
         Some("r.json"),
     ),
     (
         "dali_bench drive --report r.json --require-done o.json b.bin",
+        false,
+        true,
+        Some("r.json"),
+    ),
+    (
+        "dali_bench drive --follow --report r.json o.json --require-done b.bin",
+        true,
         true,
         Some("r.json"),
     ),
@@ -146,8 +159,8 @@ static DRIVES_WITH_OPTIONS: [(&str, bool, Option<&str>); 5] = [
 
 #[test]
 fn command_lines_of_a_drive_with_options(rt: HostRuntime) -> Result<(), Fail> {
-    for &(line, require_done, report) in &DRIVES_WITH_OPTIONS {
-        names(rt.alloc(), line, drive(0, require_done, report))?;
+    for &(line, follow, require_done, report) in &DRIVES_WITH_OPTIONS {
+        names(rt.alloc(), line, drive(0, follow, require_done, report))?;
     }
     Ok(())
 }
@@ -213,6 +226,7 @@ dali_bench check --updates a
 dali_bench journal --report r a
 dali_bench run a b
 dali_bench drive a b c
+dali_bench verify --follow a
 dali_bench drive --frames a b
 dali_bench drive --done a b
 dali_bench read 5 a b
@@ -226,6 +240,7 @@ dali_bench scan --all";
 const TWICE: &str = "dali_bench run --frames a --frames
 dali_bench drive --moment 1 a b --moment 1
 dali_bench drive --require-done a b --require-done
+dali_bench drive --follow a b --follow
 dali_bench drive --report r a b --report r
 dali_bench journal --updates a --updates";
 

@@ -13,6 +13,8 @@ mod drive_memory;
 #[cfg(test)]
 mod expected;
 #[cfg(test)]
+mod follow_memory;
+#[cfg(test)]
 mod frame;
 #[cfg(test)]
 mod job;

@@ -1,5 +1,6 @@
 pub mod FailureLemmas
 pub mod DriveLemmas
+pub mod FollowLemmas
 pub mod FrameLemmas
 pub mod ReportLemmas
 pub mod RunLemmas

@@ -8,6 +8,7 @@ pub mod JournalAnswers
 pub mod Told
 pub mod OrdersAnswers
 pub mod DriveAnswers
+pub mod FollowAnswers
 pub mod ReadAnswers
 pub mod LinkCommands
 pub mod FileCommands

@@ -9,8 +9,9 @@ use Rattle.dali_report.specs.Told.{has_failed}
 use Rattle.dali_commands.specs.declared.fault.Status.{Status}
 use Rattle.dali_commands.specs.declared.fault.Status.TheVariants.{Failed, Unwritten}
 use Rattle.dali_commands.specs.declared.link_command.LinkCommand.{LinkCommand}
-use Rattle.dali_commands.specs.declared.link_command.LinkCommand.TheVariants.{Drive, Read, Verify, Scan}
+use Rattle.dali_commands.specs.declared.link_command.LinkCommand.TheVariants.{Drive, Follow, Read, Verify, Scan}
 use Rattle.dali_commands.specs.DriveAnswers.{IsDriveAnswer}
+use Rattle.dali_commands.specs.FollowAnswers.{IsFileFollow}
 use Rattle.dali_commands.specs.OrdersAnswers.{IsFileAnswer}
 use Rattle.dali_commands.specs.ReadAnswers.{IsReadAnswer, IsScanAnswer, IsVerifyAnswer}
 use Rattle.dali_commands.specs.Told.{error_line}
@@ -35,21 +36,30 @@ EndsReported wanted report ended status before after =
 abbrev pub file_contents : File → Option (List ℕ)
 file_contents file = None
 
--- a command over a file of orders, with a report in a file
-pub record IsReported (wanted : Bool)
-    (answers : Report File → Report File → List Contents → Streams → Status → Streams → Type 0) (first : Streams)
-    (status : Status) (last : Streams) : Type 0 where
+-- a command with a report in a file
+pub record IsReported (wanted : Bool) (answers : Report File → Report File → Streams → Status → Streams → Type 0)
+    (first : Streams) (status : Status) (last : Streams) : Type 0 where
   pub before : Report File
   pub after : Report File
   pub ended : Status
   pub lines : Option (List ℕ)
-  pub answered : IsFileAnswer (answers before after) (after ≡ before) first ended (record last { out = lines })
+  pub answered : answers before after first ended (record last { out = lines })
   pub reported : EndsReported wanted after ended status lines last.out
+
+-- one over a file of orders
+abbrev pub OverOrders : (Report File → Report File → List Contents → Streams → Status → Streams → Type 0)
+    → Report File → Report File → Streams → Status → Streams → Type 0
+OverOrders answers before after first status last =
+    IsFileAnswer (answers before after) (after ≡ before) first status last
 
 abbrev pub IsLinkAnswer : LinkCommand → Streams → Status → Streams → Type 0
 IsLinkAnswer (Drive names terms report) first status last =
-    IsReported (is_some report) (IsDriveAnswer file_contents terms.moment terms.require_done) first status last
+    IsReported (is_some report) (OverOrders (IsDriveAnswer file_contents terms.moment terms.require_done)) first status
+    last
+IsLinkAnswer (Follow names terms report) first status last =
+    IsReported (is_some report) (IsFileFollow file_contents file_contents terms.moment terms.require_done) first status
+    last
 IsLinkAnswer (Read unit bank) first status last = IsReadAnswer unit first status last
 IsLinkAnswer (Verify orders report) first status last =
-    IsReported (is_some report) (IsVerifyAnswer file_contents) first status last
+    IsReported (is_some report) (OverOrders (IsVerifyAnswer file_contents)) first status last
 IsLinkAnswer Scan first status last = IsScanAnswer first status last

@@ -209,7 +209,7 @@ pub fn drive_orders<I: Source, L: Sink, S: Store, W: Write, N: Write + Drop>(
 }
 
 // How a drive ends that came to its end.
-fn ended_status(require_done: bool, done: bool) -> Status
+pub(crate) fn ended_status(require_done: bool, done: bool) -> Status
     ensures { result ≡ status_at_end require_done done }
 {
     if require_done && !done {

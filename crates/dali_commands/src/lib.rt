@@ -9,6 +9,8 @@ mod drive_lines;
 mod fault;
 mod fault_lines;
 mod file_command;
+pub mod follow;
+pub mod follow_files;
 pub mod frame;
 pub mod journal;
 pub mod lines;

@@ -1,4 +1,4 @@
-ghost use Rattle.std.specs.Prelude.{◌≡◌, ◌↔◌, None, true, false};
+ghost use Rattle.std.specs.Prelude.{◌≡◌, ◌↔◌, None, true, false, if◌then◌else◌};
 ghost use Rattle.dali_drive.specs.StdStreams.{source_left, source_failed, sink_held, sink_failed};
 ghost use Rattle.dali_drive.specs.Transcript.{shown};
 ghost use Rattle.dali_text.specs.Output.{has_failed, held};
@@ -7,6 +7,7 @@ ghost use Rattle.dali_commands.specs.LinkCommands.{IsShort, IsLinkAnswer};
 use crate::drive::{DriveNames, DriveTerms};
 use crate::drive_files::drive_files;
 use crate::fault::Status;
+use crate::follow_files::follow_file;
 use crate::lines::Lines;
 use crate::report_file::ReportFile;
 use crate::survey::scan;
@@ -24,6 +25,12 @@ pub enum LinkCommand<'a> {
         terms: DriveTerms,
         report: Option<&'a str>,
     },
+    /// `drive --follow`, the same over orders that come line by line.
+    Follow {
+        names: DriveNames<'a>,
+        terms: DriveTerms,
+        report: Option<&'a str>,
+    },
     /// `read`, of the unit at a short address into a file.
     Read {
         unit: u8,
@@ -36,6 +43,34 @@ pub enum LinkCommand<'a> {
     },
     /// `scan`.
     Scan,
+}
+
+impl<'a> LinkCommand<'a> {
+    /// The command that drives: with `follow` over orders that come line by line, else over all those of a file.
+    pub fn driving(
+        follow: bool,
+        names: DriveNames<'a>,
+        terms: DriveTerms,
+        report: Option<&'a str>,
+    ) -> LinkCommand<'a>
+        ensures named { result ≡ (if follow then LinkCommand.Follow names.entry terms report.entry
+            else LinkCommand.Drive names.entry terms report.entry) }
+        ensures short { IsShort result }
+    {
+        if follow {
+            LinkCommand::Follow {
+                names,
+                terms,
+                report,
+            }
+        } else {
+            LinkCommand::Drive {
+                names,
+                terms,
+                report,
+            }
+        }
+    }
 }
 
 impl LinkCommand<'_> {
@@ -67,6 +102,23 @@ impl LinkCommand<'_> {
             } => {
                 let mut file = ReportFile::open(rt, report);
                 let ended = drive_files(
+                    rt,
+                    names,
+                    terms,
+                    link_in,
+                    link_out,
+                    lines,
+                    &mut file.report,
+                );
+                file.end(rt.alloc(), lines, report, ended)
+            }
+            LinkCommand::Follow {
+                names,
+                terms,
+                report,
+            } => {
+                let mut file = ReportFile::open(rt, report);
+                let ended = follow_file(
                     rt,
                     names,
                     terms,

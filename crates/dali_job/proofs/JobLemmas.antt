@@ -155,8 +155,8 @@ pub no_job : (entered : Option (Text × List Row))
     → ((value : Text) → ¬ HasValue entered (codes "verify") (codes "ORDERS") value)
     → ¬ IsEntered entered (codes "scan")
     → ((unit : ℕ) (bank : Bor Text) → ¬ IsJob entered (Read unit bank))
-    → ((orders journal : Bor Text) (moment : ℕ) (require_done : Bool) (report : Option (Bor Text))
-    → ¬ IsJob entered (Drive orders journal moment require_done report)) → IsNoJob entered
+    → ((orders journal : Bor Text) (moment : ℕ) (follow require_done : Bool) (report : Option (Bor Text))
+    → ¬ IsJob entered (Drive orders journal moment follow require_done report)) → IsNoJob entered
 no_job _ no_orders _ _ _ _ _ _ _ _ (Check orders) = no_orders orders.now
 no_job _ _ no_scenario _ _ _ _ _ _ _ (Run scenario _) = λ named. no_scenario scenario.now named.0
 no_job _ _ _ no_digits _ _ _ _ _ _ (Frame digits) = no_digits digits.now
@@ -165,15 +165,15 @@ no_job _ _ _ _ _ no_records _ _ _ _ (Journal records _) = λ named. no_records r
 no_job _ _ _ _ _ _ no_compared _ _ _ (Verify orders _) = λ named. no_compared orders.now named.0
 no_job _ _ _ _ _ _ _ no_scan _ _ Scan = no_scan
 no_job _ _ _ _ _ _ _ _ no_read _ (Read unit bank) = no_read unit bank
-no_job _ _ _ _ _ _ _ _ _ no_drive (Drive orders journal moment require_done report) =
-    no_drive orders journal moment require_done report
+no_job _ _ _ _ _ _ _ _ _ no_drive (Drive orders journal moment follow require_done report) =
+    no_drive orders journal moment follow require_done report
 
 -- the same of what may be no job
 pub no_job_in : (entered : Option (Text × List Row)) (found : Option Job)
-    → (((orders journal : Bor Text) (moment : ℕ) (require_done : Bool) (report : Option (Bor Text))
-    → ¬ IsJob entered (Drive orders journal moment require_done report)) → IsNoJob entered)
-    → IfNone found ((orders journal : Bor Text) (moment : ℕ) (require_done : Bool) (report : Option (Bor Text))
-    → ¬ IsJob entered (Drive orders journal moment require_done report))
+    → (((orders journal : Bor Text) (moment : ℕ) (follow require_done : Bool) (report : Option (Bor Text))
+    → ¬ IsJob entered (Drive orders journal moment follow require_done report)) → IsNoJob entered)
+    → IfNone found ((orders journal : Bor Text) (moment : ℕ) (follow require_done : Bool) (report : Option (Bor Text))
+    → ¬ IsJob entered (Drive orders journal moment follow require_done report))
     → IfNone found (IsNoJob entered)
 no_job_in entered None others none = others none
 no_job_in entered (Some job) others none = tt

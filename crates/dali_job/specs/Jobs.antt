@@ -52,11 +52,13 @@ run_app = with_rule (command_app (codes "run") (codes "SCENARIO")) (flag_rule (c
 abbrev pub journal_app : App
 journal_app = with_rule (command_app (codes "journal") (codes "FILE")) (flag_rule (codes "updates"))
 
--- the command that drives, with its two files, the moment, which is 0 where it isn't given, its flag, and its report
+-- the command that drives, with its two files, the moment, which is 0 where it isn't given, its two flags, and its
+-- report
 abbrev pub drive_app : App
 drive_app = let files = with_rule (command_app (codes "drive") (codes "ORDERS")) (value_rule (codes "JOURNAL")) in
     let timed = with_rule files (number_rule (codes "moment") (codes "0")) in
-    with_rule (with_rule timed (flag_rule (codes "require-done"))) (option_rule (codes "report"))
+    let followed = with_rule timed (flag_rule (codes "follow")) in
+    with_rule (with_rule followed (flag_rule (codes "require-done"))) (option_rule (codes "report"))
 
 -- the command that reads, with its unit and its file
 abbrev pub read_app : App
@@ -128,10 +130,11 @@ IsJob entered (Show dump) = HasValue entered (codes "show") (codes "HEXFILE") du
 IsJob entered (Journal records with_updates) =
     HasValue entered (codes "journal") (codes "FILE") records.now
     × Decides with_updates (HasFlag entered (codes "journal") (codes "updates"))
-IsJob entered (Drive orders journal moment require_done report) =
+IsJob entered (Drive orders journal moment follow require_done report) =
     HasValue entered (codes "drive") (codes "ORDERS") orders.now
     × HasValue entered (codes "drive") (codes "JOURNAL") journal.now
     × HasNumber entered (codes "drive") (codes "moment") moment
+    × Decides follow (HasFlag entered (codes "drive") (codes "follow"))
     × Decides require_done (HasFlag entered (codes "drive") (codes "require-done"))
     × HasOption entered (codes "drive") (codes "report") report
 IsJob entered (Read unit bank) =

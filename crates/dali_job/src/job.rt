@@ -10,7 +10,7 @@ ghost use Rattle.dali_job.specs.declared.job.Job.TheVariants.{Drive, Read};
 ghost use Rattle.std.specs.Borrow.{Bor};
 
 use crate::usages::{
-    ABOUT, Argument, CHECK, CHECK_ORDERS, DRIVE, DRIVE_DONE_HELP, DRIVE_JOURNAL_HELP,
+    ABOUT, Argument, CHECK, CHECK_ORDERS, DRIVE, DRIVE_DONE_HELP, DRIVE_FOLLOW_HELP, DRIVE_JOURNAL_HELP,
     DRIVE_MOMENT_HELP, DRIVE_REPORT_HELP, FRAME, FRAME_HEX, JOURNAL, JOURNAL_FILE,
     JOURNAL_UPDATES_HELP, LINK_ORDERS, READ, READ_BANK_HELP, READ_UNIT_HELP, RUN, RUN_FRAMES_HELP,
     RUN_SCENARIO, SCAN, SHOW, SHOW_DUMP, TOP_HELP, Usage, VERIFY, VERIFY_REPORT_HELP,
@@ -40,12 +40,14 @@ pub enum Job<'a> {
         with_updates: bool,
     },
     /// To carry out a file of orders over a link, with the journal of a file. `moment` is kept with
-    /// each order that begins. With `require_done` it is to end well only where each order is done.
+    /// each order that begins. With `follow` the file is a stream, of which each line is carried out
+    /// before the next is read. With `require_done` it is to end well only where each order is done.
     /// `report` is the file, if one is wanted, that gets a line for each order at its last reply.
     Drive {
         orders: &'a str,
         journal: &'a str,
         moment: u64,
+        follow: bool,
         require_done: bool,
         report: Option<&'a str>,
     },
@@ -163,18 +165,20 @@ fn read_in<'a>(matches: &ArgMatches<'a>) -> Option<Job<'a>>
 fn drive_in<'a>(matches: &ArgMatches<'a>) -> Option<Job<'a>>
     ensures named { IfSome result (IsJob (subcommand_rows_of matches.now)) }
     ensures none { IfNone result
-        ((orders journal : Bor (List ℕ)) (moment : ℕ) (require_done : Bool) (report : Option (Bor (List ℕ)))
-        → ¬ IsJob (subcommand_rows_of matches.now) (Drive orders journal moment require_done report)) }
+        ((orders journal : Bor (List ℕ)) (moment : ℕ) (follow require_done : Bool) (report : Option (Bor (List ℕ)))
+        → ¬ IsJob (subcommand_rows_of matches.now) (Drive orders journal moment follow require_done report)) }
 {
     let orders = value_of(matches, "drive", "ORDERS")?;
     let journal = value_of(matches, "drive", "JOURNAL")?;
     let moment = number_of(matches, "drive", "moment")?;
+    let follow = has_flag(matches, "drive", "follow");
     let require_done = has_flag(matches, "drive", "require-done");
     let report = value_of(matches, "drive", "report");
     Some(Job::Drive {
         orders,
         journal,
         moment,
+        follow,
         require_done,
         report,
     })
@@ -294,7 +298,8 @@ fn drive_command<'a>(alloc: Global) -> Result<Command<'a>, AllocError>
         DRIVE_JOURNAL_HELP,
     ))?;
     let timed = files.arg(moment_option(alloc))?;
-    let flagged = timed.arg(flag_of(alloc, "require-done", DRIVE_DONE_HELP))?;
+    let followed = timed.arg(flag_of(alloc, "follow", DRIVE_FOLLOW_HELP))?;
+    let flagged = followed.arg(flag_of(alloc, "require-done", DRIVE_DONE_HELP))?;
     flagged.arg(report_option(alloc, DRIVE_REPORT_HELP))
 }
 

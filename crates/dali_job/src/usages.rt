@@ -136,6 +136,9 @@ Nothing is sent where an item is refused, with the faults of `check`, or where a
 of ORDERS 11 Json, 12 Document, 13 TooBig (over 16777216 bytes), of JOURNAL 13 TooBig (over 33554432 bytes)
 and those of `journal`; 20 Memory, 21 File (can't be opened, read, written anew or synced, or another drive has
 the journal). A journal that is empty or of version 1 is written anew, in version 2, before anything is sent.
+With --follow ORDERS has JSON line by line: an order, or {\"submit\": ORDER, \"moment\": M}. Each line is carried out
+before the next is read. A refused one (with the faults of `check`, 11 Json, 12 Document, 13 TooBig: over 16384
+bytes, 20 Memory) is told by its number and changes nothing. It ends where the stream does.
 Faults of a drive: 1 Journal (can't be written), 2 Link (can't be read or written), 3 Line (no answer),
 4 End (no more answers), 6 TooLong (over 8 bytes in a line), 7 Out (standard error can't be written).
 After a fault, a kill or a loss of power run the same command again: it goes on from the journal.
@@ -154,6 +157,9 @@ pub(crate) const DRIVE_JOURNAL_HELP: &str =
 
 pub(crate) const DRIVE_MOMENT_HELP: &str =
     "A whole number that is kept with each order that begins, as the seconds since 1970";
+
+pub(crate) const DRIVE_FOLLOW_HELP: &str =
+    "Takes ORDERS as a stream, such as a named pipe, and carries out each line before it reads the next";
 
 pub(crate) const DRIVE_DONE_HELP: &str =
     "Ends with 1 where the last reply of some order isn't `kept 0 Done`";

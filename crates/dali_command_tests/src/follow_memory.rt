@@ -1,0 +1,210 @@
+// `drive --follow` with everything in memory: the lines of the orders, the link, the journal and what is told.
+use crate::drive_files::{BEGAN, SILENT, TAKEN};
+use crate::drive_memory::{NONE_16, SILENT_AT_7};
+use crate::expected::expect_that;
+use crate::streams::{Behind, TestReader};
+use dali_commands::Status;
+use dali_commands::drive::DriveNames;
+use dali_commands::follow::follow_lines;
+use dali_commands::lines::Lines;
+use dali_drive::{StdSink, StdSource};
+use dali_follow::OrderLines;
+use dali_report::Report;
+use dali_store::MemoryStore;
+use dali_text::Output;
+use std::alloc::{AllocError, Global};
+use std::io;
+use std::test::Fail;
+
+// A stream of orders for unit 9, which doesn't answer, and what becomes of it at the moment 7.
+struct Stream<'a> {
+    lines: &'a str,
+    behind: Behind,
+    journal: &'a [u8],
+    answers: &'a str,
+    require_done: bool,
+    status: Status,
+    told: &'a str,
+    kept: &'a [u8],
+    // How many bytes of the answers are left.
+    left: usize,
+}
+
+// `BEGAN` of the moment 7.
+const BEGAN_AT_7: [u8; 35] = [
+    0x44, 0x42, 0x31, 0x02, 0x42, 0x00, 0x00, 0x00, 0x00, 0x00, 0x00, 0x00, 0x01, 0x00, 0x00, 0x00,
+    0x00, 0x00, 0x00, 0x00, 0x07, 0x09, 0x06, 0x03, 0x03, 0x04, 0xA4, 0x05, 0xCE, 0x06, 0xEF, 0x07,
+    0xAD, 0x08, 0xAB,
+];
+
+const ORDER: &str = "{\"order\":1,\"unit\":9,\"gtin\":\"4006381333931\"}\n";
+
+static STREAMS: [Stream<'static>; 11] = [
+    Stream {
+        lines: ORDER,
+        behind: Behind::Nothing,
+        journal: &[],
+        answers: NONE_16,
+        require_done: false,
+        status: Status::Good,
+        told: TAKEN,
+        kept: &SILENT_AT_7,
+        left: 0,
+    },
+    // An order of its own moment, and the same order again, at the end of a stream that ends in mid-line.
+    Stream {
+        lines: "{\"submit\":{\"order\":1,\"unit\":9,\"gtin\":\"4006381333931\"},\"moment\":0}\n\r\n{\"order\":1,\"unit\":9,\"gtin\":\"4006381333931\"}",
+        behind: Behind::Nothing,
+        journal: &[],
+        answers: NONE_16,
+        require_done: false,
+        status: Status::Good,
+        told: "reply 1 taken\nreply 1 kept 3 Silent\nreply 1 kept 3 Silent\n",
+        kept: &SILENT,
+        left: 0,
+    },
+    // Refused lines before and behind an order.
+    Stream {
+        lines: "[]\n{\"order\":1,\"unit\":9,\"gtin\":\"4006381333931\"}\n\n{\n",
+        behind: Behind::Nothing,
+        journal: &[],
+        answers: NONE_16,
+        require_done: false,
+        status: Status::Refused,
+        told: "item 1 fault 9 Shape\nreply 1 taken\nreply 1 kept 3 Silent\nitem 4 fault 11 Json\n",
+        kept: &SILENT_AT_7,
+        left: 0,
+    },
+    Stream {
+        lines: "",
+        behind: Behind::Nothing,
+        journal: &BEGAN,
+        answers: NONE_16,
+        require_done: false,
+        status: Status::Good,
+        told: "reply 1 kept 3 Silent\n",
+        kept: &SILENT,
+        left: 0,
+    },
+    Stream {
+        lines: ORDER,
+        behind: Behind::Nothing,
+        journal: &SILENT,
+        answers: "--\n",
+        require_done: true,
+        status: Status::Refused,
+        told: "reply 1 kept 3 Silent\n",
+        kept: &SILENT,
+        left: 3,
+    },
+    Stream {
+        lines: "",
+        behind: Behind::Nothing,
+        journal: &SILENT,
+        answers: "",
+        require_done: true,
+        status: Status::Good,
+        told: "",
+        kept: &SILENT,
+        left: 0,
+    },
+    // A reader that fails behind a line, in one, and behind a refused one.
+    Stream {
+        lines: ORDER,
+        behind: Behind::Failures,
+        journal: &[],
+        answers: NONE_16,
+        require_done: false,
+        status: Status::Failed,
+        told: "reply 1 taken\nreply 1 kept 3 Silent\nerror: the file can't be used: orders: broken pipe\nfault 21 File\n",
+        kept: &SILENT_AT_7,
+        left: 0,
+    },
+    Stream {
+        lines: "{\"order\":1,\"unit\":9,\"gtin\":\"4006381333931\"}",
+        behind: Behind::Failures,
+        journal: &SILENT,
+        answers: "",
+        require_done: false,
+        status: Status::Failed,
+        told: "error: the file can't be used: orders: broken pipe\nfault 21 File\n",
+        kept: &SILENT,
+        left: 0,
+    },
+    Stream {
+        lines: "{}\n",
+        behind: Behind::Failures,
+        journal: &SILENT,
+        answers: "",
+        require_done: true,
+        status: Status::Failed,
+        told: "item 1 fault 9 Shape\nerror: the file can't be used: orders: broken pipe\nfault 21 File\n",
+        kept: &SILENT,
+        left: 0,
+    },
+    // A link that ends, with a refused line before that and one behind it.
+    Stream {
+        lines: "[]\n{\"order\":1,\"unit\":9,\"gtin\":\"4006381333931\"}\n[]\n",
+        behind: Behind::Nothing,
+        journal: &[],
+        answers: "--\n",
+        require_done: false,
+        status: Status::Refused,
+        told: "item 1 fault 9 Shape\nreply 1 taken\ndrive fault 4 End\n",
+        kept: &BEGAN_AT_7,
+        left: 0,
+    },
+    Stream {
+        lines: ORDER,
+        behind: Behind::Nothing,
+        journal: b"X",
+        answers: NONE_16,
+        require_done: false,
+        status: Status::Refused,
+        told: "journal fault 3 Record at 0\n",
+        kept: b"X",
+        left: 48,
+    },
+];
+
+// Whether a stream is followed as it should be.
+fn is_followed(alloc: Global, stream: &Stream<'_>) -> Result<bool, AllocError> {
+    let mut sent = Vec::new(alloc);
+    let mut told = Vec::new(alloc);
+    let mut answers = stream.answers.as_bytes();
+    let mut store = MemoryStore::new(alloc, stream.journal.to_vec(alloc)?);
+    let names = DriveNames {
+        orders: "orders",
+        journal: "journal",
+    };
+    let source = StdSource::new(TestReader::new(stream.lines.as_bytes(), stream.behind));
+    let mut report: Report<io::Sink> = Report::new(alloc, None);
+    let status = follow_lines(
+        alloc,
+        names,
+        &mut OrderLines::new(alloc, source, 7),
+        stream.require_done,
+        &mut StdSource::new(&mut answers),
+        &mut StdSink::new(&mut sent),
+        &mut store,
+        &mut Lines {
+            output: Output::new(&mut told),
+        },
+        &mut report,
+    );
+    let kept = store.bytes();
+    Ok(
+        status == stream.status
+            && told.as_slice() == stream.told.as_bytes()
+            && kept == stream.kept
+            && answers.len() == stream.left,
+    )
+}
+
+#[test]
+fn streams_are_followed_in_memory(rt: HostRuntime) -> Result<(), Fail> {
+    for stream in &STREAMS {
+        expect_that(is_followed(rt.alloc(), stream)?, stream.told)?;
+    }
+    Ok(())
+}

@@ -1,0 +1,416 @@
+"""Tests of `drive --follow`: orders that come line by line, from a file and through a named pipe."""
+
+import errno
+import fcntl
+import json
+import os
+import signal
+import subprocess
+import termios
+import threading
+import time
+
+import driven
+from drive_calls import acts_on, calls_of, shim
+from drive_desk import (
+    ABSENT,
+    ABSENT_BEGAN,
+    ABSENT_FRAMES,
+    ABSENT_JOURNAL,
+    DONE_JOURNAL,
+    DONE_TOLD,
+    FAULT_21,
+    GTIN,
+    GTIN_BYTES,
+    KEPT_SILENT,
+    PRESENT,
+    SILENCE,
+    absent_records,
+    last_line,
+    parts,
+    settings,
+    want,
+)
+from drive_report import UNTOLD, blank_bus, kept, lines_of, reporting, unkept
+from drive_units import BLANK, CHANGED_BY_KILLS, SCENES, finish, many_orders
+from driven import HEADER, PATIENCE, Desk, Ended, groups_of, judge, simulated_link
+
+LINE = json.dumps(ABSENT[0])
+TAKEN = "reply 1 taken\n" + KEPT_SILENT
+MOST_LINE = 16384
+EIO = "input/output error"
+
+
+class Following(Desk):
+    """A folder with a stream of orders and a journal, and runs of `drive --follow` on both."""
+
+    def words(self):
+        """Give the command line."""
+        return [self.program, "drive", "--follow", *self.options, self.orders, self.journal]
+
+    def write_orders(self, orders):
+        """Replace the stream: by these orders, a line for each, or by this text or these bytes."""
+        if not isinstance(orders, (str, bytes)):
+            orders = "".join(json.dumps(order) + "\n" for order in orders)
+        self.orders.write_bytes(orders.encode() if isinstance(orders, str) else orders)
+
+
+def following(folder, orders, journal=None):
+    """Make a folder's stream of orders, and its journal of these bytes, or none."""
+    desk = Following(settings["program"], folder, orders)
+    desk.journal.unlink(missing_ok=True)
+    if journal is not None:
+        desk.journal.write_bytes(journal)
+    return desk
+
+
+def piped(folder, journal=None):
+    """Make a folder whose stream is a named pipe."""
+    desk = following(folder, "", journal)
+    desk.orders.unlink()
+    os.mkfifo(desk.orders)
+    return desk
+
+
+def writer_of(path):
+    """Open a named pipe to write to it, once somebody reads it."""
+    last = time.monotonic() + PATIENCE
+    while True:
+        try:
+            pipe = os.open(path, os.O_WRONLY | os.O_NONBLOCK)
+            os.set_blocking(pipe, True)
+            return pipe
+        except OSError as error:
+            if error.errno != errno.ENXIO or time.monotonic() > last:
+                raise
+            time.sleep(0.001)
+
+
+def waiting_in(pipe):
+    """Give how many bytes stand in a pipe that nobody has read yet."""
+    return int.from_bytes(fcntl.ioctl(pipe, termios.FIONREAD, bytes(4)), "little")
+
+
+class Live:
+    """A run on a named pipe, with its frames answered over a bus beside it."""
+
+    def __init__(self, desk, bus):
+        self.command, self.sent = desk.start(), b""
+        self.answering = threading.Thread(target=self.answer, args=(bus,), daemon=True)
+        self.answering.start()
+        self.pipe = writer_of(desk.orders)
+
+    def answer(self, bus):
+        """Answer each frame until there are no more."""
+
+        def read_line():
+            line = driven.line_from(self.command.stdout)
+            self.sent += line
+            return line
+
+        simulated_link.answer_lines(bus, read_line, self.command.stdin.write)
+
+    def told(self, count):
+        """Give so many lines that are told next."""
+        return b"".join(driven.line_from(self.command.stderr) for _ in range(count)).decode()
+
+    def end(self):
+        """Let the writer of the pipe go, and tell how the run ended, and what it told since."""
+        os.close(self.pipe)
+        status = self.command.wait(PATIENCE)
+        self.answering.join(PATIENCE)
+        return Ended(status, self.sent, self.command.stderr.read().decode())
+
+
+# What a line may be
+
+
+def test_orders_line_by_line(folder):
+    second = {"order": 2, "unit": 9, "gtin": GTIN}
+    desk = following(folder, [*ABSENT, *ABSENT, second, *ABSENT])
+    told = TAKEN + KEPT_SILENT + "reply 2 taken\nreply 2 kept 3 Silent\n" + KEPT_SILENT
+    want(desk.give(SILENCE * 2), Ended(0, ABSENT_FRAMES * 2, told))
+    want(desk.held(), ABSENT_JOURNAL + absent_records(2))
+    want(desk.give(b""), Ended(0, b"", KEPT_SILENT * 2 + "reply 2 kept 3 Silent\n" + KEPT_SILENT))
+    desk.write_orders(f'{{"order":1,"unit":10,"gtin":"{GTIN}"}}\n')
+    want(desk.give(b""), Ended(0, b"", "reply 1 reused\n"))
+
+
+def test_lines_as_they_may_stand(folder):
+    for text in (LINE, LINE + "\n", LINE + "\r\n", "\n\r\n" + LINE + "\n\n", " \t\r\n\t" + LINE + " \t",
+                 "\n" * 5000 + LINE):
+        desk = following(folder, text)
+        want((text, desk.give(SILENCE)), (text, Ended(0, ABSENT_FRAMES, TAKEN)))
+        want(desk.held(), ABSENT_JOURNAL)
+    for text in ("", "\n", "\r\n \t\n", " "):
+        want((text, following(folder, text).give(b"")), (text, Ended(0, b"", "")))
+
+
+def test_an_end_in_mid_line(folder):
+    for text, line in [(LINE + "\n" + LINE[:-1], "item 2 fault 11 Json"), (LINE + "\n\n{", "item 3 fault 11 Json"),
+                       (LINE + "\n{}", "item 2 fault 9 Shape")]:
+        want((text, following(folder, text).give(SILENCE)), (text, Ended(1, ABSENT_FRAMES, TAKEN + line + "\n")))
+
+
+def test_what_an_unfinished_order_still_asks_for(folder):
+    desk = following(folder, "", ABSENT_BEGAN)
+    want(desk.give(SILENCE), Ended(0, ABSENT_FRAMES, KEPT_SILENT))
+    want(desk.held(), ABSENT_JOURNAL)
+
+
+def order_with(**fields):
+    """Give the line of an order with these fields."""
+    return json.dumps({"order": 7, "unit": 9, **fields})
+
+
+REFUSED = [
+    (json.dumps({"order": 7, "unit": 64, "gtin": GTIN}), "1 Unit"), (order_with(gtin=4006381333931), "2 Kind"),
+    (order_with(year=True), "2 Kind"), (order_with(year=100), "3 Range"), (order_with(gtin="1"), "4 Gtin"),
+    (order_with(colour=""), "5 Text"), (order_with(luminaire="x" * 61), "5 Text"),
+    (order_with(min_voltage=241, max_voltage=240), "7 Voltage"), (order_with(), "8 Empty"), ("{}", "9 Shape"),
+    ("[]", "9 Shape"), ("null", "9 Shape"), ("5", "9 Shape"), (f"[{LINE}]", "9 Shape"),
+    (order_with(moment=5), "10 Key"), (order_with(colr="x"), "10 Key"), ("{", "11 Json"), ("x", "11 Json"),
+    (b"\xff", "11 Json"), (b"\xef\xbb\xbf{}", "11 Json"), (LINE + LINE, "11 Json"), ("\0", "11 Json"),
+    (json.dumps({"submit": ABSENT[0], "moment": -1}), "12 Document"),
+    (json.dumps({"submit": ABSENT[0], "moment": "5"}), "12 Document"),
+    (json.dumps({"submit": ABSENT[0], "steps": 1}), "12 Document"),
+    (json.dumps({"submit": {}}), "9 Shape"), (json.dumps({"submit": {"order": 7, "unit": 9}, "moment": 1}), "8 Empty"),
+    ("x" * (MOST_LINE + 1), "13 TooBig"), (" " * MOST_LINE + "{}", "13 TooBig"), ("{}" * 100000, "13 TooBig"),
+]
+
+
+def test_refused_lines(folder):
+    stream, told = b"", ""
+    for count, (line, fault) in enumerate(REFUSED):
+        stream += b"\n" + (line if isinstance(line, bytes) else line.encode()) + b"\n"
+        told += f"item {2 * count + 2} fault {fault}\n"
+    want(following(folder, stream).give(b""), Ended(1, b"", told))
+    desk = following(folder, LINE.encode() + b"\n" + stream + LINE.encode())
+    shifted = told.splitlines()
+    shifted = "".join(f"item {int(it.split()[1]) + 1} {it.split(' ', 2)[2]}\n" for it in shifted)
+    want(desk.give(SILENCE), Ended(1, ABSENT_FRAMES, TAKEN + shifted + KEPT_SILENT))
+    want(desk.held(), ABSENT_JOURNAL)
+
+
+def test_the_longest_line(folder):
+    for length, told, status in [(MOST_LINE - 1, TAKEN, 0), (MOST_LINE, TAKEN, 0),
+                                 (MOST_LINE + 1, "item 1 fault 13 TooBig\n", 1)]:
+        for end in ("\n", ""):
+            desk = following(folder, LINE + " " * (length - len(LINE)) + end)
+            ended = desk.give(SILENCE)
+            want((length, ended.status, ended.told), (length, status, told))
+    spaces = "\n".join(" " * length for length in (MOST_LINE, MOST_LINE + 1, 100000))
+    want(following(folder, spaces).give(b""), Ended(0, b"", ""))
+
+
+def test_moments_of_lines(folder):
+    for line, moment in [(LINE, 5), (json.dumps({"submit": ABSENT[0]}), 0),
+                         (json.dumps({"submit": ABSENT[0], "moment": 1700000000}), 1700000000),
+                         (json.dumps({"moment": 2 ** 64 - 1, "submit": ABSENT[0]}), 2 ** 64 - 1)]:
+        desk = following(folder, line + "\n" + LINE)
+        desk.options = ["--moment", "5"]
+        want((line, desk.give(SILENCE)), (line, Ended(0, ABSENT_FRAMES, TAKEN + KEPT_SILENT)))
+        want((line, desk.held()), (line, HEADER + absent_records(1, moment)))
+
+
+# Named pipes
+
+
+def test_each_reply_comes_before_the_next_line(folder):
+    desk, bus = piped(folder), blank_bus(5)
+    live = Live(desk, bus)
+    for number in range(1, 6):
+        os.write(live.pipe, json.dumps({"order": number, "unit": 5, "year": number}).encode() + b"\n")
+        want(live.told(2), f"reply {number} taken\nreply {number} kept 0 Done\n")
+        want([group.code for group in groups_of(desk.held())], [0] * number)
+        os.write(live.pipe, b"[]\n")
+        want(live.told(1), f"item {2 * number} fault 9 Shape\n")
+        want((live.command.poll(), bus.frames), (None, 56 * number))
+    want(live.end()[::2], (1, ""))
+
+
+def test_a_line_that_comes_in_pieces(folder):
+    live = Live(piped(folder), blank_bus())
+    for byte in LINE.encode():
+        os.write(live.pipe, bytes([byte]))
+    want((waiting_in(live.pipe) <= len(LINE), live.command.poll(), live.sent), (True, None, b""))
+    os.write(live.pipe, b"\n")
+    want(live.told(2), TAKEN)
+    want(live.end(), Ended(0, ABSENT_FRAMES, ""))
+
+
+def test_writers_of_a_pipe_that_go_and_come(folder):
+    desk, bus = piped(folder), blank_bus(5)
+    for number in range(1, 4):
+        live = Live(desk, bus)
+        lines = [json.dumps({"order": at, "unit": 5, "year": at}) for at in range(1, number + 1)]
+        os.write(live.pipe, ("\n".join(lines) + "\n").encode())
+        told = "".join(f"reply {at} kept 0 Done\n" for at in range(1, number))
+        told += f"reply {number} taken\nreply {number} kept 0 Done\n"
+        want(live.told(number + 1), told)
+        want((live.end()[::2], bus.frames), ((0, ""), 56 * number))
+    want([(group.number, group.code) for group in groups_of(desk.held())], [(1, 0), (2, 0), (3, 0)])
+    want(bus.units[0].banks[1][0x13], 3)
+
+
+def test_no_line_is_read_before_its_turn(folder):
+    desk = piped(folder)
+    pipe = os.open(desk.orders, os.O_RDWR)
+    second = b'{"order":2,"unit":9,"year":24}\n'
+    os.write(pipe, LINE.encode() + b"\n" + second)
+    command = desk.start()
+    want(driven.line_from(command.stdout), b"C301\n")
+    want(waiting_in(pipe), len(second))
+    sent, told = command.communicate(b"--\n" * 3, PATIENCE)
+    want((command.returncode, sent, told), (1, ABSENT_FRAMES[5:20], b"reply 1 taken\ndrive fault 4 End\n"))
+    want((waiting_in(pipe), desk.held()), (len(second), ABSENT_BEGAN))
+    os.close(pipe)
+
+
+def test_nothing_is_read_where_no_journal_is_opened(folder):
+    desk = piped(folder, b"X")
+    pipe = os.open(desk.orders, os.O_RDWR)
+    os.write(pipe, LINE.encode() + b"\n")
+    want(desk.give(SILENCE), Ended(1, b"", "journal fault 3 Record at 0\n"))
+    want((waiting_in(pipe), desk.held()), (len(LINE) + 1, b"X"))
+    os.close(pipe)
+
+
+def test_a_pipe_over_the_simulated_adapter(folder):
+    desk = piped(folder)
+    for told in (DONE_TOLD, "reply 1 kept 0 Done\n"):
+        words = [driven.ROOT / "adapters" / "simulated_link.py", "--folder", folder, "--", *desk.words()]
+        command = subprocess.Popen(words, stdout=subprocess.PIPE, stderr=subprocess.PIPE, text=True)
+        pipe = writer_of(desk.orders)
+        os.write(pipe, json.dumps(PRESENT[0]).encode() + b"\n")
+        os.close(pipe)
+        want((*command.communicate(timeout=PATIENCE), command.returncode), ("", told, 0))
+    want(bytes.fromhex((folder / "unit_5.hex").read_text()), BLANK[:3] + GTIN_BYTES + BLANK[9:])
+
+
+# Failures and kills
+
+
+def test_a_stream_that_fails(folder):
+    stream = LINE + "\n{}\n" + LINE + "\n"
+    whole = TAKEN + "item 2 fault 9 Shape\n" + KEPT_SILENT
+    places = {1: "", 3: "", len(LINE): "", len(LINE) + 2: TAKEN, len(LINE) + 5: whole[:len(TAKEN) + 21],
+              len(stream) + 1: whole}
+    for number, told in places.items():
+        desk = following(folder, stream)
+        ended = desk.give(SILENCE, shim(desk, f"read orders {number} fail {errno.EIO}"))
+        told += f"error: the file can't be used: {desk.orders}: "
+        want((number, ended.status, ended.told[:len(told)]), (number, 2, told))
+        want((number, ended.told[len(told):].splitlines()[1:]), (number, ["fault 21 File"]))
+        want(desk.held(), ABSENT_JOURNAL if ended.sent else HEADER)
+        assert desk.give(SILENCE).told.endswith(KEPT_SILENT), number
+        want(desk.held(), ABSENT_JOURNAL)
+
+
+def test_a_stream_that_is_none(folder):
+    desk = following(folder, "")
+    desk.orders.unlink()
+    want(last_line(desk.give(SILENCE)), FAULT_21)
+    assert not desk.journal.exists()
+    desk.orders.mkdir()
+    ended = desk.give(SILENCE)
+    want(last_line(ended), FAULT_21)
+    assert ended.told.startswith(f"error: the file can't be used: {desk.orders}: "), ended
+    want(desk.held(), HEADER)
+    desk.orders.rmdir()
+    desk.orders = "-"
+    want(last_line(desk.give(SILENCE, cwd=folder)), FAULT_21)
+
+
+def test_interrupted_reads_change_nothing(folder):
+    stream = "{}\n" + LINE + "\n"
+    for number in range(1, len(stream) + 2):
+        desk = following(folder, stream)
+        ended = desk.give(SILENCE, shim(desk, f"read orders {number} fail {errno.EINTR}"))
+        want((number, ended), (number, Ended(1, ABSENT_FRAMES, "item 1 fault 9 Shape\n" + TAKEN)))
+
+
+def test_a_standard_error_that_fails(folder):
+    for number in (1, 2, 3):
+        desk = following(folder, "{}\n" + LINE + "\n")
+        ended = desk.give(SILENCE, shim(desk, f"write err {number} fail {errno.ENOSPC}"))
+        want((number, ended.status), (number, 2))
+        desk.write_orders(ABSENT)
+        assert desk.give(SILENCE).told.endswith(KEPT_SILENT), number
+        want(desk.held(), ABSENT_JOURNAL)
+
+
+@parts(4)
+def test_kills_at_each_record_and_line(folder, part, count):
+    for name in ("lossy", "left"):
+        scene = SCENES[name]
+        desk, bus = following(folder, scene.orders), scene.bus()
+        calls, _ = calls_of(desk, lambda variables: desk.over(bus, environment=variables))
+        acts = [act for act in acts_on(calls) if not act.startswith("read orders") or int(act.split()[2]) % 20 == 1]
+        for act in acts[part::count]:
+            desk.journal.unlink(missing_ok=True)
+            bus = scene.bus()
+            try:
+                ended = desk.over(bus, environment=shim(desk, act))
+                want(ended.status, -signal.SIGKILL)
+                judge(bus, scene.banks(), desk.held() if desk.journal.exists() else b"")
+                finish(desk, scene, bus, None if name in CHANGED_BY_KILLS else scene.codes)
+            except Exception as fault:
+                raise AssertionError(f"{name}, with the act {act}") from fault
+
+
+# Reports, and memory
+
+
+def test_reports_of_a_stream(folder):
+    other = {"order": 1, "unit": 5, "year": 24}
+    cases = [
+        (PRESENT, None, blank_bus(5), 0, [kept(1, 5, 0, "now", 112, 0)]),
+        ([*PRESENT, *PRESENT], DONE_JOURNAL, blank_bus(5), 0, [kept(1, 5, 0, "before", 0, 0)] * 2),
+        (PRESENT, None, blank_bus(), 1, [kept(1, 5, 3, "now", 16, 8)]),
+        ([*PRESENT, other], None, blank_bus(5), 1, [kept(1, 5, 0, "now", 112, 0), unkept(1, 5, "reused", moment=0)]),
+        ([], ABSENT_BEGAN, blank_bus(), 1, [kept(1, 9, 3, "now", 16, 8)]),
+        ([], None, blank_bus(), 0, []),
+        ([{}, *PRESENT], None, blank_bus(5), 1, [kept(1, 5, 0, "now", 112, 0)]),
+    ]
+    for orders, journal, bus, status, wanted in cases:
+        desk = following(folder, orders, journal)
+        path = reporting(desk, "--require-done")
+        want((orders, desk.over(bus).status, lines_of(path)), (orders, status, wanted))
+
+
+def test_a_report_grows_line_by_line(folder):
+    desk, bus = piped(folder), blank_bus(5)
+    path = reporting(desk)
+    live = Live(desk, bus)
+    wanted = []
+    for number in range(1, 4):
+        os.write(live.pipe, json.dumps({"order": number, "unit": 5, "year": number}).encode() + b"\n[]\n")
+        want(live.told(3).splitlines()[1:], [f"reply {number} kept 0 Done", f"item {2 * number} fault 9 Shape"])
+        wanted.append(kept(number, 5, 0, "now", 56, 0))
+        want(lines_of(path), wanted)
+    want(live.end()[::2], (1, ""))
+
+
+def test_a_report_that_can_not_be_written(folder):
+    desk = following(folder, ABSENT)
+    desk.options = ["--report", "/dev/full"]
+    want(desk.give(SILENCE), Ended(2, ABSENT_FRAMES, TAKEN + UNTOLD.format("/dev/full", "no storage space")))
+
+
+def most_memory(desk):
+    """Give the most memory that a run has, in KiB, that is sent no answer, and of which nothing is kept."""
+    null = subprocess.DEVNULL
+    command = desk.start(stdin=null, stdout=null, stderr=null)
+    _, status, used = os.wait4(command.pid, 0)
+    command.returncode = os.waitstatus_to_exitcode(status)
+    want(command.returncode, 1)
+    return used.ru_maxrss
+
+
+def test_memory_stays_flat(folder):
+    found = {}
+    for count in (1000, 100000):
+        desk = following(folder, '{"order":1,"unit":9,"year":24}\n' * (count - 1) + "[]\n", HEADER + many_orders(1))
+        found[count] = most_memory(desk)
+    assert found[100000] - found[1000] <= 256, found

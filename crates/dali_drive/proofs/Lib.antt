@@ -10,6 +10,7 @@ pub mod HandedLemmas
 pub mod HandedDriveLemmas
 pub mod FollowLemmas
 pub mod FollowLawLemmas
+pub mod WholeLemmas
 pub mod ListedLemmas
 pub mod BehindLemmas
 pub mod WorkedDriveLemmas

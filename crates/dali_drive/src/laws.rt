@@ -1,6 +1,6 @@
 //! Laws of drives, over their definitions alone. Each is the contract of a function that does nothing.
 
-ghost use Rattle.std.specs.Prelude.{◌≡◌, ◌∷◌, ◌++◌, ◌⊎◌, ℕ, List, Option, Some, reverse};
+ghost use Rattle.std.specs.Prelude.{◌≡◌, ◌≤◌, ◌+◌, ◌∷◌, ◌++◌, ◌⊎◌, ℕ, List, Option, Some, length, reverse};
 ghost use Rattle.dali_bank.specs.Order.{Contents};
 ghost use Rattle.dali_bus.specs.World.{World};
 ghost use Rattle.dali_bus.specs.Carry.{WorldStep};
@@ -20,10 +20,12 @@ ghost use Rattle.dali_store.specs.declared.opening.OpenFault.{OpenFault};
 ghost use Rattle.dali_store.specs.Stores.{IsBetween};
 ghost use Rattle.dali_store.specs.Opened.{Loads, IsOpenFault};
 ghost use Rattle.dali_journal.specs.declared.standing.Standing.TheVariants.{Idle};
-ghost use Rattle.dali_journal.specs.JournalState.{JournalState};
+ghost use Rattle.dali_journal.specs.JournalState.{JournalState, order_count};
+ghost use Rattle.dali_journal.specs.Spelling.{journal_spelling};
+ghost use Rattle.dali_journal.specs.declared.version.Version.TheVariants.{Two};
 ghost use Rattle.dali_journal.specs.Sentence.{standing_of};
 ghost use Rattle.dali_trace.specs.Legal.{Legal};
-ghost use Rattle.dali_drive.specs.Behind.{IsBegunBehind, ActsOnceBehind};
+ghost use Rattle.dali_drive.specs.Behind.{IsBegunBehind, ActsOnceBehind, bytes_behind};
 ghost use Rattle.dali_drive.specs.declared.fault.DriveFault.{DriveFault};
 ghost use Rattle.dali_drive.specs.Transcript.{Streams};
 ghost use Rattle.dali_drive.specs.Driven.{IsDrive, IsBrokenDrive, KeepsRecords};
@@ -155,4 +157,30 @@ pub fn older_orders_act_once()
         (b : IsBegunBehind older limit most first) → standing_of older.records ≡ Idle
         → Legal (start_of b.journal) past → KeepsRecords past
         → ActsOnceBehind older limit (start_of b.journal) past }
+{}
+
+/// What is followed behind an older journal, over a store that showed known bytes, is followed over the whole: over a
+/// store whose bytes are those of the older records with the store's own behind them, each without a second header. So
+/// all that is so of drives one after another, killed and started again, is so of drives behind older journals; and
+/// where there are no records yet, the whole is just what the older journals' own drives left.
+pub fn what_is_followed_behind_is_of_the_whole()
+    ensures ended { (older : JournalState) (limit most room : ℕ) (given : List Given) (found left : List ℕ)
+        (first : Streams) (writer : WriterState) (last : Streams) (b : IsBegunBehind older limit most first)
+        (follow : IsFollowed (start_of b.journal) given (record first { journal = b.begun.middle }) writer last)
+        → first.journal ≡ Some found → last.journal ≡ Some left
+        → length (journal_spelling Two b.journal.records) ≤ room
+        → CameToItsEnd (order_count older + limit) room (journal_spelling Two b.journal.records)
+        (record { start = start_of b.journal; past = happenings follow.steps }) (bytes_behind older.records left) }
+    ensures broken { (older : JournalState) (limit most room : ℕ) (given : List Given) (fault : DriveFault)
+        (found left : List ℕ) (first last : Streams) (b : IsBegunBehind older limit most first)
+        (follow : IsBrokenFollow (start_of b.journal) given fault (record first { journal = b.begun.middle }) last)
+        → first.journal ≡ Some found → IsBetween follow.then.journal last.journal left
+        → length (journal_spelling Two b.journal.records) ≤ room
+        → (past : List Happening) × HasSat (order_count older + limit) room (journal_spelling Two b.journal.records)
+        (record { start = start_of b.journal; past = past }) (bytes_behind older.records left) }
+    ensures again { (older : JournalState) (limit most : ℕ) (found : List ℕ) (first : Streams)
+        (b : IsBegunBehind older limit most first)
+        → first.journal ≡ Some found → b.begun.opened.version ≡ Two
+        → IsSameFile (order_count older + limit) (bytes_behind older.records found)
+        (journal_spelling Two b.journal.records) }
 {}

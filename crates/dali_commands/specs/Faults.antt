@@ -19,7 +19,7 @@ use Rattle.dali_input.specs.declared.setup.SetupFault.TheVariants as setup
 use Rattle.dali_input.specs.Faults.{number_of, name_of, item_number_of, item_name_of}
 use Rattle.dali_input.specs.Input.{InputState, IsReadFailure}
 use Rattle.dali_commands.specs.declared.fault.Fault.{Fault}
-use Rattle.dali_commands.specs.declared.fault.Fault.TheVariants.{Input, Setup, Run, Journal, Drive}
+use Rattle.dali_commands.specs.declared.fault.Fault.TheVariants.{Input, Setup, Run, Journal, Drive, Older}
 use Rattle.dali_commands.specs.declared.fault.Status.{Status}
 use Rattle.dali_commands.specs.declared.fault.Status.TheVariants.{Good, Refused, Failed, Unwritten}
 
@@ -59,6 +59,7 @@ status_of (Run runs.NoMemory) = Failed
 status_of (Journal journals.NoMemory) = Failed
 status_of (Journal other) = Refused
 status_of (Drive fault) = drive_status fault
+status_of Older = Refused
 
 -- ---- a fault's line
 
@@ -105,6 +106,7 @@ told_line (Run runs.Limit) = lines.single_line (codes "run") (run.number_of runs
 told_line (Run runs.NoMemory) = input_line Memory
 told_line (Journal fault) = journal_line fault
 told_line (Drive fault) = drive_line fault
+told_line Older = codes "fault 15 Older\n"
 
 -- ---- a command that gave up
 

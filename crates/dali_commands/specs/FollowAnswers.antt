@@ -3,14 +3,11 @@
 use Rattle.std.specs.Prelude.{◌≡◌, ◌⊎◌, ℕ, Bool, true, false, List, [], Option, if◌then◌else◌}
 use Rattle.dali_follow.specs.declared.order_lines.OrderLines.{OrderLines}
 use Rattle.dali_follow.specs.Gave.{Gave, IsOver, state_of}
-use Rattle.dali_input.specs.declared.fault.InputFault.{InputFault}
 use Rattle.dali_input.specs.declared.fault.InputFault.TheVariants.{File}
 use Rattle.dali_store.specs.declared.opening.OpenFault.{OpenFault}
 use Rattle.dali_drive.specs.declared.fault.DriveFault.{DriveFault}
-use Rattle.dali_drive.specs.declared.std_streams.StdSource.{StdSource}
 use Rattle.dali_drive.specs.declared.stored.StoredFault.TheVariants as stored
 use Rattle.dali_drive.specs.Followed.{IsStoredFollow, IsStoredFollowBreak, happenings}
-use Rattle.dali_drive.specs.StdStreams.{source_left, source_failed}
 use Rattle.dali_drive.specs.Stored.{IsStoredFault}
 use Rattle.dali_drive.specs.Transcript.{Streams}
 use Rattle.dali_report.specs.declared.report.Report.{Report}
@@ -22,7 +19,6 @@ use Rattle.dali_commands.specs.declared.fault.Status.{Status}
 use Rattle.dali_commands.specs.declared.fault.Status.TheVariants.{Refused}
 use Rattle.dali_commands.specs.DriveAnswers.{ended_status, fault_unopened}
 use Rattle.dali_commands.specs.JournalAnswers.{journal_limit, order_limit}
-use Rattle.dali_commands.specs.OrdersAnswers.{EndsUndriven}
 use Rattle.dali_commands.specs.Told.{IsFaultTold, IsFileFaultTold}
 
 -- how a stream ends that was followed to its end: refused where a line was, else as a drive
@@ -77,11 +73,3 @@ pub record AreUnread {R : Type 0} (failed : R → Bool) (moment : ℕ) (orders :
   pub none_refused : (state_of orders).has_refused ≡ false
   pub goes_on : (state_of orders).is_over ≡ false
   pub unfailed : failed (state_of orders).source ≡ false
-
--- The same of a file of lines, of which nothing is known: of what it gave, or of one that isn't opened.
-abbrev pub IsFileFollow : {F N : Type 0} → (F → Option (List ℕ)) → (N → Option (List ℕ)) → ℕ → Bool → Report N
-    → Report N → Streams → Status → Streams → Type 0
-IsFileFollow {F} remaining contents moment require_done before after first status last =
-    ((orders : OrderLines (StdSource F)) × (left : OrderLines (StdSource F)) × AreUnread source_failed moment orders
-    × IsFollowAnswer (source_left remaining) source_failed contents require_done before after orders left first status last)
-    ⊎ ((fault : InputFault) × EndsUndriven fault first status last × (after ≡ before))

@@ -10,8 +10,8 @@ use Rattle.dali_commands.specs.declared.fault.Status.{Status}
 use Rattle.dali_commands.specs.declared.fault.Status.TheVariants.{Failed, Unwritten}
 use Rattle.dali_commands.specs.declared.link_command.LinkCommand.{LinkCommand}
 use Rattle.dali_commands.specs.declared.link_command.LinkCommand.TheVariants.{Drive, Follow, Read, Verify, Scan}
-use Rattle.dali_commands.specs.DriveAnswers.{IsDriveAnswer}
-use Rattle.dali_commands.specs.FollowAnswers.{IsFileFollow}
+use Rattle.dali_commands.specs.BehindAnswers.{IsAnswerBehind, IsBehindNamed, IsFileFollow, EndsUnread}
+use Rattle.dali_journal.specs.JournalState.{JournalState}
 use Rattle.dali_commands.specs.OrdersAnswers.{IsFileAnswer}
 use Rattle.dali_commands.specs.ReadAnswers.{IsReadAnswer, IsScanAnswer, IsVerifyAnswer}
 use Rattle.dali_commands.specs.Told.{error_line}
@@ -52,13 +52,21 @@ abbrev pub OverOrders : (Report File → Report File → List Contents → Strea
 OverOrders answers before after first status last =
     IsFileAnswer (answers before after) (after ≡ before) first status last
 
+-- one behind the older journals of these names
+abbrev pub BehindNamed : {A : Type 0} → List A
+    → (Option JournalState → Report File → Report File → Streams → Status → Streams → Type 0)
+    → Report File → Report File → Streams → Status → Streams → Type 0
+BehindNamed names answers before after first status last =
+    IsBehindNamed names (λ older. answers older before after first status last)
+    (EndsUnread before after first status last)
+
 abbrev pub IsLinkAnswer : LinkCommand → Streams → Status → Streams → Type 0
 IsLinkAnswer (Drive names terms report) first status last =
-    IsReported (is_some report) (OverOrders (IsDriveAnswer file_contents terms.moment terms.require_done)) first status
-    last
+    IsReported (is_some report) (BehindNamed names.older.now (λ older.
+    OverOrders (IsAnswerBehind older file_contents terms.moment terms.require_done))) first status last
 IsLinkAnswer (Follow names terms report) first status last =
-    IsReported (is_some report) (IsFileFollow file_contents file_contents terms.moment terms.require_done) first status
-    last
+    IsReported (is_some report) (BehindNamed names.older.now (λ older.
+    IsFileFollow older file_contents file_contents terms.moment terms.require_done)) first status last
 IsLinkAnswer (Read unit bank) first status last = IsReadAnswer unit first status last
 IsLinkAnswer (Verify orders report) first status last =
     IsReported (is_some report) (OverOrders (IsVerifyAnswer file_contents)) first status last

@@ -9,7 +9,7 @@ use Rattle.dali_journal.specs.declared.fault.JournalFault.{JournalFault}
 use Rattle.dali_journal.specs.declared.fault.JournalFault.TheVariants as journals
 use Rattle.dali_writer.specs.declared.fault.RunFault.TheVariants.{Limit, NoMemory}
 use Rattle.dali_commands.specs.declared.fault.Fault.{Fault}
-use Rattle.dali_commands.specs.declared.fault.Fault.TheVariants.{Input, Setup, Run, Journal, Drive}
+use Rattle.dali_commands.specs.declared.fault.Fault.TheVariants.{Input, Setup, Run, Journal, Drive, Older}
 use Rattle.dali_commands.specs.declared.fault.Status.{Status}
 use Rattle.dali_commands.specs.declared.fault.Status.TheVariants.{Good}
 use Rattle.dali_commands.specs.declared.file_command.FileCommand.{FileCommand}
@@ -59,6 +59,7 @@ IsFaultNote (Run Limit) note = SomeLines [] note
 IsFaultNote (Run NoMemory) note = note ≡ []
 IsFaultNote (Journal fault) note = IsJournalNote fault note
 IsFaultNote (Drive fault) note = note ≡ []
+IsFaultNote Older note = note ≡ []
 
 -- a command wrote a fault's line alone, and this note is of that fault
 abbrev pub IsNotedFault : List ℕ → List ℕ → Type 0

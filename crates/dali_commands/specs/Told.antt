@@ -8,7 +8,7 @@ use Rattle.dali_drive.specs.declared.fault.DriveFault.{DriveFault}
 use Rattle.dali_drive.specs.declared.fault.DriveFault.TheVariants.{Journal, Link, Out}
 use Rattle.dali_drive.specs.Streams.{PutsFirst}
 use Rattle.dali_commands.specs.declared.fault.Fault.{Fault}
-use Rattle.dali_commands.specs.declared.fault.Fault.TheVariants.{Input, Drive}
+use Rattle.dali_commands.specs.declared.fault.Fault.TheVariants.{Input, Drive, Older}
 use Rattle.dali_commands.specs.declared.fault.Status.{Status}
 use Rattle.dali_commands.specs.declared.fault.Status.TheVariants.{Unwritten}
 use Rattle.dali_commands.specs.Faults.{item_line, told_line, status_of}
@@ -26,10 +26,11 @@ abbrev pub TellsWorded : Fault → Option (List ℕ) → Option (List ℕ) → T
 TellsWorded fault before after =
     (words : List ℕ) × Appends before after (error_line words ++ told_line fault)
 
--- the fault's line, and where a file or the memory failed a line in words before it
+-- the fault's line, and where a file, an older journal or the memory failed a line in words before it
 abbrev pub TellsFileFault : Fault → Option (List ℕ) → Option (List ℕ) → Type 0
 TellsFileFault (Input Memory) before after = TellsWorded (Input Memory) before after
 TellsFileFault (Input File) before after = TellsWorded (Input File) before after
+TellsFileFault Older before after = TellsWorded Older before after
 TellsFileFault fault before after = Appends before after (told_line fault)
 
 -- the fault is that the replies can't be written

@@ -1,4 +1,7 @@
-ghost use Rattle.std.specs.Prelude.{◌≡◌, ◌↔◌, false, true};
+ghost use Rattle.std.specs.Prelude.{◌≡◌, ◌↔◌, false, true, IfSome};
+ghost use Rattle.dali_journal.specs.declared.standing.Standing.TheVariants.{Idle};
+ghost use Rattle.dali_journal.specs.Sentence.{standing_of};
+ghost use Rattle.dali_commands.specs.BehindAnswers.{IsAnswerBehind};
 ghost use Rattle.dali_drive.specs.Stored.{LeavesPart};
 ghost use Rattle.dali_drive.specs.Transcript.{shown};
 ghost use Rattle.dali_input.specs.Input.{ReadsAtMost, state_of};
@@ -9,6 +12,7 @@ ghost use Rattle.dali_commands.specs.DriveAnswers.{IsDriveAnswer, ended_status a
 ghost use Rattle.dali_commands.specs.OrdersAnswers.{IsInputAnswer, IsReaderAnswer};
 ghost use Rattle.dali_commands.specs.JournalAnswers.{order_limit};
 
+use crate::behind::drive_orders_behind;
 use crate::drive_lines::{Causes, tell_fault, tell_refused, tell_unopened, tell_unread};
 use crate::fault::Status;
 use crate::journal::{JOURNAL_LIMIT, MOST_ORDERS};
@@ -16,6 +20,7 @@ use crate::lines::Lines;
 use dali_bank::Order;
 use dali_drive::{Sink, Source, StoredFault, drive_stored_observed};
 use dali_input::{Input, ORDERS_LIMIT, read_input, read_orders};
+use dali_journal::Journal;
 use dali_report::Report;
 use dali_store::Store;
 use std::alloc::Global;
@@ -29,6 +34,8 @@ pub struct DriveNames<'a> {
     pub orders: &'a str,
     /// JOURNAL.
     pub journal: &'a str,
+    /// The older journals, the oldest first.
+    pub older: &'a [&'a str],
 }
 
 /// How orders are to be driven.
@@ -42,10 +49,13 @@ pub struct DriveTerms {
 
 /// Carries out the orders that a reader gives over a link, with the journal that a store holds, as `drive_orders` does.
 ///
+/// Behind an older journal, which has to be at rest, as `drive_orders_behind` does.
+///
 /// Where an item is refused, the lines of all that are, are written, and nothing else is touched; nor is it where there
 /// are no orders: 13 TooBig over 16777216 bytes, 11 Json, 12 Document, 20 Memory or 21 File.
 pub fn drive_input<R: Read, I: Source, L: Sink, S: Store, W: Write, N: Write + Drop>(
     alloc: Global,
+    older: Option<Journal>,
     names: DriveNames<'_>,
     input: &mut Input<R>,
     terms: DriveTerms,
@@ -55,12 +65,14 @@ pub fn drive_input<R: Read, I: Source, L: Sink, S: Store, W: Write, N: Write + D
     lines: &mut Lines<W>,
     report: &mut Report<N>,
 ) -> Status
+    requires rests { IfSome older (λ journal. standing_of journal.records ≡ Idle) }
     requires store { S.failed store.old ≡ false }
     requires link_out { L.failed link_out.old ≡ false }
     requires link_in { I.failed link_in.old ≡ false }
     requires lines { has_failed lines.old.output ≡ false }
     ensures driven { IsReaderAnswer
-        (IsDriveAnswer N.contents terms.moment terms.require_done report.old report.new) (report.new ≡ report.old)
+        (IsAnswerBehind older N.contents terms.moment terms.require_done report.old report.new)
+        (report.new ≡ report.old)
         (shown (S.seen store.old) (L.held link_out.old) (I.left link_in.old) (held W.contents lines.old.output))
         result
         (shown (S.seen store.new) (L.held link_out.new) (I.left link_in.new) (held W.contents lines.new.output))
@@ -74,6 +86,7 @@ pub fn drive_input<R: Read, I: Source, L: Sink, S: Store, W: Write, N: Write + D
     match read_input(alloc, input, ORDERS_LIMIT) {
         Ok(bytes) => drive_bytes(
             alloc,
+            older,
             names,
             bytes.as_slice(),
             terms,
@@ -104,6 +117,7 @@ pub(crate) fn failure_of(cause: Option<ErrorKind>) -> Option<io::Error> {
 // Carries out the orders that these bytes spell.
 fn drive_bytes<I: Source, L: Sink, S: Store, W: Write, N: Write + Drop>(
     alloc: Global,
+    older: Option<Journal>,
     names: DriveNames<'_>,
     input: &[u8],
     terms: DriveTerms,
@@ -113,12 +127,14 @@ fn drive_bytes<I: Source, L: Sink, S: Store, W: Write, N: Write + Drop>(
     lines: &mut Lines<W>,
     report: &mut Report<N>,
 ) -> Status
+    requires rests { IfSome older (λ journal. standing_of journal.records ≡ Idle) }
     requires store { S.failed store.old ≡ false }
     requires link_out { L.failed link_out.old ≡ false }
     requires link_in { I.failed link_in.old ≡ false }
     requires lines { has_failed lines.old.output ≡ false }
     ensures answer { IsInputAnswer
-        (IsDriveAnswer N.contents terms.moment terms.require_done report.old report.new) (report.new ≡ report.old)
+        (IsAnswerBehind older N.contents terms.moment terms.require_done report.old report.new)
+        (report.new ≡ report.old)
         (shown (S.seen store.old) (L.held link_out.old) (I.left link_in.old) (held W.contents lines.old.output))
         result
         (shown (S.seen store.new) (L.held link_out.new) (I.left link_in.new) (held W.contents lines.new.output))
@@ -129,17 +145,31 @@ fn drive_bytes<I: Source, L: Sink, S: Store, W: Write, N: Write + Drop>(
         (LeavesPart order_limit (S.seen store.old) (S.seen store.new) (S.may_leave store.old)) }
 {
     match read_orders(alloc, input) {
-        Ok(Ok(orders)) => drive_orders(
-            alloc,
-            names.journal,
-            orders.as_slice(),
-            terms,
-            link_in,
-            link_out,
-            store,
-            lines,
-            report,
-        ),
+        Ok(Ok(orders)) => match older {
+            Some(older) => drive_orders_behind(
+                alloc,
+                older,
+                names.journal,
+                orders.as_slice(),
+                terms,
+                link_in,
+                link_out,
+                store,
+                lines,
+                report,
+            ),
+            None => drive_orders(
+                alloc,
+                names.journal,
+                orders.as_slice(),
+                terms,
+                link_in,
+                link_out,
+                store,
+                lines,
+                report,
+            ),
+        },
         Ok(Err(refused)) => tell_refused(&mut lines.output, refused.as_slice()),
         Err(fault) => tell_unread(alloc, &mut lines.output, names.orders, fault, None),
     }

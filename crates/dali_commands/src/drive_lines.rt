@@ -327,7 +327,7 @@ fn write_no_memory<W: Write>(
 
 // Writes a line in words for a person, and then the fault.
 #[tactic(auto, using(dali_text::proofs::StreamLemmas::appends_both))]
-fn write_worded<W: Write>(
+pub(crate) fn write_worded<W: Write>(
     output: &mut Output<W>,
     words: &str,
     fault: Fault,
@@ -341,7 +341,7 @@ fn write_worded<W: Write>(
 }
 
 // How a command ended that wrote what it tells, or couldn't.
-fn written_status(written: Result<Status, OutputFailed>) -> Status
+pub(crate) fn written_status(written: Result<Status, OutputFailed>) -> Status
     ensures ok { IfOk written (λ status. result ≡ status) }
     ensures err { IfErr written (λ _. result ≡ Status.Unwritten) }
 {

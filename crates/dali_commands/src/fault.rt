@@ -52,6 +52,9 @@ pub enum Fault {
     /// A drive: 1 Journal, 2 Link, 3 Line, 4 End, 5 NoMemory, 6 TooLong, 7 Out.
     #[error("{0}")]
     Drive(DriveFault),
+    /// 15: an older journal is none, isn't at rest, or has an order number that another one has.
+    #[error("Older")]
+    Older,
 }
 
 impl Fault {
@@ -65,7 +68,9 @@ impl Fault {
             Fault::Run(RunFault::NoMemory) | Fault::Journal(JournalFault::NoMemory) => {
                 Status::Failed
             }
-            Fault::Setup(_) | Fault::Run(RunFault::Limit) | Fault::Journal(_) => Status::Refused,
+            Fault::Setup(_) | Fault::Run(RunFault::Limit) | Fault::Journal(_) | Fault::Older => {
+                Status::Refused
+            }
             Fault::Drive(fault) => drive_status(*fault),
         }
     }

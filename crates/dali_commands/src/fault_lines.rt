@@ -42,6 +42,7 @@ pub fn write_fault<W: Write>(output: &mut Output<W>, fault: Fault) -> Result<(),
         Fault::Run(RunFault::NoMemory) => write_input_fault(output, InputFault::Memory),
         Fault::Journal(fault) => write_journal_fault(output, fault),
         Fault::Drive(fault) => output.write_all(drive_line(fault).as_bytes()),
+        Fault::Older => output.write_all(b"fault 15 Older\n"),
     }
 }
 

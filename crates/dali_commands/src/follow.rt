@@ -89,7 +89,7 @@ pub fn follow_lines<R: Source, I: Source, L: Sink, S: Store, W: Write, N: Write 
 }
 
 // How a stream ends that was followed to its end.
-fn followed_status(has_refused: bool, require_done: bool, done: bool) -> Status
+pub(crate) fn followed_status(has_refused: bool, require_done: bool, done: bool) -> Status
     ensures { result ≡ status_at_end has_refused require_done done }
 {
     if has_refused {
@@ -100,7 +100,7 @@ fn followed_status(has_refused: bool, require_done: bool, done: bool) -> Status
 }
 
 // Tells that the source of the lines has failed, where it has; else it ends so.
-fn tell_followed<R: Source, W: Write>(
+pub(crate) fn tell_followed<R: Source, W: Write>(
     alloc: Global,
     lines: &mut Lines<W>,
     name: &str,

@@ -113,7 +113,7 @@ fn note_of(alloc: Global, kind: Option<Kind>, fault: Fault) -> Note {
 }
 
 // The journal of an input, how many bytes of it count, and its version.
-fn journal_in(alloc: Global, input: Vec<u8>) -> Result<(Journal, usize, Version), Fault>
+pub(crate) fn journal_in(alloc: Global, input: Vec<u8>) -> Result<(Journal, usize, Version), Fault>
     ensures ok { IfOk result (λ loaded. IsJournalIn input.items loaded.0 loaded.1 loaded.2) }
     ensures err { IfErr result (IsUnloaded input.items) }
 {

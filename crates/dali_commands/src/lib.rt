@@ -2,6 +2,7 @@
 //! up to its status.
 #![tactic(auto)]
 
+pub mod behind;
 pub mod check;
 pub mod drive;
 pub mod drive_files;
@@ -16,6 +17,8 @@ pub mod journal;
 pub mod lines;
 mod link_command;
 mod notes;
+pub mod older;
+mod older_lines;
 pub mod read;
 mod report_file;
 pub mod run_scenario;

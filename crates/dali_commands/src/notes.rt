@@ -51,8 +51,10 @@ fn note_fault<N: Write>(notes: &mut Output<N>, fault: Fault, note: &Note)
             | JournalFault::Full(_)
             | JournalFault::Header,
         ) => note.tell(notes),
-        Fault::Run(RunFault::NoMemory) | Fault::Journal(JournalFault::NoMemory) | Fault::Drive(_) =>
-            {}
+        Fault::Run(RunFault::NoMemory)
+        | Fault::Journal(JournalFault::NoMemory)
+        | Fault::Drive(_)
+        | Fault::Older => {}
     }
 }
 

@@ -15,46 +15,41 @@ fn names(alloc: Global, line: &str, job: Job<'_>) -> Result<(), Fail> {
     expect_that(job_of(alloc, &words).ok() == Some(job), line)
 }
 
-// Tests which jobs command lines name.
-fn names_each(alloc: Global, cases: &[(&str, Job<'_>)]) -> Result<(), Fail> {
-    for &(line, job) in cases {
-        names(alloc, line, job)?;
-    }
-    Ok(())
-}
-
-static LINES: [(&str, Job<'static>); 5] = [
-    ("dali_bench check orders.json", Job::Check("orders.json")),
-    ("dali_bench frame A303", Job::Frame("A303")),
-    ("dali_bench frame ", Job::Frame("")),
-    ("dali_bench show bank.hex", Job::Show("bank.hex")),
-    ("dali_bench scan", Job::Scan),
-];
-
 #[test]
 fn command_lines(rt: HostRuntime) -> Result<(), Fail> {
-    names_each(rt.alloc(), &LINES)
+    let alloc = rt.alloc();
+    names(
+        alloc,
+        "dali_bench check orders.json",
+        Job::Check("orders.json"),
+    )?;
+    names(alloc, "dali_bench frame A303", Job::Frame("A303"))?;
+    names(alloc, "dali_bench frame ", Job::Frame(""))?;
+    names(alloc, "dali_bench show bank.hex", Job::Show("bank.hex"))?;
+    names(alloc, "dali_bench scan", Job::Scan)
 }
 
-const IN_FRAMES: Job<'static> = Job::Run {
-    scenario: "s.json",
-    single_frames: true,
-};
-
-const IN_RUNS: Job<'static> = Job::Run {
-    scenario: "s.json",
-    single_frames: false,
-};
-
-static RUNS: [(&str, Job<'static>); 3] = [
-    ("dali_bench run s.json", IN_RUNS),
-    ("dali_bench run s.json --frames", IN_FRAMES),
-    ("dali_bench run --frames s.json", IN_FRAMES),
+// Command lines of a run, and whether each asks for the frames.
+static RUNS: [(&str, bool); 3] = [
+    ("dali_bench run s.json", false),
+    ("dali_bench run s.json --frames", true),
+    ("dali_bench run --frames s.json", true),
 ];
 
 #[test]
 fn command_lines_of_a_run(rt: HostRuntime) -> Result<(), Fail> {
-    names_each(rt.alloc(), &RUNS)
+    for &(line, single_frames) in &RUNS {
+        let scenario = "s.json";
+        names(
+            rt.alloc(),
+            line,
+            Job::Run {
+                scenario,
+                single_frames,
+            },
+        )?;
+    }
+    Ok(())
 }
 
 // Command lines of a journal, and whether each asks for the updates.
@@ -97,7 +92,14 @@ fn command_lines_of_a_comparison(rt: HostRuntime) -> Result<(), Fail> {
     Ok(())
 }
 
-fn drive(moment: u64, follow: bool, require_done: bool, report: Option<&str>) -> Job<'_> {
+// A drive with no older journals.
+fn drive(
+    alloc: Global,
+    moment: u64,
+    follow: bool,
+    require_done: bool,
+    report: Option<&str>,
+) -> Job<'_> {
     Job::Drive {
         orders: "o.json",
         journal: "b.bin",
@@ -105,6 +107,7 @@ fn drive(moment: u64, follow: bool, require_done: bool, report: Option<&str>) ->
         follow,
         require_done,
         report,
+        older: Vec::new(alloc),
     }
 }
 
@@ -119,7 +122,8 @@ dali_bench drive --moment 18446744073709551615 o.json b.bin|18446744073709551615
 fn command_lines_of_a_drive(rt: HostRuntime) -> Result<(), Fail> {
     for case in DRIVES.split('\n') {
         let (line, moment) = case.split_once('|').ok_or("a command line")?;
-        names(rt.alloc(), line, drive(moment.parse()?, false, false, None))?;
+        let job = drive(rt.alloc(), moment.parse()?, false, false, None);
+        names(rt.alloc(), line, job)?;
     }
     Ok(())
 }
@@ -127,8 +131,18 @@ fn command_lines_of_a_drive(rt: HostRuntime) -> Result<(), Fail> {
 // Command lines of a drive, whether each has orders that come line by line, and wants all orders done, and the file of
 // its report.
 static DRIVES_WITH_OPTIONS: [(&str, bool, bool, Option<&str>); 8] = [
-    ("dali_bench drive --require-done o.json b.bin", false, true, None),
-    ("dali_bench drive o.json b.bin --require-done", false, true, None),
+    (
+        "dali_bench drive --require-done o.json b.bin",
+        false,
+        true,
+        None,
+    ),
+    (
+        "dali_bench drive o.json b.bin --require-done",
+        false,
+        true,
+        None,
+    ),
     ("dali_bench drive --follow o.json b.bin", true, false, None),
     ("dali_bench drive o.json b.bin --follow", true, false, None),
     (
@@ -160,7 +174,49 @@ static DRIVES_WITH_OPTIONS: [(&str, bool, bool, Option<&str>); 8] = [
 #[test]
 fn command_lines_of_a_drive_with_options(rt: HostRuntime) -> Result<(), Fail> {
     for &(line, follow, require_done, report) in &DRIVES_WITH_OPTIONS {
-        names(rt.alloc(), line, drive(0, follow, require_done, report))?;
+        let job = drive(rt.alloc(), 0, follow, require_done, report);
+        names(rt.alloc(), line, job)?;
+    }
+    Ok(())
+}
+
+// Command lines of a drive, and the older journals that each names, with a space between them.
+static DRIVES_WITH_OLDER: [(&str, &str); 8] = [
+    ("dali_bench drive --older a.bin o.json b.bin", "a.bin"),
+    ("dali_bench drive o.json --older=a.bin b.bin", "a.bin"),
+    ("dali_bench drive o.json b.bin --older=", ""),
+    ("dali_bench drive o.json b.bin --older b.bin", "b.bin"),
+    (
+        "dali_bench drive --older a.bin o.json b.bin --older c.bin",
+        "a.bin c.bin",
+    ),
+    (
+        "dali_bench drive o.json --older=c.bin b.bin --older a.bin",
+        "c.bin a.bin",
+    ),
+    (
+        "dali_bench drive --older a.bin --older a.bin o.json b.bin",
+        "a.bin a.bin",
+    ),
+    (
+        "dali_bench drive --older d.bin --older a.bin --older c.bin o.json b.bin",
+        "d.bin a.bin c.bin",
+    ),
+];
+
+#[test]
+fn command_lines_of_a_drive_with_older_journals(rt: HostRuntime) -> Result<(), Fail> {
+    for &(line, older) in &DRIVES_WITH_OLDER {
+        let job = Job::Drive {
+            orders: "o.json",
+            journal: "b.bin",
+            moment: 0,
+            follow: false,
+            require_done: false,
+            report: None,
+            older: words_of(rt.alloc(), older)?,
+        };
+        names(rt.alloc(), line, job)?;
     }
     Ok(())
 }
@@ -213,6 +269,7 @@ dali_bench drive a
 dali_bench drive --moment 5
 dali_bench drive a --moment 5
 dali_bench drive a --report r
+dali_bench drive a --older c
 dali_bench journal --updates
 dali_bench read
 dali_bench read 5
@@ -229,11 +286,13 @@ dali_bench drive a b c
 dali_bench verify --follow a
 dali_bench drive --frames a b
 dali_bench drive --done a b
+dali_bench journal --older c a
 dali_bench read 5 a b
 dali_bench read --moment 5 5 a
 dali_bench read -1 a
 dali_bench verify a b
 dali_bench verify --require-done a
+dali_bench verify --older c a
 dali_bench scan a
 dali_bench scan --all";
 
@@ -246,6 +305,8 @@ dali_bench journal --updates a --updates";
 
 const NO_VALUE: &str = "dali_bench drive a b --moment
 dali_bench drive a b --report
+dali_bench drive a b --older
+dali_bench drive a b --older c --older
 dali_bench verify a --report";
 
 // Moments that are no numbers, or too large.

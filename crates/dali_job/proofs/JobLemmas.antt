@@ -12,7 +12,8 @@ use Rattle.clap.specs.declared.builder.command.Command.{Command}
 use Rattle.clap.specs.declared.builder.command.Command.TheViews.{out-Command as fields_of}
 use Rattle.clap.specs.declared.parser.matches.ArgMatches.{ArgMatches}
 use Rattle.clap.proofs.OnLiterals.{clap_on_literals}
-use Rattle.dali_job.specs.Jobs.{HasFlag, HasNumber, HasOption, HasValue, IsEntered, IsJob, IsNoJob, IsNumber, bench_app}
+use Rattle.dali_job.specs.Jobs.{HasFlag, HasNumber, HasOption, HasValue, IsEntered, IsJob, IsNoDrive, IsNoJob}
+use Rattle.dali_job.specs.Jobs.{IsNumber, bench_app}
 use Rattle.dali_job.specs.declared.job.Job.{Job}
 use Rattle.dali_job.specs.declared.job.Job.TheVariants.{Check, Run, Frame, Show, Journal, Drive, Read, Verify, Scan}
 
@@ -154,9 +155,7 @@ pub no_job : (entered : Option (Text × List Row))
     → ((value : Text) → ¬ HasValue entered (codes "journal") (codes "FILE") value)
     → ((value : Text) → ¬ HasValue entered (codes "verify") (codes "ORDERS") value)
     → ¬ IsEntered entered (codes "scan")
-    → ((unit : ℕ) (bank : Bor Text) → ¬ IsJob entered (Read unit bank))
-    → ((orders journal : Bor Text) (moment : ℕ) (follow require_done : Bool) (report : Option (Bor Text))
-    → ¬ IsJob entered (Drive orders journal moment follow require_done report)) → IsNoJob entered
+    → ((unit : ℕ) (bank : Bor Text) → ¬ IsJob entered (Read unit bank)) → IsNoDrive entered → IsNoJob entered
 no_job _ no_orders _ _ _ _ _ _ _ _ (Check orders) = no_orders orders.now
 no_job _ _ no_scenario _ _ _ _ _ _ _ (Run scenario _) = λ named. no_scenario scenario.now named.0
 no_job _ _ _ no_digits _ _ _ _ _ _ (Frame digits) = no_digits digits.now
@@ -165,18 +164,13 @@ no_job _ _ _ _ _ no_records _ _ _ _ (Journal records _) = λ named. no_records r
 no_job _ _ _ _ _ _ no_compared _ _ _ (Verify orders _) = λ named. no_compared orders.now named.0
 no_job _ _ _ _ _ _ _ no_scan _ _ Scan = no_scan
 no_job _ _ _ _ _ _ _ _ no_read _ (Read unit bank) = no_read unit bank
-no_job _ _ _ _ _ _ _ _ _ no_drive (Drive orders journal moment follow require_done report) =
-    no_drive orders journal moment follow require_done report
+no_job _ _ _ _ _ _ _ _ _ no_drive (Drive orders journal moment follow require_done report older) =
+    no_drive orders journal moment follow require_done report older
 
--- the same of what may be no job
-pub no_job_in : (entered : Option (Text × List Row)) (found : Option Job)
-    → (((orders journal : Bor Text) (moment : ℕ) (follow require_done : Bool) (report : Option (Bor Text))
-    → ¬ IsJob entered (Drive orders journal moment follow require_done report)) → IsNoJob entered)
-    → IfNone found ((orders journal : Bor Text) (moment : ℕ) (follow require_done : Bool) (report : Option (Bor Text))
-    → ¬ IsJob entered (Drive orders journal moment follow require_done report))
-    → IfNone found (IsNoJob entered)
-no_job_in entered None others none = others none
-no_job_in entered (Some job) others none = tt
+-- what follows from what there is where no job was found
+pub none_then : (found : Option Job) (P Q : Type 0) → (P → Q) → IfNone found P → IfNone found Q
+none_then None P Q follows none = follows none
+none_then (Some job) P Q follows none = tt
 
 -- what `get_one` reads of a text as a `bool` is true exactly where the text is `true`
 read_as_true : (E : Type 0) (text : Option Text) (o : Option Bool) → (text ≡ None → o ≡ None)

@@ -1,11 +1,14 @@
 -- The command line, and what it asks for.
-use Rattle.std.specs.Prelude.{◌≡◌, ◌<◌, ◌≤◌, ◌^◌, ℕ, List, [], ◌∷◌, Option, Some, None, codes, true}
+use Rattle.std.specs.Prelude.{◌≡◌, ◌<◌, ◌≤◌, ◌^◌, ℕ, Bool, List, [], ◌∷◌, Option, Some, None, codes, map, true}
+use Rattle.std.specs.Prelude.{unwrap_or}
 use Rattle.std.specs.Bool.{Decides}
 use Rattle.std.specs.Borrow.{Bor}
 use Rattle.std.specs.Str.Parse.{IsNumeral, digits_value, without_leading_plus}
-use Rattle.clap.specs.Words.{App, Row, Rule, Text, first_of, new_app, new_rule, one_of, subcommand_of, with_rule}
-use Rattle.clap.specs.Words.{with_subcommand}
-use Rattle.clap.specs.declared.builder.ArgAction.TheVariants.{Set, SetTrue}
+use Rattle.std.specs.declared.vec.Vec.{Vec}
+use Rattle.std.specs.declared.alloc.Global.{Global}
+use Rattle.clap.specs.Words.{App, Row, Rule, Text, all_of, first_of, new_app, new_rule, one_of, subcommand_of}
+use Rattle.clap.specs.Words.{with_rule, with_subcommand}
+use Rattle.clap.specs.declared.builder.ArgAction.TheVariants.{Append, Set, SetTrue}
 use Rattle.clap.specs.declared.builder.ValueParser.TheVariants.{Unsigned}
 use Rattle.dali_job.specs.declared.job.Job.{Job}
 use Rattle.dali_job.specs.declared.job.Job.TheVariants.{Check, Run, Frame, Show, Journal, Drive, Read, Verify, Scan}
@@ -32,6 +35,10 @@ number_rule id missing = record (new_rule id) {
 abbrev pub option_rule : Text → Rule
 option_rule id = record (new_rule id) { long = Some id; action = Some Set; value_names = 1 }
 
+-- an option under its own name, which takes one value each time that it is given, and may be left out
+abbrev pub many_rule : Text → Rule
+many_rule id = record (new_rule id) { long = Some id; action = Some Append; value_names = 1 }
+
 -- an argument that has to be there, and takes the short address of a unit
 abbrev pub unit_rule : Text → Rule
 unit_rule id = record (value_rule id) { parser = Some (Unsigned 0 63) }
@@ -52,13 +59,14 @@ run_app = with_rule (command_app (codes "run") (codes "SCENARIO")) (flag_rule (c
 abbrev pub journal_app : App
 journal_app = with_rule (command_app (codes "journal") (codes "FILE")) (flag_rule (codes "updates"))
 
--- the command that drives, with its two files, the moment, which is 0 where it isn't given, its two flags, and its
--- report
+-- the command that drives, with its two files, the moment, which is 0 where it isn't given, its two flags, its
+-- report, and the older journals
 abbrev pub drive_app : App
 drive_app = let files = with_rule (command_app (codes "drive") (codes "ORDERS")) (value_rule (codes "JOURNAL")) in
     let timed = with_rule files (number_rule (codes "moment") (codes "0")) in
     let followed = with_rule timed (flag_rule (codes "follow")) in
-    with_rule (with_rule followed (flag_rule (codes "require-done"))) (option_rule (codes "report"))
+    let flagged = with_rule followed (flag_rule (codes "require-done")) in
+    with_rule (with_rule flagged (option_rule (codes "report"))) (many_rule (codes "older"))
 
 -- the command that reads, with its unit and its file
 abbrev pub read_app : App
@@ -99,6 +107,11 @@ abbrev pub HasOption : Option (Text × List Row) → Text → Text → Option (B
 HasOption entered command id (Some value) = HasValue entered command id value.now
 HasOption entered command id None = IsLeftOut entered command id
 
+-- a parse entered the command, and its option was given just these values, in their order: none where it is left out
+abbrev pub HasValues : Option (Text × List Row) → Text → Text → List Text → Type 0
+HasValues entered command id values =
+    (rows : List Row) × (entered ≡ Some (command, rows)) × (unwrap_or (all_of id rows) [] ≡ values)
+
 -- a parse entered the command, and its flag is given
 abbrev pub HasFlag : Option (Text × List Row) → Text → Text → Type 0
 HasFlag entered command id =
@@ -130,13 +143,14 @@ IsJob entered (Show dump) = HasValue entered (codes "show") (codes "HEXFILE") du
 IsJob entered (Journal records with_updates) =
     HasValue entered (codes "journal") (codes "FILE") records.now
     × Decides with_updates (HasFlag entered (codes "journal") (codes "updates"))
-IsJob entered (Drive orders journal moment follow require_done report) =
+IsJob entered (Drive orders journal moment follow require_done report older) =
     HasValue entered (codes "drive") (codes "ORDERS") orders.now
     × HasValue entered (codes "drive") (codes "JOURNAL") journal.now
     × HasNumber entered (codes "drive") (codes "moment") moment
     × Decides follow (HasFlag entered (codes "drive") (codes "follow"))
     × Decides require_done (HasFlag entered (codes "drive") (codes "require-done"))
     × HasOption entered (codes "drive") (codes "report") report
+    × HasValues entered (codes "drive") (codes "older") (map (λ value. value.now) older.items)
 IsJob entered (Read unit bank) =
     HasUnit entered (codes "read") (codes "UNIT") unit
     × HasValue entered (codes "read") (codes "HEXFILE") bank.now
@@ -144,6 +158,11 @@ IsJob entered (Verify orders report) =
     HasValue entered (codes "verify") (codes "ORDERS") orders.now
     × HasOption entered (codes "verify") (codes "report") report
 IsJob entered Scan = IsEntered entered (codes "scan")
+
+-- no job of driving is that of the command that a parse entered
+abbrev pub IsNoDrive : Option (Text × List Row) → Type 0
+IsNoDrive entered = (orders journal : Bor Text) (moment : ℕ) (follow require_done : Bool) (report : Option (Bor Text))
+    (older : Vec (Bor Text) Global) → ¬ IsJob entered (Drive orders journal moment follow require_done report older)
 
 -- no job is that of the command that a parse entered
 abbrev pub IsNoJob : Option (Text × List Row) → Type 0

@@ -1,26 +1,29 @@
-ghost use Rattle.std.specs.Prelude.{◌≡◌, ◌⊎◌, Bool, List, ℕ, IfOk, IfErr, IfSome, IfNone, IsOkAnd, Option, codes};
-ghost use Rattle.std.specs.Prelude.{false, map};
+ghost use Rattle.std.specs.Prelude.{◌≡◌, ◌⊎◌, [], List, ℕ, IfOk, IfErr, IfSome, IfNone, IsOkAnd, codes};
+ghost use Rattle.std.specs.Prelude.{false, map, unwrap_or};
 ghost use Rattle.clap.specs.declared.builder.command.Command.TheViews.{out-Command as fields_of};
 ghost use Rattle.std.specs.Bool.{Decides};
-ghost use Rattle.clap.specs.Words.{HasKind, app_of, fault_of, new_app, rule_of, subcommand_rows_of, AddsSubcommand};
-ghost use Rattle.dali_job.specs.Jobs.{HasFlag, HasNumber, HasUnit, HasValue, IsEntered, IsJob, IsJobOf, IsNoJob};
-ghost use Rattle.dali_job.specs.Jobs.{NamesNoJob, bench_app, command_app, drive_app, flag_rule, journal_app};
-ghost use Rattle.dali_job.specs.Jobs.{number_rule, option_rule, read_app, run_app, unit_rule, value_rule, verify_app};
-ghost use Rattle.dali_job.specs.declared.job.Job.TheVariants.{Drive, Read};
+ghost use Rattle.clap.specs.Words.{HasKind, all_of, app_of, fault_of, found_of, new_app, rows_of, rule_of};
+ghost use Rattle.clap.specs.Words.{subcommand_rows_of, AddsSubcommand};
+ghost use Rattle.dali_job.specs.Jobs.{HasFlag, HasNumber, HasUnit, HasValue, HasValues, IsEntered, IsJob, IsJobOf};
+ghost use Rattle.dali_job.specs.Jobs.{IsNoDrive, IsNoJob, NamesNoJob, bench_app, command_app, drive_app, flag_rule};
+ghost use Rattle.dali_job.specs.Jobs.{journal_app, many_rule, number_rule, option_rule, read_app, run_app, unit_rule};
+ghost use Rattle.dali_job.specs.Jobs.{value_rule, verify_app};
+ghost use Rattle.dali_job.specs.declared.job.Job.TheVariants.{Read};
 ghost use Rattle.std.specs.Borrow.{Bor};
 
 use crate::usages::{
-    ABOUT, Argument, CHECK, CHECK_ORDERS, DRIVE, DRIVE_DONE_HELP, DRIVE_FOLLOW_HELP, DRIVE_JOURNAL_HELP,
-    DRIVE_MOMENT_HELP, DRIVE_REPORT_HELP, FRAME, FRAME_HEX, JOURNAL, JOURNAL_FILE,
-    JOURNAL_UPDATES_HELP, LINK_ORDERS, READ, READ_BANK_HELP, READ_UNIT_HELP, RUN, RUN_FRAMES_HELP,
-    RUN_SCENARIO, SCAN, SHOW, SHOW_DUMP, TOP_HELP, Usage, VERIFY, VERIFY_REPORT_HELP,
+    ABOUT, Argument, CHECK, CHECK_ORDERS, DRIVE, DRIVE_DONE_HELP, DRIVE_FOLLOW_HELP,
+    DRIVE_JOURNAL_HELP, DRIVE_MOMENT_HELP, DRIVE_OLDER_HELP, DRIVE_REPORT_HELP, FRAME, FRAME_HEX,
+    JOURNAL, JOURNAL_FILE, JOURNAL_UPDATES_HELP, LINK_ORDERS, READ, READ_BANK_HELP, READ_UNIT_HELP,
+    RUN, RUN_FRAMES_HELP, RUN_SCENARIO, SCAN, SHOW, SHOW_DUMP, TOP_HELP, Usage, VERIFY,
+    VERIFY_REPORT_HELP,
 };
 use clap::error::ErrorKind;
 use clap::{Arg, ArgAction, ArgMatches, Command, Error, value_parser};
 use std::alloc::{AllocError, Global};
 
 /// What the command line asks for.
-#[derive(Clone, Copy, Debug, PartialEq, Eq)]
+#[derive(Drop, Debug, PartialEq, Eq)]
 pub enum Job<'a> {
     /// To check a file of orders.
     Check(&'a str),
@@ -43,6 +46,8 @@ pub enum Job<'a> {
     /// each order that begins. With `follow` the file is a stream, of which each line is carried out
     /// before the next is read. With `require_done` it is to end well only where each order is done.
     /// `report` is the file, if one is wanted, that gets a line for each order at its last reply.
+    /// `older` are the journals whose orders get their kept replies, in the order in which they were
+    /// given.
     Drive {
         orders: &'a str,
         journal: &'a str,
@@ -50,6 +55,7 @@ pub enum Job<'a> {
         follow: bool,
         require_done: bool,
         report: Option<&'a str>,
+        older: Vec<&'a str>,
     },
     /// To read bank 1 of a unit over a link into a file.
     Read {
@@ -75,19 +81,23 @@ pub fn job_of<'a>(alloc: Global, words: &'a [&'a str]) -> Result<Job<'a>, Error>
         ⊎ NamesNoJob (map (λ word. word.now) words.entry.now)) }
 {
     match bench_command(alloc) {
-        Ok(mut command) => job_by(&mut command, words),
+        Ok(mut command) => job_by(alloc, &mut command, words),
         Err(error) => Err(Error::from(error)),
     }
 }
 
 // The job that the words name, by the program's commands.
-fn job_by<'a>(command: &mut Command<'a>, words: &'a [&'a str]) -> Result<Job<'a>, Error>
+fn job_by<'a>(
+    alloc: Global,
+    command: &mut Command<'a>,
+    words: &'a [&'a str],
+) -> Result<Job<'a>, Error>
     requires { app_of command.old ≡ bench_app }
     ensures named { IfOk result (IsJobOf (map (λ word. word.now) words.entry.now)) }
     ensures refused { IfErr result (λ error. HasKind (fault_of bench_app (map (λ word. word.now) words.entry.now)) error
         ⊎ NamesNoJob (map (λ word. word.now) words.entry.now)) }
 {
-    match entered_job(command, words)? {
+    match entered_job(alloc, command, words)? {
         Some(job) => Ok(job),
         None => Err(missing(command)),
     }
@@ -95,6 +105,7 @@ fn job_by<'a>(command: &mut Command<'a>, words: &'a [&'a str]) -> Result<Job<'a>
 
 // The job of the command that the words enter, where they enter one and it is a job's.
 fn entered_job<'a>(
+    alloc: Global,
     command: &mut Command<'a>,
     words: &'a [&'a str],
 ) -> Result<Option<Job<'a>>, Error>
@@ -104,15 +115,27 @@ fn entered_job<'a>(
     ensures refused { IfErr result (HasKind (fault_of bench_app (map (λ word. word.now) words.entry.now))) }
 {
     match command.try_get_matches_from_mut(words) {
-        Ok(matches) => Ok(job_in(&matches)),
+        Ok(matches) => Ok(job_in(alloc, &matches)?),
         Err(error) => Err(error),
     }
 }
 
 // The job of the command that a parse entered.
-fn job_in<'a>(matches: &ArgMatches<'a>) -> Option<Job<'a>>
+fn job_in<'a>(alloc: Global, matches: &ArgMatches<'a>) -> Result<Option<Job<'a>>, AllocError>
+    ensures named { IfOk result (λ found. IfSome found (IsJob (subcommand_rows_of matches.now))) }
+    ensures none { IfOk result (λ found. IfNone found (IsNoJob (subcommand_rows_of matches.now))) }
+{
+    match other_job_in(matches) {
+        Some(job) => Ok(Some(job)),
+        None => drive_in(alloc, matches),
+    }
+}
+
+// The job of the command that a parse entered, where that is another than `drive`.
+fn other_job_in<'a>(matches: &ArgMatches<'a>) -> Option<Job<'a>>
     ensures named { IfSome result (IsJob (subcommand_rows_of matches.now)) }
-    ensures none { IfNone result (IsNoJob (subcommand_rows_of matches.now)) }
+    ensures none { IfNone result
+        (IsNoDrive (subcommand_rows_of matches.now) → IsNoJob (subcommand_rows_of matches.now)) }
 {
     if let Some(orders) = value_of(matches, "check", "ORDERS") {
         return Some(Job::Check(orders));
@@ -144,10 +167,7 @@ fn job_in<'a>(matches: &ArgMatches<'a>) -> Option<Job<'a>>
     if is_entered(matches, "scan") {
         return Some(Job::Scan);
     }
-    if let Some(job) = read_in(matches) {
-        return Some(job);
-    }
-    drive_in(matches)
+    read_in(matches)
 }
 
 // The job of the command that reads a bank, where a parse entered it.
@@ -162,26 +182,35 @@ fn read_in<'a>(matches: &ArgMatches<'a>) -> Option<Job<'a>>
 }
 
 // The job of the command that drives, where a parse entered it.
-fn drive_in<'a>(matches: &ArgMatches<'a>) -> Option<Job<'a>>
-    ensures named { IfSome result (IsJob (subcommand_rows_of matches.now)) }
-    ensures none { IfNone result
-        ((orders journal : Bor (List ℕ)) (moment : ℕ) (follow require_done : Bool) (report : Option (Bor (List ℕ)))
-        → ¬ IsJob (subcommand_rows_of matches.now) (Drive orders journal moment follow require_done report)) }
+fn drive_in<'a>(alloc: Global, matches: &ArgMatches<'a>) -> Result<Option<Job<'a>>, AllocError>
+    ensures named { IfOk result (λ found. IfSome found (IsJob (subcommand_rows_of matches.now))) }
+    ensures none { IfOk result (λ found. IfNone found (IsNoDrive (subcommand_rows_of matches.now))) }
 {
-    let orders = value_of(matches, "drive", "ORDERS")?;
-    let journal = value_of(matches, "drive", "JOURNAL")?;
-    let moment = number_of(matches, "drive", "moment")?;
+    let Some(orders) = value_of(matches, "drive", "ORDERS") else {
+        return Ok(None);
+    };
+    let Some(journal) = value_of(matches, "drive", "JOURNAL") else {
+        return Ok(None);
+    };
+    let Some(moment) = number_of(matches, "drive", "moment") else {
+        return Ok(None);
+    };
+    let Some(older) = values_of(alloc, matches, "drive", "older")? else {
+        return Ok(None);
+    };
     let follow = has_flag(matches, "drive", "follow");
     let require_done = has_flag(matches, "drive", "require-done");
     let report = value_of(matches, "drive", "report");
-    Some(Job::Drive {
+    let job = Job::Drive {
         orders,
         journal,
         moment,
         follow,
         require_done,
         report,
-    })
+        older,
+    };
+    Ok(Some(job))
 }
 
 // The value of a command's argument, where a parse entered that command.
@@ -193,6 +222,39 @@ fn value_of<'a>(matches: &ArgMatches<'a>, command: &str, id: &str) -> Option<&'a
     match matches.subcommand_matches(command) {
         Some(found) => found.get_str(id),
         None => None,
+    }
+}
+
+// The values that a command's option was given, in their order, where a parse entered that command.
+fn values_of<'a>(
+    alloc: Global,
+    matches: &ArgMatches<'a>,
+    command: &str,
+    id: &str,
+) -> Result<Option<Vec<&'a str>>, AllocError>
+    ensures found { IfOk result (λ found. IfSome found (λ values.
+        HasValues (subcommand_rows_of matches.now) command.now id.now (map (λ value. value.now) values.items))) }
+    ensures none { IfOk result (λ found. IfNone found
+        ((values : List (List ℕ)) → ¬ HasValues (subcommand_rows_of matches.now) command.now id.now values)) }
+{
+    match matches.subcommand_matches(command) {
+        Some(found) => Ok(Some(given_values(alloc, found, id)?)),
+        None => Ok(None),
+    }
+}
+
+// The values of all uses of an argument, in their order: none where it wasn't used.
+fn given_values<'a>(
+    alloc: Global,
+    found: &ArgMatches<'a>,
+    id: &str,
+) -> Result<Vec<&'a str>, AllocError>
+    ensures { IfOk result (λ values.
+        unwrap_or (all_of id.now (rows_of (found_of found.now))) [] ≡ map (λ value. value.now) values.items) }
+{
+    match found.get_strs(id) {
+        Some(values) => Vec::from_slice(alloc, values),
+        None => Ok(Vec::new(alloc)),
     }
 }
 
@@ -300,7 +362,8 @@ fn drive_command<'a>(alloc: Global) -> Result<Command<'a>, AllocError>
     let timed = files.arg(moment_option(alloc))?;
     let followed = timed.arg(flag_of(alloc, "follow", DRIVE_FOLLOW_HELP))?;
     let flagged = followed.arg(flag_of(alloc, "require-done", DRIVE_DONE_HELP))?;
-    flagged.arg(report_option(alloc, DRIVE_REPORT_HELP))
+    let reported = flagged.arg(report_option(alloc, DRIVE_REPORT_HELP))?;
+    reported.arg(older_option(alloc))
 }
 
 // The command that compares units with orders, with its report.
@@ -386,6 +449,18 @@ fn report_option<'a>(alloc: Global, help: &'a str) -> Arg<'a>
         .value_name("FILE")
         .help(help)
         .action(ArgAction::Set)
+}
+
+// The option of `drive` that names older journals, one each time that it is given.
+fn older_option<'a>(alloc: Global) -> Arg<'a>
+    ensures rule { rule_of result ≡ many_rule (codes "older") }
+    ensures local { result.global ≡ false }
+{
+    Arg::new(alloc, "older")
+        .long("older")
+        .value_name("FILE")
+        .help(DRIVE_OLDER_HELP)
+        .action(ArgAction::Append)
 }
 
 // The option of `drive`, with the number that stands where it isn't given.

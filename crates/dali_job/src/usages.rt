@@ -136,6 +136,8 @@ Nothing is sent where an item is refused, with the faults of `check`, or where a
 of ORDERS 11 Json, 12 Document, 13 TooBig (over 16777216 bytes), of JOURNAL 13 TooBig (over 33554432 bytes)
 and those of `journal`; 20 Memory, 21 File (can't be opened, read, written anew or synced, or another drive has
 the journal). A journal that is empty or of version 1 is written anew, in version 2, before anything is sent.
+With --older the named journals are read first: 15 Older (one is no journal, isn't at rest, or has an order
+number that another one or JOURNAL has), 20 Memory, 21 File.
 With --follow ORDERS has JSON line by line: an order, or {\"submit\": ORDER, \"moment\": M}. Each line is carried out
 before the next is read. A refused one (with the faults of `check`, 11 Json, 12 Document, 13 TooBig: over 16384
 bytes, 20 Memory) is told by its number and changes nothing. It ends where the stream does.
@@ -166,6 +168,9 @@ pub(crate) const DRIVE_DONE_HELP: &str =
 
 pub(crate) const DRIVE_REPORT_HELP: &str =
     "A file that gets a line of JSON for each order at its last reply";
+
+pub(crate) const DRIVE_OLDER_HELP: &str = "\
+A journal that is full or retired, and at rest: its orders get their kept replies. May be given again";
 
 pub(crate) static READ: Usage<'static> = Usage {
     name: "read",

@@ -16,9 +16,11 @@ returns-clause-app c =
     let done = c.flag_of-2.ensures in
     let flagged = c.in_ok-flagged.ensures.shape done.local ∙ ap₂ with_rule followed done.rule in
     let report = c.report_option.ensures in
-    IfOk-weaker c.arg-5.result _ _
-    (λ command added. added.shape report.local ∙ ap₂ with_rule flagged report.rule)
-    c.arg-5.ensures
+    let reported = c.in_ok-reported.ensures.shape report.local ∙ ap₂ with_rule flagged report.rule in
+    let older = c.older_option.ensures in
+    IfOk-weaker c.arg-6.result _ _
+    (λ command added. added.shape older.local ∙ ap₂ with_rule reported older.rule)
+    c.arg-6.ensures
 
 pub returns-clause-local : goal.returns-clause-local
 returns-clause-local c =
@@ -31,6 +33,8 @@ returns-clause-local c =
     c.in_ok-followed.ensures.globals ∙ ap₂ (λ old new. old || new) timed c.flag_of.ensures.local in
     let flagged : (fields_of c.in_ok-flagged.flagged).has_globals ≡ false =
     c.in_ok-flagged.ensures.globals ∙ ap₂ (λ old new. old || new) followed c.flag_of-2.ensures.local in
-    IfOk-weaker c.arg-5.result _ _
-    (λ command added. added.globals ∙ ap₂ (λ old new. old || new) flagged c.report_option.ensures.local)
-    c.arg-5.ensures
+    let reported : (fields_of c.in_ok-reported.reported).has_globals ≡ false =
+    c.in_ok-reported.ensures.globals ∙ ap₂ (λ old new. old || new) flagged c.report_option.ensures.local in
+    IfOk-weaker c.arg-6.result _ _
+    (λ command added. added.globals ∙ ap₂ (λ old new. old || new) reported c.older_option.ensures.local)
+    c.arg-6.ensures

@@ -1,25 +1,32 @@
+use Rattle.std.proofs.Common.{Bor, List, map, ℕ}
 use Rattle.dali_job.proofs.JobLemmas.{option_named}
 use Rattle.dali_job.proofs.job.drive_in.Goals as goal
 
-pub returns-in_err-orders-clause-none : goal.returns-in_err-orders-clause-none
-returns-in_err-orders-clause-none c =
-    rw c.from_residual.ensures (λ orders journal moment _ _ _ named. c.in_err-orders.ensures.none orders.now named.0)
+pub returns-in_default-clause-none : goal.returns-in_default-clause-none
+returns-in_default-clause-none c = λ orders _ _ _ _ _ _ named. c.in_default.ensures.none orders.now named.0
 
-pub returns-in_err-journal-clause-none : goal.returns-in_err-journal-clause-none
-returns-in_err-journal-clause-none c = rw c.from_residual-in_err-journal.ensures
-    (λ orders journal moment _ _ _ named. c.in_err-journal.ensures.none journal.now named.1)
+pub returns-in_default-value_of-clause-none : goal.returns-in_default-value_of-clause-none
+returns-in_default-value_of-clause-none c =
+    λ _ journal _ _ _ _ _ named. c.in_default-value_of.ensures.none journal.now named.1
 
-pub returns-in_err-moment-clause-none : goal.returns-in_err-moment-clause-none
-returns-in_err-moment-clause-none c = rw c.from_residual-in_err-moment.ensures
-    (λ orders journal moment _ _ _ named. c.in_err-moment.ensures.none moment named.2)
+pub returns-in_default-number_of-clause-none : goal.returns-in_default-number_of-clause-none
+returns-in_default-number_of-clause-none c =
+    λ _ _ moment _ _ _ _ named. c.in_default-number_of.ensures.none moment named.2
+
+pub returns-in_default-2-clause-none : goal.returns-in_default-2-clause-none
+returns-in_default-2-clause-none c =
+    let none = rw c.in_default-2.is at c.in_ok-older.ensures.none in
+    λ _ _ _ _ _ _ older named. none (map (λ (value : Bor (List ℕ)). value.now) older.items) named.6
 
 pub returns-clause-named : goal.returns-clause-named
 returns-clause-named c =
-    let orders = c.in_ok-orders.ensures.found in (
+    let orders = c.in-Some.ensures.found in
+    let older = rw c.in-Some-2.is at c.in_ok-older.ensures.found in (
       orders,
-      c.in_ok-journal.ensures.found,
-      c.in_ok-moment.ensures.found,
+      c.in-Some-value_of.ensures.found,
+      c.in-Some-number_of.ensures.found,
       c.has_flag-follow.ensures,
       c.has_flag-require_done.ensures,
       option_named _ _ _ _ (orders.0, orders.1) c.value_of-report.ensures.found c.value_of-report.ensures.none,
+      older,
     )

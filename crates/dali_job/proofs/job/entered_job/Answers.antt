@@ -3,9 +3,9 @@ use Rattle.clap.specs.Words.{App, HasKind, app_of, fault_of, is_simple_and_free,
 use Rattle.dali_job.specs.Jobs.{IsJob, IsNoJob, bench_app}
 use Rattle.dali_job.proofs.JobLemmas.{bench_is_free, entered_bench}
 use Rattle.dali_job.proofs.job.entered_job.Goals as goal
-use Rattle.dali_job.proofs.job.entered_job.Goals.{Joined-matches}
+use Rattle.dali_job.proofs.job.entered_job.Goals.{Joined-matches-2}
 
-entered : (c : Joined-matches)
+entered : (c : Joined-matches-2)
     → subcommand_rows_of c.in-Ok.matches
     ≡ subcommand_of bench_app (map (λ (word : Bor (List ℕ)). word.now) c.args.words.now)
 entered c =
@@ -19,8 +19,10 @@ returns-in-Err-clause-refused c =
     ap is_simple_and_free c.requires ∙ bench_is_free in
     subst (λ (a : App). HasKind (fault_of a words) c.in-Err.error) c.requires (c.in-Err.ensures.kinds free)
 
-pub returns-in-Ok-clause-named : goal.returns-in-Ok-clause-named
-returns-in-Ok-clause-named c = subst (λ e. IfSome c.job_in.result (IsJob e)) (entered c) c.job_in.ensures.named
+pub returns-in_ok-job_in-in-Ok-clause-named : goal.returns-in_ok-job_in-in-Ok-clause-named
+returns-in_ok-job_in-in-Ok-clause-named c =
+    subst (λ e. IfSome c.in_ok-job_in-in-Ok.field-0 (IsJob e)) (entered c) c.in_ok-job_in-in-Ok.ensures.named
 
-pub returns-in-Ok-clause-none : goal.returns-in-Ok-clause-none
-returns-in-Ok-clause-none c = subst (λ e. IfNone c.job_in.result (IsNoJob e)) (entered c) c.job_in.ensures.none
+pub returns-in_ok-job_in-in-Ok-clause-none : goal.returns-in_ok-job_in-in-Ok-clause-none
+returns-in_ok-job_in-in-Ok-clause-none c =
+    subst (λ e. IfNone c.in_ok-job_in-in-Ok.field-0 (IsNoJob e)) (entered c) c.in_ok-job_in-in-Ok.ensures.none

@@ -1,7 +1,7 @@
 use Rattle.std.proofs.Common.{◌∙◌, sym}
 use Rattle.std.proofs.lemmas.Bool.{true≢false}
-use Rattle.dali_job.proofs.JobLemmas.{no_job, no_job_in, option_named}
-use Rattle.dali_job.proofs.job.job_in.Goals as goal
+use Rattle.dali_job.proofs.JobLemmas.{no_job, none_then, option_named}
+use Rattle.dali_job.proofs.job.other_job_in.Goals as goal
 
 pub returns-in-Some-clause-named : goal.returns-in-Some-clause-named
 returns-in-Some-clause-named c = c.in-Some.ensures.found
@@ -25,11 +25,10 @@ returns-in-Some-value_of-5-clause-named c =
 
 pub returns-clause-none : goal.returns-clause-none
 returns-clause-none c =
-    no_job_in _ c.drive_in.result
+    none_then c.read_in.result _ _
     (no_job _ c.in_default.ensures.none c.in_default-value_of.ensures.none c.in_default-value_of-2.ensures.none
     c.in_default-value_of-3.ensures.none
     c.in_default-value_of-4.ensures.none
     c.in_default-value_of-5.ensures.none
-    (λ entered. absurd (true≢false (sym (c.is_entered.ensures.1 entered) ∙ c.if-is_entered.false)))
-    c.in_default-read_in.ensures.none)
-    c.drive_in.ensures.none
+    (λ entered. absurd (true≢false (sym (c.is_entered.ensures.1 entered) ∙ c.if-is_entered.false))))
+    c.read_in.ensures.none

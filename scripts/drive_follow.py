@@ -4,6 +4,9 @@ import errno
 import fcntl
 import json
 import os
+import pathlib
+import re
+import select
 import signal
 import subprocess
 import termios
@@ -95,7 +98,7 @@ class Live:
     """A run on a named pipe, with its frames answered over a bus beside it."""
 
     def __init__(self, desk, bus):
-        self.command, self.sent = desk.start(), b""
+        self.command, self.sent, self.untold = desk.start(), b"", b""
         self.answering = threading.Thread(target=self.answer, args=(bus,), daemon=True)
         self.answering.start()
         self.pipe = writer_of(desk.orders)
@@ -112,14 +115,21 @@ class Live:
 
     def told(self, count):
         """Give so many lines that are told next."""
-        return b"".join(driven.line_from(self.command.stderr) for _ in range(count)).decode()
+        while self.untold.count(b"\n") < count:
+            assert select.select([self.command.stderr], [], [], PATIENCE)[0], f"nothing comes behind {self.untold!r}"
+            piece = os.read(self.command.stderr.fileno(), 4096)
+            assert piece, f"nothing more is told: {self.untold!r}"
+            self.untold += piece
+        lines = self.untold.splitlines(keepends=True)
+        self.untold = b"".join(lines[count:])
+        return b"".join(lines[:count]).decode()
 
     def end(self):
         """Let the writer of the pipe go, and tell how the run ended, and what it told since."""
         os.close(self.pipe)
         status = self.command.wait(PATIENCE)
         self.answering.join(PATIENCE)
-        return Ended(status, self.sent, self.command.stderr.read().decode())
+        return Ended(status, self.sent, (self.untold + self.command.stderr.read()).decode())
 
 
 # What a line may be
@@ -398,19 +408,31 @@ def test_a_report_that_can_not_be_written(folder):
     want(desk.give(SILENCE), Ended(2, ABSENT_FRAMES, TAKEN + UNTOLD.format("/dev/full", "no storage space")))
 
 
-def most_memory(desk):
-    """Give the most memory that a run has, in KiB, that is sent no answer, and of which nothing is kept."""
-    null = subprocess.DEVNULL
-    command = desk.start(stdin=null, stdout=null, stderr=null)
-    _, status, used = os.wait4(command.pid, 0)
-    command.returncode = os.waitstatus_to_exitcode(status)
-    want(command.returncode, 1)
-    return used.ru_maxrss
+def wait_for(told, line):
+    """Wait until a file ends with a line."""
+    last = time.monotonic() + PATIENCE
+    while not told.read_bytes().endswith(line):
+        assert time.monotonic() < last, f"{line!r} isn't told"
+        time.sleep(0.01)
+
+
+def most_memory(command):
+    """Give the most memory that a program has had so far, in KiB."""
+    status = pathlib.Path(f"/proc/{command.pid}/status").read_text()
+    return int(re.search(r"VmHWM:\s+(\d+) kB", status)[1])
 
 
 def test_memory_stays_flat(folder):
-    found = {}
-    for count in (1000, 100000):
-        desk = following(folder, '{"order":1,"unit":9,"year":24}\n' * (count - 1) + "[]\n", HEADER + many_orders(1))
-        found[count] = most_memory(desk)
+    desk, told, found = piped(folder, HEADER + many_orders(1)), folder / "told", {}
+    order = b'{"order":1,"unit":9,"year":24}\n'
+    with open(told, "wb") as file:
+        command = desk.start(stdin=subprocess.DEVNULL, stderr=file)
+    with open(writer_of(desk.orders), "wb") as pipe:
+        for before, count in [(0, 1000), (1000, 100000)]:
+            pipe.write(order * (count - before - 1) + b"[]\n")
+            pipe.flush()
+            wait_for(told, b"item %d fault 9 Shape\n" % count)
+            found[count] = most_memory(command)
+    want((command.wait(PATIENCE), command.stdout.read()), (1, b""))
+    want(told.read_bytes().count(b"reply 1 kept 3 Silent\n"), 99998)
     assert found[100000] - found[1000] <= 256, found

@@ -7,3 +7,4 @@ pub mod RunLemmas
 pub mod NoteLemmas
 mod WorkedNoteLemmas
 mod WorkedEndLemmas
+mod WorkedFollowLemmas

@@ -74,9 +74,14 @@ fn run(rt: &HostRuntime, words: &Vec<String>) -> Status {
                 follow,
                 require_done,
                 report,
+                older,
             },
         ) => {
-            let names = DriveNames { orders, journal };
+            let names = DriveNames {
+                orders,
+                journal,
+                older: older.as_slice(),
+            };
             let terms = DriveTerms {
                 moment,
                 require_done,

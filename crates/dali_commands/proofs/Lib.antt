@@ -1,6 +1,7 @@
 pub mod FailureLemmas
 pub mod DriveLemmas
 pub mod FollowLemmas
+pub mod BehindLemmas
 pub mod FrameLemmas
 pub mod ReportLemmas
 pub mod RunLemmas

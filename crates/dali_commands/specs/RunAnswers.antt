@@ -18,7 +18,7 @@ use Rattle.dali_input.specs.Scenario.{IsScenario, Planned}
 use Rattle.dali_input.specs.Setup.{IsSetUp, IsSetupRefused}
 use Rattle.dali_input.specs.Values.{IsNoReading}
 use Rattle.dali_commands.specs.declared.fault.Fault.{Fault}
-use Rattle.dali_commands.specs.declared.fault.Fault.TheVariants.{Input, Setup, Run, Journal, Drive}
+use Rattle.dali_commands.specs.declared.fault.Fault.TheVariants.{Input, Setup, Run, Journal, Drive, Older}
 use Rattle.dali_commands.specs.declared.fault.Status.{Status}
 use Rattle.dali_commands.specs.declared.fault.Status.TheVariants.{Good}
 use Rattle.dali_commands.specs.Faults.{IsRefusal}
@@ -69,6 +69,7 @@ IsUnrun before after (Run Limit) = (planned : Planned) × IsUnderstood before af
 IsUnrun before after (Run NoMemory) = ⊤
 IsUnrun before after (Journal fault) = ⊥
 IsUnrun before after (Drive fault) = ⊥
+IsUnrun before after Older = ⊥
 
 -- a run is told
 pub record IsRunReport (single_frames : Bool) (before after : InputState) (status : Status) (text : List ℕ)

@@ -47,7 +47,7 @@ pub fn drive_files<
     requires link_out { sink_failed link_out.old ≡ false }
     requires link_in { source_failed link_in.old ≡ false }
     requires lines { has_failed lines.old.output ≡ false }
-    ensures driven { IsBehindNamed names.older.entry.now
+    ensures driven { IsBehindNamed names.entry.older.now
         (λ older. IsFileAnswer
         (IsAnswerBehind older N.contents terms.moment terms.require_done report.old report.new)
         (report.new ≡ report.old)

@@ -49,7 +49,7 @@ pub fn follow_file<
     requires link_out { sink_failed link_out.old ≡ false }
     requires link_in { source_failed link_in.old ≡ false }
     requires lines { has_failed lines.old.output ≡ false }
-    ensures followed { IsBehindNamed names.older.entry.now
+    ensures followed { IsBehindNamed names.entry.older.now
         (λ older. IsFileFollow older file_contents N.contents terms.moment terms.require_done report.old report.new
         (shown None (sink_held L.contents link_out.old) (source_left I.remaining link_in.old)
         (held O.contents lines.old.output))

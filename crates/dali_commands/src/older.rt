@@ -1,5 +1,5 @@
 // Older journals: those that are full or retired, whose orders still count as begun.
-ghost use Rattle.std.specs.Prelude.{◌≡◌, [], IfErr, IfOk, IfSome, None};
+ghost use Rattle.std.specs.Prelude.{◌≡◌, ◌≢◌, [], IfErr, IfOk, IfSome, None, OnErr};
 ghost use Rattle.dali_journal.specs.declared.standing.Standing.TheVariants.{Idle};
 ghost use Rattle.dali_journal.specs.Sentence.{standing_of};
 ghost use Rattle.dali_commands.specs.Older.{IsJoinedBehind, IsOlderFault, fault_older};
@@ -75,7 +75,8 @@ pub struct Unjoined<'a> {
     pub words: Option<String>,
 }
 
-/// The journals of these files as one, each behind those that are named before it. No contract tells what a file holds.
+/// The journals of these files as one, each behind those that are named before it; none where none is named. No contract
+/// tells what a file holds.
 pub(crate) fn read_older<'a, R: Files<File = File> + AllocGlobal>(
     rt: &R,
     names: &'a [&'a str],
@@ -83,10 +84,28 @@ pub(crate) fn read_older<'a, R: Files<File = File> + AllocGlobal>(
     ensures rests { IfOk result (λ older. IfSome older (λ journal. standing_of journal.records ≡ Idle)) }
     ensures none { IfOk result (λ older. names.entry.now ≡ [] → older ≡ None) }
     ensures some { IfOk result (λ older. older ≡ None → names.entry.now ≡ []) }
+    ensures err { OnErr result (names.entry.now ≢ []) }
 {
-    let mut older = None;
-    for &name in names {
-        older = Some(read_behind(rt, older, name)?);
+    match names.split_first() {
+        None => Ok(None),
+        Some((name, rest)) => match read_all_behind(rt, name, rest) {
+            Ok(older) => Ok(Some(older)),
+            Err(unjoined) => Err(unjoined),
+        },
+    }
+}
+
+// The same of one file and others.
+fn read_all_behind<'a, R: Files<File = File> + AllocGlobal>(
+    rt: &R,
+    name: &'a str,
+    rest: &'a [&'a str],
+) -> Result<Journal, Unjoined<'a>>
+    ensures { IfOk result (λ journal. standing_of journal.records ≡ Idle) }
+{
+    let mut older = read_behind(rt, None, name)?;
+    for &name in rest {
+        older = read_behind(rt, Some(older), name)?;
     }
     Ok(older)
 }

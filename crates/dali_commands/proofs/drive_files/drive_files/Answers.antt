@@ -1,10 +1,7 @@
-use Rattle.std.proofs.Common.{◌≡◌}
-use Rattle.dali_commands.specs.DriveAnswers.{IsDriveAnswer}
-use Rattle.dali_commands.proofs.DriveLemmas.{file_answered}
+use Rattle.dali_commands.proofs.BehindLemmas.{behind_named, behind_refused}
 use Rattle.dali_commands.proofs.drive_files.drive_files.Goals as goal
 
 pub returns-in-Ok-clause-driven : goal.returns-in-Ok-clause-driven
 returns-in-Ok-clause-driven g c =
-    file_answered
-    (IsDriveAnswer g.N.Write.contents c.args.terms.moment c.args.terms.require_done c.args.report.now
-    c.drive_input.new.report) (c.drive_input.new.report ≡ c.args.report.now) _ _ _ _ _ c.drive_input.ensures.driven
+    behind_named _ c.in-Ok.older _ _ c.in-Ok.ensures.none c.in-Ok.ensures.some c.in-Ok.ensures.rests
+    c.drive_behind_files.ensures.driven

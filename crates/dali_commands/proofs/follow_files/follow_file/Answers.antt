@@ -1,13 +1,7 @@
-use Rattle.std.proofs.Common.{inl}
-use Rattle.dali_drive.specs.StdStreams.{source_failed}
-use Rattle.dali_commands.proofs.FollowLemmas.{new_are_unread}
+use Rattle.dali_commands.proofs.BehindLemmas.{behind_named, behind_refused}
 use Rattle.dali_commands.proofs.follow_files.follow_file.Goals as goal
 
 pub returns-in-Ok-clause-followed : goal.returns-in-Ok-clause-followed
-returns-in-Ok-clause-followed g c = inl (
-  c.new-in-Ok.result,
-  c.follow_lines.new.orders,
-  new_are_unread source_failed c.new.result c.args.terms.moment c.new-in-Ok.result c.new-in-Ok.ensures
-      c.new.ensures.failed,
-  c.follow_lines.ensures.answer,
-)
+returns-in-Ok-clause-followed g c =
+    behind_named _ c.in-Ok.older _ _ c.in-Ok.ensures.none c.in-Ok.ensures.some c.in-Ok.ensures.rests
+    c.follow_behind_file.ensures.followed

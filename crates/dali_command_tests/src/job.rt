@@ -127,8 +127,18 @@ fn command_lines_of_a_drive(rt: HostRuntime) -> Result<(), Fail> {
 // Command lines of a drive, whether each has orders that come line by line, and wants all orders done, and the file of
 // its report.
 static DRIVES_WITH_OPTIONS: [(&str, bool, bool, Option<&str>); 8] = [
-    ("dali_bench drive --require-done o.json b.bin", false, true, None),
-    ("dali_bench drive o.json b.bin --require-done", false, true, None),
+    (
+        "dali_bench drive --require-done o.json b.bin",
+        false,
+        true,
+        None,
+    ),
+    (
+        "dali_bench drive o.json b.bin --require-done",
+        false,
+        true,
+        None,
+    ),
     ("dali_bench drive --follow o.json b.bin", true, false, None),
     ("dali_bench drive o.json b.bin --follow", true, false, None),
     (

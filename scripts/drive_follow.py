@@ -36,26 +36,12 @@ from drive_desk import (
 )
 from drive_report import UNTOLD, blank_bus, kept, lines_of, reporting, unkept
 from drive_units import BLANK, CHANGED_BY_KILLS, SCENES, finish, many_orders
-from driven import HEADER, PATIENCE, Desk, Ended, groups_of, judge, simulated_link
+from driven import HEADER, PATIENCE, Ended, Following, groups_of, judge, simulated_link
 
 LINE = json.dumps(ABSENT[0])
 TAKEN = "reply 1 taken\n" + KEPT_SILENT
 MOST_LINE = 16384
 EIO = "input/output error"
-
-
-class Following(Desk):
-    """A folder with a stream of orders and a journal, and runs of `drive --follow` on both."""
-
-    def words(self):
-        """Give the command line."""
-        return [self.program, "drive", "--follow", *self.options, self.orders, self.journal]
-
-    def write_orders(self, orders):
-        """Replace the stream: by these orders, a line for each, or by this text or these bytes."""
-        if not isinstance(orders, (str, bytes)):
-            orders = "".join(json.dumps(order) + "\n" for order in orders)
-        self.orders.write_bytes(orders.encode() if isinstance(orders, str) else orders)
 
 
 def following(folder, orders, journal=None):

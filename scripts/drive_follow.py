@@ -36,26 +36,12 @@ from drive_desk import (
 )
 from drive_report import UNTOLD, blank_bus, kept, lines_of, reporting, unkept
 from drive_units import BLANK, CHANGED_BY_KILLS, SCENES, finish, many_orders
-from driven import HEADER, PATIENCE, Desk, Ended, groups_of, judge, simulated_link
+from driven import HEADER, PATIENCE, Ended, Following, groups_of, judge, simulated_link
 
 LINE = json.dumps(ABSENT[0])
 TAKEN = "reply 1 taken\n" + KEPT_SILENT
 MOST_LINE = 16384
 EIO = "input/output error"
-
-
-class Following(Desk):
-    """A folder with a stream of orders and a journal, and runs of `drive --follow` on both."""
-
-    def words(self):
-        """Give the command line."""
-        return [self.program, "drive", "--follow", *self.options, self.orders, self.journal]
-
-    def write_orders(self, orders):
-        """Replace the stream: by these orders, a line for each, or by this text or these bytes."""
-        if not isinstance(orders, (str, bytes)):
-            orders = "".join(json.dumps(order) + "\n" for order in orders)
-        self.orders.write_bytes(orders.encode() if isinstance(orders, str) else orders)
 
 
 def following(folder, orders, journal=None):
@@ -332,6 +318,14 @@ def test_a_stream_that_is_none(folder):
     want(last_line(desk.give(SILENCE, cwd=folder)), FAULT_21)
 
 
+def test_a_stream_and_a_journal_in_one_file(folder):
+    desk = following(folder, ABSENT)
+    desk.journal = desk.orders
+    held = desk.held()
+    told = f"error: ORDERS and JOURNAL are one file: {desk.journal}\nfault 21 File\n"
+    want((desk.give(SILENCE), desk.held()), (Ended(2, b"", told), held))
+
+
 def test_interrupted_reads_change_nothing(folder):
     stream = "{}\n" + LINE + "\n"
     for number in range(1, len(stream) + 2):
@@ -348,6 +342,27 @@ def test_a_standard_error_that_fails(folder):
         desk.write_orders(ABSENT)
         assert desk.give(SILENCE).told.endswith(KEPT_SILENT), number
         want(desk.held(), ABSENT_JOURNAL)
+
+
+@parts(2)
+def test_each_allocation_refused(folder, part, _):
+    shape, memory = "item 1 fault 9 Shape\n", "item {} fault 20 Memory\n"
+    whole = {shape + TAKEN, memory.format(1) + TAKEN, shape + memory.format(2)}
+    ran_out = 0
+    for number in range(1 + part, 100000, 2):
+        desk = following(folder, "{}\n" + LINE + "\n")
+        preload = {"LD_PRELOAD": str(settings["shims"] / "refuse_alloc.so"), "REFUSED_ALLOCATION": str(number)}
+        ended = desk.give(SILENCE, preload)
+        told = ended.told.replace("an allocation was refused\n", "")
+        if told == ended.told:
+            break
+        # Before the command line is read it isn't known that the output is a link.
+        last = (ended.sent.decode() if number <= 8 and ended.sent else told).splitlines()[-1]
+        assert (ended.status, told) in {(1, it) for it in whole} or (ended.status, last) == (2, "fault 20 Memory"), ended
+        ran_out += "20 Memory" in last or "20 Memory" in told
+        want(desk.give(SILENCE).told, shape + (KEPT_SILENT if "kept" in told else TAKEN))
+        want(desk.held(), ABSENT_JOURNAL)
+    assert ran_out > 4, "no refused allocation ended as want of memory"
 
 
 @parts(4)

@@ -115,6 +115,20 @@ class Desk:
         return self.journal.read_bytes()
 
 
+class Following(Desk):
+    """A folder with a stream of orders and a journal, and runs of `drive --follow` on both."""
+
+    def words(self):
+        """Give the command line."""
+        return [self.program, "drive", "--follow", *self.options, self.orders, self.journal]
+
+    def write_orders(self, orders):
+        """Replace the stream: by these orders, a line for each, or by this text or these bytes."""
+        if not isinstance(orders, (str, bytes)):
+            orders = "".join(json.dumps(order) + "\n" for order in orders)
+        self.orders.write_bytes(orders.encode() if isinstance(orders, str) else orders)
+
+
 def line_from(pipe):
     """Read one line of a frame, or what is left at the end."""
     line = b""

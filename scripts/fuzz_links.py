@@ -50,6 +50,15 @@ def losses_of(rng, addresses):
     return {"lost_frames": few(6) | row, "lost_answers": few(9), "lost_power": power}
 
 
+def bus_of(rng, frames):
+    """Give a bus for `drive` that loses some of these frames, answers and power, and bank 1 of each of its units."""
+    few = lambda most: rng.sample(frames, rng.randint(0, most))  # noqa: E731
+    banks = {at: bytes.fromhex(fuzz_inputs.good_bank(rng)) for at in (5, 6)}
+    units = [simulated_link.Unit(at, bank, rng.sample(range(3, 9), rng.choice([0, 0, 1])))
+             for at, bank in banks.items()]
+    return banks, simulated_link.Bus(units, few(9), few(9), few(2), [(rng.choice([5, 6]), at) for at in few(4)])
+
+
 def case_of(rng, program, folder):
     """Give a desk for one of the commands, and a bus for it."""
     command, addresses = rng.choice(COMMANDS), rng.choice([[5], [5, 6], [5, 6, 9], []])

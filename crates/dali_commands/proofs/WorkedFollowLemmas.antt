@@ -1,5 +1,5 @@
 -- How the end of a stream is answered, on both sides of each rule.
-use Rattle.std.proofs.Common.{◌≡◌, refl, ◌++◌, List, [], Option, Some, codes, true, false}
+use Rattle.std.proofs.Common.{◌≡◌, refl, ◌++◌, [], Some, codes, true, false}
 use Rattle.dali_input.specs.declared.fault.InputFault.TheVariants.{File}
 use Rattle.dali_commands.specs.declared.fault.Fault.TheVariants.{Input}
 use Rattle.dali_commands.specs.declared.fault.Status.TheVariants.{Good, Refused, Failed, Unwritten}

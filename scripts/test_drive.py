@@ -14,6 +14,7 @@ sys.dont_write_bytecode = True
 
 import drive_calls  # noqa: E402
 import drive_follow  # noqa: E402
+import drive_older  # noqa: E402
 import drive_places  # noqa: E402
 import drive_report  # noqa: E402
 import drive_streams  # noqa: E402
@@ -21,7 +22,7 @@ import drive_units  # noqa: E402
 import drive_upgrade  # noqa: E402
 import suite  # noqa: E402
 
-MODULES = (drive_streams, drive_units, drive_calls, drive_places, drive_report, drive_follow, drive_upgrade)
+MODULES = (drive_streams, drive_units, drive_calls, drive_places, drive_report, drive_follow, drive_older, drive_upgrade)
 
 if __name__ == "__main__":
     sys.exit(suite.main(__doc__, MODULES, sys.argv[1:]))

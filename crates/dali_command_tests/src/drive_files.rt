@@ -17,7 +17,7 @@ pub(crate) const REFUSED: &str =
     "[{\"order\":1,\"unit\":64,\"year\":1},{\"order\":2,\"unit\":9,\"year\":1},{}]";
 
 // The header of a journal.
-const HEADER: [u8; 4] = [0x44, 0x42, 0x31, 0x02];
+pub(crate) const HEADER: [u8; 4] = [0x44, 0x42, 0x31, 0x02];
 
 // Order 1 for unit 9 with a GTIN, of the moment 0, which ended as 3 Silent.
 pub(crate) const SILENT: [u8; 37] = [
@@ -54,7 +54,7 @@ const BEGAN_LATER: [u8; 35] = [
 ];
 
 // The order of the moment 0 in version 1, and cut off in the same place.
-const OLD_SILENT: [u8; 25] = [
+pub(crate) const OLD_SILENT: [u8; 25] = [
     0x42, 0x00, 0x00, 0x00, 0x00, 0x00, 0x00, 0x00, 0x01, 0x09, 0x06, 0x03, 0x03, 0x04, 0xA4, 0x05,
     0xCE, 0x06, 0xEF, 0x07, 0xAD, 0x08, 0xAB, 0x45, 0x03,
 ];
@@ -128,6 +128,7 @@ fn driven_files<R: Files<File = File> + AllocGlobal>(
     let names = DriveNames {
         orders: name,
         journal: drive.journal,
+        older: &[],
     };
     let terms = DriveTerms {
         moment: drive.moment,

@@ -44,6 +44,7 @@ fn driven_over(
     let names = DriveNames {
         orders: "orders",
         journal: "journal",
+        older: &[],
     };
     let terms = DriveTerms {
         moment: 7,
@@ -51,6 +52,7 @@ fn driven_over(
     };
     let status = drive_input(
         alloc,
+        None,
         names,
         &mut Input::new(orders.as_bytes()),
         terms,
@@ -123,7 +125,7 @@ struct Reported<'a> {
     report: &'a str,
 }
 
-const OTHER: &str = "[{\"order\":1,\"unit\":8,\"year\":7}]";
+pub(crate) const OTHER: &str = "[{\"order\":1,\"unit\":8,\"year\":7}]";
 
 pub(crate) const NONE_16: &str = "--\n--\n--\n--\n--\n--\n--\n--\n--\n--\n--\n--\n--\n--\n--\n--\n";
 

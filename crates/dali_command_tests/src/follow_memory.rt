@@ -176,6 +176,7 @@ fn is_followed(alloc: Global, stream: &Stream<'_>) -> Result<bool, AllocError> {
     let names = DriveNames {
         orders: "orders",
         journal: "journal",
+        older: &[],
     };
     let source = StdSource::new(TestReader::new(stream.lines.as_bytes(), stream.behind));
     let mut report: Report<io::Sink> = Report::new(alloc, None);

@@ -21,6 +21,8 @@ mod job;
 #[cfg(test)]
 mod journal;
 #[cfg(test)]
+mod older_memory;
+#[cfg(test)]
 mod run_scenario;
 #[cfg(test)]
 mod run_text;

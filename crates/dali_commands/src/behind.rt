@@ -167,9 +167,13 @@ fn carry_out_behind<G: Orders, I: Source, L: Sink, S: Store, W: Write, N: Write 
         report,
     ) {
         Ok(_) => Ok(()),
-        Err(BehindFault::Open(fault)) => Err(
-            tell_unopened(alloc, &mut lines.output, name, fault, store.cause()),
-        ),
+        Err(BehindFault::Open(fault)) => Err(tell_unopened(
+            alloc,
+            &mut lines.output,
+            name,
+            fault,
+            store.cause(),
+        )),
         Err(BehindFault::Join(fault)) => Err(tell_unjoined(alloc, &mut lines.output, name, fault)),
         Err(BehindFault::Drive(fault)) => {
             let causes = Causes {

@@ -171,7 +171,8 @@ enum Unopened {
 impl Unopened {
     fn fault(&self) -> InputFault {
         match self {
-            Unopened::Refused(error) if error.kind() == ErrorKind::OutOfMemory => InputFault::Memory,
+            Unopened::Refused(error) if error.kind() == ErrorKind::OutOfMemory =>
+                InputFault::Memory,
             _ => InputFault::File,
         }
     }

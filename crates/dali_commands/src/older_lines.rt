@@ -28,7 +28,13 @@ pub(crate) fn tell_older<W: Write>(
     ensures unwritten { result ≡ Status.Unwritten ↔ has_failed output.new ≡ true }
     ensures not_good { result ≢ Status.Good }
 {
-    written_status(write_older(alloc, output, unjoined.name, unjoined.fault, unjoined.words.as_deref()))
+    written_status(write_older(
+        alloc,
+        output,
+        unjoined.name,
+        unjoined.fault,
+        unjoined.words.as_deref(),
+    ))
 }
 
 /// Writes why the journal of this name is none together with the older ones.
@@ -73,14 +79,18 @@ fn words_for(alloc: Global, name: &str, fault: OlderFault, words: Option<&str>) 
     }
     match fault {
         OlderFault::AtWork => {
-            format!(in alloc; "the older journal isn't at rest: {name}: an order isn't ended, or a unit is left").ok()
+            format!(in alloc;
+                "the older journal isn't at rest: {name}: an order isn't ended, or a unit is left"
+            ).ok()
         }
         OlderFault::Join(JoinFault::Repeated(id)) => {
             format!(in alloc; "order {id} stands in two journals: {name}, and an older one").ok()
         }
         OlderFault::Unloaded(Fault::Journal(fault)) => {
             let number = fault.number();
-            format!(in alloc; "the older journal is none: {name}: journal fault {number} {fault}").ok()
+            format!(in alloc;
+                "the older journal is none: {name}: journal fault {number} {fault}"
+            ).ok()
         }
         OlderFault::Unloaded(Fault::Input(InputFault::TooBig)) => {
             format!(in alloc; "the older journal is too big: {name}").ok()

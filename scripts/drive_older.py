@@ -195,7 +195,7 @@ def test_a_file_that_is_no_older_journal(folder):
     for desk in desks(folder, PRESENT):
         pipe = desk.folder / "pipe"
         os.mkfifo(pipe)
-        for path, words in [(desk.folder / "none", "not found"), (desk.folder, "no regular file"),
+        for path, words in [(desk.folder / "none", "No such file"), (desk.folder, "no regular file"),
                             (pipe, "no regular file"), ("/dev/null", "no regular file")]:
             desk.options = ["--older", path]
             ended = desk.give(b"")

@@ -8,6 +8,7 @@ of test_drive.py. The last line is `N passed, M failed`, and the status is 0 onl
 tested on this machine has a line that begins with `skipped`.
 """
 
+import contextlib
 import errno
 import os
 import pathlib
@@ -107,7 +108,7 @@ class Instance:
         units = " ".join(f"--unit {unit}" for unit in UNITS)
         self.variables.write_text(f'ADAPTER="{places[PROGRAMS]}/adapters/simulated_link.py {units}"\nOPTIONS=\n')
         self.orders, self.replies, self.journal = (self.state / it for it in ("orders", "replies", "bench.journal"))
-        self.main, self.starts, self.kills, self.is_wanted = None, 0, [], True
+        self.main, self.starts, self.kills, self.is_wanted, self.fault = None, 0, [], True, None
         self.manager = threading.Thread(target=self.manage, daemon=True)
 
     def run(self, key, starter):
@@ -136,20 +137,26 @@ class Instance:
         return self.main.wait()
 
     def manage(self):
-        """Start it again after each end; kill it, or one of its processes, so many seconds after each first start."""
-        while self.is_wanted:
-            self.start()
-            seconds, victims = self.kills.pop(0) if self.kills else (1000, ALL)
-            last = time.monotonic() + seconds
-            while self.is_wanted and time.monotonic() < last and self.is_running():
-                time.sleep(0.002)
-            if self.is_wanted and victims != ALL:
-                for process in sorted(processes_of(self.main.pid))[victims]:
-                    os.kill(process, signal.SIGKILL)
-                wait_for(lambda: not self.is_running())
-            if self.is_wanted:
-                self.end()
-                time.sleep(PAUSE)
+        """Start it again after each end, until it is no longer wanted."""
+        try:
+            while self.is_wanted:
+                self.start()
+                self.wait_or_kill(*(self.kills.pop(0) if self.kills else (1000, ALL)))
+                if self.is_wanted:
+                    self.end()
+                    time.sleep(PAUSE)
+        except BaseException as fault:
+            self.fault = fault
+
+    def wait_or_kill(self, seconds, victims):
+        """Wait for its end; where it runs for so long, kill all of it, or one of its processes."""
+        last = time.monotonic() + seconds
+        while self.is_wanted and time.monotonic() < last and self.is_running():
+            time.sleep(0.002)
+        if self.is_wanted and victims != ALL:
+            for process in sorted(processes_of(self.main.pid))[victims]:
+                os.kill(process, signal.SIGKILL)
+            wait_for(lambda: not self.is_running())
 
     def is_running(self):
         """Tell whether its first process runs."""
@@ -163,7 +170,18 @@ class Instance:
     def __exit__(self, *fault):
         self.is_wanted = False
         self.manager.join(PATIENCE)
+        if self.fault:
+            raise self.fault
         self.stopped = self.end(getattr(signal, self.keys["KillSignal"][0]))
+
+    @contextlib.contextmanager
+    def once(self):
+        """Start it once, and kill it at the end."""
+        self.start()
+        try:
+            yield
+        finally:
+            self.end()
 
     def told(self):
         """Give the lines that were told."""
@@ -312,13 +330,12 @@ def test_writers_that_close_the_pipe_end_nothing(folder):
 def test_lines_that_wait_for_a_reader(folder):
     """What a line computer wrote while it held the pipe open is there for the next start."""
     instance = Instance(folder)
-    instance.start()
-    pipe = instance.open()
-    wait_for(lambda: instance.journal.exists() and instance.journal.stat().st_size == 4)
-    os.killpg(instance.main.pid, signal.SIGSTOP)
-    wait_for(lambda: set(processes_of(instance.main.pid).values()) == {"T"})
-    os.write(pipe, "".join(order_line(number, 6, number) + "\n" for number in (1, 2)).encode())
-    instance.end()
+    with instance.once():
+        pipe = instance.open()
+        wait_for(lambda: instance.journal.exists() and instance.journal.stat().st_size == 4)
+        os.killpg(instance.main.pid, signal.SIGSTOP)
+        wait_for(lambda: set(processes_of(instance.main.pid).values()) == {"T"})
+        os.write(pipe, "".join(order_line(number, 6, number) + "\n" for number in (1, 2)).encode())
     want(instance.told(), [])
     with instance:
         wait_for(lambda: len(instance.told()) == 4)
@@ -374,12 +391,11 @@ def test_one_that_can_not_start_is_started_again(folder):
 def test_the_pipe_is_made_once(folder):
     instance = Instance(folder)
     for _ in range(2):
-        instance.start()
-        wait_for(instance.journal.exists)
-        want((instance.orders.is_fifo(), oct(instance.orders.stat().st_mode & 0o777)), (True, "0o620"))
-        want(oct(instance.replies.stat().st_mode & 0o777), "0o640")
-        number = instance.orders.stat().st_ino
-        instance.end()
+        with instance.once():
+            wait_for(instance.journal.exists)
+            want((instance.orders.is_fifo(), oct(instance.orders.stat().st_mode & 0o777)), (True, "0o620"))
+            want(oct(instance.replies.stat().st_mode & 0o777), "0o640")
+            number = instance.orders.stat().st_ino
     want(instance.orders.stat().st_ino, number)
     instance.orders.unlink()
     instance.orders.write_text("")

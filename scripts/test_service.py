@@ -3,8 +3,8 @@
 
     test_service.py PROGRAM [FOLDER]
 
-What an instance runs, and where, is read out of the unit file; its paths are led into a folder of the test. FOLDER is as
-of test_drive.py. The last line is `N passed, M failed`, and the status is 0 only where none failed. What couldn't be
+What an instance runs, and where, is read out of the unit file; its paths are led into a folder of the test. FOLDER is
+as of test_drive.py. The last line is `N passed, M failed`, and the status is 0 only where none failed. What couldn't be
 tested on this machine has a line that begins with `skipped`.
 """
 
@@ -36,7 +36,8 @@ PAUSE = 0.05
 YEAR, WEEK = 0x13, 0x14
 UNITS = (5, 6, 60)
 KILLS, LEAST_ORDERS = 15, 60
-LINE_OF_A_KILL = re.compile("item [0-9]+ fault 11 Json$|drive fault (2 Link|4 End)$|error: the frames can't be written ")
+# What a kill may have told besides.
+LINE_OF_A_KILL = re.compile("item [0-9]+ fault 11 Json$|drive fault (2 Link|4 End)$|error: the frames can't be written")
 # Which processes a kill is for: all of them, the adapter, the drive.
 ALL, FIRST, LAST = slice(None), slice(1), slice(-1, None)
 
@@ -310,7 +311,8 @@ def test_two_buses_that_are_killed(folder):
             computer.join(3 * PATIENCE)
     for instance, computer in zip(instances, computers):
         want((computer.is_alive(), computer.fault), (False, None))
-        print(f"{instance.state.name}: {len(computer.sent)} orders, {instance.starts} starts, {computer.again} sent again")
+        counts = f"{len(computer.sent)} orders, {instance.starts} starts, {computer.again} sent again"
+        print(f"{instance.state.name}: {counts}")
         judge(instance, computer.sent)
 
 

@@ -329,21 +329,37 @@ def test_writers_that_close_the_pipe_end_nothing(folder):
     want(instance.stopped != 0, True)
 
 
-def test_lines_that_wait_for_a_reader(folder):
-    """What a line computer wrote while it held the pipe open is there for the next start."""
-    instance = Instance(folder)
+def killed_before_it_read(instance, is_closed):
+    """Write two lines that are never read before a kill of all; give the pipe, and close it before where that is said."""
     with instance.once():
         pipe = instance.open()
         wait_for(lambda: instance.journal.exists() and instance.journal.stat().st_size == 4)
         os.killpg(instance.main.pid, signal.SIGSTOP)
         wait_for(lambda: set(processes_of(instance.main.pid).values()) == {"T"})
         os.write(pipe, "".join(order_line(number, 6, number) + "\n" for number in (1, 2)).encode())
+        if is_closed:
+            os.close(pipe)
     want(instance.told(), [])
+    return pipe
+
+
+def test_lines_wait_while_their_writer_holds_the_pipe(folder):
+    instance = Instance(folder)
+    pipe = killed_before_it_read(instance, is_closed=False)
     with instance:
         wait_for(lambda: len(instance.told()) == 4)
         want((instance.told(), instance.starts), (done(1, 2), 2))
         os.close(pipe)
     want(instance.bank(6)[YEAR], 2)
+
+
+def test_lines_are_dropped_where_nobody_holds_the_pipe(folder):
+    instance = Instance(folder)
+    killed_before_it_read(instance, is_closed=True)
+    with instance:
+        instance.write(order_line(3, 6, 3))
+        wait_for(lambda: len(instance.told()) == 2)
+        want((instance.told(), instance.starts), (done(3), 2))
 
 
 def test_the_rest_of_a_line_changes_nothing(folder):

@@ -26,7 +26,7 @@ import tempfile
 import time
 
 import drive
-from drive import FRAMES_OF_ORDER, GTIN, PROGRAM, UNITS, Driven, least
+from drive import FRAMES_OF_ORDER, GTIN, PROGRAM, UNITS, Driven
 from measuring import KIBIBYTE, argument_parser, print_machine, working_folder
 
 ORDERS = 1000
@@ -51,8 +51,8 @@ def driven_of(told):
 
 def want_done(driven, told, new, lines):
     """Raise unless so many new orders were carried out and all lines replied to."""
-    done = told.count(" kept 0 Done\n")
-    found, wanted = (driven.status, driven.frames, done), (0, FRAMES_OF_ORDER * new, lines)
+    found = (driven.status, driven.frames, told.count(" kept 0 Done\n"))
+    wanted = (0, FRAMES_OF_ORDER * new, lines)
     if found != wanted:
         raise ValueError(f"status, frames and replies {found}, wanted {wanted}")
 
@@ -151,17 +151,13 @@ class Bench(drive.Bench):
         path.write_text("".join(lines * whole + lines[:rest]), encoding="ascii")
         return path
 
-    def best(self, place, measured):
-        """Give the best of several runs, each over a bus of its own at a place."""
-        found = []
-        for _ in range(self.runs):
-            with tempfile.TemporaryDirectory(dir=place) as folder:
-                found.append(measured(Bus(self, folder)))
-        return least(found)
+    def over_a_bus(self, place, measured):
+        """Measure over a bus of its own at a place; give the seconds."""
+        with tempfile.TemporaryDirectory(dir=place) as folder:
+            return measured(Bus(self, folder)).seconds
 
-    def side_by_side(self, place):
+    def side_by_side(self, place, lines):
         """Measure drives of several buses that run at once; give the seconds."""
-        lines = self.lines(ORDERS, ORDERS)
         with tempfile.TemporaryDirectory(dir=place) as folder:
             folders = [pathlib.Path(folder, f"bus_{number}") for number in range(BUSES)]
             for each in folders:
@@ -173,26 +169,36 @@ class Bench(drive.Bench):
                 bus.end(command, ORDERS, ORDERS)
             return time.perf_counter() - start
 
+    def rates(self, place):
+        """Measure all ways in turn, several times; give the least seconds of each.
 
-def print_rate(name, count, seconds):
-    """Print how many orders a second that is."""
-    rate = f"{count / seconds:.0f} orders a second"
-    print(f"{name}: {rate}, an order {seconds / count * 1e3:.2f} ms")
+        Beside these stands how many orders they are for.
+        """
+        lines = self.lines(ORDERS, ORDERS)
+        ways = {
+            "one drive an order": lambda bus: bus.drive_each(ORDERS),
+            "one by one": lambda bus: bus.one_by_one(ORDERS),
+            "all written at once": lambda bus: bus.at_once(lines, ORDERS, ORDERS),
+        }
+        several = f"{BUSES} buses beside each other"
+        found = {name: [] for name in (*ways, several)}
+        for _ in range(self.runs):
+            for name, measured in ways.items():
+                found[name].append(self.over_a_bus(place, measured))
+            found[several].append(self.side_by_side(place, lines))
+        counts = {several: BUSES * ORDERS}
+        return {
+            name: (min(seconds), counts.get(name, ORDERS))
+            for name, seconds in found.items()
+        }
 
 
 def measure_orders(bench):
     """Measure and print how many orders a second come to their end."""
-    lines = bench.lines(ORDERS, ORDERS)
     for where, place in (("in memory", bench.memory), ("on disk", bench.folder)):
-        each = bench.best(place, lambda bus: bus.drive_each(ORDERS))
-        print_rate(f"one drive an order, journal {where}", ORDERS, each.seconds)
-        single = bench.best(place, lambda bus: bus.one_by_one(ORDERS))
-        print_rate(f"one by one, journal {where}", ORDERS, single.seconds)
-        whole = bench.best(place, lambda bus: bus.at_once(lines, ORDERS, ORDERS))
-        print_rate(f"all written at once, journal {where}", ORDERS, whole.seconds)
-        several = min(bench.side_by_side(place) for _ in range(bench.runs))
-        name = f"{BUSES} buses beside each other, journals {where}"
-        print_rate(name, BUSES * ORDERS, several)
+        for name, (seconds, count) in bench.rates(place).items():
+            rate = f"{count / seconds:.0f} orders a second"
+            print(f"{where}, {name}: {rate}, an order {seconds / count * 1e3:.2f} ms")
 
 
 def measure_memory(bench):

@@ -135,6 +135,22 @@ class Bus:
         return answers[0] if len(answers) == 1 and self.frames not in self.lost_answers else None
 
 
+class FiledBus(Bus):
+    """A bus whose units have each byte in their files once it is written, so that a kill takes but their power."""
+
+    def __init__(self, folder, *arguments):
+        super().__init__(*arguments)
+        self.folder = folder
+        save_units(folder, self.units)
+
+    def carry(self, word):
+        """Carry a forward frame; save the units that it changed before its answer is known."""
+        before = [bytes(unit.banks[1]) for unit in self.units]
+        answer = super().carry(word)
+        save_units(self.folder, [unit for unit, bank in zip(self.units, before) if unit.banks[1] != bank])
+        return answer
+
+
 def answer_lines(bus, read_line, write_line, show_frames=False):
     """Answer the frames of one command until its output ends or it reads no more.
 
@@ -249,12 +265,9 @@ def main(arguments):
     try:
         units = [load_unit(options.folder, unit, [location for at, location in options.fixed if at == unit])
                  for unit in options.unit]
-        bus = Bus(units, options.lose_frame, options.lose_answer, options.refuse, options.lose_power)
-        try:
-            save_units(options.folder, units)
-            return serve(bus, words, options.frames)
-        finally:
-            save_units(options.folder, units)
+        bus = FiledBus(options.folder, units, options.lose_frame, options.lose_answer, options.refuse,
+                       options.lose_power)
+        return serve(bus, words, options.frames)
     except (BadLine, OSError, ValueError) as fault:
         print("simulated_link:", fault, file=sys.stderr)
         return 1 if isinstance(fault, BadLine) else 2

@@ -57,7 +57,8 @@ def test_each_text_has_its_command(folder):
     """A block of text that no command prints would be compared with nothing."""
     kinds = [kind for kind, _ in BLOCK.findall(PAGE.read_text(encoding="utf-8"))]
     want([at for at, kind in enumerate(kinds) if kind == "text" and kinds[at - 1] != "sh"], [])
-    want(set(kinds) <= {"sh", "text", "json"}, True)
+    # Those of `console` are for root, on a computer of a line.
+    want(set(kinds) <= {"sh", "text", "json", "console"}, True)
 
 
 def test_each_reply_and_fault_has_its_row(folder):

@@ -4,6 +4,7 @@
 The last line is `N passed, M failed`, and the status is 0 only where none failed.
 """
 
+import contextlib
 import os
 import re
 import signal
@@ -198,14 +199,18 @@ def test_what_cannot_start(folder):
     want(subprocess.run([SIMULATED, "--folder", folder, "--", "/none"], stderr=subprocess.DEVNULL).returncode, 2)
 
 
-def test_a_stopped_link_saves(folder):
-    command = [SIMULATED, "--folder", folder, "--frames", "--", *player([*OPENED, "C712", *50 * ["pause"]])]
-    link = subprocess.Popen(command, stderr=subprocess.PIPE, text=True)
-    assert any("C712" in line for line in link.stderr)
-    link.send_signal(signal.SIGTERM)
-    want(link.wait(5), 130)
-    link.stderr.close()
-    want(saved(folder), blank(x03=0x12))
+def test_a_stopped_link_has_saved(folder):
+    for number, (stop, status) in enumerate([(signal.SIGTERM, 130), (signal.SIGKILL, -signal.SIGKILL)]):
+        played = player([*OPENED, f"C71{number}", *50 * ["pause"]])
+        command = [SIMULATED, "--folder", folder, "--frames", "--", *played]
+        link = subprocess.Popen(command, stderr=subprocess.PIPE, text=True, start_new_session=True)
+        assert any(f"C71{number}" in line for line in link.stderr)
+        link.send_signal(stop)
+        want(link.wait(5), status)
+        with contextlib.suppress(ProcessLookupError):
+            os.killpg(link.pid, signal.SIGKILL)
+        link.stderr.close()
+        want(saved(folder), blank(x03=0x10 + number))
 
 
 if __name__ == "__main__":

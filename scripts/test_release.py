@@ -252,6 +252,11 @@ def test_archive_runs_from_anywhere(folder):
 def test_archive_is_enough_for_the_bench(folder):
     top = unpacked(folder)
     run_commands(top / "docs/BENCH.md", top)
+    # What a service is installed from, and what it starts.
+    text = "".join((top / name).read_text() for name in ("docs/BENCH.md", "service/dali-bench@.service"))
+    named = set(re.findall(r"/opt/dali-bench/([\w./@-]+)", text))
+    assert {"dali_bench", "service/dali-bench@.service", "service/bus1.env"} <= named, named
+    want([name for name in named if not (top / name).is_file()], [])
 
 
 def test_archive_tells_a_limit_on_the_length_of_files(folder):

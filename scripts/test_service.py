@@ -1,0 +1,448 @@
+#!/usr/bin/env python3
+"""Test service/dali-bench@.service: play systemd for it, with simulated units, line computers and kills.
+
+    test_service.py PROGRAM [FOLDER]
+
+What an instance runs, and where, is read out of the unit file; its paths are led into a folder of the test. FOLDER is
+as of test_drive.py. The last line is `N passed, M failed`, and the status is 0 only where none failed. What couldn't be
+tested on this machine has a line that begins with `skipped`.
+"""
+
+import contextlib
+import errno
+import os
+import pathlib
+import random
+import re
+import shlex
+import shutil
+import signal
+import subprocess
+import sys
+import threading
+import time
+
+sys.dont_write_bytecode = True
+
+import suite  # noqa: E402
+from drive_desk import Skipped, settings, want  # noqa: E402
+from driven import PATIENCE, ROOT, simulated_link  # noqa: E402
+
+UNIT = ROOT / "service" / "dali-bench@.service"
+EXAMPLE = ROOT / "service" / "bus1.env"
+PROGRAMS, VARIABLES, STATES = "/opt/dali-bench", "/etc/dali-bench", "/var/lib"
+# In the place of RestartSec, so that the test takes seconds.
+PAUSE = 0.05
+YEAR, WEEK = 0x13, 0x14
+UNITS = (5, 6, 60)
+KILLS, LEAST_ORDERS = 15, 60
+# What a kill may have told besides.
+LINE_OF_A_KILL = re.compile("item [0-9]+ fault 11 Json$|drive fault (2 Link|4 End)$|error: the frames can't be written")
+# Which processes a kill is for: all of them, the adapter, the drive.
+ALL, FIRST, LAST = slice(None), slice(1), slice(-1, None)
+
+
+def settings_of(text):
+    """Read a unit file: give the values of each key, in their order."""
+    found = {}
+    for line in text.replace("\\\n", " ").splitlines():
+        if line and line[0] not in "#;[":
+            key, value = line.split("=", 1)
+            found.setdefault(key, []).append(value)
+    return found
+
+
+def variables_of(text):
+    """Read a file of variables."""
+    lines = [line.split("=", 1) for line in text.splitlines() if line and line[0] not in "#;"]
+    return {name: " ".join(shlex.split(value)) for name, value in lines}
+
+
+def words_of(command, variables):
+    """Give the words of a command: a variable that stands alone is split, and two dollar signs are one."""
+    words = []
+    for word in shlex.split(command):
+        is_variable = re.fullmatch(r"\$[A-Z]+", word)
+        words += variables.get(word[1:], "").split() if is_variable else [word.replace("$$", "$")]
+    return words
+
+
+def wait_for(told):
+    """Wait until something is so, and give it."""
+    last = time.monotonic() + PATIENCE
+    while not (found := told()):
+        assert time.monotonic() < last, f"it didn't come in {PATIENCE} seconds"
+        time.sleep(0.005)
+    return found
+
+
+def processes_of(group):
+    """Give the processes of a group that haven't ended, each with its state as the system's letter."""
+    found = {}
+    for path in pathlib.Path("/proc").glob("[0-9]*/stat"):
+        try:
+            state, _, its_group = path.read_text().rpartition(")")[2].split()[:3]
+        except (FileNotFoundError, ProcessLookupError):
+            continue
+        if int(its_group) == group and state not in "ZX":
+            found[int(path.parent.name)] = state
+    return found
+
+
+class Instance:
+    """An instance of the unit file in a folder of the test, with a system manager that starts it again."""
+
+    def __init__(self, folder, name="bus1"):
+        places = {PROGRAMS: folder / "programs", VARIABLES: folder / "variables", STATES: folder / "states"}
+        text = UNIT.read_text()
+        for place in (PROGRAMS, VARIABLES):
+            assert place in text, f"the unit file has no {place}"
+            text = text.replace(place, str(places[place]))
+        self.keys = settings_of(text.replace("%S", str(places[STATES])).replace("%i", name))
+        self.state = places[STATES] / self.keys["StateDirectory"][0]
+        self.variables = pathlib.Path(self.keys["EnvironmentFile"][0])
+        for place in places.values():
+            place.mkdir(exist_ok=True)
+        for path, target in (("dali_bench", settings["program"]), ("adapters", ROOT / "adapters")):
+            if not (places[PROGRAMS] / path).exists():
+                (places[PROGRAMS] / path).symlink_to(target)
+        units = " ".join(f"--unit {unit}" for unit in UNITS)
+        self.variables.write_text(f'ADAPTER="{places[PROGRAMS]}/adapters/simulated_link.py {units}"\nOPTIONS=\n')
+        self.orders, self.replies, self.journal = (self.state / it for it in ("orders", "replies", "bench.journal"))
+        self.main, self.starts, self.kills, self.is_wanted, self.fault = None, 0, [], True, None
+        self.manager = threading.Thread(target=self.manage, daemon=True)
+
+    def run(self, key, starter):
+        """Run or start the commands of a key."""
+        variables = variables_of(self.variables.read_text())
+        path = {"PATH": os.environ["PATH"]}
+        for command in self.keys[key]:
+            yield starter(words_of(command, variables), cwd=self.keys["WorkingDirectory"][0], env={**path, **variables},
+                          umask=int(self.keys["UMask"][0], 8), stdin=subprocess.DEVNULL, start_new_session=True,
+                          stdout=subprocess.DEVNULL, stderr=subprocess.DEVNULL)
+
+    def start(self):
+        """Start it once."""
+        self.state.mkdir(int(self.keys["StateDirectoryMode"][0], 8), parents=True, exist_ok=True)
+        for made in self.run("ExecStartPre", subprocess.run):
+            want(made.returncode, 0)
+        self.main, = self.run("ExecStart", subprocess.Popen)
+        self.starts += 1
+
+    def end(self, number=signal.SIGKILL):
+        """Send a signal to all its processes, wait until none is left, and give the status of the first."""
+        os.killpg(self.main.pid, number)
+        os.waitid(os.P_PID, self.main.pid, os.WEXITED | os.WNOWAIT)
+        os.killpg(self.main.pid, signal.SIGKILL)
+        wait_for(lambda: not processes_of(self.main.pid))
+        return self.main.wait()
+
+    def manage(self):
+        """Start it again after each end, until it is no longer wanted."""
+        try:
+            while self.is_wanted:
+                self.start()
+                self.wait_or_kill(*(self.kills.pop(0) if self.kills else (1000, ALL)))
+                if self.is_wanted:
+                    self.end()
+                    time.sleep(PAUSE)
+        except BaseException as fault:
+            self.fault = fault
+
+    def wait_or_kill(self, seconds, victims):
+        """Wait for its end; where it runs for so long, kill all of it, or one of its processes."""
+        last = time.monotonic() + seconds
+        while self.is_wanted and time.monotonic() < last and self.is_running():
+            time.sleep(0.002)
+        if self.is_wanted and victims != ALL:
+            for process in sorted(processes_of(self.main.pid))[victims]:
+                os.kill(process, signal.SIGKILL)
+            wait_for(lambda: not self.is_running())
+
+    def is_running(self):
+        """Tell whether its first process runs."""
+        return os.waitid(os.P_PID, self.main.pid, os.WEXITED | os.WNOHANG | os.WNOWAIT) is None
+
+    def __enter__(self):
+        self.manager.start()
+        wait_for(lambda: self.main)
+        return self
+
+    def __exit__(self, *fault):
+        self.is_wanted = False
+        self.manager.join(PATIENCE)
+        if self.fault:
+            raise self.fault
+        self.stopped = self.end(getattr(signal, self.keys["KillSignal"][0]))
+
+    @contextlib.contextmanager
+    def once(self):
+        """Start it once, and kill it at the end."""
+        self.start()
+        try:
+            yield
+        finally:
+            self.end()
+
+    def told(self):
+        """Give the lines that were told."""
+        return self.replies.read_text().splitlines() if self.replies.exists() else []
+
+    def open(self):
+        """Open the pipe to write to it, once somebody reads it."""
+
+        def opened():
+            try:
+                return os.open(self.orders, os.O_WRONLY | os.O_NONBLOCK)
+            except (FileNotFoundError, OSError) as fault:
+                if fault.errno not in (errno.ENXIO, errno.ENOENT):
+                    raise
+                return None
+
+        pipe = wait_for(opened)
+        os.set_blocking(pipe, True)
+        return pipe
+
+    def write(self, line):
+        """Write a line as a line computer does that closes the pipe behind it."""
+        pipe = self.open()
+        os.write(pipe, line.encode() + b"\n")
+        os.close(pipe)
+
+    def journal_lines(self):
+        """Give what the program tells of the journal."""
+        words = [settings["program"], "journal", "--updates", self.journal]
+        return subprocess.run(words, check=True, capture_output=True, text=True).stdout.splitlines()
+
+    def bank(self, unit):
+        """Give bank 1 of a unit, as its file has it."""
+        return bytes.fromhex((self.state / f"unit_{unit}.hex").read_text())
+
+
+def order_line(number, unit, year):
+    """Give the line of an order."""
+    return f'{{"order": {number}, "unit": {unit}, "year": {year}}}'
+
+
+def done(*numbers):
+    """Give the lines that orders are told with which are done at once."""
+    return [line for number in numbers for line in (f"reply {number} taken", f"reply {number} kept 0 Done")]
+
+
+# Two buses, killed now and then
+
+
+class LineComputer(threading.Thread):
+    """Writes orders to an instance one by one, each again until its kept reply, until the kills are over."""
+
+    def __init__(self, instance, chance):
+        super().__init__(daemon=True)
+        self.instance, self.chance, self.sent, self.again, self.fault = instance, chance, [], 0, None
+
+    def run(self):
+        try:
+            while self.instance.starts <= KILLS or len(self.sent) < LEAST_ORDERS:
+                order = (len(self.sent) + 1, self.chance.choice(UNITS), self.chance.randrange(100))
+                self.sent.append((*order, self.chance.randint(1, 53)))
+                self.send(*self.sent[-1])
+        except BaseException as fault:
+            self.fault = fault
+
+    def send(self, number, unit, year, week):
+        """Send an order until it has its kept reply; every third time the pipe stays open until then."""
+        order = f'{{"order": {number}, "unit": {unit}, "year": {year}, "week": {week}}}'
+        line = order if number % 2 else f'{{"submit": {order}, "moment": {1700000000 + number}}}'
+        last = time.monotonic() + PATIENCE
+        while time.monotonic() < last:
+            pipe = self.instance.open()
+            try:
+                os.write(pipe, line.encode() + b"\n")
+                if number % 3 == 0 and self.has_kept(number):
+                    return
+            except BrokenPipeError:
+                pass
+            finally:
+                os.close(pipe)
+            if self.has_kept(number):
+                return
+            self.again += 1
+        raise TimeoutError(f"order {number} was sent {self.again} times")
+
+    def has_kept(self, number):
+        """Wait a little for the kept reply of an order; tell whether it came."""
+        last = time.monotonic() + 0.5
+        while time.monotonic() < last:
+            if any(line.startswith(f"reply {number} kept ") for line in self.instance.told()):
+                return True
+            time.sleep(0.005)
+        return False
+
+
+def judge(instance, sent):
+    """Raise unless each order that was sent is in the journal once, was told as kept, and stands in its unit."""
+    lines = instance.journal_lines()
+    begun = [line.split() for line in lines if line.startswith("B ")]
+    want([(int(words[2]), int(words[4]), int(words[6])) for words in begun],
+         [(number, unit, 0 if number % 2 else 1700000000 + number) for number, unit, _, _ in sent])
+    want([line for line in lines if line.startswith("E ")], ["E 0 Done"] * len(sent))
+    assert lines[-1].endswith(f" orders {len(sent)} standing idle"), lines[-1]
+    told = instance.told()
+    kept = {line for line in told if " kept " in line}
+    want(kept, {f"reply {number} kept 0 Done" for number, *_ in sent})
+    # A line of which a kill has taken the first bytes is refused, and changes nothing.
+    others = {line for line in told if not LINE_OF_A_KILL.match(line)} - kept
+    assert others <= {f"reply {number} taken" for number, *_ in sent}, others
+    banks = {unit: bytearray(simulated_link.BLANK_BANK_1) for unit in UNITS}
+    for _, unit, year, week in sent:
+        banks[unit][YEAR], banks[unit][WEEK] = year, week
+    want({unit: instance.bank(unit).hex() for unit in UNITS}, {unit: bank.hex() for unit, bank in banks.items()})
+
+
+def test_two_buses_that_are_killed(folder):
+    chance = random.Random(20261127)
+    instances = [Instance(folder, name) for name in ("bus1", "bus2")]
+    for instance in instances:
+        instance.kills = [(chance.uniform(0.05, 0.6), victims) for victims in (ALL, FIRST, LAST) * (KILLS // 3)]
+    computers = [LineComputer(instance, random.Random(chance.random())) for instance in instances]
+    with instances[0], instances[1]:
+        for computer in computers:
+            computer.start()
+        for computer in computers:
+            computer.join(3 * PATIENCE)
+    for instance, computer in zip(instances, computers):
+        want((computer.is_alive(), computer.fault), (False, None))
+        counts = f"{len(computer.sent)} orders, {instance.starts} starts, {computer.again} sent again"
+        print(f"{instance.state.name}: {counts}")
+        judge(instance, computer.sent)
+
+
+# What a line computer meets
+
+
+def test_writers_that_close_the_pipe_end_nothing(folder):
+    with Instance(folder) as instance:
+        for number in (1, 2, 3):
+            instance.write(order_line(number, 5, number))
+            wait_for(lambda: len(instance.told()) == 2 * number)
+        want((instance.starts, instance.is_running(), instance.told()), (1, True, done(1, 2, 3)))
+        want(instance.bank(5)[YEAR], 3)
+    want(instance.stopped != 0, True)
+
+
+def killed_before_it_read(instance, is_closed):
+    """Write two lines that are never read before a kill of all; give the pipe, and close it before where that is said."""
+    with instance.once():
+        pipe = instance.open()
+        wait_for(lambda: instance.journal.exists() and instance.journal.stat().st_size == 4)
+        os.killpg(instance.main.pid, signal.SIGSTOP)
+        wait_for(lambda: set(processes_of(instance.main.pid).values()) == {"T"})
+        os.write(pipe, "".join(order_line(number, 6, number) + "\n" for number in (1, 2)).encode())
+        if is_closed:
+            os.close(pipe)
+    want(instance.told(), [])
+    return pipe
+
+
+def test_lines_wait_while_their_writer_holds_the_pipe(folder):
+    instance = Instance(folder)
+    pipe = killed_before_it_read(instance, is_closed=False)
+    with instance:
+        wait_for(lambda: len(instance.told()) == 4)
+        want((instance.told(), instance.starts), (done(1, 2), 2))
+        os.close(pipe)
+    want(instance.bank(6)[YEAR], 2)
+
+
+def test_lines_are_dropped_where_nobody_holds_the_pipe(folder):
+    instance = Instance(folder)
+    killed_before_it_read(instance, is_closed=True)
+    with instance:
+        instance.write(order_line(3, 6, 3))
+        wait_for(lambda: len(instance.told()) == 2)
+        want((instance.told(), instance.starts), (done(3), 2))
+
+
+def test_the_rest_of_a_line_changes_nothing(folder):
+    with Instance(folder) as instance:
+        for rest in (order_line(1, 5, 1)[7:], '{"order": 1, "unit": 5, "ye', "[]", order_line(1, 64, 1)):
+            instance.write(rest)
+        instance.write(order_line(2, 5, 2))
+        wait_for(lambda: "reply 2 kept 0 Done" in instance.told())
+        want(instance.told(), ["item 1 fault 11 Json", "item 2 fault 11 Json", "item 3 fault 9 Shape",
+                               "item 4 fault 1 Unit", *done(2)])
+        want(instance.starts, 1)
+
+
+def test_a_full_journal_is_retired(folder):
+    instance = Instance(folder)
+    instance.state.mkdir(parents=True)
+    absent = bytes.fromhex("09 01 1318 4503")
+    records = (b"B" + number.to_bytes(8, "big") + bytes(8) + absent for number in range(100000))
+    instance.journal.write_bytes(bytes.fromhex("44423102") + b"".join(records))
+    with instance:
+        instance.write(order_line(100000, 5, 24))
+        wait_for(instance.told)
+        want(instance.told(), ["reply 100000 full"])
+    assert instance.journal_lines()[-1].endswith(" orders 100000 standing idle")
+    instance.journal.rename(instance.state / "bench_until_99999.journal")
+    again = Instance(folder)
+    with again:
+        again.write(order_line(100000, 5, 24))
+        wait_for(lambda: len(again.told()) == 3)
+        want(again.told()[1:], done(100000))
+
+
+def test_one_that_can_not_start_is_started_again(folder):
+    instance = Instance(folder)
+    adapter = instance.variables.read_text()
+    instance.variables.write_text('ADAPTER="/none --device 1"\nOPTIONS=\n')
+    with instance:
+        wait_for(lambda: instance.starts > 3)
+        instance.variables.write_text(adapter)
+        instance.write(order_line(1, 60, 24))
+        wait_for(lambda: instance.told()[-2:] == done(1))
+
+
+# What the unit file says
+
+
+def test_the_pipe_is_made_once(folder):
+    instance = Instance(folder)
+    for _ in range(2):
+        with instance.once():
+            wait_for(instance.journal.exists)
+            want((instance.orders.is_fifo(), oct(instance.orders.stat().st_mode & 0o777)), (True, "0o620"))
+            want(oct(instance.replies.stat().st_mode & 0o777), "0o640")
+            number = instance.orders.stat().st_ino
+    want(instance.orders.stat().st_ino, number)
+    instance.orders.unlink()
+    instance.orders.write_text("")
+    want([made.returncode for made in instance.run("ExecStartPre", subprocess.run)], [1])
+
+
+def test_it_is_started_again_without_end(folder):
+    keys = settings_of(UNIT.read_text())
+    wanted = {"Restart": "always", "RestartSec": "1", "StartLimitIntervalSec": "0", "KillMode": "control-group"}
+    want({key: keys[key] for key in wanted}, {key: [value] for key, value in wanted.items()})
+    variables = variables_of(EXAMPLE.read_text())
+    want(sorted(variables), ["ADAPTER", "OPTIONS"])
+    assert set(re.findall(r"\$([A-Z]+)", keys["ExecStart"][0])) == set(variables), keys["ExecStart"]
+    adapter = pathlib.Path(variables["ADAPTER"].split()[0])
+    assert (ROOT / adapter.relative_to(PROGRAMS)).is_file(), adapter
+
+
+def test_systemd_takes_the_unit_file(folder):
+    if shutil.which("systemd-analyze") is None:
+        raise Skipped("there is no systemd-analyze")
+    (folder / "dali_bench").symlink_to(settings["program"])
+    unit = folder / UNIT.name.replace("@", "@bus1")
+    unit.write_text(UNIT.read_text().replace(f"{PROGRAMS}/dali_bench", str(folder / "dali_bench")))
+    words = ["systemd-analyze", "verify", "--man=no", unit]
+    ended = subprocess.run(words, capture_output=True, text=True, stdin=subprocess.DEVNULL)
+    if "Operation not permitted" in ended.stderr or "Failed to initialize manager" in ended.stderr:
+        raise Skipped(f"systemd-analyze can't verify here: {ended.stderr.strip()}")
+    want((ended.returncode, ended.stdout, ended.stderr), (0, "", ""))
+
+
+if __name__ == "__main__":
+    sys.exit(suite.main(__doc__, (sys.modules[__name__],), sys.argv[1:]))

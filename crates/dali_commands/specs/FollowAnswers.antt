@@ -44,9 +44,8 @@ module _ {R N : Type 0} (rest : R → Option (List ℕ)) (failed : R → Bool) (
     pub replies : Option (List ℕ)
     pub followed : IsStoredFollow (Gave rest failed) IsOver (IsTold contents) order_limit journal_limit orders first
         before writer left (record last { out = replies }) after
-    pub told : TellsFollowed (failed (state_of left).source)
-        (followed_status (state_of left).has_refused require_done (all_done (happenings followed.observed.follow.steps)))
-        status replies last.out
+    pub told : TellsFollowed (failed (state_of left).source) (followed_status (state_of left).has_refused require_done
+        (all_done (happenings followed.observed.follow.steps))) status replies last.out
 
   -- the journal wasn't opened, its fault was told, and nothing was read of the source
   pub record EndsUnfollowed : Type 0 where
@@ -83,5 +82,6 @@ abbrev pub IsFileFollow : {F N : Type 0} → (F → Option (List ℕ)) → (N �
     → Report N → Streams → Status → Streams → Type 0
 IsFileFollow {F} remaining contents moment require_done before after first status last =
     ((orders : OrderLines (StdSource F)) × (left : OrderLines (StdSource F)) × AreUnread source_failed moment orders
-    × IsFollowAnswer (source_left remaining) source_failed contents require_done before after orders left first status last)
+    × IsFollowAnswer (source_left remaining) source_failed contents require_done before after orders left first status
+    last)
     ⊎ ((fault : InputFault) × EndsUndriven fault first status last × (after ≡ before))

@@ -358,7 +358,7 @@ def test_each_allocation_refused(folder, part, _):
             break
         # Before the command line is read it isn't known that the output is a link.
         last = (ended.sent.decode() if number <= 8 and ended.sent else told).splitlines()[-1]
-        assert (ended.status, told) in {(1, it) for it in whole} or (ended.status, last) == (2, "fault 20 Memory"), ended
+        assert ended.status == 1 and told in whole or (ended.status, last) == (2, "fault 20 Memory"), ended
         ran_out += "20 Memory" in last or "20 Memory" in told
         want(desk.give(SILENCE).told, shape + (KEPT_SILENT if "kept" in told else TAKEN))
         want(desk.held(), ABSENT_JOURNAL)

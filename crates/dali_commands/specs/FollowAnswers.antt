@@ -40,9 +40,8 @@ module _ {R N : Type 0} (rest : R → Option (List ℕ)) (failed : R → Bool) (
     pub replies : Option (List ℕ)
     pub followed : IsStoredFollow (Gave rest failed) IsOver (IsTold contents) order_limit journal_limit orders first
         before writer left (record last { out = replies }) after
-    pub told : TellsFollowed (failed (state_of left).source)
-        (followed_status (state_of left).has_refused require_done (all_done (happenings followed.observed.follow.steps)))
-        status replies last.out
+    pub told : TellsFollowed (failed (state_of left).source) (followed_status (state_of left).has_refused require_done
+        (all_done (happenings followed.observed.follow.steps))) status replies last.out
 
   -- the journal wasn't opened, its fault was told, and nothing was read of the source
   pub record EndsUnfollowed : Type 0 where

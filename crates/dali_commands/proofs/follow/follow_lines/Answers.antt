@@ -15,7 +15,7 @@ returns-clause-answer g c = elim c.match-follow_stored.branch [
     replies = held g.W.Write.contents c.follow_stored.new.out.output;
     followed = w.in-Ok.ensures.followed;
     told =
-        subst (λ (status : Status). TellsFollowed (g.R.Source.failed (state_of c.follow_stored.new.orders).source) status
+        subst (λ (ended : Status). TellsFollowed (g.R.Source.failed (state_of c.follow_stored.new.orders).source) ended
         w.tell_followed.result (held g.W.Write.contents c.follow_stored.new.out.output)
         (held g.W.Write.contents w.tell_followed.new.lines.output))
         (w.followed_status-ended.ensures

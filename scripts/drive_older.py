@@ -23,6 +23,7 @@ from drive_desk import (
     absent_records,
     desk_of,
     last_line,
+    settings,
     want,
 )
 from drive_follow import following
@@ -61,14 +62,11 @@ def desks(folder, orders, journal=None):
 
 
 def test_an_order_of_an_older_journal_is_not_carried_out_again(folder):
-    for older in (DONE_JOURNAL, OLD_DONE_JOURNAL, DONE_JOURNAL + b"B", DONE_JOURNAL + absent_records(2)[:-1]):
+    for older in (DONE_JOURNAL, OLD_DONE_JOURNAL, DONE_JOURNAL + b"B"):
         for desk in desks(folder, PRESENT * 2):
             behind(desk, older)
-            if older == DONE_JOURNAL + absent_records(2)[:-1]:
-                want(last_line(desk.give(b"")), FAULT_15)
-            else:
-                want((older, desk.give(b"")), (older, Ended(0, b"", KEPT_DONE * 2)))
-                want(desk.held(), HEADER)
+            want((older, desk.give(b"")), (older, Ended(0, b"", KEPT_DONE * 2)))
+            want(desk.held(), HEADER)
 
 
 def test_a_number_of_an_older_journal_with_other_contents(folder):
@@ -139,9 +137,11 @@ def behind_words(desk, *journals):
 
 def test_full_journals(folder):
     full = HEADER + b"".join(absent_records(number) for number in range(10, 10 + FULL))
-    for desk in desks(folder, [{"order": 10, "unit": 9, "gtin": GTIN}, *SECOND, {"order": FULL + 9, "unit": 5, "year": 9}]):
+    first, last = {"order": 10, "unit": 9, "gtin": GTIN}, {"order": FULL + 9, "unit": 5, "year": 9}
+    told = f"reply 10 kept 3 Silent\n{SECOND_TOLD}reply {FULL + 9} reused\n"
+    for desk in desks(folder, [first, *SECOND, last]):
         behind(desk, full)
-        want(desk.give(SILENCE), Ended(0, ABSENT_FRAMES, f"reply 10 kept 3 Silent\n{SECOND_TOLD}reply {FULL + 9} reused\n"))
+        want(desk.give(SILENCE), Ended(0, ABSENT_FRAMES, told))
         want(desk.held(), HEADER + absent_records(2))
     for desk in desks(folder, [*SECOND, *PRESENT], full):
         behind(desk, DONE_JOURNAL)
@@ -165,7 +165,8 @@ def refused(folder, words, *journals, held=None):
 
 
 def test_an_older_journal_that_is_not_at_rest(folder):
-    for journal in (ABSENT_BEGAN, OLD_ABSENT_BEGAN, OPENED, LEFT, OPENED + b"E"):
+    half_ended = DONE_JOURNAL + absent_records(2)[:-1]
+    for journal in (ABSENT_BEGAN, OLD_ABSENT_BEGAN, OPENED, LEFT, OPENED + b"E", half_ended):
         refused(folder, "isn't at rest", journal)
         refused(folder, "isn't at rest", HEADER + absent_records(2), journal, held=HEADER)
 
@@ -237,3 +238,25 @@ def test_kills_behind_an_older_journal(folder):
                 ended = desk.over(bus)
                 want((ended.status, desk.held()), (0, HEADER + absent_records(2)))
                 assert ended.told.endswith("reply 2 kept 3 Silent\n") and KEPT_DONE in ended.told, ended
+
+
+def test_each_allocation_refused(folder):
+    kept_silent = "reply 2 kept 3 Silent\n"
+    told_again = [KEPT_DONE + SECOND_TOLD, KEPT_DONE + kept_silent, kept_silent + KEPT_DONE + kept_silent]
+    ran_out = 0
+    for number in range(1, 100000):
+        desk = desk_of(folder, [*PRESENT, *SECOND])
+        behind(desk, DONE_JOURNAL, HEADER + absent_records(3))
+        preload = {"LD_PRELOAD": str(settings["shims"] / "refuse_alloc.so"), "REFUSED_ALLOCATION": str(number)}
+        ended = desk.give(SILENCE, preload)
+        told = ended.told.replace("an allocation was refused\n", "")
+        if told == ended.told:
+            break
+        # Before the command line is read it isn't known that the output is a link.
+        ended_by_want = ended.status == 2 and "fault 20 Memory\n" in (told[-16:], number <= 20 and ended.sent.decode())
+        assert ended_by_want or (ended.status, told) == (0, KEPT_DONE + SECOND_TOLD), (number, ended)
+        assert not ended_by_want or desk.give(SILENCE).told in told_again
+        want(desk.held(), HEADER + absent_records(2))
+        desk.journal.unlink()
+        ran_out += ended_by_want
+    assert ran_out > 20, "hardly a refused allocation ended as want of memory"

@@ -5,8 +5,9 @@ Orders of a GTIN (112 frames and three records each) for a few units go to a
 link that answers at once (null_link.c).
 
 1. 1000 orders through a named pipe, each written once the one before it has
-   its kept reply, and all written at once, beside one `drive` an order: with
-   the journal in /dev/shm and in a folder on disk.
+   its kept reply, and all written at once, beside one `drive` an order, and
+   beside what the link's pipes alone take for the frames: with the journal in
+   /dev/shm and in a folder on disk.
 2. The same, all written at once, of four buses beside each other, each with
    its link, its pipe and its journal.
 3. Peak memory: after 1, 1000 and 100000 lines of orders that the journal
@@ -175,7 +176,9 @@ class Bench(drive.Bench):
         Beside these stands how many orders they are for.
         """
         lines = self.lines(ORDERS, ORDERS)
+        frames = str(FRAMES_OF_ORDER * ORDERS)
         ways = {
+            "the pipes alone": lambda bus: self.run([self.link, "--ask", frames])[0],
             "one drive an order": lambda bus: bus.drive_each(ORDERS),
             "one by one": lambda bus: bus.one_by_one(ORDERS),
             "all written at once": lambda bus: bus.at_once(lines, ORDERS, ORDERS),
@@ -208,11 +211,14 @@ def measure_memory(bench):
         bus = Bus(bench, folder)
         new = bus.at_once(bench.lines(ORDERS, ORDERS), ORDERS, ORDERS)
         for count in LINES:
-            known = bus.at_once(bench.lines(count, min(count, ORDERS)), 0, count)
-            peaks[count] = known.peak_memory
+            lines = bench.lines(count, min(count, ORDERS))
+            runs = [bus.at_once(lines, 0, count) for _ in range(bench.runs)]
+            # What the kernel counts differs by some 100 KiB from run to run.
+            peaks[count] = min(run.peak_memory for run in runs)
+            line = min(run.seconds for run in runs) / count
             print(
-                f"{count} lines of known orders: {known.peak_memory // KIBIBYTE} KiB,"
-                f" {known.seconds / count * 1e6:.0f} us a line"
+                f"{count} lines of known orders: {peaks[count] // KIBIBYTE} KiB,"
+                f" {line * 1e6:.0f} us a line"
             )
     print(f"{ORDERS} new orders: {new.peak_memory // KIBIBYTE} KiB")
     growth = peaks[LINES[-1]] - peaks[LINES[-2]]

@@ -1,11 +1,11 @@
 -- What is answered behind older journals, on both sides of each rule.
-use Rattle.std.proofs.Common.{◌≡◌, refl, ℕ, [], ◌∷◌, Option, Some, None, codes, inl, inr}
+use Rattle.std.proofs.Common.{◌≡◌, refl, ℕ, [], ◌∷◌, None, codes, inl, inr}
+use Rattle.std.specs.Prelude.{⊤}
 use Rattle.dali_journal.specs.declared.behind.JoinFault.TheVariants as joins
 use Rattle.dali_journal.specs.declared.fault.JournalFault.TheVariants as journals
-use Rattle.dali_journal.specs.JournalState.{JournalState}
 use Rattle.dali_input.specs.declared.fault.InputFault.TheVariants.{Memory, File, TooBig}
 use Rattle.dali_commands.specs.declared.fault.Fault.TheVariants.{Input, Journal, Older}
-use Rattle.dali_commands.specs.declared.fault.Status.TheVariants.{Refused, Failed}
+use Rattle.dali_commands.specs.declared.fault.Status.TheVariants.{Refused}
 use Rattle.dali_commands.specs.declared.older.OlderFault.TheVariants.{Unloaded, AtWork, Join}
 use Rattle.dali_commands.specs.BehindAnswers.{IsBehindNamed, fault_unjoined}
 use Rattle.dali_commands.specs.Faults.{status_of, told_line}
@@ -32,15 +32,15 @@ pub older_is_refused : (status_of Older ≡ Refused) × (told_line Older ≡ cod
 older_is_refused = (refl, refl)
 
 -- without names it is answered as behind none; behind names never, and there it may be refused
-pub behind_none : IsBehindNamed {ℕ} [] (λ older. older ≡ None) ⊥
+pub behind_none : IsBehindNamed {A = ℕ} [] (λ older. older ≡ None) ⊥
 behind_none = refl
 
-pub none_refused_without_names : IsBehindNamed {ℕ} [] (λ older. ⊥) ⊤ → ⊥
+pub none_refused_without_names : IsBehindNamed {A = ℕ} [] (λ older. ⊥) ⊤ → ⊥
 none_refused_without_names answered = answered
 
-pub never_behind_none : IsBehindNamed (1 ∷ []) (λ older. older ≡ None) ⊥ → ⊥
+pub never_behind_none : IsBehindNamed {A = ℕ} (1 ∷ []) (λ older. older ≡ None) ⊥ → ⊥
 never_behind_none (inl (older, rests, is)) = cc
 never_behind_none (inr refused) = refused
 
-pub refused_behind_names : IsBehindNamed (1 ∷ []) (λ older. ⊥) ⊤
+pub refused_behind_names : IsBehindNamed {A = ℕ} (1 ∷ []) (λ older. ⊥) ⊤
 refused_behind_names = inr tt

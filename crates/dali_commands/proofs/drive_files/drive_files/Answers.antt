@@ -1,4 +1,4 @@
-use Rattle.dali_commands.proofs.BehindLemmas.{behind_named, behind_refused}
+use Rattle.dali_commands.proofs.BehindLemmas.{behind_named}
 use Rattle.dali_commands.proofs.drive_files.drive_files.Goals as goal
 
 pub returns-in-Ok-clause-driven : goal.returns-in-Ok-clause-driven

@@ -1,4 +1,4 @@
-use Rattle.dali_commands.proofs.BehindLemmas.{behind_named, behind_refused}
+use Rattle.dali_commands.proofs.BehindLemmas.{behind_named}
 use Rattle.dali_commands.proofs.follow_files.follow_file.Goals as goal
 
 pub returns-in-Ok-clause-followed : goal.returns-in-Ok-clause-followed

@@ -9,3 +9,4 @@ pub mod NoteLemmas
 mod WorkedNoteLemmas
 mod WorkedEndLemmas
 mod WorkedFollowLemmas
+mod WorkedBehindLemmas

@@ -1,5 +1,5 @@
 -- Behind older journals each order acts once.
-use Rattle.std.proofs.Common.{◌≡◌, ◌∙◌, refl, sym, ap, subst, inl, inr, ℕ, Bool, true, false, List, [], ◌∷◌, ◌++◌, ◌+◌, length}
+use Rattle.std.proofs.Common.{◌≡◌, ◌∙◌, refl, sym, ap, subst, inl, inr, ℕ, Bool, true, List, ◌++◌, ◌+◌, length}
 use Rattle.std.proofs.Common.{append_assoc, true≢false}
 use Rattle.dali_bank.specs.Order.{Contents}
 use Rattle.dali_journal.specs.declared.kept.Kept.{Kept}
@@ -19,7 +19,7 @@ use Rattle.dali_trace.specs.declared.happening.Reply.{Reply}
 use Rattle.dali_trace.specs.declared.happening.Reply.TheVariants as replies
 use Rattle.dali_trace.specs.Cut.{kept_in}
 use Rattle.dali_trace.specs.Legal.{Legal}
-use Rattle.dali_trace.specs.Replies.{IsReply, IsReplyBy, IsKnownReply}
+use Rattle.dali_trace.specs.Replies.{IsReplyBy, IsKnownReply}
 use Rattle.dali_trace.specs.Trace.{Start, records_of, is_busy, is_full}
 use Rattle.dali_writer.specs.WriterState.{start_of}
 use Rattle.dali_drive.specs.Behind.{IsBegunBehind, ActsOnceBehind}

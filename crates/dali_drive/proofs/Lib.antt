@@ -20,3 +20,4 @@ pub mod ReadingLemmas
 pub mod SurveyLemmas
 pub mod WorkedSurveyLemmas
 pub mod WorkedVerifyLemmas
+pub mod WorkedBehindLemmas

@@ -1,5 +1,5 @@
 -- A drive behind older journals is a drive of the whole, whose bytes are those of the older records and the store's.
-use Rattle.std.proofs.Common.{◌≡◌, ◌∙◌, ◌≤◌, refl, sym, ap, subst, inl, inr, ℕ, List, [], ◌∷◌, ◌++◌, ◌+◌, length, drop}
+use Rattle.std.proofs.Common.{◌≡◌, ◌∙◌, ◌≤◌, refl, sym, ap, subst, inl, inr, ℕ, List, [], ◌∷◌, ◌++◌, ◌+◌, length}
 use Rattle.std.proofs.Common.{Option, Some, None, append_assoc}
 use Rattle.std.proofs.lemmas.List.{append-nil}
 use Rattle.std.specs.Prelude.{option_map}
@@ -22,7 +22,7 @@ use Rattle.dali_drive.specs.declared.fault.DriveFault.{DriveFault}
 use Rattle.dali_drive.specs.declared.fault.DriveFault.TheVariants.{Journal, Link, Line, End, NoMemory, TooLong, Out}
 use Rattle.dali_drive.specs.declared.following.Given.{Given}
 use Rattle.dali_drive.specs.Behind.{IsBegunBehind, bytes_behind, streams_behind}
-use Rattle.dali_drive.specs.Driven.{IsDriven, BrokenOff, AppendsPart, CutRecord, CutFrame, CutReply, Unanswered, NoMore}
+use Rattle.dali_drive.specs.Driven.{IsDriven, BrokenOff, AppendsPart, CutFrame, Unanswered}
 use Rattle.dali_drive.specs.Followed.{Step, happenings, muted, IsFollowed, BrokenLine, BrokenOrder, BrokenStep}
 use Rattle.dali_drive.specs.Followed.{IsBrokenFollow}
 use Rattle.dali_drive.specs.Repeats.{HasSat, IsSameFile}

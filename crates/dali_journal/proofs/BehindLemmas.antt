@@ -1,7 +1,6 @@
 -- Records behind older ones that are at rest.
 use Rattle.std.proofs.Common.{◌≡◌, ℕ, Bool, true, false, cond, ◌||◌, List, [], ◌∷◌, ◌++◌, length, refl, sym, ap, ◌∙◌}
-use Rattle.std.proofs.Common.{subst, ◌==◌, ◌+◌, ◌≤◌, arith, get_or, length-append, true≢false, Option, None, Some}
-use Rattle.std.specs.List.{AllByRecursion}
+use Rattle.std.proofs.Common.{subst, ◌==◌, arith, get_or, length-append, true≢false, None, Some}
 use Rattle.std.proofs.lemmas.Bool.{eqb-true}
 use Rattle.dali_bank.specs.Order.{Contents}
 use Rattle.dali_journal.specs.declared.record.Code.{Code}
@@ -17,9 +16,9 @@ use Rattle.dali_journal.specs.declared.version.Version.{Version}
 use Rattle.dali_journal.specs.declared.version.Version.TheVariants.{One, Two}
 use Rattle.dali_journal.specs.Sentence.{Allows, next_standing, standing_of, is_begun, IsNew, IsSentence}
 use Rattle.dali_journal.specs.Orders.{come_to, orders_of, kept_at, kept_among, kept_of, moment_of}
-use Rattle.dali_journal.specs.Spelling.{IsRecord, records_spelling, journal_spelling}
+use Rattle.dali_journal.specs.Spelling.{records_spelling, journal_spelling}
 use Rattle.dali_journal.specs.Decoding.{records_in}
-use Rattle.dali_journal.specs.JournalState.{JournalState, AreKept}
+use Rattle.dali_journal.specs.JournalState.{JournalState}
 use Rattle.dali_journal.specs.Loading.{IsLoaded}
 use Rattle.dali_journal.specs.Behind.{OwnRecordsStandAlone, OlderOrdersAreKept}
 use Rattle.dali_journal.proofs.AheadLemmas.{spelling_append}

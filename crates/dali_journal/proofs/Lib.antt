@@ -16,3 +16,4 @@ pub mod FaultLemmas
 pub mod KeptLemmas
 pub mod MomentLemmas
 pub mod WorkedRoomLemmas
+pub mod WorkedBehindLemmas

@@ -1,5 +1,4 @@
-use Rattle.std.proofs.Common.{inl, subst, Option}
-use Rattle.dali_journal.specs.JournalState.{JournalState}
+use Rattle.std.proofs.Common.{inl}
 use Rattle.dali_drive.specs.StdStreams.{source_failed}
 use Rattle.dali_commands.proofs.FollowLemmas.{new_are_unread}
 use Rattle.dali_commands.proofs.follow_files.follow_behind_file.Goals as goal

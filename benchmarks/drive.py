@@ -13,6 +13,7 @@ alone take is measured with a command that does nothing but send and read.
 3. Sent again: 1000 orders that the journal knows, which send no frame.
 4. The start alone, over a journal of 100000 orders with all fields: of
    version 2, and of version 1, which is written anew.
+5. The start behind older journals (`--older`), as long each: none, 1, 4, 10.
 
 Status 0: every order was done. Status 1: one wasn't, or the frames were too
 many or too few. Status 2: a program couldn't be built or run.
@@ -145,6 +146,23 @@ class Bench:
                 found.append(driven)
         return least(found)
 
+    def start_behind(self, count, place):
+        """Measure the start of a new journal behind as many of the longest ones."""
+        found = []
+        with tempfile.TemporaryDirectory(dir=place) as folder:
+            journal = pathlib.Path(folder) / "bench.journal"
+            words = [self.program, "drive"]
+            for number in range(count):
+                older = pathlib.Path(folder) / f"older_{number}.journal"
+                write_journal(older, range(number * MOST_ORDERS, (number + 1) * MOST_ORDERS), FULL)
+                words += ["--older", older]
+            for _ in range(self.runs):
+                driven, told = self.run([*words, self.orders(0), journal])
+                if (driven.status, driven.frames, told, journal.read_bytes()) != (0, 0, "", HEADER):
+                    raise ValueError(f"{driven}, told {told!r}")
+                found.append(driven)
+        return least(found)
+
 
 def least(runs):
     """Give the least times and the highest peak memory of several runs."""
@@ -174,7 +192,7 @@ def print_run(name, driven, pipes, count, start=0.0):
     )
 
 
-def measure(bench):
+def measure_orders(bench):
     """Measure and print what frames and orders take."""
     disk, memory = bench.folder, bench.memory
     pipes = {
@@ -226,17 +244,25 @@ def measure_starts(bench):
             )
 
 
-def main():
-    """Measure, and tell whether each order was done."""
-    parser = argument_parser(__doc__.splitlines()[0], PROGRAM, 3)
-    arguments = parser.parse_args()
+def measure_starts_behind(bench):
+    """Measure and print what a start behind older journals takes, from none to ten of the longest."""
+    for count in (0, 1, 4, 10):
+        started = bench.start_behind(count, bench.folder)
+        print(
+            f"the start behind {count} journals of {MOST_ORDERS} orders: {started.seconds * 1e3:.1f} ms,"
+            f" memory {started.peak_memory / MEBIBYTE:.1f} MiB"
+        )
+
+
+def status_of(summary, bench_of, *measures):
+    """Take these measures on a bench; give the status, 0 where each order was done and nothing was too much."""
+    arguments = argument_parser(summary, PROGRAM, 3).parse_args()
     print_machine()
     try:
         with working_folder(arguments.keep) as folder:
-            folder = pathlib.Path(folder).resolve()
-            bench = Bench(arguments.program.resolve(), folder, arguments.runs)
-            measure(bench)
-            measure_starts(bench)
+            bench = bench_of(arguments.program.resolve(), pathlib.Path(folder).resolve(), arguments.runs)
+            for measure in measures:
+                measure(bench)
     except (OSError, subprocess.CalledProcessError) as error:
         print(f"a program couldn't be built or run: {error}", file=sys.stderr)
         return 2
@@ -247,4 +273,4 @@ def main():
 
 
 if __name__ == "__main__":
-    sys.exit(main())
+    sys.exit(status_of(__doc__.splitlines()[0], Bench, measure_orders, measure_starts, measure_starts_behind))

@@ -27,8 +27,8 @@ import tempfile
 import time
 
 import drive
-from drive import FRAMES_OF_ORDER, GTIN, PROGRAM, UNITS, Driven
-from measuring import KIBIBYTE, argument_parser, print_machine, working_folder
+from drive import FRAMES_OF_ORDER, GTIN, UNITS, Driven
+from measuring import KIBIBYTE
 
 ORDERS = 1000
 BUSES = 4
@@ -227,25 +227,5 @@ def measure_memory(bench):
         raise ValueError("memory grows with the lines")
 
 
-def main():
-    """Measure, and tell whether each order was done and memory stayed flat."""
-    parser = argument_parser(__doc__.splitlines()[0], PROGRAM, 3)
-    arguments = parser.parse_args()
-    print_machine()
-    try:
-        with working_folder(arguments.keep) as folder:
-            folder = pathlib.Path(folder).resolve()
-            bench = Bench(arguments.program.resolve(), folder, arguments.runs)
-            measure_orders(bench)
-            measure_memory(bench)
-    except (OSError, subprocess.CalledProcessError) as error:
-        print(f"a program couldn't be built or run: {error}", file=sys.stderr)
-        return 2
-    except ValueError as error:
-        print(f"a run went wrong: {error}")
-        return 1
-    return 0
-
-
 if __name__ == "__main__":
-    sys.exit(main())
+    sys.exit(drive.status_of(__doc__.splitlines()[0], Bench, measure_orders, measure_memory))

@@ -238,22 +238,34 @@ def acts_on(calls):
             yield from (call.act("torn", length) for length in range(1, 5))
 
 
+def acts_of(desk, scene):
+    """Give the acts at which a run of a scene, from no journal, can be killed."""
+    desk.journal.unlink(missing_ok=True)
+    bus = scene.bus()
+    calls, _ = calls_of(desk, lambda variables: desk.over(bus, environment=variables))
+    return list(acts_on(calls))
+
+
+def kill_at_each(desk, name, acts):
+    """Kill a run of the scene of this name at each of these acts; units and journal are right, and a run ends it."""
+    scene = SCENES[name]
+    for act in acts:
+        desk.journal.unlink(missing_ok=True)
+        bus = scene.bus()
+        try:
+            ended = desk.over(bus, environment=shim(desk, act))
+            want(ended.status, -signal.SIGKILL)
+            judge(bus, scene.banks(), desk.held() if desk.journal.exists() else b"")
+            finish(desk, scene, bus, None if name in CHANGED_BY_KILLS else scene.codes)
+        except Exception as fault:
+            raise AssertionError(f"{name}, with the act {act}") from fault
+
+
 @parts(4)
 def test_kills_at_each_record_and_reply(folder, part, count):
     for name, scene in SCENES.items():
-        desk, bus = desk_of(folder, scene.orders), scene.bus()
-        desk.journal.unlink(missing_ok=True)
-        calls, _ = calls_of(desk, lambda variables: desk.over(bus, environment=variables))
-        for act in list(acts_on(calls))[part::count * min(scene.step, 7)]:
-            desk.journal.unlink(missing_ok=True)
-            bus = scene.bus()
-            try:
-                ended = desk.over(bus, environment=shim(desk, act))
-                want(ended.status, -signal.SIGKILL)
-                judge(bus, scene.banks(), desk.held() if desk.journal.exists() else b"")
-                finish(desk, scene, bus, None if name in CHANGED_BY_KILLS else scene.codes)
-            except Exception as fault:
-                raise AssertionError(f"{name}, with the act {act}") from fault
+        desk = desk_of(folder, scene.orders)
+        kill_at_each(desk, name, acts_of(desk, scene)[part::count * min(scene.step, 7)])
 
 
 def refuse_each_allocation(desk, start, numbers):

@@ -7,14 +7,13 @@ import os
 import pathlib
 import re
 import select
-import signal
 import subprocess
 import termios
 import threading
 import time
 
 import driven
-from drive_calls import acts_on, calls_of, shim
+from drive_calls import acts_of, kill_at_each, shim
 from drive_desk import (
     ABSENT,
     ABSENT_BEGAN,
@@ -35,8 +34,8 @@ from drive_desk import (
     want,
 )
 from drive_report import UNTOLD, blank_bus, kept, lines_of, reporting, unkept
-from drive_units import BLANK, CHANGED_BY_KILLS, SCENES, finish, many_orders
-from driven import HEADER, PATIENCE, Ended, Following, groups_of, judge, simulated_link
+from drive_units import BLANK, SCENES, many_orders
+from driven import HEADER, PATIENCE, Ended, Following, groups_of, simulated_link
 
 LINE = json.dumps(ABSENT[0])
 TAKEN = "reply 1 taken\n" + KEPT_SILENT
@@ -368,20 +367,10 @@ def test_each_allocation_refused(folder, part, _):
 @parts(4)
 def test_kills_at_each_record_and_line(folder, part, count):
     for name in ("lossy", "left"):
-        scene = SCENES[name]
-        desk, bus = following(folder, scene.orders), scene.bus()
-        calls, _ = calls_of(desk, lambda variables: desk.over(bus, environment=variables))
-        acts = [act for act in acts_on(calls) if not act.startswith("read orders") or int(act.split()[2]) % 20 == 1]
-        for act in acts[part::count]:
-            desk.journal.unlink(missing_ok=True)
-            bus = scene.bus()
-            try:
-                ended = desk.over(bus, environment=shim(desk, act))
-                want(ended.status, -signal.SIGKILL)
-                judge(bus, scene.banks(), desk.held() if desk.journal.exists() else b"")
-                finish(desk, scene, bus, None if name in CHANGED_BY_KILLS else scene.codes)
-            except Exception as fault:
-                raise AssertionError(f"{name}, with the act {act}") from fault
+        desk = following(folder, SCENES[name].orders)
+        acts = acts_of(desk, SCENES[name])
+        acts = [act for act in acts if not act.startswith("read orders") or int(act.split()[2]) % 20 == 1]
+        kill_at_each(desk, name, acts[part::count])
 
 
 # Reports, and memory

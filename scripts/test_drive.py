@@ -22,7 +22,16 @@ import drive_units  # noqa: E402
 import drive_upgrade  # noqa: E402
 import suite  # noqa: E402
 
-MODULES = (drive_streams, drive_units, drive_calls, drive_places, drive_report, drive_follow, drive_older, drive_upgrade)
+MODULES = (
+    drive_streams,
+    drive_units,
+    drive_calls,
+    drive_places,
+    drive_report,
+    drive_follow,
+    drive_older,
+    drive_upgrade,
+)
 
 if __name__ == "__main__":
     sys.exit(suite.main(__doc__, MODULES, sys.argv[1:]))

@@ -330,7 +330,7 @@ def test_writers_that_close_the_pipe_end_nothing(folder):
 
 
 def killed_before_it_read(instance, is_closed):
-    """Write two lines that are never read before a kill of all; give the pipe, and close it before where that is said."""
+    """Write two lines that are never read before a kill of all; give the pipe, closed before where that is said."""
     with instance.once():
         pipe = instance.open()
         wait_for(lambda: instance.journal.exists() and instance.journal.stat().st_size == 4)

@@ -94,7 +94,8 @@ module _ {G N : Type 0} (gave : G → G → List Given → Type 0) (contents : N
       }))
 
 -- records behind others that are at rest stand as they do by themselves
-pub standing_behind : (own older : List Record) → standing_of older ≡ Idle → standing_of (own ++ older) ≡ standing_of own
+pub standing_behind : (own older : List Record) → standing_of older ≡ Idle
+    → standing_of (own ++ older) ≡ standing_of own
 standing_behind [] older rests = rests
 standing_behind (newest ∷ own) older rests = ap (λ st. next_standing st newest) (standing_behind own older rests)
 

@@ -44,7 +44,7 @@ fault_unjoined NoMemory = Input Memory
 
 module _ {G N : Type 0} (gave : G → G → List Given → Type 0) (over : G → Type 0) (contents : N → Option (List ℕ))
     (older : JournalState) (before after : Report N) (orders left : G) (first last : Streams) where
-  -- just what was given was followed, up to where no more came, nothing more is to be done, and the report has all of it
+  -- just what was given was followed, up to where no more came, nothing more is to be done, and the report has it all
   pub record FollowsBehind : Type 0 where
     pub writer : WriterState
     pub followed : IsFollowBehind gave over (IsTold contents) older order_limit journal_limit orders first before

@@ -23,8 +23,8 @@ use std::io::Write;
 
 /// Carries out what the journal of a store still asks for, and then the orders that come line by line, over streams
 /// that haven't failed: each line is judged, its order submitted and carried out, and its replies told in `lines`,
-/// before the next is read. A line that is refused is told as `item I fault F NAME`, and changes nothing. The report has
-/// a line for each last reply.
+/// before the next is read. A line that is refused is told as `item I fault F NAME`, and changes nothing. The report
+/// has a line for each last reply.
 ///
 /// It ends where the lines do: as `Refused` where one was refused, or where each last reply has to be `kept 0 Done` and
 /// one isn't. Where their source fails it ends there too, which is told behind all else: 21 File.

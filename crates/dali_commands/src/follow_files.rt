@@ -26,8 +26,8 @@ use std::io::{Read, Write};
 /// Carries out the orders that a file gives line by line, a named pipe as a rule, over a link, with the journal that
 /// another file holds, as `follow_lines` does.
 ///
-/// Its bytes are read one by one, with no buffer: so no byte of a line is taken out of a pipe before it is its turn. The
-/// older journals are read before it is opened.
+/// Its bytes are read one by one, with no buffer: so no byte of a line is taken out of a pipe before it is its turn.
+/// The older journals are read before it is opened.
 ///
 /// No contract tells what a file holds. Whatever the orders' gave, just what these lines give is followed, on these
 /// terms.

@@ -75,8 +75,8 @@ pub struct Unjoined<'a> {
     pub words: Option<String>,
 }
 
-/// The journals of these files as one, each behind those that are named before it; none where none is named. No contract
-/// tells what a file holds.
+/// The journals of these files as one, each behind those that are named before it; none where none is named. No
+/// contract tells what a file holds.
 pub(crate) fn read_older<'a, R: Files<File = File> + AllocGlobal>(
     rt: &R,
     names: &'a [&'a str],

@@ -225,7 +225,8 @@ module _ (older : List Record) where
       unasked = b.unasked;
       given_are = b.given_are;
       driven = driven_whole start (muted first) begun has is (happenings steps) then b.driven;
-      broken = λ rest. off_whole then last (header_then start (muted first) begun has is (happenings steps) then b.driven)
+      broken = λ rest.
+          off_whole then last (header_then start (muted first) begun has is (happenings steps) then b.driven)
           start (happenings steps) (b.unasked ++ rest) fault (b.broken rest);
     }
 
@@ -328,8 +329,8 @@ module _ (older : JournalState) (limit most : ℕ) (first : Streams) (b : IsBegu
       (record { start = start_of b.journal; past = happenings follow.steps }) (bytes_behind older.records left)
   unfolding followed_whole begun_whole
   ended_whole given writer last left follow held =
-      followed_ended (order_count older + limit) room found (record first { journal = Some found }) refl begun_whole given
-      writer (streams_behind older.records last) (bytes_behind older.records left)
+      followed_ended (order_count older + limit) room found (record first { journal = Some found }) refl begun_whole
+      given writer (streams_behind older.records last) (bytes_behind older.records left)
       (followed_whole older.records (start_of b.journal) given (record first { journal = b.begun.middle }) found has_header
       shows_whole writer last follow)
       (ap (whole older.records) held)
@@ -341,8 +342,8 @@ module _ (older : JournalState) (limit most : ℕ) (first : Streams) (b : IsBegu
       (record { start = start_of b.journal; past = past }) (bytes_behind older.records left)
   unfolding broken_whole begun_whole
   broke_whole given fault last follow left between =
-      followed_broken (order_count older + limit) room found (record first { journal = Some found }) refl begun_whole given
-      fault (streams_behind older.records last)
+      followed_broken (order_count older + limit) room found (record first { journal = Some found }) refl begun_whole
+      given fault (streams_behind older.records last)
       (broken_whole older.records (start_of b.journal) given (record first { journal = b.begun.middle }) found has_header
       shows_whole fault last follow)
       (bytes_behind older.records left)

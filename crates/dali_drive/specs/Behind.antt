@@ -87,8 +87,8 @@ BehindFailedAs (Drive fault) store link_out link_in out =
     StoredFailedAs (stored.Drive fault) store link_out link_in out
 
 -- Behind older journals each order acts once: of all that were begun those of the older ones are no others, each that
--- they have gets the reply that they keep for it, or its number is another order's, and the records that the store keeps
--- are a journal by themselves.
+-- they have gets the reply that they keep for it, or its number is another order's, and the records that the store
+-- keeps are a journal by themselves.
 pub record ActsOnceBehind (older : JournalState) (limit : ℕ) (start : Start) (past : List Happening) : Type 0 where
   pub own : List Record
   pub records_are : records_of start past ≡ own ++ older.records

@@ -280,7 +280,8 @@ front_more limit bytes at len orders id code index new_index front more has none
 pub front_repeated : (limit : ℕ) (bytes : List ℕ) (at len orders id : ℕ) (code : Code) (index : List (ℕ × IndexEntry))
     (known : IndexEntry)
     → HoldsOrders limit → IsFront limit bytes at orders index → HasGroup id code len (drop at bytes)
-    → lookup (nat_eq id) index ≡ Some known → IsLoadFault HoldsOrders limit (header Two ++ bytes) (faults.Repeated (4 + at))
+    → lookup (nat_eq id) index ≡ Some known
+    → IsLoadFault HoldsOrders limit (header Two ++ bytes) (faults.Repeated (4 + at))
 front_repeated limit bytes at len orders id code index known is front has found =
     let records : List Record = records_in Two (take at bytes) in
     let sound = front.sound in

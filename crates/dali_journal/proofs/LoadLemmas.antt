@@ -29,7 +29,8 @@ pub fault_of : (version : Version) (fault : JournalFault) (limit : ℕ) (bytes :
     (rest : List ℕ) (at : ℕ) (entry : Record)
     → HoldsOrders limit → HasVersion version bytes → bytes ≡ journal_spelling version records ++ rest
     → at ≡ length (journal_spelling version records) → AreKept version limit records
-    → BeginsWith version rest entry → IsRecordRefused fault limit at records entry → IsLoadFault HoldsOrders limit bytes fault
+    → BeginsWith version rest entry → IsRecordRefused fault limit at records entry
+    → IsLoadFault HoldsOrders limit bytes fault
 fault_of version faults.Limit limit bytes records rest at entry i v s p k b f = absurd f
 fault_of version faults.NoMemory limit bytes records rest at entry i v s p k b f = i
 fault_of version faults.Header limit bytes records rest at entry i v s p k b f = absurd f

@@ -44,13 +44,15 @@ past_the_most limit = omega (arith, limit.1)
 pub limit_is_the_fault : IsLoadFault IsLimit 0 [] faults.Limit × IsLoadFault IsLimit 100001 [] faults.Limit
 limit_is_the_fault = (none_within, past_the_most)
 
-pub no_want_of_memory : (IsLoadFault IsLimit 0 [] faults.NoMemory → ⊥) × (IsLoadFault IsLimit 100001 [] faults.NoMemory → ⊥)
+pub no_want_of_memory :
+    (IsLoadFault IsLimit 0 [] faults.NoMemory → ⊥) × (IsLoadFault IsLimit 100001 [] faults.NoMemory → ⊥)
 no_want_of_memory = (none_within, past_the_most)
 
 pub no_want_of_memory_for_a_new_one : (IsNewFault 0 faults.NoMemory → ⊥) × (IsNewFault 100001 faults.NoMemory → ⊥)
 no_want_of_memory_for_a_new_one = (none_within, past_the_most)
 
-pub memory_may_be_wanted_within : IsLoadFault IsLimit 1 [] faults.NoMemory × IsLoadFault IsLimit 100000 [] faults.NoMemory
+pub memory_may_be_wanted_within :
+    IsLoadFault IsLimit 1 [] faults.NoMemory × IsLoadFault IsLimit 100000 [] faults.NoMemory
 memory_may_be_wanted_within = ((omega arith, omega arith), (omega arith, omega arith))
 
 -- behind older journals a journal may hold their orders too, but some order at least

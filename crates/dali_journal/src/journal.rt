@@ -183,7 +183,8 @@ impl Journal {
         requires version { HasVersion One bytes.now }
         ensures ok { IfOk result (λ loaded. IsLoaded self.limit bytes.now loaded.0 loaded.1 loaded.2) }
         ensures err { IfErr result (λ fault. IsLoadFault HoldsOrders self.limit bytes.now fault) }
-        ensures torn { IfErr result (λ fault. IsLoadableWithin HoldsOrders self.limit bytes.now → fault ≡ JournalFault.NoMemory) }
+        ensures torn { IfErr result (λ fault. IsLoadableWithin HoldsOrders self.limit bytes.now
+            → fault ≡ JournalFault.NoMemory) }
     {
         match self.take_rest(Version::One, 0, bytes) {
             Ok(len) => Ok((self, len, Version::One)),

@@ -51,7 +51,8 @@ LeavesAlike limit seen before c = before c ⊎ LoadsAlike limit seen c
 -- a store that failed holds the same bytes, or bytes of the same records.
 abbrev pub IsOpenFault : ℕ → ℕ → Option (List ℕ) → Option (List ℕ) → OpenFault → Type 0
 IsOpenFault limit most old new (Journal fault) =
-    ((bytes : List ℕ) × Shows old bytes × (length bytes ≤ most) × IsLoadFault HoldsOrders limit bytes fault) × Keeps old new
+    ((bytes : List ℕ) × Shows old bytes × (length bytes ≤ most) × IsLoadFault HoldsOrders limit bytes fault)
+    × Keeps old new
 IsOpenFault limit most old new (Store TooBig) = IsLonger most old × Keeps old new
 IsOpenFault limit most old new (Store NoMemory) = Keeps old new
 IsOpenFault limit most old new (Store Failed) = Keeps old new ⊎ StaysAlike limit old new

@@ -15,7 +15,8 @@ returns-in-Ok-follow-clause-followed g c = record {
     journal = c.in-Ok-behind.whole;
     kept = c.limit-most.ensures.journal.kept;
     records_are = c.in-Ok-behind.ensures.records;
-    limit_is = c.in-Ok-behind.ensures.limit ∙ ap (λ n. order_count c.args.older + n) c.in-Ok.ensures.journal.found.loaded.0;
+    limit_is = c.in-Ok-behind.ensures.limit
+        ∙ ap (λ n. order_count c.args.older + n) c.in-Ok.ensures.journal.found.loaded.0;
   };
   observed = rw c.new.ensures.journal at c.in-Ok-follow.ensures.followed;
 }
@@ -32,7 +33,8 @@ returns-in-Err-follow-clause-broken g c = record {
     journal = c.in-Ok-behind.whole;
     kept = c.limit-most.ensures.journal.kept;
     records_are = c.in-Ok-behind.ensures.records;
-    limit_is = c.in-Ok-behind.ensures.limit ∙ ap (λ n. order_count c.args.older + n) c.in-Ok.ensures.journal.found.loaded.0;
+    limit_is = c.in-Ok-behind.ensures.limit
+        ∙ ap (λ n. order_count c.args.older + n) c.in-Ok.ensures.journal.found.loaded.0;
   };
   observed = rw c.new.ensures.journal at c.in-Err-follow.ensures.broken;
 }

@@ -53,7 +53,7 @@ pub whole_of_two : (older : JournalState) (most : ℕ) (first : Streams) (b : Is
     → (b.journal.records ≡ own_records ++ older_records) × (b.journal.limit ≡ 11)
 whole_of_two older most first b there here = (
   b.records_are ∙ ap (λ (rs : List Record). rs ++ older.records) here
-  ∙ ap (λ (rs : List Record). own_records ++ rs) there,
+      ∙ ap (λ (rs : List Record). own_records ++ rs) there,
   b.limit_is ∙ ap (λ (rs : List Record). length (orders_of rs) + 10) there,
 )
 

@@ -21,7 +21,6 @@ mod job;
 #[cfg(test)]
 mod journal;
 #[cfg(test)]
-mod older_memory;
 #[cfg(test)]
 mod run_scenario;
 #[cfg(test)]

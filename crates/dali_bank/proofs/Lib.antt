@@ -1,4 +1,5 @@
 pub mod GtinLemmas
+pub mod ListLemmas
 pub mod NumberLemmas
 pub mod TextLemmas
 pub mod IdentificationLemmas

@@ -1,3 +1,4 @@
+pub mod ByteLemmas
 pub mod OpenLemmas
 pub mod ChainLemmas
 pub mod UnenabledLemmas

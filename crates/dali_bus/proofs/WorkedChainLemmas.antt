@@ -1,4 +1,5 @@
--- Chains of numbers, each event of which adds to the state: near the edges of what a chain is, and of what holds along it.
+-- Chains of numbers, each event of which adds to the state: near the edges of what a chain is, and of what holds along
+-- it.
 use Rattle.std.proofs.Common.{◌≡◌, refl, ℕ, ◌+◌, List, [], ◌∷◌, length}
 use Rattle.dali_bus.specs.Chain.{IsChain, AtEachState, AtEachMoment}
 

@@ -9,6 +9,7 @@ use Rattle.dali_bus.specs.Hears.{Hears, Obeys, Stores, PassesBy, MayEnd}
 use Rattle.dali_bus.specs.Carry.{Carry, MayHear}
 use Rattle.dali_bus.specs.Power.{PowersUp, LosesPower}
 use Rattle.dali_bus.specs.WorkedFrames.{at_the_end, small, moved, written, pair, started, with_locks, two_places}
+use Rattle.dali_bus.proofs.ByteLemmas.{same_byte}
 
 -- what may be
 
@@ -51,9 +52,6 @@ pub does_anything_with_others : (word : ℕ) (answer : Option ℕ) (old new : Ge
 does_anything_with_others word answer old new = record { obeyed = new; obeys = tt; ends = inl refl }
 
 -- what may not
-
-same_byte : (a b : ℕ) → Some a ≡ Some b → a ≡ b
-same_byte a b e = cc
 
 memory_kept : (old new : Gear) → MayEnd old new → new.memory ≡ old.memory
 memory_kept old new (inl same) = ap (λ (g : Gear). g.memory) same

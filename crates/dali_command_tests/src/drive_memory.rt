@@ -137,7 +137,8 @@ static REPORTS: [Reported<'static>; 7] = [
         answers: NONE_16,
         require_done: false,
         status: Status::Good,
-        report: "{\"code\":3,\"ended\":\"now\",\"frames\":16,\"misses\":8,\"moment\":7,\"name\":\"Silent\",\"order\":1,\"reply\":\"kept 3 Silent\",\"unit\":9}\n",
+        report: "{\"code\":3,\"ended\":\"now\",\"frames\":16,\"misses\":8,\"moment\":7,\
+            \"name\":\"Silent\",\"order\":1,\"reply\":\"kept 3 Silent\",\"unit\":9}\n",
     },
     Reported {
         name: "an order that wasn't done, where it has to be",
@@ -146,7 +147,8 @@ static REPORTS: [Reported<'static>; 7] = [
         answers: NONE_16,
         require_done: true,
         status: Status::Refused,
-        report: "{\"code\":3,\"ended\":\"now\",\"frames\":16,\"misses\":8,\"moment\":7,\"name\":\"Silent\",\"order\":1,\"reply\":\"kept 3 Silent\",\"unit\":9}\n",
+        report: "{\"code\":3,\"ended\":\"now\",\"frames\":16,\"misses\":8,\"moment\":7,\
+            \"name\":\"Silent\",\"order\":1,\"reply\":\"kept 3 Silent\",\"unit\":9}\n",
     },
     Reported {
         name: "an order that the journal had ended",
@@ -155,7 +157,8 @@ static REPORTS: [Reported<'static>; 7] = [
         answers: "",
         require_done: false,
         status: Status::Good,
-        report: "{\"code\":3,\"ended\":\"before\",\"frames\":0,\"misses\":0,\"moment\":0,\"name\":\"Silent\",\"order\":1,\"reply\":\"kept 3 Silent\",\"unit\":9}\n",
+        report: "{\"code\":3,\"ended\":\"before\",\"frames\":0,\"misses\":0,\"moment\":0,\
+            \"name\":\"Silent\",\"order\":1,\"reply\":\"kept 3 Silent\",\"unit\":9}\n",
     },
     Reported {
         name: "an order that is gone on with, and comes again",
@@ -164,7 +167,10 @@ static REPORTS: [Reported<'static>; 7] = [
         answers: NONE_16,
         require_done: false,
         status: Status::Good,
-        report: "{\"code\":3,\"ended\":\"now\",\"frames\":16,\"misses\":8,\"moment\":0,\"name\":\"Silent\",\"order\":1,\"reply\":\"kept 3 Silent\",\"unit\":9}\n{\"code\":3,\"ended\":\"now\",\"frames\":0,\"misses\":0,\"moment\":0,\"name\":\"Silent\",\"order\":1,\"reply\":\"kept 3 Silent\",\"unit\":9}\n",
+        report: "{\"code\":3,\"ended\":\"now\",\"frames\":16,\"misses\":8,\"moment\":0,\
+            \"name\":\"Silent\",\"order\":1,\"reply\":\"kept 3 Silent\",\"unit\":9}\n\
+            {\"code\":3,\"ended\":\"now\",\"frames\":0,\"misses\":0,\"moment\":0,\
+            \"name\":\"Silent\",\"order\":1,\"reply\":\"kept 3 Silent\",\"unit\":9}\n",
     },
     Reported {
         name: "a number that was used",
@@ -173,7 +179,8 @@ static REPORTS: [Reported<'static>; 7] = [
         answers: "",
         require_done: true,
         status: Status::Refused,
-        report: "{\"code\":null,\"ended\":null,\"frames\":0,\"misses\":0,\"moment\":0,\"name\":null,\"order\":1,\"reply\":\"reused\",\"unit\":8}\n",
+        report: "{\"code\":null,\"ended\":null,\"frames\":0,\"misses\":0,\"moment\":0,\
+            \"name\":null,\"order\":1,\"reply\":\"reused\",\"unit\":8}\n",
     },
     Reported {
         name: "an answer that is none",

@@ -53,7 +53,8 @@ static STREAMS: [Stream<'static>; 11] = [
     },
     // An order of its own moment, and the same order again, at the end of a stream that ends in mid-line.
     Stream {
-        lines: "{\"submit\":{\"order\":1,\"unit\":9,\"gtin\":\"4006381333931\"},\"moment\":0}\n\r\n{\"order\":1,\"unit\":9,\"gtin\":\"4006381333931\"}",
+        lines: "{\"submit\":{\"order\":1,\"unit\":9,\"gtin\":\"4006381333931\"},\"moment\":0}\n\r\n\
+            {\"order\":1,\"unit\":9,\"gtin\":\"4006381333931\"}",
         behind: Behind::Nothing,
         journal: &[],
         answers: NONE_16,
@@ -116,7 +117,8 @@ static STREAMS: [Stream<'static>; 11] = [
         answers: NONE_16,
         require_done: false,
         status: Status::Failed,
-        told: "reply 1 taken\nreply 1 kept 3 Silent\nerror: the file can't be used: orders: broken pipe\nfault 21 File\n",
+        told: "reply 1 taken\nreply 1 kept 3 Silent\n\
+            error: the file can't be used: orders: broken pipe\nfault 21 File\n",
         kept: &SILENT_AT_7,
         left: 0,
     },

@@ -381,8 +381,8 @@ journal 37
 
 // Units that nothing happens to.
 const STILL: &str =
-    r#"{"limit":10,"units":[{"address":6,"bank":"10FFFFFFFFFFFFFFFFFFFFFFFFFFFFFFFF"},{"address":5,"bank":"10FFFFFFFFFFFFFFFFFFFFFFFFFFFFFFFF"}],
-"events":[]}
+    r#"{"limit":10,"units":[{"address":6,"bank":"10FFFFFFFFFFFFFFFFFFFFFFFFFFFFFFFF"},
+{"address":5,"bank":"10FFFFFFFFFFFFFFFFFFFFFFFFFFFFFFFF"}],"events":[]}
 ----
 total 0
 journal 4

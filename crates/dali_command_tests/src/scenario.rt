@@ -42,9 +42,9 @@ const REFUSED: &str = r#"{"limit":0,"units":[],"events":[]}|run fault 1 Limit
 {"limit":10,"units":[{"address":5,"fixed":[5,5]}],"events":[]}|unit 1 fault 3 Fixed
 {"limit":10,"units":[{"address":5,"fixed":[6,5]}],"events":[]}|unit 1 fault 3 Fixed
 {"limit":10,"units":[{"address":5,"fixed":[256]}],"events":[]}|fault 12 Document
-{"limit":10,"units":[{"address":5,"bank":"10FFFFFFFFFFFFFFFFFFFFFFFFFFFFFFFF","dtr":[1,2]}],"events":[]}|fault 12 Document
-{"limit":10,"units":[{"address":5,"bank":"10FFFFFFFFFFFFFFFFFFFFFFFFFFFFFFFF","dtr":[1,2,3,4]}],"events":[]}|fault 12 Document
-{"limit":10,"units":[{"address":5,"bank":"10FFFFFFFFFFFFFFFFFFFFFFFFFFFFFFFF","dtr":[1,2,256]}],"events":[]}|fault 12 Document
+{"limit":10,"units":[{"address":5,"dtr":[1,2]}],"events":[]}|fault 12 Document
+{"limit":10,"units":[{"address":5,"dtr":[1,2,3,4]}],"events":[]}|fault 12 Document
+{"limit":10,"units":[{"address":5,"dtr":[1,2,256]}],"events":[]}|fault 12 Document
 {"limit":10,"units":[],"events":[],"fates":[{"times":20000},{}]}|fault 13 TooBig
 {"limit":10,"units":[],"events":[],"fates":[{"times":0}]}|fault 12 Document
 {"limit":10,"units":[],"events":[],"fates":[{"times":20001}]}|fault 12 Document
@@ -111,8 +111,8 @@ const REFUSED: &str = r#"{"limit":0,"units":[],"events":[]}|run fault 1 Limit
 {"limit":0,"units":[{"address":5},{"address":5}],"events":[]}|gear fault 5 SameAddress
 {"limit":0,"units":[{"address":5}],"events":[{"submit":{"order":1}}]}|event 1 fault 9 Shape
 {"limit":4294967296,"units":[{"address":5}],"events":[{"submit":{"order":1}}]}|event 1 fault 9 Shape
-{"limit":10,"units":[{"address":5}],"events":[{"submit":{"order":2,"unit":5,"gtin":"4006381333932"}},{"submit":{"order":1}}]}|event 1 fault 4 Gtin
-{"limit":10,"units":[{"address":5}],"events":[{"submit":{"order":1,"unit":5,"gtin":"4006381333931"}},{"steps":500},{"submit":{"order":2,"unit":5,"gtin":"4006381333932"}}]}|event 3 fault 4 Gtin
+{"limit":1,"units":[],"events":[{"submit":{"order":2,"unit":5,"year":100}},{"submit":{}}]}|event 1 fault 3 Range
+{"limit":1,"units":[],"events":[{"submit":{"order":1,"unit":5,"cri":9}},{"stop":0},{"submit":{}}]}|event 3 fault 9 Shape
 "#;
 
 // Scenarios with no unit, in which nothing happens.

@@ -56,8 +56,8 @@ impl Read for TestReader<'_> {
     }
 }
 
-/// A writer that holds all, or with a `room` so many bytes, and then fails once: at the next byte, or where none comes at
-/// the flush. What is written after that it takes, so that it shows.
+/// A writer that holds all, or with a `room` so many bytes, and then fails once: at the next byte, or where none comes
+/// at the flush. What is written after that it takes, so that it shows.
 #[derive(Drop)]
 pub struct TestWriter {
     pub held: Vec<u8>,

@@ -36,7 +36,8 @@ use Rattle.dali_text.proofs.StreamLemmas.{appends_both, appends_kept}
 module _ {N : Type 0} (contents : N → Option (List ℕ)) (moment : ℕ) (require_done : Bool) (before after : Report N)
     (orders : List Contents) (first last : Streams) (replies : Option (List ℕ)) (leaves leaves_then : List ℕ → Type 0)
     (fault : StoredFault) (status : Status)
-    (ends : EndsObserved (IsTold contents) (IsToldEnd contents) order_limit journal_limit (at_moment moment orders) fault first
+    (ends : EndsObserved (IsTold contents) (IsToldEnd contents) order_limit journal_limit
+    (at_moment moment orders) fault first
     leaves before (record last { out = replies }) leaves_then after) where
   -- the journal wasn't opened, and its fault was told
   pub ends_unopened : (why : OpenFault) → fault ≡ stored.Open why
@@ -44,7 +45,8 @@ module _ {N : Type 0} (contents : N → Option (List ℕ)) (moment : ℕ) (requi
       → IsDriveAnswer contents moment require_done before after orders first status last
   ends_unopened why is told =
       let end = subst (λ (f : StoredFault). EndsObserved (IsTold contents) (IsToldEnd contents) order_limit
-      journal_limit (at_moment moment orders) f first leaves before (record last { out = replies }) leaves_then after) is ends in
+      journal_limit (at_moment moment orders) f first leaves before (record last { out = replies }) leaves_then after)
+      is ends in
       inr (inl (record { fault = why; replies = replies; unopened = end.0.0; told = told; unreported = end.1 }))
 
   -- it broke off, and its fault was told
@@ -52,7 +54,8 @@ module _ {N : Type 0} (contents : N → Option (List ℕ)) (moment : ℕ) (requi
       → IsDriveAnswer contents moment require_done before after orders first status last
   ends_broken why is told =
       let end = subst (λ (f : StoredFault). EndsObserved (IsTold contents) (IsToldEnd contents) order_limit
-      journal_limit (at_moment moment orders) f first leaves before (record last { out = replies }) leaves_then after) is ends in
+      journal_limit (at_moment moment orders) f first leaves before (record last { out = replies }) leaves_then after)
+      is ends in
       inr (inr (record {
         fault = why;
         replies = replies;

@@ -15,7 +15,7 @@ use Rattle.dali_commands.specs.declared.fault.Status.{Status}
 use Rattle.dali_commands.specs.declared.fault.Status.TheVariants.{Good}
 use Rattle.dali_commands.specs.FrameAnswers.{AreFourDigits}
 use Rattle.dali_commands.specs.Notes.{IsNotedAnswer}
-use Rattle.dali_commands.proofs.NoteLemmas.{appends_nothing}
+use Rattle.std.proofs.KnownBytes.{Appends-nil}
 
 -- what std reads of four bytes that don't begin with a plus is a word exactly where they are digits
 pub four_digits : {E : Type 0} (text : List ℕ) (r : Result ℕ E) → length text ≡ 4 → get_or text 0 0 ≢ 43
@@ -37,6 +37,6 @@ pub word_noted : {E N : Type 0} (word : ℕ) (before now : Option (List ℕ)) (c
 word_noted word before now contents notes (Ok status) (good, frame, spelled, told) = (
   frame_line word frame,
   told,
-  λ unfailed. (unfailed, ([], inl (good, refl), appends_nothing (held contents notes))),
+  λ unfailed. (unfailed, ([], inl (good, refl), Appends-nil (held contents notes))),
 )
 word_noted word before now contents notes (Err e) line = tt

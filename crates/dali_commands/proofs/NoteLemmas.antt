@@ -1,5 +1,5 @@
 -- Lemmas on what a person is told beside what is written.
-use Rattle.std.proofs.Common.{◌≡◌, ◌⊎◌, ℕ, suc, ◌+◌, List, [], ◌∷◌, ◌++◌, Option, None, Some, Result, Ok, Err, IfOk, OnOk}
+use Rattle.std.proofs.Common.{◌≡◌, ◌⊎◌, ℕ, suc, ◌+◌, List, [], ◌∷◌, ◌++◌, Option, Result, Ok, Err, IfOk, OnOk}
 use Rattle.std.proofs.Common.{length, inr, refl, ap, sym, ◌∙◌, arith, append_assoc, append-nil, add-zero, subst}
 use Rattle.std.specs.Io.KnownBytes.{Appends}
 use Rattle.dali_text.specs.declared.output.Output.{Output}
@@ -10,11 +10,6 @@ use Rattle.dali_commands.specs.declared.fault.Fault.{Fault}
 use Rattle.dali_commands.specs.declared.fault.Status.{Status}
 use Rattle.dali_commands.specs.Faults.{told_line}
 use Rattle.dali_commands.specs.Notes.{AreItemNotes, IsFaultNote, IsItemNote, IsNotedFault}
-
--- nothing is appended
-pub appends_nothing : (a : Option (List ℕ)) → Appends a a []
-appends_nothing None = tt
-appends_nothing (Some xs) = sym (append-nil xs)
 
 -- the notes of one item more
 are_one_more : (i : ℕ) (xs : List Outcome) (x : Outcome) (note here : List ℕ)

@@ -15,7 +15,7 @@ use Rattle.dali_input.proofs.OrderLemmas.{judges_one_more}
 use Rattle.dali_commands.specs.declared.fault.Status.TheVariants.{Refused}
 use Rattle.dali_commands.specs.Report.{item_lines, lines_from, refused_count, report_status}
 use Rattle.dali_text.proofs.StreamLemmas.{appends_both}
-use Rattle.dali_commands.proofs.NoteLemmas.{appends_nothing}
+use Rattle.std.proofs.KnownBytes.{Appends-nil}
 
 -- the items so far, what became of them, what was written of them, and what was noted of them beside
 pub record SoFar (ds : Items) (n accepted refused : ℕ) (before now : Option (List ℕ)) (Noted : List Outcome → Type 0)
@@ -39,7 +39,7 @@ none_yet before Noted noted = record {
   all = refl;
   good = refl;
   bad = refl;
-  written = appends_nothing before;
+  written = Appends-nil before;
   noted = noted;
 }
 

@@ -20,8 +20,8 @@ use Rattle.dali_text.specs.declared.output.Output.{Output}
 use Rattle.dali_text.specs.Output.{held}
 use Rattle.dali_notes.specs.Notes.{Tells}
 use Rattle.dali_commands.specs.Notes.{IsNotedAnswer}
-use Rattle.dali_commands.proofs.NoteLemmas.{appends_nothing}
 use Rattle.dali_commands.specs.RunAnswers.{IsRan, IsRunAnswer, IsUnderstood, IsUnrun}
+use Rattle.std.proofs.KnownBytes.{Appends-nil}
 
 -- a fault of the run, which tells Limit only where the limit is none
 pub not_run : (before after : InputState) (planned : Planned) (bus : SimState) (all : List Event) (fault : RunFault)
@@ -68,5 +68,5 @@ pub run_noted : {E N : Type 0} (text : List ℕ) (before now : Option (List ℕ)
     → IfOk r (λ status. (written : List ℕ) × Appends before now written
     × Tells contents notes notes (IsNotedAnswer status written))
 run_noted text before now contents notes (Ok status) (good, told) =
-    (text, told, λ unfailed. (unfailed, ([], inl (good, refl), appends_nothing (held contents notes))))
+    (text, told, λ unfailed. (unfailed, ([], inl (good, refl), Appends-nil (held contents notes))))
 run_noted text before now contents notes (Err e) told = tt

@@ -40,7 +40,8 @@ module _ {N : Type 0} (contents : N → Option (List ℕ)) (moment : ℕ) (requi
   -- all the orders were asked at this moment, nothing more is to be done, and the report has all of it
   pub record EndsWell : Type 0 where
     pub writer : WriterState
-    pub driven : IsStoredObserved (IsTold contents) order_limit journal_limit (at_moment moment orders) first before writer last
+    pub driven : IsStoredObserved (IsTold contents) order_limit journal_limit
+        (at_moment moment orders) first before writer last
         after
     pub status_is : status ≡ ended_status require_done (all_done driven.observed.drive.past)
 
@@ -53,12 +54,13 @@ module _ {N : Type 0} (contents : N → Option (List ℕ)) (moment : ℕ) (requi
     pub told : IsFileFaultTold (fault_unopened fault) status replies last.out
     pub unreported : after ≡ before
 
-  -- the drive broke off, its fault was told, and the report has what there was; what a stop may leave of the journal then
-  -- is not said here
+  -- the drive broke off, its fault was told, and the report has what there was; what a stop may leave of the journal
+  -- then is not said here
   pub record EndsBroken : Type 0 where
     pub fault : DriveFault
     pub replies : Option (List ℕ)
-    pub broken : IsStoredBreak (IsTold contents) (IsToldEnd contents) order_limit journal_limit (at_moment moment orders) fault
+    pub broken : IsStoredBreak (IsTold contents) (IsToldEnd contents) order_limit journal_limit
+        (at_moment moment orders) fault
         first before (record last { out = replies }) after (λ left. ⊥)
     pub told : IsFaultTold fault status replies last.out
 

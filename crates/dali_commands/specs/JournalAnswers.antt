@@ -47,7 +47,8 @@ pub record IsNoJournal (input : List ℕ) (status : Status) (text : List ℕ) : 
 
 -- what is answered and written of an input that was read
 abbrev pub TellsInput : Bool → List ℕ → Status → List ℕ → Type 0
-TellsInput with_updates input status text = IsJournalReport with_updates input status text ⊎ IsNoJournal input status text
+TellsInput with_updates input status text =
+    IsJournalReport with_updates input status text ⊎ IsNoJournal input status text
 
 -- what `journal` answers and writes, by what the reader had before and has after it
 abbrev pub IsJournalAnswer : Bool → InputState → InputState → Status → List ℕ → Type 0

@@ -39,7 +39,8 @@ module _ (answers : List Contents → Streams → Status → Streams → Type 0)
   IsInputAnswer input =
       ((orders : List Contents) × AreOrdersIn input orders × answers orders first status last)
       ⊎ (EndsRefused input first status last × unreported)
-      ⊎ ((fault : InputFault) × IsInputFault orders_limit input fault × EndsUndriven fault first status last × unreported)
+      ⊎ ((fault : InputFault) × IsInputFault orders_limit input fault × EndsUndriven fault first status last
+      × unreported)
 
   -- the same by what the reader of the orders had before and has after it
   abbrev pub IsReaderAnswer : InputState → InputState → Type 0

@@ -29,9 +29,9 @@ use std::io::{Read, Write};
 ///
 /// Where a call of the output fails later ones write nothing more to it, and it ends as `Unwritten`.
 ///
-/// A person is told in `notes` where the input or an item is wrong and what its rule is, and which items have the number
-/// of an earlier one that is another order (the writer replies `reused`). Whatever becomes of the notes, the answer is
-/// the same.
+/// A person is told in `notes` where the input or an item is wrong and what its rule is, and which items have the
+/// number of an earlier one that is another order (the writer replies `reused`). Whatever becomes of the notes, the
+/// answer is the same.
 pub fn check<R: Read, W: Write, N: Write>(
     alloc: Global,
     input: &mut Input<R>,

@@ -15,12 +15,12 @@ ghost use Rattle.dali_commands.specs.JournalAnswers.{order_limit};
 use crate::behind::drive_orders_behind;
 use crate::drive_lines::{Causes, tell_fault, tell_refused, tell_unopened, tell_unread};
 use crate::fault::Status;
-use crate::journal::{JOURNAL_LIMIT, MOST_ORDERS};
+use crate::journal::JOURNAL_LIMIT;
 use crate::lines::Lines;
 use dali_bank::Order;
 use dali_drive::{Sink, Source, StoredFault, drive_stored_observed};
 use dali_input::{Input, ORDERS_LIMIT, read_input, read_orders};
-use dali_journal::Journal;
+use dali_journal::{Journal, MOST_ORDERS};
 use dali_report::Report;
 use dali_store::Store;
 use std::alloc::Global;
@@ -176,8 +176,8 @@ fn drive_bytes<I: Source, L: Sink, S: Store, W: Write, N: Write + Drop>(
 }
 
 /// Carries out what the journal of a store still asks for, and then the orders one after the other, over streams that
-/// haven't failed. Each reply has its line in `lines`, and so has the fault that ends it; the report has a line for each
-/// last reply. It ends as `Refused` where each last reply has to be `kept 0 Done` and one isn't.
+/// haven't failed. Each reply has its line in `lines`, and so has the fault that ends it; the report has a line for
+/// each last reply. It ends as `Refused` where each last reply has to be `kept 0 Done` and one isn't.
 ///
 /// Nothing is sent where no journal is opened, for at most 100000 orders and of at most 33554432 bytes: 13 TooBig, 7
 /// Header, 3 Record, 4 Sequence, 5 Repeated, 6 Full, 20 Memory or 21 File. A drive breaks off at 1 Journal, 2 Link, 3

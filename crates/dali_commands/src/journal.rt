@@ -10,7 +10,7 @@ ghost use Rattle.dali_commands.specs.Notes.{IsNotedAnswer};
 use crate::fault::{Fault, Status};
 use crate::notes::write_noted_failure;
 use dali_input::{Input, InputFault, read_input};
-use dali_journal::{Journal, Version};
+use dali_journal::{Journal, MOST_ORDERS, Version};
 use dali_notes::{Kind, Note, note_of_journal, note_of_size};
 use dali_text::{Output, OutputFailed, write_journal};
 use std::alloc::Global;
@@ -18,9 +18,6 @@ use std::io::{Read, Write};
 
 /// The most bytes of a journal.
 pub const JOURNAL_LIMIT: u32 = 33_554_432;
-
-/// The most orders of a journal that a file holds.
-pub const MOST_ORDERS: u32 = 100_000;
 
 /// Reads a writer's journal, and writes its version, a line for each whole record, the oldest first, then
 /// how many bytes count of all, how many orders were begun, and the standing. The journal may end in a cut

@@ -18,6 +18,7 @@ use dali_gear::SimBus;
 use dali_input::{
     Input, InputFault, Scenario, Setup, SetupFault, json_of, read_input, scenario_of, setup_of,
 };
+use dali_journal::MOST_ORDERS;
 use dali_notes::{Note, note_of_json, note_of_scenario, note_of_setup};
 use dali_text::{Output, OutputFailed, write_run};
 use dali_writer::{Outcome, RunFault, run_sim};
@@ -46,8 +47,8 @@ struct Ran {
 ///
 /// Where a call of the output fails later ones write nothing more to it, and it ends as `Unwritten`.
 ///
-/// A person is told in `notes` where the scenario is wrong and what its rule is. Whatever becomes of the notes, the answer
-/// is the same.
+/// A person is told in `notes` where the scenario is wrong and what its rule is. Whatever becomes of the notes, the
+/// answer is the same.
 pub fn run_scenario<R: Read, W: Write, N: Write>(
     alloc: Global,
     input: &mut Input<R>,
@@ -172,7 +173,7 @@ fn setup_noting(
 // Adds what a limit may be, where the fault is that it is none.
 fn note_limit(note: &mut Note, fault: Fault) {
     if fault == Fault::Run(RunFault::Limit) {
-        note.add("limit: a journal has from 1 to 100000 orders");
+        note.add(format_args!("limit: a journal has from 1 to {MOST_ORDERS} orders"));
     }
 }
 

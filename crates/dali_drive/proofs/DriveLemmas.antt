@@ -157,7 +157,8 @@ pub replied_at : (start : Start) (past : List Happening) (old new : WriterState)
     (j l a o more : Option (List ℕ)) (order : Contents) (moment : ℕ) (reply : Reply)
     → IsDrivenAt start past old first (shown j l a o) → is_busy start past ≡ false
     → Describes start (Answered order.id reply ∷ Asked order moment ∷ past) new
-    → Follows start (Answered order.id reply ∷ Asked order moment ∷ past) new → Appends o more (reply_line order.id reply)
+    → Follows start (Answered order.id reply ∷ Asked order moment ∷ past) new
+    → Appends o more (reply_line order.id reply)
     → IsDrivenAt start (Answered order.id reply ∷ Asked order moment ∷ past) new first (shown j l a more)
 replied_at start past old new first j l a o more order moment reply d quiet described follows added = record {
   driven =
@@ -186,10 +187,11 @@ at_append moment (x ∷ xs) ys = ap (λ (rest : List (Contents × ℕ)). (x, mom
 abbrev pub IsCut : Option (List ℕ) → Option (List ℕ) → List ℕ → Type 0
 IsCut old new bytes = (k : ℕ) × (k ≤ length bytes) × Appends old new (take k bytes)
 
-part_of_it : (old new : Option (List ℕ)) (bytes : List ℕ) → IsCut old new bytes → AppendsPart old new bytes
+pub part_of_it : (old new : Option (List ℕ)) (bytes : List ℕ) → IsCut old new bytes → AppendsPart old new bytes
 part_of_it old new bytes cut = record { count = cut.0; within = cut.1; part = cut.2 }
 
-pub breaks_record : (start : Start) (past : List Happening) (rest : List (Contents × ℕ)) (j more l a o : Option (List ℕ))
+pub breaks_record : (start : Start) (past : List Happening) (rest : List (Contents × ℕ))
+    (j more l a o : Option (List ℕ))
     (entry : Record)
     → IsNext start past (Kept entry)
     → IsRecord Two entry → IsCut j more (spelling Two entry)
@@ -244,7 +246,8 @@ told_of_end End told told_end start past old new frame text next broken taken is
 told_of_end TooLong told told_end start past old new frame text next broken taken is =
     record { frame = frame; text = text; next = next; taken = taken; told = is }
 
-pub breaks_saying : (start : Start) (past : List Happening) (rest : List (Contents × ℕ)) (j l a o more : Option (List ℕ))
+pub breaks_saying : (start : Start) (past : List Happening) (rest : List (Contents × ℕ))
+    (j l a o more : Option (List ℕ))
     (id : ℕ) (reply : Reply)
     → IsNext start past (Answered id reply)
     → IsCut o more (reply_line id reply) → BrokenOff start past rest Out (shown j l a o) (shown j l a more)

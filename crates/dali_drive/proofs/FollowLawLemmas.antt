@@ -115,15 +115,18 @@ module _ (limit most : ℕ) (found : List ℕ) (first : Streams) (is : first.jou
   module _ (given : List Given) (steps : List Step) (then last : Streams) (left : List ℕ)
       (between : IsBetween then.journal last.journal left) where
     abbrev pub Sat : Type 0
-    Sat = (past : List Happening) × HasSat limit most found (record { start = start_of begun.journal; past = past }) left
+    Sat = (past : List Happening) × HasSat limit most found
+        (record { start = start_of begun.journal; past = past }) left
 
     of_order : (fault : DriveFault)
-        → BrokenOrder (start_of begun.journal) steps given fault (record first { journal = begun.middle }) then last → Sat
+        → BrokenOrder (start_of begun.journal) steps given fault (record first { journal = begun.middle }) then last
+        → Sat
     unfolding as_broken
     of_order fault b =
         let sat =
         some_broken limit most found (muted first) last is begun_so (reverse (submitted given)) fault
-        (as_broken (start_of begun.journal) steps given fault (record first { journal = begun.middle }) then last b) left
+        (as_broken (start_of begun.journal) steps given fault (record first { journal = begun.middle }) then last b)
+        left
         between in
         (sat.0, inr (inl sat.1))
 
@@ -150,7 +153,8 @@ module _ (limit most : ℕ) (found : List ℕ) (first : Streams) (is : first.jou
         )
 
     of_step : (fault : DriveFault)
-        → BrokenStep (start_of begun.journal) steps given fault (record first { journal = begun.middle }) then last → Sat
+        → BrokenStep (start_of begun.journal) steps given fault (record first { journal = begun.middle }) then last
+        → Sat
     of_step Out (inl line) = of_line line
     of_step Out (inr order) = of_order Out order
     of_step Journal order = of_order Journal order

@@ -41,15 +41,20 @@ happened_lines (Answered id reply ∷ more) steps =
     ap (λ (text : List ℕ). text ++ reply_line id reply) (happened_lines more steps)
     ∙ append_assoc (told_lines steps) (said_lines more) (reply_line id reply)
 happened_lines (Asked order moment ∷ more) steps =
-    nothing_said (told_lines (map Happened more ++ steps)) (told_lines steps) (said_lines more) (happened_lines more steps)
+    nothing_said (told_lines (map Happened more ++ steps)) (told_lines steps) (said_lines more)
+    (happened_lines more steps)
 happened_lines (Sent frame answer ∷ more) steps =
-    nothing_said (told_lines (map Happened more ++ steps)) (told_lines steps) (said_lines more) (happened_lines more steps)
+    nothing_said (told_lines (map Happened more ++ steps)) (told_lines steps) (said_lines more)
+    (happened_lines more steps)
 happened_lines (Kept entry ∷ more) steps =
-    nothing_said (told_lines (map Happened more ++ steps)) (told_lines steps) (said_lines more) (happened_lines more steps)
+    nothing_said (told_lines (map Happened more ++ steps)) (told_lines steps) (said_lines more)
+    (happened_lines more steps)
 happened_lines (Stopped ∷ more) steps =
-    nothing_said (told_lines (map Happened more ++ steps)) (told_lines steps) (said_lines more) (happened_lines more steps)
+    nothing_said (told_lines (map Happened more ++ steps)) (told_lines steps) (said_lines more)
+    (happened_lines more steps)
 happened_lines (Powered address ∷ more) steps =
-    nothing_said (told_lines (map Happened more ++ steps)) (told_lines steps) (said_lines more) (happened_lines more steps)
+    nothing_said (told_lines (map Happened more ++ steps)) (told_lines steps) (said_lines more)
+    (happened_lines more steps)
 
 happened_given : (more : List Happening) (steps : List Step)
     → given_in (map Happened more ++ steps) ≡ as_given (orders_asked more) ++ given_in steps
@@ -170,7 +175,8 @@ module _ (start : Start) (steps : List Step) (given : List Given) (first middle 
           rw (happened_lines broken.more steps) (Appends-trans first.out middle.out broken.then.out (told_lines steps)
           (said_lines broken.more) said broken.said);
       broken =
-          of_order fault start (map Happened broken.more ++ steps) (as_given (reverse orders) ++ given) first broken.then
+          of_order fault start (map Happened broken.more ++ steps)
+          (as_given (reverse orders) ++ given) first broken.then
           last (record {
             unasked = broken.unasked;
             given_are = given_so steps given orders broken.unasked broken.more broken.asked given_are;
@@ -212,12 +218,14 @@ begins start first writer last told worked quiet = (
   }
 
 -- or it was broken off
-pub begins_broken : (start : Start) (first : Streams) (fault : DriveFault) (last : Streams) (may_leave : List ℕ → Type 0)
+pub begins_broken : (start : Start) (first : Streams) (fault : DriveFault) (last : Streams)
+    (may_leave : List ℕ → Type 0)
     (told : List Happening → Type 0) (told_end : List Happening → DriveFault → Frame → List ℕ → Type 0)
     → HasBroken start [] [] first fault first last may_leave told told_end
     → BreaksFollow start [] fault first last may_leave told told_end
 begins_broken start first fault last may_leave told told_end broken =
-    breaks_follow start [] [] first first (Appends-nil first.out) refl [] fault last may_leave told told_end first broken
+    breaks_follow start [] [] first first
+    (Appends-nil first.out) refl [] fault last may_leave told told_end first broken
     (muted_driven start (broken.more ++ []) first broken.then broken.driven)
 
 module _ (start : Start) (given : List Given) (first : Streams) (then : WriterState) (middle : Streams)
@@ -226,7 +234,8 @@ module _ (start : Start) (given : List Given) (first : Streams) (then : WriterSt
     (told_end : List Happening → DriveFault → Frame → List ℕ → Type 0) where
   -- and then an order was carried out, or broke off
   pub order_on : {A : Type 0} (result : Result A DriveFault)
-      → WorkedOn start (happenings follow.steps) ((order, moment) ∷ []) (muted first) result writer middle last may_leave
+      → WorkedOn start (happenings follow.steps) ((order, moment) ∷ [])
+      (muted first) result writer middle last may_leave
       told told_end
       → OnOk result ((s : Start) (past : List Happening) → Describes s past writer → is_busy s past ≡ false)
       → GivenOn start (gives.Order order moment ∷ given) first result writer last may_leave told told_end
@@ -241,14 +250,16 @@ module _ (start : Start) (given : List Given) (first : Streams) (then : WriterSt
         told_first told worked.more follow.steps worked.told_all,
       )
   order_on (Err fault) broken quiet =
-      breaks_follow start follow.steps given first middle follow.at.said follow.at.given_are ((order, moment) ∷ []) fault
+      breaks_follow start follow.steps given first middle follow.at.said follow.at.given_are
+      ((order, moment) ∷ []) fault
       last may_leave told told_end (muted first) broken broken.driven
 
 module _ (start : Start) (given : List Given) (first : Streams) (writer : WriterState) (j l a o more : Option (List ℕ))
     (follow : IsFollowed start given first writer (shown j l a o)) (line : ArrayVec ℕ) where
   -- and then a line was told
   pub tells_on : (told : List Happening → Type 0) → told (happenings follow.steps) → Appends o more line.items
-      → (next : IsFollowed start (gives.Line line ∷ given) first writer (shown j l a more)) × told (happenings next.steps)
+      → (next : IsFollowed start (gives.Line line ∷ given) first writer (shown j l a more))
+      × told (happenings next.steps)
   tells_on told is added = (
     record {
       steps = Told line ∷ follow.steps;

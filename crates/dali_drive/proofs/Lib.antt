@@ -1,4 +1,3 @@
-pub mod PutLemmas
 pub mod StoreLemmas
 pub mod DriveLemmas
 pub mod ObservedLemmas

@@ -24,10 +24,12 @@ use Rattle.dali_drive.specs.Transcript.{Streams, Transcript, AreAnswers, sent_li
 use Rattle.dali_drive.specs.Driven.{BreaksFrame}
 use Rattle.dali_drive.specs.UnitRead.{LinkText, BreaksAfter, TriedTo, TryTold, TryMissed, TryBroke, MissedSoOften}
 use Rattle.dali_drive.specs.UnitRead.{BlockTold, BlockFailed, BlockBroke, ReadSoFar, IsUnitRead, UnitReadBroke}
+use Rattle.dali_read.proofs.BlockShapeLemmas.{reads_length}
+use Rattle.dali_write.proofs.RequestLemmas.{drop_at, drop_end}
 
 -- What was told over a link, piece by piece
 
-abbrev as_sent : List Exchange → List Happening
+abbrev pub as_sent : List Exchange → List Happening
 as_sent told = map (λ x. Sent x.frame x.answer) told
 
 pub told_nothing : (first : Streams) → LinkText [] first first
@@ -101,23 +103,11 @@ breaks_later told before frame fault first mid last text broke = record {
 -- One try of a block
 
 -- the request of a number is the first of those that are left
-left_behind : (requests : List Request) (number : ℕ) (next : Request) → slice_get requests number ≡ Some next
-    → drop number requests ≡ next ∷ drop (suc number) requests
-left_behind [] number next is = cc
-left_behind (one ∷ requests) zero next is = cc
-left_behind (one ∷ requests) (suc number) next is = left_behind requests number next is
-
 left_from : (requests : List Request) (number : ℕ) (next : Request) → slice_get requests number ≡ Some next
     → drop number requests ≡ next ∷ drop (number + 1) requests
 left_from requests number next is =
     let same : suc number ≡ number + 1 = omega arith in
-    left_behind requests number next is ∙ ap (λ (n : ℕ). next ∷ drop n requests) same
-
-none_left : (requests : List Request) (number : ℕ) → slice_get requests number ≡ None → drop number requests ≡ []
-none_left [] zero is = refl
-none_left [] (suc number) is = refl
-none_left (one ∷ requests) zero is = cc
-none_left (one ∷ requests) (suc number) is = none_left requests number is
+    drop_at requests number next is ∙ ap (λ (n : ℕ). next ∷ drop n requests) same
 
 at_hand : (unit : ℕ) (block : Block) (bytes : List ℕ) (number : ℕ) (first mid : Streams) (next : Request)
     → (t : TriedTo unit block bytes number first mid) → slice_get (block_requests unit block) number ≡ Some next
@@ -128,7 +118,8 @@ at_hand unit block bytes number first mid next t is =
 
 pub try_goes_on : (unit : ℕ) (block : Block) (bytes all : List ℕ) (number : ℕ) (first mid last : Streams)
     (next : Request) (answer : Option ℕ)
-    → all ≡ bytes ++ read_answer next.frame answer → TriedTo unit block bytes number first mid → slice_get (block_requests unit block) number ≡ Some next
+    → all ≡ bytes ++ read_answer next.frame answer → TriedTo unit block bytes number first mid
+    → slice_get (block_requests unit block) number ≡ Some next
     → Meets next.wish answer → Transcript (Sent next.frame answer ∷ []) mid last
     → TriedTo unit block all (number + 1) first last
 try_goes_on unit block bytes all number first mid last next answer more t is meets text = record {
@@ -173,7 +164,7 @@ try_ends unit block bytes number first last t is = record {
   told = t.told;
   read = (
     subst (λ (left : List Request). Trying (block_requests unit block) t.told left)
-        (none_left (block_requests unit block) number is) t.try,
+        (drop_end (block_requests unit block) number is) t.try,
     t.bytes_are,
   );
   text = t.text;
@@ -240,17 +231,13 @@ try_has_room unit block bytes number first mid next answer fits t is =
     let most = fits.few in
     omega arith
 
-reads_long : (unit count : ℕ) → length (reads unit count) ≡ count
-reads_long unit zero = refl
-reads_long unit (suc count) = let rest = reads_long unit count in omega arith
-
 -- no number of a request is higher
 pub few_requests : (unit : ℕ) (block : Block) (number : ℕ) (next : Request) → Fits block
     → slice_get (block_requests unit block) number ≡ Some next
     → (number < length (block_requests unit block)) × (number < 22)
 few_requests unit block number next fits is =
     let below = slice_get_within (block_requests unit block) number next is in
-    let count = reads_long unit block.count in
+    let count = reads_length unit block.count in
     let all = length-append (reads unit block.count) (asking_back unit block) in
     let most = fits.few in (below, omega arith)
 

@@ -1,7 +1,7 @@
 -- What a drive over a store leaves.
 use Rattle.std.proofs.Common.{◌≡◌, ◌<◌, ◌≤◌, ◌⊎◌, refl, sym, ap, ◌∙◌, subst, inl, inr, ℕ, List, [], ◌∷◌, ◌++◌}
 use Rattle.std.proofs.Common.{Option, Some, None, length, take, drop, arith, length-append, length-take, take-append-drop, ⊎_elim}
-use Rattle.std.proofs.lemmas.List.{append_assoc, append-nil, take_at}
+use Rattle.std.proofs.lemmas.List.{append_assoc, append-nil, take_at, append_cancel_left}
 use Rattle.std.specs.Prelude.{⊤}
 use Rattle.std.specs.List.{AllByRecursion}
 use Rattle.std.specs.Io.KnownBytes.{Appends, Keeps}
@@ -83,10 +83,6 @@ first_part all front (x ∷ tail) whole = inl (
   sym (ap (λ (l : List ℕ). take (length front) l) whole ∙ take_at front (x ∷ tail) (length front) refl),
 )
 
-cancel : (a x y : List ℕ) → a ++ x ≡ a ++ y → x ≡ y
-cancel [] x y e = e
-cancel (z ∷ a) x y e = let tail : a ++ x ≡ a ++ y = cc in cancel a x y tail
-
 -- what lies between known bytes has the first ones, and then a first part of what was put
 between_known : (old new : Option (List ℕ)) (was more c : List ℕ) → old ≡ Some was → new ≡ Some (was ++ more)
     → IsBetween old new c → (front : List ℕ) × (rest : List ℕ) × (c ≡ was ++ front) × (more ≡ front ++ rest)
@@ -99,7 +95,7 @@ between_known (Some x) (Some y) was more c is now (front, rest, begins, whole) =
       front,
       rest,
       here,
-      cancel was more (front ++ rest)
+      append_cancel_left was more (front ++ rest)
           (sym all ∙ whole ∙ ap (λ (l : List ℕ). l ++ rest) here ∙ append_assoc was front rest),
     )
 

@@ -15,13 +15,12 @@ use Rattle.dali_read.proofs.FindingLemmas.{same_found}
 use Rattle.dali_read.proofs.CourseLemmas.{last_read}
 use Rattle.dali_drive.specs.declared.fault.DriveFault.{DriveFault}
 use Rattle.dali_drive.specs.declared.fault.DriveFault.TheVariants.{Journal, Link, Line, End, NoMemory, TooLong, Out}
-use Rattle.dali_drive.specs.Driven.{AppendsPart}
 use Rattle.dali_drive.specs.Transcript.{Streams, shown, link_shown}
 use Rattle.dali_drive.specs.UnitRead.{IsUnitRead, UnitReadBroke}
 use Rattle.dali_drive.specs.Surveys.{Report, Surveyed, Reported, BreaksReport, IsScanReport, IsOrderReport, IsSame}
 use Rattle.dali_drive.specs.Surveys.{FoundOf, IsAllTold}
 use Rattle.dali_drive.specs.Surveys.{TellsLast, TellsOrder, all_told, answered, link_of, addresses_below}
-use Rattle.dali_drive.proofs.DriveLemmas.{IsCut}
+use Rattle.dali_drive.proofs.DriveLemmas.{IsCut, part_of_it}
 use Rattle.dali_drive.proofs.ReadingLemmas.{told_both}
 
 pub surveyed_more : {A : Type 0} (is_report : Report A → Type 0) (reports : List (Report A)) (item : A)
@@ -46,10 +45,6 @@ breaks_reading is_report Link item unit course l more a less o broke = (broke, K
 breaks_reading is_report (Line fault) item unit course l more a less o broke = (broke, Keeps-refl o)
 breaks_reading is_report End item unit course l more a less o broke = (broke, Keeps-refl o)
 breaks_reading is_report TooLong item unit course l more a less o broke = (broke, Keeps-refl o)
-
--- the line of a reading that ended couldn't be written
-part_of_it : (old new : Option (List ℕ)) (bytes : List ℕ) → IsCut old new bytes → AppendsPart old new bytes
-part_of_it old new bytes cut = record { count = cut.0; within = cut.1; part = cut.2 }
 
 -- ---- which units answer
 
@@ -85,7 +80,11 @@ last_is unit bytes first last r = let one = last_read r.told unit bytes r.ends i
 -- what is found of an order is all the same, or not
 pub same_told : (report : Report Contents) (outcome : Option (List ℕ)) (found : Option Finding)
     → report.outcome ≡ outcome → FoundOf report.item outcome found → (found ≡ Some Same) ↔ IsSame report
-same_told report None found is none = (λ same. let never = sym none ∙ same in cc, λ all. let never = sym is ∙ all.1 in cc)
+same_told report None found is none = (
+  λ same. let never = sym none ∙ same in cc,
+  λ all. let never = sym is ∙ all.1 in
+      cc,
+)
 same_told report (Some bytes) found is (finding, so, e) = (
   λ same. let all : finding ≡ Same = cc in
       (bytes, is, subst (λ (f : Finding). IsFound report.item.updates bytes f) all so),

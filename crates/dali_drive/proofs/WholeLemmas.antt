@@ -331,7 +331,8 @@ module _ (older : JournalState) (limit most : ℕ) (first : Streams) (b : IsBegu
   ended_whole given writer last left follow held =
       followed_ended (order_count older + limit) room found (record first { journal = Some found }) refl begun_whole
       given writer (streams_behind older.records last) (bytes_behind older.records left)
-      (followed_whole older.records (start_of b.journal) given (record first { journal = b.begun.middle }) found has_header
+      (followed_whole older.records (start_of b.journal) given
+      (record first { journal = b.begun.middle }) found has_header
       shows_whole writer last follow)
       (ap (whole older.records) held)
 
@@ -344,7 +345,8 @@ module _ (older : JournalState) (limit most : ℕ) (first : Streams) (b : IsBegu
   broke_whole given fault last follow left between =
       followed_broken (order_count older + limit) room found (record first { journal = Some found }) refl begun_whole
       given fault (streams_behind older.records last)
-      (broken_whole older.records (start_of b.journal) given (record first { journal = b.begun.middle }) found has_header
+      (broken_whole older.records (start_of b.journal) given
+      (record first { journal = b.begun.middle }) found has_header
       shows_whole fault last follow)
       (bytes_behind older.records left)
       (between_whole older.records follow.then.journal last.journal left

@@ -126,7 +126,8 @@ pub asked_then : (moment : ℕ) (xs : List Contents) (past more : List Happening
 asked_then moment xs past more unasked n d order h is then now =
     first_asked (at_moment moment (take n xs)) ((order, moment) ∷ []) unasked (at_moment moment (drop (suc n) xs)) more
     past then now
-    ∙ rw is (ap (λ (os : List Contents). at_moment moment (take n xs) ++ at_moment moment os) (sym (drop-cons xs n d h)))
+    ∙ rw is (ap (λ (os : List Contents). at_moment moment (take n xs) ++ at_moment moment os)
+    (sym (drop-cons xs n d h)))
     ∙ sym (at_append moment (take n xs) (drop n xs)) ∙ ap (at_moment moment) (take-append-drop n xs)
 
 -- all were asked

@@ -107,7 +107,8 @@ no_record (Opened unit) next = let planned = next.planned in none_ended 5 _ _ pl
 no_record (Ended code) next = let planned = next.planned in none_ended 5 _ _ planned.0 planned.1
 no_record (Closed unit) next = let planned = next.planned in none_ended 5 _ _ planned.0 planned.1
 
-pub no_record_broken : (rest : List (Contents × ℕ)) (old new : Streams) → BrokenOff empty begun rest faults.Journal old new
+pub no_record_broken : (rest : List (Contents × ℕ)) (old new : Streams)
+    → BrokenOff empty begun rest faults.Journal old new
     → ⊥
 no_record_broken rest old new (entry, next, cut) = no_record entry next
 

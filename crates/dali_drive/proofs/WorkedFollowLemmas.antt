@@ -44,5 +44,6 @@ happened_in_turn = refl
 pub orders_in_turn : submitted (given_in followed) ≡ (second_order, 8) ∷ (first_order, 7) ∷ []
 orders_in_turn = refl
 
-pub given_alone : as_given ((second_order, 8) ∷ (first_order, 7) ∷ []) ≡ gives.Order second_order 8 ∷ gives.Order first_order 7 ∷ []
+pub given_alone : as_given ((second_order, 8) ∷ (first_order, 7) ∷ [])
+    ≡ gives.Order second_order 8 ∷ gives.Order first_order 7 ∷ []
 given_alone = refl

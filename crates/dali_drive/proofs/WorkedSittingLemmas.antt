@@ -163,7 +163,12 @@ frame_broken = record {
   broken = (
     Dtr1 1,
     (λ answer. record { work = tt; may = first_next.may; planned = first_next.planned }),
-    inl (record { journal = refl; link = record { count = 3; within = omega arith; part = refl }; answers = refl; out = refl }),
+    inl (record {
+      journal = refl;
+      link = record { count = 3; within = omega arith; part = refl };
+      answers = refl;
+      out = refl;
+    }),
   );
 }
 

@@ -1,7 +1,7 @@
 -- A scan of two units by hand, and what is near it and isn't one.
 use Rattle.std.proofs.Common.{ap, ◌≡◌, ◌≢◌, ◌∙◌, inl, inr, refl, sym, append_assoc, ℕ, zero, suc, List, [], ◌∷◌, ◌++◌}
 use Rattle.std.proofs.Common.{Some, None, codes}
-use Rattle.std.proofs.Common.{Option, true, is_some, get_or, take, drop, length, map, arith}
+use Rattle.std.proofs.Common.{Option, true, is_some, get_or, take, drop, length, arith}
 use Rattle.std.proofs.Common.{◌≤◌, ◌+◌, Bool, false, if◌then◌else◌}
 use Rattle.std.proofs.lemmas.Fmt.{decimal_digit}
 use Rattle.std.proofs.lemmas.List.{length-map}
@@ -9,8 +9,6 @@ use Rattle.std.proofs.lemmas.List.Elements.{All-from_recursion}
 use Rattle.std.specs.Io.BufRead.{strip_last}
 use Rattle.dali_frame.specs.declared.forward.Frame.TheVariants.{Dtr0, Dtr1, AskDtr0, AskDtr1, Read}
 use Rattle.dali_frame.specs.Hex.{SpellsHexNumber, byte_digits}
-use Rattle.dali_trace.specs.declared.happening.Happening.{Happening}
-use Rattle.dali_trace.specs.declared.happening.Happening.TheVariants.{Sent}
 use Rattle.dali_write.specs.Exchanges.{Exchange}
 use Rattle.dali_write.specs.WorkedAccesses.{sent}
 use Rattle.dali_write.specs.declared.request.Wish.TheVariants.{Nothing, Exactly, Anything}
@@ -34,7 +32,7 @@ use Rattle.dali_drive.specs.Driven.{BreaksFrame}
 use Rattle.dali_drive.specs.Surveys.{Reported, BreaksReport, TellsLast, IsScan, BreaksScan, ScanBroke}
 use Rattle.dali_drive.specs.Surveys.{items_in, all_told, lines_in, answered, addresses_below}
 use Rattle.dali_write.specs.Requests.{request}
-use Rattle.dali_drive.proofs.ReadingLemmas.{told_nothing}
+use Rattle.dali_drive.proofs.ReadingLemmas.{told_nothing, as_sent}
 use Rattle.dali_drive.proofs.WorkedDriveLemmas.{none_line}
 use Rattle.dali_drive.specs.declared.fault.DriveFault.TheVariants as faults
 
@@ -99,9 +97,6 @@ line_77 = byte_line 55 55 0x77 (λ e. cc) (λ e. cc) refl ((omega arith, (omega 
 
 pub line_A5 : IsAnswerLine (Some 0xA5) (codes "A5\n")
 line_A5 = byte_line 65 53 0xA5 (λ e. cc) (λ e. cc) refl ((omega arith, (omega arith, tt)), refl)
-
-abbrev pub as_sent : List Exchange → List Happening
-as_sent told = map (λ x. Sent x.frame x.answer) told
 
 -- a read of unit 1, by the lines that tell where DTR0 stands, the byte and where it stands then
 pub read_heard : (told : List Exchange) (location byte after : ℕ) (heard place read moved : List ℕ)
@@ -205,7 +200,19 @@ length_told = record {
   misses = 0;
   parts = refl;
   read = (
-    (Exactly 1, refl, (Exactly 1, refl, (Anything, refl, (Exactly 0, refl, (Nothing, tt, (Exactly 1, refl, (Nothing, tt, refl))))))),
+    (
+      Exactly 1,
+      refl,
+      (
+        Exactly 1,
+        refl,
+        (
+          Anything,
+          refl,
+          (Exactly 0, refl, (Nothing, tt, (Exactly 1, refl, (Nothing, tt, refl)))),
+        ),
+      ),
+    ),
     refl,
   );
   few = omega arith;
@@ -306,7 +313,12 @@ third_broke = record {
   broke = inl (omega arith, (frame_broke 2 last_course refl cut, refl));
 } where
   cut : BreaksFrame (Dtr1 1) faults.Link (link_of after_two_units) (link_of amid_third_unit)
-  cut = inl (record { journal = tt; link = record { count = 2; within = omega arith; part = refl }; answers = refl; out = tt })
+  cut = inl (record {
+    journal = tt;
+    link = record { count = 2; within = omega arith; part = refl };
+    answers = refl;
+    out = tt;
+  })
 
 -- One unit, and its line whole or in part
 
@@ -333,8 +345,13 @@ one_reported = record {
 }
 
 pub part_written : BreaksReport IsScanReport faults.Out 1 1 last_course before_one_unit (one_unit_and (codes "unit 1"))
-part_written =
-    (found_unit, refl, found_scanned, one_text (codes "unit 1"), record { count = 6; within = omega arith; part = refl })
+part_written = (
+  found_unit,
+  refl,
+  found_scanned,
+  one_text (codes "unit 1"),
+  record { count = 6; within = omega arith; part = refl },
+)
 
 other_part : (count : ℕ) (rest : List ℕ) → codes "unit 2" ≡ take count (codes "unit 1" ++ rest) → ⊥
 other_part zero rest e = cc

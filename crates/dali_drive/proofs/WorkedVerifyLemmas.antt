@@ -25,7 +25,7 @@ use Rattle.dali_drive.specs.WorkedSurveys.{after_near_order, amid_far_order, bef
 use Rattle.dali_drive.specs.Driven.{BreaksFrame}
 use Rattle.dali_drive.specs.Surveys.{IsVerified}
 use Rattle.dali_drive.specs.Surveys.{VerifyBroke}
-use Rattle.dali_drive.proofs.WorkedSurveyLemmas.{findings_are, as_sent, line_00, line_01, line_03, line_04, line_77}
+use Rattle.dali_drive.proofs.WorkedSurveyLemmas.{findings_are, line_00, line_01, line_03, line_04, line_77}
 use Rattle.dali_drive.proofs.WorkedSurveyLemmas.{line_A5, read_heard, lines_of, missed_heard, first_fits, silent_ends}
 use Rattle.dali_drive.proofs.WorkedSurveyLemmas.{length_told, first_done, frame_broke}
 use Rattle.dali_drive.specs.declared.fault.DriveFault.TheVariants as faults
@@ -42,7 +42,19 @@ byte_told byte = record {
   misses = 0;
   parts = refl;
   read = (
-    (Exactly 1, refl, (Exactly 4, refl, (Anything, refl, (Exactly 3, refl, (Nothing, tt, (Exactly 1, refl, (Nothing, tt, refl))))))),
+    (
+      Exactly 1,
+      refl,
+      (
+        Exactly 4,
+        refl,
+        (
+          Anything,
+          refl,
+          (Exactly 3, refl, (Nothing, tt, (Exactly 1, refl, (Nothing, tt, refl)))),
+        ),
+      ),
+    ),
     refl,
   );
   few = omega arith;
@@ -63,7 +75,16 @@ same_found : IsFound near_order.updates (0x77 ∷ 0xA5 ∷ []) Same
 same_found = (0x77, omega arith, inl (0xA5 ∷ [], refl, omega arith, ([], refl)))
 
 other_found : IsFound near_order.updates (0x77 ∷ 0x5A ∷ []) (Other 0x03 0x5A)
-other_found = (0x77, omega arith, inl (0x5A ∷ [], refl, omega arith, ([], 0xA5, [], [], refl, refl, λ e. omega (arith, e))))
+other_found = (
+  0x77,
+  omega arith,
+  inl (
+    0x5A ∷ [],
+    refl,
+    omega arith,
+    ([], 0xA5, [], [], refl, refl, λ e. omega (arith, e)),
+  ),
+)
 
 pub same_told : IsOrderReport same_order
 same_told = (
@@ -199,13 +220,23 @@ far_broke = record {
   broke = (frame_broke 0 (order_course far_order.updates) refl cut, refl);
 } where
   cut : BreaksFrame (Dtr1 1) faults.Link (link_of after_near_order) (link_of amid_far_order)
-  cut = inl (record { journal = tt; link = record { count = 2; within = omega arith; part = refl }; answers = refl; out = tt })
+  cut = inl (record {
+    journal = tt;
+    link = record { count = 2; within = omega arith; part = refl };
+    answers = refl;
+    out = tt;
+  })
 
 -- One frame that is broken off
 
 pub cut_line_is_link : BreaksFrame (AskDtr0 5) faults.Link (before_frame []) (after_frame (codes "0B9"))
 cut_line_is_link =
-    inl (record { journal = tt; link = record { count = 3; within = omega arith; part = refl }; answers = refl; out = tt })
+    inl (record {
+      journal = tt;
+      link = record { count = 3; within = omega arith; part = refl };
+      answers = refl;
+      out = tt;
+    })
 
 pub half_answer_is_link : BreaksFrame (AskDtr0 5) faults.Link (before_frame (codes "0")) (after_frame (codes "0B98\n"))
 half_answer_is_link = inr (record { journal = tt; link = refl; answers = (codes "0", short, refl); out = tt }) where

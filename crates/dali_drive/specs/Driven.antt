@@ -153,7 +153,8 @@ pub record IsBrokenDrive (start : Start) (orders : List (Contents × ℕ)) (faul
 abbrev pub LeavesBetween : Option (List ℕ) → Option (List ℕ) → (List ℕ → Type 0) → Type 0
 LeavesBetween then now may_leave = (c : List ℕ) → may_leave c → IsBetween then now c
 
--- a drive that a fault broke off; and of the journal a stop leaves all that was kept before the step that was broken off
+-- a drive that a fault broke off; and of the journal a stop leaves all that was kept before the step that was broken
+-- off
 pub record BreaksOff (start : Start) (orders : List (Contents × ℕ)) (fault : DriveFault)
     (first last : Streams) (may_leave : List ℕ → Type 0) : Type 0 where
   pub drive : IsBrokenDrive start orders fault first last

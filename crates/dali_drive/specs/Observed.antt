@@ -38,8 +38,8 @@ pub record IsObserved {B : Type 0} (told : Start → B → B → List Happening 
   pub drive : IsDrive start orders first writer last
   pub told_all : told start before after drive.past
 
--- a drive that a fault broke off, and its observer was told the trace before that, and of an exchange that was broken off what was
--- read of its answer
+-- a drive that a fault broke off, and its observer was told the trace before that, and of an exchange that was broken
+-- off what was read of its answer
 pub record IsObservedBreak {B : Type 0} (told : Start → B → B → List Happening → Type 0)
     (told_end : Start → B → B → List Happening → DriveFault → Frame → List ℕ → Type 0) (start : Start)
     (orders : List (Contents × ℕ)) (fault : DriveFault) (first : Streams) (before : B) (last : Streams)

@@ -98,7 +98,8 @@ silent_order = record { item = far_order; outcome = None; told = missed 8; line 
 abbrev pub before_two_orders : Streams
 before_two_orders =
     shown None (Some [])
-    (Some (codes "--\n01\n--\n00\n77\n01\n01\n--\n01\n--\n03\nA5\n04\n01\n--\n--\n--\n--\n--\n--\n--\n--\n--\n--\n--\n--\n--\n--\n--\n--\n"))
+    (Some (codes "--\n01\n--\n00\n77\n01\n01\n--\n01\n--\n03\nA5\n04\n01\n--\n"
+    ++ codes "--\n--\n--\n--\n--\n--\n--\n--\n--\n--\n--\n--\n--\n--\n--\n"))
     (Some [])
 
 abbrev pub lines_to_near_unit : List ℕ

@@ -66,7 +66,8 @@ pub fn follow<I: Source, L: Sink, J: Store, O: Sink, G: Orders, B: Observer>(
     requires link_out { L.failed link_out.old ≡ false }
     requires link_in { I.failed link_in.old ≡ false }
     requires out { O.failed out.old ≡ false }
-    ensures followed { IfOk result (λ followed. IsObservedFollow G.gave G.over B.told (start_of writer.journal) orders.old
+    ensures followed { IfOk result (λ followed.
+        IsObservedFollow G.gave G.over B.told (start_of writer.journal) orders.old
         (shown (J.seen journal_out.old) (L.held link_out.old) (I.left link_in.old) (O.held out.old)) observer.old
         followed orders.new
         (shown (J.seen journal_out.new) (L.held link_out.new) (I.left link_in.new) (O.held out.new)) observer.new) }

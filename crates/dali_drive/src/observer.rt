@@ -15,7 +15,8 @@ use dali_journal::Journal;
 use dali_read::Finding;
 use dali_trace::Happening;
 
-/// Who is told what happens in a drive, at once and in its order (profile). Whatever becomes of that, the drive goes on.
+/// Who is told what happens in a drive, at once and in its order (profile). Whatever becomes of that, the drive goes
+/// on.
 pub trait Observer {
     /// From this start, and since it was the first of the two, it was told all of this trace.
     ghost told: { Start → Self → Self → List Happening → Type 0 };

@@ -53,7 +53,8 @@ pub fn drive_stored<I: Source, L: Sink, S: Store, O: Sink>(
         (NoneFailed (S.failed store.new) (L.failed link_out.new) (I.failed link_in.new) (O.failed out.new)) }
     ensures broken { IfErr result (λ fault. EndsAtFault limit most (at_moment moment orders.now) fault
         (shown (S.seen store.old) (L.held link_out.old) (I.left link_in.old) (O.held out.old)) (S.may_leave store.old)
-        (shown (S.seen store.new) (L.held link_out.new) (I.left link_in.new) (O.held out.new)) (S.may_leave store.new)) }
+        (shown (S.seen store.new) (L.held link_out.new) (I.left link_in.new) (O.held out.new))
+        (S.may_leave store.new)) }
     ensures err { IfErr result (λ fault. StoredFailedAs fault
         (S.failed store.new) (L.failed link_out.new) (I.failed link_in.new) (O.failed out.new)) }
     ensures settled { OnOk result (IsSettled (S.seen store.new) (S.may_leave store.new)) }
@@ -97,7 +98,8 @@ pub fn drive_stored_observed<I: Source, L: Sink, S: Store, O: Sink, B: Observer>
     ensures rests { IfOk result IsAtRest }
     ensures ok { OnOk result
         (NoneFailed (S.failed store.new) (L.failed link_out.new) (I.failed link_in.new) (O.failed out.new)) }
-    ensures broken { IfErr result (λ fault. EndsObserved B.told B.told_end limit most (at_moment moment orders.now) fault
+    ensures broken { IfErr result (λ fault.
+        EndsObserved B.told B.told_end limit most (at_moment moment orders.now) fault
         (shown (S.seen store.old) (L.held link_out.old) (I.left link_in.old) (O.held out.old)) (S.may_leave store.old)
         observer.old
         (shown (S.seen store.new) (L.held link_out.new) (I.left link_in.new) (O.held out.new)) (S.may_leave store.new)

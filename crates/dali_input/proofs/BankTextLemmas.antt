@@ -10,6 +10,7 @@ use Rattle.std.proofs.lemmas.List.Elements.{filter-append}
 use Rattle.hex.specs.Hex.{IsBytes, encode_upper, encode_with, hex_digit_value, upper_digits, decode_of}
 use Rattle.hex.proofs.HexLemmas.{IsDigits-upper_digits, decode_of-encode_upper}
 use Rattle.dali_input.specs.BankText.{byte_digits, digits_in, is_blank, row_of, row_text}
+use Rattle.dali_bank.proofs.ListLemmas.{range_more}
 
 -- ---- the digits
 
@@ -59,10 +60,6 @@ digits_in-row_text (byte ∷ rest) are_bytes =
 -- so many rows
 abbrev pub rows : ℕ → List ℕ → List ℕ
 rows count bank = flat_map (λ number. row_text (row_of number bank)) (range_with_len 0 count)
-
-range_more : (a n b : ℕ) → a + n ≡ b → range_with_len a (suc n) ≡ range_with_len a n ++ b ∷ []
-range_more a zero b e = ap (λ k. k ∷ []) (omega arith)
-range_more a (suc n) b e = ap (λ ns. a ∷ ns) (range_more (a + 1) n b (omega arith))
 
 pub rows_more : (bank : List ℕ) (n : ℕ) → rows (n + 1) bank ≡ rows n bank ++ row_text (row_of n bank)
 rows_more bank n =

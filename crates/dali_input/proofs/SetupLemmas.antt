@@ -28,11 +28,7 @@ use Rattle.dali_input.specs.Scenario.{unit_planned}
 use Rattle.dali_input.specs.Scenario.{event_of}
 use Rattle.dali_input.specs.Setup.{IsMakeable, made_unit, AreUnits, IsFirstUnitFault, AreEvents}
 use Rattle.dali_input.specs.Setup.{IsFirstOrderFault, AreTogether}
-
-all_one_more : {X : Type 0} (P : X → Type 0) (xs : List X) (x : X) → AllByRecursion P xs → P x
-    → AllByRecursion P (xs ++ x ∷ [])
-all_one_more P [] x all holds = (holds, tt)
-all_one_more P (y ∷ xs) x all holds = (all.0, all_one_more P xs x all.1 holds)
+use Rattle.dali_bank.proofs.ListLemmas.{all_one_more}
 
 -- the plans up to one more
 one_more : {X Y : Type 0} (f : X → Y) (xs : List X) (i : ℕ) (x : X) → i < length xs → x ≡ get_or xs i x

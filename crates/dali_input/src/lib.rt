@@ -20,5 +20,7 @@ pub use fault::InputFault;
 pub use input::{Input, json_of, read_input};
 pub use item::{ItemFault, field_fault, order_of};
 pub use orders::{ORDERS_LIMIT, items_of, orders_of, read_orders};
-pub use scenario::{EventPlan, FatePlan, Scenario, UnitPlan, scenario_of, submission_of};
+pub use scenario::{
+    EventPlan, FatePlan, MOST_EVENTS, Scenario, UnitPlan, scenario_of, submission_of,
+};
 pub use setup::{Setup, SetupFault, setup_of};

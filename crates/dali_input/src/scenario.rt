@@ -18,8 +18,8 @@ use hex::FromHexError;
 use serde_json::Value as Json;
 use std::alloc::Global;
 
-// The most events of a scenario, and the most fates, each counted as often as it stands for.
-const MOST_EVENTS: u32 = 20_000;
+/// The most events of a scenario, and the most fates, each counted as often as it stands for.
+pub const MOST_EVENTS: u32 = 20_000;
 
 // The most hexadecimal digits of a unit's bank.
 const MOST_BANK_DIGITS: usize = 512;

@@ -62,3 +62,8 @@ pub begun_told : (id : ℕ) (bytes : List ℕ) (known : IndexEntry) (records : L
     → is_begun_at known ≡ is_begun id records
 begun_told id bytes known records a =
     agrees_begun bytes known (kept_of id records) (moment_of id records) a ∙ sym (kept_where_begun id records)
+
+pub nothing_kept : (kept : Kept) → is_kept kept ≡ false → kept ≡ kepts.Absent
+nothing_kept kepts.Absent e = refl
+nothing_kept (kepts.Unfinished order) e = cc
+nothing_kept (kepts.Ended order code) e = cc

@@ -10,7 +10,6 @@ use Rattle.dali_journal.specs.declared.standing.Standing.{Standing}
 use Rattle.dali_journal.specs.declared.standing.Standing.TheVariants as standings
 use Rattle.dali_journal.specs.declared.kept.Progress.{Progress}
 use Rattle.dali_journal.specs.declared.kept.Progress.TheVariants as reached
-use Rattle.dali_journal.specs.declared.kept.Kept.{Kept}
 use Rattle.dali_journal.specs.declared.kept.Kept.TheVariants as kepts
 use Rattle.dali_journal.specs.declared.version.Version.{Version}
 use Rattle.dali_journal.specs.declared.version.Version.TheVariants.{One, Two}
@@ -22,7 +21,7 @@ use Rattle.dali_journal.specs.JournalState.{JournalState}
 use Rattle.dali_journal.specs.Loading.{IsLoaded}
 use Rattle.dali_journal.specs.Behind.{OwnRecordsStandAlone, OlderOrdersAreKept}
 use Rattle.dali_journal.proofs.AheadLemmas.{spelling_append}
-use Rattle.dali_journal.proofs.BegunLemmas.{is_kept, kept_where_begun}
+use Rattle.dali_journal.proofs.BegunLemmas.{kept_where_begun, nothing_kept}
 use Rattle.dali_journal.proofs.DecodeLemmas.{AreRecords, spelling_read}
 use Rattle.dali_journal.proofs.IndexLemmas.{IsNewest, newest}
 use Rattle.dali_journal.proofs.TornLemmas.{torn_read, torn_behind, torn_version}
@@ -156,13 +155,8 @@ no_second id (Opened unit ∷ own) older s begun = no_second id own older s.0 be
 no_second id (Ended code ∷ own) older s begun = no_second id own older s.0 begun
 no_second id (Closed unit ∷ own) older s begun = no_second id own older s.0 begun
 
-none_kept : (kept : Kept) → is_kept kept ≡ false → kept ≡ kepts.Absent
-none_kept kepts.Absent e = refl
-none_kept (kepts.Unfinished order) e = absurd (true≢false e)
-none_kept (kepts.Ended order code) e = absurd (true≢false e)
-
-absent : (id : ℕ) (records : List Record) → is_begun id records ≡ false → kept_of id records ≡ kepts.Absent
-absent id records none = none_kept (kept_of id records) (sym (kept_where_begun id records) ∙ none)
+pub absent : (id : ℕ) (records : List Record) → is_begun id records ≡ false → kept_of id records ≡ kepts.Absent
+absent id records none = nothing_kept (kept_of id records) (sym (kept_where_begun id records) ∙ none)
 
 kept_front : (id : ℕ) (own older : List (Contents × Progress)) → kept_among id older ≡ kepts.Absent
     → kept_among id (own ++ older) ≡ kept_among id own

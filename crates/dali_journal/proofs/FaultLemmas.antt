@@ -42,7 +42,8 @@ kind_of version (faults.Repeated at) limit place records rest f = inr f
 kind_of version (faults.Full at) limit place records rest f = inr f
 
 -- bytes in front of what is neither are read as the records in front
-bad_records : (version : Version) (bytes : List ℕ) (records : List Record) (rest : List ℕ) → AreBytes bytes → AreRecords version records
+bad_records : (version : Version) (bytes : List ℕ) (records : List Record) (rest : List ℕ) → AreBytes bytes
+    → AreRecords version records
     → bytes ≡ records_spelling version records ++ rest
     → IsBad version rest → records_in version bytes ≡ records
 bad_records version bytes records rest are in_range spelled bad =
@@ -53,10 +54,12 @@ bad_records version bytes records rest are in_range spelled bad =
     let rest_are = bytes_back (records_spelling version records) rest (subst AreBytes spelled are) in
     ap (λ n. records_from version n [] bytes) count ∙ ap (records_from version (length records + most) []) spelled
     ∙ read_all version records most [] rest in_range rest_are
-    ∙ ap (λ those. records_from version most those rest) (append-nil records) ∙ bad_read version most records rest rest_are bad
+    ∙ ap (λ those. records_from version most those rest) (append-nil records)
+    ∙ bad_read version most records rest rest_are bad
 
 -- a record of a journal is none that may not stand
-stands_in : (version : Version) (limit place : ℕ) (whole more records : List Record) (entry : Record) (fault : JournalFault)
+stands_in : (version : Version) (limit place : ℕ) (whole more records : List Record) (entry : Record)
+    (fault : JournalFault)
     → AreKept version limit whole → whole ≡ more ++ entry ∷ records
     → MayNotFollow fault limit place records entry → ⊥
 stands_in version limit place whole more records entry fault kept same not =
@@ -94,7 +97,8 @@ same_fault (faults.Repeated at) (faults.Full other) limit place records (Began o
 same_fault (faults.Full at) (faults.Sequence other) limit place records (Began order moment) a b = absurd (b.1 a.1)
 same_fault (faults.Full at) (faults.Repeated other) limit place records (Began order moment) a b =
     absurd (true≢false (sym b.2 ∙ a.2))
-same_fault (faults.Full at) (faults.Full other) limit place records (Began order moment) a b = ap faults.Full (a.0 ∙ sym b.0)
+same_fault (faults.Full at) (faults.Full other) limit place records (Began order moment) a b =
+    ap faults.Full (a.0 ∙ sym b.0)
 same_fault faults.Limit g limit place records entry a b = absurd a
 same_fault f faults.Limit limit place records entry a b = absurd b
 same_fault faults.Header g limit place records entry a b = absurd a
@@ -109,27 +113,33 @@ same_fault _ _ _ _ _ _ a b = absurd a
 abbrev place_behind : Version → List Record → ℕ
 place_behind version records = length (journal_spelling version records)
 
-one_of : (version : Version) (limit : ℕ) (bytes : List ℕ) (f g : JournalFault) (ones twos : List Record) (rest more : List ℕ)
+one_of : (version : Version) (limit : ℕ) (bytes : List ℕ) (f g : JournalFault) (ones twos : List Record)
+    (rest more : List ℕ)
     → AreBytes bytes
     → AreKept version limit ones → AreKept version limit twos → bytes ≡ records_spelling version ones ++ rest
     → bytes ≡ records_spelling version twos ++ more
-    → Kind version f limit (place_behind version ones) ones rest → Kind version g limit (place_behind version twos) twos more → f ≡ g
+    → Kind version f limit (place_behind version ones) ones rest
+    → Kind version g limit (place_behind version twos) twos more → f ≡ g
 one_of version limit bytes f g ones twos rest more are kept also spelled again (inl a) (inl b) =
     let same : ones ≡ twos =
     sym (bad_records version bytes ones rest are kept.in_range spelled a.1)
     ∙ bad_records version bytes twos more are also.in_range again b.1 in
     a.0 ∙ ap (λ those. faults.Record (place_behind version those)) same ∙ sym b.0
 one_of version limit bytes f g ones twos rest more are kept also spelled again (inl a) (inr b) =
-    let found = record_stands version limit bytes (records_in version bytes) twos more b.0 refl are also.in_range again b.1 in
+    let found = record_stands version limit bytes
+    (records_in version bytes) twos more b.0 refl are also.in_range again b.1 in
     absurd (stands_in version limit (place_behind version twos) ones found.0 twos b.0 g kept
     (sym (bad_records version bytes ones rest are kept.in_range spelled a.1) ∙ found.1) b.2)
 one_of version limit bytes f g ones twos rest more are kept also spelled again (inr a) (inl b) =
-    let found = record_stands version limit bytes (records_in version bytes) ones rest a.0 refl are kept.in_range spelled a.1 in
+    let found = record_stands version limit bytes
+    (records_in version bytes) ones rest a.0 refl are kept.in_range spelled a.1 in
     absurd (stands_in version limit (place_behind version ones) twos found.0 ones a.0 f also
     (sym (bad_records version bytes twos more are also.in_range again b.1) ∙ found.1) a.2)
 one_of version limit bytes f g ones twos rest more are kept also spelled again (inr a) (inr b) =
-    let first = record_stands version limit bytes (records_in version bytes) ones rest a.0 refl are kept.in_range spelled a.1 in
-    let second = record_stands version limit bytes (records_in version bytes) twos more b.0 refl are also.in_range again b.1 in
+    let first = record_stands version limit bytes
+    (records_in version bytes) ones rest a.0 refl are kept.in_range spelled a.1 in
+    let second = record_stands version limit bytes
+    (records_in version bytes) twos more b.0 refl are also.in_range again b.1 in
     by (places first.0 second.0 a.0 b.0 ones twos (sym first.1 ∙ second.1))
   where
     by : Places a.0 ones b.0 twos → f ≡ g
@@ -138,8 +148,10 @@ one_of version limit bytes f g ones twos rest more are kept also spelled again (
         (subst (λ those. MayNotFollow f limit (place_behind version those) those b.0) same.1
         (subst (MayNotFollow f limit (place_behind version ones) ones) same.0 a.2))
         b.2
-    by (inr (inl before)) = absurd (stands_in version limit (place_behind version ones) twos before.0 ones a.0 f also before.1 a.2)
-    by (inr (inr behind)) = absurd (stands_in version limit (place_behind version twos) ones behind.0 twos b.0 g kept behind.1 b.2)
+    by (inr (inl before)) = absurd (stands_in version limit
+        (place_behind version ones) twos before.0 ones a.0 f also before.1 a.2)
+    by (inr (inr behind)) = absurd (stands_in version limit
+        (place_behind version twos) ones behind.0 twos b.0 g kept behind.1 b.2)
 
 faults_same : (a b : Version) (limit : ℕ) (bytes : List ℕ) (f g : JournalFault) (ones twos : List Record)
     (rest more : List ℕ)

@@ -138,7 +138,8 @@ new_alone (Ended code) = tt
 new_alone (Closed unit) = tt
 
 -- a new number is another than the first
-new_first : (first : Contents) (moment : ℕ) (rest : List Record) (entry : Record) → IsNew entry (Began first moment ∷ rest)
+new_first : (first : Contents) (moment : ℕ) (rest : List Record) (entry : Record)
+    → IsNew entry (Began first moment ∷ rest)
     → is_begun first.id (entry ∷ []) ≡ false
 new_first first moment rest (Began order at) new =
     or_from (order.id == first.id) false
@@ -147,14 +148,16 @@ new_first first moment rest (Opened unit) new = refl
 new_first first moment rest (Ended code) new = refl
 new_first first moment rest (Closed unit) new = refl
 
-new_rest : (first : Contents) (moment : ℕ) (rest : List Record) (entry : Record) → IsNew entry (Began first moment ∷ rest)
+new_rest : (first : Contents) (moment : ℕ) (rest : List Record) (entry : Record)
+    → IsNew entry (Began first moment ∷ rest)
     → IsNew entry rest
 new_rest first moment rest (Began order at) new = (or_parts (first.id == order.id) (is_begun order.id rest) new).1
 new_rest first moment rest (Opened unit) new = tt
 new_rest first moment rest (Ended code) new = tt
 new_rest first moment rest (Closed unit) new = tt
 
-new_both : (first : Contents) (moment : ℕ) (rest : List Record) (entry : Record) → is_begun first.id (entry ∷ []) ≡ false
+new_both : (first : Contents) (moment : ℕ) (rest : List Record) (entry : Record)
+    → is_begun first.id (entry ∷ []) ≡ false
     → IsNew entry rest
     → IsNew entry (Began first moment ∷ rest)
 new_both first moment rest (Began order at) other new =

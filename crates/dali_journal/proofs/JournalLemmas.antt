@@ -86,7 +86,7 @@ due_next (standings.Opened order) (Ended DoubtOpen) records limit room new_room 
 due_next (standings.Left unit) (Closed closed) records limit room new_room index_room numbers s a may d r = omega arith
 due_next _ _ records limit room new_room index_room numbers s a may d r = absurd a
 
-length_come : (progress : Progress) (orders : List (Contents × Progress)) → length (come_to progress orders)
+pub length_come : (progress : Progress) (orders : List (Contents × Progress)) → length (come_to progress orders)
     ≡ length orders
 length_come progress [] = refl
 length_come progress (newest ∷ older) = refl

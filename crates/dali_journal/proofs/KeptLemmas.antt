@@ -12,12 +12,11 @@ use Rattle.dali_journal.specs.declared.standing.Standing.{Standing}
 use Rattle.dali_journal.specs.declared.standing.Standing.TheVariants as standings
 use Rattle.dali_journal.specs.declared.kept.Progress.{Progress}
 use Rattle.dali_journal.specs.declared.kept.Progress.TheVariants as reached
-use Rattle.dali_journal.specs.declared.kept.Kept.{Kept}
 use Rattle.dali_journal.specs.declared.kept.Kept.TheVariants as kepts
 use Rattle.dali_journal.specs.Sentence.{Allows, next_standing, standing_of, is_begun, IsSentence}
 use Rattle.dali_journal.specs.Orders.{come_to, orders_of, kept_at, kept_among, kept_of}
 use Rattle.dali_journal.specs.Law.{IsUnended, HasEnded}
-use Rattle.dali_journal.proofs.BegunLemmas.{is_kept, kept_where_begun}
+use Rattle.dali_journal.proofs.BegunLemmas.{is_kept, kept_where_begun, nothing_kept}
 use Rattle.dali_journal.proofs.IndexLemmas.{IsNewest, newest, opened_same}
 
 -- what stands at the end of a sentence, by its standing
@@ -217,8 +216,10 @@ kept_there moment (entry ∷ more) older records order code s (inr is) =
     let sentence : IsSentence (entry ∷ (more ++ Ended code ∷ Opened order.unit ∷ Began order moment ∷ older)) =
     subst IsSentence is s in
     ap (kept_of order.id) is
-    ∙ still_kept entry (more ++ Ended code ∷ Opened order.unit ∷ Began order moment ∷ older) order.id order code sentence
-    (kept_there moment more older (more ++ Ended code ∷ Opened order.unit ∷ Began order moment ∷ older) order code sentence.0
+    ∙ still_kept entry (more ++ Ended code ∷ Opened order.unit ∷ Began order moment ∷ older) order.id order code
+    sentence
+    (kept_there moment more older (more ++ Ended code ∷ Opened order.unit ∷ Began order moment ∷ older) order code
+    sentence.0
     (inr refl))
 
 -- An order that hasn't ended
@@ -247,8 +248,10 @@ unended_began first moment older id order a k below = by (first.id == id) refl k
       → cond test (kepts.Unfinished first) (kept_of id older) ≡ kepts.Unfinished order
       → Unended (Began first moment ∷ older) id order
   by true t k =
-      let same : first ≡ order = cc in
-      (ap (λ (o : Contents). o.id) (sym same) ∙ eqb-true first.id id t, (moment, older, inl (ap (λ o. Began o moment ∷ older) same)))
+      let same : first ≡ order = cc in (
+        ap (λ (o : Contents). o.id) (sym same) ∙ eqb-true first.id id t,
+        (moment, older, inl (ap (λ o. Began o moment ∷ older) same)),
+      )
   by false t k = absurd (none (unended_stands order older (below k).1))
 
 unended_opened : (unit : ℕ) (older : List Record) (order : Contents) → Allows (standing_of older) (Opened unit)
@@ -314,11 +317,6 @@ unended_kept records order (moment, older, inr is) =
 
 -- No order
 
-absent : (kept : Kept) → is_kept kept ≡ false → kept ≡ kepts.Absent
-absent kepts.Absent e = refl
-absent (kepts.Unfinished order) e = cc
-absent (kepts.Ended order code) e = cc
-
 pub in_the_groups : (records : List Record) (id : ℕ) → IsSentence records
     → ((kept_of id records ≡ kepts.Absent) ↔ (is_begun id records ≡ false))
     × ((order : Contents) → (kept_of id records ≡ kepts.Unfinished order) ↔ ((order.id ≡ id) × IsUnended order records))
@@ -327,7 +325,7 @@ pub in_the_groups : (records : List Record) (id : ℕ) → IsSentence records
 in_the_groups records id s = (
   (
     λ k. kept_where_begun id records ∙ ap is_kept k,
-    λ none. absent (kept_of id records) (sym (kept_where_begun id records) ∙ none),
+    λ none. nothing_kept (kept_of id records) (sym (kept_where_begun id records) ∙ none),
   ),
   (λ order. (unended records id order s, λ is. rw (sym is.0) (unended_kept records order is.1))),
   (λ order code. (

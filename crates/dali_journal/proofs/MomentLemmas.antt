@@ -5,12 +5,11 @@ use Rattle.std.proofs.lemmas.Bool.{eqb-true, eq-eqb}
 use Rattle.dali_bank.specs.Order.{Contents}
 use Rattle.dali_journal.specs.declared.record.Record.{Record}
 use Rattle.dali_journal.specs.declared.record.Record.TheVariants.{Began, Opened, Ended, Closed}
-use Rattle.dali_journal.specs.declared.kept.Kept.{Kept}
 use Rattle.dali_journal.specs.declared.kept.Kept.TheVariants as kepts
 use Rattle.dali_journal.specs.Sentence.{is_begun, IsSentence}
 use Rattle.dali_journal.specs.Orders.{kept_of, moment_of}
 use Rattle.dali_journal.specs.Law.{MomentsAreKept}
-use Rattle.dali_journal.proofs.BegunLemmas.{is_kept, kept_where_begun}
+use Rattle.dali_journal.proofs.BegunLemmas.{is_kept, kept_where_begun, nothing_kept}
 
 abbrev has_moment : Option ℕ → Bool
 has_moment None = false
@@ -31,11 +30,6 @@ begun_moment id (Closed unit ∷ older) = begun_moment id older
 no_moment : (found : Option ℕ) → has_moment found ≡ false → found ≡ None
 no_moment None e = refl
 no_moment (Some moment) e = cc
-
-nothing_kept : (kept : Kept) → is_kept kept ≡ false → kept ≡ kepts.Absent
-nothing_kept kepts.Absent e = refl
-nothing_kept (kepts.Unfinished order) e = cc
-nothing_kept (kepts.Ended order code) e = cc
 
 -- the Began of a number among the records
 abbrev Stands : ℕ → ℕ → List Record → Type 0

@@ -27,7 +27,8 @@ use Rattle.dali_journal.proofs.PairLemmas.{AreBytes, ReadsPairs, reads-pairs_of,
 
 -- no record agrees with the bytes as far as both go
 abbrev pub NoRecord : Version → List ℕ → Type 0
-NoRecord version bytes = (entry : Record) (rest more : List ℕ) → IsRecord version entry → spelling version entry ++ rest ≡ bytes ++ more → ⊥
+NoRecord version bytes = (entry : Record) (rest more : List ℕ) → IsRecord version entry
+    → spelling version entry ++ rest ≡ bytes ++ more → ⊥
 
 bad-reads : (version : Version) (bytes : List ℕ) → NoRecord version bytes → IsRead version bytes Bad
 bad-reads version bytes none = λ entry. (
@@ -35,12 +36,14 @@ bad-reads version bytes none = λ entry. (
   λ cut. none entry [] cut.1 cut.0 (append-nil (spelling version entry) ∙ cut.3),
 )
 
-letter-first : (version : Version) (entry : Record) (rest : List ℕ) (letter : ℕ) (more : List ℕ) → spelling version entry ++ rest ≡ letter ∷ more
+letter-first : (version : Version) (entry : Record) (rest : List ℕ) (letter : ℕ) (more : List ℕ)
+    → spelling version entry ++ rest ≡ letter ∷ more
     → letter ≡ letter_of entry
 letter-first version entry rest letter more e = sym (ap (λ bytes. get_or bytes 0 0) e) ∙ letter_at version entry rest
 
 -- another letter is another record
-other-letter : (version : Version) (entry : Record) (rest : List ℕ) (letter : ℕ) (more : List ℕ) → letter ≢ letter_of entry
+other-letter : (version : Version) (entry : Record) (rest : List ℕ) (letter : ℕ) (more : List ℕ)
+    → letter ≢ letter_of entry
     → spelling version entry ++ rest ≡ letter ∷ more → ⊥
 other-letter version entry rest letter more other e = other (letter-first version entry rest letter more e)
 
@@ -48,12 +51,14 @@ other-letter version entry rest letter more other e = other (letter-first versio
 no-opened : (version : Version) (unit : ℕ) (after : List ℕ) → 63 < unit → NoRecord version (0x4F ∷ unit ∷ after)
 no-opened version unit after large (Opened other) rest more is e =
     let same : other ≡ unit = ap (λ bytes. get_or bytes 1 0) e in omega arith
-no-opened version unit after large entry rest more is e = other-letter version entry rest 0x4F (unit ∷ after ++ more) (omega arith) e
+no-opened version unit after large entry rest more is e =
+    other-letter version entry rest 0x4F (unit ∷ after ++ more) (omega arith) e
 
 no-closed : (version : Version) (unit : ℕ) (after : List ℕ) → 63 < unit → NoRecord version (0x43 ∷ unit ∷ after)
 no-closed version unit after large (Closed other) rest more is e =
     let same : other ≡ unit = ap (λ bytes. get_or bytes 1 0) e in omega arith
-no-closed version unit after large entry rest more is e = other-letter version entry rest 0x43 (unit ∷ after ++ more) (omega arith) e
+no-closed version unit after large entry rest more is e =
+    other-letter version entry rest 0x43 (unit ∷ after ++ more) (omega arith) e
 
 pub code_number-small : (code : Code) → code_number code ≤ 5
 code_number-small Done = omega arith
@@ -66,10 +71,12 @@ code_number-small DoubtOpen = omega arith
 no-ended : (version : Version) (number : ℕ) (after : List ℕ) → 5 < number → NoRecord version (0x45 ∷ number ∷ after)
 no-ended version number after large (Ended code) rest more is e =
     let same : code_number code ≡ number = ap (λ bytes. get_or bytes 1 0) e in omega (arith, code_number-small code)
-no-ended version number after large entry rest more is e = other-letter version entry rest 0x45 (number ∷ after ++ more) (omega arith) e
+no-ended version number after large entry rest more is e =
+    other-letter version entry rest 0x45 (number ∷ after ++ more) (omega arith) e
 
 -- a record of two bytes is read
-reads-short : (version : Version) (letter most : ℕ) (make : ℕ → Record) → ((n : ℕ) → n ≤ most → IsRecord version (make n)) →
+reads-short : (version : Version) (letter most : ℕ) (make : ℕ → Record)
+    → ((n : ℕ) → n ≤ most → IsRecord version (make n)) →
     ((n : ℕ) → n ≤ most → spelling version (make n) ≡ letter ∷ n ∷ [])
     → ((n : ℕ) (after : List ℕ) → most < n → NoRecord version (letter ∷ n ∷ after)) →
     (bytes : List ℕ) → IsRead version (letter ∷ bytes) (short_piece make most bytes)
@@ -317,7 +324,8 @@ not-empty [] x xs e = cc
 not-empty (y ∷ front) x xs e = cc
 
 -- a moment cut short
-cut-moment : (id moment : ℕ) (bytes fill : List ℕ) → id < 2 ^ 64 → moment < 2 ^ 64 → to_be_bytes w64 moment ≡ bytes ++ fill
+cut-moment : (id moment : ℕ) (bytes fill : List ℕ) → id < 2 ^ 64 → moment < 2 ^ 64
+    → to_be_bytes w64 moment ≡ bytes ++ fill
     → IsRead Two (0x42 ∷ to_be_bytes w64 id ++ bytes) Cut
 cut-moment id moment bytes fill i m e = (
   Began (smallest id 0) moment,
@@ -403,7 +411,8 @@ no-letter version letter after b o e c (Closed unit) rest more is same =
     eqb-false letter 0x43 c (letter-first version (Closed unit) rest letter (after ++ more) same)
 
 -- What is read of a record is exact.
-pub reads-piece_of : (version : Version) (bytes : List ℕ) → AreBytes bytes → IsRead version bytes (piece_of version bytes)
+pub reads-piece_of : (version : Version) (bytes : List ℕ) → AreBytes bytes
+    → IsRead version bytes (piece_of version bytes)
 reads-piece_of version [] fit = (Opened 0, (omega arith, 0x4F ∷ 0 ∷ [], λ e. cc, refl))
 reads-piece_of version (letter ∷ rest) fit =
     by (letter == 0x42) (letter == 0x4F) (letter == 0x45) (letter == 0x43) refl refl refl refl
@@ -413,7 +422,8 @@ reads-piece_of version (letter ∷ rest) fit =
         (cond b (order_piece version rest) (cond o (short_piece Opened 63 rest)
         (cond e (short_piece (λ n. Ended (code_numbered n)) 5 rest) (cond c (short_piece Closed 63 rest) Bad))))
     by true o e c p q r s =
-        subst (λ l. IsRead version (l ∷ rest) (order_piece version rest)) (sym (eqb-true letter 0x42 p)) (reads-order version rest fit.1)
+        subst (λ l. IsRead version (l ∷ rest) (order_piece version rest)) (sym (eqb-true letter 0x42 p))
+        (reads-order version rest fit.1)
     by false true e c p q r s =
         subst (λ l. IsRead version (l ∷ rest) (short_piece Opened 63 rest)) (sym (eqb-true letter 0x4F q))
         (reads-short version 0x4F 63 Opened (λ n few. few) (λ n few. refl) (no-opened version) rest)

@@ -80,27 +80,34 @@ letter_of (Opened unit) = 0x4F
 letter_of (Ended code) = 0x45
 letter_of (Closed unit) = 0x43
 
-pub letter_at : (version : Version) (entry : Record) (rest : List ℕ) → get_or (spelling version entry ++ rest) 0 0 ≡ letter_of entry
+pub letter_at : (version : Version) (entry : Record) (rest : List ℕ)
+    → get_or (spelling version entry ++ rest) 0 0 ≡ letter_of entry
 letter_at version (Began order moment) rest = refl
 letter_at version (Opened unit) rest = refl
 letter_at version (Ended code) rest = refl
 letter_at version (Closed unit) rest = refl
 
-letters_same : (version : Version) (entry other : Record) (rest more : List ℕ) → spelling version entry ++ rest ≡ spelling version other ++ more
+letters_same : (version : Version) (entry other : Record) (rest more : List ℕ)
+    → spelling version entry ++ rest ≡ spelling version other ++ more
     → letter_of entry ≡ letter_of other
 letters_same version entry other rest more same =
     sym (letter_at version entry rest) ∙ ap (λ bytes. get_or bytes 0 0) same ∙ letter_at version other more
 
-pub records_same : (version : Version) (entry other : Record) (rest more : List ℕ) → IsRecord version entry → IsRecord version other
+pub records_same : (version : Version) (entry other : Record) (rest more : List ℕ) → IsRecord version entry
+    → IsRecord version other
     → spelling version entry ++ rest ≡ spelling version other ++ more → entry ≡ other
 records_same version (Began order moment) (Began other others) rest more is other_is same =
     orders_same version order other moment others rest more is other_is same
-records_same version (Opened unit) (Opened other) rest more is other_is same = ap Opened (ap (λ bytes. get_or bytes 1 0) same)
+records_same version (Opened unit) (Opened other) rest more is other_is same =
+    ap Opened (ap (λ bytes. get_or bytes 1 0) same)
 records_same version (Ended code) (Ended other) rest more is other_is same =
     ap Ended (codes_same code other (ap (λ bytes. get_or bytes 1 0) same))
-records_same version (Closed unit) (Closed other) rest more is other_is same = ap Closed (ap (λ bytes. get_or bytes 1 0) same)
+records_same version (Closed unit) (Closed other) rest more is other_is same =
+    ap Closed (ap (λ bytes. get_or bytes 1 0) same)
 records_same version entry other rest more is other_is same =
-    absurd (let letters : letter_of entry ≡ letter_of other = letters_same version entry other rest more same in omega arith)
+    absurd (let letters : letter_of entry ≡ letter_of other = letters_same version entry other rest more same in
+    omega arith)
 
 pub none_begins_another : NoSpellingBeginsAnother
-none_begins_another version a b more is b_is same = records_same version a b more [] is b_is (sym same ∙ sym (append-nil (spelling version b)))
+none_begins_another version a b more is b_is same =
+    records_same version a b more [] is b_is (sym same ∙ sym (append-nil (spelling version b)))

@@ -1,7 +1,7 @@
 -- Bytes are the torn journal of one list of records, and then they have no fault.
 use Rattle.std.proofs.Common.{◌≡◌, ℕ, zero, suc, ◌+◌, ◌-◌, ◌≤◌, List, [], ◌∷◌, ◌++◌, length, drop, refl, sym}
 use Rattle.std.proofs.Common.{ap, ◌∙◌, ◌≢◌, subst, arith, get_or, append_assoc, length-append, true≢false}
-use Rattle.std.proofs.lemmas.List.{append-nil}
+use Rattle.std.proofs.lemmas.List.{append-nil, append_cancel_left}
 use Rattle.std.proofs.Math.Seq.{drop-append_seam}
 use Rattle.dali_journal.specs.declared.record.Record.{Record}
 use Rattle.dali_journal.specs.declared.record.Record.TheVariants.{Began, Opened, Ended, Closed}
@@ -41,18 +41,23 @@ cut_bytes : (version : Version) (bytes : List ℕ) (last : Record) → IsCutOf v
 cut_bytes version bytes last cut = bytes_front bytes cut.1 (subst AreBytes cut.3 (spelling_bytes version last cut.0))
 
 -- bytes that are cut off a record begin with none
-cut_whole : (version : Version) (bytes : List ℕ) (last entry : Record) → IsCutOf version bytes last → BeginsWith version bytes entry → ⊥
+cut_whole : (version : Version) (bytes : List ℕ) (last entry : Record) → IsCutOf version bytes last
+    → BeginsWith version bytes entry → ⊥
 cut_whole version bytes last entry cut begins =
     let whole = cut.3 ∙ ap (λ bs. bs ++ cut.1) begins.2 ∙ append_assoc (spelling version entry) begins.1 cut.1 in
     let same : last ≡ entry =
-    records_same version last entry [] (begins.1 ++ cut.1) cut.0 begins.0 (append-nil (spelling version last) ∙ whole) in
-    let long = ap length (sym (ap (spelling version) same) ∙ whole) ∙ length-append (spelling version entry) (begins.1 ++ cut.1) in
+    records_same version last entry [] (begins.1 ++ cut.1) cut.0 begins.0
+    (append-nil (spelling version last) ∙ whole) in
+    let long = ap length (sym (ap (spelling version) same) ∙ whole)
+    ∙ length-append (spelling version entry) (begins.1 ++ cut.1) in
     cut.2 (none cut.1 (let l = length-append begins.1 cut.1 in omega arith))
 
-cut_read : (version : Version) (most : ℕ) (older : List Record) (bytes : List ℕ) (last : Record) → IsCutOf version bytes last
+cut_read : (version : Version) (most : ℕ) (older : List Record) (bytes : List ℕ) (last : Record)
+    → IsCutOf version bytes last
     → records_from version most older bytes ≡ older
 cut_read version zero older bytes last cut = refl
-cut_read version (suc most) older bytes last cut = by (piece_of version bytes) (reads-piece_of version bytes (cut_bytes version bytes last cut))
+cut_read version (suc most) older bytes last cut =
+    by (piece_of version bytes) (reads-piece_of version bytes (cut_bytes version bytes last cut))
   where
     by : (piece : Piece) → IsRead version bytes piece
         → read_further piece older (λ entry len. records_from version most (entry ∷ older) (drop len bytes)) ≡ older
@@ -67,7 +72,8 @@ pub record Torn (version : Version) (bytes : List ℕ) (records : List Record) :
   pub cut : (last : Record) × IsCutOf version rest last
 
 -- the records of a torn journal are those that its bytes begin with
-pub torn_read : (version : Version) (bytes : List ℕ) (records : List Record) → AreRecords version records → Torn version bytes records
+pub torn_read : (version : Version) (bytes : List ℕ) (records : List Record) → AreRecords version records
+    → Torn version bytes records
     → records_in version bytes ≡ records
 torn_read version bytes records are torn =
     let enough = enough_bytes version records in
@@ -84,13 +90,15 @@ torn_read version bytes records are torn =
 read_more : (version : Version) (most : ℕ) (older : List Record) (bytes : List ℕ)
     → (more : List Record) × (records_from version most older bytes ≡ more ++ older)
 read_more version zero older bytes = ([], refl)
-read_more version (suc most) older bytes = by (piece_of version bytes) (λ entry len. read_more version most (entry ∷ older) (drop len bytes))
+read_more version (suc most) older bytes =
+    by (piece_of version bytes) (λ entry len. read_more version most (entry ∷ older) (drop len bytes))
   where
     by : (piece : Piece)
         → ((entry : Record) (len : ℕ)
         → (more : List Record) × (records_from version most (entry ∷ older) (drop len bytes) ≡ more ++ entry ∷ older))
         → (more : List Record)
-        × (read_further piece older (λ entry len. records_from version most (entry ∷ older) (drop len bytes)) ≡ more ++ older)
+        × (read_further piece older (λ entry len. records_from version most (entry ∷ older) (drop len bytes)) ≡ more
+        ++ older)
     by (Whole entry len) next =
         let n = next entry len in (n.0 ++ entry ∷ [], n.1 ∙ sym (append_assoc n.0 (entry ∷ []) older))
     by Cut next = ([], refl)
@@ -116,7 +124,8 @@ stands (faults.Full at) limit place records (Began order moment) s few not =
 stands _ limit place records entry s few not = absurd not
 
 -- where a record stands behind records, a torn journal of these bytes has it
-pub record_stands : (version : Version) (limit : ℕ) (bytes : List ℕ) (records others : List Record) (rest : List ℕ) (entry : Record)
+pub record_stands : (version : Version) (limit : ℕ) (bytes : List ℕ) (records others : List Record) (rest : List ℕ)
+    (entry : Record)
     → records_in version bytes ≡ records → AreBytes bytes
     → AreRecords version others → bytes ≡ records_spelling version others ++ rest → BeginsWith version rest entry
     → (more : List Record) × (records ≡ more ++ entry ∷ others)
@@ -140,17 +149,13 @@ record_stands version limit bytes records others rest entry read are in_range sp
           ∙ found.1,
     )
 
-torn_bytes : (version : Version) (bytes : List ℕ) (records : List Record) → AreRecords version records → Torn version bytes records
+torn_bytes : (version : Version) (bytes : List ℕ) (records : List Record) → AreRecords version records
+    → Torn version bytes records
     → AreBytes bytes
 torn_bytes version bytes records are torn =
     subst AreBytes (sym torn.spelled)
     (bytes-append (records_spelling version records) torn.rest (records_bytes version records are)
     (cut_bytes version torn.rest torn.cut.0 torn.cut.1))
-
--- the same records leave the same rest
-same_rest : (front a b : List ℕ) → front ++ a ≡ front ++ b → a ≡ b
-same_rest [] a b e = e
-same_rest (x ∷ front) a b e = same_rest front a b (ap (drop 1) e)
 
 pub bad_read : (version : Version) (most : ℕ) (older : List Record) (bytes : List ℕ) → AreBytes bytes
     → ((entry : Record) → (¬ BeginsWith version bytes entry) × (¬ IsCutOf version bytes entry))
@@ -165,9 +170,11 @@ bad_read version (suc most) older bytes are bad = by (piece_of version bytes) (r
     by Bad reads = refl
 
 -- where the rest is neither a record nor a cut one, the bytes are no torn journal
-bad_not_torn : (version : Version) (bytes : List ℕ) (records others : List Record) (rest : List ℕ) → AreRecords version records
+bad_not_torn : (version : Version) (bytes : List ℕ) (records others : List Record) (rest : List ℕ)
+    → AreRecords version records
     → Torn version bytes records → AreRecords version others
-    → bytes ≡ records_spelling version others ++ rest → ((entry : Record) → (¬ BeginsWith version rest entry) × (¬ IsCutOf version rest entry))
+    → bytes ≡ records_spelling version others ++ rest
+    → ((entry : Record) → (¬ BeginsWith version rest entry) × (¬ IsCutOf version rest entry))
     → ⊥
 bad_not_torn version bytes records others rest are torn in_range spelled bad =
     let enough = enough_bytes version others in
@@ -175,14 +182,16 @@ bad_not_torn version bytes records others rest are torn in_range spelled bad =
     let most : ℕ = length bytes - length others in
     let count : length bytes ≡ length others + most = omega arith in
     let rest_are =
-    bytes_back (records_spelling version others) rest (subst AreBytes spelled (torn_bytes version bytes records are torn)) in
+    bytes_back (records_spelling version others) rest
+    (subst AreBytes spelled (torn_bytes version bytes records are torn)) in
     let read =
     ap (λ n. records_from version n [] bytes) count ∙ ap (records_from version (length others + most) []) spelled
     ∙ read_all version others most [] rest in_range rest_are
-    ∙ ap (λ those. records_from version most those rest) (append-nil others) ∙ bad_read version most others rest rest_are bad in
+    ∙ ap (λ those. records_from version most those rest) (append-nil others)
+    ∙ bad_read version most others rest rest_are bad in
     let same : records ≡ others = sym (torn_read version bytes records are torn) ∙ read in
     let rests : torn.rest ≡ rest =
-    same_rest (records_spelling version others) torn.rest rest
+    append_cancel_left (records_spelling version others) torn.rest rest
     (ap (λ those. records_spelling version those ++ torn.rest) (sym same) ∙ sym torn.spelled ∙ spelled) in
     (bad torn.cut.0).1 (subst (λ bs. IsCutOf version bs torn.cut.0) rests torn.cut.1)
 
@@ -192,7 +201,8 @@ no_record : (version : Version) (limit : ℕ) (bytes : List ℕ) (records : List
     → bytes ≡ records_spelling version others ++ rest
     → (entry : Record) → BeginsWith version rest entry → MayNotFollow fault limit place others entry → ⊥
 no_record version limit bytes records kept torn fault others rest place before spelled entry begins not =
-    let found = record_stands version limit bytes records others rest entry (torn_read version bytes records kept.in_range torn)
+    let found = record_stands version limit bytes records others rest entry
+    (torn_read version bytes records kept.in_range torn)
     (torn_bytes version bytes records kept.in_range torn) before.in_range spelled begins in
     let few = kept.whole.1 in
     let fewer = ap (λ those. length (orders_of those)) found.1 in
@@ -233,7 +243,8 @@ header_behind version bytes records rest spelled =
     ap (behind_header version) (spelled ∙ append_assoc (header version) (records_spelling version records) rest)
     ∙ drop-append_seam (header version) (records_spelling version records ++ rest)
 
-pub torn_behind : (version : Version) (bytes : List ℕ) (records : List Record) (len : ℕ) → IsTorn version bytes records len
+pub torn_behind : (version : Version) (bytes : List ℕ) (records : List Record) (len : ℕ)
+    → IsTorn version bytes records len
     → Torn version (behind_header version bytes) records
 torn_behind version bytes records len torn = record {
   rest = torn.rest;

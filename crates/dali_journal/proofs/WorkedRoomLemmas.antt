@@ -31,7 +31,8 @@ pub not_taken_by_closing : (unit : ℕ) (old new : JournalState) (order : Conten
 not_taken_by_closing unit old new order has tight keeps = tight_has_none new order tight (keeps order has)
 
 -- one that begins an order may take it
-pub taken_by_beginning : (begun : Contents) (moment : ℕ) (old new : JournalState) → KeepsRoom (Began begun moment) old new
+pub taken_by_beginning : (begun : Contents) (moment : ℕ) (old new : JournalState)
+    → KeepsRoom (Began begun moment) old new
 taken_by_beginning begun moment old new = tt
 
 -- the limit is judged first: out of range it is the fault, and there is no want of memory

@@ -27,8 +27,8 @@ use std::alloc::Global;
 use std::marker::Model;
 use std::mem;
 
-// The most orders that a journal can be made for.
-const MOST_ORDERS: u32 = 100_000;
+/// The most orders that a journal can be made for.
+pub const MOST_ORDERS: u32 = 100_000;
 
 // An `Opened`, an `Ended` and a `Closed`.
 const BYTES_BEHIND_BEGAN: usize = 6;
@@ -198,7 +198,8 @@ impl Journal {
         alloc: Global,
         bytes: Vec<u8>,
     ) -> Result<(Journal, usize, Version), JournalFault>
-        ensures ok { IfOk result (λ loaded. IsLoaded self.limit (header Two ++ bytes.items) loaded.0 loaded.1 loaded.2) }
+        ensures ok { IfOk result (λ loaded.
+            IsLoaded self.limit (header Two ++ bytes.items) loaded.0 loaded.1 loaded.2) }
         ensures err { IfErr result (λ fault. IsLoadFault HoldsOrders self.limit (header Two ++ bytes.items) fault) }
         ensures torn { IfErr result (λ fault. IsLoadableWithin HoldsOrders self.limit (header Two ++ bytes.items)
             → fault ≡ JournalFault.NoMemory) }

@@ -19,7 +19,7 @@ mod version;
 
 pub use behind::JoinFault;
 pub use fault::{JournalFault, NoMemory};
-pub use journal::Journal;
+pub use journal::{Journal, MOST_ORDERS};
 pub use kept::{Kept, Progress};
 pub use read::Piece;
 pub use record::{Code, Record};

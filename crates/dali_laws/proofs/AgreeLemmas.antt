@@ -113,7 +113,8 @@ planned_too start next whole more other records told planned = tt
 
 -- An order that gets another reply than Taken changes nothing, wherever it stands
 
-passed_over : (start : Start) (past : List Happening) (order : Contents) (moment : ℕ) (reply : Reply) → reply ≢ replies.Taken
+passed_over : (start : Start) (past : List Happening) (order : Contents) (moment : ℕ) (reply : Reply)
+    → reply ≢ replies.Taken
     → Agree start start (Answered order.id reply ∷ Asked order moment ∷ past) past
 passed_over start past order moment replies.Taken other = absurd (other refl)
 passed_over start past order moment reply other =
@@ -139,7 +140,8 @@ pub may_happen : (start : Start) (past : List Happening) (next : Happening) → 
 may_happen start (Asked order moment ∷ past) next finished may = absurd finished
 may_happen start _ next finished may = may
 
-pub may_follow : (start : Start) (past : List Happening) (next : Happening) → IsFinished past → MayHappen start past next
+pub may_follow : (start : Start) (past : List Happening) (next : Happening) → IsFinished past
+    → MayHappen start past next
     → MayFollow start past next
 may_follow start (Asked order moment ∷ past) next finished may = absurd finished
 may_follow start _ next finished may = may

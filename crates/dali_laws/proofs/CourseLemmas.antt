@@ -219,9 +219,11 @@ after_began : (first stands : Standing) (order : Contents) (moment : ℕ) (waite
     (orders others : List (Contents × Progress)) (sent told : List Exchange) (kept : ℕ)
     → Allows stands (Began order moment) → waiter ≡ Some order → HasCome first stands waiter ended orders sent told kept
     → HasCome first (standings.Began order) next false others sent [] (suc kept)
-after_began first (standings.Began other) order moment waiter next ended orders others sent told kept allowed waits come =
+after_began first (standings.Began other) order moment waiter next ended orders others sent told kept allowed waits come
+    =
     absurd allowed
-after_began first (standings.Opened other) order moment waiter next ended orders others sent told kept allowed waits come =
+after_began first (standings.Opened other) order moment waiter next ended orders others sent told kept allowed waits
+    come =
     absurd allowed
 after_began first (standings.Left left) order moment waiter next ended orders others sent told kept allowed waits come =
     absurd allowed

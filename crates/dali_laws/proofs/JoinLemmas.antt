@@ -24,7 +24,8 @@ joined_records start next past (other ∷ more) same = joined_records start next
 
 joined_course : (past more : List Happening) → course_of (more ++ Stopped ∷ past) ≡ course_of more
 joined_course past [] = refl
-joined_course past (Answered id reply ∷ Asked order moment ∷ more) = ap (replied order moment reply) (joined_course past more)
+joined_course past (Answered id reply ∷ Asked order moment ∷ more) =
+    ap (replied order moment reply) (joined_course past more)
 joined_course past (newest ∷ more) = ap (λ (before : Course). next_course before newest) (joined_course past more)
 
 joined_agree : (start next : Start) (past more : List Happening) → next.records ≡ records_of start past

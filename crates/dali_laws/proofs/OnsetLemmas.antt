@@ -252,7 +252,8 @@ said_spared : (start : Start) (zero : World) (first : SimState) (past : List Hap
     → IsChain (MovesBy SimStep) first past last states → AsksAllProper past → RightAlong zero start past last states
     → IsSpared start past last states
 said_spared start zero first [] last states none legal planned chain asks each = tt
-said_spared start zero first (Answered id reply ∷ Asked order moment ∷ past) last states none legal planned chain asks each =
+said_spared start zero first (Answered id reply ∷ Asked order moment ∷ past) last states none legal planned chain asks
+    each =
     tt
 said_spared start zero first (Answered id reply ∷ past) last [] none legal planned chain asks each = absurd chain
 said_spared start zero first (Answered id (replies.Kept code) ∷ past) last (state ∷ states) none legal planned chain

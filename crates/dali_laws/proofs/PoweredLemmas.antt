@@ -41,7 +41,8 @@ older_apart _ past apart = apart
 same_course : (past : List Happening) → IsPowerApart past → course_of past ≡ course_of (unpowered past)
 same_course [] apart = refl
 same_course (Powered address ∷ past) apart = same_course past (older_apart (Powered address) past apart)
-same_course (Answered id reply ∷ Asked order moment ∷ past) apart = ap (replied order moment reply) (same_course past apart)
+same_course (Answered id reply ∷ Asked order moment ∷ past) apart =
+    ap (replied order moment reply) (same_course past apart)
 same_course (Answered id reply ∷ Powered address ∷ past) apart =
     said_quiet id reply (unpowered past) (not_asked address past apart)
 same_course (newest ∷ past) apart =

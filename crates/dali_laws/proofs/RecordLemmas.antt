@@ -197,7 +197,8 @@ pub keeps_only : (lost : List ℕ) (now : World) (stands : Standing) (entry : Re
     → Grounds (Shows (IsAmong lost) now) stands entry
     → ((address : ℕ) → is_enabled now address ≡ true → named_unit stands ≡ Some address)
     → (address : ℕ) → is_enabled now address ≡ true → named_unit (next_standing stands entry) ≡ Some address
-keeps_only lost now standings.Idle (Began order moment) allowed grounds only address on = let none = only address on in cc
+keeps_only lost now standings.Idle (Began order moment) allowed grounds only address on = let none =
+    only address on in cc
 keeps_only lost now (standings.Began order) (Opened unit) allowed grounds only address on =
     let none : None ≡ Some address = only address on in cc
 keeps_only lost now (standings.Began order) (Ended code) allowed grounds only address on = only address on

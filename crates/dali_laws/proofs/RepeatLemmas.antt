@@ -11,7 +11,7 @@ use Rattle.dali_journal.specs.declared.record.Record.TheVariants.{Began, Opened,
 use Rattle.dali_journal.specs.declared.kept.Progress.{Progress}
 use Rattle.dali_journal.specs.declared.kept.Progress.TheVariants as reached
 use Rattle.dali_journal.specs.declared.kept.Kept.TheVariants as kepts
-use Rattle.dali_journal.specs.Sentence.{is_begun, IsSentence}
+use Rattle.dali_journal.specs.Sentence.{IsSentence}
 use Rattle.dali_journal.specs.Orders.{orders_of, come_to, kept_at, kept_among, kept_of}
 use Rattle.dali_trace.specs.declared.happening.Reply.TheVariants as replies
 use Rattle.dali_trace.specs.declared.happening.Happening.{Happening}
@@ -22,8 +22,8 @@ use Rattle.dali_trace.specs.Quiet.{NoneTaken}
 use Rattle.dali_laws.specs.Law.{NothingIsDone}
 use Rattle.dali_laws.proofs.MomentLemmas.{may_keep}
 use Rattle.dali_laws.proofs.ReplyLemmas.{only_due}
-use Rattle.dali_laws.proofs.TakenLemmas.{neither}
 use Rattle.dali_laws.proofs.QuietLemmas.{stays_still}
+use Rattle.dali_journal.proofs.BehindLemmas.{absent}
 
 -- no two orders have one number
 abbrev AreDistinct : List (Contents × Progress) → Type 0
@@ -44,14 +44,6 @@ none_come id progress (newest ∷ older) e = by (newest.0.id == id) refl where
   by true p = let some : kept_at newest.0 newest.1 ≡ kepts.Absent = rw p at e in never_absent newest.0 newest.1 some
   by false p = let none : kept_among id older ≡ kepts.Absent = rw p at e in rw p none
 
-absent : (id : ℕ) (records : List Record) → is_begun id records ≡ false → kept_of id records ≡ kepts.Absent
-absent id [] e = refl
-absent id (Began order moment ∷ older) e =
-    let both = neither (order.id == id) (is_begun id older) e in rw both.0 (absent id older both.1)
-absent id (Opened unit ∷ older) e = none_come id reached.Open (orders_of older) (absent id older e)
-absent id (Ended code ∷ older) e = none_come id (reached.Ended code) (orders_of older) (absent id older e)
-absent id (Closed unit ∷ older) e = absent id older e
-
 distinct_come : (progress : Progress) (orders : List (Contents × Progress)) → AreDistinct orders
     → AreDistinct (come_to progress orders)
 distinct_come progress [] distinct = tt
@@ -59,7 +51,8 @@ distinct_come progress (newest ∷ older) distinct = distinct
 
 distinct_orders : (records : List Record) → IsSentence records → AreDistinct (orders_of records)
 distinct_orders [] sentence = tt
-distinct_orders (Began order moment ∷ older) sentence = (absent order.id older sentence.2, distinct_orders older sentence.0)
+distinct_orders (Began order moment ∷ older) sentence =
+    (absent order.id older sentence.2, distinct_orders older sentence.0)
 distinct_orders (Opened unit ∷ older) sentence =
     distinct_come reached.Open (orders_of older) (distinct_orders older sentence.0)
 distinct_orders (Ended code ∷ older) sentence =
@@ -117,7 +110,8 @@ answered start past order code _ ended due = absurd due
 
 pub repeat_answered : (start : Start) (past : List Happening) (order : Contents) (moment : ℕ) (code : Code)
     (next : Happening)
-    → Contains (orders_of (records_of start past)) (order, reached.Ended code) → Legal start (next ∷ Asked order moment ∷ past)
+    → Contains (orders_of (records_of start past)) (order, reached.Ended code)
+    → Legal start (next ∷ Asked order moment ∷ past)
     → next ≡ Answered order.id (replies.Kept code)
 repeat_answered start past order moment code next among legal =
     answered start past order code next
@@ -141,7 +135,8 @@ pub repeat_quiet : (start : Start) (past more : List Happening) (order : Content
     → NothingIsDone start (more ++ next ∷ Asked order moment ∷ []) past
 repeat_quiet start past more order moment code next among busy legal none =
     let is =
-    repeat_answered start past order moment code next among (legal_before start (next ∷ Asked order moment ∷ past) more legal) in
+    repeat_answered start past order moment code next among
+    (legal_before start (next ∷ Asked order moment ∷ past) more legal) in
     let part : List Happening = more ++ next ∷ Asked order moment ∷ [] in
     let so : Legal start (part ++ past) =
     subst (Legal start) (sym (append_assoc more (next ∷ Asked order moment ∷ []) past)) legal in

@@ -1,7 +1,6 @@
 -- One reply is due to an order, and no other.
-use Rattle.std.proofs.Common.{◌≡◌, ◌⊎◌, inl, inr, refl, sym, ap, ◌∙◌, subst, Bool, true, false, ◌==◌, ℕ, List, [], ◌∷◌}
+use Rattle.std.proofs.Common.{◌≡◌, ◌⊎◌, inl, inr, refl, sym, ap, ◌∙◌, subst, Bool, true, false, ℕ, List, [], ◌∷◌}
 use Rattle.std.specs.Prelude.{◌≢◌}
-use Rattle.std.proofs.lemmas.Bool.{eqb-true, eqb-false}
 use Rattle.dali_bank.specs.Order.{Contents}
 use Rattle.dali_journal.specs.declared.record.Code.{Code}
 use Rattle.dali_journal.specs.declared.kept.Kept.{Kept}
@@ -9,14 +8,9 @@ use Rattle.dali_journal.specs.declared.kept.Kept.TheVariants as kepts
 use Rattle.dali_trace.specs.declared.happening.Reply.{Reply}
 use Rattle.dali_trace.specs.declared.happening.Reply.TheVariants as replies
 use Rattle.dali_trace.specs.Replies.{IsReused, IsNotEnded, IsReplyBy}
+use Rattle.dali_write.proofs.TruthLemmas.{same_or_not}
 
--- numbers, pairs and lists of pairs are the same or not
-numbers : (a b : ℕ) → (a ≡ b) ⊎ (a ≢ b)
-numbers a b = by (a == b) refl where
-  by : (x : Bool) → (a == b) ≡ x → (a ≡ b) ⊎ (a ≢ b)
-  by true e = inl (eqb-true a b e)
-  by false e = inr (eqb-false a b e)
-
+-- pairs and lists of pairs are the same or not
 pair_is : (a b : ℕ × ℕ) → a.0 ≡ b.0 → a.1 ≡ b.1 → a ≡ b
 pair_is a b first second = λ i. (first i, second i)
 
@@ -30,7 +24,7 @@ lists : (a b : List (ℕ × ℕ)) → (a ≡ b) ⊎ (a ≢ b)
 lists [] [] = inl refl
 lists [] (other ∷ others) = inr (λ e. cc)
 lists (one ∷ more) [] = inr (λ e. cc)
-lists (one ∷ more) (other ∷ others) = by (numbers one.0 other.0) (numbers one.1 other.1) (lists more others) where
+lists (one ∷ more) (other ∷ others) = by (same_or_not one.0 other.0) (same_or_not one.1 other.1) (lists more others) where
   by : (one.0 ≡ other.0) ⊎ (one.0 ≢ other.0) → (one.1 ≡ other.1) ⊎ (one.1 ≢ other.1) → (more ≡ others) ⊎ (more ≢ others)
       → ((one ∷ more) ≡ (other ∷ others)) ⊎ ((one ∷ more) ≢ (other ∷ others))
   by (inl first) (inl second) (inl rest) = inl (λ i. pair_is one other first second i ∷ rest i)
@@ -43,7 +37,7 @@ order_is : (a b : Contents) → a.id ≡ b.id → a.unit ≡ b.unit → a.update
 order_is a b id unit updates = λ i. record { id = id i; unit = unit i; updates = updates i }
 
 orders : (a b : Contents) → (a ≡ b) ⊎ (a ≢ b)
-orders a b = by (numbers a.id b.id) (numbers a.unit b.unit) (lists a.updates b.updates) where
+orders a b = by (same_or_not a.id b.id) (same_or_not a.unit b.unit) (lists a.updates b.updates) where
   by : (a.id ≡ b.id) ⊎ (a.id ≢ b.id) → (a.unit ≡ b.unit) ⊎ (a.unit ≢ b.unit)
       → (a.updates ≡ b.updates) ⊎ (a.updates ≢ b.updates) → (a ≡ b) ⊎ (a ≢ b)
   by (inl id) (inl unit) (inl updates) = inl (order_is a b id unit updates)

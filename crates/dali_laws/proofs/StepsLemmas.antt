@@ -214,7 +214,8 @@ one_step start before mid order steps (Kept entry) is legal planned at =
     })
 one_step start before mid order steps (Answered id reply) is legal planned at =
     let number =
-    said_number start mid id reply order legal.0 planned.0 (may_happen start mid (Answered id reply) at.finished legal.1) at.hand in
+    said_number start mid id reply order legal.0 planned.0
+    (may_happen start mid (Answered id reply) at.finished legal.1) at.hand in
     inl (record {
       later = [];
       reply = reply;

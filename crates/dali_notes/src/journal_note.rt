@@ -14,10 +14,12 @@ pub fn note_of_journal(alloc: Global, kind: Option<Kind>, fault: JournalFault) -
             "the input begins with 44h, as a journal of version 2 does, and not with the whole header 44 42 31 02",
         ),
         (_, JournalFault::Record(place)) => note.add(format_args!(
-            "byte {place}, counted from 0: here is neither a record (B, O, E or C, and what belongs to it) nor, at the end, a part of one"
+            "byte {place}, counted from 0: here is neither a record (B, O, E or C, and what belongs to \
+            it) nor, at the end, a part of one"
         )),
         (_, JournalFault::Sequence(place)) => note.add(format_args!(
-            "byte {place}, counted from 0: a record that may not follow: an order begins (B), its unit is opened (O), it ends (E), and a left unit is closed (C)"
+            "byte {place}, counted from 0: a record that may not follow: an order begins (B), its unit is \
+            opened (O), it ends (E), and a left unit is closed (C)"
         )),
         (_, JournalFault::Repeated(place)) => note.add(format_args!(
             "byte {place}, counted from 0: an order begins whose number an earlier one has"

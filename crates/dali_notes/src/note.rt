@@ -18,8 +18,8 @@ const NO_MEMORY: &str = "there is no memory to tell what is wrong";
 // What is told in place of words that a terminal might not show as they are.
 const NOT_PLAIN: &str = "what is wrong can't be shown";
 
-/// What a person is told of one fault, line by line (profile). Lines behind the first 1001, and those for which there is
-/// no memory, are left out.
+/// What a person is told of one fault, line by line (profile). Lines behind the first 1001, and those for which there
+/// is no memory, are left out.
 #[derive(Drop)]
 pub struct Note {
     alloc: Global,

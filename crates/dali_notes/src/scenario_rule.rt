@@ -1,3 +1,5 @@
+use dali_input::MOST_EVENTS;
+use dali_journal::MOST_ORDERS;
 use serde_json::Value as Json;
 use std::fmt;
 
@@ -86,7 +88,7 @@ pub fn scenario_members() -> [Member; 4] {
             "limit",
             Rule::Whole {
                 least: 1,
-                most: 100_000,
+                most: u64::from(MOST_ORDERS),
             },
         ),
         required("units", Rule::List),
@@ -118,7 +120,7 @@ pub fn fate_members() -> [Member; 4] {
             "times",
             Rule::Whole {
                 least: 1,
-                most: 20_000,
+                most: u64::from(MOST_EVENTS),
             },
         ),
         optional("lost", Rule::Wholes { least: 0, most: 63 }),
@@ -137,7 +139,7 @@ pub fn event_members() -> [Member; 5] {
             "steps",
             Rule::Whole {
                 least: 1,
-                most: 20_000,
+                most: u64::from(MOST_EVENTS),
             },
         ),
         optional(

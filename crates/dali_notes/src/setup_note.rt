@@ -1,7 +1,7 @@
 use crate::item_note::note_of_item;
 use crate::note::Note;
 use dali_gear::GearFault;
-use dali_input::{EventPlan, InputFault, Scenario, SetupFault, UnitPlan};
+use dali_input::{EventPlan, InputFault, MOST_EVENTS, Scenario, SetupFault, UnitPlan};
 use std::alloc::Global;
 
 /// Why a scenario can't be set up: what is wrong with the unit or the order that the fault names.
@@ -19,9 +19,10 @@ pub fn note_of_setup(alloc: Global, scenario: &Scenario<'_>, fault: SetupFault) 
             }
         }
         SetupFault::SameAddress => note_same_address(&mut note, &scenario.units),
-        SetupFault::Input(InputFault::TooBig) => note.add(
-            "the scenario is over 20000 events or fates, each `steps` and each fate counted as often as it stands for",
-        ),
+        SetupFault::Input(InputFault::TooBig) => note.add(format_args!(
+            "the scenario is over {MOST_EVENTS} events or fates, each `steps` and each fate counted as often as it \
+            stands for"
+        )),
         SetupFault::Input(_) => {}
     }
     note

@@ -14,7 +14,8 @@ abbrev pub behind : {A : Type 0} → ℕ → List A → List A
 behind count xs = take (length xs - count) (drop count xs)
 
 behind_is : {A : Type 0} (count : ℕ) (xs : List A) → behind count xs ≡ drop count xs
-behind_is count xs = let long = length-drop count xs in take_all (length xs - count) (drop count xs) (omega (arith, long))
+behind_is count xs = let long = length-drop count xs in
+    take_all (length xs - count) (drop count xs) (omega (arith, long))
 
 pub no_updates : (updates : List (ℕ × ℕ)) (bytes : List ℕ) → length updates < 1 → IsFirstOther updates bytes Same
 no_updates [] bytes none = (bytes, refl)
@@ -150,21 +151,27 @@ same_behind updates one two finding same first second =
 pub same_found : (updates : List (ℕ × ℕ)) (bytes : List ℕ) (finding : Finding) → IsFound updates bytes Same
     → IsFound updates bytes finding → finding ≡ Same
 same_found updates bytes Same all is = refl
-same_found updates bytes (Other location byte) (last, reaches, inl (one, is1, near, same)) (last2, r2, inl (two, is2, n2, other)) =
+same_found updates bytes (Other location byte) (last, reaches, inl (one, is1, near, same))
+    (last2, r2, inl (two, is2, n2, other)) =
     let both : one ≡ two = cc in same_behind updates one two (Other location byte) both same other
-same_found updates bytes (Other location byte) (last, reaches, inr (one, is1, late, same)) (last2, r2, inr (two, is2, l2, other)) =
+same_found updates bytes (Other location byte) (last, reaches, inr (one, is1, late, same))
+    (last2, r2, inr (two, is2, l2, other)) =
     let both : one ≡ two = cc in same_behind updates one two (Other location byte) both same other
-same_found updates bytes (Other location byte) (last, reaches, inl (one, is1, near, same)) (last2, r2, inr (two, is2, l2, other)) =
+same_found updates bytes (Other location byte) (last, reaches, inl (one, is1, near, same))
+    (last2, r2, inr (two, is2, l2, other)) =
     absurd (omega arith)
-same_found updates bytes (Other location byte) (last, reaches, inr (one, is1, late, same)) (last2, r2, inl (two, is2, n2, other)) =
+same_found updates bytes (Other location byte) (last, reaches, inr (one, is1, late, same))
+    (last2, r2, inl (two, is2, n2, other)) =
     absurd (omega arith)
 same_found updates bytes Short (last, reaches, inl (one, is1, near, same)) (last2, more, is2, short) =
     let both : last ≡ last2 = cc in absurd (omega arith)
 same_found updates bytes Short (last, reaches, inr (one, is1, late, same)) (last2, more, is2, short) =
     let both : last ≡ last2 = cc in absurd (omega arith)
-same_found updates bytes Format (last, reaches, inl (one, is1, near, same)) (last2, high, low, more, is2, r2, late, other) =
+same_found updates bytes Format (last, reaches, inl (one, is1, near, same))
+    (last2, high, low, more, is2, r2, late, other) =
     absurd (omega arith)
-same_found updates bytes Format (last, reaches, inr (one, is1, late, same)) (last2, high, low, more, is2, r2, l2, other) =
+same_found updates bytes Format (last, reaches, inr (one, is1, late, same))
+    (last2, high, low, more, is2, r2, l2, other) =
     let first : high ≡ 0x00 = cc in
     let second : low ≡ 0x03 = cc in
     absurd (other (first, second))

@@ -1,8 +1,7 @@
 -- Near the edges of what is read, of what is found, and of how many frames that takes.
-use Rattle.std.proofs.Common.{◌≡◌, ◌⊎◌, inl, inr, refl, sym, ap, subst, ◌∙◌, ℕ, zero, suc, ◌+◌, ◌≤◌, List, []}
-use Rattle.std.proofs.Common.{◌∷◌, ◌++◌, length, drop, Some, None, arith}
+use Rattle.std.proofs.Common.{◌≡◌, ◌⊎◌, inl, inr, refl, sym, ap, subst, ◌∙◌, ℕ, ◌+◌, ◌≤◌, List, []}
+use Rattle.std.proofs.Common.{◌∷◌, ◌++◌, drop, Some, None, arith}
 use Rattle.std.specs.List.{AllByRecursion}
-use Rattle.dali_write.specs.Misses.{misses_in}
 use Rattle.dali_write.specs.WorkedAccesses.{after_a_miss}
 use Rattle.dali_read.specs.declared.finding.Finding.TheVariants.{Same, Other, Short, Format}
 use Rattle.dali_read.specs.Places.{block, last_course, bank_course, row_of, order_course}
@@ -10,6 +9,8 @@ use Rattle.dali_read.specs.Findings.{own_bytes, IsFound}
 use Rattle.dali_read.specs.Shown.{ShowsBank, Finds, Holds}
 use Rattle.dali_read.specs.Counts.{block_frames, bank_frames, blocks_behind, order_frames, found_frames, AreSoMany}
 use Rattle.dali_read.specs.WorkedReads.{four_updates, five_updates, row, filled, three_updates, small_bank, other_bank}
+use Rattle.dali_bus.proofs.ByteLemmas.{same_byte}
+use Rattle.dali_write.proofs.WorkedAccessLemmas.{miss_length, one_miss}
 
 -- Which blocks of a bank are read
 
@@ -94,24 +95,13 @@ pub found_numbers : (found_frames five_updates Short ≡ 7) × (found_frames fiv
 found_numbers = (refl, refl, refl, refl)
 
 -- with one miss at most the frames of a whole block more
-frames_after : (n : ℕ) → length (after_a_miss n) ≡ 1 + n
-frames_after zero = refl
-frames_after (suc n) = let rest = frames_after n in omega arith
-
-one_miss : (n : ℕ) → misses_in (after_a_miss n) ≡ 1
-one_miss zero = refl
-one_miss (suc n) = let rest = one_miss n in omega arith
-
 pub so_many : (n : ℕ) → AreSoMany 12 (after_a_miss n) → (11 ≤ n) × (n ≤ 33)
 so_many n are =
     let least = are.0 in
-    let most = are.1 in let all = frames_after n in let one = one_miss n in (omega arith, omega arith)
+    let most = are.1 in let all = miss_length n in let one = one_miss n in (omega arith, omega arith)
 
 pub many_enough : (n : ℕ) → (11 ≤ n) × (n ≤ 33) → AreSoMany 12 (after_a_miss n)
-many_enough n (least, most) = let all = frames_after n in let one = one_miss n in (omega arith, omega arith)
-
-byte_is : (one other : ℕ) → Some one ≡ Some other → one ≡ other
-byte_is one other same = cc
+many_enough n (least, most) = let all = miss_length n in let one = one_miss n in (omega arith, omega arith)
 
 -- What is found
 
@@ -244,7 +234,7 @@ bank_finds_other = (
 )
 
 pub bank_isnt_same : Finds (Holds other_bank) three_updates Same → ⊥
-bank_isnt_same (suits, each) = omega (arith, byte_is 6 8 each.1.0)
+bank_isnt_same (suits, each) = omega (arith, same_byte 6 8 each.1.0)
 
 pub bank_has_other_first : Finds (Holds other_bank) three_updates (Other 0x13 5) → ⊥
 bank_has_other_first (suits, (before, own, behind, parts, each, here, differs)) =
@@ -259,10 +249,10 @@ bank_has_other_first (suits, (before, own, behind, parts, each, here, differs)) 
     by (inr (inr (two, place, byte))) =
         let all =
         subst (λ (l : List (ℕ × ℕ)). AllByRecursion (λ update. Holds other_bank update.0 update.1) l) two each in
-        omega (arith, byte_is 6 8 all.1.0)
+        omega (arith, same_byte 6 8 all.1.0)
 
 pub bank_has_no_such_byte : Finds (Holds other_bank) three_updates (Other 0x04 5) → ⊥
-bank_has_no_such_byte (suits, (before, own, behind, parts, each, here, differs)) = omega (arith, byte_is 6 5 here)
+bank_has_no_such_byte (suits, (before, own, behind, parts, each, here, differs)) = omega (arith, same_byte 6 5 here)
 
 pub own_byte_isnt_other : Finds (Holds other_bank) three_updates (Other 0x03 7) → ⊥
 own_byte_isnt_other (suits, (before, own, behind, parts, each, here, differs)) =
@@ -279,7 +269,7 @@ own_byte_isnt_other (suits, (before, own, behind, parts, each, here, differs)) =
 -- a bank that names 03h as its last location doesn't suit, whatever stands behind it
 pub named_too_short : Finds (Holds (0x03 ∷ 1 ∷ 0xFF ∷ 7 ∷ 8 ∷ [])) ((0x03, 7) ∷ (0x04, 8) ∷ []) Same → ⊥
 named_too_short (suits, each) =
-    let last = byte_is 0x03 suits.0 suits.1 in
+    let last = same_byte 0x03 suits.0 suits.1 in
     let reaches = suits.2 in
     omega arith
 
@@ -292,18 +282,18 @@ whole_bank =
 
 pub fewer_arent_bank : ShowsBank (Holds small_bank) (0x04 ∷ 1 ∷ 0xFF ∷ 7 ∷ []) → ⊥
 fewer_arent_bank shows =
-    let last = byte_is 0x04 shows.last shows.names in
+    let last = same_byte 0x04 shows.last shows.names in
     let count = shows.count in
     omega arith
 
 pub more_arent_bank : ShowsBank (Holds (0x04 ∷ 1 ∷ 0xFF ∷ 7 ∷ 8 ∷ 9 ∷ [])) (0x04 ∷ 1 ∷ 0xFF ∷ 7 ∷ 8 ∷ 9 ∷ []) → ⊥
 more_arent_bank shows =
-    let last = byte_is 0x04 shows.last shows.names in
+    let last = same_byte 0x04 shows.last shows.names in
     let count = shows.count in
     omega arith
 
 pub others_arent_bank : ShowsBank (Holds small_bank) (0x04 ∷ 1 ∷ 0xFF ∷ 7 ∷ 9 ∷ []) → ⊥
-others_arent_bank shows = omega (arith, byte_is 8 9 (shows.bytes_are 4 9 refl))
+others_arent_bank shows = omega (arith, same_byte 8 9 (shows.bytes_are 4 9 refl))
 
 -- FFh is no location
 pub bank_to_feh : ShowsBank (Holds (0xFF ∷ filled 254)) (0xFF ∷ filled 254)

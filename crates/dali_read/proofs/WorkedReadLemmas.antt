@@ -32,6 +32,7 @@ use Rattle.dali_read.specs.Shown.{WhenTold}
 use Rattle.dali_read.proofs.BlockBytesLemmas.{block_count}
 use Rattle.dali_read.proofs.TurnLemmas.{none_done}
 use Rattle.dali_read.proofs.BlockMissLemmas.{apt_block, block_misses, success_misses}
+use Rattle.dali_bus.proofs.ByteLemmas.{same_byte}
 
 -- Which blocks fit
 
@@ -94,9 +95,6 @@ asked_for requests [] x older left next at try =
 asked_for requests (y ∷ newer) x older left next at try =
     asked_for requests newer x older (request y.frame try.0 ∷ left) next at try.2
 
-byte_is : (one other : ℕ) → Some one ≡ Some other → one ≡ other
-byte_is one other same = cc
-
 -- DTR0 one less, DTR1 at 00h, or a read that wasn't answered
 pub moved_less : (bytes : List ℕ)
     → IsBlockRead 5 two_locations bytes (two_read (Some 0x0A) (Some 0x0B) (Some 0x04) (Some 0x01)) → ⊥
@@ -105,7 +103,7 @@ moved_less bytes read =
     let wanted =
     asked_for (block_requests 5 two_locations) (sent (AskDtr1 5) (Some 0x01) ∷ []) (sent (AskDtr0 5) (Some 0x04))
     (drop 2 frames) [] (request (AskDtr0 5) (Exactly 5)) refl read.0 in
-    omega (arith, byte_is 0x04 0x05 wanted.1)
+    omega (arith, same_byte 0x04 0x05 wanted.1)
 
 pub in_bank_0 : (bytes : List ℕ)
     → IsBlockRead 5 two_locations bytes (two_read (Some 0x0A) (Some 0x0B) (Some 0x05) (Some 0x00)) → ⊥
@@ -114,7 +112,7 @@ in_bank_0 bytes read =
     let wanted =
     asked_for (block_requests 5 two_locations) [] (sent (AskDtr1 5) (Some 0x00)) (drop 1 frames) []
     (request (AskDtr1 5) (Exactly 1)) refl read.0 in
-    omega (arith, byte_is 0x00 0x01 wanted.1)
+    omega (arith, same_byte 0x00 0x01 wanted.1)
 
 pub one_unanswered : (bytes : List ℕ)
     → IsBlockRead 5 two_locations bytes (two_read (Some 0x0A) None (Some 0x05) (Some 0x01)) → ⊥
@@ -153,7 +151,7 @@ loss_is_told bytes read =
     let wanted =
     asked_for (block_requests 9 first_block) [] (sent (AskDtr1 9) (Some 0x00)) six_frames []
     (request (AskDtr1 9) (Exactly 1)) refl read.0 in
-    omega (arith, byte_is 0x00 0x01 wanted.1)
+    omega (arith, same_byte 0x00 0x01 wanted.1)
 
 -- How many tries
 

@@ -21,9 +21,10 @@ pub record HeldAt (loses : ℕ → Type 0) (each : List Exchange) (first last : 
   pub behind : Run WorldStep loses newer reached last
   pub held : byte_at reached unit 1 location ≡ Some byte
 
--- Among these exchanges, which lead from the first world to the last, is a read of the block, answered by the bytes. The
--- unit held each of them at its place when its read reached it; from the answer to the second frame to that to the last
--- one it kept its power, while others may have lost theirs; and when that last answer came, all of them were there.
+-- Among these exchanges, which lead from the first world to the last, is a read of the block, answered by the bytes.
+-- The unit held each of them at its place when its read reached it; from the answer to the second frame to that to the
+-- last one it kept its power, while others may have lost theirs; and when that last answer came, all of them were
+-- there.
 pub record WhenBlock (loses : ℕ → Type 0) (told : List Exchange) (first last : World) (unit : ℕ) (block : Block)
     (bytes : List ℕ) : Type 0 where
   -- what came behind it; its last two frames, its reads, the two before them and its first two; and what came before it
@@ -37,7 +38,8 @@ pub record WhenBlock (loses : ℕ → Type 0) (told : List Exchange) (first last
   pub read : IsBlockRead unit block bytes (back ++ (each ++ (middle ++ two)))
   pub counts : (length back ≡ 2) × (length each ≡ block.count) × (length middle ≡ 2) × (length two ≡ 2)
   pub bytes_are : bytes_of each ≡ bytes
-  -- the worlds before it, behind its second frame, before its first read, behind its last read and behind its last frame
+  -- the worlds before it, behind its second frame, before its first read, behind its last read and behind its last
+  -- frame
   pub begun : World
   pub asked : World
   pub selected : World

@@ -19,7 +19,7 @@ pub enum Finding {
 }
 
 /// What the bytes say of the order that were read for it, in the blocks of `Places::Order`, to the end.
-#[tactic(auto, using(crate::proofs::FindingLemmas::enough_plain, crate::proofs::FindingLemmas::enough_formatted, crate::proofs::FindingLemmas::found_plain, crate::proofs::FindingLemmas::found_formatted))]
+#[tactic(auto, using(crate::proofs::FindingLemmas::found_plain, crate::proofs::FindingLemmas::found_formatted))]
 pub fn compare(order: &Order, bytes: &[u8]) -> Finding
     requires { order_course order.now.updates bytes.now ≡ None }
     ensures { IsFound order.now.updates bytes.now result }
@@ -28,7 +28,9 @@ pub fn compare(order: &Order, bytes: &[u8]) -> Finding
     let greatest = greatest_location(updates);
     match bytes {
         [last, ..] if *last < greatest => Finding::Short,
+        #[tactic(auto, using(crate::proofs::FindingLemmas::enough_plain))]
         [_, bytes @ ..] if greatest < 0x13 => first_other(updates, bytes),
+        #[tactic(auto, using(crate::proofs::FindingLemmas::enough_formatted))]
         [_, 0x00, 0x03, bytes @ ..] => first_other(updates, bytes),
         _ => Finding::Format,
     }

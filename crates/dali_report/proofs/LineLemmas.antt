@@ -22,8 +22,12 @@ pub last_members : {none : Members}
     → v7 ≡ d7 → m7 ≡ put (codes "frames") v7 m6
     → v8 ≡ d8 → m8 ≡ put (codes "ended") v8 m7
     → v9 ≡ d9 → m9 ≡ put (codes "code") v9 m8
-    → m9 ≡ member (codes "code") d9 (member (codes "ended") d8 (member (codes "frames") d7 (member (codes "misses") d6 (member (codes "moment") d5 (member (codes "name") d4 (member (codes "order") d3 (member (codes "reply") d2 (member (codes "unit") d1 no_members))))))))
-last_members e e1 f1 e2 f2 e3 f3 e4 f4 e5 f5 e6 f6 e7 f7 e8 f8 e9 f9 = rw (f9, e9, f8, e8, f7, e7, f6, e6, f5, e5, f4, e4, f3, e3, f2, e2, f1, e1, e) refl
+    → m9 ≡ member (codes "code") d9 (member (codes "ended") d8
+    (member (codes "frames") d7 (member (codes "misses") d6
+    (member (codes "moment") d5 (member (codes "name") d4
+    (member (codes "order") d3 (member (codes "reply") d2 (member (codes "unit") d1 no_members))))))))
+last_members e e1 f1 e2 f2 e3 f3 e4 f4 e5 f5 e6 f6 e7 f7 e8 f8 e9 f9 =
+    rw (f9, e9, f8, e8, f7, e7, f6, e6, f5, e5, f4, e4, f3, e3, f2, e2, f1, e1, e) refl
 
 pub end_members : {none : Members}
     {v1 d1 : Data} {m1 : Members}
@@ -35,7 +39,8 @@ pub end_members : {none : Members}
     → v2 ≡ d2 → m2 ≡ put (codes "frame") v2 m1
     → v3 ≡ d3 → m3 ≡ put (codes "fault") v3 m2
     → v4 ≡ d4 → m4 ≡ put (codes "answer") v4 m3
-    → m4 ≡ member (codes "answer") d4 (member (codes "fault") d3 (member (codes "frame") d2 (member (codes "name") d1 no_members)))
+    → m4 ≡ member (codes "answer") d4 (member (codes "fault") d3
+    (member (codes "frame") d2 (member (codes "name") d1 no_members)))
 end_members e e1 f1 e2 f2 e3 f3 e4 f4 = rw (f4, e4, f3, e3, f2, e2, f1, e1, e) refl
 
 pub found_members : {none : Members}
@@ -50,5 +55,6 @@ pub found_members : {none : Members}
     → v3 ≡ d3 → m3 ≡ put (codes "location") v3 m2
     → v4 ≡ d4 → m4 ≡ put (codes "found") v4 m3
     → v5 ≡ d5 → m5 ≡ put (codes "byte") v5 m4
-    → m5 ≡ member (codes "byte") d5 (member (codes "found") d4 (member (codes "location") d3 (member (codes "order") d2 (member (codes "unit") d1 no_members))))
+    → m5 ≡ member (codes "byte") d5 (member (codes "found") d4
+    (member (codes "location") d3 (member (codes "order") d2 (member (codes "unit") d1 no_members))))
 found_members e e1 f1 e2 f2 e3 f3 e4 f4 e5 f5 = rw (f5, e5, f4, e4, f3, e3, f2, e2, f1, e1, e) refl

@@ -22,7 +22,8 @@ use Rattle.dali_report.specs.Told.{IsTold, HasWritten, IsSilent, report_held, ha
 
 -- the unit and the number of what is kept of an order
 unit_of : (order : Option Contents)
-    → option_map (λ (one : Spoken). one.unit) (option_map spoken order) ≡ option_map (λ (one : Contents). one.unit) order
+    → option_map (λ (one : Spoken). one.unit) (option_map spoken order)
+    ≡ option_map (λ (one : Contents). one.unit) order
 unit_of None = refl
 unit_of (Some order) = refl
 
@@ -119,7 +120,8 @@ module _ {W : Type 0} (contents : W → Option (List ℕ)) (start : Start) (firs
       → new.resumed ≡ old.resumed → new.spoken ≡ old.spoken → new.ended ≡ old.ended → IsTally [] new.tally
       → new.all_done ≡ (old.all_done && is_well reply)
       → (has_failed new ≡ false → (has_failed old ≡ false)
-      × Appends (report_held contents old) (report_held contents new) (line_of (last_data (told_at start past id reply))))
+      × Appends (report_held contents old) (report_held contents new)
+      (line_of (last_data (told_at start past id reply))))
       → (has_failed old ≡ true → IsSilent old new)
       → IsTold contents start first new (Answered id reply ∷ past)
   told_last new last resumes speaks ends tallies dones writes silent = record {

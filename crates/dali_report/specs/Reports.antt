@@ -83,7 +83,8 @@ told_at start past id reply = record {
 abbrev pub report_text : Start → List Happening → List ℕ
 report_text start [] = []
 report_text start (Answered id replies.Taken ∷ past) = report_text start past
-report_text start (Answered id reply ∷ past) = report_text start past ++ line_of (last_data (told_at start past id reply))
+report_text start (Answered id reply ∷ past) =
+    report_text start past ++ line_of (last_data (told_at start past id reply))
 report_text start (other ∷ past) = report_text start past
 
 -- and with the fault of an answer

@@ -26,7 +26,8 @@ abbrev pub output_failed : {W : Type 0} → Option (Output W) → Bool
 output_failed None = false
 output_failed (Some out) = output.has_failed out
 
--- the bytes that a report holds, where they are known, whether a line couldn't be written, and whether its output failed
+-- the bytes that a report holds, where they are known, whether a line couldn't be written, and whether its output
+-- failed
 abbrev pub report_held : {W : Type 0} → (W → Option (List ℕ)) → Report W → Option (List ℕ)
 report_held contents report = output_held contents report.output
 

@@ -2,12 +2,12 @@
 use Rattle.std.proofs.Common.{◌≡◌, ◌<◌, ◌-◌, ◌+◌, ◌^◌, ◌∙◌, ℕ, List, [], ◌∷◌, ◌++◌, Option, false, length, decimal}
 use Rattle.std.proofs.Common.{replicate, take, get_or, append-nil, ap, sym, subst, arith}
 use Rattle.std.specs.Fmt.{padded_integral, format_spec, char_count}
-use Rattle.std.specs.List.{AllByRecursion}
 use Rattle.std.specs.Io.KnownBytes.{Appends}
 use Rattle.std.proofs.lemmas.List.{take_more, map-append, flat_map_more}
 use Rattle.dali_text.specs.declared.bank_lines.Row.{Row}
 use Rattle.dali_text.specs.BankLines.{AreLines, IsRowText, Line, fourteen_digits, line_text}
 use Rattle.dali_text.proofs.StreamLemmas.{appends_both}
+use Rattle.dali_bank.proofs.ListLemmas.{all_one_more}
 
 -- what `{:014}` writes
 pub fourteen_padded : (n : ℕ)
@@ -17,11 +17,6 @@ fourteen_padded n =
     let padding : 14 - length (decimal n) - 0 - 0 ≡ 14 - length (decimal n) = omega arith in
     ap (λ k. replicate k 48 ++ (decimal n ++ [])) padding
     ∙ ap (λ t. replicate (14 - length (decimal n)) 48 ++ t) (append-nil (decimal n))
-
-pub all_one_more : {X : Type 0} (P : X → Type 0) (xs : List X) (x : X) → AllByRecursion P xs → P x
-    → AllByRecursion P (xs ++ x ∷ [])
-all_one_more P [] x all holds = (holds, tt)
-all_one_more P (y ∷ xs) x all holds = (all.0, all_one_more P xs x all.1 holds)
 
 -- the lines of these rows were written
 pub record Written (bank : List ℕ) (wanted : List Row) (before now : Option (List ℕ)) : Type 0 where

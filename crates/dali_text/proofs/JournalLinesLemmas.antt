@@ -1,5 +1,5 @@
 -- Lemmas on what is told of a journal.
-use Rattle.std.proofs.Common.{◌≡◌, ◌∙◌, Bool, true, OnOk, Result, Ok, Err, ℕ, List, [], ◌∷◌, ◌++◌, Option, Some, None, length, drop, reverse}
+use Rattle.std.proofs.Common.{◌≡◌, ◌∙◌, Bool, true, OnOk, Result, Ok, Err, ℕ, List, [], ◌∷◌, ◌++◌, Option, length, drop, reverse}
 use Rattle.std.proofs.Common.{length-append, append_assoc, append-nil, ap, sym, subst, refl, arith}
 use Rattle.std.specs.List.{AllByRecursion, flat_map}
 use Rattle.std.specs.Io.KnownBytes.{Appends}
@@ -17,27 +17,27 @@ use Rattle.dali_journal.proofs.DecodeLemmas.{read_is, some_bytes}
 use Rattle.dali_text.specs.JournalLines.{record_line, record_lines}
 use Rattle.dali_text.specs.OrderLines.{update_line}
 use Rattle.dali_text.proofs.StreamLemmas.{appends_both}
+use Rattle.dali_bank.proofs.ListLemmas.{all_one_more}
+use Rattle.std.proofs.KnownBytes.{Appends-nil}
 
 -- the bytes of a journal, the oldest record first
 pub journal_forward : (records : List Record) → records_spelling Two records ≡ flat_map (spelling Two) (reverse records)
 journal_forward [] = refl
 journal_forward (newest ∷ older) =
-    ap (λ bytes. bytes ++ spelling Two newest) (journal_forward older) ∙ flat_map_more (spelling Two) [] (reverse older) newest
+    ap (λ bytes. bytes ++ spelling Two newest) (journal_forward older)
+    ∙ flat_map_more (spelling Two) [] (reverse older) newest
     ∙ ap (flat_map (spelling Two)) (sym (reverse-append (newest ∷ []) older))
 
-all_apart : {X : Type 0} (P : X → Type 0) (xs : List X) (x : X) → AllByRecursion P xs → P x
-    → AllByRecursion P (xs ++ x ∷ [])
-all_apart P [] x all holds = (holds, tt)
-all_apart P (y ∷ xs) x all holds = (all.0, all_apart P xs x all.1 holds)
-
-pub all_forward : (records : List Record) → AllByRecursion (IsRecord Two) records → AllByRecursion (IsRecord Two) (reverse records)
+pub all_forward : (records : List Record) → AllByRecursion (IsRecord Two) records
+    → AllByRecursion (IsRecord Two) (reverse records)
 all_forward [] all = tt
 all_forward (newest ∷ older) all =
     subst (AllByRecursion (IsRecord Two)) (sym (reverse-append (newest ∷ []) older))
-    (all_apart (IsRecord Two) (reverse older) newest (all_forward older all.1) all.0)
+    (all_one_more (IsRecord Two) (reverse older) newest (all_forward older all.1) all.0)
 
 -- the updates of an order behind the record that begins it
-pub updates_behind : {A E : Type 0} (r : Result A E) (with_updates : Bool) (entry : Record) (order : Contents) (moment : ℕ)
+pub updates_behind : {A E : Type 0} (r : Result A E) (with_updates : Bool) (entry : Record) (order : Contents)
+    (moment : ℕ)
     (updates : List (ℕ × ℕ)) (before mid now : Option (List ℕ))
     → with_updates ≡ true → entry ≡ Began order moment → updates ≡ order.updates
     → Appends before mid (record_line entry) → OnOk r (Appends mid now (flat_map update_line updates))
@@ -50,7 +50,8 @@ updates_behind (Ok _) with_updates entry order moment updates before mid now wan
 updates_behind (Err error) with_updates entry order moment updates before mid now wanted is same line behind = tt
 
 -- so many of the records are told, and the rest of the bytes are those of the others
-pub record WrittenSoFar (with_updates : Bool) (records : List Record) (rest : List ℕ) (before now : Option (List ℕ)) : Type 0 where
+pub record WrittenSoFar (with_updates : Bool) (records : List Record) (rest : List ℕ) (before now : Option (List ℕ)) :
+    Type 0 where
   pub done : List Record
   pub left : List Record
   pub split : records ≡ done ++ left
@@ -58,15 +59,12 @@ pub record WrittenSoFar (with_updates : Bool) (records : List Record) (rest : Li
   pub bytes : rest ≡ flat_map (spelling Two) left
   pub appended : Appends before now (flat_map (record_lines with_updates) done)
 
-appends_nothing : (before : Option (List ℕ)) → Appends before before []
-appends_nothing None = tt
-appends_nothing (Some bytes) = sym (append-nil bytes)
-
 -- before the first
-pub none_told : (with_updates : Bool) (records : List Record) (bytes : List ℕ) (before : Option (List ℕ)) → AllByRecursion (IsRecord Two) records
+pub none_told : (with_updates : Bool) (records : List Record) (bytes : List ℕ) (before : Option (List ℕ))
+    → AllByRecursion (IsRecord Two) records
     → bytes ≡ flat_map (spelling Two) records → WrittenSoFar with_updates records bytes before before
 none_told with_updates records bytes before all are =
-    record { done = []; left = records; split = refl; in_range = all; bytes = are; appended = appends_nothing before }
+    record { done = []; left = records; split = refl; in_range = all; bytes = are; appended = Appends-nil before }
 
 -- a record is read off the rest, and told
 read_off : (with_updates : Bool) (records done left : List Record) (rest : List ℕ) (entry : Record) (len : ℕ)
@@ -93,32 +91,42 @@ read_off with_updates records done (first ∷ others) rest entry len before mid 
           ∙ drop-append_seam (spelling Two first) (flat_map (spelling Two) others);
       appended =
           subst (λ text. Appends before now text)
-          (ap (λ r. flat_map (record_lines with_updates) done ++ record_lines with_updates r) is ∙ flat_map_more (record_lines with_updates) [] done first)
-          (appends_both before mid now (flat_map (record_lines with_updates) done) (record_lines with_updates entry) told line);
+          (ap (λ r. flat_map (record_lines with_updates) done ++ record_lines with_updates r) is
+          ∙ flat_map_more (record_lines with_updates) [] done first)
+          (appends_both before mid now (flat_map (record_lines with_updates) done)
+          (record_lines with_updates entry) told line);
     }
 
-pub told_more : (with_updates : Bool) (records : List Record) (rest : List ℕ) (entry : Record) (len : ℕ) (before mid now : Option (List ℕ))
+pub told_more : (with_updates : Bool) (records : List Record) (rest : List ℕ) (entry : Record) (len : ℕ)
+    (before mid now : Option (List ℕ))
     → IsRead Two rest (Whole entry len)
-    → WrittenSoFar with_updates records rest before mid → Appends mid now (record_lines with_updates entry) → WrittenSoFar with_updates records (drop len rest) before now
+    → WrittenSoFar with_updates records rest before mid → Appends mid now (record_lines with_updates entry)
+    → WrittenSoFar with_updates records (drop len rest) before now
 told_more with_updates records rest entry len before mid now reads told line =
-    read_off with_updates records told.done told.left rest entry len before mid now reads told.split told.in_range told.bytes
+    read_off with_updates records told.done told.left rest entry len before mid now reads told.split told.in_range
+    told.bytes
     told.appended line
 
 -- where the rest begins with no record, all are told
-none_left : (with_updates : Bool) (records done left : List Record) (rest : List ℕ) (piece : Piece) (before now : Option (List ℕ))
+none_left : (with_updates : Bool) (records done left : List Record) (rest : List ℕ) (piece : Piece)
+    (before now : Option (List ℕ))
     → IsRead Two rest piece → ((entry : Record) (len : ℕ) → ¬ (piece ≡ Whole entry len))
     → records ≡ done ++ left → AllByRecursion (IsRecord Two) left → rest ≡ flat_map (spelling Two) left
     → Appends before now (flat_map (record_lines with_updates) done)
     → Appends before now (flat_map (record_lines with_updates) records)
 none_left with_updates records done [] rest piece before now reads other split all bytes told =
-    subst (λ those. Appends before now (flat_map (record_lines with_updates) those)) (sym (split ∙ append-nil done)) told
+    subst (λ those. Appends before now (flat_map (record_lines with_updates) those))
+    (sym (split ∙ append-nil done)) told
 none_left with_updates records done (first ∷ others) rest piece before now reads other split all bytes told =
     absurd
-    (other first (length (spelling Two first)) (read_is Two rest first piece reads (all.0, flat_map (spelling Two) others, bytes)))
+    (other first (length (spelling Two first))
+    (read_is Two rest first piece reads (all.0, flat_map (spelling Two) others, bytes)))
 
-pub all_told : (with_updates : Bool) (records : List Record) (rest : List ℕ) (piece : Piece) (before now : Option (List ℕ))
+pub all_told : (with_updates : Bool) (records : List Record) (rest : List ℕ) (piece : Piece)
+    (before now : Option (List ℕ))
     → IsRead Two rest piece → ((entry : Record) (len : ℕ) → ¬ (piece ≡ Whole entry len))
-    → WrittenSoFar with_updates records rest before now → Appends before now (flat_map (record_lines with_updates) records)
+    → WrittenSoFar with_updates records rest before now
+    → Appends before now (flat_map (record_lines with_updates) records)
 all_told with_updates records rest piece before now reads other told =
     none_left with_updates records told.done told.left rest piece before now reads other told.split told.in_range
     told.bytes told.appended

@@ -13,6 +13,7 @@ use Rattle.dali_trace.specs.Runs.{SendsAllProper, SendsProper}
 use Rattle.dali_text.specs.RunText.{frames_ahead, frames_line, happening_line, is_sent, run_line, summary}
 use Rattle.dali_text.specs.UnitLines.{group_line, unit_text}
 use Rattle.dali_text.proofs.StreamLemmas.{appends_both}
+use Rattle.dali_bank.proofs.ListLemmas.{range_more}
 
 -- ---- proper frames
 
@@ -30,10 +31,6 @@ proper_forward (oldest ∷ trace) all =
     (last, proper_forward trace rest)
 
 -- ---- groups
-
-range_more : (a n b : ℕ) → a + n ≡ b → range_with_len a (suc n) ≡ range_with_len a n ++ b ∷ []
-range_more a zero b e = ap (λ k. k ∷ []) (omega arith)
-range_more a (suc n) b e = ap (λ ns. a ∷ ns) (range_more (a + 1) n b (omega arith))
 
 -- so many groups
 abbrev pub groups : ℕ → List ℕ → ℕ → List ℕ

@@ -24,6 +24,7 @@ use Rattle.dali_trace.specs.Moves.{MovesBy}
 use Rattle.dali_trace.specs.Spared.{UnrefusedSince}
 use Rattle.dali_trace.specs.WorkedLosses.{bus_after, buses_along}
 use Rattle.dali_trace.proofs.NewUnitLemmas.{new_locked}
+use Rattle.dali_journal.proofs.PairLemmas.{and-parts}
 
 -- each answer in the trace is the one that the bus gives
 abbrev same_answer : Option ℕ → Option ℕ → Bool
@@ -35,7 +36,8 @@ abbrev pub are_answers : SimState → List Happening → Bool
 are_answers first [] = true
 are_answers first (Sent frame answer ∷ past) =
     let old = bus_after first past in
-    same_answer answer (bus_answer (next_fate old.fates) (filter_map (unit_answer (next_fate old.fates) frame) old.units))
+    same_answer answer (bus_answer (next_fate old.fates)
+    (filter_map (unit_answer (next_fate old.fates) frame) old.units))
     && are_answers first past
 are_answers first (other ∷ past) = are_answers first past
 
@@ -44,10 +46,6 @@ is_same None None same = refl
 is_same (Some byte) (Some other) same = ap Some (eqb-true byte other same)
 is_same None (Some other) same = cc
 is_same (Some byte) None same = cc
-
-both_true : (one other : Bool) → (one && other) ≡ true → (one ≡ true) × (other ≡ true)
-both_true true other both = (refl, both)
-both_true false other both = cc
 
 -- its units stay apart, and their banks whole
 stays_whole : (first : SimState) (past : List Happening) → AreApart first.units → AreBanks first.units
@@ -70,7 +68,7 @@ pub bus_chain : (first : SimState) (past : List Happening) → AreApart first.un
     → IsChain (MovesBy SimStep) first past (bus_after first past) (buses_along first past)
 bus_chain first [] apart banks answers = refl
 bus_chain first (Sent frame answer ∷ past) apart banks answers =
-    let both = both_true _ (are_answers first past) answers in
+    let both = and-parts _ (are_answers first past) answers in
     let whole = stays_whole first past apart banks in (
       record {
         apart = whole.0;
@@ -104,7 +102,7 @@ next_kind : (fates : List Fate) → none_refuse fates ≡ true
     → ((next_fate fates).refuse ≡ false) × (none_refuse (drop 1 fates) ≡ true)
 next_kind [] kind = (refl, refl)
 next_kind (fate ∷ fates) kind =
-    let both = both_true (not fate.refuse) (none_refuse fates) kind in (not_refused fate both.0, both.1)
+    let both = and-parts (not fate.refuse) (none_refuse fates) kind in (not_refused fate both.0, both.1)
 
 kind_after : (first : SimState) (past : List Happening) → none_refuse first.fates ≡ true
     → none_refuse (bus_after first past).fates ≡ true
@@ -132,7 +130,8 @@ pub new_off : (units : List UnitState) → AreNew units → NoneEnabled (world_o
 new_off [] new address = refl
 new_off (unit ∷ units) new address = by (address == unit.address) (new_off units new.2)
   where
-    by : (here : Bool) → NoneEnabled (world_of units) → is_open (if here then Some (gear_of unit) else world_of units address) ≡ false
+    by : (here : Bool) → NoneEnabled (world_of units)
+        → is_open (if here then Some (gear_of unit) else world_of units address) ≡ false
     by true rest = new.0
     by false rest = rest address
 

@@ -35,7 +35,12 @@ is_long = record { least = omega arith; most = omega arith; last = refl }
 
 -- the third order's updates
 year : AreUpdates third_order.updates
-year = record { some = omega arith; few = omega arith; rising = (omega arith, tt); writable = (inr (omega arith, omega arith), tt) }
+year = record {
+  some = omega arith;
+  few = omega arith;
+  rising = (omega arith, tt);
+  writable = (inr (omega arith, omega arith), tt);
+}
 
 -- Short, after one answer was lost and another unit lost its power
 

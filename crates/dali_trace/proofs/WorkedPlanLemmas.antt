@@ -37,6 +37,25 @@ abbrev pub Keeps : ℕ → Plan → List Exchange → Type 0
 Keeps unit plan [] = ⊤
 Keeps unit plan (x ∷ told) = Keeps unit plan told × (ask_from (plan_state_after unit plan told) ≡ asks.Send x.frame)
 
+-- what was wanted before each of them, and what was sent, the newest first
+abbrev pub all_wanted : ℕ → Plan → List Exchange → List Ask
+all_wanted unit plan [] = []
+all_wanted unit plan (x ∷ told) = ask_from (plan_state_after unit plan told) ∷ all_wanted unit plan told
+
+abbrev pub all_sent : List Exchange → List Ask
+all_sent [] = []
+all_sent (x ∷ told) = asks.Send x.frame ∷ all_sent told
+
+pub keeps_all : (unit : ℕ) (plan : Plan) (told : List Exchange) → all_wanted unit plan told ≡ all_sent told
+    → Keeps unit plan told
+keeps_all unit plan [] same = tt
+keeps_all unit plan (x ∷ told) same =
+    let both : ask_from (plan_state_after unit plan told) ∷ all_wanted unit plan told
+    ≡ asks.Send x.frame ∷ all_sent told = same in
+    let older : all_wanted unit plan told ≡ all_sent told = cc in
+    let newest : ask_from (plan_state_after unit plan told) ≡ asks.Send x.frame = cc in
+    (keeps_all unit plan told older, newest)
+
 keeps_wants : (unit : ℕ) (plan : Plan) (told : List Exchange) → Keeps unit plan told
     → Wants unit plan told (ask_from (plan_state_after unit plan told))
 keeps_wants unit plan [] keeps = record {
@@ -208,8 +227,7 @@ silent_where_short_legal = (
 pub silent_after_eight_planned : ByPlan empty silent_after_eight
 silent_after_eight_planned =
     let told = told_in (eight_times read_try begun) in
-    let keeps : Keeps 5 (read_length first_order.updates) told
-    = ((((((((((((((((tt, refl), refl), refl), refl), refl), refl), refl), refl), refl), refl), refl), refl), refl), refl), refl), refl) in (
+    let keeps = keeps_all 5 (read_length first_order.updates) told refl in (
       looks_on told keeps,
       (
         verdicts.Silent,
@@ -230,10 +248,13 @@ not_silent_at_once planned =
     let e = ask_is 5 (read_length first_order.updates) (told_in begun) (asks.Ended planned.1.0) planned.1.1 in cc
 
 pub silent_after_seven_legal : Legal empty silent_after_seven
-silent_after_seven_legal = (
-  (((((((((((((((begun_legal, (5, refl)), refl), (5, refl)), refl), (5, refl)), refl), (5, refl)), refl), (5, refl)), refl), (5, refl)), refl), (5, refl)), refl)),
-  record { whole = (((tt, tt, refl), tt, tt), omega arith); due = tt; grounds = tt },
-)
+silent_after_seven_legal =
+    let two : Legal empty (read_try (read_try begun)) = ((((begun_legal, (5, refl)), refl), (5, refl)), refl) in
+    let four : Legal empty (read_try (read_try (read_try (read_try begun))))
+    = ((((two, (5, refl)), refl), (5, refl)), refl) in
+    let six : Legal empty (read_try (read_try (read_try (read_try (read_try (read_try begun))))))
+    = ((((four, (5, refl)), refl), (5, refl)), refl) in
+    (((six, (5, refl)), refl), record { whole = (((tt, tt, refl), tt, tt), omega arith); due = tt; grounds = tt })
 
 -- how one ends that was opened
 pub not_left_at_once : ByPlan empty left_at_once → ⊥
@@ -250,8 +271,7 @@ closes = record { planned = ((tt, tt), tt); untold = refl; asks = λ told ask wa
 pub blocked_planned : ByPlan left_open blocked
 blocked_planned =
     let told = told_in unreached in
-    let keeps : Keeps 5 (close verdicts.Closed verdicts.NotClosed) told
-    = ((((((((((((((((((((((((((((((((((((((((((((((((tt, refl), refl), refl), refl), refl), refl), refl), refl), refl), refl), refl), refl), refl), refl), refl), refl), refl), refl), refl), refl), refl), refl), refl), refl), refl), refl), refl), refl), refl), refl), refl), refl), refl), refl), refl), refl), refl), refl), refl), refl), refl), refl), refl), refl), refl), refl), refl), refl) in (
+    let keeps = keeps_all 5 (close verdicts.Closed verdicts.NotClosed) told refl in (
       frames_planned left_open second_taken 5 (close verdicts.Closed verdicts.NotClosed) closes told keeps,
       wants_so 5 (close verdicts.Closed verdicts.NotClosed) told (asks.Ended verdicts.NotClosed) keeps refl,
     )

@@ -118,7 +118,8 @@ not_said_yet is_said = not_added begun empty is_said
 no_reply : (start : Start) (since before : List Happening) (order : Contents) (moment : ℕ)
     → since ≡ Asked order moment ∷ []
     → IsFinished (since ++ before) → ⊥
-no_reply start since before order moment is finished = subst (λ (t : List Happening). IsFinished (t ++ before)) is finished
+no_reply start since before order moment is finished =
+    subst (λ (t : List Happening). IsFinished (t ++ before)) is finished
 
 pub not_by_a_reply : IsSaid empty first_order begun repeated → ⊥
 not_by_a_reply is_said =

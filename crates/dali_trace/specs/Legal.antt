@@ -63,8 +63,8 @@ MaySend past stands other = ⊥
 
 -- Records
 
--- an order is begun that waits, with the moment at which it was submitted, and a left unit is closed for one that waits, after a checked read of it since that
--- was taken
+-- an order is begun that waits, with the moment at which it was submitted, and a left unit is closed for one that
+-- waits, after a checked read of it since that was taken
 abbrev pub IsDue : List Happening → Record → Type 0
 IsDue past (Began order moment) = (waiting past ≡ Some order) × (moment ≡ waiting_since past)
 IsDue past (Closed unit) = IsSome (waiting past) × HasRead unit (sent_since_taken past)

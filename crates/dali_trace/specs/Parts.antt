@@ -55,7 +55,8 @@ Part start Step before after =
     ((is_busy start before ≡ true) × ((work : Happening) × IsWork work × (after ≡ work ∷ before)))
     ⊎ ((is_busy start before ≡ false) × (after ≡ before))
 Part start (Stop bytes) before after =
-    ((after ≡ Stopped ∷ before) × ((entry : Record) → IsKeptNext start before entry → bytes < length (spelling Two entry)))
+    ((after ≡ Stopped ∷ before) × ((entry : Record) → IsKeptNext start before entry
+    → bytes < length (spelling Two entry)))
     ⊎ ((entry : Record) × IsKeptNext start before entry × (length (spelling Two entry) ≤ bytes)
     × (after ≡ Stopped ∷ Kept entry ∷ before))
 Part start (Power address) before after = after ≡ Powered address ∷ before

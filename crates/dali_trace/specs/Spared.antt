@@ -103,7 +103,8 @@ IsSpared start (Answered id reply ∷ past) last (state ∷ states) =
 IsSpared start other last states = ⊤
 
 -- The order is said in what came to the trace since it was like this before; and if little befell it up to then, it is
--- said as it is to end. The states along the whole of it are the later ones, the one when it was said, and those before.
+-- said as it is to end. The states along the whole of it are the later ones, the one when it was said, and those
+-- before.
 pub record IsSaidAsDue (start : Start) (order : Contents) (before behind : List Happening) (states : List SimState) :
     Type 0 where
   pub said : IsSaid start order before behind
@@ -123,7 +124,8 @@ SaysAsDue start newer middle older trace states =
     → IsSaidAsDue start order cut.before cut.behind states)
 
 -- A chain of the simulated bus leads along the trace. Where no unit was enabled at first and the lock bytes of the
--- banks from 2 up were FFh, what is said along it is so, and each order that is given steps enough is said as it is due.
+-- banks from 2 up were FFh, what is said along it is so, and each order that is given steps enough is said as it is
+-- due.
 pub record LeadsSpared (limit : ℕ) (all : List Event) (first : SimState) (past : List Happening) (last : SimState) :
     Type 0 where
   pub states : List SimState

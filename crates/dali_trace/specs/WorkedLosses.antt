@@ -73,8 +73,8 @@ abbrev pub buses_along : SimState → List Happening → List SimState
 buses_along first [] = []
 buses_along first (next ∷ past) = bus_after first past ∷ buses_along first past
 
--- all that is asked for, so that it is promised how an order ends, holds together of one that ends with this code, after
--- so many losses, on this bus and after what happened on it
+-- all that is asked for, so that it is promised how an order ends, holds together of one that ends with this code,
+-- after so many losses, on this bus and after what happened on it
 pub record MeetsAll (start : Start) (first : SimState) (order : Contents) (bank : BankState) (code : Code) (lost : ℕ)
     (past : List Happening) : Type 0 where
   pub legal : Legal start (Answered order.id (replies.Kept code) ∷ past)
@@ -126,7 +126,8 @@ fourth_opened = Kept (Opened 5) ∷ read_at 5 0x00 0x10 fourth_begun
 
 abbrev pub fourth_written : List Happening
 fourth_written =
-    write_at 5 0x08 0xAB (Sent (Write 0xAB) None ∷ select_at 5 0x08 (enable_twice 5 (write_at 5 0x02 0x55 fourth_opened)))
+    write_at 5 0x08 0xAB (Sent (Write 0xAB) None ∷ select_at 5 0x08
+    (enable_twice 5 (write_at 5 0x02 0x55 fourth_opened)))
 
 abbrev pub fourth_ended : List Happening
 fourth_ended =

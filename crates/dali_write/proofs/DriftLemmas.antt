@@ -66,7 +66,8 @@ pub drifts_alone : (loses : ℕ → Type 0) (at : ℕ) (unit : UnitState) (first
     → Drifts SimStep loses first last → IsAlone at unit first.units → IsAlone at unit last.units
 drifts_alone loses at unit first last keeps_power drifts alone =
     drifts_hold (λ units. IsAlone at unit units) loses
-    (λ address units of_these so. alone_powered address at unit units (another loses at address keeps_power of_these) so)
+    (λ address units of_these so. alone_powered address at unit units
+    (another loses at address keeps_power of_these) so)
     first last drifts alone
 
 pub drifts_bank : (loses : ℕ → Type 0) (at : ℕ) (bank : BankState) (first last : SimState) → (loses at → ⊥)

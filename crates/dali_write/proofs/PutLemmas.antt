@@ -272,7 +272,8 @@ four_of unit location byte l1 l2 l3 l4 l5 l6 next left is =
     ap (λ (requests : List Request). take 4 (drop 2 requests)) is
 
 -- a checked write sends its byte only when the unit was made sure to have selected the location
-pub write_requests_safe : (loses : ℕ → Type 0) (writes : List (ℕ × ℕ)) (unit location byte : ℕ) → Has writes location byte
+pub write_requests_safe : (loses : ℕ → Type 0) (writes : List (ℕ × ℕ)) (unit location byte : ℕ)
+    → Has writes location byte
     → SafeRequests loses writes unit (write_requests unit location byte)
 write_requests_safe loses writes unit location byte has [] next left try =
     safe_as _ writes unit [] next (Enable unit) Nothing (ap (request_at 0) try) (enable_safe _ writes unit [])

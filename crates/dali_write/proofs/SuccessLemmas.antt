@@ -93,7 +93,8 @@ access_few : (loses : ℕ → Type 0) (at : ℕ) (access : Access) (after : Opti
 access_few loses at access after unit outcome told first last run keeps_power alone can kind (inl done) =
     let two = parts loses at told done.0 done.1 first last run done.3 in
     let few =
-    misses_by_losses loses at access unit done.2 done.1 first two.mid two.before keeps_power alone can (two.kinds kind).0
+    misses_by_losses loses at access unit done.2 done.1 first two.mid two.before keeps_power alone can
+    (two.kinds kind).0
     done.7 in
     let sum = two.sum in
     omega arith

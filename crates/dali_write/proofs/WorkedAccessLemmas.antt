@@ -20,7 +20,7 @@ use Rattle.dali_write.specs.Losses.{losses, Unrefused, IsAlone}
 use Rattle.dali_write.specs.Successes.{MayStoreAt, HasBank, Spared, MissesByLosses}
 use Rattle.dali_write.specs.Doubts.{EndsUnread, EndsUnlooked, FoundAnother}
 use Rattle.dali_write.specs.WorkedAccesses.{sent, missed_read, after_a_miss, small_bank, two_units}
-use Rattle.dali_write.proofs.ShapeLemmas.{trying_length}
+use Rattle.dali_write.proofs.ShapeLemmas.{trying_length, tail_is}
 use Rattle.dali_write.specs.Worlds.{Run}
 use Rattle.dali_gear.specs.SimState.{SimStep}
 
@@ -38,11 +38,11 @@ pub nothing_wished : is_missed Nothing None ≡ false
 nothing_wished = refl
 
 -- with one miss at most the frames of one try more
-miss_length : (n : ℕ) → length (after_a_miss n) ≡ 1 + n
+pub miss_length : (n : ℕ) → length (after_a_miss n) ≡ 1 + n
 miss_length zero = refl
 miss_length (suc n) = let rest = miss_length n in omega arith
 
-one_miss : (n : ℕ) → misses_in (after_a_miss n) ≡ 1
+pub one_miss : (n : ℕ) → misses_in (after_a_miss n) ≡ 1
 one_miss zero = refl
 one_miss (suc n) = let rest = one_miss n in omega arith
 
@@ -92,9 +92,6 @@ none_lost loses at unit told first last spared few none = omega arith
 head_of : (x y : Request) (xs ys : List Request) → x ∷ xs ≡ y ∷ ys → x.frame ≡ y.frame
 head_of x y xs ys e = let same : x ≡ y = cc in ap (λ (l : Request). l.frame) same
 
-rest_of : (x y : Request) (xs ys : List Request) → x ∷ xs ≡ y ∷ ys → xs ≡ ys
-rest_of x y xs ys e = cc
-
 try_names : (unit location u l : ℕ) (x : Exchange) (tried : List Exchange) (wish : Wish) (left : List Request)
     (rest told : List Exchange)
     → missed_read unit location told ≡ (x ∷ tried) ++ rest
@@ -110,24 +107,24 @@ try_names unit location u l x (a ∷ []) wish left rest told parts try =
     let newest : sent (AskDtr0 unit) None ≡ x = cc in
     let asks : AskDtr0 unit ≡ x.frame = ap (λ (e : Exchange). e.frame) newest in
     let e0 = try.2 in
-    let e1 = rest_of _ _ _ _ e0 in
+    let e1 = tail_is _ _ _ _ e0 in
     let last = head_of _ _ _ _ e1 in
     absurd (let never : AskDtr0 unit ≡ AskDtr1 u = asks ∙ last in cc)
 try_names unit location u l x (a ∷ b ∷ []) wish left rest told parts try =
     let newest : sent (AskDtr0 unit) None ≡ x = cc in
     let asks : AskDtr0 unit ≡ x.frame = ap (λ (e : Exchange). e.frame) newest in
     let e0 = try.2.2 in
-    let e1 = rest_of _ _ _ _ e0 in
-    let e2 = rest_of _ _ _ _ e1 in
+    let e1 = tail_is _ _ _ _ e0 in
+    let e2 = tail_is _ _ _ _ e1 in
     let last = head_of _ _ _ _ e2 in
     absurd (let never : AskDtr0 unit ≡ Dtr0 l = asks ∙ last in cc)
 try_names unit location u l x (a ∷ b ∷ c ∷ []) wish left rest told parts try =
     let newest : sent (AskDtr0 unit) None ≡ x = cc in
     let asks : AskDtr0 unit ≡ x.frame = ap (λ (e : Exchange). e.frame) newest in
     let e0 = try.2.2.2 in
-    let e1 = rest_of _ _ _ _ e0 in
-    let e2 = rest_of _ _ _ _ e1 in
-    let e3 = rest_of _ _ _ _ e2 in
+    let e1 = tail_is _ _ _ _ e0 in
+    let e2 = tail_is _ _ _ _ e1 in
+    let e3 = tail_is _ _ _ _ e2 in
     let last = head_of _ _ _ _ e3 in
     let before : sent (Dtr0 location) None ≡ a = cc in
     let sets : Dtr0 location ≡ a.frame = ap (λ (e : Exchange). e.frame) before in
@@ -139,32 +136,32 @@ try_names unit location u l x (a ∷ b ∷ c ∷ d ∷ []) wish left rest told p
     let newest : sent (AskDtr0 unit) None ≡ x = cc in
     let asks : AskDtr0 unit ≡ x.frame = ap (λ (e : Exchange). e.frame) newest in
     let e0 = try.2.2.2.2 in
-    let e1 = rest_of _ _ _ _ e0 in
-    let e2 = rest_of _ _ _ _ e1 in
-    let e3 = rest_of _ _ _ _ e2 in
-    let e4 = rest_of _ _ _ _ e3 in
+    let e1 = tail_is _ _ _ _ e0 in
+    let e2 = tail_is _ _ _ _ e1 in
+    let e3 = tail_is _ _ _ _ e2 in
+    let e4 = tail_is _ _ _ _ e3 in
     let last = head_of _ _ _ _ e4 in
     absurd (let never : AskDtr0 unit ≡ Read u = asks ∙ last in cc)
 try_names unit location u l x (a ∷ b ∷ c ∷ d ∷ e ∷ []) wish left rest told parts try =
     let before : sent (Dtr0 location) None ≡ a = cc in
     let sets : Dtr0 location ≡ a.frame = ap (λ (e : Exchange). e.frame) before in
     let e0 = try.2.2.2.2.2 in
-    let e1 = rest_of _ _ _ _ e0 in
-    let e2 = rest_of _ _ _ _ e1 in
-    let e3 = rest_of _ _ _ _ e2 in
-    let e4 = rest_of _ _ _ _ e3 in
+    let e1 = tail_is _ _ _ _ e0 in
+    let e2 = tail_is _ _ _ _ e1 in
+    let e3 = tail_is _ _ _ _ e2 in
+    let e4 = tail_is _ _ _ _ e3 in
     let fifth = head_of _ _ _ _ e4 in
     absurd (let never : Dtr0 location ≡ Read u = sets ∙ fifth in cc)
 try_names unit location u l x (a ∷ b ∷ c ∷ d ∷ e ∷ f ∷ []) wish left rest told parts try =
     let newest : sent (AskDtr0 unit) None ≡ x = cc in
     let asks : AskDtr0 unit ≡ x.frame = ap (λ (e : Exchange). e.frame) newest in
     let e0 = try.2.2.2.2.2.2 in
-    let e1 = rest_of _ _ _ _ e0 in
-    let e2 = rest_of _ _ _ _ e1 in
-    let e3 = rest_of _ _ _ _ e2 in
-    let e4 = rest_of _ _ _ _ e3 in
-    let e5 = rest_of _ _ _ _ e4 in
-    let e6 = rest_of _ _ _ _ e5 in
+    let e1 = tail_is _ _ _ _ e0 in
+    let e2 = tail_is _ _ _ _ e1 in
+    let e3 = tail_is _ _ _ _ e2 in
+    let e4 = tail_is _ _ _ _ e3 in
+    let e5 = tail_is _ _ _ _ e4 in
+    let e6 = tail_is _ _ _ _ e5 in
     let last = head_of _ _ _ _ e6 in
     absurd (let never : AskDtr0 unit ≡ AskDtr1 u = asks ∙ last in cc)
 try_names unit location u l x (a ∷ b ∷ c ∷ d ∷ e ∷ f ∷ g ∷ more) wish left rest told parts try =

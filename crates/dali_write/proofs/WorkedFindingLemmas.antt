@@ -2,13 +2,11 @@
 use Rattle.std.proofs.Common.{◌≡◌, refl, ℕ, List, [], ◌∷◌, Some, arith, slice_get}
 use Rattle.dali_write.specs.declared.ask.Verdict.TheVariants.{Doubt, Closed}
 use Rattle.dali_write.specs.Findings.{Suits, IsTooShort, HasOtherFormat, IsWritten, Rests}
+use Rattle.dali_bus.proofs.ByteLemmas.{same_byte}
 
 -- bank 1 with these bytes from location 00h on
 abbrev Has : List ℕ → ℕ → ℕ → Type 0
 Has bytes location byte = slice_get bytes location ≡ Some byte
-
-byte_is : (one other : ℕ) → Some one ≡ Some other → one ≡ other
-byte_is one other e = cc
 
 -- a bank whose last location is 04h, locked and unlocked; an update of its last location, and one past it
 abbrev locked : List ℕ
@@ -36,10 +34,10 @@ pub written_where_all_is_there : IsWritten (Has locked) ((3, 0x11) ∷ (4, 0x22)
 written_where_all_is_there = (refl, (refl, (refl, tt)))
 
 pub not_written_where_unlocked : IsWritten (Has unlocked) ((3, 0x11) ∷ (4, 0x22) ∷ []) → ⊥
-not_written_where_unlocked written = omega (arith, byte_is 0x55 0xFF written.0)
+not_written_where_unlocked written = omega (arith, same_byte 0x55 0xFF written.0)
 
 pub not_written_with_another_byte : IsWritten (Has locked) ((3, 0x11) ∷ (4, 0x23) ∷ []) → ⊥
-not_written_with_another_byte written = omega (arith, byte_is 0x22 0x23 written.1.1.0)
+not_written_with_another_byte written = omega (arith, same_byte 0x22 0x23 written.1.1.0)
 
 -- a read of another location, and not of the lock byte
 abbrev Tells03h : ℕ → ℕ → Type 0

@@ -13,6 +13,7 @@ use Rattle.dali_write.specs.WorkedAccesses.{sent}
 use Rattle.dali_write.specs.LoneUnit.{small_gear, lone_unit, six_frames}
 use Rattle.dali_write.proofs.LoneUnitLemmas.{hears_dtr0, hears_dtr1, tells_dtr0, tells_dtr1, reads_bank_0, loses_power}
 use Rattle.dali_write.proofs.RunLemmas.{run_of, Leads, Stays, Loses}
+use Rattle.dali_bus.proofs.ByteLemmas.{same_byte}
 
 -- six frames of a checked read were answered as they want, and one is left
 
@@ -63,14 +64,11 @@ six_may_be = run_of six_frames (lone_unit 0 0) (lone_unit 0 1) six_lead
 
 -- and bank 1 doesn't hold the byte at 00h: without the seventh frame it would be told so
 
-byte_is : (one other : ℕ) → Some one ≡ Some other → one ≡ other
-byte_is one other e = cc
-
 its_byte : (gear : Gear) → Some (small_gear 0 1) ≡ Some gear → gear.memory 1 0 ≡ Some 0x77
 its_byte gear is = let same : gear ≡ small_gear 0 1 = cc in ap (λ (g : Gear). g.memory 1 0) same
 
 not_that : (now : Option ℕ) → now ≡ Some 0x77 → MayRelock (IsAmong (9 ∷ []) 9) 1 0 (Some 0x02) now → ⊥
-not_that now holds (inl same) = omega (arith, byte_is 0x77 0x02 (sym holds ∙ same))
+not_that now holds (inl same) = omega (arith, same_byte 0x77 0x02 (sym holds ∙ same))
 not_that now holds (inr relocks) = omega (arith, relocks.2)
 
 pub six_show_nothing : Shows (IsAmong (9 ∷ [])) (lone_unit 0 1) 9 0 0x02 → ⊥

@@ -9,9 +9,9 @@ use Rattle.dali_write.specs.Worlds.{Run, IsCheckedRead}
 abbrev pub AllBut : ℕ → (ℕ → Type 0) → ℕ → Type 0
 AllBut unit loses address = loses address × (address ≢ unit)
 
--- Among these exchanges, which lead from the first world to the last, is a checked read of the location, answered by the
--- byte. The unit held the byte there in the world in which the read reached it; and from the answer to the second frame
--- to that to the seventh it kept its power, while others may have lost theirs.
+-- Among these exchanges, which lead from the first world to the last, is a checked read of the location, answered by
+-- the byte. The unit held the byte there in the world in which the read reached it; and from the answer to the second
+-- frame to that to the seventh it kept its power, while others may have lost theirs.
 pub record WhenRead (loses : ℕ → Type 0) (told : List Exchange) (first last : World) (unit location byte : ℕ)
     : Type 0 where
   -- what came behind it; its last three frames, the two before them and its first two; and what came before it

@@ -46,7 +46,8 @@ resumed_told standings.Idle phase is = subst (λ (p : Phase). WasTold p []) (sym
 resumed_told (standings.Left unit) phase is = subst (λ (p : Phase). WasTold p []) (sym is) tt
 
 -- an order that is taken
-pub first_told : (stands : Standing) (order : Contents) (moment : ℕ) (phase : Phase) → IsFirst stands order moment phase → WasTold phase []
+pub first_told : (stands : Standing) (order : Contents) (moment : ℕ) (phase : Phase) → IsFirst stands order moment phase
+    → WasTold phase []
 first_told (standings.Left unit) order moment phase (s, is, same, closing, is_told) =
     subst (λ (p : Phase). WasTold p []) (sym is) is_told
 first_told standings.Idle order moment phase is = subst (λ (p : Phase). WasTold p []) (sym is) tt
@@ -114,7 +115,8 @@ pub closes_follow : (start : Start) (past : List Happening) (journal : JournalSt
     → ((told : List Exchange) → Told told s → Told (record { frame = frame; answer = answer } ∷ told) next)
     → Follows start (Sent frame answer ∷ past) (record { journal = journal; phase = Closes order moment next })
 closes_follow start past journal order moment s next frame answer d f ready aim on =
-    follows_on start past journal (Closes order moment s) (Closes order moment next) (standings.Left (unit_of s)) frame answer f
+    follows_on start past journal (Closes order moment s) (Closes order moment next)
+    (standings.Left (unit_of s)) frame answer f
     (stands_so start past _ _ d ready.0)
     (closing_wants (unit_of s) (told_in past) s (asks.Send frame) ready.1 f.told aim) (on (told_in past) f.told)
 
@@ -122,7 +124,8 @@ closes_follow start past journal order moment s next frame answer d f ready aim 
 
 pub begun_follows : (start : Start) (past : List Happening) (journal new : JournalState) (old : Phase)
     (order : Contents) (moment : ℕ) (s : Session) (entry : Record)
-    → Begins order moment ≡ old → Follows start past (record { journal = journal; phase = old }) → want_of old ≡ Keep entry
+    → Begins order moment ≡ old → Follows start past (record { journal = journal; phase = old })
+    → want_of old ≡ Keep entry
     → Told [] s
     → Follows start (Kept entry ∷ past) (record { journal = new; phase = Checks order s })
 begun_follows start past journal new old order moment s entry at f want is_told =
@@ -218,7 +221,8 @@ pub closed_follows : (start : Start) (past : List Happening) (journal new : Jour
     (order : Contents) (moment : ℕ) (s : Session) (entry : Record)
     → Closes order moment s ≡ old → Describes start past (record { journal = journal; phase = old })
     → Follows start past (record { journal = journal; phase = old }) → IsReady old journal
-    → want_of old ≡ Keep entry → Follows start (Kept entry ∷ past) (record { journal = new; phase = Begins order moment })
+    → want_of old ≡ Keep entry → Follows start (Kept entry ∷ past)
+    (record { journal = new; phase = Begins order moment })
 closed_follows start past journal new old order moment s entry at d f ready want =
     let asked : want_of (Closes order moment s) ≡ Keep entry = rw (← at) at want in
     let is = closing_keeps order.id (unit_of s) (aim_of s) entry asked in

@@ -11,7 +11,7 @@ use Rattle.dali_journal.specs.declared.standing.Standing.TheVariants as standing
 use Rattle.dali_journal.specs.declared.kept.Progress.{Progress}
 use Rattle.dali_journal.specs.declared.kept.Progress.TheVariants as reached
 use Rattle.dali_journal.specs.Sentence.{Allows, standing_of, next_standing, IsNew}
-use Rattle.dali_journal.specs.Orders.{orders_of, come_to}
+use Rattle.dali_journal.specs.Orders.{orders_of}
 use Rattle.dali_journal.specs.JournalState.{JournalState, KeepsRoom}
 use Rattle.dali_write.specs.Exchanges.{Exchange}
 use Rattle.dali_write.specs.declared.ask.Ask.{Ask}
@@ -40,6 +40,7 @@ use Rattle.dali_laws.proofs.StandingLemmas.{begun_order, open_order}
 use Rattle.dali_laws.proofs.RepeatLemmas.{legal_sentence}
 use Rattle.dali_laws.proofs.AgreeLemmas.{may_follow}
 use Rattle.dali_writer.proofs.StepLemmas.{stands_so, since_part}
+use Rattle.dali_journal.proofs.JournalLemmas.{length_come}
 
 -- a record that may be kept
 kept_on : (start : Start) (past : List Happening) (journal new : JournalState) (old next : Phase) (entry : Record)
@@ -53,12 +54,6 @@ kept_on start past journal new old next entry d may records limit place = record
   limit = d.limit ∙ sym limit;
   place = place;
 }
-
--- no order more
-come_length : (progress : Progress) (orders : List (Contents × Progress)) → length (come_to progress orders)
-    ≡ length orders
-come_length progress [] = refl
-come_length progress (newest ∷ older) = refl
 
 -- the record of an order that is at work
 goes_on : (start : Start) (past : List Happening) (w : WriterState) (entry : Record) (stands : Standing)
@@ -77,7 +72,8 @@ goes_on start past w entry stands d at allowed is_new none due grounds =
 
 -- an order that was taken may begin
 pub begun_may : (start : Start) (past : List Happening) (journal : JournalState) (order : Contents) (moment : ℕ)
-    → Describes start past (record { journal = journal; phase = Begins order moment }) → IsReady (Begins order moment) journal
+    → Describes start past (record { journal = journal; phase = Begins order moment })
+    → IsReady (Begins order moment) journal
     → MayKeep start past (Began order moment)
 begun_may start past journal order moment d ready =
     let before = legal_sentence start past d.legal in
@@ -89,8 +85,10 @@ begun_may start past journal order moment d ready =
     }
 
 -- an order that was taken is begun
-pub begun_on : (start : Start) (past : List Happening) (journal new : JournalState) (order : Contents) (moment : ℕ) (s : Session)
-    → Describes start past (record { journal = journal; phase = Begins order moment }) → IsReady (Begins order moment) journal
+pub begun_on : (start : Start) (past : List Happening) (journal new : JournalState) (order : Contents) (moment : ℕ)
+    (s : Session)
+    → Describes start past (record { journal = journal; phase = Begins order moment })
+    → IsReady (Begins order moment) journal
     → Told [] s
     → new.records ≡ Began order moment ∷ journal.records → new.limit ≡ journal.limit
     → Describes start (Kept (Began order moment) ∷ past) (record { journal = new; phase = Checks order s })
@@ -131,10 +129,10 @@ check_due past unit _ = tt
 
 check_none : (unit : ℕ) (verdict : Verdict) (records : List Record)
     → length (orders_of (check_record unit verdict ∷ records)) ≡ length (orders_of records)
-check_none unit verdicts.MayOpen records = come_length reached.Open (orders_of records)
-check_none unit verdicts.Short records = come_length (reached.Ended codes.Short) (orders_of records)
-check_none unit verdicts.Format records = come_length (reached.Ended codes.Format) (orders_of records)
-check_none unit _ records = come_length (reached.Ended codes.Silent) (orders_of records)
+check_none unit verdicts.MayOpen records = length_come reached.Open (orders_of records)
+check_none unit verdicts.Short records = length_come (reached.Ended codes.Short) (orders_of records)
+check_none unit verdicts.Format records = length_come (reached.Ended codes.Format) (orders_of records)
+check_none unit _ records = length_come (reached.Ended codes.Silent) (orders_of records)
 
 check_place : (past : List Happening) (order : Contents) (verdict : Verdict) (next : Phase)
     → IsAfterCheck order verdict next → IsAt next (Kept (check_record order.unit verdict) ∷ past)
@@ -201,7 +199,7 @@ written_on start past journal new order s verdict d ready aim records limit =
     let may =
     goes_on start past _ (Ended (write_code verdict)) (standings.Opened order) d ready.0
     (write_allowed order verdict) tt
-    (come_length (reached.Ended (write_code verdict)) (orders_of (records_of start past))) tt
+    (length_come (reached.Ended (write_code verdict)) (orders_of (records_of start past))) tt
     (opened_grounds (sent_of past) order verdict rests) in
     kept_on start past journal new (Writes order s) (Says order.id (write_code verdict)) (Ended (write_code verdict)) d
     may records limit refl
@@ -213,8 +211,10 @@ stands_read (x ∷ told) unit location byte (inl ends) = inl (location, byte, en
 stands_read (x ∷ told) unit location byte (inr (passive, stands)) = inr (stands_read told unit location byte stands)
 
 -- a closing session has ended as Closed
-pub closed_on : (start : Start) (past : List Happening) (journal new : JournalState) (order : Contents) (moment : ℕ) (s : Session)
-    → Describes start past (record { journal = journal; phase = Closes order moment s }) → IsReady (Closes order moment s) journal
+pub closed_on : (start : Start) (past : List Happening) (journal new : JournalState) (order : Contents) (moment : ℕ)
+    (s : Session)
+    → Describes start past (record { journal = journal; phase = Closes order moment s })
+    → IsReady (Closes order moment s) journal
     → aim_of s ≡ asks.Ended verdicts.Closed
     → new.records ≡ Closed (unit_of s) ∷ journal.records → new.limit ≡ journal.limit
     → Describes start (Kept (Closed (unit_of s)) ∷ past) (record { journal = new; phase = Begins order moment })
@@ -264,7 +264,8 @@ ready_written journal new order s verdict ready records =
     said_ready journal new order (write_code verdict) reached.Open (open_order journal.records order ready.0)
     (idle_written order verdict (standing_of journal.records) ready.0) records
 
-pub ready_closed : (journal new : JournalState) (order : Contents) (moment : ℕ) (s : Session) → IsReady (Closes order moment s) journal
+pub ready_closed : (journal new : JournalState) (order : Contents) (moment : ℕ) (s : Session)
+    → IsReady (Closes order moment s) journal
     → new.records ≡ Closed (unit_of s) ∷ journal.records → new.limit ≡ journal.limit
     → KeepsRoom (Closed (unit_of s)) journal new → IsReady (Begins order moment) new
 ready_closed journal new order moment s ready records limit room = (
@@ -276,7 +277,8 @@ ready_closed journal new order moment s ready records limit room = (
 pub same_entry : (entry wanted : Record) → Keep entry ≡ Keep wanted → entry ≡ wanted
 same_entry entry wanted e = cc
 
-pub keeps_begun : (start : Start) (past : List Happening) (journal new : JournalState) (old : Phase) (order : Contents) (moment : ℕ)
+pub keeps_begun : (start : Start) (past : List Happening) (journal new : JournalState) (old : Phase) (order : Contents)
+    (moment : ℕ)
     (s : Session) (entry : Record)
     → Begins order moment ≡ old → Describes start past (record { journal = journal; phase = old }) → IsReady old journal
     → want_of old ≡ Keep entry → Told [] s
@@ -325,9 +327,11 @@ closing_keeps id unit (asks.Send frame) entry e = cc
 closing_keeps id unit (asks.Ended verdicts.Closed) entry e = (refl, same_entry (Closed unit) entry e)
 closing_keeps id unit (asks.Ended _) entry e = cc
 
-pub keeps_closed : (start : Start) (past : List Happening) (journal new : JournalState) (old : Phase) (order : Contents) (moment : ℕ)
+pub keeps_closed : (start : Start) (past : List Happening) (journal new : JournalState) (old : Phase) (order : Contents)
+    (moment : ℕ)
     (s : Session) (entry : Record)
-    → Closes order moment s ≡ old → Describes start past (record { journal = journal; phase = old }) → IsReady old journal
+    → Closes order moment s ≡ old → Describes start past (record { journal = journal; phase = old })
+    → IsReady old journal
     → want_of old ≡ Keep entry
     → new.records ≡ Closed (unit_of s) ∷ journal.records → new.limit ≡ journal.limit
     → Describes start (Kept entry ∷ past) (record { journal = new; phase = Begins order moment })

@@ -38,7 +38,8 @@ use Rattle.dali_writer.proofs.FollowLemmas.{check_ends, write_ends}
 
 -- what is wanted is next
 
-check_next : (order : Contents) (told : List Exchange) (waits : Option Contents) (since : ℕ) (entry : Record) (ask : Ask)
+check_next : (order : Contents) (told : List Exchange) (waits : Option Contents) (since : ℕ) (entry : Record)
+    (ask : Ask)
     → Asks (standings.Began order) told ask
     → check_of order.unit ask ≡ Keep entry → NextRecord (standings.Began order) waits since told entry
 check_next order told waits since entry (asks.Send frame) asked want = cc
@@ -49,7 +50,8 @@ check_next order told waits since entry (asks.Ended verdict) asked want = (
       (sym (same_entry (check_record order.unit verdict) entry want)),
 )
 
-write_next : (order : Contents) (told : List Exchange) (waits : Option Contents) (since : ℕ) (entry : Record) (ask : Ask)
+write_next : (order : Contents) (told : List Exchange) (waits : Option Contents) (since : ℕ) (entry : Record)
+    (ask : Ask)
     → Asks (standings.Opened order) told ask
     → write_of ask ≡ Keep entry → NextRecord (standings.Opened order) waits since told entry
 write_next order told waits since entry (asks.Send frame) asked want = cc
@@ -69,10 +71,12 @@ wanted_next start past journal (Says id code) entry d f ready want = cc
 wanted_next start past journal (Begins order moment) entry d f ready want =
     rw (stands_so start past _ _ d ready.0, d.place.0, d.place.1) (sym (same_entry (Began order moment) entry want))
 wanted_next start past journal (Checks order s) entry d f ready want =
-    rw (stands_so start past _ _ d ready.0) (check_next order (told_in past) (waiting past) (waiting_since past) entry (aim_of s)
+    rw (stands_so start past _ _ d ready.0)
+    (check_next order (told_in past) (waiting past) (waiting_since past) entry (aim_of s)
     (fresh_wants order (told_in past) s (aim_of s) ready.1 f.told refl) want)
 wanted_next start past journal (Writes order s) entry d f ready want =
-    rw (stands_so start past _ _ d ready.0) (write_next order (told_in past) (waiting past) (waiting_since past) entry (aim_of s)
+    rw (stands_so start past _ _ d ready.0)
+    (write_next order (told_in past) (waiting past) (waiting_since past) entry (aim_of s)
     (opened_wants order (told_in past) s (aim_of s) ready.1 f.told refl) want)
 wanted_next start past journal (Closes order moment s) entry d f ready want =
     let is = closing_keeps order.id (unit_of s) (aim_of s) entry want in

@@ -60,7 +60,8 @@ one_more_served step events i d bus mid_bus new_bus writer mid new past new_past
 }
 
 module _ {S : Type 0} (world : S → World) (step : S → BusEvent → S → Type 0)
-    (allowed : (old : S) (event : BusEvent) (new : S) → step old event new → WorldStep (world old) event (world new)) where
+    (allowed : (old : S) (event : BusEvent) (new : S) → step old event new
+    → WorldStep (world old) event (world new)) where
   -- nothing was served
   pub nothing_served : (limit : ℕ) (events : List Event) (bus : S) → IsCutShort world step limit events bus bus
   nothing_served limit events bus = record {

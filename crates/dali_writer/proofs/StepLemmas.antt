@@ -70,7 +70,8 @@ pub busy_at : (start : Start) (past : List Happening) (journal : JournalState) (
     → Describes start past (record { journal = journal; phase = phase }) → IsReady phase journal
     → is_busy start past ≡ is_wanting (want_of phase)
 busy_at start past journal Idle d ready = rw (ap (λ r. is_at_work (standing_of r)) d.same ∙ ready, d.place) refl
-busy_at start past journal (Begins order moment) d ready = unsaid start past (waits_unsaid (course_of past) order d.place.0)
+busy_at start past journal (Begins order moment) d ready =
+    unsaid start past (waits_unsaid (course_of past) order d.place.0)
 busy_at start past journal (Checks order s) d ready =
     at_work start past (standings.Began order) (stands_so start past _ _ d ready.0) refl
     ∙ sym (check_wants order.unit (aim_of s))
@@ -227,9 +228,11 @@ writes_on start past journal order s next frame answer d ready aim f =
     (rw (stands_so start past _ _ d ready.0) (opened_may past order frame ready.2.rising all))
     (told_on past s next frame answer place f)
 
-pub closes_on : (start : Start) (past : List Happening) (journal : JournalState) (order : Contents) (moment : ℕ) (s next : Session)
+pub closes_on : (start : Start) (past : List Happening) (journal : JournalState) (order : Contents) (moment : ℕ)
+    (s next : Session)
     (frame : Frame) (answer : Option ℕ)
-    → Describes start past (record { journal = journal; phase = Closes order moment s }) → IsReady (Closes order moment s) journal
+    → Describes start past (record { journal = journal; phase = Closes order moment s })
+    → IsReady (Closes order moment s) journal
     → aim_of s ≡ asks.Send frame
     → ((told : List Exchange) → Told told s → Told (record { frame = frame; answer = answer } ∷ told) next)
     → Describes start (Sent frame answer ∷ past) (record { journal = journal; phase = Closes order moment next })

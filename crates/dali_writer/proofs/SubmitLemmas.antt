@@ -43,7 +43,8 @@ IsRefusal replies.Full = ⊤
 IsRefusal _ = ⊥
 
 -- after them a writer is where it was
-stays : (phase : Phase) (past : List Happening) (order : Contents) (moment : ℕ) (id : ℕ) (reply : Reply) → IsRefusal reply
+stays : (phase : Phase) (past : List Happening) (order : Contents) (moment : ℕ) (id : ℕ) (reply : Reply)
+    → IsRefusal reply
     → IsAt phase past
     → IsAt phase (Answered id reply ∷ Asked order moment ∷ past)
 stays phase past order moment id replies.Taken refused at = absurd refused
@@ -69,7 +70,8 @@ pub refused : (start : Start) (past : List Happening) (w : WriterState) (order :
     → Describes start past w → IsRefusal reply → IsReply start past order reply
     → Describes start (Answered order.id reply ∷ Asked order moment ∷ past) w
 refused start past w order moment reply d refusal due =
-    asked start past w w order moment reply d due refl refl (stays w.phase past order moment order.id reply refusal d.place)
+    asked start past w w order moment reply d due refl refl
+    (stays w.phase past order moment order.id reply refusal d.place)
 
 -- what the journal knows of the order
 known_due : (order : Contents) (kept : Kept) (busy full : Bool) (reply : Reply) → IsKnownReply order kept reply
@@ -102,7 +104,8 @@ idle_wants (Writes order s) e = cc
 idle_wants (Closes order moment s) e = cc
 idle_wants (Says id code) e = cc
 
-pub busy_on : (start : Start) (past : List Happening) (journal : JournalState) (phase : Phase) (order : Contents) (moment : ℕ)
+pub busy_on : (start : Start) (past : List Happening) (journal : JournalState) (phase : Phase) (order : Contents)
+    (moment : ℕ)
     → Describes start past (record { journal = journal; phase = phase }) → IsReady phase journal
     → IsNotEnded order (kept_of order.id journal.records)
     → is_idle phase ≡ false → Describes start (Answered order.id replies.Busy ∷ Asked order moment ∷ past)
@@ -132,7 +135,8 @@ idle_busy : (start : Start) (past : List Happening) (journal : JournalState) (ph
     → IsReady phase journal → is_idle phase ≡ true → is_busy start past ≡ false
 idle_busy start past journal phase d ready idle = busy_at start past journal phase d ready ∙ idle_wants phase idle
 
-pub full_on : (start : Start) (past : List Happening) (journal : JournalState) (phase : Phase) (order : Contents) (moment : ℕ)
+pub full_on : (start : Start) (past : List Happening) (journal : JournalState) (phase : Phase) (order : Contents)
+    (moment : ℕ)
     → Describes start past (record { journal = journal; phase = phase }) → IsReady phase journal
     → IsNotEnded order (kept_of order.id journal.records)
     → is_idle phase ≡ true → journal.limit ≤ order_count journal
@@ -144,7 +148,8 @@ full_on start past journal phase order moment d ready fresh idle le =
     (rw d.same fresh, idle_busy start past journal phase d ready idle, full)
 
 -- the place of a writer that has taken an order
-first_place : (past : List Happening) (order : Contents) (moment : ℕ) (stands : Standing) (next : Phase) → IsFirst stands order moment next
+first_place : (past : List Happening) (order : Contents) (moment : ℕ) (stands : Standing) (next : Phase)
+    → IsFirst stands order moment next
     → IsAt next (Answered order.id replies.Taken ∷ Asked order moment ∷ past)
 first_place past order moment standings.Idle next is =
     subst (λ (p : Phase). IsAt p (Answered order.id replies.Taken ∷ Asked order moment ∷ past)) (sym is) (refl, refl)
@@ -153,7 +158,8 @@ first_place past order moment (standings.Began other) next is =
 first_place past order moment (standings.Opened other) next is =
     subst (λ (p : Phase). IsAt p (Answered order.id replies.Taken ∷ Asked order moment ∷ past)) (sym is) (refl, refl)
 first_place past order moment (standings.Left unit) next (s, is, at, closing, is_told) =
-    subst (λ (p : Phase). IsAt p (Answered order.id replies.Taken ∷ Asked order moment ∷ past)) (sym is) (refl, refl, is_told)
+    subst (λ (p : Phase). IsAt p (Answered order.id replies.Taken ∷ Asked order moment ∷ past)) (sym is)
+    (refl, refl, is_told)
 
 -- where the first four replies don't apply, Taken is due
 pub taken_due : (start : Start) (past : List Happening) (journal : JournalState) (phase : Phase) (order : Contents)
@@ -170,7 +176,8 @@ pub taken_on : (start : Start) (past : List Happening) (journal new : JournalSta
     → IsNotEnded order (kept_of order.id journal.records)
     → is_idle phase ≡ true → order_count journal < journal.limit → new.records ≡ journal.records
     → new.limit ≡ journal.limit → IsFirst stands order moment next
-    → Describes start (Answered order.id replies.Taken ∷ Asked order moment ∷ past) (record { journal = new; phase = next })
+    → Describes start (Answered order.id replies.Taken ∷ Asked order moment ∷ past)
+    (record { journal = new; phase = next })
 taken_on start past journal new phase next order moment stands d ready fresh idle less records limit first =
     asked start past _ _ order moment replies.Taken d (taken_due start past journal phase order d ready fresh idle less)
     records limit
@@ -275,14 +282,16 @@ new_number records order sentence idle fresh = by (kept_of order.id records) ref
 is_left_idle : (stands : Standing) (order : Contents) (moment : ℕ) (next : Phase) (new : JournalState)
     → standing_of new.records ≡ stands → is_at_work stands ≡ false → IsFirst stands order moment next
     → MayBegin new (Began order moment) → IsReady next new
-is_left_idle standings.Idle order moment next new at idle is may = subst (λ (p : Phase). IsReady p new) (sym is) (at, may)
+is_left_idle standings.Idle order moment next new at idle is may =
+    subst (λ (p : Phase). IsReady p new) (sym is) (at, may)
 is_left_idle (standings.Left unit) order moment next new at idle (s, is, same, closing, is_told) may =
     subst (λ (p : Phase). IsReady p new) (sym is)
     (at ∙ ap standings.Left (sym same), subst (λ (u : ℕ). IsClosing u s) (sym same) closing, may)
 is_left_idle (standings.Began other) order moment next new at idle is may = cc
 is_left_idle (standings.Opened other) order moment next new at idle is may = cc
 
-pub ready_taken : (journal new : JournalState) (phase next : Phase) (order : Contents) (moment : ℕ) → IsSentence journal.records
+pub ready_taken : (journal new : JournalState) (phase next : Phase) (order : Contents) (moment : ℕ)
+    → IsSentence journal.records
     → IsReady phase journal
     → IsNotEnded order (kept_of order.id journal.records) → is_idle phase ≡ true → order_count journal < journal.limit
     → new.records ≡ journal.records → new.limit ≡ journal.limit → HasRoom new order

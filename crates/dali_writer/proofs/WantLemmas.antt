@@ -154,11 +154,14 @@ next_planned : (start : Start) (past : List Happening) (entry : Record) → IsKe
     → IsPlanned start past (Kept entry)
 next_planned start past (Began order moment) next = tt
 next_planned start past (Opened unit) next =
-    ends_next (standing_at start past) (waiting past) (waiting_since past) (told_in past) (Opened unit) (λ order moment e. cc) next
+    ends_next (standing_at start past) (waiting past) (waiting_since past) (told_in past) (Opened unit)
+    (λ order moment e. cc) next
 next_planned start past (Ended code) next =
-    ends_next (standing_at start past) (waiting past) (waiting_since past) (told_in past) (Ended code) (λ order moment e. cc) next
+    ends_next (standing_at start past) (waiting past) (waiting_since past) (told_in past) (Ended code)
+    (λ order moment e. cc) next
 next_planned start past (Closed unit) next =
-    ends_next (standing_at start past) (waiting past) (waiting_since past) (told_in past) (Closed unit) (λ order moment e. cc) next
+    ends_next (standing_at start past) (waiting past) (waiting_since past) (told_in past) (Closed unit)
+    (λ order moment e. cc) next
 
 -- what is wanted is next
 pub done_next : (start : Start) (past : List Happening) (journal : JournalState) (phase : Phase) (want : Want)

@@ -31,7 +31,8 @@ start_of journal = record { records = journal.records; limit = journal.limit }
 -- session, the unit that is closed is the one that was left, and the order that ended is the newest
 abbrev pub IsReady : Phase → JournalState → Type 0
 IsReady Idle journal = is_at_work (standing_of journal.records) ≡ false
-IsReady (Begins order moment) journal = (standing_of journal.records ≡ standings.Idle) × MayBegin journal (Began order moment)
+IsReady (Begins order moment) journal = (standing_of journal.records ≡ standings.Idle)
+    × MayBegin journal (Began order moment)
 IsReady (Checks order s) journal =
     (standing_of journal.records ≡ standings.Began order) × IsFresh order s × AreUpdates order.updates
 IsReady (Writes order s) journal =

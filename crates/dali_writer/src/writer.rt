@@ -72,8 +72,8 @@ impl Writer {
         ensures stopped { (start : Start) (past : List Happening) (before : WriterState) → Describes start past before
             → before.journal.records ≡ journal.records → before.journal.limit ≡ journal.limit
             → Describes start (happenings.Stopped ∷ past) result }
-        ensures stopped_follows { (start : Start) (past : List Happening) (before : WriterState) → Follows start past before
-            → Follows start (happenings.Stopped ∷ past) result }
+        ensures stopped_follows { (start : Start) (past : List Happening) (before : WriterState)
+            → Follows start past before → Follows start (happenings.Stopped ∷ past) result }
     {
         let phase = resumed_phase(journal.standing());
         Writer { journal, phase }

@@ -40,7 +40,8 @@ returns-then-not-put_all-clause-worked g c = λ start past first since d quiet t
       broken = λ rest.
           breaks_saying start (Asked order c.args.moment ∷ past) rest _ _ _ _ _ order.id c.in-Ok.reply
           (reply_next start past order c.args.moment c.in-Ok.reply described.legal follows.planned)
-          (subst (IsCut _ _) (c.deref.ensures.0 ∙ c.reply_line.ensures ∙ ap (λ (n : ℕ). reply_line n c.in-Ok.reply) c.id-id.ensures) (c.if-not-put_all.ensures.cut refl));
+          (subst (IsCut _ _) (c.deref.ensures.0 ∙ c.reply_line.ensures
+          ∙ ap (λ (n : ℕ). reply_line n c.in-Ok.reply) c.id-id.ensures) (c.if-not-put_all.ensures.cut refl));
       left = settled_between _ _ c.requires.settled;
       told_all =
           c.see.ensures start since past told
@@ -54,7 +55,8 @@ returns-clause-worked g c = λ start past first since d quiet told.
     let follows = rw c.copy.ensures.value at (c.in-Ok.ensures.follows start past d.follows) in
     let line = c.deref.ensures.0 ∙ c.reply_line.ensures ∙ ap (λ (n : ℕ). reply_line n c.in-Ok.reply) c.id-id.ensures in
     let said = subst (Appends _ _) line (c.if-not-put_all.ensures.whole refl) in
-    let asked = c.see.ensures start since past told (stands_so start _ c.submit.new.self _ described c.journal.ensures) in
+    let asked = c.see.ensures start since past told
+    (stands_so start _ c.submit.new.self _ described c.journal.ensures) in
     let answered =
     rw c.id-id.ensures at (c.see-2.ensures start since _ asked
     (stands_so start _ c.submit.new.self _ described c.journal-2.ensures)) in

@@ -64,7 +64,8 @@ pub returns-in_err-carry_out-clause-broken : goal.returns-in_err-carry_out-claus
 returns-in_err-carry_out-clause-broken g c =
     let i = c.loop-order.invariant in
     let w =
-    rw c.copy.ensures.value at (c.in_err-carry_out.ensures.worked _ i.past _ c.args.observer.now i.driven i.quiet i.told) in
+    rw c.copy.ensures.value at (c.in_err-carry_out.ensures.worked _ i.past _ c.args.observer.now i.driven i.quiet
+    i.told) in
     let rest = at_moment c.args.moment (drop (suc c.loop-order.order-index) c.args.orders.now) in
     let p = err_from_is_err_and c.from_residual-in_err-carry_out.result c.from_residual-in_err-carry_out.ensures.1 in
     rw (p.1, p.2) (record {
@@ -88,7 +89,8 @@ pub loop-order-preserved : goal.loop-order-preserved
 loop-order-preserved g c =
     let i = c.loop-order.invariant in
     let w =
-    rw c.copy.ensures.value at (c.in_ok-carry_out.ensures.worked _ i.past _ c.args.observer.now i.driven i.quiet i.told) in
+    rw c.copy.ensures.value at (c.in_ok-carry_out.ensures.worked _ i.past _ c.args.observer.now i.driven i.quiet i.told)
+    in
     record {
       past = w.more ++ i.past;
       driven = w.driven_at;

@@ -17,7 +17,8 @@ invariant-loop g l = record {
       → HasWorked start past [] first l.writer
       (shown (g.J.Store.seen l.fn.journal_out) (g.L.Sink.held l.fn.link_out) (g.I.Source.left l.fn.link_in)
       (g.O.Sink.held l.fn.out))
-      (shown (g.J.Store.seen l.journal_out) (g.L.Sink.held l.link_out) (g.I.Source.left l.link_in) (g.O.Sink.held l.out))
+      (shown (g.J.Store.seen l.journal_out) (g.L.Sink.held l.link_out) (g.I.Source.left l.link_in)
+      (g.O.Sink.held l.out))
       (g.B.Observer.told start since l.observer);
   journal : g.J.Store.failed l.journal_out ≡ false;
   settled : IsSettled (g.J.Store.seen l.journal_out) (g.J.Store.may_leave l.journal_out);

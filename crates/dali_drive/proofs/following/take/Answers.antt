@@ -8,7 +8,8 @@ use Rattle.dali_drive.proofs.following.take.Goals as goal
 
 pub returns-in-Order-clause-worked : goal.returns-in-Order-clause-worked
 returns-in-Order-clause-worked g c = λ start before first since follow told.
-    rw c.in-Order.is (order_on start before first _ _ follow c.in-Order.order c.in-Order.moment _ _ _ _ _ c.carry_out.result
+    rw c.in-Order.is (order_on start before first _ _ follow c.in-Order.order c.in-Order.moment _ _ _ _ _
+    c.carry_out.result
     (c.carry_out.ensures.worked start _ _ since follow.at.driven_at follow.quiet told) c.carry_out.ensures.quiet)
 
 pub returns-then-put_all-clause-worked : goal.returns-then-put_all-clause-worked

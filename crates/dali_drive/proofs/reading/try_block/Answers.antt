@@ -13,7 +13,8 @@ returns-in_err-answer-clause-broken g c =
 pub returns-then-not-is_met-clause-missed : goal.returns-then-not-is_met-clause-missed
 returns-then-not-is_met-clause-missed g c = λ none.
     try_misses c.args.unit c.args.block _ _ _ _ _ c.in-Some.request _ c.loop-request.invariant.tried
-    (sym c.in-Some.ensures.request) (λ meets. let never = c.if-not-is_met.ensures.1 meets in cc) c.in_ok-answer.ensures.told
+    (sym c.in-Some.ensures.request) (λ meets. let never = c.if-not-is_met.ensures.1 meets in
+    cc) c.in_ok-answer.ensures.told
 
 pub keep_answer-requires : goal.keep_answer-requires
 keep_answer-requires g c =

@@ -1,6 +1,6 @@
 use Rattle.std.proofs.Common.{arith, length-take, length-drop}
 use Rattle.std.proofs.lemmas.Grind.{common_steps}
-use Rattle.dali_drive.proofs.PutLemmas.{put_more}
+use Rattle.dali_store.proofs.Betweens.{put_more}
 use Rattle.dali_drive.proofs.streams.put_all.Goals as goal
 
 pub loop-done-preserved : goal.loop-done-preserved

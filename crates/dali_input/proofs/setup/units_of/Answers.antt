@@ -15,6 +15,7 @@ pub loop-plan-preserved : goal.loop-plan-preserved
 loop-plan-preserved c = record {
   so_far = one_held c.args.plans.now c.loop-plan.plan-index c.plan-item.result c.loop-plan.are_apart _
       c.loop-plan.units.items _ _ c.loop-plan-test.true c.plan-item.is c.loop-plan.invariant.so_far
-      c.in-Ok.ensures.ok.0 c.in-Ok.ensures.ok.1 c.in_ok-are_apart-in-Ok.ensures.apart c.in_ok-are_apart-in-Ok.ensures.together;
+      c.in-Ok.ensures.ok.0 c.in-Ok.ensures.ok.1 c.in_ok-are_apart-in-Ok.ensures.apart
+      c.in_ok-are_apart-in-Ok.ensures.together;
   counted = ap (λ n. n + 1) c.loop-plan.invariant.counted;
 }

@@ -10,7 +10,8 @@ use Rattle.dali_text.proofs.journal_lines.write_each.Given as goal
 abbrev pub invariant-loop-entry : goal.invariant-loop-entry
 invariant-loop-entry g l = record {
   text : (records : List Record) → AllByRecursion (IsRecord Two) records → l.bytes ≡ flat_map (spelling Two) records
-      → WrittenSoFar l.with_updates records l.rest (g.W.Write.contents l.initial.output.writer) (g.W.Write.contents l.output.writer);
+      → WrittenSoFar l.with_updates records l.rest (g.W.Write.contents l.initial.output.writer)
+      (g.W.Write.contents l.output.writer);
   failed : has_failed l.output ≡ has_failed l.initial.output;
 }
 

@@ -25,7 +25,8 @@ returns-in-Ok-cut_off c =
     let same = c.in-None.ensures.same refl in
     record {
       described = λ start past d.
-          c.in-Ok-cut_off.ensures.described start past (subst (λ (w : WriterState). Describes start past w) (sym same) d);
+          c.in-Ok-cut_off.ensures.described start past
+          (subst (λ (w : WriterState). Describes start past w) (sym same) d);
       follows = λ start past d f.
           c.in-Ok-cut_off.ensures.follows start past (subst (λ (w : WriterState). Follows start past w) (sym same) f);
       part = λ start past d f.

@@ -8,4 +8,5 @@ use Rattle.dali_journal.proofs.record.Record.read_in.Goals as goal
 pub returns : goal.returns
 returns c =
     subst (λ (p : Piece). IsRead c.args.version c.args.bytes.now p) (sym c.piece_of.ensures)
-    (reads-piece_of c.args.version c.args.bytes.now (are-bytes c.args.bytes.now (λ i. omega (arith, c.type_inv.bytes i))))
+    (reads-piece_of c.args.version c.args.bytes.now
+    (are-bytes c.args.bytes.now (λ i. omega (arith, c.type_inv.bytes i))))

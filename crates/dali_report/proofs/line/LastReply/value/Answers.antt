@@ -7,7 +7,8 @@ use Rattle.dali_report.proofs.line.LastReply.value.Goals as goal
 
 pub returns : goal.returns
 returns c =
-    view-Object c.in_ok-members-9.members ∙ ap (λ (m : Members). object m) (last_members (ap members_view c.new.ensures.empty)
+    view-Object c.in_ok-members-9.members
+    ∙ ap (λ (m : Members). object m) (last_members (ap members_view c.new.ensures.empty)
     c.unit.ensures c.in_ok-members.ensures
     (c.from.ensures ∙ ap (λ (t : List ℕ). string t) c.in_ok-reply.ensures.ok) c.in_ok-members-2.ensures
     c.from-2.ensures c.in_ok-members-3.ensures

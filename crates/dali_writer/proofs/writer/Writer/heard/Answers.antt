@@ -42,7 +42,10 @@ returns-clause-described c = λ start past frame want d. elim c.match-self.branc
       (λ told is_told. w.heard-in-Writes.ensures.told told frame aim is_told))
   | in-Closes w ↦
       let before : Describes start past
-      (record { journal = c.self.inside.journal; phase = Closes w.in-Closes.field-0 w.in-Closes.field-1 w.in-Closes.session }) =
+      (record {
+        journal = c.self.inside.journal;
+        phase = Closes w.in-Closes.field-0 w.in-Closes.field-1 w.in-Closes.session;
+      }) =
       rw (← w.in-Closes.is) (rw (← c.self.view_is) at d) in
       let ready : IsReady (Closes w.in-Closes.field-0 w.in-Closes.field-1 w.in-Closes.session) c.self.inside.journal =
       rw w.in-Closes.is at c.self.invariant.ready in
@@ -51,7 +54,8 @@ returns-clause-described c = λ start past frame want d. elim c.match-self.branc
       rw w.in-Closes.is at (rw (← c.self.view_is) at want) in
       let aim : aim_of w.in-Closes.session ≡ asks.Send frame =
       closing_sends_it w.in-Closes.field-0.id (unit_of w.in-Closes.session) (aim_of w.in-Closes.session) frame wanted in
-      rw w.self-inside-is (closes_on start past c.self.inside.journal w.in-Closes.field-0 w.in-Closes.field-1 w.in-Closes.session _ frame
+      rw w.self-inside-is (closes_on start past c.self.inside.journal w.in-Closes.field-0 w.in-Closes.field-1
+      w.in-Closes.session _ frame
       c.args.answer before ready aim
       (λ told is_told. w.heard-in-Closes.ensures.told told frame aim is_told))
   | in-Idle w ↦ let never = rw w.in-Idle.is at (rw (← c.self.view_is) at want) in cc
@@ -94,10 +98,16 @@ returns-clause-follows c = λ start past frame want d f. elim c.match-self.branc
       (λ told is_told. w.heard-in-Writes.ensures.told told frame aim is_told))
   | in-Closes w ↦
       let before : Describes start past
-      (record { journal = c.self.inside.journal; phase = Closes w.in-Closes.field-0 w.in-Closes.field-1 w.in-Closes.session }) =
+      (record {
+        journal = c.self.inside.journal;
+        phase = Closes w.in-Closes.field-0 w.in-Closes.field-1 w.in-Closes.session;
+      }) =
       rw (← w.in-Closes.is) (rw (← c.self.view_is) at d) in
       let follows : Follows start past
-      (record { journal = c.self.inside.journal; phase = Closes w.in-Closes.field-0 w.in-Closes.field-1 w.in-Closes.session }) =
+      (record {
+        journal = c.self.inside.journal;
+        phase = Closes w.in-Closes.field-0 w.in-Closes.field-1 w.in-Closes.session;
+      }) =
       rw (← w.in-Closes.is) (rw (← c.self.view_is) at f) in
       let ready : IsReady (Closes w.in-Closes.field-0 w.in-Closes.field-1 w.in-Closes.session) c.self.inside.journal =
       rw w.in-Closes.is at c.self.invariant.ready in
@@ -106,7 +116,8 @@ returns-clause-follows c = λ start past frame want d f. elim c.match-self.branc
       rw w.in-Closes.is at (rw (← c.self.view_is) at want) in
       let aim : aim_of w.in-Closes.session ≡ asks.Send frame =
       closing_sends_it w.in-Closes.field-0.id (unit_of w.in-Closes.session) (aim_of w.in-Closes.session) frame wanted in
-      rw w.self-inside-is (closes_follow start past c.self.inside.journal w.in-Closes.field-0 w.in-Closes.field-1 w.in-Closes.session _
+      rw w.self-inside-is (closes_follow start past c.self.inside.journal w.in-Closes.field-0 w.in-Closes.field-1
+      w.in-Closes.session _
       frame c.args.answer before follows ready aim
       (λ told is_told. w.heard-in-Closes.ensures.told told frame aim is_told))
   | in-Idle w ↦ let never = rw w.in-Idle.is at (rw (← c.self.view_is) at want) in cc

@@ -25,7 +25,8 @@ invariant_of-self-in-Ended-want c = record {
 
 pub invariant_of-self-in-Closes : goal.invariant_of-self-in-Closes
 invariant_of-self-in-Closes c = record {
-  ready = ready_closed c.self.inside.journal c.append-in-Closes.new.self c.in-Closes.order c.in-Closes.moment c.in-Closes.session
+  ready = ready_closed c.self.inside.journal c.append-in-Closes.new.self c.in-Closes.order c.in-Closes.moment
+      c.in-Closes.session
       (rw (← c.in-Closes.ensures.value) at c.self.invariant.ready)
       (rw c.unit-in-Closes.ensures.value at c.append-in-Closes.ensures.records)
       c.append-in-Closes.ensures.limit c.append-in-Closes.ensures.kept_room;
@@ -33,7 +34,8 @@ invariant_of-self-in-Closes c = record {
 
 pub returns-in-Begins-clause-described : goal.returns-in-Begins-clause-described
 returns-in-Begins-clause-described c = λ start past entry want d.
-    keeps_begun start past c.self.inside.journal c.append.new.self c.self.inside.phase c.in-Begins.order c.in-Begins.moment
+    keeps_begun start past c.self.inside.journal c.append.new.self c.self.inside.phase c.in-Begins.order
+    c.in-Begins.moment
     c.fresh-session.result entry
     c.in-Begins.ensures.value (rw (← c.self.view_is) at d) c.self.invariant.ready (rw (← c.self.view_is) at want)
     c.fresh-session.ensures.told
@@ -60,7 +62,8 @@ returns-in-Ended-want-clause-described c = λ start past entry want d.
 
 pub returns-in-Closes-clause-described : goal.returns-in-Closes-clause-described
 returns-in-Closes-clause-described c = λ start past entry want d.
-    keeps_closed start past c.self.inside.journal c.append-in-Closes.new.self c.self.inside.phase c.in-Closes.order c.in-Closes.moment
+    keeps_closed start past c.self.inside.journal c.append-in-Closes.new.self c.self.inside.phase c.in-Closes.order
+    c.in-Closes.moment
     c.in-Closes.session entry
     c.in-Closes.ensures.value (rw (← c.self.view_is) at d) c.self.invariant.ready (rw (← c.self.view_is) at want)
     (rw c.unit-in-Closes.ensures.value at c.append-in-Closes.ensures.records) c.append-in-Closes.ensures.limit
@@ -72,7 +75,8 @@ returns-in-Ended-clause-falls c = rw (← c.self.view_is)
 
 pub returns-in-Begins-clause-follows : goal.returns-in-Begins-clause-follows
 returns-in-Begins-clause-follows c = λ start past entry want d f.
-    begun_follows start past c.self.inside.journal c.append.new.self c.self.inside.phase c.in-Begins.order c.in-Begins.moment
+    begun_follows start past c.self.inside.journal c.append.new.self c.self.inside.phase c.in-Begins.order
+    c.in-Begins.moment
     c.fresh-session.result entry
     c.in-Begins.ensures.value (rw (← c.self.view_is) at f) (rw (← c.self.view_is) at want) c.fresh-session.ensures.told
 
@@ -94,47 +98,56 @@ returns-in-Ended-want-clause-follows c = λ start past entry want d f.
 
 pub returns-in-Closes-clause-follows : goal.returns-in-Closes-clause-follows
 returns-in-Closes-clause-follows c = λ start past entry want d f.
-    closed_follows start past c.self.inside.journal c.append-in-Closes.new.self c.self.inside.phase c.in-Closes.order c.in-Closes.moment
+    closed_follows start past c.self.inside.journal c.append-in-Closes.new.self c.self.inside.phase c.in-Closes.order
+    c.in-Closes.moment
     c.in-Closes.session entry
     c.in-Closes.ensures.value (rw (← c.self.view_is) at d) (rw (← c.self.view_is) at f) c.self.invariant.ready
     (rw (← c.self.view_is) at want)
 
 pub invariant_of-self-in_default : goal.invariant_of-self-in_default
 invariant_of-self-in_default c =
-    checks_keep_none c.self.inside.phase c.in-Checks.order c.in-Checks.session c.in_default.field-0 c.in-Checks.ensures.value
+    checks_keep_none c.self.inside.phase c.in-Checks.order c.in-Checks.session c.in_default.field-0
+    c.in-Checks.ensures.value
     c.in_default.ensures.aim (rw (← c.self.view_is) at c.requires)
 
 pub returns-in_default-clause-falls : goal.returns-in_default-clause-falls
 returns-in_default-clause-falls c =
-    checks_keep_none c.self.inside.phase c.in-Checks.order c.in-Checks.session c.in_default.field-0 c.in-Checks.ensures.value
+    checks_keep_none c.self.inside.phase c.in-Checks.order c.in-Checks.session c.in_default.field-0
+    c.in-Checks.ensures.value
     c.in_default.ensures.aim (rw (← c.self.view_is) at c.requires)
 
 pub returns-in_default-clause-described : goal.returns-in_default-clause-described
 returns-in_default-clause-described c =
-    checks_keep_none c.self.inside.phase c.in-Checks.order c.in-Checks.session c.in_default.field-0 c.in-Checks.ensures.value
+    checks_keep_none c.self.inside.phase c.in-Checks.order c.in-Checks.session c.in_default.field-0
+    c.in-Checks.ensures.value
     c.in_default.ensures.aim (rw (← c.self.view_is) at c.requires)
 
 pub returns-in_default-clause-follows : goal.returns-in_default-clause-follows
 returns-in_default-clause-follows c =
-    checks_keep_none c.self.inside.phase c.in-Checks.order c.in-Checks.session c.in_default.field-0 c.in-Checks.ensures.value
+    checks_keep_none c.self.inside.phase c.in-Checks.order c.in-Checks.session c.in_default.field-0
+    c.in-Checks.ensures.value
     c.in_default.ensures.aim (rw (← c.self.view_is) at c.requires)
 
 pub invariant_of-self-in_default-want : goal.invariant_of-self-in_default-want
 invariant_of-self-in_default-want c =
-    writes_keep_none c.self.inside.phase c.in-Writes.order c.in-Writes.session c.in_default-want.field-0 c.in-Writes.ensures.value
+    writes_keep_none c.self.inside.phase c.in-Writes.order c.in-Writes.session c.in_default-want.field-0
+    c.in-Writes.ensures.value
     c.in_default-want.ensures.aim (rw (← c.self.view_is) at c.requires)
 
 pub returns-in_default-want-clause-falls : goal.returns-in_default-want-clause-falls
 returns-in_default-want-clause-falls c =
-    writes_keep_none c.self.inside.phase c.in-Writes.order c.in-Writes.session c.in_default-want.field-0 c.in-Writes.ensures.value
+    writes_keep_none c.self.inside.phase c.in-Writes.order c.in-Writes.session c.in_default-want.field-0
+    c.in-Writes.ensures.value
     c.in_default-want.ensures.aim (rw (← c.self.view_is) at c.requires)
 
 pub returns-in_default-want-clause-described : goal.returns-in_default-want-clause-described
 returns-in_default-want-clause-described c =
-    writes_keep_none c.self.inside.phase c.in-Writes.order c.in-Writes.session c.in_default-want.field-0 c.in-Writes.ensures.value
+    writes_keep_none c.self.inside.phase c.in-Writes.order c.in-Writes.session c.in_default-want.field-0
+    c.in-Writes.ensures.value
     c.in_default-want.ensures.aim (rw (← c.self.view_is) at c.requires)
 
 pub returns-in_default-want-clause-follows : goal.returns-in_default-want-clause-follows
 returns-in_default-want-clause-follows c =
-    writes_keep_none c.self.inside.phase c.in-Writes.order c.in-Writes.session c.in_default-want.field-0 c.in-Writes.ensures.value
+    writes_keep_none c.self.inside.phase c.in-Writes.order c.in-Writes.session c.in_default-want.field-0
+    c.in-Writes.ensures.value
     c.in_default-want.ensures.aim (rw (← c.self.view_is) at c.requires)

@@ -6,7 +6,8 @@ use Rattle.dali_writer.proofs.writer.Writer.submit.Goals as goal
 
 pub returns-in-Some-clause-described : goal.returns-in-Some-clause-described
 returns-in-Some-clause-described c = λ start past d.
-    known_on start past c.args.self.now c.args.order c.args.moment c.in-Some.reply d (rw (← c.self.view_is) c.in-Some.ensures.some)
+    known_on start past c.args.self.now c.args.order c.args.moment c.in-Some.reply d
+    (rw (← c.self.view_is) c.in-Some.ensures.some)
 
 pub returns-then-not-is_idle-clause-described : goal.returns-then-not-is_idle-clause-described
 returns-then-not-is_idle-clause-described c = λ start past d.

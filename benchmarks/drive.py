@@ -69,7 +69,7 @@ class Bench:
         self.unsynced = [f"LD_PRELOAD={self.shim}", "DRIVE_SHIM_ACT=sync any 0 skip 0"]
         source = REPOSITORY / "benchmarks" / "null_link.c"
         subprocess.run(["cc", "-O2", "-o", self.link, source], check=True)
-        source = REPOSITORY / "scripts" / "drive_shim.c"
+        source = REPOSITORY / "tests" / "drive_shim.c"
         subprocess.run(
             ["cc", "-O2", "-shared", "-fPIC", "-o", self.shim, source], check=True
         )

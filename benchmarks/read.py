@@ -30,7 +30,7 @@ import tempfile
 from measuring import REPOSITORY, print_machine
 
 sys.dont_write_bytecode = True
-sys.path.insert(0, str(REPOSITORY / "scripts"))
+sys.path.insert(0, str(REPOSITORY / "tests"))
 
 from driven import simulated_link  # noqa: E402
 from read_desk import WithBank0, varied_bank  # noqa: E402

@@ -7,7 +7,7 @@ import subprocess
 import sys
 import tempfile
 
-HERE = pathlib.Path(__file__).resolve().parent
+SCRIPTS = pathlib.Path(__file__).resolve().parent.parent / "scripts"
 BASE = """-- What is counted.
 use Rattle.std.specs.Prelude.{◌≡◌, ℕ, List, [], ◌∷◌}
 
@@ -239,8 +239,8 @@ FILES = {
 
 def repository(root):
     """Make the repository, in which `unused` has an exception of its own."""
-    shutil.copytree(HERE, root / "scripts", ignore=shutil.ignore_patterns("__pycache__"))
-    text = (HERE / "unused").read_text(encoding="utf-8")
+    shutil.copytree(SCRIPTS, root / "scripts", ignore=shutil.ignore_patterns("__pycache__"))
+    text = (SCRIPTS / "unused").read_text(encoding="utf-8")
     before, _, rest = text.partition("\nEXCEPTIONS = {\n")
     made = f"{before}\nEXCEPTIONS = {EXCEPTIONS}\n{rest.partition('}')[2]}"
     (root / "scripts" / "unused").write_text(made, encoding="utf-8")

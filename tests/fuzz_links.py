@@ -1,4 +1,4 @@
-"""Cases of `read`, `verify` and `scan` made by chance, for scripts/fuzz: over any answers, and over simulated units.
+"""Cases of `read`, `verify` and `scan` made by chance, for tests/fuzz: over any answers, and over simulated units.
 
 What each of them has to send and to tell is in read_plan.py; what it may print at all is in fuzz_lines.py.
 """

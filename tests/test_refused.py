@@ -7,7 +7,7 @@ import shutil
 import sys
 import tempfile
 
-HERE = pathlib.Path(__file__).resolve().parent
+ROOT = pathlib.Path(__file__).resolve().parent.parent
 CRATE = "dali_gear"
 # What is changed, and whether the refusal is known afterwards.
 CHANGES = (
@@ -27,12 +27,12 @@ CHANGES = (
 
 def repository(folder):
     """Make a repository of what edits of the crate are tried over, and of some more."""
-    shutil.copytree(HERE, folder / "scripts", ignore=shutil.ignore_patterns("__pycache__"))
-    shutil.copy(HERE.parent / "crates.txt", folder)
+    shutil.copytree(ROOT / "scripts", folder / "scripts", ignore=shutil.ignore_patterns("__pycache__"))
+    shutil.copy(ROOT / "crates.txt", folder)
     for name in ("dali_frame", "dali_bank", "dali_bus", CRATE, "dali_text"):
         for part in ("src", "specs", "proofs", "wrong-bodies"):
-            if (HERE.parent / "crates" / name / part).is_dir():
-                shutil.copytree(HERE.parent / "crates" / name / part, folder / "crates" / name / part)
+            if (ROOT / "crates" / name / part).is_dir():
+                shutil.copytree(ROOT / "crates" / name / part, folder / "crates" / name / part)
 
 
 def change(path):

@@ -1,4 +1,4 @@
-"""Runs the tests of several modules beside each other: for scripts/test_drive.py and scripts/test_read.py."""
+"""Runs the tests of several modules beside each other: for tests/test_drive.py and tests/test_read.py."""
 
 import concurrent.futures
 import os
@@ -41,7 +41,7 @@ def passes(name, part):
 def build_shims(folder):
     """Build what is preloaded."""
     for name in ("drive_shim", "refuse_alloc"):
-        source = driven.ROOT / "scripts" / f"{name}.c"
+        source = driven.ROOT / "tests" / f"{name}.c"
         subprocess.run(["cc", "-shared", "-fPIC", "-o", folder / f"{name}.so", source, "-ldl"], check=True)
 
 

@@ -1,4 +1,4 @@
-"""Runs of `dali_bench drive` over pipes, and the judge of what they leave: for scripts/test_drive.py and scripts/fuzz.
+"""Runs of `dali_bench drive` over pipes, and the judge of what they leave: for tests/test_drive.py and tests/fuzz.
 
 The journal is read and judged here by docs/JOURNAL.md and docs/WRITER.md alone, with nothing of the program's own.
 """

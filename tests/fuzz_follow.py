@@ -1,4 +1,4 @@
-"""Cases of `drive --follow` made by chance, for scripts/fuzz: what it tells of each line is what `check` tells of its
+"""Cases of `drive --follow` made by chance, for tests/fuzz: what it tells of each line is what `check` tells of its
 item by itself, and units and journal hold what they have to, with losses and kills."""
 
 import json

@@ -8,7 +8,8 @@ functions, and behind a colon their clauses. The last column names edits.
 
 It fails where a name isn't in the file that it is said to be in; where a contract is said of a function that isn't
 public, or a clause isn't there; where a public call, a law or an edit stands in no such table, or an edit twice; where
-a cell is over MOST characters; and where a link leads nowhere. The last line is `N passed, M failed`.
+a cell is over MOST characters; where README doesn't say in the words of the help what the program is; and where a link
+leads nowhere. The last line is `N passed, M failed`.
 """
 
 import collections
@@ -245,6 +246,9 @@ def main():
             for number, cells in table.rows:
                 judge.row(table, number, cells)
         judge.links(path)
+    about = re.search(r'ABOUT: &str = "\\\n(.*?)";', text_of(CRATES / "dali_job" / "src" / "usages.rt"), re.DOTALL)
+    said = re.sub(r"\\\n", "", about[1])
+    judge.look(said in text_of(ROOT / "README.md").replace("`", ""), "README.md", f"it doesn't say, as the help: {said}")
     judge.rest()
     for line in judge.wrong:
         print(f"FAILED: the documents: {line}")

@@ -24,13 +24,15 @@ lists : (a b : List (ℕ × ℕ)) → (a ≡ b) ⊎ (a ≢ b)
 lists [] [] = inl refl
 lists [] (other ∷ others) = inr (λ e. cc)
 lists (one ∷ more) [] = inr (λ e. cc)
-lists (one ∷ more) (other ∷ others) = by (same_or_not one.0 other.0) (same_or_not one.1 other.1) (lists more others) where
-  by : (one.0 ≡ other.0) ⊎ (one.0 ≢ other.0) → (one.1 ≡ other.1) ⊎ (one.1 ≢ other.1) → (more ≡ others) ⊎ (more ≢ others)
-      → ((one ∷ more) ≡ (other ∷ others)) ⊎ ((one ∷ more) ≢ (other ∷ others))
-  by (inl first) (inl second) (inl rest) = inl (λ i. pair_is one other first second i ∷ rest i)
-  by (inr first) second rest = inr (λ e. first (ap (λ pair. pair.0) (head_is one other more others e)))
-  by (inl first) (inr second) rest = inr (λ e. second (ap (λ pair. pair.1) (head_is one other more others e)))
-  by (inl first) (inl second) (inr rest) = inr (λ e. rest (tail_is one other more others e))
+lists (one ∷ more) (other ∷ others) =
+    by (same_or_not one.0 other.0) (same_or_not one.1 other.1) (lists more others)
+  where
+    by : (one.0 ≡ other.0) ⊎ (one.0 ≢ other.0) → (one.1 ≡ other.1) ⊎ (one.1 ≢ other.1) → (more ≡ others) ⊎ (more ≢ others)
+        → ((one ∷ more) ≡ (other ∷ others)) ⊎ ((one ∷ more) ≢ (other ∷ others))
+    by (inl first) (inl second) (inl rest) = inl (λ i. pair_is one other first second i ∷ rest i)
+    by (inr first) second rest = inr (λ e. first (ap (λ pair. pair.0) (head_is one other more others e)))
+    by (inl first) (inr second) rest = inr (λ e. second (ap (λ pair. pair.1) (head_is one other more others e)))
+    by (inl first) (inl second) (inr rest) = inr (λ e. rest (tail_is one other more others e))
 
 -- orders are the same or not
 order_is : (a b : Contents) → a.id ≡ b.id → a.unit ≡ b.unit → a.updates ≡ b.updates → a ≡ b

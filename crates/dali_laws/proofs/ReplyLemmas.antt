@@ -27,7 +27,8 @@ lists (one ∷ more) [] = inr (λ e. cc)
 lists (one ∷ more) (other ∷ others) =
     by (same_or_not one.0 other.0) (same_or_not one.1 other.1) (lists more others)
   where
-    by : (one.0 ≡ other.0) ⊎ (one.0 ≢ other.0) → (one.1 ≡ other.1) ⊎ (one.1 ≢ other.1) → (more ≡ others) ⊎ (more ≢ others)
+    by : (one.0 ≡ other.0) ⊎ (one.0 ≢ other.0) → (one.1 ≡ other.1) ⊎ (one.1 ≢ other.1)
+        → (more ≡ others) ⊎ (more ≢ others)
         → ((one ∷ more) ≡ (other ∷ others)) ⊎ ((one ∷ more) ≢ (other ∷ others))
     by (inl first) (inl second) (inl rest) = inl (λ i. pair_is one other first second i ∷ rest i)
     by (inr first) second rest = inr (λ e. first (ap (λ pair. pair.0) (head_is one other more others e)))

@@ -31,187 +31,42 @@ bank 5 00 77FFFF03A4CEEFADABFFFFFFFFFFFFFF
 bank 5 10 FF0003FFFFFFFFFFFFFFFFFFFFFFFFFF
 ";
 
-const GTIN_FRAMES: &str = "\
+// An order for a unit that isn't there: eight tries of two frames.
+const ABSENT_ORDER: &str = r#"{"limit":10,"units":[],
+"events":[{"submit":{"order":1,"unit":9,"gtin":"4006381333931"}},{"steps":50}]}"#;
+
+const ABSENT_FRAMES: &str = "\
 ask 1
 reply 1 taken
-keep B order 1 unit 5 at 0 bytes 6
+keep B order 1 unit 9 at 0 bytes 6
 send C301 --
-send 0B9C 01
-send A300 --
-send 0B98 00
-send 0BC5 77
-send 0B98 01
-send 0B9C 01
-keep O unit 5
-send 0B81 --
-send 0B81 --
+send 139C --
 send C301 --
-send 0B9C 01
-send A302 --
-send 0B98 02
-send C755 55
-send 0B81 --
-send 0B81 --
+send 139C --
 send C301 --
-send 0B9C 01
-send A303 --
-send 0B98 03
-send C703 03
-send 0B81 --
-send 0B81 --
+send 139C --
 send C301 --
-send 0B9C 01
-send A304 --
-send 0B98 04
-send C7A4 A4
-send 0B81 --
-send 0B81 --
+send 139C --
 send C301 --
-send 0B9C 01
-send A305 --
-send 0B98 05
-send C7CE CE
-send 0B81 --
-send 0B81 --
+send 139C --
 send C301 --
-send 0B9C 01
-send A306 --
-send 0B98 06
-send C7EF EF
-send 0B81 --
-send 0B81 --
+send 139C --
 send C301 --
-send 0B9C 01
-send A307 --
-send 0B98 07
-send C7AD AD
-send 0B81 --
-send 0B81 --
+send 139C --
 send C301 --
-send 0B9C 01
-send A308 --
-send 0B98 08
-send C7AB AB
-send 0B81 --
-send 0B81 --
-send C301 --
-send 0B9C 01
-send A302 --
-send 0B98 02
-send C7FF FF
-send C301 --
-send 0B9C 01
-send A302 --
-send 0B98 02
-send 0BC5 FF
-send 0B98 03
-send 0B9C 01
-send C301 --
-send 0B9C 01
-send A303 --
-send 0B98 03
-send 0BC5 03
-send 0B98 04
-send 0B9C 01
-send C301 --
-send 0B9C 01
-send A304 --
-send 0B98 04
-send 0BC5 A4
-send 0B98 05
-send 0B9C 01
-send C301 --
-send 0B9C 01
-send A305 --
-send 0B98 05
-send 0BC5 CE
-send 0B98 06
-send 0B9C 01
-send C301 --
-send 0B9C 01
-send A306 --
-send 0B98 06
-send 0BC5 EF
-send 0B98 07
-send 0B9C 01
-send C301 --
-send 0B9C 01
-send A307 --
-send 0B98 07
-send 0BC5 AD
-send 0B98 08
-send 0B9C 01
-send C301 --
-send 0B9C 01
-send A308 --
-send 0B98 08
-send 0BC5 AB
-send 0B98 09
-send 0B9C 01
-keep E 0 Done
-reply 1 kept 0 Done
-total 112
-journal 39
-unit 5 dtr 09 01 00 enabled no
-bank 5 00 77FFFF03A4CEEFADABFFFFFFFFFFFFFF
-bank 5 10 FF0003FFFFFFFFFFFFFFFFFFFFFFFFFF
+send 139C --
+keep E 3 Silent
+reply 1 kept 3 Silent
+total 16
+journal 37
 ";
 
 // In turn: unit 9 is absent; while order 1 is at work it is busy, its number with other bytes reused, and then the
 // journal is full; unit 5 is left open, which blocks the next order, and then closed; the run ends while unit 5 is
 // enabled; one write isn't answered, which takes a try of seven frames more: its answer is lost, or the unit refuses;
 // frames are lost to a unit with other registers; a location is fixed; the largest order number; moments; many steps.
-const RUNS: &str = r#"{"limit":10,"units":[],
-"events":[{"submit":{"order":1,"unit":9,"gtin":"4006381333931"}},{"steps":50},
-{"submit":{"order":1,"unit":9,"gtin":"4006381333931"}}]}
-----
-ask 1
-reply 1 taken
-keep B order 1 unit 9 at 0 bytes 6
-frames 16
-keep E 3 Silent
-reply 1 kept 3 Silent
-ask 1
-reply 1 kept 3 Silent
-total 16
-journal 37
-====
-{"limit":1,"units":[{"address":5}],
-"events":[{"submit":{"order":1,"unit":5,"gtin":"4006381333931"}},
-{"submit":{"order":1,"unit":5,"gtin":"96385074"}},{"steps":1},
-{"submit":{"order":1,"unit":5,"gtin":"96385074"}},
-{"submit":{"order":1,"unit":5,"gtin":"4006381333931"}},
-{"submit":{"order":2,"unit":5,"gtin":"4006381333931"}},{"steps":200},
-{"submit":{"order":2,"unit":5,"gtin":"4006381333931"}},
-{"submit":{"order":1,"unit":5,"gtin":"4006381333931"}}]}
-----
-ask 1
-reply 1 taken
-ask 1
-reply 1 busy
-keep B order 1 unit 5 at 0 bytes 6
-ask 1
-reply 1 reused
-ask 1
-reply 1 busy
-ask 2
-reply 2 busy
-frames 7
-keep O unit 5
-frames 105
-keep E 0 Done
-reply 1 kept 0 Done
-ask 2
-reply 2 full
-ask 1
-reply 1 kept 0 Done
-total 112
-journal 39
-unit 5 dtr 09 01 00 enabled no
-bank 5 00 77FFFF03A4CEEFADABFFFFFFFFFFFFFF
-bank 5 10 FF0003FFFFFFFFFFFFFFFFFFFFFFFFFF
-====
-{"limit":10,"units":[{"address":5,"bank":"10FFFFFFFFFFFFFFFFFFFFFFFFFFFFFFFF"},
+const RUNS: &str =
+    r#"{"limit":10,"units":[{"address":5,"bank":"10FFFFFFFFFFFFFFFFFFFFFFFFFFFFFFFF"},
 {"address":6,"bank":"10FFFFFFFFFFFFFFFFFFFFFFFFFFFFFFFF"}],
 "fates":[{"times":7},{"times":128,"lost":[5]}],
 "events":[{"submit":{"order":1,"unit":5,"gtin":"4006381333931"}},{"steps":200},
@@ -419,9 +274,20 @@ bank 5 00 10FFFFFFFFFFFFFFFFFFFFFFFFFFFFFF
 
 #[test]
 fn scenarios(rt: HostRuntime) -> Result<(), Fail> {
-    let order = GTIN_ORDER.as_bytes();
-    answers(rt.alloc(), RUN, order, Status::Good, GTIN_RUN)?;
-    answers(rt.alloc(), RUN_FRAMES, order, Status::Good, GTIN_FRAMES)?;
+    answers(
+        rt.alloc(),
+        RUN,
+        GTIN_ORDER.as_bytes(),
+        Status::Good,
+        GTIN_RUN,
+    )?;
+    answers(
+        rt.alloc(),
+        RUN_FRAMES,
+        ABSENT_ORDER.as_bytes(),
+        Status::Good,
+        ABSENT_FRAMES,
+    )?;
     answers_each(rt.alloc(), RUN, Status::Good, RUNS)
 }
 
@@ -437,8 +303,12 @@ fn a_reader_that_fails_in_mid_stream(rt: HostRuntime) -> Result<(), Fail> {
 
 #[test]
 fn a_writer_that_fails_in_mid_text(rt: HostRuntime) -> Result<(), Fail> {
-    let order = GTIN_ORDER.as_bytes();
-    fails_to_write(rt.alloc(), RUN, order, GTIN_RUN)?;
-    fails_to_write(rt.alloc(), RUN_FRAMES, order, GTIN_FRAMES)?;
+    fails_to_write(rt.alloc(), RUN, GTIN_ORDER.as_bytes(), GTIN_RUN)?;
+    fails_to_write(
+        rt.alloc(),
+        RUN_FRAMES,
+        ABSENT_ORDER.as_bytes(),
+        ABSENT_FRAMES,
+    )?;
     fails_to_write(rt.alloc(), RUN, b"[", "fault 11 Json\n")
 }

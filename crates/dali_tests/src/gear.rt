@@ -1,3 +1,2 @@
 mod sim_bus;
 mod unit;
-mod worked_frames;

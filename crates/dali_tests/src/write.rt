@@ -1,6 +1,5 @@
 ghost use Rattle.std.specs.Prelude.{◌≤◌};
 
-mod worked_accesses;
 
 use crate::expected::expect_that;
 use crate::gtin::GTIN;

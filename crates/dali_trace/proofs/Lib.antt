@@ -15,3 +15,4 @@ pub mod WorkedPartLemmas
 pub mod EndingLemmas
 pub mod WorkedWorldLemmas
 pub mod WorkedHappeningLemmas
+pub mod WorkedCountLemmas

@@ -6,6 +6,7 @@ use Rattle.dali_journal.specs.declared.version.Version.TheVariants.{Two}
 use Rattle.dali_journal.specs.Spelling.{spelling}
 use Rattle.dali_trace.specs.declared.happening.Happening.{Happening}
 use Rattle.dali_trace.specs.declared.happening.Happening.TheVariants.{Asked, Answered, Kept, Stopped, Powered}
+use Rattle.dali_trace.specs.declared.happening.Reply.TheVariants as replies
 use Rattle.dali_trace.specs.declared.happening.Event.TheVariants.{Submit, Step, Stop, Power}
 use Rattle.dali_trace.specs.Trace.{is_busy}
 use Rattle.dali_write.proofs.NextLemmas.{none_ended}
@@ -39,6 +40,17 @@ not_idle (before, inr (idle, same), none) = let never : asked ≡ [] = same ∙ 
 -- where an order was just begun its session has not ended
 pub none_begun : (entry : Record) → IsKeptNext empty begun entry → ⊥
 none_begun entry (verdict, asked, ends) = none_ended 5 _ _ verdict asked
+
+-- a step keeps the record of 31 bytes that begins the order, and so does a stop that lets 31 bytes through, whatever
+-- comes; where it is kept, a stop leaves none
+pub kept_by_a_step : AreParts empty (Step ∷ Submit first_order 7 ∷ []) begun
+kept_by_a_step = (taken, inl (refl, (Kept (Began first_order 7), tt, refl)), ([], (replies.Taken, refl), refl))
+
+pub none_kept_by_a_stop : AreParts empty (Stop 30 ∷ Step ∷ Submit first_order 7 ∷ []) (Stopped ∷ begun)
+none_kept_by_a_stop = (begun, inl (refl, λ entry next. absurd (none_begun entry next)), kept_by_a_step)
+
+pub kept_by_a_stop : AreParts empty (Stop 31 ∷ Submit first_order 7 ∷ []) (Stopped ∷ begun)
+kept_by_a_stop = (taken, inr (Began first_order 7, refl, omega arith, refl), ([], (replies.Taken, refl), refl))
 
 -- a record of 31 bytes is kept where 31 reach the journal
 pub not_lost : AreParts empty (Stop 31 ∷ Submit first_order 7 ∷ []) (Stopped ∷ taken) → ⊥

@@ -8,5 +8,3 @@ mod moments;
 mod power;
 mod stops;
 mod submits;
-mod worked;
-mod worked_plans;

@@ -1,32 +1,21 @@
-ghost use Rattle.std.specs.Prelude.{◌≡◌, ◌∷◌, [], ℕ, List, Some, None, Err, codes};
+ghost use Rattle.std.specs.Prelude.{◌∷◌, [], ℕ, List, Some, None, Err, codes};
 ghost use Rattle.dali_bank.specs.Order.{Contents};
-ghost use Rattle.dali_frame.specs.declared.forward.Frame.TheVariants.{Dtr0, Dtr1};
 ghost use Rattle.dali_frame.specs.declared.fault.LineFault.TheVariants.{Length};
-ghost use Rattle.dali_journal.specs.declared.record.Code.TheVariants.{DoubtOpen};
 ghost use Rattle.dali_journal.specs.declared.record.Record.TheVariants.{Opened};
 ghost use Rattle.dali_drive.specs.declared.fault.DriveFault.TheVariants as faults;
 ghost use Rattle.dali_trace.specs.declared.happening.Reply.TheVariants as replies;
-ghost use Rattle.dali_trace.specs.declared.happening.Happening.TheVariants.{Asked, Answered, Sent, Kept, Stopped};
+ghost use Rattle.dali_trace.specs.declared.happening.Happening.TheVariants.{Asked, Answered, Kept, Stopped};
 ghost use Rattle.dali_trace.specs.Next.{IsNext};
 ghost use Rattle.dali_drive.specs.Lines.{IsShort, IsAnswerLine, TakesLine};
-ghost use Rattle.dali_trace.specs.Replies.{reply_line};
 ghost use Rattle.dali_drive.specs.Transcript.{Streams, Transcript};
-ghost use Rattle.dali_drive.specs.Driven.{IsInTurn, KeepsRecords, IsDriven, BrokenOff};
+ghost use Rattle.dali_drive.specs.Driven.{IsInTurn, KeepsRecords, BrokenOff};
 ghost use Rattle.dali_laws.specs.Joined.{FollowOn};
 ghost use Rattle.dali_drive.specs.Sittings.{MayHaveHappened};
-ghost use Rattle.dali_trace.specs.Worked.{empty, second_order, asked, taken, begun, alone, blank_unit};
+ghost use Rattle.dali_trace.specs.Worked.{empty, second_order, asked, taken, begun};
 ghost use Rattle.dali_trace.specs.WorkedPlans.{half_tried};
-ghost use Rattle.dali_drive.specs.WorkedDrives.{before_two, after_two, frames_turned, one_line_read, record_left_out};
-ghost use Rattle.dali_drive.specs.Repeats.{IsSameFile, HasSat, HaveSat, ActOnce};
-ghost use Rattle.dali_drive.specs.WorkedSittings.{begun_file, torn_file, first_sitting, second_sitting};
-ghost use Rattle.dali_drive.specs.WorkedSittings.{second_without_the_frame, both_sittings, worlds};
-
-// An order is begun, and two frames are sent and answered, the second with a carriage return.
-fn two_frames_are_driven()
-    ensures driven { IsDriven empty half_tried before_two after_two }
-    ensures reply { reply_line 7 (replies.Kept DoubtOpen) ≡ codes "reply 7 kept 5 DoubtOpen\n" }
-    ensures next { IsNext empty begun (Sent (Dtr1 1) None) }
-{}
+ghost use Rattle.dali_drive.specs.WorkedDrives.{before_two, frames_turned, one_line_read, record_left_out};
+ghost use Rattle.dali_drive.specs.WorkedSittings.{second_sitting};
+ghost use Rattle.dali_drive.specs.WorkedSittings.{second_without_the_frame};
 
 // What isn't its text, nor an answer's line, nor what is read of one.
 fn other_texts()
@@ -42,33 +31,17 @@ fn other_texts()
 
 // What doesn't come next, out of turn or out of range, and what a fault can't break off.
 fn other_steps()
-    ensures another_frame { ¬ IsNext empty begun (Sent (Dtr0 0) None) }
     ensures another_order { ¬ IsNext empty begun (Asked second_order 9) }
     ensures another_reply { ¬ IsNext empty asked (Answered 1 replies.Busy) }
     ensures asked_at_work { ¬ IsInTurn empty (Asked second_order 9 ∷ taken) }
     ensures stopped { ¬ IsInTurn empty (Stopped ∷ begun) }
     ensures out_of_range { ¬ KeepsRecords (Kept (Opened 64) ∷ begun) }
     ensures two_steps { ¬ MayHaveHappened empty begun faults.Link half_tried }
-    ensures no_record { (rest : List (Contents × ℕ)) (old new : Streams)
-        → ¬ BrokenOff empty begun rest faults.Journal old new }
     ensures no_memory { (rest : List (Contents × ℕ)) (old new : Streams)
         → ¬ BrokenOff empty begun rest faults.NoMemory old new }
 {}
 
-// Of two drives over a store the first is killed while it puts a record, and the second stopped while a frame is under
-// way. Along the worlds of a unit that hears none of it they act as one.
-fn two_drives_are_sittings()
-    ensures sat { HaveSat 10 100 [] (second_sitting ∷ first_sitting ∷ []) begun_file }
-    ensures once { ActOnce (alone blank_unit) [] empty (second_sitting ∷ first_sitting ∷ []) begun_file both_sittings
-        (alone blank_unit) worlds }
-{}
-
-// No sitting is from fewer records than were found, none has a record that isn't whole, and none leaves one out that
-// is.
+// No sitting follows on one that left its record out.
 fn other_sittings()
-    ensures fewer { (left : List ℕ) → ¬ HasSat 10 100 begun_file first_sitting left }
-    ensures cut { ¬ HasSat 10 100 [] second_without_the_frame torn_file }
-    ensures whole { ¬ HasSat 10 100 [] first_sitting begun_file }
-    ensures file { ¬ IsSameFile 10 begun_file torn_file }
     ensures forgotten { ¬ FollowOn empty (second_sitting ∷ second_without_the_frame ∷ []) }
 {}

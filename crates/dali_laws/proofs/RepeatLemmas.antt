@@ -36,14 +36,6 @@ never_absent order reached.Begun e = cc
 never_absent order reached.Open e = cc
 never_absent order (reached.Ended code) e = cc
 
-none_come : (id : ℕ) (progress : Progress) (orders : List (Contents × Progress)) → kept_among id orders ≡ kepts.Absent
-    → kept_among id (come_to progress orders) ≡ kepts.Absent
-none_come id progress [] e = refl
-none_come id progress (newest ∷ older) e = by (newest.0.id == id) refl where
-  by : (x : Bool) → (newest.0.id == id) ≡ x → kept_among id (come_to progress (newest ∷ older)) ≡ kepts.Absent
-  by true p = let some : kept_at newest.0 newest.1 ≡ kepts.Absent = rw p at e in never_absent newest.0 newest.1 some
-  by false p = let none : kept_among id older ≡ kepts.Absent = rw p at e in rw p none
-
 distinct_come : (progress : Progress) (orders : List (Contents × Progress)) → AreDistinct orders
     → AreDistinct (come_to progress orders)
 distinct_come progress [] distinct = tt

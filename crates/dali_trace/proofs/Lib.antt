@@ -9,10 +9,10 @@ pub mod WorkedLossLemmas
 pub mod WorkedBusLemmas
 pub mod WorkedEndLemmas
 pub mod RefusedLemmas
-pub mod LeftLemmas
+pub mod WorkedLeftLemmas
 pub mod BlankLemmas
 pub mod WorkedPartLemmas
-pub mod EndingLemmas
+pub mod WorkedEndingLemmas
 pub mod WorkedWorldLemmas
 pub mod WorkedHappeningLemmas
 pub mod WorkedCountLemmas

@@ -23,7 +23,7 @@ use Rattle.dali_trace.specs.WorkedLosses.{fourth_opened, fourth_written, fourth_
 use Rattle.dali_trace.specs.WorkedLosses.{sixth_closing, sixth_closed, sixth_begun, sixth_ended}
 use Rattle.dali_trace.proofs.WorkedLemmas.{enable_legal, read_legal, write_legal, read_stands, reads_behind}
 use Rattle.dali_trace.proofs.WorkedLemmas.{reads_stand}
-use Rattle.dali_trace.proofs.EndingLemmas.{third_begun_legal, format_legal}
+use Rattle.dali_trace.proofs.WorkedEndingLemmas.{third_begun_legal, format_legal}
 use Rattle.dali_trace.proofs.WorkedBusLemmas.{bus_chain, none_refused, new_off, new_lock_bytes}
 use Rattle.dali_trace.proofs.WorkedPlanLemmas.{Onset, Keeps, wants_so, frames_planned, frames_go_on}
 

@@ -30,7 +30,7 @@ use Rattle.dali_trace.specs.WorkedPlans.{read_once_opened, seven_times, silent_a
 use Rattle.dali_trace.specs.WorkedPlans.{silent_where_short, left_at_once, blocked_at_once, try_past_the_end}
 use Rattle.dali_trace.specs.WorkedPlans.{closed_anew}
 use Rattle.dali_trace.proofs.WorkedLemmas.{read_legal, begun_legal, opened_legal}
-use Rattle.dali_trace.proofs.LeftLemmas.{second_taken_legal, blocked_legal}
+use Rattle.dali_trace.proofs.WorkedLeftLemmas.{second_taken_legal, blocked_legal}
 
 -- each of the frames is the one that was wanted after those before it
 abbrev pub Keeps : ℕ → Plan → List Exchange → Type 0

@@ -3,19 +3,7 @@ use Rattle.std.specs.Prelude.{ℕ, zero, suc, replicate, List, [], ◌∷◌, Op
 use Rattle.dali_frame.specs.declared.forward.Frame.{Frame}
 use Rattle.dali_frame.specs.declared.forward.Frame.TheVariants.{Dtr0, Dtr1, AskDtr0, AskDtr1}
 use Rattle.dali_gear.specs.UnitState.{BankState, UnitState, new_unit}
-use Rattle.dali_write.specs.declared.request.Wish.{Wish}
-use Rattle.dali_write.specs.declared.request.Wish.TheVariants.{Nothing, Exactly, Anything}
 use Rattle.dali_write.specs.Exchanges.{Exchange}
-
--- one frame may wish for just the answer 01h, one for any answer, and one for none
-abbrev pub answer_01 : Wish
-answer_01 = Exactly 1
-
-abbrev pub any_answer : Wish
-any_answer = Anything
-
-abbrev pub no_answer : Wish
-no_answer = Nothing
 
 abbrev pub sent : Frame → Option ℕ → Exchange
 sent frame answer = record { frame = frame; answer = answer }

@@ -12,7 +12,7 @@ use Rattle.dali_trace.specs.Worked.{done_anew, repeated_after_a_stop, taken_afte
 use Rattle.dali_trace.proofs.WorkedLemmas.{enable_legal, read_legal, write_legal, writes_legal, reads_legal}
 use Rattle.dali_trace.proofs.WorkedLemmas.{read_stands, behind_read, reads_behind, reads_stand, begun_legal}
 use Rattle.dali_trace.proofs.WorkedLemmas.{measured_legal, opened_legal, unlocked_legal, ended_legal}
-use Rattle.dali_trace.proofs.LeftLemmas.{second_taken_legal}
+use Rattle.dali_trace.proofs.WorkedLeftLemmas.{second_taken_legal}
 
 pub short_legal : Legal empty short_ended
 short_legal = (

@@ -1,6 +1,5 @@
 ghost use Rattle.std.specs.Prelude.{◌≤◌};
 
-
 use crate::expected::expect_that;
 use crate::gtin::GTIN;
 use dali_bank::{BLANK, Order};

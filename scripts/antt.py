@@ -125,7 +125,7 @@ class Module:
     def __init__(self, crates, path):
         self.path, self.crate = path, path.relative_to(crates).parts[0]
         self.name = ".".join(path.relative_to(crates).with_suffix("").parts)
-        self.imports, self.items, self.constructors = Imports(), {}, {}
+        self.imports, self.passed_on, self.items, self.constructors = Imports(), Imports(), {}, {}
         blocks, item, is_head = [], None, False
         for at, row in enumerate(text_of(path).split("\n"), 1):
             row = row.rstrip()
@@ -137,8 +137,8 @@ class Module:
             if is_head or row.startswith("module _ "):
                 blocks = [*blocks[: len(blocks) - is_head], (blocks[-1] + " " if is_head else "") + row]
                 is_head, item = not row.endswith(" where"), None
-            elif row.startswith("use "):
-                self.imports.read(row)
+            elif row.startswith(("use ", "pub use ")):
+                (self.passed_on if row.startswith("pub ") else self.imports).read(row.removeprefix("pub "))
                 item = None
             else:
                 item = self.begun(row, at) or item
@@ -170,14 +170,20 @@ class Library:
     """The antt files of the crates in a folder, by name."""
 
     def __init__(self, crates, parts):
-        self.modules = {}
+        self.modules, self.passed_on = {}, {}
         for part in parts:
             for path in sorted(crates.glob(f"*/{part}/**/*.antt")):
                 module = Module(crates, path)
                 self.modules[module.name] = module
+                for name, there in module.passed_on.modules.items():
+                    self.passed_on[f"{module.name.removesuffix('.Lib')}.{name}"] = there
         for module in self.modules.values():
             for item in module.items.values():
                 item.read(lambda path, module=module: self.is_constructor(module, path))
+
+    def module(self, path):
+        """Give the module of these that a path names, or None: where a crate passes it on, from there."""
+        return self.modules.get(self.passed_on.get(path, path))
 
     def meant(self, imports, path, module=None):
         """Give the module, if it is one of these, and the name that a path means, by what a text brings in.
@@ -186,11 +192,11 @@ class Library:
         """
         if path[0] in imports.names:
             name, there = imports.names[path[0]]
-            return self.modules.get(name), there
+            return self.module(name), there
         if module and (path[0] in module.items or path[0] in module.constructors):
             return module, path[0]
         if path[0] in imports.modules and len(path) > 1:
-            return self.modules.get(imports.modules[path[0]]), path[1]
+            return self.module(imports.modules[path[0]]), path[1]
         return None, path[0]
 
     def item(self, imports, path, module=None):

@@ -6,11 +6,10 @@ ghost use Rattle.dali_commands.specs.LinkCommands.{IsShort};
 use dali_commands::drive::{DriveNames, DriveTerms};
 use dali_commands::frame::frame;
 use dali_commands::lines::Lines;
-use dali_commands::{Fault, FileCommand, LinkCommand, Status, StdSink, StdSource, write_fault};
-use dali_input::{Input, InputFault};
-use dali_job::{Job, job_of};
-use dali_notes::{Escaped, FirstLines};
-use dali_text::Output;
+use dali_commands::{
+    Escaped, Fault, FileCommand, FirstLines, Input, InputFault, Job, LinkCommand, Output, Status,
+    StdSink, StdSource, job_of, write_fault,
+};
 use std::alloc::{AllocError, Global};
 use std::io::{BufWriter, ErrorKind, LineWriter, Read, Write};
 use std::process::ExitCode;

@@ -1,8 +1,7 @@
 use crate::expected::{expect_at, expect_that};
 use crate::streams::TestWriter;
-use dali_commands::Status;
 use dali_commands::frame::frame;
-use dali_text::Output;
+use dali_commands::{Output, Status};
 use std::alloc::Global;
 use std::io;
 use std::test::Fail;

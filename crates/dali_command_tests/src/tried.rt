@@ -2,9 +2,7 @@
 
 use crate::expected::{expect_at, expect_that};
 use crate::streams::{Behind, TestReader, TestWriter};
-use dali_commands::{FileCommand, Status};
-use dali_input::Input;
-use dali_text::Output;
+use dali_commands::{FileCommand, Input, Output, Status};
 use std::alloc::Global;
 use std::io;
 use std::io::Read;

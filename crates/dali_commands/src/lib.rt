@@ -1,33 +1,19 @@
-//! The commands of the bench (profile): what each does with the readers, the writers and the files that it is given,
-//! up to its status.
+//! The commands of the bench (profile), in one crate for whoever calls them: what each does with the readers, the
+//! writers and the files that it is given, up to its status, and what a call of them takes. Each item stands in the
+//! crate that it comes from.
 #![tactic(auto)]
 
-pub mod behind;
-pub mod check;
-pub mod drive;
-pub mod drive_files;
-mod drive_lines;
-mod fault;
-mod fault_lines;
-mod file_command;
-pub mod follow;
-pub mod follow_files;
-pub mod frame;
-pub mod journal;
-pub mod lines;
-mod link_command;
-mod notes;
-pub mod older;
-mod older_lines;
-pub mod read;
-mod report_file;
-pub mod run_scenario;
-pub mod show;
-pub mod survey;
-pub mod survey_files;
-
 pub use dali_drive::{StdSink, StdSource};
-pub use fault::{Fault, Status};
-pub use fault_lines::write_fault;
-pub use file_command::FileCommand;
-pub use link_command::LinkCommand;
+pub use dali_faults::{Fault, Status, write_fault};
+pub use dali_file_commands::{FileCommand, check, frame, journal, run_scenario, show};
+pub use dali_follow::OrderLines;
+pub use dali_input::{Input, InputFault};
+pub use dali_job::{Job, job_of};
+pub use dali_link_commands::{
+    LinkCommand, behind, drive, drive_files, follow, follow_files, lines, older, read, survey,
+    survey_files,
+};
+pub use dali_notes::FirstLines;
+pub use dali_report::Report;
+pub use dali_store::{FileStore, MemoryStore};
+pub use dali_text::{Escaped, Output};

@@ -21,7 +21,7 @@ use Rattle.dali_trace.specs.Cut.{kept_in}
 use Rattle.dali_trace.specs.Legal.{Legal}
 use Rattle.dali_trace.specs.Replies.{IsReplyBy, IsKnownReply}
 use Rattle.dali_trace.specs.Trace.{Start, records_of, is_busy, is_full}
-use Rattle.dali_writer.specs.WriterState.{start_of}
+use Rattle.dali_engine.specs.WriterState.{start_of}
 use Rattle.dali_drive.specs.Behind.{IsBegunBehind, ActsOnceBehind}
 use Rattle.dali_drive.specs.Driven.{KeepsRecords}
 use Rattle.dali_drive.specs.Transcript.{Streams}

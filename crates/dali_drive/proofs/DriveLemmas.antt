@@ -20,9 +20,9 @@ use Rattle.dali_trace.specs.Replies.{IsReply, reply_line}
 use Rattle.dali_trace.specs.Legal.{Legal, IsFinished}
 use Rattle.dali_trace.specs.ByPlan.{ByPlan}
 use Rattle.dali_trace.specs.Next.{IsNext}
-use Rattle.dali_writer.specs.WriterState.{WriterState}
-use Rattle.dali_writer.specs.Describes.{Describes}
-use Rattle.dali_writer.specs.Follows.{Follows}
+use Rattle.dali_engine.specs.WriterState.{WriterState}
+use Rattle.dali_engine.specs.Describes.{Describes}
+use Rattle.dali_engine.specs.Follows.{Follows}
 use Rattle.dali_drive.specs.WorkedOn.{IsDrivenAt}
 use Rattle.dali_drive.specs.Lines.{IsAnswerLine, TakesText}
 use Rattle.dali_drive.specs.Observed.{IsToldEnd}

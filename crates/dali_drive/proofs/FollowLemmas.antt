@@ -11,8 +11,8 @@ use Rattle.dali_trace.specs.declared.happening.Happening.{Happening}
 use Rattle.dali_trace.specs.declared.happening.Happening.TheVariants.{Asked, Answered, Sent, Kept, Stopped, Powered}
 use Rattle.dali_trace.specs.Replies.{reply_line}
 use Rattle.dali_trace.specs.Trace.{Start, is_busy}
-use Rattle.dali_writer.specs.WriterState.{WriterState}
-use Rattle.dali_writer.specs.Describes.{Describes}
+use Rattle.dali_engine.specs.WriterState.{WriterState}
+use Rattle.dali_engine.specs.Describes.{Describes}
 use Rattle.dali_drive.specs.declared.fault.DriveFault.{DriveFault}
 use Rattle.dali_drive.specs.declared.fault.DriveFault.TheVariants.{Journal, Link, Line, End, NoMemory, TooLong, Out}
 use Rattle.dali_drive.specs.declared.following.Given.{Given}

@@ -17,11 +17,11 @@ use Rattle.dali_trace.specs.ByPlan.{told_in, ByPlan}
 use Rattle.dali_trace.specs.Work.{AtEachPast}
 use Rattle.dali_laws.proofs.AgreeLemmas.{may_follow, said_quiet}
 use Rattle.dali_laws.proofs.TakenLemmas.{neither}
-use Rattle.dali_writer.specs.declared.phase.Phase.{Phase}
-use Rattle.dali_writer.specs.declared.phase.Phase.TheVariants.{Idle}
-use Rattle.dali_writer.specs.WriterState.{WriterState, start_of, IsResumed, IsAtRest}
-use Rattle.dali_writer.specs.Describes.{Describes, IsAt}
-use Rattle.dali_writer.specs.Follows.{WasTold}
+use Rattle.dali_engine.specs.declared.phase.Phase.{Phase}
+use Rattle.dali_engine.specs.declared.phase.Phase.TheVariants.{Idle}
+use Rattle.dali_engine.specs.WriterState.{WriterState, start_of, IsResumed, IsAtRest}
+use Rattle.dali_engine.specs.Describes.{Describes, IsAt}
+use Rattle.dali_engine.specs.Follows.{WasTold}
 use Rattle.dali_drive.specs.Lines.{link_line}
 use Rattle.dali_drive.specs.Transcript.{Streams, Transcript, AreAnswers, recorded, sent_lines}
 use Rattle.dali_drive.specs.Driven.{IsInTurn, KeepsRecords, IsDrive}

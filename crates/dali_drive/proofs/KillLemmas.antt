@@ -16,7 +16,7 @@ use Rattle.dali_trace.specs.Legal.{Legal, IsFinished}
 use Rattle.dali_trace.specs.ByPlan.{ByPlan}
 use Rattle.dali_trace.specs.Next.{IsNext}
 use Rattle.dali_laws.specs.Joined.{Sitting}
-use Rattle.dali_writer.specs.WriterState.{WriterState, start_of}
+use Rattle.dali_engine.specs.WriterState.{WriterState, start_of}
 use Rattle.dali_store.specs.Opened.{Loads}
 use Rattle.dali_store.proofs.OpenLemmas.{split_front}
 use Rattle.dali_drive.specs.declared.fault.DriveFault.{DriveFault}

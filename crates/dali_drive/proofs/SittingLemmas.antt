@@ -21,8 +21,8 @@ use Rattle.dali_trace.specs.Next.{IsNext}
 use Rattle.dali_laws.specs.Joined.{Sitting}
 use Rattle.dali_laws.proofs.NextLemmas.{one_next}
 use Rattle.dali_laws.proofs.RepeatLemmas.{legal_sentence}
-use Rattle.dali_writer.specs.WriterState.{start_of}
-use Rattle.dali_writer.proofs.StopLemmas.{cut_of_some}
+use Rattle.dali_engine.specs.WriterState.{start_of}
+use Rattle.dali_engine.proofs.StopLemmas.{cut_of_some}
 use Rattle.dali_store.specs.Stores.{Shows, Becomes, IsBetween}
 use Rattle.dali_store.specs.Opened.{Loads}
 use Rattle.dali_store.proofs.OpenLemmas.{found_loads, found_kept, whole_loads}

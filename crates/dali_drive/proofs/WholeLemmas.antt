@@ -14,8 +14,8 @@ use Rattle.dali_journal.specs.Spelling.{header, records_spelling, journal_spelli
 use Rattle.dali_journal.proofs.AheadLemmas.{spelling_append}
 use Rattle.dali_trace.specs.declared.happening.Happening.{Happening}
 use Rattle.dali_trace.specs.Trace.{Start}
-use Rattle.dali_writer.specs.WriterState.{WriterState, start_of}
-use Rattle.dali_writer.proofs.StopLemmas.{cut_of_none}
+use Rattle.dali_engine.specs.WriterState.{WriterState, start_of}
+use Rattle.dali_engine.proofs.StopLemmas.{cut_of_none}
 use Rattle.dali_store.specs.Stores.{IsBetween}
 use Rattle.dali_store.proofs.OpenLemmas.{whole_loads}
 use Rattle.dali_drive.specs.declared.fault.DriveFault.{DriveFault}

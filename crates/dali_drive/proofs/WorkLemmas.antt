@@ -10,7 +10,7 @@ use Rattle.dali_trace.specs.declared.happening.Happening.{Happening}
 use Rattle.dali_trace.specs.declared.happening.Happening.TheVariants.{Asked, Answered, Sent, Kept, Stopped, Powered}
 use Rattle.dali_trace.specs.Replies.{reply_line}
 use Rattle.dali_trace.specs.Trace.{Start}
-use Rattle.dali_writer.specs.WriterState.{WriterState}
+use Rattle.dali_engine.specs.WriterState.{WriterState}
 use Rattle.dali_drive.specs.declared.fault.DriveFault.{DriveFault}
 use Rattle.dali_drive.specs.Transcript.{Streams, said_lines}
 use Rattle.dali_drive.specs.Driven.{at_moment, orders_asked}

@@ -16,7 +16,7 @@ use Rattle.dali_trace.specs.declared.happening.Happening.{Happening}
 use Rattle.dali_trace.specs.declared.happening.Reply.{Reply}
 use Rattle.dali_trace.specs.Replies.{IsReply, IsKnownReply}
 use Rattle.dali_trace.specs.Trace.{Start, records_of}
-use Rattle.dali_writer.specs.WriterState.{WriterState, start_of}
+use Rattle.dali_engine.specs.WriterState.{WriterState, start_of}
 use Rattle.dali_drive.specs.declared.behind.BehindFault.{BehindFault}
 use Rattle.dali_drive.specs.declared.behind.BehindFault.TheVariants.{Open, Join, Drive}
 use Rattle.dali_drive.specs.declared.fault.DriveFault.{DriveFault}

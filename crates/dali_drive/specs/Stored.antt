@@ -6,7 +6,7 @@ use Rattle.dali_journal.specs.declared.version.Version.TheVariants.{Two}
 use Rattle.dali_journal.specs.declared.record.Record.{Record}
 use Rattle.dali_journal.specs.Spelling.{journal_spelling}
 use Rattle.dali_journal.specs.JournalState.{JournalState}
-use Rattle.dali_writer.specs.WriterState.{WriterState, start_of}
+use Rattle.dali_engine.specs.WriterState.{WriterState, start_of}
 use Rattle.dali_store.specs.Stores.{Becomes, IsBetween}
 use Rattle.dali_store.specs.Opened.{IsOpened, IsOpenFault, Loads, LoadsAlike, LeavesAlike, is_store_failure}
 use Rattle.dali_drive.specs.declared.stored.StoredFault.{StoredFault}

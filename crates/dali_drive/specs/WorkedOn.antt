@@ -6,9 +6,9 @@ use Rattle.dali_bank.specs.Order.{Contents}
 use Rattle.dali_trace.specs.declared.happening.Happening.{Happening}
 use Rattle.dali_drive.specs.declared.fault.DriveFault.{DriveFault}
 use Rattle.dali_trace.specs.Trace.{Start}
-use Rattle.dali_writer.specs.WriterState.{WriterState}
-use Rattle.dali_writer.specs.Describes.{Describes}
-use Rattle.dali_writer.specs.Follows.{Follows}
+use Rattle.dali_engine.specs.WriterState.{WriterState}
+use Rattle.dali_engine.specs.Describes.{Describes}
+use Rattle.dali_engine.specs.Follows.{Follows}
 use Rattle.dali_drive.specs.Transcript.{Streams, said_lines}
 use Rattle.dali_drive.specs.Driven.{IsDriven, BrokenOff, LeavesBetween, orders_asked}
 use Rattle.dali_drive.specs.Observed.{IsToldEnd}

@@ -2,9 +2,9 @@ ghost use Rattle.std.specs.Prelude.{◌≡◌, ◌<◌, ◌∷◌, [], ℕ, List
 ghost use Rattle.std.specs.Io.KnownBytes.{Appends};
 ghost use Rattle.dali_trace.specs.declared.happening.Happening.{Happening};
 ghost use Rattle.dali_trace.specs.Trace.{Start, is_busy};
-ghost use Rattle.dali_writer.specs.WriterState.{start_of, IsAtRest};
-ghost use Rattle.dali_writer.specs.WorkLeft.{work_left};
-ghost use Rattle.dali_writer.specs.Describes.{Describes};
+ghost use Rattle.dali_engine.specs.WriterState.{start_of, IsAtRest};
+ghost use Rattle.dali_engine.specs.WorkLeft.{work_left};
+ghost use Rattle.dali_engine.specs.Describes.{Describes};
 ghost use Rattle.dali_drive.specs.Transcript.{Streams, shown};
 ghost use Rattle.dali_drive.specs.Driven.{at_moment, IsDrive, BreaksOff, NoneFailed, FailedAs};
 ghost use Rattle.dali_store.specs.Stores.{IsSettled, IsBetween, LeavesOnly};
@@ -17,9 +17,9 @@ use crate::link::exchange_noting;
 use crate::observer::{Nobody, Observer};
 use crate::streams::{Sink, Source, put_all};
 use dali_bank::Order;
+use dali_engine::{Want, Writer};
 use dali_store::{Store, keep};
 use dali_trace::Happening;
-use dali_writer::{Want, Writer};
 
 // Does once what the writer wants. The answer is whether it wanted anything.
 fn advance<I: Source, L: Sink, J: Store, O: Sink, B: Observer>(

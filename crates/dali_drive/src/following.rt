@@ -9,7 +9,7 @@ ghost use Rattle.dali_drive.specs.Stored.{StoredFailedAs, LeavesPart};
 ghost use Rattle.dali_drive.specs.Transcript.{Streams, shown};
 ghost use Rattle.dali_store.specs.Stores.{IsSettled, IsBetween, LeavesOnly};
 ghost use Rattle.dali_trace.specs.Trace.{Start};
-ghost use Rattle.dali_writer.specs.WriterState.{start_of, IsAtRest};
+ghost use Rattle.dali_engine.specs.WriterState.{start_of, IsAtRest};
 
 use crate::driving::{begin, carry_out};
 use crate::fault::DriveFault;
@@ -18,8 +18,8 @@ use crate::observer::Observer;
 use crate::stored::StoredFault;
 use crate::streams::{Sink, Source, put_all};
 use dali_bank::Order;
+use dali_engine::Writer;
 use dali_store::{Store, open};
-use dali_writer::Writer;
 use std::alloc::Global;
 
 /// What a source of orders gives (profile).

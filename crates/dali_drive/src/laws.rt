@@ -13,7 +13,7 @@ ghost use Rattle.dali_read.specs.Shown.{Finds, ShowsBank, WhenTold};
 ghost use Rattle.dali_trace.specs.declared.happening.Happening.{Happening};
 ghost use Rattle.dali_trace.specs.Trace.{Start};
 ghost use Rattle.dali_trace.specs.Moments.{Along};
-ghost use Rattle.dali_writer.specs.WriterState.{WriterState, start_of, IsAtRest};
+ghost use Rattle.dali_engine.specs.WriterState.{WriterState, start_of, IsAtRest};
 ghost use Rattle.dali_laws.specs.Powered.{unpowered, IsPowerApart};
 ghost use Rattle.dali_laws.specs.Joined.{Sitting, joined, FollowOn};
 ghost use Rattle.dali_store.specs.declared.opening.OpenFault.{OpenFault};

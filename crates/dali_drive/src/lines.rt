@@ -10,8 +10,8 @@ ghost use Rattle.dali_drive.specs.Driven.{is_link_failure};
 use crate::fault::DriveFault;
 use crate::streams::{Got, Source};
 use arrayvec::ArrayVec;
+use dali_engine::Reply;
 use dali_frame::{LineFault, answer_of};
-use dali_writer::Reply;
 
 // The most bytes that are read of an answer's line before its line feed: it has at most one less.
 const MOST_ANSWER: usize = 9;

@@ -5,15 +5,15 @@ ghost use Rattle.dali_drive.specs.Stored.{IsStoredDrive, EndsAtFault, StoredFail
 ghost use Rattle.dali_drive.specs.Observed.{IsStoredObserved, EndsObserved};
 ghost use Rattle.dali_drive.specs.Transcript.{shown};
 ghost use Rattle.dali_drive.specs.Driven.{at_moment, NoneFailed};
-ghost use Rattle.dali_writer.specs.WriterState.{IsAtRest};
+ghost use Rattle.dali_engine.specs.WriterState.{IsAtRest};
 
 use crate::driving::drive_observed;
 use crate::fault::DriveFault;
 use crate::observer::{Nobody, Observer};
 use crate::streams::{Sink, Source};
 use dali_bank::Order;
+use dali_engine::Writer;
 use dali_store::{OpenFault, Store, open};
-use dali_writer::Writer;
 use std::alloc::Global;
 
 /// Why the orders of a store weren't all driven.

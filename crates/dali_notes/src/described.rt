@@ -1,4 +1,4 @@
-use crate::escaped::Escaped;
+use dali_text::Escaped;
 use serde_json::Value as Json;
 use std::fmt;
 

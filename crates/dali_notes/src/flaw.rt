@@ -1,5 +1,5 @@
-use crate::escaped::Letter;
 use dali_bank::Field;
+use dali_text::Letter;
 use std::fmt;
 
 /// What of a text a field doesn't take, where the text tells: `; it has ...`, or nothing.

@@ -1,8 +1,8 @@
 use crate::described::Described;
-use crate::escaped::ToldKey;
 use crate::flaw::Flaw;
 use crate::near_key::near_key;
 use crate::note::Note;
+use crate::told_key::ToldKey;
 use dali_bank::{BankFault, Field};
 use dali_input::{ItemFault, field_fault};
 use serde_json::Value as Json;

@@ -7,7 +7,6 @@
 
 mod bank_note;
 mod described;
-mod escaped;
 mod first_lines;
 mod flaw;
 mod front;
@@ -22,10 +21,10 @@ mod repeats;
 mod scenario_note;
 mod scenario_rule;
 mod setup_note;
+mod told_key;
 mod word_note;
 
 pub use bank_note::note_of_bank;
-pub use escaped::Escaped;
 pub use first_lines::FirstLines;
 pub use item_note::note_of_item;
 pub use journal_note::note_of_journal;

@@ -1,8 +1,8 @@
 use crate::described::Described;
-use crate::escaped::ToldKey;
 use crate::near_key::near_key;
 use crate::note::Note;
 use crate::scenario_rule::{Member, event_members, fate_members, scenario_members, unit_members};
+use crate::told_key::ToldKey;
 use serde_json::Value as Json;
 use std::alloc::Global;
 use std::fmt;

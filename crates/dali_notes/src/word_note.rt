@@ -1,5 +1,5 @@
-use crate::escaped::{Escaped, Letter};
 use crate::note::Note;
+use dali_text::{Escaped, Letter};
 use std::alloc::Global;
 
 /// Why an argument is no word of a frame: the first character that is no hexadecimal digit, or how many it has.

@@ -1,5 +1,5 @@
 //! How things are told (profile): the lines of orders, of faults, of frames, of a memory bank, of
-//! a journal and its records, and of runs and the units after them.
+//! a journal and its records, and of runs and the units after them; and words of others, as a terminal may show them.
 //!
 //! Each call writes to an `Output`, a writer that knows whether it has failed. It doesn't flush it, and answers only
 //! that it has failed. No call takes memory.
@@ -7,6 +7,7 @@
 
 mod bank_lines;
 mod digits;
+mod escaped;
 mod fault_lines;
 mod frame_line;
 mod journal_lines;
@@ -18,6 +19,7 @@ mod unit_lines;
 
 pub use bank_lines::write_bank;
 pub use digits::{ByteDigits, WordDigits, write_bytes};
+pub use escaped::{Escaped, Letter};
 pub use fault_lines::{write_counted_fault, write_fault, write_placed_fault, write_single_fault};
 pub use frame_line::write_frame;
 pub use journal_lines::write_journal;

@@ -5,10 +5,9 @@ use crate::drive::streams::{
 use crate::expected::expect_that;
 use crate::gtin::GTIN;
 use dali_bank::Order;
-use dali_drive::{DriveFault, Got, Sink, Source, StdSink, StdSource, drive};
 use dali_frame::LineFault;
 use dali_journal::{Journal, Standing};
-use dali_writer::Writer;
+use dali_writer::{DriveFault, Got, Sink, Source, StdSink, StdSource, Writer, drive};
 use std::alloc::Global;
 use std::io::ErrorKind;
 use std::test::Fail;

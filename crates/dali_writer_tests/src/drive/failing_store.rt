@@ -7,9 +7,9 @@ use crate::drive::stops::{
 use crate::drive::streams::MANY;
 use crate::drive::sweeps::Seen;
 use crate::expected::expect_that;
-use dali_drive::{DriveFault, StoredFault};
 use dali_frame::Frame;
 use dali_store::{MemoryStore, OpenFault, Store, StoreFault};
+use dali_writer::{DriveFault, StoredFault};
 use std::alloc::Global;
 use std::ops::Range;
 use std::test::Fail;

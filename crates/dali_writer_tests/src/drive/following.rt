@@ -5,7 +5,7 @@ use crate::drive::driving::{SILENT_LATER, gtin_order, silence, silent_link};
 use crate::drive::streams::{ALL, Good, Left, Wanted, file_of, follow_from};
 use crate::expected::expect_that;
 use dali_bank::Order;
-use dali_drive::{DriveFault, Given, Line, Orders};
+use dali_writer::{DriveFault, Given, Line, Orders};
 use std::alloc::Global;
 use std::test::Fail;
 

@@ -9,11 +9,11 @@ use crate::expected::expect_that;
 use crate::gtin::{GTIN_RECORDS, HEADER};
 use crate::writer::case::{holds, put};
 use dali_bank::Order;
-use dali_drive::{StoredFault, drive_stored};
 use dali_frame::Frame;
 use dali_gear::{Fate, GearFault, SimBus, Unit};
 use dali_journal::Journal;
 use dali_store::{MemoryStore, Store};
+use dali_writer::{StoredFault, drive_stored};
 use std::alloc::Global;
 use std::test::Fail;
 

@@ -4,10 +4,9 @@ ghost use Rattle.dali_drive.specs.Streams.{Puts, is_refusal};
 
 use crate::gtin::HEADER;
 use dali_bank::Order;
-use dali_drive::{DriveFault, Got, Nobody, Orders, Sink, Source, drive, follow};
 use dali_journal::Journal;
 use dali_store::{Store, StoreFault};
-use dali_writer::Writer;
+use dali_writer::{DriveFault, Got, Nobody, Orders, Sink, Source, Writer, drive, follow};
 use std::alloc::Global;
 use std::io;
 use std::io::{ErrorKind, Read, Write};

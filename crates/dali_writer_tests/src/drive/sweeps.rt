@@ -5,11 +5,10 @@ use crate::expected::expect_that;
 use crate::gtin::GTIN_RECORDS;
 use crate::writer::case::{ENOUGH, put};
 use dali_bank::Order;
-use dali_drive::DriveFault;
 use dali_frame::{Frame, byte_digits, line_of};
 use dali_gear::{Bus, GearFault, SimBus, Unit};
 use dali_journal::Journal;
-use dali_writer::{Want, Writer};
+use dali_writer::{DriveFault, Want, Writer};
 use std::alloc::Global;
 use std::test::Fail;
 

@@ -1,5 +1,5 @@
 use Rattle.std.proofs.Common.{[], refl}
-use Rattle.dali_writer.specs.WriterState.{start_of}
+use Rattle.dali_engine.specs.WriterState.{start_of}
 use Rattle.dali_drive.proofs.DriveLemmas.{begun_at}
 use Rattle.dali_drive.proofs.driving.begin.Goals as goal
 

@@ -1,7 +1,7 @@
 use Rattle.std.proofs.Common.{◌≡◌, ℕ, List, false, reverse, take}
 use Rattle.dali_trace.specs.declared.happening.Happening.{Happening}
 use Rattle.dali_trace.specs.Trace.{is_busy}
-use Rattle.dali_writer.specs.WriterState.{start_of, IsAtRest}
+use Rattle.dali_engine.specs.WriterState.{start_of, IsAtRest}
 use Rattle.dali_drive.specs.Transcript.{shown}
 use Rattle.dali_drive.specs.Driven.{orders_asked, at_moment}
 use Rattle.dali_drive.specs.WorkedOn.{IsDrivenAt}

@@ -1,7 +1,7 @@
 use Rattle.std.proofs.Common.{◌≡◌, ℕ, List, [], false}
 use Rattle.dali_trace.specs.declared.happening.Happening.{Happening}
 use Rattle.dali_trace.specs.Trace.{Start}
-use Rattle.dali_writer.specs.WorkLeft.{work_left}
+use Rattle.dali_engine.specs.WorkLeft.{work_left}
 use Rattle.dali_drive.specs.Transcript.{Streams, shown}
 use Rattle.dali_drive.specs.WorkedOn.{IsDrivenAt, HasWorked}
 use Rattle.std.specs.Io.KnownBytes.{Appends}

@@ -1,7 +1,7 @@
 use Rattle.std.proofs.Common.{◌≡◌, ℕ, List, false, length}
 use Rattle.std.specs.Io.KnownBytes.{Appends}
 use Rattle.dali_store.specs.Stores.{IsSettled, IsBetween, LeavesOnly}
-use Rattle.dali_writer.specs.WriterState.{start_of, IsAtRest}
+use Rattle.dali_engine.specs.WriterState.{start_of, IsAtRest}
 use Rattle.dali_drive.specs.declared.following.Given.{Given}
 use Rattle.dali_drive.specs.Transcript.{shown}
 use Rattle.dali_drive.specs.Followed.{happenings, IsFollowed}

@@ -1,0 +1,73 @@
+-- What contracts see of a writer.
+use Rattle.std.specs.Prelude.{◌≡◌, ◌⊎◌, ℕ, false, [], length}
+use Rattle.dali_bank.specs.Order.{Contents, AreUpdates}
+use Rattle.dali_journal.specs.declared.record.Record.TheVariants.{Began}
+use Rattle.dali_journal.specs.declared.standing.Standing.{Standing}
+use Rattle.dali_journal.specs.declared.standing.Standing.TheVariants as standings
+use Rattle.dali_journal.specs.Sentence.{standing_of}
+use Rattle.dali_journal.specs.Orders.{orders_of}
+use Rattle.dali_journal.specs.JournalState.{JournalState, MayBegin}
+use Rattle.dali_write.specs.declared.ask.Verdict.{Verdict}
+use Rattle.dali_write.specs.declared.ask.Verdict.TheVariants as verdicts
+use Rattle.dali_write.specs.Counts.{opened_limit}
+use Rattle.dali_write.specs.declared.session.Session.{Session}
+use Rattle.dali_write.specs.Told.{Told, frames_left, unit_of, IsFresh, IsOpened, IsClosing}
+use Rattle.dali_engine.specs.declared.phase.Phase.{Phase}
+use Rattle.dali_engine.specs.declared.phase.Phase.TheVariants.{Idle, Begins, Checks, Writes, Closes, Says}
+use Rattle.dali_trace.specs.Trace.{Start, is_at_work}
+use Rattle.dali_trace.specs.Legal.{EndsAs}
+use Rattle.dali_engine.specs.Phases.{check_code}
+
+-- its journal, and what it is about to do
+pub record WriterState : Type 0 where
+  pub journal : JournalState
+  pub phase : Phase
+
+-- the records and the limit of a journal
+abbrev pub start_of : JournalState → Start
+start_of journal = record { records = journal.records; limit = journal.limit }
+
+-- the journal stands as the phase needs it: it may begin the order that waits, the order at work is that of the
+-- session, the unit that is closed is the one that was left, and the order that ended is the newest
+abbrev pub IsReady : Phase → JournalState → Type 0
+IsReady Idle journal = is_at_work (standing_of journal.records) ≡ false
+IsReady (Begins order moment) journal = (standing_of journal.records ≡ standings.Idle)
+    × MayBegin journal (Began order moment)
+IsReady (Checks order s) journal =
+    (standing_of journal.records ≡ standings.Began order) × IsFresh order s × AreUpdates order.updates
+IsReady (Writes order s) journal =
+    (standing_of journal.records ≡ standings.Opened order) × IsOpened order s × AreUpdates order.updates
+IsReady (Closes order moment s) journal =
+    (standing_of journal.records ≡ standings.Left (unit_of s)) × IsClosing (unit_of s) s
+    × MayBegin journal (Began order moment)
+IsReady (Says id code) journal =
+    (is_at_work (standing_of journal.records) ≡ false) × EndsAs id code (orders_of journal.records)
+
+-- what comes after a fresh session for the order that ended so
+abbrev pub IsAfterCheck : Contents → Verdict → Phase → Type 0
+IsAfterCheck order verdicts.MayOpen phase =
+    (s : Session) × (phase ≡ Writes order s) × IsOpened order s × Told [] s × AreUpdates order.updates
+    × (frames_left s ≡ opened_limit (length order.updates))
+IsAfterCheck order verdict phase = phase ≡ Says order.id (check_code verdict)
+
+-- what comes first for an order that is taken: a unit that was left is closed
+abbrev pub IsFirst : Standing → Contents → ℕ → Phase → Type 0
+IsFirst (standings.Left unit) order moment phase =
+    (s : Session) × (phase ≡ Closes order moment s) × (unit_of s ≡ unit) × IsClosing unit s × Told [] s
+IsFirst standings.Idle order moment phase = phase ≡ Begins order moment
+IsFirst (standings.Began other) order moment phase = phase ≡ Begins order moment
+IsFirst (standings.Opened other) order moment phase = phase ≡ Begins order moment
+
+-- what comes first where the journal stands so: an order that was begun is looked at anew, one that was opened is
+-- carried out anew, and a unit that was left waits for an order
+abbrev pub IsResumed : Standing → Phase → Type 0
+IsResumed (standings.Began order) phase =
+    (s : Session) × (phase ≡ Checks order s) × IsFresh order s × Told [] s × AreUpdates order.updates
+IsResumed (standings.Opened order) phase =
+    (s : Session) × (phase ≡ Writes order s) × IsOpened order s × Told [] s × AreUpdates order.updates
+IsResumed standings.Idle phase = phase ≡ Idle
+IsResumed (standings.Left unit) phase = phase ≡ Idle
+
+-- the writer is at rest: nothing is to be done, or it is as it was made from its journal
+abbrev pub IsAtRest : WriterState → Type 0
+IsAtRest w = (w.phase ≡ Idle) ⊎ IsResumed (standing_of w.journal.records) w.phase

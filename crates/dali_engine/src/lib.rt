@@ -1,0 +1,15 @@
+//! A writer of orders, and runs of it over a bus (profile). What it does is a legal trace, whatever a bus loses and
+//! whenever the program is stopped: so the laws of legal traces hold of it.
+#![tactic(auto)]
+
+mod fault;
+mod phase;
+mod runs;
+mod stops;
+mod writer;
+
+pub use dali_laws::laws;
+pub use dali_trace::{Event, Happening, Reply, Want};
+pub use fault::RunFault;
+pub use runs::{Outcome, run, run_sim};
+pub use writer::Writer;

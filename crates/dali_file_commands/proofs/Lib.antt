@@ -1,0 +1,6 @@
+pub mod FailureLemmas
+pub mod FrameLemmas
+pub mod ReportLemmas
+pub mod RunLemmas
+pub mod NoteLemmas
+mod WorkedNoteLemmas

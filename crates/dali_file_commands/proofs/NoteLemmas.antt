@@ -1,0 +1,61 @@
+-- Lemmas on what a person is told beside what is written.
+use Rattle.std.proofs.Common.{◌≡◌, ◌⊎◌, ℕ, suc, ◌+◌, List, [], ◌∷◌, ◌++◌, Option, Result, Ok, Err, IfOk, OnOk}
+use Rattle.std.proofs.Common.{length, inr, refl, ap, sym, ◌∙◌, arith, append_assoc, append-nil, add-zero, subst}
+use Rattle.std.specs.Io.KnownBytes.{Appends}
+use Rattle.dali_text.specs.declared.output.Output.{Output}
+use Rattle.dali_text.proofs.StreamLemmas.{appends_both}
+use Rattle.dali_input.specs.Orders.{Outcome}
+use Rattle.dali_notes.specs.Notes.{Tells}
+use Rattle.dali_faults.specs.declared.fault.Fault.{Fault}
+use Rattle.dali_faults.specs.declared.fault.Status.{Status}
+use Rattle.dali_faults.specs.Faults.{told_line}
+use Rattle.dali_file_commands.specs.Notes.{AreItemNotes, IsFaultNote, IsItemNote, IsNotedFault}
+
+-- the notes of one item more
+are_one_more : (i : ℕ) (xs : List Outcome) (x : Outcome) (note here : List ℕ)
+    → AreItemNotes i xs note → IsItemNote (i + length xs) x here → AreItemNotes i (xs ++ x ∷ []) (note ++ here)
+are_one_more i [] x note here are is = (
+  here,
+  [],
+  subst (λ n. IsItemNote n x here) (add-zero i) is,
+  refl,
+  rw are (sym (append-nil here)),
+)
+are_one_more i (y ∷ xs) x note here (first, later, first_is, are, split) is =
+    let there : i + suc (length xs) ≡ i + 1 + length xs = omega arith in (
+      first,
+      later ++ here,
+      first_is,
+      are_one_more (i + 1) xs x later here are (subst (λ n. IsItemNote n x here) there is),
+      ap (λ t. t ++ here) split ∙ append_assoc first later here,
+    )
+
+-- and an output that takes them
+pub tells_one_more : {N : Type 0} (contents : N → Option (List ℕ)) (old mid new : Output N) (x : Outcome) (n : ℕ)
+    (xs : List Outcome)
+    → Tells contents mid new (IsItemNote n x)
+    → n ≡ 1 + length xs → Tells contents old mid (AreItemNotes 1 xs)
+    → Tells contents old new (AreItemNotes 1 (xs ++ x ∷ []))
+tells_one_more contents old mid new x n xs step at before failed =
+    let (mid_good, (here, is, took)) = step failed in
+    let (old_good, (note, are, taken)) = before mid_good in (
+      old_good,
+      (
+        note ++ here,
+        are_one_more 1 xs x note here are (subst (λ k. IsItemNote k x here) at is),
+        appends_both _ _ _ note here taken took,
+      ),
+    )
+
+-- a fault that is told by its line and its note, whatever else may be written
+pub fault_noted : {E N : Type 0} (A : Status → List ℕ → List ℕ → Type 0) (before now : Option (List ℕ))
+    (contents : N → Option (List ℕ)) (old new : Output N) (fault : Fault) (r : Result Status E)
+    → OnOk r (Appends before now (told_line fault)) → Tells contents old new (IsFaultNote fault)
+    → IfOk r (λ status. (text : List ℕ) × Appends before now text
+    × Tells contents old new (λ note. A status text note ⊎ IsNotedFault text note))
+fault_noted A before now contents old new fault (Ok status) told noted = (
+  told_line fault,
+  told,
+  λ failed. let (good, (note, is, took)) = noted failed in (good, (note, inr (fault, refl, is), took)),
+)
+fault_noted A before now contents old new fault (Err e) told noted = tt

@@ -1,0 +1,207 @@
+ghost use Rattle.std.specs.Prelude.{◌≡◌, ◌≢◌, ◌↔◌, ◌⊎◌, ℕ, List, [], IfOk, true, is_ok, codes};
+ghost use Rattle.serde_json.specs.View.{view, items_view};
+ghost use Rattle.dali_text.specs.Output.{TellsFailure, Takes, has_failed, is_flushed};
+ghost use Rattle.dali_input.specs.Input.{ReadsAtMost, state_of};
+ghost use Rattle.dali_input.specs.Items.{Judges};
+ghost use Rattle.dali_input.specs.Orders.{Outcome, JudgesEach, orders_limit};
+ghost use Rattle.dali_faults.specs.Ends.{TellsEnd};
+ghost use Rattle.dali_notes.specs.Notes.{SomeAbout, Tells};
+ghost use Rattle.dali_file_commands.specs.Report.{accepted_count, item_lines, lines_from, refused_count, report};
+ghost use Rattle.dali_file_commands.specs.Report.{report_status, IsChecked, IsAnswered};
+ghost use Rattle.dali_file_commands.specs.Notes.{AreItemNotes, IsItemNote, IsNotedCheck};
+
+use crate::notes::write_noted_failure;
+use dali_bank::Order;
+use dali_faults::{Fault, Status, write_refused_item};
+use dali_input::{Input, ItemFault, ORDERS_LIMIT, items_of, order_of, read_input};
+use dali_notes::{Note, Repeats, note_of_item, note_of_orders};
+use dali_text::{Output, OutputFailed, write_order, write_tally};
+use serde_json::Value;
+use std::alloc::Global;
+use std::io::{Read, Write};
+
+/// Reads a JSON list of orders, and writes what becomes of each: the updates of an accepted item,
+/// the fault of a refused one, and how many there were of both.
+///
+/// Where the input is no such list it writes the fault alone: 13 TooBig over 16777216 bytes,
+/// 11 Json, 12 Document, 20 Memory or 21 File.
+///
+/// Where a call of the output fails later ones write nothing more to it, and it ends as `Unwritten`.
+///
+/// A person is told in `notes` where the input or an item is wrong and what its rule is, and which items have the
+/// number of an earlier one that is another order (the writer replies `reused`). Whatever becomes of the notes, the
+/// answer is the same.
+pub fn check<R: Read, W: Write, N: Write>(
+    alloc: Global,
+    input: &mut Input<R>,
+    output: &mut Output<W>,
+    notes: &mut Output<N>,
+) -> Status
+    ensures checked { result ≢ Status.Unwritten → (text : List ℕ)
+        × IsChecked orders_limit (state_of R.remaining input.old) (state_of R.remaining input.new) result text
+        × Takes W.contents output.old output.new text }
+    ensures read { ReadsAtMost orders_limit (state_of R.remaining input.old) (state_of R.remaining input.new) }
+    ensures unwritten { result ≡ Status.Unwritten ↔ has_failed output.new ≡ true }
+    ensures flushed { result ≢ Status.Unwritten → is_flushed output.new ≡ true }
+    ensures noted { result ≢ Status.Unwritten → (text : List ℕ) × Takes W.contents output.old output.new text
+        × Tells N.contents notes.old notes.new (IsNotedCheck text) }
+{
+    match try_check(alloc, input, output, notes) {
+        Ok(status) => status,
+        Err(_) => Status::Unwritten,
+    }
+}
+
+// The same, or that the output has failed.
+fn try_check<R: Read, W: Write, N: Write>(
+    alloc: Global,
+    input: &mut Input<R>,
+    output: &mut Output<W>,
+    notes: &mut Output<N>,
+) -> Result<Status, OutputFailed>
+    ensures checked { IfOk result (λ status. (text : List ℕ)
+        × IsChecked orders_limit (state_of R.remaining input.old) (state_of R.remaining input.new) status text
+        × Takes W.contents output.old output.new text) }
+    ensures read { ReadsAtMost orders_limit (state_of R.remaining input.old) (state_of R.remaining input.new) }
+    ensures noted { IfOk result (λ _. (text : List ℕ) × Takes W.contents output.old output.new text
+        × Tells N.contents notes.old notes.new (IsNotedCheck text)) }
+    ensures end { TellsEnd result output.new }
+{
+    match read_input(alloc, input, ORDERS_LIMIT) {
+        Ok(bytes) => write_checked(alloc, bytes.as_slice(), output, notes),
+        Err(fault) => write_noted_failure(output, Fault::Input(fault), notes, &Note::new(alloc)),
+    }
+}
+
+// Writes what becomes of an input.
+fn write_checked<W: Write, N: Write>(
+    alloc: Global,
+    input: &[u8],
+    output: &mut Output<W>,
+    notes: &mut Output<N>,
+) -> Result<Status, OutputFailed>
+    ensures answered { IfOk result (λ status. (text : List ℕ) × IsAnswered orders_limit input.now status text
+        × Takes W.contents output.old output.new text) }
+    ensures noted { IfOk result (λ _. (text : List ℕ) × Takes W.contents output.old output.new text
+        × Tells N.contents notes.old notes.new (IsNotedCheck text)) }
+    ensures end { TellsEnd result output.new }
+{
+    match items_of(alloc, input, ORDERS_LIMIT) {
+        Ok(items) => write_report(alloc, items, output, notes),
+        Err(fault) => {
+            let note = note_of_orders(alloc, input, fault);
+            write_noted_failure(output, Fault::Input(fault), notes, &note)
+        }
+    }
+}
+
+// Writes what becomes of each item.
+#[tactic(auto, using(dali_text::proofs::StreamLemmas::appends_both, dali_text::proofs::StreamLemmas::appends_kept))]
+fn write_report<W: Write, N: Write>(
+    alloc: Global,
+    items: Vec<Value>,
+    output: &mut Output<W>,
+    notes: &mut Output<N>,
+) -> Result<Status, OutputFailed>
+    ensures report { IfOk result (λ status. (outcomes : List Outcome) × JudgesEach (items_view items.items) outcomes
+        × (status ≡ report_status outcomes)
+        × Takes W.contents output.old output.new (report outcomes)
+        × Tells N.contents notes.old notes.new (AreItemNotes 1 outcomes)) }
+    ensures end { TellsEnd result output.new }
+{
+    let (accepted, refused) = write_items(alloc, items, output, notes)?;
+    write_tally(output, accepted, refused)?;
+    output.flush()?;
+    Ok(if refused == 0 {
+        Status::Good
+    } else {
+        Status::Refused
+    })
+}
+
+// Writes the lines of each item, and how many were accepted and how many refused.
+fn write_items<W: Write, N: Write>(
+    alloc: Global,
+    items: Vec<Value>,
+    output: &mut Output<W>,
+    notes: &mut Output<N>,
+) -> Result<(u64, u64), OutputFailed>
+    ensures lines { IfOk result (λ counted. (outcomes : List Outcome) × JudgesEach (items_view items.items) outcomes
+        × (accepted_count outcomes ≡ counted.0) × (refused_count outcomes ≡ counted.1)
+        × Takes W.contents output.old output.new (lines_from 1 outcomes)
+        × Tells N.contents notes.old notes.new (AreItemNotes 1 outcomes)) }
+    ensures failed { TellsFailure result output.old output.new }
+{
+    let mut accepted = 0u64;
+    let mut refused = 0u64;
+    let mut repeats = Repeats::new(alloc);
+    for item in items {
+        if write_item(
+            alloc,
+            output,
+            accepted + refused + 1,
+            item,
+            notes,
+            &mut repeats,
+        )? {
+            accepted += 1;
+        } else {
+            refused += 1;
+        }
+    }
+    Ok((accepted, refused))
+}
+
+// Writes what becomes of an item, and whether it was accepted. The item is let go here, while it
+// is in the processor's cache.
+fn write_item<W: Write, N: Write>(
+    alloc: Global,
+    output: &mut Output<W>,
+    number: u64,
+    item: Value,
+    notes: &mut Output<N>,
+    repeats: &mut Repeats,
+) -> Result<bool, OutputFailed>
+    ensures lines { IfOk result (λ accepted. (outcome : Outcome) × Judges (view item) outcome
+        × (is_ok outcome ≡ accepted)
+        × Takes W.contents output.old output.new (item_lines number outcome)
+        × Tells N.contents notes.old notes.new (IsItemNote number outcome)) }
+    ensures failed { TellsFailure result output.old output.new }
+{
+    match order_of(&item) {
+        Ok(order) => {
+            note_accepted(notes, number, &order, repeats);
+            write_order(output, number, &order)?;
+            Ok(true)
+        }
+        Err(fault) => {
+            note_refused(alloc, notes, number, &item, fault);
+            write_refused_item(output, number, fault)?;
+            Ok(false)
+        }
+    }
+}
+
+// Tells where an accepted item has the number of an earlier one.
+fn note_accepted<N: Write>(notes: &mut Output<N>, number: u64, order: &Order, repeats: &mut Repeats)
+    ensures { Tells N.contents notes.old notes.new (λ note. (note ≡ []) ⊎ SomeAbout (codes "item") number note) }
+{
+    if let Some(note) = repeats.note_of(number, order) {
+        note.tell_about(notes, "item", number);
+    }
+}
+
+// Tells what is wrong with a refused item, while the notes are taken.
+fn note_refused<N: Write>(
+    alloc: Global,
+    notes: &mut Output<N>,
+    number: u64,
+    item: &Value,
+    fault: ItemFault,
+)
+    ensures { Tells N.contents notes.old notes.new (SomeAbout (codes "item") number) }
+{
+    if !notes.has_failed() {
+        note_of_item(alloc, item, fault).tell_about(notes, "item", number);
+    }
+}

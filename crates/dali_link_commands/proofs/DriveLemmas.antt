@@ -1,0 +1,189 @@
+-- Lemmas on how a drive ended.
+use Rattle.std.proofs.Common.{◌≡◌, refl, ℕ, ◌+◌, ◌++◌, ◌<◌, Bool, true, false, ◌||◌, List, [], Option, arith}
+use Rattle.std.proofs.Common.{IfOk, OnOk, Result, Ok, Err, length, get_or, take, ap, inl, inr, ◌⊎◌, subst, sym, ◌∙◌}
+use Rattle.std.proofs.Math.Seq.{take-length}
+use Rattle.std.specs.Io.KnownBytes.{Appends, Keeps}
+use Rattle.std.specs.List.{flat_map}
+use Rattle.std.proofs.lemmas.List.{flat_map_more, take_more}
+use Rattle.dali_input.specs.declared.item.ItemFault.{ItemFault}
+use Rattle.dali_bank.specs.Order.{Contents}
+use Rattle.dali_input.specs.Input.{InputState, ReadsInput}
+use Rattle.dali_input.specs.Orders.{orders_limit}
+use Rattle.dali_text.specs.declared.output.OutputFailed.{OutputFailed}
+use Rattle.dali_store.specs.declared.opening.OpenFault.{OpenFault}
+use Rattle.dali_drive.specs.declared.stored.StoredFault.{StoredFault}
+use Rattle.dali_drive.specs.declared.stored.StoredFault.TheVariants as stored
+use Rattle.dali_drive.specs.Driven.{at_moment}
+use Rattle.dali_drive.specs.Observed.{EndsObserved}
+use Rattle.dali_report.specs.declared.report.Report.{Report}
+use Rattle.dali_report.specs.Told.{IsTold, IsToldEnd}
+use Rattle.dali_link_commands.specs.DriveAnswers.{IsDriveAnswer, fault_unopened}
+use Rattle.dali_faults.specs.JournalInput.{journal_limit, order_limit}
+use Rattle.dali_drive.specs.Transcript.{Streams}
+use Rattle.dali_drive.specs.declared.fault.DriveFault.{DriveFault}
+use Rattle.dali_drive.specs.declared.fault.DriveFault.TheVariants as drives
+use Rattle.dali_drive.specs.Streams.{PutsFirst}
+use Rattle.dali_faults.specs.declared.fault.Status.{Status}
+use Rattle.dali_faults.specs.declared.fault.Status.TheVariants.{Unwritten}
+use Rattle.dali_link_commands.specs.OrdersAnswers.{IsInputAnswer, IsReaderAnswer, IsFileAnswer}
+use Rattle.dali_link_commands.specs.ReadAnswers.{TellsLine}
+use Rattle.dali_link_commands.specs.Told.{IsFaultTold, IsFileFaultTold, IsFaultText, TellsWorded, error_line, is_out, refused_lines}
+use Rattle.dali_faults.specs.declared.fault.Fault.{Fault}
+use Rattle.dali_faults.specs.declared.fault.Fault.TheVariants.{Drive}
+use Rattle.dali_faults.specs.Faults.{item_line, status_of, told_line}
+use Rattle.dali_text.proofs.StreamLemmas.{appends_both, appends_kept}
+
+module _ {N : Type 0} (contents : N → Option (List ℕ)) (moment : ℕ) (require_done : Bool) (before after : Report N)
+    (orders : List Contents) (first last : Streams) (replies : Option (List ℕ)) (leaves leaves_then : List ℕ → Type 0)
+    (fault : StoredFault) (status : Status)
+    (ends : EndsObserved (IsTold contents) (IsToldEnd contents) order_limit journal_limit
+    (at_moment moment orders) fault first
+    leaves before (record last { out = replies }) leaves_then after) where
+  -- the journal wasn't opened, and its fault was told
+  pub ends_unopened : (why : OpenFault) → fault ≡ stored.Open why
+      → IsFileFaultTold (fault_unopened why) status replies last.out
+      → IsDriveAnswer contents moment require_done before after orders first status last
+  ends_unopened why is told =
+      let end = subst (λ (f : StoredFault). EndsObserved (IsTold contents) (IsToldEnd contents) order_limit
+      journal_limit (at_moment moment orders) f first leaves before (record last { out = replies }) leaves_then after)
+      is ends in
+      inr (inl (record { fault = why; replies = replies; unopened = end.0.0; told = told; unreported = end.1 }))
+
+  -- it broke off, and its fault was told
+  pub ends_broken : (why : DriveFault) → fault ≡ stored.Drive why → IsFaultTold why status replies last.out
+      → IsDriveAnswer contents moment require_done before after orders first status last
+  ends_broken why is told =
+      let end = subst (λ (f : StoredFault). EndsObserved (IsTold contents) (IsToldEnd contents) order_limit
+      journal_limit (at_moment moment orders) f first leaves before (record last { out = replies }) leaves_then after)
+      is ends in
+      inr (inr (record {
+        fault = why;
+        replies = replies;
+        broken = record {
+          begun = end.begun;
+          observed = record {
+            breaks = record { drive = end.observed.breaks.drive; left = λ c never. absurd never };
+            told_all = end.observed.told_all;
+          };
+        };
+        told = told;
+      }))
+
+-- the bytes that were read are those that the command had
+pub read_and_answered : (answers : List Contents → Streams → Status → Streams → Type 0) (unreported : Type 0)
+    (before after : InputState) (first last : Streams) (status : Status) (input given : List ℕ)
+    → given ≡ input → ReadsInput orders_limit before after input
+    → IsInputAnswer answers unreported first status last given
+    → IsReaderAnswer answers unreported first status last before after
+read_and_answered answers unreported before after first last status input given is read answered =
+    inl (input, read, subst (λ (bytes : List ℕ). IsInputAnswer answers unreported first status last bytes) is answered)
+
+-- a line in words was written, and then the fault's
+pub worded : (result : Result Status OutputFailed) (fault : Fault) (words : List ℕ) (before mid after : Option (List ℕ))
+    → Appends before mid (error_line words) → OnOk result (Appends mid after (told_line fault))
+    → IfOk result (λ status. status ≡ status_of fault)
+    → IfOk result (λ status. (status ≡ status_of fault) × TellsWorded fault before after)
+worded (Ok status) fault words before mid after line told is =
+    (is, (words, appends_both before mid after (error_line words) (told_line fault) line told))
+worded (Err error) fault words before mid after line told is = tt
+
+-- one refused item more is told; any default serves
+pub refused_more : (refused : List (ℕ × ItemFault)) (i : ℕ) (default : ℕ × ItemFault) (before mid now : Option (List ℕ))
+    → i < length refused → Appends before mid (refused_lines (take i refused))
+    → Appends mid now (item_line (get_or refused i default).0 (get_or refused i default).1)
+    → Appends before now (refused_lines (take (i + 1) refused))
+refused_more refused i default before mid now within so_far written =
+    let line : ℕ × ItemFault → List ℕ = λ item. item_line item.0 item.1 in
+    subst (λ text. Appends before now text)
+    (flat_map_more line [] (take i refused) (get_or refused i default)
+    ∙ ap (λ us. flat_map line us) (sym (take_more refused i default within)))
+    (appends_both before mid now (refused_lines (take i refused)) (line (get_or refused i default)) so_far written)
+
+-- a fault with words before it
+pub worded_is : (fault : DriveFault) (words text : List ℕ) → ((fault ≡ drives.Journal) ⊎ (fault ≡ drives.Link))
+    → text ≡ error_line words ++ told_line (Drive fault) → IsFaultText fault text
+worded_is fault words text (inl journal) is =
+    subst (λ (f : DriveFault). IsFaultText f text) (sym journal)
+    (words, subst (λ (f : DriveFault). text ≡ error_line words ++ told_line (Drive f)) journal is)
+worded_is fault words text (inr link) is =
+    subst (λ (f : DriveFault). IsFaultText f text) (sym link)
+    (words, subst (λ (f : DriveFault). text ≡ error_line words ++ told_line (Drive f)) link is)
+
+pub worded_no_out : (fault : DriveFault) → ((fault ≡ drives.Journal) ⊎ (fault ≡ drives.Link)) → is_out fault ≡ false
+worded_no_out fault (inl journal) = rw journal refl
+worded_no_out fault (inr link) = rw link refl
+
+-- a fault other than that of the replies is told by its text, or by a first part of it
+told_so : (fault : DriveFault) (status : Status) (before after : Option (List ℕ)) (text : List ℕ)
+    → is_out fault ≡ false → IsFaultText fault text
+    → (((status ≡ status_of (Drive fault)) × Appends before after text)
+    ⊎ ((status ≡ Unwritten) × PutsFirst before after text))
+    → IsFaultTold fault status before after
+told_so drives.Out status before after text other is told = cc
+told_so drives.Journal status before after text other is told = (text, is, told)
+told_so drives.Link status before after text other is told = (text, is, told)
+told_so (drives.Line fault) status before after text other is told = (text, is, told)
+told_so drives.End status before after text other is told = (text, is, told)
+told_so drives.NoMemory status before after text other is told = (text, is, told)
+told_so drives.TooLong status before after text other is told = (text, is, told)
+
+pub cut_short : (fault : DriveFault) (before after : Option (List ℕ)) (bytes text : List ℕ) → is_out fault ≡ false
+    → IsFaultText fault text → bytes ≡ text → PutsFirst before after bytes
+    → IsFaultTold fault Unwritten before after
+cut_short fault before after bytes text other line is part =
+    told_so fault Unwritten before after text other line
+    (inr (refl, subst (λ (l : List ℕ). PutsFirst before after l) is part))
+
+pub unflushed : (fault : DriveFault) (before mid after : Option (List ℕ)) (bytes text : List ℕ)
+    → is_out fault ≡ false → IsFaultText fault text → bytes ≡ text → Appends before mid bytes → Keeps mid after
+    → IsFaultTold fault Unwritten before after
+unflushed fault before mid after bytes text other line is whole kept =
+    cut_short fault before after bytes text other line is (
+      length bytes,
+      omega arith,
+      subst (λ (l : List ℕ). Appends before after l) (sym (take-length bytes))
+          (appends_kept before mid after bytes whole kept),
+    )
+
+pub flushed : (fault : DriveFault) (status : Status) (before mid after : Option (List ℕ)) (bytes text : List ℕ)
+    → is_out fault ≡ false → IsFaultText fault text → bytes ≡ text → status ≡ status_of (Drive fault)
+    → Appends before mid bytes → Keeps mid after → IsFaultTold fault status before after
+flushed fault status before mid after bytes text other line is so whole kept =
+    told_so fault status before after text other line
+    (inl (so, subst (λ (l : List ℕ). Appends before after l) is (appends_kept before mid after bytes whole kept)))
+
+-- its status is that of a fault that was told
+pub not_unwritten : {A : Type 0} (fault : DriveFault) (status : Status) → is_out fault ≡ false
+    → status ≡ status_of (Drive fault) → status ≡ Unwritten → A
+not_unwritten drives.Out status other is unwritten = cc
+not_unwritten drives.Journal status other is unwritten = cc
+not_unwritten drives.Link status other is unwritten = cc
+not_unwritten (drives.Line fault) status other is unwritten = cc
+not_unwritten drives.End status other is unwritten = cc
+not_unwritten drives.NoMemory status other is unwritten = cc
+not_unwritten drives.TooLong status other is unwritten = cc
+
+-- which calls have failed by then
+pub failed_now : (old new : Bool) → new ≡ (old || true) → new ≡ true
+failed_now true new is = is
+failed_now false new is = is
+
+pub never_failed : (old mid new : Bool) → old ≡ false → mid ≡ (old || false) → new ≡ (mid || false) → new ≡ false
+never_failed true mid new other first second = cc
+never_failed false true new other first second = cc
+never_failed false false new other first second = second
+
+-- what a reader gave are some bytes
+pub file_answered : (answers : List Contents → Streams → Status → Streams → Type 0) (unreported : Type 0)
+    (before after : InputState) (first : Streams) (status : Status) (last : Streams)
+    → IsReaderAnswer answers unreported first status last before after
+    → IsFileAnswer answers unreported first status last
+file_answered answers unreported before after first status last (inl (input, read, answer)) = inl (input, answer)
+file_answered answers unreported before after first status last (inr (fault, failure, undriven, none)) =
+    inr (fault, undriven, none)
+
+-- the line by another name
+pub line_told : (good status : Status) (before after : Option (List ℕ)) (one two : List ℕ) → one ≡ two
+    → TellsLine one good status before after → TellsLine two good status before after
+line_told good status before after one two same told =
+    subst (λ (line : List ℕ). TellsLine line good status before after) same told

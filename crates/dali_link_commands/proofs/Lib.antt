@@ -1,0 +1,6 @@
+pub mod DriveLemmas
+pub mod FollowLemmas
+pub mod BehindLemmas
+mod WorkedEndLemmas
+mod WorkedFollowLemmas
+mod WorkedBehindLemmas

@@ -1,0 +1,46 @@
+-- What is answered behind older journals, on both sides of each rule.
+use Rattle.std.proofs.Common.{◌≡◌, refl, ℕ, [], ◌∷◌, None, codes, inl, inr}
+use Rattle.std.specs.Prelude.{⊤}
+use Rattle.dali_journal.specs.declared.behind.JoinFault.TheVariants as joins
+use Rattle.dali_journal.specs.declared.fault.JournalFault.TheVariants as journals
+use Rattle.dali_input.specs.declared.fault.InputFault.TheVariants.{Memory, File, TooBig}
+use Rattle.dali_faults.specs.declared.fault.Fault.TheVariants.{Input, Journal, Older}
+use Rattle.dali_faults.specs.declared.fault.Status.TheVariants.{Refused}
+use Rattle.dali_link_commands.specs.declared.older.OlderFault.TheVariants.{Unloaded, AtWork, Join}
+use Rattle.dali_link_commands.specs.BehindAnswers.{IsBehindNamed, fault_unjoined}
+use Rattle.dali_faults.specs.Faults.{status_of, told_line}
+use Rattle.dali_link_commands.specs.Older.{fault_older}
+
+-- what is no journal, isn't at rest, or has a number of another one, is told as 15 Older
+pub told_as_older :
+    (fault_older AtWork ≡ Older) × (fault_older (Join (joins.Repeated 1)) ≡ Older)
+    × (fault_older (Unloaded (Journal journals.Header)) ≡ Older) × (fault_older (Unloaded (Input TooBig)) ≡ Older)
+    × (fault_unjoined (joins.Repeated 1) ≡ Older)
+told_as_older = (refl, refl, refl, refl, refl)
+
+-- a file that can't be read, and want of memory, as what they are
+pub told_as_file : fault_older (Unloaded (Input File)) ≡ Input File
+told_as_file = refl
+
+pub told_as_memory :
+    (fault_older (Unloaded (Input Memory)) ≡ Input Memory)
+    × (fault_older (Unloaded (Journal journals.NoMemory)) ≡ Input Memory)
+    × (fault_older (Join joins.NoMemory) ≡ Input Memory) × (fault_unjoined joins.NoMemory ≡ Input Memory)
+told_as_memory = (refl, refl, refl, refl)
+
+pub older_is_refused : (status_of Older ≡ Refused) × (told_line Older ≡ codes "fault 15 Older\n")
+older_is_refused = (refl, refl)
+
+-- without names it is answered as behind none; behind names never, and there it may be refused
+pub behind_none : IsBehindNamed {A = ℕ} [] (λ older. older ≡ None) ⊥
+behind_none = refl
+
+pub none_refused_without_names : IsBehindNamed {A = ℕ} [] (λ older. ⊥) ⊤ → ⊥
+none_refused_without_names answered = answered
+
+pub never_behind_none : IsBehindNamed {A = ℕ} (1 ∷ []) (λ older. older ≡ None) ⊥ → ⊥
+never_behind_none (inl (older, rests, is)) = cc
+never_behind_none (inr refused) = refused
+
+pub refused_behind_names : IsBehindNamed {A = ℕ} (1 ∷ []) (λ older. ⊥) ⊤
+refused_behind_names = inr tt

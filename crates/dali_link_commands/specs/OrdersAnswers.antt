@@ -1,0 +1,55 @@
+-- What a command answers and writes that has a list of orders and streams, whatever it does with the orders: 'answers'
+-- says that of the orders that were read, and 'unreported' that nothing was reported.
+use Rattle.std.specs.Prelude.{◌≡◌, ◌≢◌, ◌⊎◌, ℕ, List}
+use Rattle.std.specs.Io.KnownBytes.{Appends}
+use Rattle.dali_bank.specs.Order.{Contents}
+use Rattle.dali_input.specs.declared.fault.InputFault.{InputFault}
+use Rattle.dali_input.specs.declared.item.ItemFault.{ItemFault}
+use Rattle.dali_input.specs.Input.{InputState, IsReadFailure, ReadsInput}
+use Rattle.dali_input.specs.Orders.{AreOrdersIn, AreRefusedIn, IsInputFault, orders_limit}
+use Rattle.dali_drive.specs.Transcript.{Streams}
+use Rattle.dali_faults.specs.declared.fault.Fault.TheVariants.{Input}
+use Rattle.dali_faults.specs.declared.fault.Status.{Status}
+use Rattle.dali_faults.specs.declared.fault.Status.TheVariants.{Refused, Unwritten}
+use Rattle.dali_link_commands.specs.Told.{refused_lines, IsFileFaultTold}
+
+-- neither the journal nor the link was touched
+pub record IsUndriven (first last : Streams) : Type 0 where
+  pub journal : last.journal ≡ first.journal
+  pub link : last.link ≡ first.link
+  pub answers : last.answers ≡ first.answers
+
+-- items are refused, and all these are told
+pub record EndsRefused (input : List ℕ) (first : Streams) (status : Status) (last : Streams) : Type 0 where
+  pub refused : List (ℕ × ItemFault)
+  pub are_refused : AreRefusedIn input refused
+  pub undriven : IsUndriven first last
+  pub told : status ≢ Unwritten → (status ≡ Refused) × Appends first.out last.out (refused_lines refused)
+
+-- the fault is told of an input that isn't driven
+pub record EndsUndriven (fault : InputFault) (first : Streams) (status : Status) (last : Streams) : Type 0 where
+  pub undriven : IsUndriven first last
+  pub told : IsFileFaultTold (Input fault) status first.out last.out
+
+module _ (answers : List Contents → Streams → Status → Streams → Type 0) (unreported : Type 0) (first : Streams)
+    (status : Status) (last : Streams) where
+  -- how a command ended over what was read: over the orders that it spells, with refused items, or with no orders at
+  -- all
+  abbrev pub IsInputAnswer : List ℕ → Type 0
+  IsInputAnswer input =
+      ((orders : List Contents) × AreOrdersIn input orders × answers orders first status last)
+      ⊎ (EndsRefused input first status last × unreported)
+      ⊎ ((fault : InputFault) × IsInputFault orders_limit input fault × EndsUndriven fault first status last
+      × unreported)
+
+  -- the same by what the reader of the orders had before and has after it
+  abbrev pub IsReaderAnswer : InputState → InputState → Type 0
+  IsReaderAnswer before after =
+      ((input : List ℕ) × ReadsInput orders_limit before after input × IsInputAnswer input)
+      ⊎ ((fault : InputFault) × IsReadFailure before after fault × EndsUndriven fault first status last × unreported)
+
+  -- The same of a file of orders, of which nothing is known: of some bytes, or of an input that fails.
+  abbrev pub IsFileAnswer : Type 0
+  IsFileAnswer =
+      ((input : List ℕ) × IsInputAnswer input)
+      ⊎ ((fault : InputFault) × EndsUndriven fault first status last × unreported)

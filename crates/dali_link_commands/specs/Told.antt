@@ -1,0 +1,59 @@
+-- How refused items and faults are told behind a command's lines.
+use Rattle.std.specs.Prelude.{◌≡◌, ◌≢◌, ◌⊎◌, ◌++◌, ℕ, Bool, true, false, List, Option, codes}
+use Rattle.std.specs.List.{flat_map}
+use Rattle.std.specs.Io.KnownBytes.{Appends}
+use Rattle.dali_input.specs.declared.fault.InputFault.TheVariants.{Memory, File}
+use Rattle.dali_input.specs.declared.item.ItemFault.{ItemFault}
+use Rattle.dali_drive.specs.declared.fault.DriveFault.{DriveFault}
+use Rattle.dali_drive.specs.declared.fault.DriveFault.TheVariants.{Journal, Link, Out}
+use Rattle.dali_drive.specs.Streams.{PutsFirst}
+use Rattle.dali_faults.specs.declared.fault.Fault.{Fault}
+use Rattle.dali_faults.specs.declared.fault.Fault.TheVariants.{Input, Drive, Older}
+use Rattle.dali_faults.specs.declared.fault.Status.{Status}
+use Rattle.dali_faults.specs.declared.fault.Status.TheVariants.{Unwritten}
+use Rattle.dali_faults.specs.Faults.{item_line, told_line, status_of}
+
+-- the lines of the refused items
+abbrev pub refused_lines : List (ℕ × ItemFault) → List ℕ
+refused_lines refused = flat_map (λ item. item_line item.0 item.1) refused
+
+-- a line in words for a person
+abbrev pub error_line : List ℕ → List ℕ
+error_line words = codes "error: " ++ words ++ codes "\n"
+
+-- such a line and then that of the fault
+abbrev pub TellsWorded : Fault → Option (List ℕ) → Option (List ℕ) → Type 0
+TellsWorded fault before after =
+    (words : List ℕ) × Appends before after (error_line words ++ told_line fault)
+
+-- the fault's line, and where a file, an older journal or the memory failed a line in words before it
+abbrev pub TellsFileFault : Fault → Option (List ℕ) → Option (List ℕ) → Type 0
+TellsFileFault (Input Memory) before after = TellsWorded (Input Memory) before after
+TellsFileFault (Input File) before after = TellsWorded (Input File) before after
+TellsFileFault Older before after = TellsWorded Older before after
+TellsFileFault fault before after = Appends before after (told_line fault)
+
+-- the fault is that the replies can't be written
+abbrev pub is_out : DriveFault → Bool
+is_out Out = true
+is_out fault = false
+
+-- the text of a fault: its line, and where the journal or the link failed a line in words before it
+abbrev pub IsFaultText : DriveFault → List ℕ → Type 0
+IsFaultText Journal text = (words : List ℕ) × (text ≡ error_line words ++ told_line (Drive Journal))
+IsFaultText Link text = (words : List ℕ) × (text ≡ error_line words ++ told_line (Drive Link))
+IsFaultText fault text = text ≡ told_line (Drive fault)
+
+-- how a fault is told behind the replies: by its text, or by a first part of that where the output fails then; nothing
+-- is told where the replies can't be written
+abbrev pub IsFaultTold : DriveFault → Status → Option (List ℕ) → Option (List ℕ) → Type 0
+IsFaultTold Out status before after = (status ≡ Unwritten) × (after ≡ before)
+IsFaultTold fault status before after =
+    (text : List ℕ) × IsFaultText fault text
+    × (((status ≡ status_of (Drive fault)) × Appends before after text)
+    ⊎ ((status ≡ Unwritten) × PutsFirst before after text))
+
+-- how the fault of a file is told, where the output doesn't fail
+abbrev pub IsFileFaultTold : Fault → Status → Option (List ℕ) → Option (List ℕ) → Type 0
+IsFileFaultTold fault status before after =
+    status ≢ Unwritten → (status ≡ status_of fault) × TellsFileFault fault before after

@@ -1,0 +1,20 @@
+//! The commands over a link (profile): what each does with its streams and the files that it is given, up to its
+//! status.
+#![tactic(auto)]
+
+pub mod behind;
+pub mod drive;
+pub mod drive_files;
+mod drive_lines;
+pub mod follow;
+pub mod follow_files;
+pub mod lines;
+mod link_command;
+pub mod older;
+mod older_lines;
+pub mod read;
+mod report_file;
+pub mod survey;
+pub mod survey_files;
+
+pub use link_command::LinkCommand;

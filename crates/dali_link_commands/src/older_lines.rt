@@ -1,0 +1,99 @@
+// How a journal is told that can't stand behind others.
+ghost use Rattle.std.specs.Prelude.{◌≡◌, ◌≢◌, ◌↔◌, IfOk, true};
+ghost use Rattle.dali_text.specs.Output.{has_failed, held};
+ghost use Rattle.dali_link_commands.specs.BehindAnswers.{fault_unjoined};
+ghost use Rattle.dali_faults.specs.Ends.{TellsEnd};
+ghost use Rattle.dali_faults.specs.Faults.{status_of};
+ghost use Rattle.dali_link_commands.specs.Older.{fault_older};
+ghost use Rattle.dali_link_commands.specs.Told.{IsFileFaultTold, TellsFileFault};
+
+use crate::drive_lines::{write_worded, written_status};
+use crate::older::{OlderFault, Unjoined};
+use dali_faults::{Fault, Status};
+use dali_input::InputFault;
+use dali_journal::JoinFault;
+use dali_text::{Escaped, Output, OutputFailed};
+use std::alloc::Global;
+use std::io::Write;
+
+/// Writes why a file can't be used as an older journal: words for that, and then the fault.
+pub(crate) fn tell_older<W: Write>(
+    alloc: Global,
+    output: &mut Output<W>,
+    unjoined: &Unjoined<'_>,
+) -> Status
+    ensures told { IsFileFaultTold (fault_older unjoined.now.fault) result
+        (held W.contents output.old) (held W.contents output.new) }
+    ensures unwritten { result ≡ Status.Unwritten ↔ has_failed output.new ≡ true }
+    ensures not_good { result ≢ Status.Good }
+{
+    written_status(write_older(
+        alloc,
+        output,
+        unjoined.name,
+        unjoined.fault,
+        unjoined.words.as_deref(),
+    ))
+}
+
+/// Writes why the journal of this name is none together with the older ones.
+pub(crate) fn tell_unjoined<W: Write>(
+    alloc: Global,
+    output: &mut Output<W>,
+    name: &str,
+    fault: JoinFault,
+) -> Status
+    ensures told { IsFileFaultTold (fault_unjoined fault) result
+        (held W.contents output.old) (held W.contents output.new) }
+    ensures unwritten { result ≡ Status.Unwritten ↔ has_failed output.new ≡ true }
+    ensures not_good { result ≢ Status.Good }
+{
+    written_status(write_older(alloc, output, name, OlderFault::Join(fault), None))
+}
+
+// The same, or that the output has failed.
+fn write_older<W: Write>(
+    alloc: Global,
+    output: &mut Output<W>,
+    name: &str,
+    fault: OlderFault,
+    words: Option<&str>,
+) -> Result<Status, OutputFailed>
+    ensures told { IfOk result (λ status. (status ≡ status_of (fault_older fault))
+        × TellsFileFault (fault_older fault) (held W.contents output.old) (held W.contents output.new)) }
+    ensures end { TellsEnd result output.new }
+{
+    match words_for(alloc, name, fault, words) {
+        Some(words) => write_worded(output, words.as_str(), fault.fault()),
+        None => write_worded(output, "an older journal can't be used", fault.fault()),
+    }
+}
+
+// Words for a person, where there is memory for them.
+fn words_for(alloc: Global, name: &str, fault: OlderFault, words: Option<&str>) -> Option<String> {
+    let name = Escaped::whole(name);
+    if let Some(words) = words {
+        let words = Escaped::whole(words);
+        return format!(in alloc; "the older journal can't be used: {name}: {words}").ok();
+    }
+    match fault {
+        OlderFault::AtWork => {
+            format!(in alloc;
+                "the older journal isn't at rest: {name}: an order isn't ended, or a unit is left"
+            ).ok()
+        }
+        OlderFault::Join(JoinFault::Repeated(id)) => {
+            format!(in alloc; "order {id} stands in two journals: {name}, and an older one").ok()
+        }
+        OlderFault::Unloaded(Fault::Journal(fault)) => {
+            let number = fault.number();
+            format!(in alloc;
+                "the older journal is none: {name}: journal fault {number} {fault}"
+            ).ok()
+        }
+        OlderFault::Unloaded(Fault::Input(InputFault::TooBig)) => {
+            format!(in alloc; "the older journal is too big: {name}").ok()
+        }
+        _ => format!(in alloc; "the older journal can't be used: {name}").ok(),
+    }
+}

@@ -1,0 +1,17 @@
+use dali_text::Escaped;
+use std::fmt;
+
+/// A key as it is told: its first 40 characters, between quotes where it is empty or has a space, so that it is seen.
+#[derive(Clone, Copy)]
+pub(crate) struct ToldKey<'a>(pub &'a str);
+
+impl fmt::Display for ToldKey<'_> {
+    fn fmt<W: fmt::Write>(&self, f: &mut fmt::Formatter<W>) -> fmt::Result {
+        let key = Escaped::cut(self.0);
+        if self.0.is_empty() || self.0.as_bytes().contains(&b' ') {
+            write!(f, "\"{key}\"")
+        } else {
+            write!(f, "{key}")
+        }
+    }
+}

@@ -7,8 +7,8 @@
    nothing but the fault is printed.
 2. With --calls: `load`, `kept` and a whole order of a writer (submit, two
    records, sixteen frames without an answer, the saying) over journals of 10,
-   1000 and 99000 orders, by a program (journal_speed.txt) that is proved and
-   built over the repository's crates in a copy of it.
+   1000 and 99000 orders, by a program of the repository's
+   (crates/dali_speed_tests), which is proved and built first.
 3. With --calls: loading numbers that were chosen to fall together in the
    index (colliding.c).
 
@@ -18,7 +18,6 @@ Status 2: a program couldn't be built or run.
 
 import itertools
 import pathlib
-import shutil
 import struct
 import subprocess
 import sys
@@ -88,22 +87,11 @@ def compare(program, runs, folder):
     return agree
 
 
-def build_calls(folder):
-    """Build the program that measures calls, in a copy of the repository."""
-    copy = folder / "repository"
-    shutil.copytree(REPOSITORY, copy, ignore=shutil.ignore_patterns(".git"))
-    crate = copy / "crates" / "journal_speed"
-    (crate / "src").mkdir(parents=True)
-    source = REPOSITORY / "benchmarks" / "journal_speed.txt"
-    shutil.copyfile(source, crate / "src" / "main.rt")
-    with open(copy / "crates.txt", "a", encoding="utf-8") as file:
-        file.write("journal_speed: dali_writer dali_journal dali_bank anyhow\n")
-    empty = folder / "empty.bin"
-    empty.write_bytes(b"")
-    subprocess.run(
-        ["rt", "run", "--", str(empty)], cwd=crate, check=True, capture_output=True
-    )
-    return crate / "out" / "journal_speed"
+def build_calls():
+    """Build the program that measures calls."""
+    crate = REPOSITORY / "crates" / "dali_speed_tests"
+    subprocess.run(["rt", "run"], cwd=crate, check=True, capture_output=True)
+    return crate / "out" / "dali_speed_tests"
 
 
 def print_calls(program, path, what):
@@ -121,7 +109,7 @@ def print_calls(program, path, what):
 
 def measure_calls(folder):
     """Measure calls by the number of orders, and with chosen numbers."""
-    program = build_calls(folder)
+    program = build_calls()
     path = folder / "calls.bin"
     for count in (10, 1000, 99000):
         write_journal(path, range(count), GTIN)

@@ -1,8 +1,8 @@
-use crate::expected::expect_that;
 use dali_commands::drive::{DriveNames, DriveTerms};
 use dali_commands::drive_files::drive_files;
 use dali_commands::lines::Lines;
 use dali_commands::{Output, Report, Status, StdSink, StdSource};
+use dali_shared_tests::expect_that;
 use std::fs::{File, Files};
 use std::test::Fail;
 use std::{fs, io};

@@ -1,9 +1,9 @@
 // `drive` with everything in memory: the orders, the link, the journal and the lines.
 use crate::drive_files::{BEGAN, ORDER, PAIR, REFUSED, SILENT, TAKEN};
-use crate::expected::expect_that;
 use dali_commands::drive::{DriveNames, DriveTerms, drive_input};
 use dali_commands::lines::Lines;
 use dali_commands::{Input, MemoryStore, Output, Report, Status, StdSink, StdSource};
+use dali_shared_tests::expect_that;
 use std::alloc::{AllocError, Global};
 use std::test::Fail;
 

@@ -1,12 +1,12 @@
 // `drive --follow` with everything in memory: the lines of the orders, the link, the journal and what is told.
 use crate::drive_files::{BEGAN, SILENT, TAKEN};
 use crate::drive_memory::{NONE_16, SILENT_AT_7};
-use crate::expected::expect_that;
 use crate::streams::{Behind, TestReader};
 use dali_commands::drive::DriveNames;
 use dali_commands::follow::follow_lines;
 use dali_commands::lines::Lines;
 use dali_commands::{MemoryStore, OrderLines, Output, Report, Status, StdSink, StdSource};
+use dali_shared_tests::expect_that;
 use std::alloc::{AllocError, Global};
 use std::io;
 use std::test::Fail;

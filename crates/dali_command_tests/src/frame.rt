@@ -1,7 +1,7 @@
-use crate::expected::{expect_at, expect_that};
 use crate::streams::TestWriter;
 use dali_commands::frame::frame;
 use dali_commands::{Output, Status};
+use dali_shared_tests::{expect_at, expect_that};
 use std::alloc::Global;
 use std::io;
 use std::test::Fail;

@@ -1,6 +1,6 @@
-use crate::expected::expect_that;
 use clap::error::ErrorKind;
 use dali_commands::{Job, job_of};
+use dali_shared_tests::expect_that;
 use std::alloc::{AllocError, Global};
 use std::test::Fail;
 

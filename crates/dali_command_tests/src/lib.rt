@@ -11,7 +11,6 @@ mod drive_files;
 #[cfg(test)]
 mod drive_memory;
 #[cfg(test)]
-mod expected;
 #[cfg(test)]
 mod follow_memory;
 #[cfg(test)]

@@ -1,13 +1,13 @@
 ghost use Rattle.std.specs.Prelude.{IfOk, reverse};
 ghost use Rattle.dali_trace.specs.Runs.{SendsAllProper, SendsProper};
 
-use crate::expected::{expect_at, expect_that};
 use crate::streams::TestWriter;
 use dali_bank::Order;
 use dali_commands::Output;
 use dali_frame::{Frame, frame_of};
 use dali_gear::{SimBus, Unit};
 use dali_journal::{Code, Record};
+use dali_shared_tests::{expect_at, expect_that};
 use dali_text::write_run;
 use dali_writer::{Event, Happening, Reply, run};
 use std::alloc::{AllocError, Global};

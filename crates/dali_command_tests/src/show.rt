@@ -1,11 +1,11 @@
 ghost use Rattle.std.specs.Prelude.{◌≤◌, length};
 
-use crate::expected::expect_that;
 use crate::streams::{Behind, TestReader, TestWriter};
 use crate::tried::{answers, fails_to_read, fails_to_write, refuses_past};
 use dali_commands::show::show;
 use dali_commands::{FileCommand, Input, Output, Status};
 use dali_input::{bank_of, text_of};
+use dali_shared_tests::expect_that;
 use std::alloc::Global;
 use std::io;
 use std::test::Fail;

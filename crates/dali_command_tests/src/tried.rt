@@ -1,8 +1,8 @@
 //! What is tried on each command over a file.
 
-use crate::expected::{expect_at, expect_that};
 use crate::streams::{Behind, TestReader, TestWriter};
 use dali_commands::{FileCommand, Input, Output, Status};
+use dali_shared_tests::{expect_at, expect_that};
 use std::alloc::Global;
 use std::io;
 use std::io::Read;

@@ -1,8 +1,8 @@
 mod pairs;
 mod shown;
 
-use crate::expected::expect_that;
 use dali_bank::{BLANK, BankFault, Draft, Field, Order, Value, laws};
+use dali_shared_tests::expect_that;
 use std::alloc::Global;
 use std::test::Fail;
 

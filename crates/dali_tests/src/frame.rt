@@ -1,5 +1,5 @@
-use crate::expected::expect_that;
 use dali_frame::{Frame, LineFault, answer_of, frame_of, line_of, word_of};
+use dali_shared_tests::expect_that;
 use std::test::Fail;
 
 #[test]

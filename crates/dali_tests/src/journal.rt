@@ -9,10 +9,10 @@ mod reading;
 mod records;
 mod upgrading;
 
-use crate::expected::expect_that;
 use crate::gtin::GTIN;
 use dali_bank::Order;
 use dali_journal::{Code, Journal, JournalFault, Kept, NoMemory, Record, Standing, Version, laws};
+use dali_shared_tests::expect_that;
 use std::alloc::Global;
 use std::process::Abort;
 use std::test::Fail;

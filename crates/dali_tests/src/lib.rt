@@ -6,7 +6,6 @@
 #[cfg(test)]
 mod bank;
 #[cfg(test)]
-mod expected;
 #[cfg(test)]
 mod frame;
 #[cfg(test)]

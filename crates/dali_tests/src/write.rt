@@ -1,10 +1,10 @@
 ghost use Rattle.std.specs.Prelude.{◌≤◌};
 
-use crate::expected::expect_that;
 use crate::gtin::GTIN;
 use dali_bank::{BLANK, Order};
 use dali_frame::word_of;
 use dali_gear::{Bus, Fate, SimBus, Unit};
+use dali_shared_tests::expect_that;
 use dali_write::{Ask, Session, Verdict, laws};
 use std::alloc::Global;
 use std::test::Fail;

@@ -4,7 +4,6 @@
 #[cfg(test)]
 mod drive;
 #[cfg(test)]
-mod expected;
 #[cfg(test)]
 mod gtin;
 #[cfg(test)]

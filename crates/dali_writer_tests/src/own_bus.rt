@@ -2,9 +2,9 @@ ghost use Rattle.dali_frame.specs.declared.forward.Frame.{Frame};
 ghost use Rattle.dali_bus.specs.Carry.{Carry};
 ghost use Rattle.dali_write.specs.LoneUnit.{lone_unit};
 
-use crate::expected::expect_that;
 use dali_frame::Frame;
 use dali_gear::{Bus, laws};
+use dali_shared_tests::expect_that;
 use std::test::Fail;
 
 // A bus that owes nothing to the simulated one. Its unit, at 9, has a bank 0 and a bank 1, each with location 00h

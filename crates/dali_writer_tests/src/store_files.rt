@@ -1,6 +1,6 @@
 // A store in a file beside one in memory, of which all is proved: the same calls on both.
 
-use crate::expected::expect_that;
+use dali_shared_tests::expect_that;
 use dali_store::{FileStore, MemoryStore, Store, StoreFault};
 use std::alloc::Global;
 use std::fs;

@@ -1,6 +1,6 @@
 use crate::bank::has_updates;
-use crate::expected::expect_that;
 use dali_bank::Order;
+use dali_shared_tests::expect_that;
 use std::test::Fail;
 
 // Numbers, units and pairs, and whether they make an order.

@@ -1,5 +1,5 @@
-use crate::expected::expect_that;
 use dali_bank::{BLANK, Field, Shown, read_field};
+use dali_shared_tests::expect_that;
 use std::test::Fail;
 
 fn shows(bank: &[u8], field: Field, shown: Shown) -> bool {

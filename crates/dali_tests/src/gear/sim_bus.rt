@@ -1,6 +1,6 @@
-use crate::expected::expect_that;
 use dali_frame::Frame;
 use dali_gear::{Bus, Fate, GearFault, SimBus, Unit, laws};
+use dali_shared_tests::expect_that;
 use std::alloc::Global;
 use std::test::Fail;
 

@@ -1,7 +1,7 @@
-use crate::expected::expect_that;
 use dali_bank::BLANK;
 use dali_frame::Frame;
 use dali_gear::{GearFault, Unit};
+use dali_shared_tests::expect_that;
 use std::alloc::Global;
 use std::test::Fail;
 

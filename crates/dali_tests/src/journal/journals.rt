@@ -1,9 +1,9 @@
 ghost use Rattle.std.specs.Prelude.{◌≡◌, ◌≤◌, [], IfOk};
 
 use super::{BEGAN, HEADER, MOMENT, add, is_absent, is_kept, letter_of, order_of};
-use crate::expected::expect_that;
 use dali_bank::Order;
 use dali_journal::{Code, Journal, JournalFault, Record};
+use dali_shared_tests::expect_that;
 use std::alloc::Global;
 use std::process::Abort;
 use std::test::Fail;

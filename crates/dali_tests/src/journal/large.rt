@@ -1,7 +1,7 @@
 // A journal of many orders: over a megabyte in each version.
 use super::HEADER;
-use crate::expected::expect_that;
 use dali_journal::{Journal, Version};
+use dali_shared_tests::expect_that;
 use std::alloc::Global;
 use std::test::Fail;
 

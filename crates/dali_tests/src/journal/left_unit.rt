@@ -1,7 +1,7 @@
 // An order that left its unit open, which was closed, and one that is done: their journal in both versions, each of its
 // fronts, and each of its bytes replaced.
-use crate::expected::expect_that;
 use dali_journal::{Code, Journal, JournalFault, Kept, Standing, Version};
+use dali_shared_tests::expect_that;
 use std::alloc::Global;
 use std::test::Fail;
 

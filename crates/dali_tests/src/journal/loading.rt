@@ -1,6 +1,6 @@
 use super::{BEGAN, HEADER, NEXT, OLD_BEGAN, OLD_NEXT};
-use crate::expected::expect_that;
 use dali_journal::{Journal, JournalFault, Version};
+use dali_shared_tests::expect_that;
 use std::alloc::Global;
 use std::test::Fail;
 

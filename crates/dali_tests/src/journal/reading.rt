@@ -1,7 +1,7 @@
 use super::{BEGAN, MOMENT, OLD_BEGAN, front_of};
-use crate::expected::expect_that;
 use crate::gtin::GTIN;
 use dali_journal::{Code, Piece, Record, Version};
+use dali_shared_tests::expect_that;
 use std::alloc::Global;
 use std::test::Fail;
 

@@ -1,8 +1,8 @@
 use super::{BEGAN, MOMENT};
-use crate::expected::expect_that;
 use crate::gtin::GTIN;
 use dali_bank::Order;
 use dali_journal::{Code, JournalFault, NoMemory, Record, Version};
+use dali_shared_tests::expect_that;
 use std::alloc::Global;
 use std::test::Fail;
 

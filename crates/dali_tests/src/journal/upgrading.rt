@@ -1,7 +1,7 @@
 // Journals of version 1, and what is written of them.
 use super::{OLD_BEGAN, add, letter_of, order_of};
-use crate::expected::expect_that;
 use dali_journal::{Code, Journal, Record, Version};
+use dali_shared_tests::expect_that;
 use std::alloc::Global;
 use std::test::Fail;
 

@@ -2,11 +2,11 @@
 use crate::drive::streams::{
     ALL, Fickle, Good, Left, MANY, Shelf, Wanted, drive_from, drive_on, file_of,
 };
-use crate::expected::expect_that;
 use crate::gtin::GTIN;
 use dali_bank::Order;
 use dali_frame::LineFault;
 use dali_journal::{Journal, Standing};
+use dali_shared_tests::expect_that;
 use dali_writer::{DriveFault, Got, Sink, Source, StdSink, StdSource, Writer, drive};
 use std::alloc::Global;
 use std::io::ErrorKind;

@@ -6,8 +6,8 @@ use crate::drive::stops::{
 };
 use crate::drive::streams::MANY;
 use crate::drive::sweeps::Seen;
-use crate::expected::expect_that;
 use dali_frame::Frame;
+use dali_shared_tests::expect_that;
 use dali_store::{MemoryStore, OpenFault, Store, StoreFault};
 use dali_writer::{DriveFault, StoredFault};
 use std::alloc::Global;

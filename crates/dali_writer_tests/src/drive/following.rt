@@ -3,8 +3,8 @@ ghost use Rattle.std.specs.Prelude.{⊤};
 
 use crate::drive::driving::{SILENT_LATER, gtin_order, silence, silent_link};
 use crate::drive::streams::{ALL, Good, Left, Wanted, file_of, follow_from};
-use crate::expected::expect_that;
 use dali_bank::Order;
+use dali_shared_tests::expect_that;
 use dali_writer::{DriveFault, Given, Line, Orders};
 use std::alloc::Global;
 use std::test::Fail;

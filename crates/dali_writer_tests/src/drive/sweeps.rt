@@ -1,13 +1,13 @@
 // Drives of one order, with each stream failing at each point, and the drives that go on from what is left.
 use crate::drive::driving::{SILENT_RECORDS, gtin_order};
 use crate::drive::streams::{ALL, Good, Left, Wanted, drive_on, file_of};
-use crate::expected::expect_that;
 use crate::gtin::GTIN_RECORDS;
 use crate::writer::case::{ENOUGH, put};
 use dali_bank::Order;
 use dali_frame::{Frame, byte_digits, line_of};
 use dali_gear::{Bus, GearFault, SimBus, Unit};
 use dali_journal::Journal;
+use dali_shared_tests::expect_that;
 use dali_writer::{DriveFault, Want, Writer};
 use std::alloc::Global;
 use std::test::Fail;

@@ -1,9 +1,9 @@
-use crate::expected::expect_that;
 use crate::gtin::GTIN;
 use crate::own_bus::TestBus;
 use crate::writer::case::{Deed, ENOUGH, events_of, frames_of, sent};
 use dali_frame::Frame;
 use dali_journal::Code;
+use dali_shared_tests::expect_that;
 use dali_writer::{Happening, Reply, run};
 use std::test::Fail;
 

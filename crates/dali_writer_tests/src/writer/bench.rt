@@ -1,4 +1,3 @@
-use crate::expected::expect_that;
 use crate::gtin::GTIN;
 use crate::writer::case::{
     Case, DONE, Deed, ENOUGH, PLAIN, Run, STORED, TAKEN, bus_of, judge, judge_all, judge_runs,
@@ -7,6 +6,7 @@ use crate::writer::case::{
 use dali_bank::BLANK;
 use dali_gear::SimBus;
 use dali_journal::Code;
+use dali_shared_tests::expect_that;
 use dali_writer::{Reply, RunFault};
 use std::alloc::Global;
 use std::test::Fail;

@@ -1,9 +1,9 @@
-use crate::expected::expect_that;
 use crate::gtin::{GTIN, HEADER};
 use dali_bank::{BLANK, Order};
 use dali_frame::Frame;
 use dali_gear::{Fate, GearFault, SimBus, Unit};
 use dali_journal::Code;
+use dali_shared_tests::expect_that;
 use dali_writer::{Event, Happening, Outcome, Reply, RunFault, run_sim};
 use std::alloc::{AllocError, Global};
 use std::test::Fail;

@@ -1,4 +1,3 @@
-use crate::expected::expect_that;
 use crate::gtin::{GTIN_RECORDS, HEADER};
 use crate::writer::case::{
     Case, DONE, PLAIN, STORED, TAKEN, bus_of, holds, judge, run_case, sent, unit_at,
@@ -6,6 +5,7 @@ use crate::writer::case::{
 use dali_frame::Frame;
 use dali_gear::Unit;
 use dali_journal::Record;
+use dali_shared_tests::expect_that;
 use dali_writer::Happening;
 use std::alloc::Global;
 use std::test::Fail;

@@ -2,13 +2,13 @@ ghost use Rattle.std.specs.Prelude.{◌≡◌};
 ghost use Rattle.dali_gear.specs.SimState.{unit_powered};
 ghost use Rattle.dali_writer_tests.specs.HostileBus.{DoesHear, MayBeDeaf};
 
-use crate::expected::expect_that;
 use crate::gtin::GTIN;
 use crate::writer::case::{Deed, ENOUGH, STORED, events_of};
 use dali_bank::BLANK;
 use dali_frame::Frame;
 use dali_gear::{Bus, GearFault, Unit};
 use dali_journal::Code;
+use dali_shared_tests::expect_that;
 use dali_writer::{Event, Happening, Reply, run};
 use std::alloc::Global;
 use std::test::Fail;

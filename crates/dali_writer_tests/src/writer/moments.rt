@@ -1,8 +1,8 @@
-use crate::expected::expect_that;
 use crate::writer::case::{Case, STORED, bus_of};
 use dali_bank::BLANK;
 use dali_gear::{Bus, SimBus, Unit};
 use dali_journal::{Code, Record};
+use dali_shared_tests::expect_that;
 use dali_writer::Happening;
 use std::alloc::Global;
 use std::test::Fail;

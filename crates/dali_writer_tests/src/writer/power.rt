@@ -1,4 +1,3 @@
-use crate::expected::expect_that;
 use crate::gtin::GTIN;
 use crate::writer::case::{
     Case, DONE, Deed, ENOUGH, PLAIN, Run, TAKEN, bus_of, holds, judge_all, judge_runs, run_case,
@@ -7,6 +6,7 @@ use crate::writer::case::{
 use crate::writer::moments::judge_moments;
 use dali_gear::{SimBus, Unit};
 use dali_journal::Code;
+use dali_shared_tests::expect_that;
 use dali_writer::{Happening, Reply};
 use std::alloc::Global;
 use std::test::Fail;

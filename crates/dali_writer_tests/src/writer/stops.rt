@@ -1,4 +1,3 @@
-use crate::expected::expect_that;
 use crate::gtin::{GTIN, HEADER};
 use crate::writer::case::{
     Case, DONE, Deed, ENOUGH, PLAIN, Run, TAKEN, bus_of, events_of, frames_of, judge_all,
@@ -6,6 +5,7 @@ use crate::writer::case::{
 };
 use crate::writer::moments::judge_moments;
 use dali_gear::{SimBus, Unit};
+use dali_shared_tests::expect_that;
 use dali_writer::{Event, Outcome, RunFault, run_sim};
 use std::alloc::{AllocError, Global};
 use std::test::Fail;

@@ -1,10 +1,11 @@
-//! How long the calls of a journal and of a writer over it take: it loads the file named first, looks orders up, submits
-//! known ones again, and carries out new ones for a unit that isn't there.
+//! How long the calls of a journal and of a writer over it take: it loads the file named first, looks orders up,
+//! submits known ones again, and carries out new ones for a unit that isn't there, and prints the times. Without a file
+//! it does nothing.
 #![tactic(auto)]
 
 use anyhow::Result;
 use dali_bank::Order;
-use dali_journal::{Journal, Kept};
+use dali_journal::{Journal, Kept, MOST_ORDERS};
 use dali_writer::{Want, Writer};
 use std::time::Instant;
 use std::{env, fs};
@@ -45,7 +46,7 @@ fn main(rt: HostRuntime) -> Result<()> {
     };
     let bytes = fs::read(&rt, name.as_str())?;
     let start = Instant::now(&rt)?;
-    let Ok((journal, _, _)) = Journal::load(alloc, 100_000, &bytes) else {
+    let Ok((journal, _, _)) = Journal::load(alloc, MOST_ORDERS, &bytes) else {
         return Ok(());
     };
     let loaded = start.elapsed(&rt)?.as_micros();

@@ -1,0 +1,31 @@
+//! What the crates of tests share.
+#![tactic(auto)]
+
+ghost use Rattle.std.specs.Prelude.{◌≡◌, IfOk, IfErr, true, false};
+
+use std::test::Fail;
+
+/// Fails a test where something isn't so, and tells what was wanted. It is proved once, and an `assert_eq` at each
+/// place.
+pub fn expect_that(is_so: bool, wanted: &str) -> Result<(), Fail>
+    ensures ok { IfOk result (λ done. is_so ≡ true) }
+    ensures err { IfErr result (λ fail. is_so ≡ false) }
+{
+    if is_so {
+        Ok(())
+    } else {
+        Err(Fail::from(wanted))
+    }
+}
+
+/// The same at a place, which it tells too.
+pub fn expect_at(place: usize, is_so: bool, wanted: &str) -> Result<(), Fail>
+    ensures ok { IfOk result (λ done. is_so ≡ true) }
+    ensures err { IfErr result (λ fail. is_so ≡ false) }
+{
+    if is_so {
+        Ok(())
+    } else {
+        Err(Fail::from((place, wanted)))
+    }
+}

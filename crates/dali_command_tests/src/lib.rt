@@ -11,7 +11,6 @@ mod drive_files;
 #[cfg(test)]
 mod drive_memory;
 #[cfg(test)]
-#[cfg(test)]
 mod follow_memory;
 #[cfg(test)]
 mod frame;
@@ -20,6 +19,7 @@ mod job;
 #[cfg(test)]
 mod journal;
 #[cfg(test)]
+mod older_memory;
 #[cfg(test)]
 mod run_scenario;
 #[cfg(test)]

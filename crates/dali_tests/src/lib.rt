@@ -6,7 +6,6 @@
 #[cfg(test)]
 mod bank;
 #[cfg(test)]
-#[cfg(test)]
 mod frame;
 #[cfg(test)]
 mod gear;

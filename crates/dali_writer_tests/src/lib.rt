@@ -4,7 +4,6 @@
 #[cfg(test)]
 mod drive;
 #[cfg(test)]
-#[cfg(test)]
 mod gtin;
 #[cfg(test)]
 mod own_bus;

@@ -1,0 +1,169 @@
+// Older journals, with everything in memory: which of them are one journal together, and what a drive behind them does.
+ghost use Rattle.std.specs.Prelude.{◌≡◌, IfOk, IfSome};
+ghost use Rattle.dali_journal.specs.declared.standing.Standing.TheVariants.{Idle};
+ghost use Rattle.dali_journal.specs.Sentence.{standing_of};
+
+use crate::drive_files::{BEGAN, HEADER, OLD_SILENT, ORDER, SILENT};
+use crate::drive_memory::{OTHER, SILENT_AT_7};
+use dali_commands::drive::{DriveNames, DriveTerms, drive_input};
+use dali_commands::lines::Lines;
+use dali_commands::older::{OlderFault, joined_behind};
+use dali_commands::{Fault, Input, MemoryStore, Output, Report, Status, StdSink, StdSource};
+use dali_journal::{JoinFault, Journal, JournalFault};
+use dali_shared_tests::expect_that;
+use std::alloc::{AllocError, Global};
+use std::test::Fail;
+
+// The only older journal, of these bytes.
+fn older_of(alloc: Global, bytes: &[u8]) -> Result<Option<Journal>, AllocError>
+    ensures { IfOk result (λ older. IfSome older (λ journal. standing_of journal.records ≡ Idle)) }
+{
+    match joined_behind(alloc, None, bytes.to_vec(alloc)?) {
+        Ok(journal) => Ok(Some(journal)),
+        Err(_) => Ok(None),
+    }
+}
+
+// Bytes behind an older journal, where there is one, and why they can't stand there.
+struct Joined<'a> {
+    older: &'a [u8],
+    bytes: &'a [u8],
+    fault: Option<OlderFault>,
+}
+
+static JOINED: [Joined<'static>; 8] = [
+    Joined {
+        older: &HEADER,
+        bytes: &SILENT,
+        fault: None,
+    },
+    Joined {
+        older: &HEADER,
+        bytes: &OLD_SILENT,
+        fault: None,
+    },
+    Joined {
+        older: &SILENT,
+        bytes: &[],
+        fault: None,
+    },
+    Joined {
+        older: &HEADER,
+        bytes: &BEGAN,
+        fault: Some(OlderFault::AtWork),
+    },
+    Joined {
+        older: &SILENT,
+        bytes: &SILENT_AT_7,
+        fault: Some(OlderFault::Join(JoinFault::Repeated(1))),
+    },
+    Joined {
+        older: &OLD_SILENT,
+        bytes: &SILENT,
+        fault: Some(OlderFault::Join(JoinFault::Repeated(1))),
+    },
+    Joined {
+        older: &HEADER,
+        bytes: b"x",
+        fault: Some(OlderFault::Unloaded(Fault::Journal(JournalFault::Record(0)))),
+    },
+    Joined {
+        older: &HEADER,
+        bytes: b"DB1",
+        fault: Some(OlderFault::Unloaded(Fault::Journal(JournalFault::Header))),
+    },
+];
+
+#[test]
+fn older_journals_are_joined(rt: HostRuntime) -> Result<(), Fail> {
+    let alloc = rt.alloc();
+    for joined in &JOINED {
+        let older = older_of(alloc, joined.older)?;
+        expect_that(older.is_some(), "an older journal at rest")?;
+        let fault = match joined_behind(alloc, older, joined.bytes.to_vec(alloc)?) {
+            Ok(_) => None,
+            Err(fault) => Some(fault),
+        };
+        expect_that(fault == joined.fault, "why these are no journal together")?;
+    }
+    Ok(())
+}
+
+// A drive of orders behind the older journal of order 1, and what becomes of it.
+struct Behind<'a> {
+    orders: &'a str,
+    journal: &'a [u8],
+    status: Status,
+    told: &'a str,
+    kept: &'a [u8],
+}
+
+static BEHIND: [Behind<'static>; 3] = [
+    Behind {
+        orders: ORDER,
+        journal: &[],
+        status: Status::Good,
+        told: "reply 1 kept 3 Silent\n",
+        kept: &HEADER,
+    },
+    Behind {
+        orders: OTHER,
+        journal: &HEADER,
+        status: Status::Good,
+        told: "reply 1 reused\n",
+        kept: &HEADER,
+    },
+    Behind {
+        orders: ORDER,
+        journal: &SILENT_AT_7,
+        status: Status::Refused,
+        told: "error: order 1 stands in two journals: journal, and an older one\nfault 15 Older\n",
+        kept: &SILENT_AT_7,
+    },
+];
+
+// Whether such a drive sends nothing, and ends, tells and keeps what it has to.
+fn is_behind(alloc: Global, drive: &Behind<'_>) -> Result<bool, AllocError> {
+    let mut sent = Vec::new(alloc);
+    let mut told = Vec::new(alloc);
+    let mut reported = Vec::new(alloc);
+    let mut store = MemoryStore::new(alloc, drive.journal.to_vec(alloc)?);
+    let status = drive_input(
+        alloc,
+        older_of(alloc, &SILENT)?,
+        DriveNames {
+            orders: "orders",
+            journal: "journal",
+            older: &[],
+        },
+        &mut Input::new(drive.orders.as_bytes()),
+        DriveTerms {
+            moment: 7,
+            require_done: false,
+        },
+        &mut StdSource::new(b"".as_slice()),
+        &mut StdSink::new(&mut sent),
+        &mut store,
+        &mut Lines {
+            output: Output::new(&mut told),
+        },
+        &mut Report::new(alloc, Some(Output::new(&mut reported))),
+    );
+    Ok(
+        status == drive.status
+            && sent.is_empty()
+            && told.as_slice() == drive.told.as_bytes()
+            && store.bytes() == drive.kept,
+    )
+}
+
+#[test]
+fn orders_behind_an_older_journal_in_memory(rt: HostRuntime) -> Result<(), Fail> {
+    for drive in &BEHIND {
+        expect_that(
+            is_behind(rt.alloc(), drive)?,
+            "an order that an older journal has",
+        )?;
+    }
+    Ok(())
+}

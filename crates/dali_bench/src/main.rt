@@ -1,15 +1,19 @@
 //! A bench for luminaire data in memory bank 1 of DALI control gear.
 #![tactic(auto)]
 
-ghost use Rattle.dali_commands.specs.LinkCommands.{IsShort};
+ghost use Rattle.dali_link_commands.specs.LinkCommands.{IsShort};
 
-use dali_commands::drive::{DriveNames, DriveTerms};
-use dali_commands::frame::frame;
-use dali_commands::lines::Lines;
-use dali_commands::{
-    Escaped, Fault, FileCommand, FirstLines, Input, InputFault, Job, LinkCommand, Output, Status,
-    StdSink, StdSource, job_of, write_fault,
-};
+use dali_drive::{StdSink, StdSource};
+use dali_faults::{Fault, Status, write_fault};
+use dali_file_commands::FileCommand;
+use dali_file_commands::frame::frame;
+use dali_input::{Input, InputFault};
+use dali_job::{Job, job_of};
+use dali_link_commands::LinkCommand;
+use dali_link_commands::drive::{DriveNames, DriveTerms};
+use dali_link_commands::lines::Lines;
+use dali_notes::FirstLines;
+use dali_text::{Escaped, Output};
 use std::alloc::{AllocError, Global};
 use std::io::{BufWriter, ErrorKind, LineWriter, Read, Write};
 use std::process::ExitCode;

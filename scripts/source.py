@@ -120,6 +120,7 @@ class File:
         self.module = "::".join(parts)
         self.text = text_of(path)
         self.code = code_of(self.text)
+        self.renamed = {new: old for old, new in re.findall(r"(\w+) as (\w+)", "".join(BROUGHT_IN.findall(self.code)))}
         self.parts, self.uses = [], None
         self.read(0, len(self.code), "", None)
         self.lines = []
@@ -273,6 +274,7 @@ class Calls:
 def near(file, path, having):
     """Of items with one name give those that a word of a file may mean, which stands behind a path or none."""
     if path:
+        path = file.renamed.get(path, path)
         by_path = [it for it in having if path in (it.file.path.stem, it.file.crate)]
         return by_path or (having if path in ("super", "crate", "self") or path.startswith("dali_") else [])
     own = [it for it in having if it.file is file]

@@ -182,7 +182,7 @@ fn on_file(rt: &HostRuntime, name: &str, command: FileCommand) -> Status {
     }
 }
 
-// Carries out a command over an input. Standard error has where that is wrong, and why it can't be read.
+// Carries out a command over an input. Standard error has where that is wrong.
 fn on_input<R: Read, W: Write>(
     rt: &HostRuntime,
     name: &str,
@@ -196,20 +196,31 @@ fn on_input<R: Read, W: Write>(
     let mut notes = Output::new(FirstLines::new(writer));
     let status = command.carry_out(rt.alloc(), input, output, &mut notes);
     let _ = notes.flush();
+    tell_input(rt, name, status, is_one_whole(command), input.cause());
+    tell_cause(rt, status, output.cause())
+}
+
+// Tells which input was refused as a whole, and why one can't be read.
+fn tell_input(
+    rt: &HostRuntime,
+    name: &str,
+    status: Status,
+    is_whole: bool,
+    cause: Option<ErrorKind>,
+) {
     let name = Escaped::whole(name);
-    let _ = match input.cause() {
+    let _ = match cause {
         Some(ErrorKind::Uncategorized) if is_closed(rt) => {
             eprintln!(rt; "error: the input can't be read: {name}: it is closed")
         }
         Some(ErrorKind::Uncategorized) => eprintln!(rt; "error: the input can't be read: {name}"),
         Some(cause) => eprintln!(rt; "error: the input can't be read: {name}: {cause}"),
         None if status == Status::Failed => eprintln!(rt; "error: memory ran out: {name}"),
-        None if status == Status::Refused && is_one_whole(command) => {
+        None if status == Status::Refused && is_whole => {
             eprintln!(rt; "error: the input is refused: {name}")
         }
         None => Ok(()),
     };
-    tell_cause(rt, status, output.cause())
 }
 
 // Whether standard input is closed. A file that is opened while it is takes its number.

@@ -13,8 +13,8 @@ use Rattle.dali_trace.specs.Replies.{reply_line}
 use Rattle.dali_trace.specs.Trace.{Start, is_busy}
 use Rattle.dali_engine.specs.WriterState.{WriterState}
 use Rattle.dali_engine.specs.Describes.{Describes}
-use Rattle.dali_drive.specs.declared.fault.DriveFault.{DriveFault}
-use Rattle.dali_drive.specs.declared.fault.DriveFault.TheVariants.{Journal, Link, Line, End, NoMemory, TooLong, Out}
+use Rattle.dali_trace.specs.declared.fault.DriveFault.{DriveFault}
+use Rattle.dali_trace.specs.declared.fault.DriveFault.TheVariants.{Journal, Link, Line, End, NoMemory, TooLong, Out}
 use Rattle.dali_drive.specs.declared.following.Given.{Given}
 use Rattle.dali_drive.specs.declared.following.Given.TheVariants as gives
 use Rattle.dali_drive.specs.Transcript.{Streams, said_lines, shown}

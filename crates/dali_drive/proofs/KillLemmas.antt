@@ -19,8 +19,8 @@ use Rattle.dali_laws.specs.Joined.{Sitting}
 use Rattle.dali_engine.specs.WriterState.{WriterState, start_of}
 use Rattle.dali_store.specs.Opened.{Loads}
 use Rattle.dali_store.proofs.OpenLemmas.{split_front}
-use Rattle.dali_drive.specs.declared.fault.DriveFault.{DriveFault}
-use Rattle.dali_drive.specs.declared.fault.DriveFault.TheVariants.{Journal, Link, Line, End, NoMemory, TooLong, Out}
+use Rattle.dali_trace.specs.declared.fault.DriveFault.{DriveFault}
+use Rattle.dali_trace.specs.declared.fault.DriveFault.TheVariants.{Journal, Link, Line, End, NoMemory, TooLong, Out}
 use Rattle.dali_drive.specs.Transcript.{Streams, Transcript, AreAnswers, recorded, sent_lines, said_lines}
 use Rattle.dali_drive.specs.Driven.{KeepsRecords, IsDriven, IsDrive, IsBrokenDrive, BrokenOff, CutRecord}
 use Rattle.dali_drive.specs.Stored.{IsBegun, IsPartBehind}

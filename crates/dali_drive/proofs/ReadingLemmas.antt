@@ -18,7 +18,7 @@ use Rattle.dali_read.specs.declared.block.Block.{Block}
 use Rattle.dali_read.specs.Blocks.{Fits, block_requests, reads, read_answer, bytes_of}
 use Rattle.dali_read.specs.Readings.{Course, bytes_in, told_in}
 use Rattle.dali_read.proofs.BlockBytesLemmas.{block_count}
-use Rattle.dali_drive.specs.declared.fault.DriveFault.{DriveFault}
+use Rattle.dali_trace.specs.declared.fault.DriveFault.{DriveFault}
 use Rattle.dali_drive.specs.Lines.{link_line}
 use Rattle.dali_drive.specs.Transcript.{Streams, Transcript, AreAnswers, sent_lines, said_lines, recorded}
 use Rattle.dali_drive.specs.Driven.{BreaksFrame}

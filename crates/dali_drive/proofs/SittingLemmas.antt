@@ -26,8 +26,8 @@ use Rattle.dali_engine.proofs.StopLemmas.{cut_of_some}
 use Rattle.dali_store.specs.Stores.{Shows, Becomes, IsBetween}
 use Rattle.dali_store.specs.Opened.{Loads}
 use Rattle.dali_store.proofs.OpenLemmas.{found_loads, found_kept, whole_loads}
-use Rattle.dali_drive.specs.declared.fault.DriveFault.{DriveFault}
-use Rattle.dali_drive.specs.declared.fault.DriveFault.TheVariants.{Journal, Link, Line, End, NoMemory, TooLong, Out}
+use Rattle.dali_trace.specs.declared.fault.DriveFault.{DriveFault}
+use Rattle.dali_trace.specs.declared.fault.DriveFault.TheVariants.{Journal, Link, Line, End, NoMemory, TooLong, Out}
 use Rattle.dali_drive.specs.Transcript.{Streams, recorded}
 use Rattle.dali_drive.specs.Driven.{KeepsRecords, IsDriven, IsNextFrame, IsBrokenDrive, BrokenOff, CutRecord, CutFrame, Unanswered}
 use Rattle.dali_drive.specs.Stored.{IsBegun}

@@ -13,8 +13,8 @@ use Rattle.dali_read.specs.declared.finding.Finding.{Finding}
 use Rattle.dali_read.specs.declared.finding.Finding.TheVariants.{Same}
 use Rattle.dali_read.proofs.FindingLemmas.{same_found}
 use Rattle.dali_read.proofs.CourseLemmas.{last_read}
-use Rattle.dali_drive.specs.declared.fault.DriveFault.{DriveFault}
-use Rattle.dali_drive.specs.declared.fault.DriveFault.TheVariants.{Journal, Link, Line, End, NoMemory, TooLong, Out}
+use Rattle.dali_trace.specs.declared.fault.DriveFault.{DriveFault}
+use Rattle.dali_trace.specs.declared.fault.DriveFault.TheVariants.{Journal, Link, Line, End, NoMemory, TooLong, Out}
 use Rattle.dali_drive.specs.Transcript.{Streams, shown, link_shown}
 use Rattle.dali_drive.specs.UnitRead.{IsUnitRead, UnitReadBroke}
 use Rattle.dali_drive.specs.Surveys.{Report, Surveyed, Reported, BreaksReport, IsScanReport, IsOrderReport, IsSame}

@@ -18,8 +18,8 @@ use Rattle.dali_engine.specs.WriterState.{WriterState, start_of}
 use Rattle.dali_engine.proofs.StopLemmas.{cut_of_none}
 use Rattle.dali_store.specs.Stores.{IsBetween}
 use Rattle.dali_store.proofs.OpenLemmas.{whole_loads}
-use Rattle.dali_drive.specs.declared.fault.DriveFault.{DriveFault}
-use Rattle.dali_drive.specs.declared.fault.DriveFault.TheVariants.{Journal, Link, Line, End, NoMemory, TooLong, Out}
+use Rattle.dali_trace.specs.declared.fault.DriveFault.{DriveFault}
+use Rattle.dali_trace.specs.declared.fault.DriveFault.TheVariants.{Journal, Link, Line, End, NoMemory, TooLong, Out}
 use Rattle.dali_drive.specs.declared.following.Given.{Given}
 use Rattle.dali_drive.specs.Behind.{IsBegunBehind, bytes_behind, streams_behind}
 use Rattle.dali_drive.specs.Driven.{IsDriven, BrokenOff, AppendsPart, CutFrame, Unanswered}

@@ -11,7 +11,7 @@ use Rattle.dali_trace.specs.declared.happening.Happening.TheVariants.{Asked, Ans
 use Rattle.dali_trace.specs.Replies.{reply_line}
 use Rattle.dali_trace.specs.Trace.{Start}
 use Rattle.dali_engine.specs.WriterState.{WriterState}
-use Rattle.dali_drive.specs.declared.fault.DriveFault.{DriveFault}
+use Rattle.dali_trace.specs.declared.fault.DriveFault.{DriveFault}
 use Rattle.dali_drive.specs.Transcript.{Streams, said_lines}
 use Rattle.dali_drive.specs.Driven.{at_moment, orders_asked}
 use Rattle.dali_drive.specs.WorkedOn.{HasWorked, HasBroken, WorkedOn}

@@ -13,7 +13,7 @@ use Rattle.dali_journal.specs.Spelling.{IsRecord}
 use Rattle.dali_write.proofs.NextLemmas.{none_ended}
 use Rattle.dali_trace.specs.declared.happening.Reply.TheVariants as replies
 use Rattle.dali_trace.specs.declared.happening.Happening.TheVariants.{Asked, Sent, Kept, Stopped, Powered}
-use Rattle.dali_drive.specs.declared.fault.DriveFault.TheVariants as faults
+use Rattle.dali_trace.specs.declared.fault.DriveFault.TheVariants as faults
 use Rattle.dali_frame.specs.declared.fault.LineFault.{LineFault}
 use Rattle.dali_trace.specs.Work.{AtEachPast}
 use Rattle.dali_trace.specs.Next.{IsNext}
@@ -21,7 +21,7 @@ use Rattle.dali_drive.specs.Lines.{IsAnswerLine}
 use Rattle.dali_trace.specs.Replies.{reply_line}
 use Rattle.dali_drive.specs.Transcript.{Streams}
 use Rattle.dali_drive.specs.Driven.{IsDriven, BrokenOff, IsInTurn, NoneFailed, FailedAs}
-use Rattle.dali_drive.specs.Faults.{drive_number}
+use Rattle.dali_trace.specs.Faults.{drive_number}
 use Rattle.dali_trace.specs.Worked.{empty, first_order, begun}
 use Rattle.dali_trace.specs.WorkedPlans.{half_tried}
 use Rattle.dali_drive.specs.WorkedDrives.{before_two, after_two}

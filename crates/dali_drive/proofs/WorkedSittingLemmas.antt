@@ -21,7 +21,7 @@ use Rattle.dali_trace.proofs.WorkedPlanLemmas.{first_planned}
 use Rattle.dali_trace.proofs.BlankLemmas.{goes_along}
 use Rattle.dali_store.specs.Opened.{Loads}
 use Rattle.dali_store.proofs.OpenLemmas.{whole_loads}
-use Rattle.dali_drive.specs.declared.fault.DriveFault.TheVariants.{Link, NoMemory}
+use Rattle.dali_trace.specs.declared.fault.DriveFault.TheVariants.{Link, NoMemory}
 use Rattle.dali_drive.specs.Driven.{IsDriven, IsBrokenDrive, LeavesBetween}
 use Rattle.dali_drive.specs.Stored.{IsBegun, IsPartBehind}
 use Rattle.dali_drive.specs.Sittings.{MayHaveHappened, KeptWhereWhole, BrokeOff}

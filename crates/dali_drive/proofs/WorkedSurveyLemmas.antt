@@ -27,14 +27,14 @@ use Rattle.dali_drive.specs.WorkedSurveys.{missed, length_read, silent_unit, fou
 use Rattle.dali_drive.specs.WorkedSurveys.{before_two_units, after_two_units, near_order, far_order, same_order}
 use Rattle.dali_drive.specs.WorkedSurveys.{silent_order}
 use Rattle.dali_drive.specs.WorkedSurveys.{amid_third_unit, silent_unit_told, before_one_unit, one_unit_and}
-use Rattle.dali_drive.specs.declared.fault.DriveFault.{DriveFault}
+use Rattle.dali_trace.specs.declared.fault.DriveFault.{DriveFault}
 use Rattle.dali_drive.specs.Driven.{BreaksFrame}
 use Rattle.dali_drive.specs.Surveys.{Reported, BreaksReport, TellsLast, IsScan, BreaksScan, ScanBroke}
 use Rattle.dali_drive.specs.Surveys.{items_in, all_told, lines_in, answered, addresses_below}
 use Rattle.dali_write.specs.Requests.{request}
 use Rattle.dali_drive.proofs.ReadingLemmas.{told_nothing, as_sent}
 use Rattle.dali_drive.proofs.WorkedDriveLemmas.{none_line}
-use Rattle.dali_drive.specs.declared.fault.DriveFault.TheVariants as faults
+use Rattle.dali_trace.specs.declared.fault.DriveFault.TheVariants as faults
 
 -- The lines
 

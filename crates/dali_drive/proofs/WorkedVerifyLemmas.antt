@@ -28,7 +28,7 @@ use Rattle.dali_drive.specs.Surveys.{VerifyBroke}
 use Rattle.dali_drive.proofs.WorkedSurveyLemmas.{findings_are, line_00, line_01, line_03, line_04, line_77}
 use Rattle.dali_drive.proofs.WorkedSurveyLemmas.{line_A5, read_heard, lines_of, missed_heard, first_fits, silent_ends}
 use Rattle.dali_drive.proofs.WorkedSurveyLemmas.{length_told, first_done, frame_broke}
-use Rattle.dali_drive.specs.declared.fault.DriveFault.TheVariants as faults
+use Rattle.dali_trace.specs.declared.fault.DriveFault.TheVariants as faults
 use Rattle.dali_drive.proofs.ReadingLemmas.{as_sent}
 
 -- Two orders: the unit of the first one has its byte, and that of the second is silent

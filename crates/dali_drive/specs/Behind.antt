@@ -19,7 +19,7 @@ use Rattle.dali_trace.specs.Trace.{Start, records_of}
 use Rattle.dali_engine.specs.WriterState.{WriterState, start_of}
 use Rattle.dali_drive.specs.declared.behind.BehindFault.{BehindFault}
 use Rattle.dali_drive.specs.declared.behind.BehindFault.TheVariants.{Open, Join, Drive}
-use Rattle.dali_drive.specs.declared.fault.DriveFault.{DriveFault}
+use Rattle.dali_trace.specs.declared.fault.DriveFault.{DriveFault}
 use Rattle.dali_drive.specs.declared.following.Given.{Given}
 use Rattle.dali_drive.specs.declared.stored.StoredFault.TheVariants as stored
 use Rattle.dali_drive.specs.Driven.{NoneFailed}

@@ -12,8 +12,8 @@ use Rattle.dali_trace.specs.declared.happening.Reply.TheVariants as replies
 use Rattle.dali_trace.specs.declared.happening.Happening.{Happening}
 use Rattle.dali_trace.specs.declared.happening.Happening.TheVariants.{Asked, Answered, Sent, Kept, Stopped, Powered}
 use Rattle.dali_store.specs.Stores.{IsBetween}
-use Rattle.dali_drive.specs.declared.fault.DriveFault.{DriveFault}
-use Rattle.dali_drive.specs.declared.fault.DriveFault.TheVariants.{Journal, Link, NoMemory, Out}
+use Rattle.dali_trace.specs.declared.fault.DriveFault.{DriveFault}
+use Rattle.dali_trace.specs.declared.fault.DriveFault.TheVariants.{Journal, Link, NoMemory, Out}
 use Rattle.std.specs.List.{AllByRecursion}
 use Rattle.dali_trace.specs.Cut.{kept_in}
 use Rattle.dali_trace.specs.Trace.{Start, is_busy}

@@ -13,7 +13,7 @@ use Rattle.dali_trace.specs.Legal.{IsFinished}
 use Rattle.dali_trace.specs.Next.{IsNext}
 use Rattle.dali_engine.specs.WriterState.{WriterState, start_of}
 use Rattle.dali_laws.specs.Joined.{Sitting}
-use Rattle.dali_drive.specs.declared.fault.DriveFault.{DriveFault}
+use Rattle.dali_trace.specs.declared.fault.DriveFault.{DriveFault}
 use Rattle.dali_drive.specs.Transcript.{Streams}
 use Rattle.dali_drive.specs.Driven.{IsDriven, IsDrive, IsBrokenDrive}
 use Rattle.dali_drive.specs.Stored.{IsBegun}

@@ -6,8 +6,8 @@ use Rattle.std.specs.Io.KnownBytes.{Consumes, IsAtEnd}
 use Rattle.dali_frame.specs.declared.forward.Frame.{Frame}
 use Rattle.dali_frame.specs.Frame.{frame_word}
 use Rattle.dali_frame.specs.Line.{word_line, SpellsAnswer, IsLineFault}
-use Rattle.dali_drive.specs.declared.fault.DriveFault.{DriveFault}
-use Rattle.dali_drive.specs.declared.fault.DriveFault.TheVariants.{Link, Line, End, TooLong}
+use Rattle.dali_trace.specs.declared.fault.DriveFault.{DriveFault}
+use Rattle.dali_trace.specs.declared.fault.DriveFault.TheVariants.{Link, Line, End, TooLong}
 
 -- the line of a frame: the four upper-case hexadecimal digits of its word
 abbrev pub link_line : Frame → List ℕ

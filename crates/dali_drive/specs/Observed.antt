@@ -5,8 +5,8 @@ use Rattle.dali_bank.specs.Order.{Contents}
 use Rattle.dali_trace.specs.declared.happening.Happening.{Happening}
 use Rattle.dali_trace.specs.Trace.{Start}
 use Rattle.dali_engine.specs.WriterState.{WriterState, start_of}
-use Rattle.dali_drive.specs.declared.fault.DriveFault.{DriveFault}
-use Rattle.dali_drive.specs.declared.fault.DriveFault.TheVariants.{Journal, NoMemory, Out}
+use Rattle.dali_trace.specs.declared.fault.DriveFault.{DriveFault}
+use Rattle.dali_trace.specs.declared.fault.DriveFault.TheVariants.{Journal, NoMemory, Out}
 use Rattle.dali_drive.specs.Lines.{TakesText}
 use Rattle.dali_drive.specs.Transcript.{Streams}
 use Rattle.dali_drive.specs.Driven.{IsDrive, BreaksOff, IsNextFrame}

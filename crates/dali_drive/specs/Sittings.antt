@@ -14,8 +14,8 @@ use Rattle.dali_trace.specs.Next.{IsNext}
 use Rattle.dali_engine.specs.WriterState.{WriterState, start_of}
 use Rattle.dali_laws.specs.Joined.{Sitting}
 use Rattle.dali_store.specs.Stores.{IsBetween}
-use Rattle.dali_drive.specs.declared.fault.DriveFault.{DriveFault}
-use Rattle.dali_drive.specs.declared.fault.DriveFault.TheVariants.{Journal, NoMemory, Out}
+use Rattle.dali_trace.specs.declared.fault.DriveFault.{DriveFault}
+use Rattle.dali_trace.specs.declared.fault.DriveFault.TheVariants.{Journal, NoMemory, Out}
 use Rattle.dali_drive.specs.Transcript.{Streams}
 use Rattle.dali_drive.specs.Driven.{IsBrokenDrive}
 use Rattle.dali_drive.specs.Stored.{IsBegun, IsStoredDrive}

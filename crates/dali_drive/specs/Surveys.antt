@@ -10,8 +10,8 @@ use Rattle.dali_read.specs.Places.{last_course, order_course}
 use Rattle.dali_read.specs.Findings.{IsFound}
 use Rattle.dali_read.specs.declared.finding.Finding.{Finding}
 use Rattle.dali_read.specs.declared.finding.Finding.TheVariants.{Same}
-use Rattle.dali_drive.specs.declared.fault.DriveFault.{DriveFault}
-use Rattle.dali_drive.specs.declared.fault.DriveFault.TheVariants.{Out}
+use Rattle.dali_trace.specs.declared.fault.DriveFault.{DriveFault}
+use Rattle.dali_trace.specs.declared.fault.DriveFault.TheVariants.{Out}
 use Rattle.dali_drive.specs.Transcript.{Streams, link_shown}
 use Rattle.dali_drive.specs.Driven.{AppendsPart}
 use Rattle.dali_drive.specs.UnitRead.{LinkText, UnitReadBroke}

@@ -8,7 +8,7 @@ use Rattle.dali_write.specs.declared.request.Request.{Request}
 use Rattle.dali_read.specs.declared.block.Block.{Block}
 use Rattle.dali_read.specs.Blocks.{block_requests, bytes_of, IsBlockRead, Succeeds, Fails, Stands}
 use Rattle.dali_read.specs.Readings.{Course, Done, InTurn, Ends, IsReading, bytes_in, told_in}
-use Rattle.dali_drive.specs.declared.fault.DriveFault.{DriveFault}
+use Rattle.dali_trace.specs.declared.fault.DriveFault.{DriveFault}
 use Rattle.dali_drive.specs.Transcript.{Streams, Transcript}
 use Rattle.dali_drive.specs.Driven.{BreaksFrame}
 

@@ -4,7 +4,7 @@ use Rattle.std.specs.Io.KnownBytes.{Appends}
 use Rattle.dali_frame.specs.declared.forward.Frame.{Frame}
 use Rattle.dali_bank.specs.Order.{Contents}
 use Rattle.dali_trace.specs.declared.happening.Happening.{Happening}
-use Rattle.dali_drive.specs.declared.fault.DriveFault.{DriveFault}
+use Rattle.dali_trace.specs.declared.fault.DriveFault.{DriveFault}
 use Rattle.dali_trace.specs.Trace.{Start}
 use Rattle.dali_engine.specs.WriterState.{WriterState}
 use Rattle.dali_engine.specs.Describes.{Describes}

@@ -9,13 +9,13 @@ ghost use Rattle.dali_drive.specs.Stored.{LeavesPart};
 ghost use Rattle.dali_drive.specs.Transcript.{shown};
 ghost use Rattle.dali_engine.specs.WriterState.{IsAtRest};
 
-use crate::fault::DriveFault;
 use crate::following::{Orders, follow};
 use crate::observer::Observer;
 use crate::streams::{Sink, Source};
 use dali_engine::Writer;
 use dali_journal::{JoinFault, Journal};
 use dali_store::{OpenFault, Store, open};
+use dali_trace::DriveFault;
 use std::alloc::Global;
 
 /// Why orders weren't all followed behind older journals.

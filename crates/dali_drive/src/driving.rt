@@ -11,7 +11,6 @@ ghost use Rattle.dali_store.specs.Stores.{IsSettled, IsBetween, LeavesOnly};
 ghost use Rattle.dali_drive.specs.WorkedOn.{IsDrivenAt, WorkedOn};
 ghost use Rattle.dali_drive.specs.Observed.{IsObserved, IsObservedBreak};
 
-use crate::fault::DriveFault;
 use crate::lines::{AnswerText, reply_line};
 use crate::link::exchange_noting;
 use crate::observer::{Nobody, Observer};
@@ -19,7 +18,7 @@ use crate::streams::{Sink, Source, put_all};
 use dali_bank::Order;
 use dali_engine::{Want, Writer};
 use dali_store::{Store, keep};
-use dali_trace::Happening;
+use dali_trace::{DriveFault, Happening};
 
 // Does once what the writer wants. The answer is whether it wanted anything.
 fn advance<I: Source, L: Sink, J: Store, O: Sink, B: Observer>(

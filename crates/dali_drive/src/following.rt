@@ -12,7 +12,6 @@ ghost use Rattle.dali_trace.specs.Trace.{Start};
 ghost use Rattle.dali_engine.specs.WriterState.{start_of, IsAtRest};
 
 use crate::driving::{begin, carry_out};
-use crate::fault::DriveFault;
 use crate::lines::Line;
 use crate::observer::Observer;
 use crate::stored::StoredFault;
@@ -20,6 +19,7 @@ use crate::streams::{Sink, Source, put_all};
 use dali_bank::Order;
 use dali_engine::Writer;
 use dali_store::{Store, open};
+use dali_trace::DriveFault;
 use std::alloc::Global;
 
 /// What a source of orders gives (profile).

@@ -26,7 +26,7 @@ ghost use Rattle.dali_journal.specs.declared.version.Version.TheVariants.{Two};
 ghost use Rattle.dali_journal.specs.Sentence.{standing_of};
 ghost use Rattle.dali_trace.specs.Legal.{Legal};
 ghost use Rattle.dali_drive.specs.Behind.{IsBegunBehind, ActsOnceBehind, bytes_behind};
-ghost use Rattle.dali_drive.specs.declared.fault.DriveFault.{DriveFault};
+ghost use Rattle.dali_trace.specs.declared.fault.DriveFault.{DriveFault};
 ghost use Rattle.dali_drive.specs.Transcript.{Streams};
 ghost use Rattle.dali_drive.specs.Driven.{IsDrive, IsBrokenDrive, KeepsRecords};
 ghost use Rattle.dali_drive.specs.Stored.{IsBegun, IsStoredDrive, IsPartBehind};

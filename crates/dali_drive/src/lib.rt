@@ -5,7 +5,6 @@
 
 mod behind;
 mod driving;
-mod fault;
 mod following;
 pub mod laws;
 mod lines;
@@ -20,8 +19,8 @@ mod survey;
 mod survey_lines;
 
 pub use behind::{BehindFault, follow_behind};
+pub use dali_trace::DriveFault;
 pub use driving::{drive, drive_observed};
-pub use fault::DriveFault;
 pub use following::{Given, Orders, follow, follow_stored};
 pub use lines::{Line, push_decimal, push_text};
 pub use link::exchange;

@@ -7,11 +7,10 @@ ghost use Rattle.dali_drive.specs.Lines.{TakesLine, TakesText};
 ghost use Rattle.dali_trace.specs.Replies.{reply_line};
 ghost use Rattle.dali_drive.specs.Driven.{is_link_failure};
 
-use crate::fault::DriveFault;
 use crate::streams::{Got, Source};
 use arrayvec::ArrayVec;
-use dali_engine::Reply;
 use dali_frame::{LineFault, answer_of};
+use dali_trace::{DriveFault, Reply, decimal_of};
 
 // The most bytes that are read of an answer's line before its line feed: it has at most one less.
 const MOST_ANSWER: usize = 9;
@@ -74,24 +73,9 @@ pub(crate) fn reply_line(id: u64, reply: Reply) -> Line
     let mut line = Line::new();
     push_text(&mut line, "reply ");
     push_decimal(&mut line, id);
-    match reply {
-        Reply::Taken => push_text(&mut line, " taken\n"),
-        Reply::Kept(code) => {
-            push_text(&mut line, " kept ");
-            push_decimal(&mut line, u64::from(code.number()));
-            push_text(&mut line, " ");
-            push_text(&mut line, code.name());
-            push_text(&mut line, "\n");
-        }
-        Reply::IdReused => push_text(&mut line, " reused\n"),
-        Reply::Busy => push_text(&mut line, " busy\n"),
-        Reply::Full => push_text(&mut line, " full\n"),
-        Reply::Blocked(unit) => {
-            push_text(&mut line, " blocked ");
-            push_decimal(&mut line, u64::from(unit));
-            push_text(&mut line, "\n");
-        }
-    }
+    push_text(&mut line, " ");
+    push_text(&mut line, reply.text().as_str());
+    push_text(&mut line, "\n");
     line
 }
 
@@ -111,10 +95,5 @@ pub fn push_decimal(line: &mut Line, number: u64)
     ensures len { array_vec_len line.new ≡ array_vec_len line.old + length (decimal number) }
     ensures short { length (decimal number) ≤ 20 }
 {
-    if number < 10 {
-        line.push(b'0' + number as u8);
-    } else {
-        push_decimal(line, number / 10);
-        line.push(b'0' + (number % 10) as u8);
-    }
+    push_text(line, decimal_of(number).as_str());
 }

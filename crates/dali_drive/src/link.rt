@@ -5,10 +5,10 @@ ghost use Rattle.dali_drive.specs.Transcript.{Transcript, link_shown};
 ghost use Rattle.dali_drive.specs.Driven.{BreaksFrame, FailedAs};
 ghost use Rattle.dali_drive.specs.Lines.{TakesText};
 
-use crate::fault::DriveFault;
 use crate::lines::{AnswerText, read_answer};
 use crate::streams::{Sink, Source, send};
 use dali_frame::{Frame, line_of};
+use dali_trace::DriveFault;
 
 /// Sends a frame over a link, and gives what came back (profile): the byte that was answered, or none.
 ///

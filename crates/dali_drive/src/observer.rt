@@ -6,14 +6,13 @@ ghost use Rattle.dali_frame.specs.declared.forward.Frame.{Frame};
 ghost use Rattle.dali_read.specs.declared.finding.Finding.{Finding};
 ghost use Rattle.dali_trace.specs.declared.happening.Happening.{Happening};
 ghost use Rattle.dali_trace.specs.Trace.{Start, records_of};
-ghost use Rattle.dali_drive.specs.declared.fault.DriveFault.{DriveFault};
+ghost use Rattle.dali_trace.specs.declared.fault.DriveFault.{DriveFault};
 
-use crate::fault::DriveFault;
 use dali_bank::Order;
 use dali_frame::Frame;
 use dali_journal::Journal;
 use dali_read::Finding;
-use dali_trace::Happening;
+use dali_trace::{DriveFault, Happening};
 
 /// Who is told what happens in a drive, at once and in its order (profile). Whatever becomes of that, the drive goes
 /// on.

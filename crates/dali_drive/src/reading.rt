@@ -6,12 +6,12 @@ ghost use Rattle.dali_drive.specs.Driven.{FailedAs};
 ghost use Rattle.dali_drive.specs.UnitRead.{TryTold, TryMissed, TryBroke, BlockTold, BlockFailed, BlockBroke};
 ghost use Rattle.dali_drive.specs.UnitRead.{IsUnitRead, UnitReadBroke};
 
-use crate::fault::DriveFault;
 use crate::link::exchange;
 use crate::streams::{Sink, Source};
 use arrayvec::ArrayVec;
 use dali_frame::Frame;
 use dali_read::{Block, Places};
+use dali_trace::DriveFault;
 
 // The most tries of a block.
 const MOST_TRIES: u8 = 8;

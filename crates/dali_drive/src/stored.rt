@@ -8,12 +8,12 @@ ghost use Rattle.dali_drive.specs.Driven.{at_moment, NoneFailed};
 ghost use Rattle.dali_engine.specs.WriterState.{IsAtRest};
 
 use crate::driving::drive_observed;
-use crate::fault::DriveFault;
 use crate::observer::{Nobody, Observer};
 use crate::streams::{Sink, Source};
 use dali_bank::Order;
 use dali_engine::Writer;
 use dali_store::{OpenFault, Store, open};
+use dali_trace::DriveFault;
 use std::alloc::Global;
 
 /// Why the orders of a store weren't all driven.

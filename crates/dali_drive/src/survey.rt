@@ -7,13 +7,13 @@ ghost use Rattle.dali_drive.specs.Surveys.{IsScan, ScanBroke};
 ghost use Rattle.dali_drive.specs.Surveys.{IsVerifiedTold, VerifyBrokeTold};
 ghost use Rattle.std.specs.Prelude.{None};
 
-use crate::fault::DriveFault;
 use crate::observer::FindingObserver;
 use crate::reading::read_unit;
 use crate::streams::{Sink, Source, put_all};
 use crate::survey_lines::{finding_line, last_line, order_silent_line, units_line};
 use dali_bank::Order;
 use dali_read::{Finding, Places, compare};
+use dali_trace::DriveFault;
 
 // One more than the highest short address.
 const ADDRESSES: u8 = 64;

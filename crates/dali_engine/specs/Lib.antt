@@ -1,4 +1,3 @@
-pub mod Faults
 pub mod Phases
 pub mod WriterState
 pub mod Inside

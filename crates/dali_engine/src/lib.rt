@@ -2,14 +2,12 @@
 //! whenever the program is stopped: so the laws of legal traces hold of it.
 #![tactic(auto)]
 
-mod fault;
 mod phase;
 mod runs;
 mod stops;
 mod writer;
 
 pub use dali_laws::laws;
-pub use dali_trace::{Event, Happening, Reply, Want};
-pub use fault::RunFault;
+pub use dali_trace::{Event, Happening, Reply, RunFault, Want};
 pub use runs::{Outcome, run, run_sim};
 pub use writer::Writer;

@@ -4,7 +4,7 @@ ghost use Rattle.dali_journal.specs.declared.version.Version.TheVariants.{Two};
 ghost use Rattle.dali_journal.specs.Spelling.{journal_spelling};
 ghost use Rattle.dali_journal.specs.JournalState.{IsLimit};
 ghost use Rattle.dali_trace.specs.declared.happening.Happening.{Happening};
-ghost use Rattle.dali_engine.specs.declared.fault.RunFault.TheVariants as faults;
+ghost use Rattle.dali_trace.specs.declared.fault.RunFault.TheVariants as faults;
 ghost use Rattle.dali_trace.specs.Trace.{Start, is_busy};
 ghost use Rattle.dali_trace.specs.Parts.{IsWork};
 ghost use Rattle.dali_trace.specs.Moves.{MovesBy};
@@ -16,12 +16,11 @@ ghost use Rattle.dali_engine.specs.Served.{IsServed, AreServed};
 ghost use Rattle.dali_trace.specs.Spared.{IsSimRun};
 ghost use Rattle.dali_gear.specs.SimState.{SimStep, world_of};
 
-use crate::fault::RunFault;
 use crate::stops::stop;
 use crate::writer::Writer;
 use dali_gear::{Bus, SimBus};
 use dali_journal::Journal;
-use dali_trace::{Event, Happening, Want};
+use dali_trace::{Event, Happening, RunFault, Want};
 use std::alloc::Global;
 
 // Does once what the writer wants, if it wants something.

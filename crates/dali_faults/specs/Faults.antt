@@ -5,11 +5,10 @@ use Rattle.dali_gear.specs.Faults as gear
 use Rattle.dali_journal.specs.declared.fault.JournalFault.{JournalFault}
 use Rattle.dali_journal.specs.declared.fault.JournalFault.TheVariants as journals
 use Rattle.dali_journal.specs.Faults as journal
-use Rattle.dali_engine.specs.declared.fault.RunFault.TheVariants as runs
-use Rattle.dali_drive.specs.declared.fault.DriveFault.{DriveFault}
-use Rattle.dali_drive.specs.declared.fault.DriveFault.TheVariants as drives
-use Rattle.dali_engine.specs.Faults as run
-use Rattle.dali_drive.specs.Faults as drive
+use Rattle.dali_trace.specs.declared.fault.RunFault.TheVariants as runs
+use Rattle.dali_trace.specs.declared.fault.DriveFault.{DriveFault}
+use Rattle.dali_trace.specs.declared.fault.DriveFault.TheVariants as drives
+use Rattle.dali_trace.specs.Faults.{run_number, run_name, drive_number, drive_name}
 use Rattle.dali_text.specs.FaultLines as lines
 use Rattle.dali_input.specs.declared.fault.InputFault.{InputFault}
 use Rattle.dali_input.specs.declared.fault.InputFault.TheVariants.{Json, Document, TooBig, Hex, Memory, File}
@@ -97,12 +96,12 @@ journal_line (journals.Full place) = place_line (journals.Full place) place
 
 abbrev pub drive_line : DriveFault → List ℕ
 drive_line drives.NoMemory = input_line Memory
-drive_line fault = lines.single_line (codes "drive") (drive.drive_number fault) (drive.drive_name fault)
+drive_line fault = lines.single_line (codes "drive") (drive_number fault) (drive_name fault)
 
 abbrev pub told_line : Fault → List ℕ
 told_line (Input fault) = input_line fault
 told_line (Setup fault) = setup_line fault
-told_line (Run runs.Limit) = lines.single_line (codes "run") (run.number_of runs.Limit) (run.name_of runs.Limit)
+told_line (Run runs.Limit) = lines.single_line (codes "run") (run_number runs.Limit) (run_name runs.Limit)
 told_line (Run runs.NoMemory) = input_line Memory
 told_line (Journal fault) = journal_line fault
 told_line (Drive fault) = drive_line fault

@@ -2,10 +2,9 @@ ghost use Rattle.std.specs.Prelude.{◌≡◌, ◌≢◌};
 ghost use Rattle.dali_faults.specs.Faults.{exit_code, drive_status as status_of_drive};
 ghost use Rattle.dali_faults.specs.Faults.{input_status as status_of_input, status_of};
 
-use dali_drive::DriveFault;
-use dali_engine::RunFault;
 use dali_input::{InputFault, SetupFault};
 use dali_journal::JournalFault;
+use dali_trace::{DriveFault, RunFault};
 use thiserror::Error;
 
 /// How a command ended.

@@ -5,14 +5,13 @@ ghost use Rattle.dali_faults.specs.Faults.{drive_line, input_line, item_line, jo
 ghost use Rattle.dali_faults.specs.Faults.{setup_line, status_of, whole_line};
 
 use crate::fault::{Fault, Status};
-use dali_drive::DriveFault;
-use dali_engine::RunFault;
 use dali_gear::GearFault;
 use dali_input::{InputFault, ItemFault, SetupFault};
 use dali_journal::JournalFault;
 use dali_text::{
     Output, OutputFailed, write_counted_fault, write_placed_fault, write_single_fault,
 };
+use dali_trace::{DriveFault, RunFault};
 use std::io::Write;
 
 /// Writes why a command gave up, and nothing after it; the status is that of the fault.

@@ -3,8 +3,8 @@ use Rattle.std.proofs.Common.{◌≡◌, List, [], ℕ, length, Bool, Option, Re
 use Rattle.std.specs.Io.KnownBytes.{Appends}
 use Rattle.dali_gear.specs.SimState.{SimState}
 use Rattle.dali_journal.specs.JournalState.{IsLimit}
-use Rattle.dali_engine.specs.declared.fault.RunFault.{RunFault}
-use Rattle.dali_engine.specs.declared.fault.RunFault.TheVariants.{Limit, NoMemory}
+use Rattle.dali_trace.specs.declared.fault.RunFault.{RunFault}
+use Rattle.dali_trace.specs.declared.fault.RunFault.TheVariants.{Limit, NoMemory}
 use Rattle.dali_trace.specs.declared.happening.Event.{Event}
 use Rattle.dali_trace.specs.declared.happening.Happening.{Happening}
 use Rattle.dali_text.specs.RunText.{run_text}

@@ -7,7 +7,7 @@ use Rattle.dali_input.specs.declared.setup.SetupFault.TheVariants as setup
 use Rattle.dali_input.specs.Orders.{Outcome}
 use Rattle.dali_journal.specs.declared.fault.JournalFault.{JournalFault}
 use Rattle.dali_journal.specs.declared.fault.JournalFault.TheVariants as journals
-use Rattle.dali_engine.specs.declared.fault.RunFault.TheVariants.{Limit, NoMemory}
+use Rattle.dali_trace.specs.declared.fault.RunFault.TheVariants.{Limit, NoMemory}
 use Rattle.dali_faults.specs.declared.fault.Fault.{Fault}
 use Rattle.dali_faults.specs.declared.fault.Fault.TheVariants.{Input, Setup, Run, Journal, Drive, Older}
 use Rattle.dali_faults.specs.declared.fault.Status.{Status}

@@ -6,7 +6,7 @@ use Rattle.dali_gear.specs.SimState.{SimState, world_of}
 use Rattle.dali_gear.specs.UnitState.{UnitState}
 use Rattle.dali_bus.specs.Unenabled.{NoneEnabled}
 use Rattle.dali_journal.specs.JournalState.{IsLimit}
-use Rattle.dali_engine.specs.declared.fault.RunFault.TheVariants.{Limit, NoMemory}
+use Rattle.dali_trace.specs.declared.fault.RunFault.TheVariants.{Limit, NoMemory}
 use Rattle.dali_trace.specs.Fits.{IsLockedAbove}
 use Rattle.dali_trace.specs.declared.happening.Event.{Event}
 use Rattle.dali_trace.specs.declared.happening.Happening.{Happening}

@@ -5,13 +5,12 @@ ghost use Rattle.dali_faults.specs.Ends.{TellsEnd};
 ghost use Rattle.dali_faults.specs.Faults.{status_of, told_line};
 ghost use Rattle.dali_file_commands.specs.Notes.{IsFaultNote, IsInputNote};
 
-use dali_drive::DriveFault;
-use dali_engine::RunFault;
 use dali_faults::{Fault, Status, write_failure};
 use dali_input::{InputFault, SetupFault};
 use dali_journal::JournalFault;
 use dali_notes::Note;
 use dali_text::{Output, OutputFailed};
+use dali_trace::{DriveFault, RunFault};
 use std::io::Write;
 
 /// Writes why a command gave up, and nothing after it, and tells a person in `notes` what is wrong there.

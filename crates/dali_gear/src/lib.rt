@@ -14,4 +14,4 @@ pub use dali_bus::{Bus, laws};
 pub use fate::Fate;
 pub use fault::GearFault;
 pub use sim_bus::{SimBus, is_free};
-pub use unit::Unit;
+pub use unit::{LEAST_BANK, MOST_ADDRESS, MOST_BANK, Unit};

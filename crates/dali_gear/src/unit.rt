@@ -15,6 +15,15 @@ use dali_frame::Frame;
 use std::alloc::Global;
 use std::marker::Model;
 
+/// The greatest short address of control gear (IEC 62386-102: addressing).
+pub const MOST_ADDRESS: u8 = 63;
+
+/// The fewest bytes of memory bank 1 (IEC 62386-102: memory bank 1).
+pub const LEAST_BANK: usize = 17;
+
+/// The most bytes of memory bank 1: a bank has no location FFh (IEC 62386-102: memory banks).
+pub const MOST_BANK: usize = 255;
+
 // The bytes of memory bank 2: its last location at 00h, and FFh at all others.
 const BANK_2: [u8; 16] = [
     0x0F, 0xFF, 0xFF, 0xFF, 0xFF, 0xFF, 0xFF, 0xFF, 0xFF, 0xFF, 0xFF, 0xFF, 0xFF, 0xFF, 0xFF, 0xFF,
@@ -101,7 +110,7 @@ impl Unit {
         ensures ok { IfOk result (λ unit. unit ≡ new_unit address bytes.now fixed.now) }
         ensures err { IfErr result (λ fault. IsUnitFault address bytes.now fixed.now fault) }
     {
-        if address > 63 {
+        if address > MOST_ADDRESS {
             return Err(GearFault::Address);
         }
         if !is_bank(bytes) {
@@ -287,7 +296,9 @@ impl Unit {
 fn is_bank(bytes: &[u8]) -> bool
     ensures { IsTrue result ↔ IsBank bytes.now }
 {
-    17 <= bytes.len() && bytes.len() <= 255 && usize::from(bytes[0]) + 1 == bytes.len()
+    LEAST_BANK <= bytes.len()
+        && bytes.len() <= MOST_BANK
+        && usize::from(bytes[0]) + 1 == bytes.len()
 }
 
 // Whether locations rise from above the bound on, and lie below the end.

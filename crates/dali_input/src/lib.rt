@@ -12,6 +12,7 @@ mod key;
 mod members;
 mod orders;
 mod scenario;
+pub mod scenario_key;
 mod setup;
 mod values;
 

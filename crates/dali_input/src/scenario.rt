@@ -11,9 +11,10 @@ ghost use Rattle.dali_input.specs.Scenario.{IsScenario, IsSmall, IsUnit, event_c
 ghost use Rattle.dali_input.specs.Scenario.{most_moment, planned_of, submit, unit_planned};
 
 use crate::fault::InputFault;
+use crate::scenario_key as key;
 use crate::values::{has_only_keys, numbers_of, whole_within};
 use dali_bank::BLANK;
-use dali_gear::Fate;
+use dali_gear::{Fate, MOST_ADDRESS};
 use hex::FromHexError;
 use serde_json::Value as Json;
 use std::alloc::Global;
@@ -91,14 +92,14 @@ fn unit_plan(alloc: Global, json: &Json) -> Result<UnitPlan, InputFault>
     ensures ok { IfOk result (λ plan. IsUnit (view json.now) (unit_planned plan)) }
     ensures err { IfErr result (IsNoReading (IsUnit (view json.now))) }
 {
-    if !has_only_keys(json, &["address", "bank", "fixed", "dtr"]) {
+    if !has_only_keys(json, &[key::ADDRESS, key::BANK, key::FIXED, key::DTR]) {
         return Err(InputFault::Document);
     }
     Ok(UnitPlan {
-        address: address_in(json.get("address"))?,
-        bank: bank_in(alloc, json.get("bank"))?,
-        fixed: fixed_in(alloc, json.get("fixed"))?,
-        dtrs: dtrs_in(alloc, json.get("dtr"))?,
+        address: address_in(json.get(key::ADDRESS))?,
+        bank: bank_in(alloc, json.get(key::BANK))?,
+        fixed: fixed_in(alloc, json.get(key::FIXED))?,
+        dtrs: dtrs_in(alloc, json.get(key::DTR))?,
     })
 }
 
@@ -164,15 +165,18 @@ fn fate_plan(alloc: Global, json: &Json) -> Result<FatePlan, InputFault>
     ensures ok { IfOk result (IsFate (view json.now)) }
     ensures err { IfErr result (IsNoReading (IsFate (view json.now))) }
 {
-    if !has_only_keys(json, &["times", "lost", "answer_lost", "refuse"]) {
+    if !has_only_keys(
+        json,
+        &[key::TIMES, key::LOST, key::ANSWER_LOST, key::REFUSE],
+    ) {
         return Err(InputFault::Document);
     }
     Ok(FatePlan {
-        times: times_in(json.get("times"))?,
+        times: times_in(json.get(key::TIMES))?,
         fate: Fate {
-            lost: lost_in(alloc, json.get("lost"))?,
-            answer_lost: boolean_in(json.get("answer_lost"))?,
-            refuse: boolean_in(json.get("refuse"))?,
+            lost: lost_in(alloc, json.get(key::LOST))?,
+            answer_lost: boolean_in(json.get(key::ANSWER_LOST))?,
+            refuse: boolean_in(json.get(key::REFUSE))?,
         },
     })
 }
@@ -195,7 +199,7 @@ fn lost_in(alloc: Global, json: Option<&Json>) -> Result<u64, InputFault>
     ensures err { IfErr result (IsNoReading (IsOptional AreLost 0 (value_if_any json.entry))) }
 {
     match json {
-        Some(json) => Ok(bits_of(numbers_of(alloc, json, 63)?.as_slice())),
+        Some(json) => Ok(bits_of(numbers_of(alloc, json, MOST_ADDRESS)?.as_slice())),
         None => Ok(0),
     }
 }
@@ -249,13 +253,13 @@ pub fn submission_of(json: &Json) -> Option<Result<(&Json, u64), InputFault>>
     ensures err { IfSome result (λ reading. IfErr reading (IsNoReading (IsEvent (view json.now)))) }
     ensures document { IfSome result (λ reading. IfErr reading (λ fault. fault ≡ InputFault.Document)) }
 {
-    let Some(order) = json.get("submit") else {
+    let Some(order) = json.get(key::SUBMIT) else {
         return None;
     };
-    if !has_only_keys(json, &["submit", "moment"]) {
+    if !has_only_keys(json, &[key::SUBMIT, key::MOMENT]) {
         return Some(Err(InputFault::Document));
     }
-    match moment_in(json.get("moment")) {
+    match moment_in(json.get(key::MOMENT)) {
         Ok(moment) => Some(Ok((order, moment))),
         Err(fault) => Some(Err(fault)),
     }
@@ -271,21 +275,21 @@ fn event_plan(json: &Json) -> Result<EventPlan<'_>, InputFault>
         let (order, moment) = submission?;
         return Ok(EventPlan::Submit(order, moment));
     }
-    if has_only_keys(json, &["steps"]) {
-        if let Some(count) = json.get("steps") {
+    if has_only_keys(json, &[key::STEPS]) {
+        if let Some(count) = json.get(key::STEPS) {
             let count = whole_within(count, 1, u64::from(MOST_EVENTS))?;
             return Ok(EventPlan::Steps(count as u32));
         }
     }
-    if has_only_keys(json, &["stop"]) {
-        if let Some(bytes) = json.get("stop") {
+    if has_only_keys(json, &[key::STOP]) {
+        if let Some(bytes) = json.get(key::STOP) {
             let bytes = whole_within(bytes, 0, u64::from(u16::MAX))?;
             return Ok(EventPlan::Stop(bytes as u16));
         }
     }
-    if has_only_keys(json, &["power"]) {
-        if let Some(address) = json.get("power") {
-            let address = whole_within(address, 0, 63)?;
+    if has_only_keys(json, &[key::POWER]) {
+        if let Some(address) = json.get(key::POWER) {
+            let address = whole_within(address, 0, MOST_ADDRESS as u64)?;
             return Ok(EventPlan::Power(address as u8));
         }
     }
@@ -355,14 +359,14 @@ pub fn scenario_of(alloc: Global, json: &Json) -> Result<Scenario<'_>, InputFaul
     ensures ok { IfOk result (λ scenario. IsScenario (view json.now) (planned_of scenario)) }
     ensures err { IfErr result (IsNoReading (IsScenario (view json.now))) }
 {
-    if !has_only_keys(json, &["limit", "units", "fates", "events"]) {
+    if !has_only_keys(json, &[key::LIMIT, key::UNITS, key::FATES, key::EVENTS]) {
         return Err(InputFault::Document);
     }
     Ok(Scenario {
-        limit: limit_in(json.get("limit"))?,
-        units: unit_plans(alloc, json.get("units"))?,
-        fates: fate_plans(alloc, json.get("fates"))?,
-        events: event_plans(alloc, json.get("events"))?,
+        limit: limit_in(json.get(key::LIMIT))?,
+        units: unit_plans(alloc, json.get(key::UNITS))?,
+        fates: fate_plans(alloc, json.get(key::FATES))?,
+        events: event_plans(alloc, json.get(key::EVENTS))?,
     })
 }
 

@@ -9,7 +9,7 @@ use Rattle.dali_store.specs.declared.opening.OpenFault.{OpenFault}
 use Rattle.dali_store.specs.Stores.{IsSettled}
 use Rattle.dali_drive.specs.declared.behind.BehindFault.{BehindFault}
 use Rattle.dali_drive.specs.declared.behind.BehindFault.TheVariants as behind
-use Rattle.dali_drive.specs.declared.fault.DriveFault.{DriveFault}
+use Rattle.dali_trace.specs.declared.fault.DriveFault.{DriveFault}
 use Rattle.dali_drive.specs.declared.following.Given.{Given}
 use Rattle.dali_drive.specs.Behind.{EndsBehind}
 use Rattle.dali_drive.specs.Transcript.{Streams}

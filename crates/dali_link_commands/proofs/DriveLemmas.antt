@@ -20,8 +20,8 @@ use Rattle.dali_report.specs.Told.{IsTold, IsToldEnd}
 use Rattle.dali_link_commands.specs.DriveAnswers.{IsDriveAnswer, fault_unopened}
 use Rattle.dali_faults.specs.JournalInput.{journal_limit, order_limit}
 use Rattle.dali_drive.specs.Transcript.{Streams}
-use Rattle.dali_drive.specs.declared.fault.DriveFault.{DriveFault}
-use Rattle.dali_drive.specs.declared.fault.DriveFault.TheVariants as drives
+use Rattle.dali_trace.specs.declared.fault.DriveFault.{DriveFault}
+use Rattle.dali_trace.specs.declared.fault.DriveFault.TheVariants as drives
 use Rattle.dali_drive.specs.Streams.{PutsFirst}
 use Rattle.dali_faults.specs.declared.fault.Status.{Status}
 use Rattle.dali_faults.specs.declared.fault.Status.TheVariants.{Unwritten}

@@ -1,7 +1,7 @@
 -- Lemmas on how the following of a stream ended.
 use Rattle.std.proofs.Common.{◌≡◌, ◌∙◌, ℕ, Bool, false, List, Option, ap, inl, inr, subst}
 use Rattle.dali_store.specs.declared.opening.OpenFault.{OpenFault}
-use Rattle.dali_drive.specs.declared.fault.DriveFault.{DriveFault}
+use Rattle.dali_trace.specs.declared.fault.DriveFault.{DriveFault}
 use Rattle.dali_drive.specs.declared.stored.StoredFault.{StoredFault}
 use Rattle.dali_drive.specs.declared.stored.StoredFault.TheVariants as stored
 use Rattle.dali_drive.specs.Followed.{FollowEnds}

@@ -1,7 +1,7 @@
 -- How a drive's fault is told: one of the replies' stream by its status alone, with nothing written behind them.
 use Rattle.std.proofs.Common.{◌≡◌, refl, inl, inr, ap, ℕ, zero, suc, List, [], ◌++◌, Option, Some, codes}
 use Rattle.std.proofs.Common.{get_or, arith}
-use Rattle.dali_drive.specs.declared.fault.DriveFault.TheVariants as faults
+use Rattle.dali_trace.specs.declared.fault.DriveFault.TheVariants as faults
 use Rattle.dali_faults.specs.declared.fault.Status.TheVariants.{Good, Refused, Failed, Unwritten}
 use Rattle.dali_input.specs.declared.fault.InputFault.TheVariants.{File, TooBig}
 use Rattle.dali_faults.specs.declared.fault.Fault.TheVariants.{Input, Drive}

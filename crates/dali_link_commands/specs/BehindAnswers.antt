@@ -9,7 +9,7 @@ use Rattle.dali_journal.specs.Sentence.{standing_of}
 use Rattle.dali_input.specs.declared.fault.InputFault.{InputFault}
 use Rattle.dali_input.specs.declared.fault.InputFault.TheVariants.{Memory}
 use Rattle.dali_store.specs.declared.opening.OpenFault.{OpenFault}
-use Rattle.dali_drive.specs.declared.fault.DriveFault.{DriveFault}
+use Rattle.dali_trace.specs.declared.fault.DriveFault.{DriveFault}
 use Rattle.dali_drive.specs.declared.following.Given.{Given}
 use Rattle.dali_drive.specs.declared.listed.ListedOrders.{ListedOrders}
 use Rattle.dali_drive.specs.declared.std_streams.StdSource.{StdSource}

@@ -6,7 +6,7 @@ use Rattle.dali_input.specs.declared.fault.InputFault.TheVariants.{Memory, File,
 use Rattle.dali_store.specs.declared.opening.OpenFault.{OpenFault}
 use Rattle.dali_store.specs.declared.opening.OpenFault.TheVariants as unopened
 use Rattle.dali_store.specs.declared.store.StoreFault.TheVariants as stores
-use Rattle.dali_drive.specs.declared.fault.DriveFault.{DriveFault}
+use Rattle.dali_trace.specs.declared.fault.DriveFault.{DriveFault}
 use Rattle.dali_drive.specs.declared.stored.StoredFault.TheVariants as stored
 use Rattle.dali_drive.specs.Stored.{IsStoredFault}
 use Rattle.dali_drive.specs.Driven.{at_moment}

@@ -5,7 +5,7 @@ use Rattle.dali_follow.specs.declared.order_lines.OrderLines.{OrderLines}
 use Rattle.dali_follow.specs.Gave.{Gave, IsOver, state_of}
 use Rattle.dali_input.specs.declared.fault.InputFault.TheVariants.{File}
 use Rattle.dali_store.specs.declared.opening.OpenFault.{OpenFault}
-use Rattle.dali_drive.specs.declared.fault.DriveFault.{DriveFault}
+use Rattle.dali_trace.specs.declared.fault.DriveFault.{DriveFault}
 use Rattle.dali_drive.specs.declared.stored.StoredFault.TheVariants as stored
 use Rattle.dali_drive.specs.Followed.{IsStoredFollow, IsStoredFollowBreak, happenings}
 use Rattle.dali_drive.specs.Stored.{IsStoredFault}

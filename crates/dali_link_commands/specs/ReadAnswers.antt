@@ -6,7 +6,7 @@ use Rattle.dali_input.specs.declared.fault.InputFault.TheVariants.{File}
 use Rattle.dali_input.specs.BankText.{rows_text}
 use Rattle.dali_store.specs.Stores.{Becomes, KeepsOrBecomes}
 use Rattle.dali_read.specs.Places.{bank_course}
-use Rattle.dali_drive.specs.declared.fault.DriveFault.{DriveFault}
+use Rattle.dali_trace.specs.declared.fault.DriveFault.{DriveFault}
 use Rattle.dali_drive.specs.Streams.{PutsFirst}
 use Rattle.dali_drive.specs.SurveyLines.{bytes_line, silent_line}
 use Rattle.dali_drive.specs.Surveys.{IsScan, ScanBroke, IsVerifiedTold, VerifyBrokeTold, link_of}

@@ -2,11 +2,9 @@ use crate::json_note::note_of_size;
 use crate::kind::{Kind, is_blank};
 use crate::note::Note;
 use crate::place::Place;
+use dali_gear::MOST_BANK;
 use dali_input::TEXT_LIMIT;
 use std::alloc::Global;
-
-// The most bytes of a bank.
-const MOST_BYTES: usize = 255;
 
 /// Why an input is no text of a bank: what it is instead, the first character that is no hexadecimal digit, or how many
 /// digits it has. Nothing where it is one.
@@ -31,10 +29,10 @@ fn note_size(note: &mut Note, input: &[u8]) {
     let bytes = count / 2;
     if count % 2 == 1 {
         note.add(format_args!("the input has {count} hexadecimal digits, and each byte has two"));
-    } else if bytes > MOST_BYTES {
-        let excess = bytes - MOST_BYTES;
+    } else if bytes > MOST_BANK {
+        let excess = bytes - MOST_BANK;
         note.add(format_args!(
-            "the input has {bytes} bytes, {excess} too many: a bank has at most {MOST_BYTES}"
+            "the input has {bytes} bytes, {excess} too many: a bank has at most {MOST_BANK}"
         ));
     }
 }

@@ -4,12 +4,10 @@ use crate::near_key::near_key;
 use crate::note::Note;
 use crate::told_key::ToldKey;
 use dali_bank::{BankFault, Field};
+use dali_gear::MOST_ADDRESS;
 use dali_input::{ItemFault, field_fault};
 use serde_json::Value as Json;
 use std::alloc::Global;
-
-// The greatest short address.
-const MOST_ADDRESS: u64 = 63;
 
 /// All that is wrong with an order object that is refused for a fault, a line each.
 pub fn note_of_item(alloc: Global, json: &Json, fault: ItemFault) -> Note {
@@ -31,7 +29,7 @@ pub fn note_of_item(alloc: Global, json: &Json, fault: ItemFault) -> Note {
 
 // Tells where the order's or the unit's number is none.
 fn note_numbers(note: &mut Note, json: &Json) {
-    for (key, most) in [("order", u64::MAX), ("unit", MOST_ADDRESS)] {
+    for (key, most) in [("order", u64::MAX), ("unit", u64::from(MOST_ADDRESS))] {
         let member = json.get(key);
         if member.and_then(Json::as_u64).is_none() {
             let found = Described(member);
@@ -75,7 +73,7 @@ fn note_key(note: &mut Note, key: &str) {
 // Tells where a unit's number is no short address.
 fn note_address(note: &mut Note, json: &Json) {
     match json.get("unit").and_then(Json::as_u64) {
-        Some(unit) if unit > MOST_ADDRESS => {
+        Some(unit) if unit > u64::from(MOST_ADDRESS) => {
             note.add(format_args!(
                 "unit: the number {unit}, and a short address is 0 to {MOST_ADDRESS}"
             ));

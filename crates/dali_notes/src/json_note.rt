@@ -4,7 +4,7 @@ use crate::described::Described;
 use crate::kind::{Kind, blanks_of, is_blank};
 use crate::note::Note;
 use crate::place::Place;
-use dali_input::InputFault;
+use dali_input::{InputFault, scenario_key as key};
 use serde_json::Value as Json;
 use std::alloc::Global;
 
@@ -167,7 +167,7 @@ fn no_list_note(alloc: Global, input: &[u8]) -> Note {
         return note;
     };
     let is_order = json.get("order").is_some() && json.get("unit").is_some();
-    if json.get("events").is_some() {
+    if json.get(key::EVENTS).is_some() {
         note.add("the input is an object with events, which `run` takes, and orders are an array")
     } else if is_order {
         note.add("the input is one order, and orders are an array: it stands between [ and ]")

@@ -3,6 +3,7 @@ use crate::near_key::near_key;
 use crate::note::Note;
 use crate::scenario_rule::{Member, event_members, fate_members, scenario_members, unit_members};
 use crate::told_key::ToldKey;
+use dali_input::scenario_key as key;
 use serde_json::Value as Json;
 use std::alloc::Global;
 use std::fmt;
@@ -46,10 +47,15 @@ pub fn note_of_scenario(alloc: Global, json: &Json) -> Note {
         return note;
     }
     note_object(&mut note, Path::Whole, json, &scenario_members());
-    note_each(&mut note, "units", json.get("units"), &unit_members());
-    note_each(&mut note, "fates", json.get("fates"), &fate_members());
-    note_each(&mut note, "events", json.get("events"), &event_members());
-    note_events(&mut note, json.get("events"));
+    note_each(&mut note, key::UNITS, json.get(key::UNITS), &unit_members());
+    note_each(&mut note, key::FATES, json.get(key::FATES), &fate_members());
+    note_each(
+        &mut note,
+        key::EVENTS,
+        json.get(key::EVENTS),
+        &event_members(),
+    );
+    note_events(&mut note, json.get(key::EVENTS));
     note
 }
 
@@ -134,12 +140,12 @@ fn note_events(note: &mut Note, json: Option<&Json>) {
 // Tells an event that doesn't say one thing.
 fn note_event(note: &mut Note, place: usize, json: &Json) {
     let mut count = 0u8;
-    for key in ["submit", "steps", "stop", "power"] {
+    for key in [key::SUBMIT, key::STEPS, key::STOP, key::POWER] {
         if json.get(key).is_some() {
             count = count.saturating_add(1);
         }
     }
-    let moves = json.get("moment").is_some() && json.get("submit").is_none();
+    let moves = json.get(key::MOMENT).is_some() && json.get(key::SUBMIT).is_none();
     match json.as_object() {
         Some(_) if count != 1 => {
             note.add(format_args!(

@@ -1,7 +1,13 @@
-use dali_input::MOST_EVENTS;
+use dali_gear::{LEAST_BANK, MOST_ADDRESS, MOST_BANK};
+use dali_input::{MOST_EVENTS, scenario_key as key};
 use dali_journal::MOST_ORDERS;
 use serde_json::Value as Json;
 use std::fmt;
+
+// The digits of the shortest bank and of the longest.
+const LEAST_DIGITS: usize = 2 * LEAST_BANK;
+
+const MOST_DIGITS: usize = 2 * MOST_BANK;
 
 /// What a value of a scenario has to be.
 #[derive(Clone, Copy)]
@@ -12,7 +18,7 @@ pub enum Rule {
     Wholes { least: u64, most: u64 },
     /// Three whole numbers from 0 to 255.
     Registers,
-    /// An even number of hexadecimal digits, 34 to 510.
+    /// The hexadecimal digits of a bank, two for each byte.
     Digits,
     /// True or false.
     Truth,
@@ -45,9 +51,13 @@ impl fmt::Display for Rule {
                 write!(f, "an array of whole numbers from {least} to {most}")
             }
             Rule::Registers => f.write_str("an array of three whole numbers from 0 to 255"),
-            Rule::Digits => f.write_str(
-                "a string of 34 to 510 hexadecimal digits, two for each byte",
-            ),
+            Rule::Digits => {
+                let (least, most) = (LEAST_DIGITS, MOST_DIGITS);
+                write!(
+                    f,
+                    "a string of {least} to {most} hexadecimal digits, two for each byte"
+                )
+            }
             Rule::Truth => f.write_str("true or false"),
             Rule::List => f.write_str("an array"),
             Rule::Anything => f.write_str("an order"),
@@ -62,6 +72,12 @@ pub struct Member {
     pub is_required: bool,
     pub rule: Rule,
 }
+
+// What a short address has to be.
+const ADDRESS: Rule = Rule::Whole {
+    least: 0,
+    most: MOST_ADDRESS as u64,
+};
 
 // A key that has to be there.
 fn required(key: &'static str, rule: Rule) -> Member {
@@ -85,31 +101,31 @@ fn optional(key: &'static str, rule: Rule) -> Member {
 pub fn scenario_members() -> [Member; 4] {
     [
         required(
-            "limit",
+            key::LIMIT,
             Rule::Whole {
                 least: 1,
                 most: u64::from(MOST_ORDERS),
             },
         ),
-        required("units", Rule::List),
-        optional("fates", Rule::List),
-        required("events", Rule::List),
+        required(key::UNITS, Rule::List),
+        optional(key::FATES, Rule::List),
+        required(key::EVENTS, Rule::List),
     ]
 }
 
 /// The keys of a unit.
 pub fn unit_members() -> [Member; 4] {
     [
-        required("address", Rule::Whole { least: 0, most: 63 }),
-        optional("bank", Rule::Digits),
+        required(key::ADDRESS, ADDRESS),
+        optional(key::BANK, Rule::Digits),
         optional(
-            "fixed",
+            key::FIXED,
             Rule::Wholes {
                 least: 3,
-                most: 254,
+                most: MOST_BANK as u64 - 1,
             },
         ),
-        optional("dtr", Rule::Registers),
+        optional(key::DTR, Rule::Registers),
     ]
 }
 
@@ -117,15 +133,21 @@ pub fn unit_members() -> [Member; 4] {
 pub fn fate_members() -> [Member; 4] {
     [
         optional(
-            "times",
+            key::TIMES,
             Rule::Whole {
                 least: 1,
                 most: u64::from(MOST_EVENTS),
             },
         ),
-        optional("lost", Rule::Wholes { least: 0, most: 63 }),
-        optional("answer_lost", Rule::Truth),
-        optional("refuse", Rule::Truth),
+        optional(
+            key::LOST,
+            Rule::Wholes {
+                least: 0,
+                most: MOST_ADDRESS as u64,
+            },
+        ),
+        optional(key::ANSWER_LOST, Rule::Truth),
+        optional(key::REFUSE, Rule::Truth),
     ]
 }
 
@@ -133,23 +155,23 @@ pub fn fate_members() -> [Member; 4] {
 pub fn event_members() -> [Member; 5] {
     let most = u64::MAX;
     [
-        optional("submit", Rule::Anything),
-        optional("moment", Rule::Whole { least: 0, most }),
+        optional(key::SUBMIT, Rule::Anything),
+        optional(key::MOMENT, Rule::Whole { least: 0, most }),
         optional(
-            "steps",
+            key::STEPS,
             Rule::Whole {
                 least: 1,
                 most: u64::from(MOST_EVENTS),
             },
         ),
         optional(
-            "stop",
+            key::STOP,
             Rule::Whole {
                 least: 0,
-                most: 65_535,
+                most: u64::from(u16::MAX),
             },
         ),
-        optional("power", Rule::Whole { least: 0, most: 63 }),
+        optional(key::POWER, ADDRESS),
     ]
 }
 
@@ -182,10 +204,11 @@ fn count(json: &Json) -> usize {
     }
 }
 
-// Whether the value is a string of an even number of hexadecimal digits, 34 to 510.
+// Whether the value is a string of the hexadecimal digits of a bank.
 fn are_digits(json: &Json) -> bool {
     match json.as_str() {
-        Some(text) if 34 <= text.len() && text.len() <= 510 && text.len() % 2 == 0 => {
+        Some(text)
+            if LEAST_DIGITS <= text.len() && text.len() <= MOST_DIGITS && text.len() % 2 == 0 => {
             text.as_bytes().iter().all(|byte| byte.is_ascii_hexdigit())
         }
         _ => false,

@@ -1,6 +1,6 @@
 use crate::item_note::note_of_item;
 use crate::note::Note;
-use dali_gear::GearFault;
+use dali_gear::{GearFault, LEAST_BANK, MOST_ADDRESS, MOST_BANK};
 use dali_input::{EventPlan, InputFault, MOST_EVENTS, Scenario, SetupFault, UnitPlan};
 use std::alloc::Global;
 
@@ -41,10 +41,12 @@ fn note_unit(note: &mut Note, unit: &UnitPlan, fault: GearFault) {
     let (address, length) = (unit.address, unit.bank.len());
     match fault {
         GearFault::Address => {
-            note.add(format_args!("address: the number {address}, and a short address is 0 to 63"))
+            note.add(format_args!(
+                "address: the number {address}, and a short address is 0 to {MOST_ADDRESS}"
+            ))
         }
         GearFault::Size => note.add(format_args!(
-            "bank: {length} bytes, and it has 17 to 255, the first of which is the last location"
+            "bank: {length} bytes, and it has {LEAST_BANK} to {MOST_BANK}, the first of which is the last location"
         )),
         GearFault::Fixed => note.add("fixed: the locations rise, from 03h to the last of the bank"),
         GearFault::NoMemory | GearFault::SameAddress => {}

@@ -14,8 +14,8 @@ use Rattle.dali_read.specs.declared.finding.Finding.TheVariants.{Same, Other, Sh
 use Rattle.dali_trace.specs.declared.happening.Reply.{Reply}
 use Rattle.dali_trace.specs.declared.happening.Reply.TheVariants as replies
 use Rattle.dali_trace.specs.Replies.{reply_text}
-use Rattle.dali_drive.specs.declared.fault.DriveFault.{DriveFault}
-use Rattle.dali_drive.specs.Faults.{drive_number, drive_name}
+use Rattle.dali_trace.specs.declared.fault.DriveFault.{DriveFault}
+use Rattle.dali_trace.specs.Faults.{drive_number, drive_name}
 use Rattle.dali_report.specs.declared.line.LastReply.{LastReply}
 
 -- the line of a value

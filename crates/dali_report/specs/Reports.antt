@@ -18,7 +18,7 @@ use Rattle.dali_trace.specs.declared.happening.Happening.{Happening}
 use Rattle.dali_trace.specs.declared.happening.Happening.TheVariants.{Asked, Answered, Kept}
 use Rattle.dali_trace.specs.Cut.{since, frames_in}
 use Rattle.dali_trace.specs.Trace.{Start, records_of}
-use Rattle.dali_drive.specs.declared.fault.DriveFault.{DriveFault}
+use Rattle.dali_trace.specs.declared.fault.DriveFault.{DriveFault}
 use Rattle.dali_report.specs.Lines.{counted, last_data, end_data, found_data, line_of}
 use Rattle.dali_report.specs.declared.line.LastReply.{LastReply}
 

@@ -11,7 +11,7 @@ use Rattle.dali_text.specs.Output as output
 use Rattle.dali_trace.specs.declared.happening.Happening.{Happening}
 use Rattle.dali_trace.specs.Cut.{since}
 use Rattle.dali_trace.specs.Trace.{Start}
-use Rattle.dali_drive.specs.declared.fault.DriveFault.{DriveFault}
+use Rattle.dali_trace.specs.declared.fault.DriveFault.{DriveFault}
 use Rattle.dali_report.specs.declared.report.Report.{Report}
 use Rattle.dali_report.specs.declared.report.Spoken.{Spoken}
 use Rattle.dali_report.specs.Reports.{resumed, spoken_of, is_asked, has_end, exchanges, report_text, broken_text, found_lines, all_done}

@@ -1,6 +1,7 @@
 pub mod Cut
 pub mod Trace
 pub mod Replies
+pub mod Faults
 pub mod Grounds
 pub mod Legal
 pub mod Taken

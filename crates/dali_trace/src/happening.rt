@@ -1,3 +1,5 @@
+use crate::decimal::decimal_of;
+use arrayvec::ArrayString;
 use dali_bank::Order;
 use dali_frame::Frame;
 use dali_journal::{Code, Record};
@@ -24,9 +26,12 @@ pub enum Reply {
     Blocked(u8),
 }
 
+/// The words of a reply.
+pub type ReplyText = ArrayString<40>;
+
 impl Reply {
     ghost use Rattle.std.specs.Prelude.{◌≡◌};
-    ghost use Rattle.dali_trace.specs.Replies.{reply_number};
+    ghost use Rattle.dali_trace.specs.Replies.{reply_number, reply_text};
 
     /// The reply's number, 1 to 6.
     pub fn number(&self) -> u8
@@ -41,6 +46,30 @@ impl Reply {
             Reply::Blocked(_) => 6,
         }
     }
+
+    /// The reply's words, as every line tells it: `taken`, `kept 0 Done`, `blocked 5` (profile).
+    pub fn text(&self) -> ReplyText
+        ensures { result.bytes ≡ reply_text self.now }
+    {
+        let mut text = ReplyText::new();
+        match self {
+            Reply::Taken => text.push_str("taken"),
+            Reply::Kept(code) => {
+                text.push_str("kept ");
+                text.push_str(decimal_of(u64::from(code.number())).as_str());
+                text.push_str(" ");
+                text.push_str(code.name());
+            }
+            Reply::IdReused => text.push_str("reused"),
+            Reply::Busy => text.push_str("busy"),
+            Reply::Full => text.push_str("full"),
+            Reply::Blocked(unit) => {
+                text.push_str("blocked ");
+                text.push_str(decimal_of(u64::from(*unit)).as_str());
+            }
+        }
+        text
+    }
 }
 
 impl fmt::Display for Reply {
@@ -50,17 +79,7 @@ impl fmt::Display for Reply {
     ghost output = { λ reply. Some (reply_text reply) };
 
     fn fmt<W: fmt::Write>(&self, f: &mut fmt::Formatter<W>) -> fmt::Result {
-        match self {
-            Reply::Taken => f.write_str("taken"),
-            Reply::Kept(code) => {
-                let number = code.number();
-                write!(f, "kept {number} {code}")
-            }
-            Reply::IdReused => f.write_str("reused"),
-            Reply::Busy => f.write_str("busy"),
-            Reply::Full => f.write_str("full"),
-            Reply::Blocked(unit) => write!(f, "blocked {unit}"),
-        }
+        f.write_str(self.text().as_str())
     }
 }
 

@@ -2,6 +2,10 @@
 //! legal, which go by plan, what they say of the units, and worked traces on both sides of each rule.
 #![tactic(auto)]
 
+mod decimal;
+mod fault;
 mod happening;
 
-pub use happening::{Event, Happening, Reply, Want};
+pub use decimal::{Decimal, decimal_of};
+pub use fault::{DriveFault, RunFault};
+pub use happening::{Event, Happening, Reply, ReplyText, Want};

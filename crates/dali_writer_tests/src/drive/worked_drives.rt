@@ -2,7 +2,7 @@ ghost use Rattle.std.specs.Prelude.{◌∷◌, [], ℕ, List, Some, None, Err, c
 ghost use Rattle.dali_bank.specs.Order.{Contents};
 ghost use Rattle.dali_frame.specs.declared.fault.LineFault.TheVariants.{Length};
 ghost use Rattle.dali_journal.specs.declared.record.Record.TheVariants.{Opened};
-ghost use Rattle.dali_drive.specs.declared.fault.DriveFault.TheVariants as faults;
+ghost use Rattle.dali_trace.specs.declared.fault.DriveFault.TheVariants as faults;
 ghost use Rattle.dali_trace.specs.declared.happening.Reply.TheVariants as replies;
 ghost use Rattle.dali_trace.specs.declared.happening.Happening.TheVariants.{Asked, Answered, Kept, Stopped};
 ghost use Rattle.dali_trace.specs.Next.{IsNext};

@@ -1,6 +1,6 @@
 use Rattle.std.proofs.Common.{refl, codes, subst, sym, arith}
 use Rattle.std.proofs.lemmas.Fmt.{decimal_digit}
-use Rattle.dali_drive.specs.declared.fault.DriveFault.{DriveFault}
+use Rattle.dali_trace.specs.declared.fault.DriveFault.{DriveFault}
 use Rattle.dali_link_commands.specs.Told.{IsFaultText}
 use Rattle.dali_link_commands.proofs.drive_lines.plain_text.Goals as goal
 

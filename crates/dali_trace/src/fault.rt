@@ -1,8 +1,66 @@
 ghost use Rattle.std.specs.Prelude.{◌≡◌};
 
 use dali_frame::LineFault;
+use dali_journal::NoMemory;
+use std::alloc::AllocError;
 use std::error::Error;
 use std::fmt;
+
+/// Why a run didn't come to its end (profile).
+#[derive(Clone, Copy, Debug, PartialEq, Eq, Hash)]
+pub enum RunFault {
+    /// The limit is 0 or over 100000. Nothing was done.
+    Limit = 1,
+    /// There was no memory. The bus stands where the events so far left it.
+    NoMemory = 2,
+}
+
+impl RunFault {
+    ghost use Rattle.dali_trace.specs.Faults.{run_number};
+
+    /// The fault's number.
+    pub fn number(&self) -> u8
+        ensures { result ≡ run_number self.now }
+    {
+        *self as u8
+    }
+}
+
+impl fmt::Display for RunFault {
+    ghost use Rattle.std.specs.Prelude.{Some};
+    ghost use Rattle.dali_trace.specs.Faults.{run_name};
+
+    ghost output = { λ fault. Some (run_name fault) };
+
+    fn fmt<W: fmt::Write>(&self, f: &mut fmt::Formatter<W>) -> fmt::Result {
+        f.write_str(match self {
+            RunFault::Limit => "Limit",
+            RunFault::NoMemory => "NoMemory",
+        })
+    }
+}
+
+impl Error for RunFault {}
+
+impl From<NoMemory> for RunFault {
+    ghost use Rattle.dali_trace.specs.declared.fault.RunFault.TheVariants as faults;
+
+    ghost from_gives = { λ _ fault. fault ≡ faults.NoMemory };
+
+    fn from(_fault: NoMemory) -> RunFault {
+        RunFault::NoMemory
+    }
+}
+
+impl From<AllocError> for RunFault {
+    ghost use Rattle.dali_trace.specs.declared.fault.RunFault.TheVariants as faults;
+
+    ghost from_gives = { λ _ fault. fault ≡ faults.NoMemory };
+
+    fn from(_fault: AllocError) -> RunFault {
+        RunFault::NoMemory
+    }
+}
 
 /// Why a drive didn't come to its end (profile). What goes on is a new writer, from the journal that is loaded from the
 /// records' bytes.
@@ -25,7 +83,7 @@ pub enum DriveFault {
 }
 
 impl DriveFault {
-    ghost use Rattle.dali_drive.specs.Faults.{drive_number};
+    ghost use Rattle.dali_trace.specs.Faults.{drive_number};
 
     /// The fault's number, 1 to 7.
     pub fn number(&self) -> u8
@@ -45,7 +103,7 @@ impl DriveFault {
 
 impl fmt::Display for DriveFault {
     ghost use Rattle.std.specs.Prelude.{Some};
-    ghost use Rattle.dali_drive.specs.Faults.{drive_name};
+    ghost use Rattle.dali_trace.specs.Faults.{drive_name};
 
     ghost output = { λ fault. Some (drive_name fault) };
 

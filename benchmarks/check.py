@@ -1,13 +1,12 @@
 #!/usr/bin/env python3
-"""Measure `dali_bench check` beside a plain Python program (baseline.py).
+"""Measure `dali_bench check` beside a plain Python program (baseline.py), and beside what only reads JSON.
 
-It makes a file of work orders, and one of a quarter of its size, always the
-same for the same size. It runs both programs on both files in turn and prints
-the best wall time and the peak memory of each, and how they grow from the
-quarter to the full size.
+It makes a file of work orders, and one of a quarter of its size, always the same for the same size. It runs both
+programs on both files in turn, and jq and Python's json, and prints the best wall time and the peak memory of each, and
+how they grow from the quarter to the full size.
 
-Status 0: both programs gave the same output and status each time.
-Status 1: an output or a status differs. Status 2: a program couldn't be run.
+Status 0: both programs gave the same output and status each time. Status 1: an output or a status differs. Status 2: a
+program couldn't be run. Status 3: an aim isn't held.
 """
 
 import itertools
@@ -17,21 +16,22 @@ from typing import NamedTuple
 
 from measuring import (
     MEBIBYTE,
+    READERS,
     REPOSITORY,
+    Aims,
     Run,
     argument_parser,
     best_of,
-    least_measurable_memory,
     positive,
     print_machine,
     run,
-    start_by_fork,
     working_folder,
 )
 from orders import write_orders
 
 BASELINE = REPOSITORY / "benchmarks" / "baseline.py"
-PROGRAM = REPOSITORY / "dali_bench"
+LEAST_RATIO = 10
+MOST_GROWTH = 4.5
 
 
 class Difference(Exception):
@@ -39,13 +39,15 @@ class Difference(Exception):
 
 
 class Measurement(NamedTuple):
-    """What both programs took on one file of orders."""
+    """What the programs took on one file of orders, by their names: the program, the baseline, and the readers."""
 
     input_size: int
     order_count: int
-    program: Run
-    baseline: Run
-    least_memory: int
+    runs: dict
+
+    def ratio(self):
+        """Give how many times as fast as the baseline the program is."""
+        return self.runs["baseline"].seconds / self.runs["program"].seconds
 
 
 # Running the programs
@@ -80,26 +82,22 @@ def compare_outputs(program_path, baseline_path):
 
 
 def measure(program, orders_path, order_count, run_count):
-    """Run both programs in turn on one file and compare them."""
-    program_output = orders_path.with_suffix(".program.txt")
-    baseline_output = orders_path.with_suffix(".baseline.txt")
-    program_command = [program, "check", orders_path]
-    # -E: a variable such as PYTHONUNBUFFERED would make the baseline slower.
-    baseline_command = [sys.executable, "-E", BASELINE, "check", orders_path]
-    program_runs = []
-    baseline_runs = []
+    """Run the programs in turn on one file, and compare the program and the baseline."""
+    commands = {
+        "program": [program, "check"],
+        # -E: a variable such as PYTHONUNBUFFERED would make the baseline slower.
+        "baseline": [sys.executable, "-E", BASELINE, "check"],
+        **READERS,
+    }
+    outputs = {name: orders_path.with_suffix(f".{at}.txt") for at, name in enumerate(commands)}
+    runs = {name: [] for name in commands}
     for _ in range(run_count):
-        program_runs.append(run(program_command, program_output))
-        baseline_runs.append(run(baseline_command, baseline_output))
-        compare_statuses(program_runs[-1], baseline_runs[-1])
-        compare_outputs(program_output, baseline_output)
-    return Measurement(
-        orders_path.stat().st_size,
-        order_count,
-        best_of(program_runs),
-        best_of(baseline_runs),
-        least_measurable_memory(orders_path.parent),
-    )
+        for name, words in commands.items():
+            runs[name].append(run([*words, orders_path], outputs[name]))
+        compare_statuses(runs["program"][-1], runs["baseline"][-1])
+        compare_outputs(outputs["program"], outputs["baseline"])
+    best = {name: best_of(each) for name, each in runs.items()}
+    return Measurement(orders_path.stat().st_size, order_count, best)
 
 
 # Printing
@@ -114,51 +112,44 @@ def print_heading(program, run_count):
     print(f"memory    highest of {run_count} runs")
 
 
-def print_run(name, measured, input_size, least_memory):
-    """Print the time and the memory of one program on one file."""
-    bound = "at most " if measured.peak_memory <= least_memory else ""
-    print(
-        f"  {name:9} {measured.seconds:8.3f} s,"
-        f" peak memory {bound}{measured.peak_memory / MEBIBYTE:.1f} MiB"
-        f" = {measured.peak_memory / input_size:.2f} x input,"
-        f" status {measured.status}"
-    )
-
-
 def print_measurement(measurement):
     """Print what was measured on one file."""
     size = measurement.input_size
-    least_memory = measurement.least_memory
-    ratio = measurement.baseline.seconds / measurement.program.seconds
     print(f"\n{size / MEBIBYTE:.2f} MiB, {measurement.order_count} orders")
-    print_run("program", measurement.program, size, least_memory)
-    print_run("baseline", measurement.baseline, size, least_memory)
-    print(f"  time of baseline / program {ratio:.2f}")
-
-
-def print_growth(name, quarter, full, least_memory):
-    """Print how one program's time and memory grow with the input."""
-    bound = "at least " if quarter.peak_memory <= least_memory else ""
-    print(
-        f"  {name:9} time x {full.seconds / quarter.seconds:.2f},"
-        f" peak memory {bound}x {full.peak_memory / quarter.peak_memory:.2f}"
-    )
+    for name, best in measurement.runs.items():
+        print(
+            f"  {name:28} {best.seconds:8.3f} s, peak memory {best.peak_memory / MEBIBYTE:.1f} MiB"
+            f" = {best.peak_memory / size:.2f} x input, status {best.status}"
+        )
+    print(f"  time of baseline / program {measurement.ratio():.2f}")
 
 
 def print_growths(quarter, full):
-    """Print how both programs grow from the quarter to the full size."""
+    """Print how time and memory grow from the quarter to the full size."""
     growth = full.input_size / quarter.input_size
     print(f"\nfrom the quarter to the full size, input x {growth:.2f}")
-    least_memory = quarter.least_memory
-    print_growth("program", quarter.program, full.program, least_memory)
-    print_growth("baseline", quarter.baseline, full.baseline, least_memory)
+    for name, best in full.runs.items():
+        least = quarter.runs[name]
+        print(
+            f"  {name:28} time x {best.seconds / least.seconds:.2f},"
+            f" peak memory x {best.peak_memory / least.peak_memory:.2f}"
+        )
+
+
+def judge(quarter, full):
+    """Tell which aims aren't held, and give the status."""
+    aims = Aims()
+    aims.want(full.ratio() >= LEAST_RATIO, f"{LEAST_RATIO} times as fast as the baseline: {full.ratio():.1f}")
+    growth = full.runs["program"].seconds / quarter.runs["program"].seconds
+    aims.want(growth <= MOST_GROWTH, f"at most {MOST_GROWTH} times the time for 4 times the input: {growth:.1f}")
+    return aims.status()
 
 
 # The whole
 
 
 def benchmark(program, size, run_count, folder):
-    """Measure both sizes and print the results."""
+    """Measure both sizes, print the results, and give the status."""
     print_heading(program, run_count)
     measurements = []
     for name, file_size in (("quarter", size // 4), ("full", size)):
@@ -169,13 +160,12 @@ def benchmark(program, size, run_count, folder):
         measurements.append(measurement)
     print_growths(*measurements)
     print("\nsame output and status in all runs")
+    return judge(*measurements)
 
 
 def read_arguments():
     """Read the command line."""
-    parser = argument_parser(
-        "Measure dali_bench check beside plain Python.", PROGRAM, run_count=3
-    )
+    parser = argument_parser("Measure dali_bench check beside plain Python.", run_count=3)
     parser.add_argument(
         "--size",
         type=positive(float),
@@ -188,19 +178,17 @@ def read_arguments():
 def main():
     """Run the benchmark; give the status described at the top."""
     arguments = read_arguments()
-    start_by_fork()
     program = arguments.program.resolve()
     size = int(arguments.size * MEBIBYTE)
     try:
         with working_folder(arguments.keep) as folder:
-            benchmark(program, size, arguments.runs, folder)
+            return benchmark(program, size, arguments.runs, folder)
     except Difference as difference:
         print(f"\nDIFFERENT: {difference}")
         return 1
     except OSError as error:
         print(f"\ncould not run: {error}", file=sys.stderr)
         return 2
-    return 0
 
 
 if __name__ == "__main__":

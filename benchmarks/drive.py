@@ -16,7 +16,8 @@ alone take is measured with a command that does nothing but send and read.
 5. The start behind older journals (`--older`), as long each: none, 1, 4, 10.
 
 Status 0: every order was done. Status 1: one wasn't, or the frames were too
-many or too few. Status 2: a program couldn't be built or run.
+many or too few. Status 2: a program couldn't be built or run. Status 3: an aim
+isn't held.
 """
 
 import json
@@ -31,17 +32,18 @@ from journal import FULL, HEADER, MOST_ORDERS, write_journal
 from measuring import (
     KIBIBYTE,
     MEBIBYTE,
-    REPOSITORY,
+    Aims,
     argument_parser,
+    built,
     print_machine,
     working_folder,
 )
 
-PROGRAM = REPOSITORY / "crates" / "dali_bench" / "out" / "dali_bench"
 GTIN = "4006381333931"
 UNITS = 5
 FRAMES_OF_ORDER = 112
 RECORDS_OF_ORDER = 3
+MOST_SHARE = 20e-6
 MEMORY_FOLDER = pathlib.Path("/dev/shm")
 
 
@@ -63,16 +65,11 @@ class Bench:
         self.folder = folder
         self.memory = MEMORY_FOLDER if os.access(MEMORY_FOLDER, os.W_OK) else folder
         self.runs = runs
-        self.link = folder / "null_link"
-        self.shim = folder / "drive_shim.so"
+        self.aims = Aims()
+        self.link = built("benchmarks/null_link.c")
+        self.shim = built("tests/drive_shim.c", "-shared", "-fPIC")
         # The variables with which nothing is synced.
         self.unsynced = [f"LD_PRELOAD={self.shim}", "DRIVE_SHIM_ACT=sync any 0 skip 0"]
-        source = REPOSITORY / "benchmarks" / "null_link.c"
-        subprocess.run(["cc", "-O2", "-o", self.link, source], check=True)
-        source = REPOSITORY / "tests" / "drive_shim.c"
-        subprocess.run(
-            ["cc", "-O2", "-shared", "-fPIC", "-o", self.shim, source], check=True
-        )
 
     def run(self, words, environment=None):
         """Run a command under the link once."""
@@ -173,20 +170,21 @@ def least(runs):
     )
 
 
-def print_run(name, driven, pipes, count, start=0.0):
-    """Print what a run takes by frame and by order, beside the pipes alone.
+def share_of(driven, pipes, start=0.0):
+    """Give the program's own share of a frame: the processor's seconds, less those of the pipes and of the start."""
+    return (driven.processor_seconds - pipes.processor_seconds - start) / driven.frames
 
-    The own share leaves out the processor seconds of the start.
-    """
+
+def print_run(name, driven, pipes, count, start=0.0):
+    """Print what a run takes by frame and by order, beside the pipes alone."""
     frames = driven.frames
-    own = driven.processor_seconds - pipes.processor_seconds - start
     beyond = driven.seconds - pipes.seconds
     print(
         f"{name}: {driven.seconds:.3f} s,"
         f" a frame {driven.seconds / frames * 1e6:.1f} us"
         f" (beyond the pipes {beyond / frames * 1e6:.1f} us,"
         f" processor {driven.processor_seconds / frames * 1e6:.1f} us,"
-        f" own share {own / frames * 1e6:.1f} us),"
+        f" own share {share_of(driven, pipes, start) * 1e6:.1f} us),"
         f" an order {driven.seconds / count * 1e3:.2f} ms,"
         f" memory {driven.peak_memory / MEBIBYTE:.1f} MiB"
     )
@@ -211,6 +209,8 @@ def measure_orders(bench):
         driven = bench.drive(count, memory, is_synced=False)
         name = f"{count} orders, in memory, not synced"
         print_run(name, driven, alone, count, start)
+        share = share_of(driven, alone, start)
+        bench.aims.want(share < MOST_SHARE, f"{count} orders: a frame's own share is under 20 us: {share * 1e6:.1f}")
     unsynced = bench.drive(1000, disk, is_synced=False)
     print_run("1000 orders, on disk, not synced", unsynced, pipes[1000], 1000, start)
     in_memory = bench.drive(1000, memory)
@@ -255,8 +255,8 @@ def measure_starts_behind(bench):
 
 
 def status_of(summary, bench_of, *measures):
-    """Take these measures on a bench; give the status, 0 where each order was done and nothing was too much."""
-    arguments = argument_parser(summary, PROGRAM, 3).parse_args()
+    """Take these measures on a bench; give the status, 0 where each order was done and all aims are held."""
+    arguments = argument_parser(summary, 3).parse_args()
     print_machine()
     try:
         with working_folder(arguments.keep) as folder:
@@ -269,7 +269,7 @@ def status_of(summary, bench_of, *measures):
     except ValueError as error:
         print(f"a run went wrong: {error}")
         return 1
-    return 0
+    return bench.aims.status()
 
 
 if __name__ == "__main__":

@@ -13,7 +13,7 @@
    index (colliding.c).
 
 Status 0: both programs gave the same output. Status 1: an output differs.
-Status 2: a program couldn't be built or run.
+Status 2: a program couldn't be built or run. Status 3: an aim isn't held.
 """
 
 import itertools
@@ -25,22 +25,23 @@ import sys
 from measuring import (
     MEBIBYTE,
     REPOSITORY,
+    Aims,
     argument_parser,
     best_of,
-    least_measurable_memory,
+    built,
     print_machine,
     run,
-    start_by_fork,
     working_folder,
 )
 
-PROGRAM = REPOSITORY / "crates" / "dali_bench" / "out" / "dali_bench"
 BASELINE = REPOSITORY / "benchmarks" / "journal_baseline.py"
 GTIN = list(zip(range(0x03, 0x09), bytes.fromhex("03A4CEEFADAB")))
 FULL = [(place, 0xA5) for place in [*range(0x03, 0x11), *range(0x13, 0x78)]]
 FIELDS = [("all fields", FULL), ("a GTIN", GTIN)]
 MOST_ORDERS = 100000
 HEADER = bytes.fromhex("44423102")
+# Of loading alone: the most seconds, the least times as fast as the baseline, the most memory by the file's size.
+MOST_SECONDS, LEAST_RATIO, MOST_MEMORY = 1, 20, 4
 MOMENT = struct.pack(">Q", 1700000000)
 
 
@@ -57,10 +58,9 @@ def write_journal(path, numbers, pairs, behind=b"", version=2):
         file.write(behind)
 
 
-def compare(program, runs, folder):
+def compare(program, runs, folder, aims):
     """Run the program and the baseline on all files; whether they agree."""
     agree = True
-    least = least_measurable_memory(folder)
     for (name, pairs), version in itertools.product(FIELDS, (2, 1)):
         whole, ended = folder / "journal.bin", folder / "ended.bin"
         write_journal(whole, range(MOST_ORDERS), pairs, b"", version)
@@ -75,15 +75,18 @@ def compare(program, runs, folder):
         loaded = best_of(
             [run([program, "journal", ended], folder / "ended.txt") for _ in range(runs)]
         )
-        memory = max(told.peak_memory, least)
+        memory, ratio = told.peak_memory, plain.seconds / loaded.seconds
+        what = f"{MOST_ORDERS} orders with {name}, version {version}"
         print(
-            f"{MOST_ORDERS} orders with {name}, version {version},"
-            f" {size / MEBIBYTE:.1f} MiB:"
+            f"{what}, {size / MEBIBYTE:.1f} MiB:"
             f" journal {told.seconds:.3f} s, loading alone {loaded.seconds:.3f} s,"
             f" memory {memory / MEBIBYTE:.1f} MiB ({memory / size:.1f} x file),"
             f" baseline {plain.seconds:.2f} s ({plain.seconds / told.seconds:.0f} x,"
-            f" of loading {plain.seconds / loaded.seconds:.0f} x)"
+            f" of loading {ratio:.0f} x)"
         )
+        aims.want(loaded.seconds <= MOST_SECONDS, f"{what}: loading takes at most {MOST_SECONDS} s")
+        aims.want(ratio >= LEAST_RATIO, f"{what}: loading is {LEAST_RATIO} times as fast as the baseline: {ratio:.1f}")
+        aims.want(memory <= MOST_MEMORY * size, f"{what}: memory is at most {MOST_MEMORY} x file: {memory / size:.1f}")
     return agree
 
 
@@ -114,9 +117,7 @@ def measure_calls(folder):
     for count in (10, 1000, 99000):
         write_journal(path, range(count), GTIN)
         print_calls(program, path, "")
-    chooser = folder / "colliding"
-    source = REPOSITORY / "benchmarks" / "colliding.c"
-    subprocess.run(["cc", "-O2", "-o", chooser, source], check=True)
+    chooser = built("benchmarks/colliding.c")
     chosen = subprocess.run(
         [chooser, "3fff", str(MOST_ORDERS)], check=True, capture_output=True, text=True
     ).stdout.split()
@@ -127,15 +128,15 @@ def measure_calls(folder):
 
 def main():
     """Measure, and tell whether the outputs agree."""
-    parser = argument_parser(__doc__.splitlines()[0], PROGRAM, 3)
+    parser = argument_parser(__doc__.splitlines()[0], 3)
     parser.add_argument("--calls", action="store_true", help="measure calls too")
     arguments = parser.parse_args()
-    start_by_fork()
+    aims = Aims()
     print_machine()
     try:
         with working_folder(arguments.keep) as folder:
             folder = pathlib.Path(folder).resolve()
-            agree = compare(arguments.program.resolve(), arguments.runs, folder)
+            agree = compare(arguments.program.resolve(), arguments.runs, folder, aims)
             if arguments.calls:
                 measure_calls(folder)
     except (OSError, subprocess.CalledProcessError) as error:
@@ -144,7 +145,7 @@ def main():
     if not agree:
         print("the outputs differ")
         return 1
-    return 0
+    return aims.status()
 
 
 if __name__ == "__main__":

@@ -1,23 +1,33 @@
-"""What the benchmarks share: runs of programs, the machine, arguments."""
+"""What the benchmarks share: runs of programs, peers, aims, the machine, arguments."""
 
 import argparse
+import atexit
 import contextlib
 import datetime
+import functools
 import os
 import pathlib
 import platform
 import subprocess
 import sys
 import tempfile
-import time
 from typing import NamedTuple
 
 REPOSITORY = pathlib.Path(__file__).resolve().parent.parent
+# Not the launcher, which takes time of its own.
+PROGRAM = REPOSITORY / "crates" / "dali_bench" / "out" / "dali_bench"
 
 KIBIBYTE = 1024
 MEBIBYTE = 1024 * KIBIBYTE
-# The kernel counts peak memory in KiB, that of macOS in bytes.
-PEAK_MEMORY_UNIT = 1 if sys.platform == "darwin" else KIBIBYTE
+
+# The commands that only read a file of JSON, for comparison. -E: a variable such as PYTHONUNBUFFERED tells in the time.
+READERS = {
+    "jq, reading alone": ["jq", "length"],
+    "Python's json, reading alone": [sys.executable, "-E", "-c", "import json, sys; json.load(open(sys.argv[1]))"],
+}
+
+# The status of a benchmark in which all ended as it has to, and an aim isn't held.
+AIM_MISSED = 3
 
 
 class Run(NamedTuple):
@@ -30,33 +40,48 @@ class Run(NamedTuple):
     status: int
 
 
-def start_by_fork():
-    """Make subprocess start children by fork instead of vfork.
+class Aims:
+    """Which aims a benchmark found not to be held."""
 
-    A fork copies less of this process than a vfork shares with it, so that
-    less of it is counted as memory of the child.
-    """
-    subprocess._USE_VFORK = False
-    subprocess._USE_POSIX_SPAWN = False
+    def __init__(self):
+        self.missed = 0
+
+    def want(self, is_held, aim):
+        """Tell of an aim that isn't held."""
+        if not is_held:
+            self.missed += 1
+            print(f"AIM NOT HELD: {aim}", flush=True)
+
+    def status(self):
+        """Give the status: 0 where all aims are held."""
+        return AIM_MISSED if self.missed else 0
+
+
+def built(source, *flags):
+    """Build a C program of this folder for as long as this process runs."""
+    folder = tempfile.TemporaryDirectory(prefix="dali_bench_")
+    atexit.register(folder.cleanup)
+    path = pathlib.Path(folder.name) / "built"
+    done = subprocess.run(["cc", "-O2", *flags, "-o", path, REPOSITORY / source], check=False)
+    if done.returncode:
+        raise OSError(f"{source} can't be built")
+    return path
+
+
+@functools.cache
+def launcher():
+    """Give the program that runs a command and measures it."""
+    return built("benchmarks/launched.c")
 
 
 def run(command, output_path):
     """Run a command with its output in a file; what it tells on standard error is dropped."""
-    with open(output_path, "wb") as output:
-        start = time.perf_counter()
-        process = subprocess.Popen(
-            command, stdin=subprocess.DEVNULL, stdout=output, stderr=subprocess.DEVNULL
-        )
-        _, wait_status, usage = os.wait4(process.pid, 0)
-        seconds = time.perf_counter() - start
-    # The process is reaped already: keep Popen from waiting for it.
-    process.returncode = os.waitstatus_to_exitcode(wait_status)
-    return Run(
-        seconds,
-        usage.ru_utime + usage.ru_stime,
-        usage.ru_maxrss * PEAK_MEMORY_UNIT,
-        process.returncode,
-    )
+    words = [launcher(), output_path, *command]
+    told = subprocess.run(words, stdin=subprocess.DEVNULL, stdout=subprocess.PIPE, text=True, check=False).stdout
+    if not told:
+        raise OSError(f"{command[0]} can't be run")
+    nanoseconds, microseconds, memory, status = map(int, told.split())
+    return Run(nanoseconds / 1e9, microseconds / 1e6, memory * KIBIBYTE, status)
 
 
 def best_of(runs):
@@ -67,16 +92,6 @@ def best_of(runs):
         max(each.peak_memory for each in runs),
         runs[0].status,
     )
-
-
-def least_measurable_memory(folder):
-    """Give the peak memory that even a tiny child is counted with.
-
-    The kernel counts the memory of a child from the fork on, when it still
-    is a copy of this process. As this process grows a little from fork to
-    fork, a twentieth is added.
-    """
-    return run(["true"], folder / "true.txt").peak_memory * 21 // 20
 
 
 def processor():
@@ -114,7 +129,7 @@ def positive(kind):
     return read
 
 
-def argument_parser(description, program, run_count):
+def argument_parser(description, run_count, program=PROGRAM):
     """Give a parser of the arguments that each benchmark has."""
     parser = argparse.ArgumentParser(description=description)
     parser.add_argument(

@@ -11,18 +11,14 @@ from typing import NamedTuple
 
 from measuring import (
     MEBIBYTE,
-    REPOSITORY,
     argument_parser,
     best_of,
     positive,
     print_machine,
     run,
-    start_by_fork,
     working_folder,
 )
 from orders import gtin_of, write_orders
-
-PROGRAM = REPOSITORY / "crates" / "dali_bench" / "out" / "dali_bench"
 
 # A JSON text may nest so many levels in all; one of them is the list.
 LEVELS = 126
@@ -179,7 +175,7 @@ def benchmark(options, folder):
 
 def read_arguments():
     """Read the command line."""
-    parser = argument_parser("Measure the peak memory on the largest inputs.", PROGRAM, run_count=1)
+    parser = argument_parser("Measure the peak memory on the largest inputs.", run_count=1)
     parser.add_argument("--size", type=positive(float), default=16,
                         help="size of orders and scenarios in MiB (default: %(default)s)")
     return parser.parse_args()
@@ -187,7 +183,6 @@ def read_arguments():
 
 def main():
     """Measure, and return the status."""
-    start_by_fork()
     options = read_arguments()
     with working_folder(options.keep) as folder:
         try:

@@ -15,10 +15,9 @@ import subprocess
 import sys
 from typing import NamedTuple
 
-from measuring import MEBIBYTE, REPOSITORY, argument_parser, best_of, print_machine, run, start_by_fork, working_folder
+from measuring import MEBIBYTE, READERS, REPOSITORY, argument_parser, best_of, print_machine, run, working_folder
 from orders import write_orders
 
-PROGRAM = REPOSITORY / "crates" / "dali_bench" / "out" / "dali_bench"
 PICTURES = REPOSITORY / "docs" / "pictures"
 SIZES = (1, 2, 4, 8, 16)
 # Orders by the number of their updates.
@@ -99,9 +98,8 @@ def measured_reading(folder, program, runs):
     """Measure reading of orders by several programs; give lines of time and of memory."""
     commands = {
         "dali_bench check": [program, "check"],
-        "the same in Python": [sys.executable, REPOSITORY / "benchmarks" / "baseline.py", "check"],
-        "jq, reading alone": ["jq", "length"],
-        "Python's json, reading alone": [sys.executable, "-c", "import json, sys; json.load(open(sys.argv[1]))"],
+        "the same in Python": [sys.executable, "-E", REPOSITORY / "benchmarks" / "baseline.py", "check"],
+        **READERS,
     }
     times, memories = {it: [] for it in commands}, {it: [] for it in commands}
     for size in SIZES:
@@ -143,11 +141,10 @@ def measured_frames(folder, program):
 
 def main():
     """Measure and draw, and return the status."""
-    arguments = argument_parser(__doc__.split("\n")[0], PROGRAM, 3).parse_args()
+    arguments = argument_parser(__doc__.split("\n")[0], 3).parse_args()
     if not arguments.program.is_file():
         print(f"error: {arguments.program} isn't built", file=sys.stderr)
         return 2
-    start_by_fork()
     print_machine()
     try:
         with working_folder(arguments.keep) as folder:

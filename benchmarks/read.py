@@ -27,7 +27,7 @@ import subprocess
 import sys
 import tempfile
 
-from measuring import REPOSITORY, print_machine
+from measuring import PROGRAM, REPOSITORY, print_machine
 
 sys.dont_write_bytecode = True
 sys.path.insert(0, str(REPOSITORY / "tests"))
@@ -35,7 +35,6 @@ sys.path.insert(0, str(REPOSITORY / "tests"))
 from driven import simulated_link  # noqa: E402
 from read_desk import WithBank0, varied_bank  # noqa: E402
 
-PROGRAM = REPOSITORY / "crates" / "dali_bench" / "out" / "dali_bench"
 LENGTHS = (17, 120, 255)
 UNIT = 5
 ASK_DTR0, ASK_DTR1, READ = (0x200 * UNIT + 0x100 + it for it in (0x98, 0x9C, 0xC5))

@@ -15,9 +15,10 @@ reading its part of the file included. There is no limit for scenarios of
 which the time says little of the frames: where most events send none, or
 where the file is filled up with what has no effect.
 
-Status 0: all is within the limit. Status 1: a frame took longer, or a run
-ended otherwise or sent another number of frames than it has to. Status 2: the
-program couldn't be run. It needs Python 3.9 or later and Linux.
+Status 0: all is within the limit, and four times the events take at most 4.5
+times the time. Status 1: a run ended otherwise or sent another number of
+frames than it has to. Status 2: the program couldn't be run. Status 3: an aim
+isn't held. It needs Python 3.9 or later, Linux and a C compiler.
 """
 
 import sys
@@ -25,14 +26,12 @@ from typing import Callable, NamedTuple
 
 from measuring import (
     KIBIBYTE,
-    REPOSITORY,
+    Aims,
     Run,
     argument_parser,
     best_of,
-    least_measurable_memory,
     print_machine,
     run,
-    start_by_fork,
     working_folder,
 )
 from scenarios import (
@@ -51,9 +50,6 @@ from scenarios import (
     submits,
     write_scenario,
 )
-
-# Not the launcher, which takes time of its own.
-PROGRAM = REPOSITORY / "crates" / "dali_bench" / "out" / "dali_bench"
 
 EVENT_COUNTS = (5000, 10000, MOST_EVENTS)
 MOST_MICROSECONDS_PER_FRAME = 20
@@ -193,13 +189,6 @@ def microseconds_per_frame(measurement):
     return measurement.best.processor_seconds * 1e6 / measurement.frames
 
 
-def is_within(measurement):
-    """Tell whether the limit, where there is one, holds."""
-    if not measurement.case.is_limited:
-        return True
-    return microseconds_per_frame(measurement) < MOST_MICROSECONDS_PER_FRAME
-
-
 def print_heads():
     """Print the heads of the columns."""
     print(
@@ -208,12 +197,11 @@ def print_heads():
     )
 
 
-def print_measurement(measurement, least_memory):
+def print_measurement(measurement):
     """Print what was measured in one case, as a line of a table."""
     best = measurement.best
     by_frame = microseconds_per_frame(measurement)
     by_event = best.processor_seconds * 1e6 / measurement.event_count
-    bound = "<= " if best.peak_memory <= least_memory else ""
     print(
         f"{measurement.case.name:20}"
         f"{measurement.input_size / KIBIBYTE:9.0f}"
@@ -221,60 +209,60 @@ def print_measurement(measurement, least_memory):
         f"{best.processor_seconds * 1000:8.1f}"
         f"{'-' if by_frame is None else f'{by_frame:.2f}':>10}"
         f"{by_event:10.2f}"
-        f"{f'{bound}{best.peak_memory // KIBIBYTE}':>11}"
-        f"{'' if is_within(measurement) else '  OVER THE LIMIT'}"
+        f"{best.peak_memory // KIBIBYTE:11}"
     )
 
 
 def print_growth(measurements, nothing):
-    """Print the times of a case without the start-up, and their ratio."""
+    """Print the times of a case without the start-up, and their ratio, which is given."""
     net = [
         each.best.processor_seconds - nothing.processor_seconds
         for each in measurements
     ]
     ratio = net[-1] / net[0]
     times = "".join(f"{seconds * 1000:8.1f}" for seconds in net)
-    mark = "" if ratio <= MOST_GROWTH else "  faster than linear"
-    print(f"{measurements[0].case.name:20}{times}{ratio:8.2f}{mark}")
+    print(f"{measurements[0].case.name:20}{times}{ratio:8.2f}")
+    return ratio
 
 
 # The whole
 
 
 def benchmark(program, run_count, folder):
-    """Measure all cases and print the results; tell whether all is well."""
+    """Measure all cases, print the results, and give the status."""
+    aims = Aims()
     nothing = start_up(program, run_count, folder)
     print_heading(program, run_count, nothing)
     print_heads()
-    is_well = True
     for case in CASES:
         (measurement,) = measure(
             program, case, (MOST_EVENTS,), run_count, folder
         )
-        print_measurement(measurement, least_measurable_memory(folder))
-        is_well = is_well and is_within(measurement)
-
+        print_measurement(measurement)
+        if case.is_limited:
+            by_frame = microseconds_per_frame(measurement)
+            aims.want(
+                by_frame < MOST_MICROSECONDS_PER_FRAME,
+                f"{case.name}: a frame takes under {MOST_MICROSECONDS_PER_FRAME} us",
+            )
     counts = "".join(f"{count:8}" for count in EVENT_COUNTS)
     print(f"\n{'ms without start-up':20}{counts}{'ratio':>8}")
     for case in GROWING_CASES:
         measurements = measure(
             program, case, EVENT_COUNTS, run_count, folder
         )
-        print_growth(measurements, nothing)
-
-    verdict = "within" if is_well else "NOT WITHIN"
-    print(
-        f"\n{verdict} {MOST_MICROSECONDS_PER_FRAME} microseconds a frame"
-        " wherever that limit holds"
-    )
-    return is_well
+        ratio = print_growth(measurements, nothing)
+        aims.want(
+            ratio <= MOST_GROWTH,
+            f"{case.name}: at most {MOST_GROWTH} times the time for 4 times the events",
+        )
+    return aims.status()
 
 
 def read_arguments():
     """Read the command line."""
     return argument_parser(
         "Measure dali_bench run on the largest scenarios.",
-        PROGRAM,
         run_count=5,
     ).parse_args()
 
@@ -282,18 +270,16 @@ def read_arguments():
 def main():
     """Run the benchmark; give the status described at the top."""
     arguments = read_arguments()
-    start_by_fork()
     program = arguments.program.resolve()
     try:
         with working_folder(arguments.keep) as folder:
-            is_well = benchmark(program, arguments.runs, folder)
+            return benchmark(program, arguments.runs, folder)
     except Wrong as wrong:
         print(f"\nWRONG: {wrong}")
         return 1
     except OSError as error:
         print(f"\ncould not run: {error}", file=sys.stderr)
         return 2
-    return 0 if is_well else 1
 
 
 if __name__ == "__main__":

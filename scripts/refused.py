@@ -4,10 +4,10 @@ import hashlib
 import json
 import os
 import pathlib
-import subprocess
 import tempfile
 
-from crates import CRATES, PARTS, ROOT, below, text_of, uses
+from crates import ROOT, text_of
+from sums import add_files, kit_version
 
 # What reads an edit, tries it and judges it.
 JUDGES = ("wrong_bodies", "edits.py", "crates.py")
@@ -25,7 +25,7 @@ class Refused:
     def __init__(self):
         home = os.environ.get("XDG_CACHE_HOME") or pathlib.Path.home() / ".cache"
         self.folder = pathlib.Path(home) / "dali_bench" / "refused"
-        self.kit = subprocess.run(["rt", "version"], stdout=subprocess.PIPE, check=True).stdout
+        self.kit = kit_version()
         self.files = {}
 
     def of(self, name, edits):
@@ -68,13 +68,6 @@ class Refused:
         total = hashlib.sha256(self.kit)
         for judge in JUDGES:
             total.update(text_of(ROOT / "scripts" / judge).encode())
-        used = uses()
-        for crate in sorted({name, *below(name, used)}):
-            total.update(f"{crate}: {used[crate]}\n".encode())
-            for part in PARTS:
-                for path in sorted(it for it in (CRATES / crate / part).rglob("*") if it.is_file()):
-                    content = path.read_bytes()
-                    total.update(f"{path.relative_to(CRATES)} {len(content)}\n".encode())
-                    total.update(content)
+        add_files(total, name)
         return self.folder / f"{name}-{total.hexdigest()}"
 

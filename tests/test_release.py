@@ -30,7 +30,7 @@ STAND_IN = '#!/bin/sh\nif [ "$*" = --version ]; then echo "stand-in 1.0"; else e
 # What README names and only the repository has: it says so itself.
 KIT_ONLY = {"test", "scripts/release", "scripts/believe"}
 LAUNCHED = ("crates.txt", "HANDLES", "dali_bench", "scripts/built.sh", "scripts/start.sh", "scripts/build",
-            "scripts/crates.py")
+            "scripts/crates.py", "scripts/sums.py")
 SEEN_BY_ALL = 0o755
 
 

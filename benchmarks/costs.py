@@ -37,9 +37,9 @@ def measure_programs(bench):
         ("start of the built program", PROGRAM),
         ("the same by the launcher, where nothing has changed", REPOSITORY / "dali_bench"),
     ):
-        runs = [run([program, "--version"], bench.folder / "version.txt") for _ in range(10 * bench.runs)]
+        runs = [run([program, "frame", "A303"], bench.folder / "frame.txt") for _ in range(10 * bench.runs)]
         if any(it.status for it in runs):
-            raise ValueError(f"{program} --version ended otherwise than it has to")
+            raise ValueError(f"{program} frame ended otherwise than it has to")
         row(what, milliseconds(best_of(runs).seconds))
 
 

@@ -8,7 +8,8 @@
 2. With --calls: `load`, `kept` and a whole order of a writer (submit, two
    records, sixteen frames without an answer, the saying) over journals of 10,
    1000 and 99000 orders, by a program of the repository's
-   (crates/dali_speed_tests), which is proved and built first.
+   (crates/dali_speed_tests), which is proved and built first, unless one is
+   given that a gate has built.
 3. With --calls: loading numbers that were chosen to fall together in the
    index (colliding.c).
 
@@ -110,9 +111,9 @@ def print_calls(program, path, what):
     )
 
 
-def measure_calls(folder):
+def measure_calls(folder, built_by_gate):
     """Measure calls by the number of orders, and with chosen numbers."""
-    program = build_calls()
+    program = built_by_gate or build_calls()
     path = folder / "calls.bin"
     for count in (10, 1000, 99000):
         write_journal(path, range(count), GTIN)
@@ -130,6 +131,12 @@ def main():
     """Measure, and tell whether the outputs agree."""
     parser = argument_parser(__doc__.splitlines()[0], 3)
     parser.add_argument("--calls", action="store_true", help="measure calls too")
+    parser.add_argument(
+        "--calls-program",
+        type=pathlib.Path,
+        metavar="FILE",
+        help="a built dali_speed_tests, as a gate leaves it",
+    )
     arguments = parser.parse_args()
     aims = Aims()
     print_machine()
@@ -138,7 +145,7 @@ def main():
             folder = pathlib.Path(folder).resolve()
             agree = compare(arguments.program.resolve(), arguments.runs, folder, aims)
             if arguments.calls:
-                measure_calls(folder)
+                measure_calls(folder, arguments.calls_program)
     except (OSError, subprocess.CalledProcessError) as error:
         print(f"a program couldn't be built or run: {error}", file=sys.stderr)
         return 2

@@ -76,7 +76,8 @@ def function_at(path, line):
 
 def function_of_proof(file):
     """Give the function in whose folder below `proofs` a file is, or None."""
-    folders = pathlib.Path(file).parts[1:-1]
+    # Of a function that calls itself the folder's name begins with a plus.
+    folders = tuple(part.removeprefix("+") for part in pathlib.Path(file).parts[1:-1])
     if "fn" in folders:
         # The folder of a closure, below that of its function.
         at = folders.index("fn")

@@ -12,7 +12,7 @@ import sys
 
 import drive
 from drive import FRAMES_OF_ORDER, share_of
-from measuring import PROGRAM, REPOSITORY, best_of, run
+from measuring import REPOSITORY, best_of, run
 
 ORDERS = 1000
 # A frame, its answer or the time in which none came, and what a bus needs between two.
@@ -34,7 +34,7 @@ def measure_programs(bench):
     """Measure the starts of the program, by itself and by the launcher."""
     print("\n| what | cost |\n|---|---|")
     for what, program in (
-        ("start of the built program", PROGRAM),
+        ("start of the built program", bench.program),
         ("the same by the launcher, where nothing has changed", REPOSITORY / "dali_bench"),
     ):
         runs = [run([program, "frame", "A303"], bench.folder / "frame.txt") for _ in range(10 * bench.runs)]

@@ -1,6 +1,7 @@
 """Tests of `drive --older`: journals that are full or retired, whose orders get their kept replies."""
 
 import fcntl
+import json
 import os
 
 from drive_desk import (
@@ -26,7 +27,7 @@ from drive_desk import (
     settings,
     want,
 )
-from drive_follow import following
+from drive_follow import Live, following, piped
 from drive_report import blank_bus, kept, lines_of, reporting, unkept
 from driven import HEADER, Ended
 
@@ -186,6 +187,15 @@ def test_a_number_in_two_journals(folder):
     refused(folder, "order 7 stands in two journals", HEADER + absent_records(7), held=HEADER + absent_records(7)[:-2])
 
 
+def test_the_number_0_in_two_journals(folder):
+    zero, words = HEADER + absent_records(0), "order 0 stands in two journals"
+    refused(folder, words, zero, held=zero)
+    refused(folder, words, zero, held=zero[:-2])
+    for journals in ([zero, zero], [zero, DONE_JOURNAL, HEADER + absent_records(5) + absent_records(0)]):
+        refused(folder, words, *journals)
+        refused(folder, words, *journals, held=HEADER + absent_records(2))
+
+
 def test_the_journal_itself_named_as_an_older_one(folder):
     desk = desk_of(folder, SECOND, ABSENT_JOURNAL)
     desk.options = ["--older", desk.journal]
@@ -214,6 +224,37 @@ def test_an_older_journal_that_a_drive_has_open(folder):
         want((last_line(ended), desk.journal.exists()), (FAULT_21, False))
         assert "in use" in ended.told, ended
         want(desk.give(b"").told, KEPT_DONE)
+
+
+def test_all_older_journals_are_opened_before_one_is_read(folder):
+    for desk in desks(folder, PRESENT):
+        _, second = behind(desk, ABSENT_BEGAN, DONE_JOURNAL)
+        with open(second, "rb") as file:
+            fcntl.flock(file, fcntl.LOCK_EX)
+            ended = desk.give(b"")
+        want((last_line(ended), desk.journal.exists()), (FAULT_21, False))
+        assert str(second) in ended.told and "in use" in ended.told, ended
+        second.unlink()
+        ended = desk.give(b"")
+        want((last_line(ended), desk.journal.exists()), (FAULT_21, False))
+        assert str(second) in ended.told and "No such file" in ended.told, ended
+
+
+def test_a_pipe_of_orders_is_opened_behind_the_older_journals(folder):
+    # Nobody opens the pipe to write to it here, so that a run which opened it would wait and not end.
+    desk = piped(folder)
+    for journals in ([ABSENT_BEGAN], [b"x"], [DONE_JOURNAL, OLD_ABSENT_BEGAN], [DONE_JOURNAL, OLD_DONE_JOURNAL]):
+        behind(desk, *journals)
+        want((journals, last_line(desk.give(b""))), (journals, FAULT_15))
+        assert not desk.journal.exists()
+    desk.options = ["--older", desk.folder / "none"]
+    want((last_line(desk.give(b"")), desk.journal.exists()), (FAULT_21, False))
+    # Behind one that can be used it is opened, and its orders are answered.
+    behind(desk, DONE_JOURNAL)
+    live = Live(desk, blank_bus(5))
+    os.write(live.pipe, json.dumps(PRESENT[0]).encode() + b"\n")
+    want((live.told(1), live.end()), (KEPT_DONE, Ended(0, b"", "")))
+    want(desk.held(), HEADER)
 
 
 def test_refused_orders_leave_the_journal_alone(folder):

@@ -12,13 +12,14 @@ import sys
 
 sys.dont_write_bytecode = True
 
+import link_memory  # noqa: E402
 import read_places  # noqa: E402
 import read_streams  # noqa: E402
 import read_units  # noqa: E402
 import read_verify  # noqa: E402
 import suite  # noqa: E402
 
-MODULES = (read_streams, read_units, read_verify, read_places)
+MODULES = (read_streams, read_units, read_verify, read_places, link_memory)
 
 if __name__ == "__main__":
     sys.exit(suite.main(__doc__, MODULES, sys.argv[1:]))

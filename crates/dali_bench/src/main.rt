@@ -3,16 +3,17 @@
 
 ghost use Rattle.dali_link_commands.specs.LinkCommands.{IsShort};
 
-use dali_drive::{StdSink, StdSource};
+use dali_drive::{StdSink, StdSource, StoreDesk};
 use dali_faults::{Fault, Status, write_fault};
 use dali_file_commands::FileCommand;
 use dali_file_commands::frame::frame;
 use dali_input::{Input, InputFault};
 use dali_job::{Job, job_of};
 use dali_link_commands::LinkCommand;
-use dali_link_commands::drive::{DriveNames, DriveTerms};
+use dali_link_commands::drive::DriveTask;
 use dali_link_commands::lines::Lines;
 use dali_notes::FirstLines;
+use dali_store::FileStore;
 use dali_text::{Escaped, Output};
 use std::alloc::{AllocError, Global};
 use std::io::{BufWriter, ErrorKind, LineWriter, Read, Write};
@@ -80,16 +81,14 @@ fn run(rt: &HostRuntime, words: &Vec<String>) -> Status {
                 older,
             },
         ) => {
-            let names = DriveNames {
+            let task = DriveTask {
                 orders,
                 journal,
                 older: older.as_slice(),
-            };
-            let terms = DriveTerms {
                 moment,
                 require_done,
             };
-            on_link(rt, LinkCommand::driving(follow, names, terms, report))
+            on_link(rt, LinkCommand::driving(follow, task, report))
         }
         Ok(Job::Read { unit, bank }) => on_link(rt, LinkCommand::Read { unit, bank }),
         Ok(Job::Verify { orders, report }) => on_link(rt, LinkCommand::Verify { orders, report }),
@@ -246,15 +245,15 @@ fn on_link(rt: &HostRuntime, command: LinkCommand<'_>) -> Status
     // A file that is opened takes the number of a standard stream that is closed. These do so before the journal.
     match (fs::open(rt, "/"), fs::open(rt, "/"), fs::open(rt, "/")) {
         (Ok(_first), Ok(_second), Ok(_third)) => {
-            let mut lines = Lines {
-                output: Output::new(lines),
+            let mut desk = StoreDesk {
+                link_in: StdSource::new(rt.stdin()),
+                link_out: StdSink::new(rt.stdout()),
+                journal: FileStore::for_text(rt, command.file()),
+                out: Lines {
+                    output: Output::new(lines),
+                },
             };
-            match command.carry_out(
-                rt,
-                &mut StdSource::new(rt.stdin()),
-                &mut StdSink::new(rt.stdout()),
-                &mut lines,
-            ) {
+            match command.carry_out(rt, &mut desk) {
                 Status::Unwritten => Status::Failed,
                 status => status,
             }

@@ -1,7 +1,7 @@
-use dali_commands::drive::{DriveNames, DriveTerms};
+use dali_commands::drive::DriveTask;
 use dali_commands::drive_files::drive_files;
 use dali_commands::lines::Lines;
-use dali_commands::{Output, Report, Status, StdSink, StdSource};
+use dali_commands::{FileStore, Output, Report, Status, StdSink, StdSource, StoreDesk};
 use dali_shared_tests::expect_that;
 use std::fs::{File, Files};
 use std::test::Fail;
@@ -111,9 +111,9 @@ struct Driven {
     told: Vec<u8>,
 }
 
-fn driven_files<R: Files<File = File> + AllocGlobal>(
-    rt: &R,
-    drive: &Drive<'_>,
+fn driven_files<'a, R: Files<File = File> + AllocGlobal>(
+    rt: &'a R,
+    drive: &Drive<'a>,
 ) -> io::Result<Driven> {
     if let Some(bytes) = drive.before {
         fs::write(rt, drive.journal, bytes)?;
@@ -123,27 +123,24 @@ fn driven_files<R: Files<File = File> + AllocGlobal>(
     let answers = b"--\n".repeat(rt.alloc(), drive.answers)?;
     let mut sent = Vec::new(rt.alloc());
     let mut told = Vec::new(rt.alloc());
-    let names = DriveNames {
+    let task = DriveTask {
         orders: name,
         journal: drive.journal,
         older: &[],
-    };
-    let terms = DriveTerms {
         moment: drive.moment,
         require_done: false,
     };
-    let mut report: Report<io::Sink> = Report::new(rt.alloc(), None);
-    let status = drive_files(
-        rt,
-        names,
-        terms,
-        &mut StdSource::new(answers.as_slice()),
-        &mut StdSink::new(&mut sent),
-        &mut Lines {
+    let mut desk = StoreDesk {
+        link_in: StdSource::new(answers.as_slice()),
+        link_out: StdSink::new(&mut sent),
+        journal: FileStore::for_text(rt, drive.journal),
+        out: Lines {
             output: Output::new(&mut told),
         },
-        &mut report,
-    );
+    };
+    let mut report: Report<io::Sink> = Report::new(rt.alloc(), None);
+    let status = drive_files(rt, task, &mut desk, &mut report);
+    drop(desk);
     fs::remove_file(rt, name)?;
     Ok(Driven { status, sent, told })
 }

@@ -1,8 +1,8 @@
 // `drive` with everything in memory: the orders, the link, the journal and the lines.
 use crate::drive_files::{BEGAN, ORDER, PAIR, REFUSED, SILENT, TAKEN};
-use dali_commands::drive::{DriveNames, DriveTerms, drive_input};
+use dali_commands::drive::{DriveTask, drive_input};
 use dali_commands::lines::Lines;
-use dali_commands::{Input, MemoryStore, Output, Report, Status, StdSink, StdSource};
+use dali_commands::{Input, MemoryStore, Output, Report, Status, StdSink, StdSource, StoreDesk};
 use dali_shared_tests::expect_that;
 use std::alloc::{AllocError, Global};
 use std::test::Fail;
@@ -35,31 +35,27 @@ fn driven_over(
     let mut sent = Vec::new(alloc);
     let mut told = Vec::new(alloc);
     let mut reported = Vec::new(alloc);
-    let mut store = MemoryStore::new(alloc, journal.to_vec(alloc)?);
-    let names = DriveNames {
+    let task = DriveTask {
         orders: "orders",
         journal: "journal",
         older: &[],
-    };
-    let terms = DriveTerms {
         moment: 7,
         require_done,
     };
-    let status = drive_input(
-        alloc,
-        None,
-        names,
-        &mut Input::new(orders.as_bytes()),
-        terms,
-        &mut StdSource::new(answers),
-        &mut StdSink::new(&mut sent),
-        &mut store,
-        &mut Lines {
+    let mut desk = StoreDesk {
+        link_in: StdSource::new(answers),
+        link_out: StdSink::new(&mut sent),
+        journal: MemoryStore::new(alloc, journal.to_vec(alloc)?),
+        out: Lines {
             output: Output::new(&mut told),
         },
-        &mut Report::new(alloc, Some(Output::new(&mut reported))),
-    );
-    let kept = store.bytes().to_vec(alloc)?;
+    };
+    let mut report = Report::new(alloc, Some(Output::new(&mut reported)));
+    let mut input = Input::new(orders.as_bytes());
+    let status = drive_input(alloc, None, task, &mut input, &mut desk, &mut report);
+    let kept = desk.journal.bytes().to_vec(alloc)?;
+    drop(desk);
+    drop(report);
     Ok(Driven {
         status,
         sent,

@@ -2,11 +2,14 @@
 use crate::drive_files::{BEGAN, SILENT, TAKEN};
 use crate::drive_memory::{NONE_16, SILENT_AT_7};
 use crate::streams::{Behind, TestReader};
-use dali_commands::drive::DriveNames;
+use dali_commands::drive::DriveTask;
 use dali_commands::follow::follow_lines;
 use dali_commands::lines::Lines;
-use dali_commands::{MemoryStore, OrderLines, Output, Report, Status, StdSink, StdSource};
+use dali_commands::{
+    MemoryStore, OrderLines, Output, Report, Status, StdSink, StdSource, StoreDesk,
+};
 use dali_shared_tests::expect_that;
+use dali_writer::{Got, Source};
 use std::alloc::{AllocError, Global};
 use std::io;
 use std::test::Fail;
@@ -164,38 +167,47 @@ static STREAMS: [Stream<'static>; 11] = [
     },
 ];
 
+// How many bytes a source of answers still gives.
+fn left_of(answers: &mut StdSource<&[u8]>) -> usize {
+    for count in 0..NONE_16.len() {
+        let Got::Byte(_) = answers.take_byte() else {
+            return count;
+        };
+    }
+    NONE_16.len()
+}
+
 // Whether a stream is followed as it should be.
 fn is_followed(alloc: Global, stream: &Stream<'_>) -> Result<bool, AllocError> {
     let mut sent = Vec::new(alloc);
     let mut told = Vec::new(alloc);
-    let mut answers = stream.answers.as_bytes();
-    let mut store = MemoryStore::new(alloc, stream.journal.to_vec(alloc)?);
-    let names = DriveNames {
+    let task = DriveTask {
         orders: "orders",
         journal: "journal",
         older: &[],
+        moment: 7,
+        require_done: stream.require_done,
     };
     let source = StdSource::new(TestReader::new(stream.lines.as_bytes(), stream.behind));
-    let mut report: Report<io::Sink> = Report::new(alloc, None);
-    let status = follow_lines(
-        alloc,
-        names,
-        &mut OrderLines::new(alloc, source, 7),
-        stream.require_done,
-        &mut StdSource::new(&mut answers),
-        &mut StdSink::new(&mut sent),
-        &mut store,
-        &mut Lines {
+    let mut orders = OrderLines::new(alloc, source, task.moment);
+    let mut desk = StoreDesk {
+        link_in: StdSource::new(stream.answers.as_bytes()),
+        link_out: StdSink::new(&mut sent),
+        journal: MemoryStore::new(alloc, stream.journal.to_vec(alloc)?),
+        out: Lines {
             output: Output::new(&mut told),
         },
-        &mut report,
-    );
-    let kept = store.bytes();
+    };
+    let mut report: Report<io::Sink> = Report::new(alloc, None);
+    let status = follow_lines(alloc, None, task, &mut orders, &mut desk, &mut report);
+    let is_kept = desk.journal.bytes() == stream.kept;
+    let left = left_of(&mut desk.link_in);
+    drop(desk);
     Ok(
         status == stream.status
             && told.as_slice() == stream.told.as_bytes()
-            && kept == stream.kept
-            && answers.len() == stream.left,
+            && is_kept
+            && left == stream.left,
     )
 }
 

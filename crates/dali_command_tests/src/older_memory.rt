@@ -5,10 +5,12 @@ ghost use Rattle.dali_journal.specs.Sentence.{standing_of};
 
 use crate::drive_files::{BEGAN, HEADER, OLD_SILENT, ORDER, SILENT};
 use crate::drive_memory::{OTHER, SILENT_AT_7};
-use dali_commands::drive::{DriveNames, DriveTerms, drive_input};
+use dali_commands::drive::{DriveTask, drive_input};
 use dali_commands::lines::Lines;
-use dali_commands::older::{OlderFault, joined_behind};
-use dali_commands::{Fault, Input, MemoryStore, Output, Report, Status, StdSink, StdSource};
+use dali_commands::older::{OlderFault, Unusable, joined_behind, joined_older};
+use dali_commands::{
+    Fault, Input, MemoryStore, Output, Report, Status, StdSink, StdSource, StoreDesk,
+};
 use dali_journal::{JoinFault, Journal, JournalFault};
 use dali_shared_tests::expect_that;
 use std::alloc::{AllocError, Global};
@@ -89,6 +91,104 @@ fn older_journals_are_joined(rt: HostRuntime) -> Result<(), Fail> {
     Ok(())
 }
 
+// A silent order of number 0.
+const SILENT_0: [u8; 37] = [
+    0x44, 0x42, 0x31, 0x02, 0x42, 0, 0, 0, 0, 0, 0, 0, 0, 0, 0, 0, 0, 0, 0, 0, 0, 9, 6, 3, 3, 4,
+    0xA4, 5, 0xCE, 6, 0xEF, 7, 0xAD, 8, 0xAB, 0x45, 3,
+];
+
+// Two journals in this order: how many orders they have as one, or which of them can't be used, and why.
+struct Two<'a> {
+    first: &'a [u8],
+    second: &'a [u8],
+    orders: u32,
+    unusable: Option<Unusable>,
+}
+
+static TWO: [Two<'static>; 7] = [
+    Two {
+        first: &SILENT,
+        second: &SILENT_0,
+        orders: 2,
+        unusable: None,
+    },
+    Two {
+        first: &SILENT_0,
+        second: &OLD_SILENT,
+        orders: 2,
+        unusable: None,
+    },
+    Two {
+        first: &[],
+        second: &HEADER,
+        orders: 0,
+        unusable: None,
+    },
+    Two {
+        first: &SILENT,
+        second: b"x",
+        orders: 0,
+        unusable: Some(Unusable {
+            index: 1,
+            fault: OlderFault::Unloaded(Fault::Journal(JournalFault::Record(0))),
+        }),
+    },
+    Two {
+        first: &BEGAN,
+        second: b"x",
+        orders: 0,
+        unusable: Some(Unusable {
+            index: 0,
+            fault: OlderFault::AtWork,
+        }),
+    },
+    Two {
+        first: &SILENT,
+        second: &BEGAN,
+        orders: 0,
+        unusable: Some(Unusable {
+            index: 1,
+            fault: OlderFault::AtWork,
+        }),
+    },
+    Two {
+        first: &SILENT_0,
+        second: &SILENT_0,
+        orders: 0,
+        unusable: Some(Unusable {
+            index: 1,
+            fault: OlderFault::Join(JoinFault::Repeated(0)),
+        }),
+    },
+];
+
+// Whether two journals have so many orders as one, or that one of them can't be used.
+fn are_as_told(alloc: Global, two: &Two<'_>) -> bool {
+    match joined_older(alloc, &mut [Input::new(two.first), Input::new(two.second)]) {
+        Ok(Some(journal)) => two.unusable.is_none() && journal.orders() == two.orders,
+        Ok(None) => false,
+        Err(unusable) => two.unusable == Some(unusable),
+    }
+}
+
+#[test]
+fn two_older_journals(rt: HostRuntime) -> Result<(), Fail> {
+    for two in &TWO {
+        expect_that(
+            are_as_told(rt.alloc(), two),
+            "two journals, or which of them can't be used",
+        )?;
+    }
+    Ok(())
+}
+
+#[test]
+fn no_older_journals(rt: HostRuntime) -> Result<(), Fail> {
+    let mut none: [Input<&[u8]>; 0] = [];
+    let joined = joined_older(rt.alloc(), &mut none);
+    expect_that(matches!(joined, Ok(None)), "no journal of no inputs")
+}
+
 // A drive of orders behind the older journal of order 1, and what becomes of it.
 struct Behind<'a> {
     orders: &'a str,
@@ -127,33 +227,32 @@ fn is_behind(alloc: Global, drive: &Behind<'_>) -> Result<bool, AllocError> {
     let mut sent = Vec::new(alloc);
     let mut told = Vec::new(alloc);
     let mut reported = Vec::new(alloc);
-    let mut store = MemoryStore::new(alloc, drive.journal.to_vec(alloc)?);
-    let status = drive_input(
-        alloc,
-        older_of(alloc, &SILENT)?,
-        DriveNames {
-            orders: "orders",
-            journal: "journal",
-            older: &[],
-        },
-        &mut Input::new(drive.orders.as_bytes()),
-        DriveTerms {
-            moment: 7,
-            require_done: false,
-        },
-        &mut StdSource::new(b"".as_slice()),
-        &mut StdSink::new(&mut sent),
-        &mut store,
-        &mut Lines {
+    let task = DriveTask {
+        orders: "orders",
+        journal: "journal",
+        older: &[],
+        moment: 7,
+        require_done: false,
+    };
+    let mut desk = StoreDesk {
+        link_in: StdSource::new(b"".as_slice()),
+        link_out: StdSink::new(&mut sent),
+        journal: MemoryStore::new(alloc, drive.journal.to_vec(alloc)?),
+        out: Lines {
             output: Output::new(&mut told),
         },
-        &mut Report::new(alloc, Some(Output::new(&mut reported))),
-    );
+    };
+    let mut report = Report::new(alloc, Some(Output::new(&mut reported)));
+    let older = older_of(alloc, &SILENT)?;
+    let mut input = Input::new(drive.orders.as_bytes());
+    let status = drive_input(alloc, older, task, &mut input, &mut desk, &mut report);
+    let is_kept = desk.journal.bytes() == drive.kept;
+    drop(desk);
     Ok(
         status == drive.status
             && sent.is_empty()
             && told.as_slice() == drive.told.as_bytes()
-            && store.bytes() == drive.kept,
+            && is_kept,
     )
 }
 

@@ -3,15 +3,14 @@
 //! crate that it comes from.
 #![tactic(auto)]
 
-pub use dali_drive::{StdSink, StdSource};
+pub use dali_drive::{StdSink, StdSource, StoreDesk};
 pub use dali_faults::{Fault, Status, write_fault};
 pub use dali_file_commands::{FileCommand, check, frame, journal, run_scenario, show};
 pub use dali_follow::OrderLines;
 pub use dali_input::{Input, InputFault};
 pub use dali_job::{Job, job_of};
 pub use dali_link_commands::{
-    LinkCommand, behind, drive, drive_files, follow, follow_files, lines, older, read, survey,
-    survey_files,
+    LinkCommand, drive, drive_files, follow, follow_files, lines, older, read, survey, survey_files,
 };
 pub use dali_notes::FirstLines;
 pub use dali_report::Report;

@@ -1,6 +1,6 @@
 -- Behind older journals each order acts once.
 use Rattle.std.proofs.Common.{◌≡◌, ◌∙◌, refl, sym, ap, subst, inl, inr, ℕ, Bool, true, List, ◌++◌, ◌+◌, length}
-use Rattle.std.proofs.Common.{append_assoc, true≢false}
+use Rattle.std.proofs.Common.{Some, append_assoc, true≢false}
 use Rattle.dali_bank.specs.Order.{Contents}
 use Rattle.dali_journal.specs.declared.kept.Kept.{Kept}
 use Rattle.dali_journal.specs.declared.kept.Kept.TheVariants as kepts
@@ -58,18 +58,18 @@ known_reply order (kepts.Ended other code) busy full replies.Taken a u is = absu
 known_reply order kept busy full (replies.Blocked unit) a u is = absurd is
 
 pub acts_once : (older : JournalState) (limit most : ℕ) (first : Streams) (past : List Happening)
-    (b : IsBegunBehind older limit most first) → standing_of older.records ≡ standings.Idle
+    (b : IsBegunBehind (Some older) limit most first) → standing_of older.records ≡ standings.Idle
     → Legal (start_of b.journal) past → KeepsRecords past → ActsOnceBehind older limit (start_of b.journal) past
 acts_once older limit most first past b rests legal keeps =
     let start : Start = start_of b.journal in
     let own : List Record = kept_in past ++ b.begun.journal.records in
     let are : records_of start past ≡ own ++ older.records =
-    ap (λ (rs : List Record). kept_in past ++ rs) b.records_are
+    ap (λ (rs : List Record). kept_in past ++ rs) b.whole.records_are
     ∙ sym (append_assoc (kept_in past) b.begun.journal.records older.records) in
     let all : AreKept Two start.limit (own ++ older.records) =
-    subst (λ (rs : List Record). AreKept Two b.journal.limit rs) are (kept_so start past b.kept legal keeps) in
+    subst (λ (rs : List Record). AreKept Two b.journal.limit rs) are (kept_so start past b.whole.kept legal keeps) in
     let within : AreKept Two (length (orders_of older.records) + limit) (own ++ older.records) =
-    subst (λ (n : ℕ). AreKept Two n (own ++ older.records)) b.limit_is all in
+    subst (λ (n : ℕ). AreKept Two n (own ++ older.records)) b.whole.limit_is all in
     let before = older_sentence own older.records all.whole.0 in
     record {
       own = own;

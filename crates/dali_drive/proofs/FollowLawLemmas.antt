@@ -23,7 +23,7 @@ use Rattle.dali_drive.specs.Followed.Step.{Happened, Told}
 use Rattle.dali_drive.proofs.SittingLemmas.{made, drive_holds, between_still, some_broken}
 
 -- the orders that were asked are those that were given
-asked_given : (steps : List Step) → orders_asked (happenings steps) ≡ submitted (given_in steps)
+pub asked_given : (steps : List Step) → orders_asked (happenings steps) ≡ submitted (given_in steps)
 asked_given [] = refl
 asked_given (Told line ∷ steps) = asked_given steps
 asked_given (Happened (Asked order moment) ∷ steps) =

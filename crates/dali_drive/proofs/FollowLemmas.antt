@@ -1,5 +1,6 @@
 -- How orders are followed: work behind what was done, and a line that is told.
-use Rattle.std.proofs.Common.{◌≡◌, ◌∙◌, refl, sym, ap, subst, append_assoc, append-nil, ℕ, List, [], ◌∷◌, ◌++◌, map, reverse, inl, inr}
+use Rattle.std.proofs.Common.{◌≡◌, ◌≤◌, ◌∙◌, refl, sym, ap, subst, append_assoc, append-nil, ℕ, List, [], ◌∷◌, ◌++◌}
+use Rattle.std.proofs.Common.{map, reverse, inl, inr, arith, length, length-append}
 use Rattle.std.proofs.Common.{Option, Result, Ok, Err, OnOk, false}
 use Rattle.std.proofs.lemmas.List.{reverse-append, reverse-reverse, map-append}
 use Rattle.std.specs.Io.KnownBytes.{Appends}
@@ -17,6 +18,7 @@ use Rattle.dali_trace.specs.declared.fault.DriveFault.{DriveFault}
 use Rattle.dali_trace.specs.declared.fault.DriveFault.TheVariants.{Journal, Link, Line, End, NoMemory, TooLong, Out}
 use Rattle.dali_drive.specs.declared.following.Given.{Given}
 use Rattle.dali_drive.specs.declared.following.Given.TheVariants as gives
+use Rattle.dali_drive.specs.Desks.{Look, LeavesSince}
 use Rattle.dali_drive.specs.Transcript.{Streams, said_lines, shown}
 use Rattle.dali_drive.specs.Driven.{orders_asked, IsDriven, LeavesBetween}
 use Rattle.dali_drive.specs.Observed.{IsToldEnd}
@@ -163,11 +165,11 @@ module _ (start : Start) (steps : List Step) (given : List Given) (first middle 
     (orders : List (Contents × ℕ)) (fault : DriveFault) (last : Streams) (may_leave : List ℕ → Type 0)
     (told : List Happening → Type 0) (told_end : List Happening → DriveFault → Frame → List ℕ → Type 0) where
   -- the work of these orders was broken off
-  pub breaks_follow : (zero : Streams)
+  pub breaks_follow : (zero : Streams) (one : length orders ≤ 1)
       (broken : HasBroken start (happenings steps) orders zero fault middle last may_leave told told_end)
       → IsDriven start (broken.more ++ happenings steps) (muted first) broken.then
       → BreaksFollow start (as_given (reverse orders) ++ given) fault first last may_leave told told_end
-  breaks_follow zero broken driven = record {
+  breaks_follow zero one broken driven = record {
     follow = record {
       steps = map Happened broken.more ++ steps;
       then = broken.then;
@@ -179,6 +181,10 @@ module _ (start : Start) (steps : List Step) (given : List Given) (first middle 
           (as_given (reverse orders) ++ given) first broken.then
           last (record {
             unasked = broken.unasked;
+            one_ahead =
+                let all = sym (length-append (reverse (orders_asked broken.more)) broken.unasked)
+                ∙ ap (length {A = Contents × ℕ}) broken.asked in
+                omega (arith, all, one);
             given_are = given_so steps given orders broken.unasked broken.more broken.asked given_are;
             driven = rw (happened_first broken.more steps) driven;
             broken = rw (happened_first broken.more steps) broken.broken;
@@ -225,23 +231,22 @@ pub begins_broken : (start : Start) (first : Streams) (fault : DriveFault) (last
     → BreaksFollow start [] fault first last may_leave told told_end
 begins_broken start first fault last may_leave told told_end broken =
     breaks_follow start [] [] first first
-    (Appends-nil first.out) refl [] fault last may_leave told told_end first broken
+    (Appends-nil first.out) refl [] fault last may_leave told told_end first (omega arith) broken
     (muted_driven start (broken.more ++ []) first broken.then broken.driven)
 
-module _ (start : Start) (given : List Given) (first : Streams) (then : WriterState) (middle : Streams)
-    (follow : IsFollowed start given first then middle) (order : Contents) (moment : ℕ) (writer : WriterState)
-    (last : Streams) (may_leave : List ℕ → Type 0) (told : List Happening → Type 0)
+module _ (start : Start) (given : List Given) (first : Streams) (then : WriterState)
+    (old new : Look) (follow : IsFollowed start given first then old.streams) (order : Contents) (moment : ℕ)
+    (writer : WriterState) (told : List Happening → Type 0)
     (told_end : List Happening → DriveFault → Frame → List ℕ → Type 0) where
   -- and then an order was carried out, or broke off
   pub order_on : {A : Type 0} (result : Result A DriveFault)
-      → WorkedOn start (happenings follow.steps) ((order, moment) ∷ [])
-      (muted first) result writer middle last may_leave
-      told told_end
+      → WorkedOn start (happenings follow.steps) ((order, moment) ∷ []) (muted first) result writer old new told
+      told_end
       → OnOk result ((s : Start) (past : List Happening) → Describes s past writer → is_busy s past ≡ false)
-      → GivenOn start (gives.Order order moment ∷ given) first result writer last may_leave told told_end
+      → GivenOn start (gives.Order order moment ∷ given) first result writer old new told told_end
   order_on (Ok done) worked quiet =
-      let at = follows_on start follow.steps given first then middle follow.at ((order, moment) ∷ []) writer last told
-      worked in (
+      let at = follows_on start follow.steps given first then old.streams follow.at ((order, moment) ∷ []) writer
+      new.streams told worked in (
         record {
           steps = map Happened worked.more ++ follow.steps;
           at = at;
@@ -250,9 +255,9 @@ module _ (start : Start) (given : List Given) (first : Streams) (then : WriterSt
         told_first told worked.more follow.steps worked.told_all,
       )
   order_on (Err fault) broken quiet =
-      breaks_follow start follow.steps given first middle follow.at.said follow.at.given_are
-      ((order, moment) ∷ []) fault
-      last may_leave told told_end (muted first) broken broken.driven
+      breaks_follow start follow.steps given first old.streams follow.at.said follow.at.given_are
+      ((order, moment) ∷ []) fault new.streams (LeavesSince old new) told told_end (muted first) (omega arith) broken
+      broken.driven
 
 module _ (start : Start) (given : List Given) (first : Streams) (writer : WriterState) (j l a o more : Option (List ℕ))
     (follow : IsFollowed start given first writer (shown j l a o)) (line : ArrayVec ℕ) where
@@ -298,3 +303,15 @@ module _ (start : Start) (given : List Given) (first : Streams) (writer : Writer
     left = left;
     told_all = is;
   }
+
+-- no more may be left than that
+pub breaks_less : (start : Start) (given : List Given) (fault : DriveFault) (first last : Streams)
+    (more less : List ℕ → Type 0) (told : List Happening → Type 0)
+    (told_end : List Happening → DriveFault → Frame → List ℕ → Type 0) → ((c : List ℕ) → less c → more c)
+    → BreaksFollow start given fault first last more told told_end
+    → BreaksFollow start given fault first last less told told_end
+breaks_less start given fault first last more less told told_end fewer b = record {
+  follow = b.follow;
+  left = λ c left. b.left c (fewer c left);
+  told_all = b.told_all;
+}

@@ -1,6 +1,7 @@
 pub mod StoreLemmas
+pub mod SinkLemmas
+pub mod DeskLemmas
 pub mod DriveLemmas
-pub mod ObservedLemmas
 pub mod SittingLemmas
 pub mod KillLemmas
 pub mod RepeatLemmas
@@ -11,6 +12,7 @@ pub mod FollowLemmas
 pub mod FollowLawLemmas
 pub mod WholeLemmas
 pub mod ListedLemmas
+pub mod ListedDriveLemmas
 pub mod BehindLemmas
 pub mod WorkedDriveLemmas
 pub mod WorkedFollowLemmas
@@ -20,3 +22,4 @@ pub mod SurveyLemmas
 pub mod WorkedSurveyLemmas
 pub mod WorkedVerifyLemmas
 pub mod WorkedBehindLemmas
+pub mod WorkedDeskLemmas

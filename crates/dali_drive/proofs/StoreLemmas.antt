@@ -1,7 +1,6 @@
 -- A store along a drive.
-use Rattle.std.proofs.Common.{◌++◌, inl, inr, ⊎_elim, sym, subst, ℕ, List, [], Option, Some, None}
+use Rattle.std.proofs.Common.{inl, inr, ⊎_elim, sym, subst, ℕ, List, Option, Some, None}
 use Rattle.std.specs.Io.KnownBytes.{Appends}
-use Rattle.std.proofs.KnownBytes.{Appends-nil, Appends-trans}
 use Rattle.dali_journal.specs.declared.version.Version.TheVariants.{Two}
 use Rattle.dali_journal.specs.Spelling.{journal_spelling}
 use Rattle.dali_journal.specs.JournalState.{JournalState}
@@ -11,13 +10,6 @@ use Rattle.dali_store.proofs.OpenLemmas.{found_loads}
 use Rattle.dali_drive.specs.Stored.{LeavesPart}
 use Rattle.dali_store.proofs.Moments.{started, and_then}
 use Rattle.dali_store.proofs.Betweens.{settled_between, between_first, between_second}
-
-pub more_of : (a b d : Option (List ℕ)) → ((more : List ℕ) × Appends a b more) → ((more : List ℕ) × Appends b d more)
-    → (more : List ℕ) × Appends a d more
-more_of a b d (x, first) (y, second) = (x ++ y, Appends-trans a b d x y first second)
-
-pub none_more : (a : Option (List ℕ)) → (more : List ℕ) × Appends a a more
-none_more a = ([], Appends-nil a)
 
 module _ {S : Type 0} (seen : S → Option (List ℕ)) (may_leave : S → List ℕ → Type 0) (moment : S → ℕ)
     (left_since : S → ℕ → List ℕ → Type 0) where

@@ -223,6 +223,7 @@ module _ (older : List Record) where
         → BrokenOrder start steps given fault (record first { journal = Some begun }) (all then) (all last)
     order_whole steps fault then last b = record {
       unasked = b.unasked;
+      one_ahead = b.one_ahead;
       given_are = b.given_are;
       driven = driven_whole start (muted first) begun has is (happenings steps) then b.driven;
       broken = λ rest.
@@ -274,7 +275,7 @@ header_broken start given TooLong first last has steps then order =
 
 -- ---- a sitting of the whole
 
-module _ (older : JournalState) (limit most : ℕ) (first : Streams) (b : IsBegunBehind older limit most first)
+module _ (older : JournalState) (limit most : ℕ) (first : Streams) (b : IsBegunBehind (Some older) limit most first)
     (shown : List ℕ) (is : first.journal ≡ Some shown) (room : ℕ)
     (within : length (journal_spelling Two b.journal.records) ≤ room) where
   abbrev found : List ℕ
@@ -288,7 +289,7 @@ module _ (older : JournalState) (limit most : ℕ) (first : Streams) (b : IsBegu
   whole_found =
       append_assoc (header Two) (records_spelling Two older.records) (records_spelling Two b.begun.journal.records)
       ∙ ap (λ (bytes : List ℕ). header Two ++ bytes) (sym (spelling_append b.begun.journal.records older.records))
-      ∙ ap (journal_spelling Two) (sym b.records_are)
+      ∙ ap (journal_spelling Two) (sym b.whole.records_are)
 
   shows_whole : whole older.records b.begun.middle ≡ Some found
   shows_whole = ap (whole older.records) middle_is ∙ ap Some whole_found
@@ -297,7 +298,7 @@ module _ (older : JournalState) (limit most : ℕ) (first : Streams) (b : IsBegu
   has_header = subst HasHeader (sym middle_is) (records_spelling Two b.begun.journal.records, refl)
 
   kept_whole : AreKept Two (order_count older + limit) b.journal.records
-  kept_whole = subst (λ (n : ℕ). AreKept Two n b.journal.records) b.limit_is b.kept
+  kept_whole = subst (λ (n : ℕ). AreKept Two n b.journal.records) b.whole.limit_is b.whole.kept
 
   begun_whole : IsBegun (order_count older + limit) room (record first { journal = Some found })
   begun_whole = record {
@@ -312,7 +313,7 @@ module _ (older : JournalState) (limit most : ℕ) (first : Streams) (b : IsBegu
         within = within;
         total_is = refl;
         loaded = (
-          b.limit_is,
+          b.whole.limit_is,
           kept_whole,
           record { rest = []; spelled = sym (append-nil found); cut = cut_of_none; counts = refl },
         );
@@ -354,7 +355,7 @@ module _ (older : JournalState) (limit most : ℕ) (first : Streams) (b : IsBegu
       follow.steps follow.then follow.broken) between)
 
 -- what a store shows that was opened before, behind the older records, is the same file
-module _ (older : JournalState) (limit most : ℕ) (first : Streams) (b : IsBegunBehind older limit most first)
+module _ (older : JournalState) (limit most : ℕ) (first : Streams) (b : IsBegunBehind (Some older) limit most first)
     (shown : List ℕ) (is : first.journal ≡ Some shown) where
   abbrev pub Again : List ℕ → Type 0
   Again bytes =
@@ -363,17 +364,17 @@ module _ (older : JournalState) (limit most : ℕ) (first : Streams) (b : IsBegu
   again_of : (bytes : List ℕ) (counted : ℕ) → IsLoadable Two bytes b.begun.journal.records counted → Again bytes
   again_of [] counted loadable =
       inl (ap (journal_spelling Two)
-      (b.records_are ∙ ap (λ (rs : List Record). rs ++ older.records) loadable.1)
+      (b.whole.records_are ∙ ap (λ (rs : List Record). rs ++ older.records) loadable.1)
       ∙ sym (append-nil (journal_spelling Two older.records)))
   again_of (byte ∷ bytes) counted torn =
-      let kept = subst (λ (n : ℕ). AreKept Two n b.journal.records) b.limit_is b.kept in
+      let kept = subst (λ (n : ℕ). AreKept Two n b.journal.records) b.whole.limit_is b.whole.kept in
       let spelled : bytes_behind older.records (byte ∷ bytes)
       ≡ journal_spelling Two b.journal.records ++ torn.rest =
       ap (bytes_behind older.records) torn.spelled
       ∙ sym (append_assoc (journal_spelling Two older.records) (records_spelling Two b.begun.journal.records) torn.rest)
       ∙ ap (λ (front : List ℕ). front ++ torn.rest)
       (ap (λ (bs : List ℕ). header Two ++ bs) (sym (spelling_append b.begun.journal.records older.records))
-      ∙ ap (journal_spelling Two) (sym b.records_are)) in
+      ∙ ap (journal_spelling Two) (sym b.whole.records_are)) in
       inr (
         b.journal.records,
         record {

@@ -1,7 +1,7 @@
 -- Work behind work, and the orders that were asked in both.
-use Rattle.std.proofs.Common.{◌≡◌, ◌<◌, ◌≤◌, ◌+◌, ◌∙◌, refl, sym, ap, append_assoc, append-nil, get_or, ℕ, suc, List, [], ◌∷◌, ◌++◌}
-use Rattle.std.proofs.Common.{Option, Result, Ok, Err, length, take, drop, drop-cons, reverse}
-use Rattle.std.proofs.lemmas.List.{take_more, take_all, take-append-drop, reverse-append}
+use Rattle.std.proofs.Common.{◌≡◌, ◌∙◌, refl, sym, ap, append_assoc, append-nil, ℕ, List, [], ◌∷◌, ◌++◌}
+use Rattle.std.proofs.Common.{Option, Result, Ok, Err, reverse}
+use Rattle.std.proofs.lemmas.List.{reverse-append}
 use Rattle.std.specs.Io.KnownBytes.{Appends}
 use Rattle.std.proofs.KnownBytes.{Appends-trans}
 use Rattle.dali_frame.specs.declared.forward.Frame.{Frame}
@@ -12,10 +12,10 @@ use Rattle.dali_trace.specs.Replies.{reply_line}
 use Rattle.dali_trace.specs.Trace.{Start}
 use Rattle.dali_engine.specs.WriterState.{WriterState}
 use Rattle.dali_trace.specs.declared.fault.DriveFault.{DriveFault}
+use Rattle.dali_drive.specs.Desks.{Look, Settled, LeavesSince}
 use Rattle.dali_drive.specs.Transcript.{Streams, said_lines}
-use Rattle.dali_drive.specs.Driven.{at_moment, orders_asked}
+use Rattle.dali_drive.specs.Driven.{orders_asked}
 use Rattle.dali_drive.specs.WorkedOn.{HasWorked, HasBroken, WorkedOn}
-use Rattle.dali_drive.proofs.DriveLemmas.{at_append}
 
 asked_both : (newer older : List Happening) → orders_asked (newer ++ older) ≡ orders_asked newer ++ orders_asked older
 asked_both [] older = refl
@@ -85,52 +85,39 @@ module _ (start : Start) (past : List Happening) (orders more_orders : List (Con
     told_all = rw (append_assoc next.more before.more past) next.told_all;
   }
 
-  -- work, and then whatever came of more
-  pub then_work : {A : Type 0} (result : Result A DriveFault) (writer : WriterState) (last : Streams)
-      (may_leave : List ℕ → Type 0) (told : List Happening → Type 0)
-      (told_end : List Happening → DriveFault → Frame → List ℕ → Type 0)
-      → WorkedOn start (before.more ++ past) more_orders first result writer middle last may_leave told told_end
-      → WorkedOn start past (orders ++ more_orders) first result writer zero last may_leave told told_end
-  then_work (Ok done) writer last may_leave told told_end next = works_on writer last told next
-  then_work (Err fault) writer last may_leave told told_end next = breaks_on fault last may_leave told told_end next
+-- no more may be left than that
+pub leaving_less : (start : Start) (past : List Happening) (orders : List (Contents × ℕ)) (first : Streams)
+    (fault : DriveFault) (middle last : Streams) (more less : List ℕ → Type 0) (told : List Happening → Type 0)
+    (told_end : List Happening → DriveFault → Frame → List ℕ → Type 0) → ((c : List ℕ) → less c → more c)
+    → HasBroken start past orders first fault middle last more told told_end
+    → HasBroken start past orders first fault middle last less told told_end
+leaving_less start past orders first fault middle last more less told told_end fewer b = record {
+  more = b.more;
+  unasked = b.unasked;
+  then = b.then;
+  driven = b.driven;
+  asked = b.asked;
+  said = b.said;
+  broken = b.broken;
+  left = λ c left. b.left c (fewer c left);
+  told_all = b.told_all;
+}
 
--- more orders than these were to be asked, of which the first were
-pub first_asked : (before orders unasked rest : List (Contents × ℕ)) (more past : List Happening)
-    → reverse (orders_asked past) ≡ before → reverse (orders_asked more) ++ unasked ≡ orders
-    → reverse (orders_asked (more ++ past)) ++ (unasked ++ rest) ≡ before ++ (orders ++ rest)
-first_asked before orders unasked rest more past then now =
-    ap (λ (asked : List (Contents × ℕ)). asked ++ (unasked ++ rest)) (in_order more past)
-    ∙ append_assoc (reverse (orders_asked past)) (reverse (orders_asked more)) (unasked ++ rest)
-    ∙ ap (λ (asked : List (Contents × ℕ)). reverse (orders_asked past) ++ asked)
-    (sym (append_assoc (reverse (orders_asked more)) unasked rest)
-    ∙ ap (λ (asked : List (Contents × ℕ)). asked ++ rest) now)
-    ∙ ap (λ (asked : List (Contents × ℕ)). asked ++ (orders ++ rest)) then
-
--- The orders of a list, all at one moment
-
--- one more was asked
-pub asked_more : (moment : ℕ) (xs : List Contents) (past more : List Happening) (n : ℕ) (d order : Contents)
-    → n < length xs → order ≡ get_or xs n d → reverse (orders_asked past) ≡ at_moment moment (take n xs)
-    → reverse (orders_asked more) ≡ (order, moment) ∷ []
-    → reverse (orders_asked (more ++ past)) ≡ at_moment moment (take (n + 1) xs)
-asked_more moment xs past more n d order h is then now =
-    rw (in_order more past, then, now, is) (sym (ap (at_moment moment) (take_more xs n d h)
-    ∙ at_append moment (take n xs) (get_or xs n d ∷ [])))
-
--- the first were asked and the next one was not, or broke off
-pub asked_then : (moment : ℕ) (xs : List Contents) (past more : List Happening) (unasked : List (Contents × ℕ)) (n : ℕ)
-    (d order : Contents)
-    → n < length xs → order ≡ get_or xs n d → reverse (orders_asked past) ≡ at_moment moment (take n xs)
-    → reverse (orders_asked more) ++ unasked ≡ (order, moment) ∷ []
-    → reverse (orders_asked (more ++ past)) ++ (unasked ++ at_moment moment (drop (suc n) xs)) ≡ at_moment moment xs
-asked_then moment xs past more unasked n d order h is then now =
-    first_asked (at_moment moment (take n xs)) ((order, moment) ∷ []) unasked (at_moment moment (drop (suc n) xs)) more
-    past then now
-    ∙ rw is (ap (λ (os : List Contents). at_moment moment (take n xs) ++ at_moment moment os)
-    (sym (drop-cons xs n d h)))
-    ∙ sym (at_append moment (take n xs) (drop n xs)) ∙ ap (at_moment moment) (take-append-drop n xs)
-
--- all were asked
-pub asked_all : (moment : ℕ) (xs : List Contents) (past : List Happening) (n : ℕ) → length xs ≤ n
-    → reverse (orders_asked past) ≡ at_moment moment (take n xs) → reverse (orders_asked past) ≡ at_moment moment xs
-asked_all moment xs past n all then = then ∙ ap (at_moment moment) (take_all n xs all)
+-- work, and then whatever came of more
+pub then_work : {A : Type 0} (result : Result A DriveFault) (start : Start) (past : List Happening)
+    (orders more_orders : List (Contents × ℕ)) (first : Streams) (then writer : WriterState) (old mid new : Look)
+    (told_then told : List Happening → Type 0) (told_end : List Happening → DriveFault → Frame → List ℕ → Type 0)
+    → (Settled old → Settled mid)
+    → (before : HasWorked start past orders first then old.streams mid.streams told_then)
+    → WorkedOn start (before.more ++ past) more_orders first result writer mid new told told_end
+    → WorkedOn start past (orders ++ more_orders) first result writer old new told told_end
+then_work (Ok done) start past orders more_orders first then writer old mid new told_then told told_end settles before
+    next =
+    works_on start past orders more_orders first then old.streams mid.streams told_then before writer new.streams told
+    next
+then_work (Err fault) start past orders more_orders first then writer old mid new told_then told told_end settles before
+    next =
+    breaks_on start past orders more_orders first then old.streams mid.streams told_then before fault new.streams
+    (LeavesSince old new) told told_end
+    (leaving_less start (before.more ++ past) more_orders first fault mid.streams new.streams (LeavesSince mid new)
+    (LeavesSince old new) told told_end (λ c left. (settles left.0, left.1)) next)

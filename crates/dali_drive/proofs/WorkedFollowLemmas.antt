@@ -1,15 +1,18 @@
 -- Orders and refused lines that are followed, by hand.
-use Rattle.std.proofs.Common.{◌≡◌, refl, ℕ, List, [], ◌∷◌, None, codes, arith}
+use Rattle.std.proofs.Common.{◌≡◌, ◌≤◌, refl, ap, ℕ, List, [], ◌∷◌, ◌++◌, None, codes, arith, length, reverse}
 use Rattle.std.proofs.lemmas.Fmt.{decimal_digit}
 use Rattle.arrayvec.specs.ArrayVec.{ArrayVec}
+use Rattle.dali_bank.specs.Order.{Contents}
+use Rattle.dali_trace.specs.declared.fault.DriveFault.{DriveFault}
 use Rattle.dali_trace.specs.declared.happening.Happening.TheVariants.{Asked, Answered, Sent, Kept, Stopped, Powered}
 use Rattle.dali_trace.specs.declared.happening.Reply.TheVariants.{Taken, Full}
 use Rattle.dali_frame.specs.declared.forward.Frame.TheVariants.{Dtr1}
 use Rattle.dali_journal.specs.declared.record.Record.TheVariants.{Began}
-use Rattle.dali_trace.specs.Worked.{first_order, second_order}
+use Rattle.dali_trace.specs.Worked.{empty, first_order, second_order}
 use Rattle.dali_drive.specs.declared.following.Given.TheVariants as gives
-use Rattle.dali_drive.specs.Followed.{Step, happenings, told_lines, given_in, submitted, as_given}
+use Rattle.dali_drive.specs.Followed.{Step, happenings, told_lines, given_in, submitted, as_given, BrokenOrder}
 use Rattle.dali_drive.specs.Followed.Step.{Happened, Told}
+use Rattle.dali_drive.specs.Transcript.{Streams}
 
 abbrev first_line : ArrayVec ℕ
 first_line = record { items = codes "item 1 fault 11 Json\n" }
@@ -47,3 +50,15 @@ orders_in_turn = refl
 pub given_alone : as_given ((second_order, 8) ∷ (first_order, 7) ∷ [])
     ≡ gives.Order second_order 8 ∷ gives.Order first_order 7 ∷ []
 given_alone = refl
+
+-- ---- orders that were broken off
+
+-- one is asked ahead of what happened, at most: two can't be
+pub two_orders_arent_ahead : (fault : DriveFault) (first then last : Streams) → BrokenOrder empty []
+    (gives.Order second_order 8 ∷ gives.Order first_order 7 ∷ []) fault first then last → ⊥
+two_orders_arent_ahead fault first then last broken = by broken.unasked broken.one_ahead broken.given_are where
+  by : (unasked : List (Contents × ℕ)) → length unasked ≤ 1
+      → gives.Order second_order 8 ∷ gives.Order first_order 7 ∷ [] ≡ as_given (reverse unasked) ++ [] → ⊥
+  by [] few given = let lengths : 2 ≡ 0 = ap length given in omega (arith, lengths)
+  by (a ∷ []) few given = let lengths : 2 ≡ 1 = ap length given in omega (arith, lengths)
+  by (a ∷ b ∷ more) few given = omega (arith, few)

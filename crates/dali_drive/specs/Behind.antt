@@ -1,6 +1,6 @@
 -- Orders that are followed behind older journals: the records of these stand behind those of the store in one journal,
 -- and the store keeps its own alone.
-use Rattle.std.specs.Prelude.{◌≡◌, ◌+◌, ◌++◌, ℕ, Bool, true, false, List, option_map, drop, length}
+use Rattle.std.specs.Prelude.{◌≡◌, ◌+◌, ◌++◌, ℕ, true, false, List, [], Option, Some, None, option_map, drop, length}
 use Rattle.dali_bank.specs.Order.{Contents}
 use Rattle.dali_frame.specs.declared.forward.Frame.{Frame}
 use Rattle.dali_journal.specs.declared.behind.JoinFault.{JoinFault}
@@ -11,7 +11,6 @@ use Rattle.dali_journal.specs.JournalState.{JournalState, AreKept, order_count}
 use Rattle.dali_journal.specs.Orders.{kept_of}
 use Rattle.dali_journal.specs.Sentence.{is_begun}
 use Rattle.dali_journal.specs.Spelling.{header, journal_spelling}
-use Rattle.dali_store.specs.Stores.{IsSettled}
 use Rattle.dali_trace.specs.declared.happening.Happening.{Happening}
 use Rattle.dali_trace.specs.declared.happening.Reply.{Reply}
 use Rattle.dali_trace.specs.Replies.{IsReply, IsKnownReply}
@@ -22,22 +21,36 @@ use Rattle.dali_drive.specs.declared.behind.BehindFault.TheVariants.{Open, Join,
 use Rattle.dali_trace.specs.declared.fault.DriveFault.{DriveFault}
 use Rattle.dali_drive.specs.declared.following.Given.{Given}
 use Rattle.dali_drive.specs.declared.stored.StoredFault.TheVariants as stored
-use Rattle.dali_drive.specs.Driven.{NoneFailed}
-use Rattle.dali_drive.specs.Followed.{IsObservedFollow, IsObservedFollowBreak, FollowEnds}
-use Rattle.dali_drive.specs.Stored.{IsBegun, StoredFailedAs}
+use Rattle.dali_drive.specs.Followed.{IsObservedFollow, IsObservedFollowBreak}
+use Rattle.dali_drive.specs.Desks.{Failures, Look, Settled, IsUnfailed, FailsOpen, ShowsFault}
+use Rattle.dali_drive.specs.Observed.{IsObserved, IsObservedBreak}
+use Rattle.dali_drive.specs.Stored.{IsBegun, EndsAtFault}
 use Rattle.dali_drive.specs.Transcript.{Streams}
 
--- the journal that the store showed, and behind it the older one: together they are one, which may hold as many orders
--- more as the store's own
-pub record IsBegunBehind (older : JournalState) (limit most : ℕ) (first : Streams) : Type 0 where
+-- the journal of both: its own records and behind them the older ones, for as many orders more as its own
+pub record IsJoined (older : JournalState) (limit : ℕ) (own whole : JournalState) : Type 0 where
+  pub kept : AreKept Two whole.limit whole.records
+  pub records_are : whole.records ≡ own.records ++ older.records
+  pub limit_is : whole.limit ≡ order_count older + limit
+
+-- the same, where there is an older one
+abbrev pub IsWhole : Option JournalState → ℕ → JournalState → JournalState → Type 0
+IsWhole None limit own whole = whole ≡ own
+IsWhole (Some older) limit own whole = IsJoined older limit own whole
+
+-- why they are none together
+abbrev pub IsUnjoined : JoinFault → JournalState → Option JournalState → Type 0
+IsUnjoined fault own None = ⊥
+IsUnjoined fault own (Some older) = IsJoinFault fault own.records older.records
+
+-- the journal that the store showed, and behind it the older one, where there is one
+pub record IsBegunBehind (older : Option JournalState) (limit most : ℕ) (first : Streams) : Type 0 where
   pub begun : IsBegun limit most first
   pub journal : JournalState
-  pub kept : AreKept Two journal.limit journal.records
-  pub records_are : journal.records ≡ begun.journal.records ++ older.records
-  pub limit_is : journal.limit ≡ order_count older + limit
+  pub whole : IsWhole older limit begun.journal journal
 
 pub record IsFollowBehind {G B : Type 0} (gave : G → G → List Given → Type 0) (over : G → Type 0)
-    (told : Start → B → B → List Happening → Type 0) (older : JournalState) (limit most : ℕ) (orders : G)
+    (told : Start → B → B → List Happening → Type 0) (older : Option JournalState) (limit most : ℕ) (orders : G)
     (first : Streams) (before : B) (writer : WriterState) (orders_left : G) (last : Streams) (after : B)
     : Type 0 where
   pub behind : IsBegunBehind older limit most first
@@ -46,45 +59,56 @@ pub record IsFollowBehind {G B : Type 0} (gave : G → G → List Given → Type
 
 pub record IsFollowBehindBreak {G B : Type 0} (gave : G → G → List Given → Type 0)
     (told : Start → B → B → List Happening → Type 0)
-    (told_end : Start → B → B → List Happening → DriveFault → Frame → List ℕ → Type 0) (older : JournalState)
+    (told_end : Start → B → B → List Happening → DriveFault → Frame → List ℕ → Type 0) (older : Option JournalState)
     (limit most : ℕ) (orders : G) (fault : DriveFault) (first : Streams) (before : B) (orders_left : G)
     (last : Streams) (after : B) (may_leave : List ℕ → Type 0) : Type 0 where
   pub behind : IsBegunBehind older limit most first
   pub observed : IsObservedFollowBreak gave told told_end (start_of behind.journal) orders fault
       (record first { journal = behind.begun.middle }) before orders_left last after may_leave
 
+-- a drive of a list behind an older journal, where there is one
+pub record IsDriveBehind {B : Type 0} (told : Start → B → B → List Happening → Type 0) (older : Option JournalState)
+    (limit most : ℕ) (orders : List (Contents × ℕ)) (first : Streams) (before : B) (writer : WriterState)
+    (last : Streams) (after : B) : Type 0 where
+  pub behind : IsBegunBehind older limit most first
+  pub observed : IsObserved told (start_of behind.journal) orders (record first { journal = behind.begun.middle })
+      before writer last after
+
+pub record IsDriveBehindBreak {B : Type 0} (told : Start → B → B → List Happening → Type 0)
+    (told_end : Start → B → B → List Happening → DriveFault → Frame → List ℕ → Type 0) (older : Option JournalState)
+    (limit most : ℕ) (orders : List (Contents × ℕ)) (fault : DriveFault) (first : Streams) (before : B)
+    (last : Streams) (after : B) (may_leave : List ℕ → Type 0) : Type 0 where
+  pub behind : IsBegunBehind older limit most first
+  pub observed : IsObservedBreak told told_end (start_of behind.journal) orders fault
+      (record first { journal = behind.begun.middle }) before last after may_leave
+
 -- the journal was opened, and with the older one it is none; nothing else was done
-pub record EndsUnjoined {G B : Type 0} (fault : JoinFault) (older : JournalState) (limit most : ℕ) (orders : G)
-    (first : Streams) (before : B) (orders_left : G) (last : Streams) (leaves : List ℕ → Type 0) (after : B)
-    : Type 0 where
+pub record EndsUnjoined {G B : Type 0} (fault : JoinFault) (older : Option JournalState) (limit most : ℕ) (orders : G)
+    (first : Streams) (before : B) (orders_left : G) (last : Look) (after : B) : Type 0 where
   pub begun : IsBegun limit most first
-  pub why : IsJoinFault fault begun.journal.records older.records
-  pub streams : last ≡ record first { journal = begun.middle }
-  pub settled : IsSettled last.journal leaves
+  pub why : IsUnjoined fault begun.journal older
+  pub streams : last.streams ≡ record first { journal = begun.middle }
+  pub settled : Settled last
   pub ungiven : orders_left ≡ orders
   pub untold : after ≡ before
 
 -- why not all was followed
 abbrev pub EndsBehind : {G B : Type 0} → (G → G → List Given → Type 0) → (Start → B → B → List Happening → Type 0)
-    → (Start → B → B → List Happening → DriveFault → Frame → List ℕ → Type 0) → JournalState → ℕ → ℕ → G
-    → BehindFault → Streams → (List ℕ → Type 0) → B → G → Streams → (List ℕ → Type 0) → B → Type 0
-EndsBehind gave told told_end older limit most orders (Open fault) first leaves before orders_left last leaves_then
-    after =
-    FollowEnds gave told told_end limit most orders (stored.Open fault) first leaves before orders_left last
-    leaves_then after
-EndsBehind gave told told_end older limit most orders (Join fault) first leaves before orders_left last leaves_then
-    after =
-    EndsUnjoined fault older limit most orders first before orders_left last leaves_then after
-EndsBehind gave told told_end older limit most orders (Drive fault) first leaves before orders_left last leaves_then
-    after =
-    IsFollowBehindBreak gave told told_end older limit most orders fault first before orders_left last after leaves_then
+    → (Start → B → B → List Happening → DriveFault → Frame → List ℕ → Type 0) → Option JournalState → ℕ → ℕ → G
+    → BehindFault → Look → B → G → Look → B → Type 0
+EndsBehind gave told told_end older limit most orders (Open fault) first before orders_left last after =
+    EndsAtFault limit most [] (stored.Open fault) first last × (orders_left ≡ orders) × (after ≡ before)
+EndsBehind gave told told_end older limit most orders (Join fault) first before orders_left last after =
+    EndsUnjoined fault older limit most orders first.streams before orders_left last after
+EndsBehind gave told told_end older limit most orders (Drive fault) first before orders_left last after =
+    IsFollowBehindBreak gave told told_end older limit most orders fault first.streams before orders_left last.streams
+    after last.may_leave
 
 -- which streams have failed where this fault comes
-abbrev pub BehindFailedAs : BehindFault → Bool → Bool → Bool → Bool → Type 0
-BehindFailedAs (Open fault) store link_out link_in out = StoredFailedAs (stored.Open fault) store link_out link_in out
-BehindFailedAs (Join fault) store link_out link_in out = NoneFailed store link_out link_in out
-BehindFailedAs (Drive fault) store link_out link_in out =
-    StoredFailedAs (stored.Drive fault) store link_out link_in out
+abbrev pub BehindShows : BehindFault → Failures → Type 0
+BehindShows (Open fault) failed = FailsOpen fault failed
+BehindShows (Join fault) failed = IsUnfailed failed
+BehindShows (Drive fault) failed = ShowsFault fault failed
 
 -- Behind older journals each order acts once: of all that were begun those of the older ones are no others, each that
 -- they have gets the reply that they keep for it, or its number is another order's, and the records that the store

@@ -1,6 +1,7 @@
 -- Orders that come one after another, each carried out before the next is read, and the lines that are told of what is
 -- refused. Steps, as happenings, are listed newest first, and so is what was given.
-use Rattle.std.specs.Prelude.{◌≡◌, ◌⊎◌, ◌++◌, ◌-◌, ◌^◌, ℕ, List, [], ◌∷◌, Option, Some, None, Result, Ok, Err, length, map, reverse, false}
+use Rattle.std.specs.Prelude.{◌≡◌, ◌≤◌, ◌⊎◌, ◌++◌, ◌-◌, ◌^◌, ℕ, List, [], ◌∷◌, Option, Some, None, Result, Ok, Err}
+use Rattle.std.specs.Prelude.{length, map, reverse, false}
 use Rattle.std.specs.Io.KnownBytes.{Appends, Keeps}
 use Rattle.arrayvec.specs.ArrayVec.{ArrayVec}
 use Rattle.dali_frame.specs.declared.forward.Frame.{Frame}
@@ -9,18 +10,16 @@ use Rattle.dali_trace.specs.declared.happening.Happening.{Happening}
 use Rattle.dali_trace.specs.declared.happening.Happening.TheVariants.{Asked, Answered}
 use Rattle.dali_trace.specs.Replies.{reply_line}
 use Rattle.dali_trace.specs.Trace.{Start, is_busy}
-use Rattle.dali_engine.specs.WriterState.{WriterState, start_of}
+use Rattle.dali_engine.specs.WriterState.{WriterState}
 use Rattle.dali_trace.specs.declared.fault.DriveFault.{DriveFault}
 use Rattle.dali_trace.specs.declared.fault.DriveFault.TheVariants.{Out}
 use Rattle.dali_drive.specs.declared.following.Given.{Given}
 use Rattle.dali_drive.specs.declared.following.Given.TheVariants as gives
-use Rattle.dali_drive.specs.declared.stored.StoredFault.{StoredFault}
-use Rattle.dali_drive.specs.declared.stored.StoredFault.TheVariants.{Open, Drive}
+use Rattle.dali_drive.specs.Desks.{Look, LeavesSince}
 use Rattle.dali_drive.specs.Transcript.{Streams}
 use Rattle.dali_drive.specs.Driven.{IsDriven, BrokenOff, AppendsPart, LeavesBetween}
 use Rattle.dali_drive.specs.WorkedOn.{IsDrivenAt}
 use Rattle.dali_drive.specs.Observed.{IsToldEnd}
-use Rattle.dali_drive.specs.Stored.{IsBegun, EndsAtFault}
 
 -- What was done: something happened, or a line was told of what is refused.
 pub data Step : Type 0 where
@@ -103,10 +102,11 @@ pub record BrokenLine (start : Start) (steps : List Step) (given : List Given) (
   pub answers : Keeps then.answers last.answers
   pub out : AppendsPart then.out last.out line.items
 
--- a step of an order was broken off; the newest order was asked, or it was still to be asked
+-- a step of an order was broken off; the newest order was asked, or that one alone was still to be asked
 pub record BrokenOrder (start : Start) (steps : List Step) (given : List Given) (fault : DriveFault)
     (first then last : Streams) : Type 0 where
   pub unasked : List (Contents × ℕ)
+  pub one_ahead : length unasked ≤ 1
   pub given_are : given ≡ as_given (reverse unasked) ++ given_in steps
   pub driven : IsDriven start (happenings steps) (muted first) then
   pub broken : (rest : List (Contents × ℕ)) → BrokenOff start (happenings steps) (unasked ++ rest) fault then last
@@ -133,12 +133,12 @@ pub record BreaksFollow (start : Start) (given : List Given) (fault : DriveFault
   pub told_all : IsToldEnd told told_end start (happenings follow.steps) fault follow.then.answers last.answers
 
 -- what came of what was given last
-abbrev pub GivenOn : {A : Type 0} → Start → List Given → Streams → Result A DriveFault → WriterState → Streams
-    → (List ℕ → Type 0) → (List Happening → Type 0) → (List Happening → DriveFault → Frame → List ℕ → Type 0) → Type 0
-GivenOn start given first (Ok done) writer last may_leave told told_end =
-    (follow : IsFollowed start given first writer last) × told (happenings follow.steps)
-GivenOn start given first (Err fault) writer last may_leave told told_end =
-    BreaksFollow start given fault first last may_leave told told_end
+abbrev pub GivenOn : {A : Type 0} → Start → List Given → Streams → Result A DriveFault → WriterState → Look → Look
+    → (List Happening → Type 0) → (List Happening → DriveFault → Frame → List ℕ → Type 0) → Type 0
+GivenOn start given first (Ok done) writer old new told told_end =
+    (follow : IsFollowed start given first writer new.streams) × told (happenings follow.steps)
+GivenOn start given first (Err fault) writer old new told told_end =
+    BreaksFollow start given fault first new.streams (LeavesSince old new) told told_end
 
 -- What is given is told by the source; and the observer is told the trace
 
@@ -160,30 +160,3 @@ pub record IsObservedFollowBreak {G B : Type 0} (gave : G → G → List Given �
   pub gave_all : gave orders orders_left given
   pub breaks : BreaksFollow start given fault first last may_leave (told start before after)
       (told_end start before after)
-
--- Orders that are followed over a store
-
-pub record IsStoredFollow {G B : Type 0} (gave : G → G → List Given → Type 0) (over : G → Type 0)
-    (told : Start → B → B → List Happening → Type 0) (limit most : ℕ) (orders : G) (first : Streams) (before : B)
-    (writer : WriterState) (orders_left : G) (last : Streams) (after : B) : Type 0 where
-  pub begun : IsBegun limit most first
-  pub observed : IsObservedFollow gave over told (start_of begun.journal) orders
-      (record first { journal = begun.middle }) before writer orders_left last after
-
-pub record IsStoredFollowBreak {G B : Type 0} (gave : G → G → List Given → Type 0)
-    (told : Start → B → B → List Happening → Type 0)
-    (told_end : Start → B → B → List Happening → DriveFault → Frame → List ℕ → Type 0) (limit most : ℕ) (orders : G)
-    (fault : DriveFault) (first : Streams) (before : B) (orders_left : G) (last : Streams) (after : B)
-    (may_leave : List ℕ → Type 0) : Type 0 where
-  pub begun : IsBegun limit most first
-  pub observed : IsObservedFollowBreak gave told told_end (start_of begun.journal) orders fault
-      (record first { journal = begun.middle }) before orders_left last after may_leave
-
--- where no journal was opened nothing was given, and the observer was told nothing
-abbrev pub FollowEnds : {G B : Type 0} → (G → G → List Given → Type 0) → (Start → B → B → List Happening → Type 0)
-    → (Start → B → B → List Happening → DriveFault → Frame → List ℕ → Type 0) → ℕ → ℕ → G → StoredFault → Streams
-    → (List ℕ → Type 0) → B → G → Streams → (List ℕ → Type 0) → B → Type 0
-FollowEnds gave told told_end limit most orders (Open fault) first leaves before orders_left last leaves_then after =
-    EndsAtFault limit most [] (Open fault) first leaves last leaves_then × (orders_left ≡ orders) × (after ≡ before)
-FollowEnds gave told told_end limit most orders (Drive fault) first leaves before orders_left last leaves_then after =
-    IsStoredFollowBreak gave told told_end limit most orders fault first before orders_left last after leaves_then

@@ -3,6 +3,9 @@ pub mod StdStreams
 pub mod Lines
 pub mod Transcript
 pub mod Driven
+pub mod Desks
+pub mod LentSinks
+pub mod StoreDesks
 pub mod UnitRead
 pub mod SurveyLines
 pub mod Surveys

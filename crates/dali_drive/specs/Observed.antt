@@ -1,18 +1,15 @@
 -- What an observer was told of a drive: all of its trace, and how an answer broke it off.
-use Rattle.std.specs.Prelude.{◌≡◌, ℕ, List, Option}
+use Rattle.std.specs.Prelude.{ℕ, List, Option}
 use Rattle.dali_frame.specs.declared.forward.Frame.{Frame}
 use Rattle.dali_bank.specs.Order.{Contents}
 use Rattle.dali_trace.specs.declared.happening.Happening.{Happening}
 use Rattle.dali_trace.specs.Trace.{Start}
-use Rattle.dali_engine.specs.WriterState.{WriterState, start_of}
+use Rattle.dali_engine.specs.WriterState.{WriterState}
 use Rattle.dali_trace.specs.declared.fault.DriveFault.{DriveFault}
 use Rattle.dali_trace.specs.declared.fault.DriveFault.TheVariants.{Journal, NoMemory, Out}
 use Rattle.dali_drive.specs.Lines.{TakesText}
 use Rattle.dali_drive.specs.Transcript.{Streams}
 use Rattle.dali_drive.specs.Driven.{IsDrive, BreaksOff, IsNextFrame}
-use Rattle.dali_drive.specs.declared.stored.StoredFault.{StoredFault}
-use Rattle.dali_drive.specs.declared.stored.StoredFault.TheVariants.{Open, Drive}
-use Rattle.dali_drive.specs.Stored.{IsBegun, EndsAtFault}
 
 -- the exchange of the frame that was next was broken off, and what was read of its answer was told
 pub record IsToldAnswer (told_end : List Happening → DriveFault → Frame → List ℕ → Type 0) (start : Start)
@@ -47,31 +44,3 @@ pub record IsObservedBreak {B : Type 0} (told : Start → B → B → List Happe
   pub breaks : BreaksOff start orders fault first last may_leave
   pub told_all : IsToldEnd (told start before after) (told_end start before after) start breaks.drive.past fault
       breaks.drive.middle.answers last.answers
-
--- ---- a drive over a store
-
-pub record IsStoredObserved {B : Type 0} (told : Start → B → B → List Happening → Type 0) (limit most : ℕ)
-    (orders : List (Contents × ℕ)) (first : Streams) (before : B) (writer : WriterState) (last : Streams)
-    (after : B) : Type 0 where
-  pub begun : IsBegun limit most first
-  pub observed : IsObserved told (start_of begun.journal) orders (record first { journal = begun.middle })
-      before writer last after
-
--- a drive over a store that was broken off, and what a stop may leave
-pub record IsStoredBreak {B : Type 0} (told : Start → B → B → List Happening → Type 0)
-    (told_end : Start → B → B → List Happening → DriveFault → Frame → List ℕ → Type 0) (limit most : ℕ)
-    (orders : List (Contents × ℕ)) (fault : DriveFault) (first : Streams) (before : B) (last : Streams)
-    (after : B) (may_leave : List ℕ → Type 0) : Type 0 where
-  pub begun : IsBegun limit most first
-  pub observed : IsObservedBreak told told_end (start_of begun.journal) orders fault
-      (record first { journal = begun.middle }) before last after may_leave
-
--- why not all was driven; where no journal was opened the observer was told nothing
-abbrev pub EndsObserved : {B : Type 0} → (Start → B → B → List Happening → Type 0)
-    → (Start → B → B → List Happening → DriveFault → Frame → List ℕ → Type 0)
-    → ℕ → ℕ → List (Contents × ℕ) → StoredFault → Streams → (List ℕ → Type 0) → B → Streams → (List ℕ → Type 0) → B
-    → Type 0
-EndsObserved told told_end limit most orders (Open fault) first leaves before last leaves_then after =
-    EndsAtFault limit most orders (Open fault) first leaves last leaves_then × (after ≡ before)
-EndsObserved told told_end limit most orders (Drive fault) first leaves before last leaves_then after =
-    IsStoredBreak told told_end limit most orders fault first before last after leaves_then

@@ -1,5 +1,5 @@
 -- A drive over a store: its journal is opened there, and what it keeps goes there.
-use Rattle.std.specs.Prelude.{◌≡◌, ◌⊎◌, ℕ, Bool, false, List, Option, Some, None, ⊤}
+use Rattle.std.specs.Prelude.{◌⊎◌, ℕ, List, Option, Some, None, ⊤}
 use Rattle.std.specs.Io.KnownBytes.{Keeps}
 use Rattle.dali_bank.specs.Order.{Contents}
 use Rattle.dali_journal.specs.declared.version.Version.TheVariants.{Two}
@@ -8,11 +8,12 @@ use Rattle.dali_journal.specs.Spelling.{journal_spelling}
 use Rattle.dali_journal.specs.JournalState.{JournalState}
 use Rattle.dali_engine.specs.WriterState.{WriterState, start_of}
 use Rattle.dali_store.specs.Stores.{Becomes, IsBetween}
-use Rattle.dali_store.specs.Opened.{IsOpened, IsOpenFault, Loads, LoadsAlike, LeavesAlike, is_store_failure}
+use Rattle.dali_store.specs.Opened.{IsOpened, IsOpenFault, Loads, LoadsAlike, LeavesAlike}
 use Rattle.dali_drive.specs.declared.stored.StoredFault.{StoredFault}
 use Rattle.dali_drive.specs.declared.stored.StoredFault.TheVariants.{Open, Drive}
+use Rattle.dali_drive.specs.Desks.{Failures, Look, FailsOpen, ShowsFault}
 use Rattle.dali_drive.specs.Transcript.{Streams}
-use Rattle.dali_drive.specs.Driven.{IsDrive, IsBrokenDrive, LeavesBetween, FailedAs}
+use Rattle.dali_drive.specs.Driven.{IsDrive, IsBrokenDrive, LeavesBetween}
 
 -- the journal of what the store showed, and what it showed once that was opened: its bytes in version 2
 pub record IsBegun (limit most : ℕ) (first : Streams) : Type 0 where
@@ -52,17 +53,15 @@ LeavesAtFault limit most orders (Drive fault) first last (begun, broken) before 
     LeavesBetween broken.middle.journal last.journal after
 
 -- why not all was driven, and what a stop may leave, before and after
-abbrev pub EndsAtFault : ℕ → ℕ → List (Contents × ℕ) → StoredFault → Streams → (List ℕ → Type 0) → Streams
-    → (List ℕ → Type 0) → Type 0
-EndsAtFault limit most orders fault first before last after =
-    (is : IsStoredFault limit most orders fault first last)
-    × LeavesAtFault limit most orders fault first last is before after
+abbrev pub EndsAtFault : ℕ → ℕ → List (Contents × ℕ) → StoredFault → Look → Look → Type 0
+EndsAtFault limit most orders fault first last =
+    (is : IsStoredFault limit most orders fault first.streams last.streams)
+    × LeavesAtFault limit most orders fault first.streams last.streams is first.may_leave last.may_leave
 
 -- which streams have failed where this fault comes, as for a drive
-abbrev pub StoredFailedAs : StoredFault → Bool → Bool → Bool → Bool → Type 0
-StoredFailedAs (Open fault) store link_out link_in out =
-    (store ≡ is_store_failure fault) × (link_out ≡ false) × (link_in ≡ false) × (out ≡ false)
-StoredFailedAs (Drive fault) store link_out link_in out = FailedAs fault store link_out link_in out
+abbrev pub StoredShows : StoredFault → Failures → Type 0
+StoredShows (Open fault) failed = FailsOpen fault failed
+StoredShows (Drive fault) failed = ShowsFault fault failed
 
 -- the bytes in version 2 of the records that a store showed, and behind them a first part of what was put until now
 abbrev pub IsPartBehind : ℕ → Option (List ℕ) → Option (List ℕ) → List ℕ → Type 0

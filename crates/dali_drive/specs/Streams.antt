@@ -1,5 +1,6 @@
 -- What the calls of a source and of a sink do to the bytes that they show. Nothing is said where those are not known.
-use Rattle.std.specs.Prelude.{◌≤◌, ◌==◌, ℕ, Bool, true, false, List, [], ◌∷◌, Option, Some, None, length, take}
+use Rattle.std.specs.Prelude.{◌≡◌, ◌≤◌, ◌==◌, ℕ, Bool, true, false, List, [], ◌∷◌, ◌++◌, Option, Some, None, length}
+use Rattle.std.specs.Prelude.{take, ⊤}
 use Rattle.std.specs.Io.KnownBytes.{Appends, Consumes, Keeps, IsAtEnd}
 use Rattle.dali_drive.specs.declared.streams.Got.{Got}
 use Rattle.dali_drive.specs.declared.streams.Got.TheVariants.{Byte, End, Failed}
@@ -28,3 +29,15 @@ PutsFirst old new bytes = (k : ℕ) × (k ≤ length bytes) × Appends old new (
 abbrev pub is_refusal : Option ℕ → Bool
 is_refusal (Some k) = k == 0
 is_refusal None = true
+
+-- the known bytes begin with those that were flushed
+abbrev pub IsPart : Option (List ℕ) → Option (List ℕ) → Type 0
+IsPart None held = ⊤
+IsPart (Some flushed) None = ⊥
+IsPart (Some flushed) (Some held) = (rest : List ℕ) × (held ≡ flushed ++ rest)
+
+-- what is flushed where a flush succeeded: all that is held, unless that is never told; where it failed, no more
+abbrev pub Flushes : Bool → Option (List ℕ) → Option (List ℕ) → Option (List ℕ) → Type 0
+Flushes true held None new = new ≡ None
+Flushes true held (Some old) new = new ≡ held
+Flushes false held old new = new ≡ old

@@ -9,6 +9,7 @@ use Rattle.dali_trace.specs.Trace.{Start}
 use Rattle.dali_engine.specs.WriterState.{WriterState}
 use Rattle.dali_engine.specs.Describes.{Describes}
 use Rattle.dali_engine.specs.Follows.{Follows}
+use Rattle.dali_drive.specs.Desks.{Look, LeavesSince}
 use Rattle.dali_drive.specs.Transcript.{Streams, said_lines}
 use Rattle.dali_drive.specs.Driven.{IsDriven, BrokenOff, LeavesBetween, orders_asked}
 use Rattle.dali_drive.specs.Observed.{IsToldEnd}
@@ -45,12 +46,12 @@ pub record HasBroken (start : Start) (past : List Happening) (orders : List (Con
   pub left : LeavesBetween then.journal last.journal may_leave
   pub told_all : IsToldEnd told told_end start (more ++ past) fault then.answers last.answers
 
--- work behind a trace, from the streams as they were then, in which just these orders were asked; or as far as the
+-- work behind a trace, from one look at the desk to another, in which just these orders were asked; or as far as the
 -- step that was broken off
 abbrev pub WorkedOn : {A : Type 0} → Start → List Happening → List (Contents × ℕ) → Streams → Result A DriveFault
-    → WriterState → Streams → Streams → (List ℕ → Type 0) → (List Happening → Type 0)
+    → WriterState → Look → Look → (List Happening → Type 0)
     → (List Happening → DriveFault → Frame → List ℕ → Type 0) → Type 0
-WorkedOn start past orders first (Ok done) writer middle last may_leave told told_end =
-    HasWorked start past orders first writer middle last told
-WorkedOn start past orders first (Err fault) writer middle last may_leave told told_end =
-    HasBroken start past orders first fault middle last may_leave told told_end
+WorkedOn start past orders first (Ok done) writer old new told told_end =
+    HasWorked start past orders first writer old.streams new.streams told
+WorkedOn start past orders first (Err fault) writer old new told told_end =
+    HasBroken start past orders first fault old.streams new.streams (LeavesSince old new) told told_end

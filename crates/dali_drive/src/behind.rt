@@ -1,20 +1,19 @@
 // Orders that are followed behind older journals.
-ghost use Rattle.std.specs.Prelude.{◌≡◌, false, IfOk, IfErr, OnOk};
+ghost use Rattle.std.specs.Prelude.{◌≡◌, IfOk, IfErr, IfSome, OnOk};
 ghost use Rattle.dali_journal.specs.declared.standing.Standing.TheVariants.{Idle};
 ghost use Rattle.dali_journal.specs.Sentence.{standing_of};
-ghost use Rattle.dali_store.specs.Stores.{IsSettled, LeavesOnly};
-ghost use Rattle.dali_drive.specs.Behind.{IsFollowBehind, EndsBehind, BehindFailedAs};
-ghost use Rattle.dali_drive.specs.Driven.{NoneFailed};
+ghost use Rattle.dali_store.specs.Stores.{LeavesOnly};
+ghost use Rattle.dali_drive.specs.Behind.{IsFollowBehind, EndsBehind, BehindShows, IsWhole, IsUnjoined};
+ghost use Rattle.dali_drive.specs.Desks.{IsUnfailed, Settled};
 ghost use Rattle.dali_drive.specs.Stored.{LeavesPart};
-ghost use Rattle.dali_drive.specs.Transcript.{shown};
 ghost use Rattle.dali_engine.specs.WriterState.{IsAtRest};
 
+use crate::desk::OpenDesk;
 use crate::following::{Orders, follow};
 use crate::observer::Observer;
-use crate::streams::{Sink, Source};
 use dali_engine::Writer;
 use dali_journal::{JoinFault, Journal};
-use dali_store::{OpenFault, Store, open};
+use dali_store::OpenFault;
 use dali_trace::DriveFault;
 use std::alloc::Global;
 
@@ -29,65 +28,70 @@ pub enum BehindFault {
     Drive(DriveFault),
 }
 
-/// As `follow_stored`, behind an older journal, as of all that were retired: its orders count as begun, so that each
-/// gets its kept reply, or `reused`, with no frame. The store keeps its own records alone, at most `limit` orders.
+/// What a journal may have at most (profile).
+#[derive(Clone, Copy, Debug, PartialEq, Eq)]
+pub struct JournalLimits {
+    /// So many orders, 1 to 100000.
+    pub orders: u32,
+    /// So many bytes, where it is opened.
+    pub bytes: usize,
+}
+
+/// Opens the journal of a desk and follows what a source of orders gives, as `follow` does.
 ///
-/// The older journal has to be at rest.
-pub fn follow_behind<I: Source, L: Sink, S: Store, O: Sink, G: Orders, B: Observer>(
+/// Behind an older journal, as of all that were retired, where there is one: its orders count as begun, so that each
+/// gets its kept reply, or `reused`, with no frame. The journal keeps its own records alone. The older one has to be at
+/// rest.
+pub fn follow_stored<D: OpenDesk, G: Orders, B: Observer>(
     alloc: Global,
-    older: Journal,
-    limit: u32,
-    most: usize,
+    older: Option<Journal>,
+    limits: JournalLimits,
     orders: &mut G,
-    link_in: &mut I,
-    link_out: &mut L,
-    store: &mut S,
-    out: &mut O,
+    desk: &mut D,
     observer: &mut B,
 ) -> Result<Writer, BehindFault>
-    requires rests { standing_of older.records ≡ Idle }
-    requires store { S.failed store.old ≡ false }
-    requires link_out { L.failed link_out.old ≡ false }
-    requires link_in { I.failed link_in.old ≡ false }
-    requires out { O.failed out.old ≡ false }
-    ensures followed { IfOk result (λ writer. IsFollowBehind G.gave G.over B.told older limit most orders.old
-        (shown (S.seen store.old) (L.held link_out.old) (I.left link_in.old) (O.held out.old)) observer.old
-        writer orders.new
-        (shown (S.seen store.new) (L.held link_out.new) (I.left link_in.new) (O.held out.new)) observer.new) }
+    requires rests { IfSome older (λ journal. standing_of journal.records ≡ Idle) }
+    requires unfailed { IsUnfailed (D.look desk.old).failed }
+    ensures followed { IfOk result (λ writer. IsFollowBehind G.gave G.over B.told older limits.orders limits.bytes
+        orders.old (D.look desk.old).streams observer.old writer orders.new (D.look desk.new).streams observer.new) }
     ensures rests { IfOk result IsAtRest }
-    ensures ok { OnOk result
-        (NoneFailed (S.failed store.new) (L.failed link_out.new) (I.failed link_in.new) (O.failed out.new)) }
-    ensures broken { IfErr result (λ fault. EndsBehind G.gave B.told B.told_end older limit most orders.old fault
-        (shown (S.seen store.old) (L.held link_out.old) (I.left link_in.old) (O.held out.old)) (S.may_leave store.old)
-        observer.old orders.new
-        (shown (S.seen store.new) (L.held link_out.new) (I.left link_in.new) (O.held out.new)) (S.may_leave store.new)
-        observer.new) }
-    ensures err { IfErr result (λ fault. BehindFailedAs fault
-        (S.failed store.new) (L.failed link_out.new) (I.failed link_in.new) (O.failed out.new)) }
-    ensures settled { OnOk result (IsSettled (S.seen store.new) (S.may_leave store.new)) }
-    ensures any_moment { LeavesOnly S.moment S.left_since store.old store.new
-        (LeavesPart limit (S.seen store.old) (S.seen store.new) (S.may_leave store.old)) }
+    ensures broken { IfErr result (λ fault. EndsBehind G.gave B.told B.told_end older limits.orders limits.bytes
+        orders.old fault (D.look desk.old) observer.old orders.new (D.look desk.new) observer.new) }
+    ensures ok { OnOk result (IsUnfailed (D.look desk.new).failed) }
+    ensures settled { OnOk result (Settled (D.look desk.new)) }
+    ensures err { IfErr result (λ fault. BehindShows fault (D.look desk.new).failed) }
+    ensures any_moment { LeavesOnly D.moment D.left_since desk.old desk.new (LeavesPart limits.orders
+        (D.look desk.old).streams.journal (D.look desk.new).streams.journal (D.look desk.old).may_leave) }
 {
-    let own = match open(alloc, store, limit, most) {
+    let own = match desk.open(alloc, limits.orders, limits.bytes) {
         Ok(own) => own,
         Err(fault) => return Err(BehindFault::Open(fault)),
     };
-    let whole = match own.behind(alloc, older) {
+    let whole = match joined(alloc, own, older) {
         Ok(whole) => whole,
         Err(fault) => return Err(BehindFault::Join(fault)),
     };
-    // it tells what is so of every journal
-    let _most = whole.limit();
-    match follow(
-        Writer::new(whole),
-        orders,
-        link_in,
-        link_out,
-        store,
-        out,
-        observer,
-    ) {
+    match follow(Writer::new(whole), orders, desk, observer) {
         Ok(writer) => Ok(writer),
         Err(fault) => Err(BehindFault::Drive(fault)),
+    }
+}
+
+// The journal behind the older one, where there is one.
+fn joined(alloc: Global, own: Journal, older: Option<Journal>) -> Result<Journal, JoinFault>
+    requires rests { IfSome older (λ journal. standing_of journal.records ≡ Idle) }
+    ensures ok { IfOk result (IsWhole older own.limit own) }
+    ensures err { IfErr result (λ fault. IsUnjoined fault own older) }
+{
+    let Some(older) = older else {
+        return Ok(own);
+    };
+    match own.behind(alloc, older) {
+        Ok(whole) => {
+            // it tells what is so of every journal
+            let _most = whole.limit();
+            Ok(whole)
+        }
+        Err(fault) => Err(fault),
     }
 }

@@ -1,64 +1,50 @@
+// A writer does what it wants over a desk, and orders are driven.
 ghost use Rattle.std.specs.Prelude.{◌≡◌, ◌<◌, ◌∷◌, [], ℕ, List, true, false, IfOk, IfErr, OnOk};
-ghost use Rattle.std.specs.Io.KnownBytes.{Appends};
 ghost use Rattle.dali_trace.specs.declared.happening.Happening.{Happening};
 ghost use Rattle.dali_trace.specs.Trace.{Start, is_busy};
 ghost use Rattle.dali_engine.specs.WriterState.{start_of, IsAtRest};
 ghost use Rattle.dali_engine.specs.WorkLeft.{work_left};
 ghost use Rattle.dali_engine.specs.Describes.{Describes};
+ghost use Rattle.dali_drive.specs.Desks.{IsUnfailed, Settled, EndsAs, Grows, LeavesSince};
 ghost use Rattle.dali_drive.specs.Transcript.{Streams, shown};
 ghost use Rattle.dali_drive.specs.Driven.{at_moment, IsDrive, BreaksOff, NoneFailed, FailedAs};
-ghost use Rattle.dali_store.specs.Stores.{IsSettled, IsBetween, LeavesOnly};
+ghost use Rattle.dali_drive.specs.LentSinks.{SinkLeaves};
+ghost use Rattle.dali_store.specs.Stores.{IsSettled};
 ghost use Rattle.dali_drive.specs.WorkedOn.{IsDrivenAt, WorkedOn};
-ghost use Rattle.dali_drive.specs.Observed.{IsObserved, IsObservedBreak};
 
+use crate::desk::Desk;
+use crate::following::follow;
+use crate::lent_sinks::LentSinks;
 use crate::lines::{AnswerText, reply_line};
-use crate::link::exchange_noting;
+use crate::listed::ListedOrders;
 use crate::observer::{Nobody, Observer};
-use crate::streams::{Sink, Source, put_all};
+use crate::streams::{Sink, Source};
 use dali_bank::Order;
 use dali_engine::{Want, Writer};
-use dali_store::{Store, keep};
 use dali_trace::{DriveFault, Happening};
 
 // Does once what the writer wants. The answer is whether it wanted anything.
-fn advance<I: Source, L: Sink, J: Store, O: Sink, B: Observer>(
+fn advance<D: Desk, B: Observer>(
     writer: &mut Writer,
-    link_in: &mut I,
-    link_out: &mut L,
-    journal_out: &mut J,
-    out: &mut O,
+    desk: &mut D,
     observer: &mut B,
 ) -> Result<bool, DriveFault>
-    requires journal { J.failed journal_out.old ≡ false }
-    requires settled { IsSettled (J.seen journal_out.old) (J.may_leave journal_out.old) }
-    requires link_out { L.failed link_out.old ≡ false }
-    requires link_in { I.failed link_in.old ≡ false }
-    requires out { O.failed out.old ≡ false }
+    requires unfailed { IsUnfailed (D.look desk.old).failed }
     ensures worked { (start : Start) (past : List Happening) (first : Streams) (since : B)
-        → IsDrivenAt start past writer.old first
-        (shown (J.seen journal_out.old) (L.held link_out.old) (I.left link_in.old) (O.held out.old))
-        → B.told start since observer.old past
-        → WorkedOn start past [] first result writer.new
-        (shown (J.seen journal_out.old) (L.held link_out.old) (I.left link_in.old) (O.held out.old))
-        (shown (J.seen journal_out.new) (L.held link_out.new) (I.left link_in.new) (O.held out.new))
-        (J.may_leave journal_out.new) (B.told start since observer.new) (B.told_end start since observer.new) }
+        → IsDrivenAt start past writer.old first (D.look desk.old).streams → B.told start since observer.old past
+        → WorkedOn start past [] first result writer.new (D.look desk.old) (D.look desk.new)
+        (B.told start since observer.new) (B.told_end start since observer.new) }
     ensures fewer { IfOk result (λ busy. busy ≡ true → work_left writer.new.phase < work_left writer.old.phase) }
     ensures rests { IfOk result (λ busy. busy ≡ false → IsAtRest writer.new) }
     ensures quiet { IfOk result (λ busy. busy ≡ false → (start : Start) (past : List Happening)
         → Describes start past writer.new → is_busy start past ≡ false) }
-    ensures ok { OnOk result
-        (NoneFailed (J.failed journal_out.new) (L.failed link_out.new) (I.failed link_in.new) (O.failed out.new)) }
-    ensures err { IfErr result (λ fault.
-        FailedAs fault (J.failed journal_out.new) (L.failed link_out.new) (I.failed link_in.new) (O.failed out.new)) }
-    ensures settled { OnOk result (IsSettled (J.seen journal_out.new) (J.may_leave journal_out.new)) }
-    ensures grown { (more : List ℕ) × Appends (J.seen journal_out.old) (J.seen journal_out.new) more }
-    ensures any_moment { LeavesOnly J.moment J.left_since journal_out.old journal_out.new
-        (IsBetween (J.seen journal_out.old) (J.seen journal_out.new)) }
+    ensures ends { EndsAs result (D.look desk.old) (D.look desk.new) }
+    ensures grown { Grows D.look D.moment D.left_since D.same desk.old desk.new }
 {
     match writer.want() {
         Want::Idle => return Ok(false),
         Want::Keep(entry) => {
-            if !keep(journal_out, &entry.bytes()) {
+            if !desk.keep(&entry.bytes()) {
                 return Err(DriveFault::Journal);
             }
             writer.kept();
@@ -66,7 +52,7 @@ fn advance<I: Source, L: Sink, J: Store, O: Sink, B: Observer>(
         }
         Want::Send(frame) => {
             let mut text = AnswerText::new();
-            let answer = match exchange_noting(&frame, link_in, link_out, &mut text) {
+            let answer = match desk.exchange(&frame, &mut text) {
                 Ok(answer) => answer,
                 Err(fault) => {
                     observer.see_end(fault, &frame, &text);
@@ -77,7 +63,7 @@ fn advance<I: Source, L: Sink, J: Store, O: Sink, B: Observer>(
             observer.see(&Happening::Sent(frame, answer), writer.journal());
         }
         Want::Say(id, reply) => {
-            if !put_all(out, &reply_line(id, reply)) {
+            if !desk.say(&reply_line(id, reply)) {
                 return Err(DriveFault::Out);
             }
             writer.said();
@@ -88,40 +74,23 @@ fn advance<I: Source, L: Sink, J: Store, O: Sink, B: Observer>(
 }
 
 // Does what the writer wants until it is idle.
-fn work<I: Source, L: Sink, J: Store, O: Sink, B: Observer>(
+fn work<D: Desk, B: Observer>(
     writer: &mut Writer,
-    link_in: &mut I,
-    link_out: &mut L,
-    journal_out: &mut J,
-    out: &mut O,
+    desk: &mut D,
     observer: &mut B,
 ) -> Result<(), DriveFault>
-    requires journal { J.failed journal_out.old ≡ false }
-    requires settled { IsSettled (J.seen journal_out.old) (J.may_leave journal_out.old) }
-    requires link_out { L.failed link_out.old ≡ false }
-    requires link_in { I.failed link_in.old ≡ false }
-    requires out { O.failed out.old ≡ false }
+    requires unfailed { IsUnfailed (D.look desk.old).failed }
     ensures worked { (start : Start) (past : List Happening) (first : Streams) (since : B)
-        → IsDrivenAt start past writer.old first
-        (shown (J.seen journal_out.old) (L.held link_out.old) (I.left link_in.old) (O.held out.old))
-        → B.told start since observer.old past
-        → WorkedOn start past [] first result writer.new
-        (shown (J.seen journal_out.old) (L.held link_out.old) (I.left link_in.old) (O.held out.old))
-        (shown (J.seen journal_out.new) (L.held link_out.new) (I.left link_in.new) (O.held out.new))
-        (J.may_leave journal_out.new) (B.told start since observer.new) (B.told_end start since observer.new) }
+        → IsDrivenAt start past writer.old first (D.look desk.old).streams → B.told start since observer.old past
+        → WorkedOn start past [] first result writer.new (D.look desk.old) (D.look desk.new)
+        (B.told start since observer.new) (B.told_end start since observer.new) }
     ensures rests { OnOk result (IsAtRest writer.new) }
     ensures quiet { OnOk result
         ((start : Start) (past : List Happening) → Describes start past writer.new → is_busy start past ≡ false) }
-    ensures ok { OnOk result
-        (NoneFailed (J.failed journal_out.new) (L.failed link_out.new) (I.failed link_in.new) (O.failed out.new)) }
-    ensures err { IfErr result (λ fault.
-        FailedAs fault (J.failed journal_out.new) (L.failed link_out.new) (I.failed link_in.new) (O.failed out.new)) }
-    ensures settled { OnOk result (IsSettled (J.seen journal_out.new) (J.may_leave journal_out.new)) }
-    ensures grown { (more : List ℕ) × Appends (J.seen journal_out.old) (J.seen journal_out.new) more }
-    ensures any_moment { LeavesOnly J.moment J.left_since journal_out.old journal_out.new
-        (IsBetween (J.seen journal_out.old) (J.seen journal_out.new)) }
+    ensures ends { EndsAs result (D.look desk.old) (D.look desk.new) }
+    ensures grown { Grows D.look D.moment D.left_since D.same desk.old desk.new }
 {
-    while advance(writer, link_in, link_out, journal_out, out, observer)? {}
+    while advance(writer, desk, observer)? {}
     Ok(())
 }
 
@@ -138,8 +107,9 @@ fn work<I: Source, L: Sink, J: Store, O: Sink, B: Observer>(
 ///
 /// Each `DriveFault` says what ended the drive. The writer is gone then, and what goes on is a new one, from the
 /// journal that is loaded from what `journal_out` holds behind the header: whole records of version 2, and at most one
-/// that is cut. It writes no header.
-pub fn drive<I: Source, L: Sink, J: Store, O: Sink>(
+/// that is cut. It writes no header. Where all that `journal_out` held at first was flushed, all that was kept before
+/// the step that was broken off is flushed too.
+pub fn drive<I: Source, L: Sink, J: Sink, O: Sink>(
     writer: Writer,
     orders: &[Order],
     moment: u64,
@@ -150,225 +120,109 @@ pub fn drive<I: Source, L: Sink, J: Store, O: Sink>(
 ) -> Result<Writer, DriveFault>
     requires rests { IsAtRest writer }
     requires journal { J.failed journal_out.old ≡ false }
-    requires settled { IsSettled (J.seen journal_out.old) (J.may_leave journal_out.old) }
     requires link_out { L.failed link_out.old ≡ false }
     requires link_in { I.failed link_in.old ≡ false }
     requires out { O.failed out.old ≡ false }
     ensures driven { IfOk result (λ driven. IsDrive (start_of writer.journal) (at_moment moment orders.now)
-        (shown (J.seen journal_out.old) (L.held link_out.old) (I.left link_in.old) (O.held out.old))
-        driven (shown (J.seen journal_out.new) (L.held link_out.new) (I.left link_in.new) (O.held out.new))) }
+        (shown (J.held journal_out.old) (L.held link_out.old) (I.left link_in.old) (O.held out.old))
+        driven (shown (J.held journal_out.new) (L.held link_out.new) (I.left link_in.new) (O.held out.new))) }
     ensures rests { IfOk result IsAtRest }
     ensures ok { OnOk result
         (NoneFailed (J.failed journal_out.new) (L.failed link_out.new) (I.failed link_in.new) (O.failed out.new)) }
+    ensures flushed { OnOk result
+        (IsSettled (J.held journal_out.old) (SinkLeaves (J.flushed journal_out.old) (J.held journal_out.old))
+        → IsSettled (J.held journal_out.new) (SinkLeaves (J.flushed journal_out.new) (J.held journal_out.new))) }
     ensures broken { IfErr result (λ fault. BreaksOff (start_of writer.journal) (at_moment moment orders.now) fault
-        (shown (J.seen journal_out.old) (L.held link_out.old) (I.left link_in.old) (O.held out.old))
-        (shown (J.seen journal_out.new) (L.held link_out.new) (I.left link_in.new) (O.held out.new))
-        (J.may_leave journal_out.new)) }
+        (shown (J.held journal_out.old) (L.held link_out.old) (I.left link_in.old) (O.held out.old))
+        (shown (J.held journal_out.new) (L.held link_out.new) (I.left link_in.new) (O.held out.new))
+        (λ c. IsSettled (J.held journal_out.old) (SinkLeaves (J.flushed journal_out.old) (J.held journal_out.old))
+        × SinkLeaves (J.flushed journal_out.new) (J.held journal_out.new) c)) }
     ensures err { IfErr result (λ fault.
         FailedAs fault (J.failed journal_out.new) (L.failed link_out.new) (I.failed link_in.new) (O.failed out.new)) }
-    ensures settled { OnOk result (IsSettled (J.seen journal_out.new) (J.may_leave journal_out.new)) }
-    ensures any_moment { LeavesOnly J.moment J.left_since journal_out.old journal_out.new
-        (IsBetween (J.seen journal_out.old) (J.seen journal_out.new)) }
 {
-    drive_observed(
-        writer,
-        orders,
-        moment,
+    let mut desk = LentSinks {
         link_in,
         link_out,
-        journal_out,
+        journal: journal_out,
         out,
-        &mut Nobody,
-    )
+    };
+    drive_at(writer, orders, moment, &mut desk)
 }
 
-/// As `drive`, and an observer is told all that happens, each happening once it is done, and at 2 `Link`, 3 `Line`, 4
-/// `End` and 6 `TooLong` the frame, and what was read of its answer.
-pub fn drive_observed<I: Source, L: Sink, J: Store, O: Sink, B: Observer>(
+/// As `drive`, at a desk.
+pub fn drive_at<D: Desk>(
     writer: Writer,
     orders: &[Order],
     moment: u64,
-    link_in: &mut I,
-    link_out: &mut L,
-    journal_out: &mut J,
-    out: &mut O,
-    observer: &mut B,
+    desk: &mut D,
 ) -> Result<Writer, DriveFault>
     requires rests { IsAtRest writer }
-    requires journal { J.failed journal_out.old ≡ false }
-    requires settled { IsSettled (J.seen journal_out.old) (J.may_leave journal_out.old) }
-    requires link_out { L.failed link_out.old ≡ false }
-    requires link_in { I.failed link_in.old ≡ false }
-    requires out { O.failed out.old ≡ false }
-    ensures driven { IfOk result (λ driven. IsObserved B.told (start_of writer.journal) (at_moment moment orders.now)
-        (shown (J.seen journal_out.old) (L.held link_out.old) (I.left link_in.old) (O.held out.old)) observer.old
-        driven (shown (J.seen journal_out.new) (L.held link_out.new) (I.left link_in.new) (O.held out.new))
-        observer.new) }
+    requires unfailed { IsUnfailed (D.look desk.old).failed }
+    ensures driven { IfOk result (λ driven. IsDrive (start_of writer.journal) (at_moment moment orders.now)
+        (D.look desk.old).streams driven (D.look desk.new).streams) }
     ensures rests { IfOk result IsAtRest }
-    ensures ok { OnOk result
-        (NoneFailed (J.failed journal_out.new) (L.failed link_out.new) (I.failed link_in.new) (O.failed out.new)) }
-    ensures broken { IfErr result (λ fault.
-        IsObservedBreak B.told B.told_end (start_of writer.journal) (at_moment moment orders.now) fault
-        (shown (J.seen journal_out.old) (L.held link_out.old) (I.left link_in.old) (O.held out.old)) observer.old
-        (shown (J.seen journal_out.new) (L.held link_out.new) (I.left link_in.new) (O.held out.new)) observer.new
-        (J.may_leave journal_out.new)) }
-    ensures err { IfErr result (λ fault.
-        FailedAs fault (J.failed journal_out.new) (L.failed link_out.new) (I.failed link_in.new) (O.failed out.new)) }
-    ensures settled { OnOk result (IsSettled (J.seen journal_out.new) (J.may_leave journal_out.new)) }
-    ensures any_moment { LeavesOnly J.moment J.left_since journal_out.old journal_out.new
-        (IsBetween (J.seen journal_out.old) (J.seen journal_out.new)) }
+    ensures broken { IfErr result (λ fault. BreaksOff (start_of writer.journal) (at_moment moment orders.now) fault
+        (D.look desk.old).streams (D.look desk.new).streams (LeavesSince (D.look desk.old) (D.look desk.new))) }
+    ensures ends { EndsAs result (D.look desk.old) (D.look desk.new) }
+    ensures settled { OnOk result (Settled (D.look desk.old) → Settled (D.look desk.new)) }
+    ensures grown { Grows D.look D.moment D.left_since D.same desk.old desk.new }
 {
-    let mut writer = writer;
-    match drive_all(
-        &mut writer,
-        orders,
-        moment,
-        link_in,
-        link_out,
-        journal_out,
-        out,
-        observer,
-    ) {
-        Ok(()) => Ok(writer),
-        Err(fault) => Err(fault),
-    }
-}
-
-// Carries out what the writer still has to do, and then the orders one after the other, each submitted at this moment.
-fn drive_all<I: Source, L: Sink, J: Store, O: Sink, B: Observer>(
-    writer: &mut Writer,
-    orders: &[Order],
-    moment: u64,
-    link_in: &mut I,
-    link_out: &mut L,
-    journal_out: &mut J,
-    out: &mut O,
-    observer: &mut B,
-) -> Result<(), DriveFault>
-    requires rests { IsAtRest writer.old }
-    requires journal { J.failed journal_out.old ≡ false }
-    requires settled { IsSettled (J.seen journal_out.old) (J.may_leave journal_out.old) }
-    requires link_out { L.failed link_out.old ≡ false }
-    requires link_in { I.failed link_in.old ≡ false }
-    requires out { O.failed out.old ≡ false }
-    ensures driven { OnOk result (IsObserved B.told (start_of writer.old.journal) (at_moment moment orders.now)
-        (shown (J.seen journal_out.old) (L.held link_out.old) (I.left link_in.old) (O.held out.old)) observer.old
-        writer.new (shown (J.seen journal_out.new) (L.held link_out.new) (I.left link_in.new) (O.held out.new))
-        observer.new) }
-    ensures rests { OnOk result (IsAtRest writer.new) }
-    ensures ok { OnOk result
-        (NoneFailed (J.failed journal_out.new) (L.failed link_out.new) (I.failed link_in.new) (O.failed out.new)) }
-    ensures broken { IfErr result (λ fault.
-        IsObservedBreak B.told B.told_end (start_of writer.old.journal) (at_moment moment orders.now) fault
-        (shown (J.seen journal_out.old) (L.held link_out.old) (I.left link_in.old) (O.held out.old)) observer.old
-        (shown (J.seen journal_out.new) (L.held link_out.new) (I.left link_in.new) (O.held out.new)) observer.new
-        (J.may_leave journal_out.new)) }
-    ensures err { IfErr result (λ fault.
-        FailedAs fault (J.failed journal_out.new) (L.failed link_out.new) (I.failed link_in.new) (O.failed out.new)) }
-    ensures settled { OnOk result (IsSettled (J.seen journal_out.new) (J.may_leave journal_out.new)) }
-    ensures grown { (more : List ℕ) × Appends (J.seen journal_out.old) (J.seen journal_out.new) more }
-    ensures any_moment { LeavesOnly J.moment J.left_since journal_out.old journal_out.new
-        (IsBetween (J.seen journal_out.old) (J.seen journal_out.new)) }
-{
-    begin(writer, link_in, link_out, journal_out, out, observer)?;
-    for order in orders {
-        carry_out(
-            writer,
-            order.copy(),
-            moment,
-            link_in,
-            link_out,
-            journal_out,
-            out,
-            observer,
-        )?;
-    }
-    Ok(())
+    let mut listed = ListedOrders::new(orders, moment);
+    follow(writer, &mut listed, desk, &mut Nobody)
 }
 
 // Does what the journal leaves unfinished.
-pub(crate) fn begin<I: Source, L: Sink, J: Store, O: Sink, B: Observer>(
+pub(crate) fn begin<D: Desk, B: Observer>(
     writer: &mut Writer,
-    link_in: &mut I,
-    link_out: &mut L,
-    journal_out: &mut J,
-    out: &mut O,
+    desk: &mut D,
     observer: &mut B,
 ) -> Result<(), DriveFault>
     requires rests { IsAtRest writer.old }
-    requires journal { J.failed journal_out.old ≡ false }
-    requires settled { IsSettled (J.seen journal_out.old) (J.may_leave journal_out.old) }
-    requires link_out { L.failed link_out.old ≡ false }
-    requires link_in { I.failed link_in.old ≡ false }
-    requires out { O.failed out.old ≡ false }
-    ensures worked { WorkedOn (start_of writer.old.journal) [] []
-        (shown (J.seen journal_out.old) (L.held link_out.old) (I.left link_in.old) (O.held out.old)) result writer.new
-        (shown (J.seen journal_out.old) (L.held link_out.old) (I.left link_in.old) (O.held out.old))
-        (shown (J.seen journal_out.new) (L.held link_out.new) (I.left link_in.new) (O.held out.new))
-        (J.may_leave journal_out.new) (B.told (start_of writer.old.journal) observer.old observer.new)
+    requires unfailed { IsUnfailed (D.look desk.old).failed }
+    ensures worked { WorkedOn (start_of writer.old.journal) [] [] (D.look desk.old).streams result writer.new
+        (D.look desk.old) (D.look desk.new)
+        (B.told (start_of writer.old.journal) observer.old observer.new)
         (B.told_end (start_of writer.old.journal) observer.old observer.new) }
     ensures rests { OnOk result (IsAtRest writer.new) }
     ensures quiet { OnOk result
         ((start : Start) (past : List Happening) → Describes start past writer.new → is_busy start past ≡ false) }
-    ensures ok { OnOk result
-        (NoneFailed (J.failed journal_out.new) (L.failed link_out.new) (I.failed link_in.new) (O.failed out.new)) }
-    ensures err { IfErr result (λ fault.
-        FailedAs fault (J.failed journal_out.new) (L.failed link_out.new) (I.failed link_in.new) (O.failed out.new)) }
-    ensures settled { OnOk result (IsSettled (J.seen journal_out.new) (J.may_leave journal_out.new)) }
-    ensures grown { (more : List ℕ) × Appends (J.seen journal_out.old) (J.seen journal_out.new) more }
-    ensures any_moment { LeavesOnly J.moment J.left_since journal_out.old journal_out.new
-        (IsBetween (J.seen journal_out.old) (J.seen journal_out.new)) }
+    ensures ends { EndsAs result (D.look desk.old) (D.look desk.new) }
+    ensures grown { Grows D.look D.moment D.left_since D.same desk.old desk.new }
 {
     writer.rest();
     observer.begin(writer.journal());
-    work(writer, link_in, link_out, journal_out, out, observer)
+    work(writer, desk, observer)
 }
 
 // Submits an order at a moment, writes its reply, and does the work that it makes.
-pub(crate) fn carry_out<I: Source, L: Sink, J: Store, O: Sink, B: Observer>(
+pub(crate) fn carry_out<D: Desk, B: Observer>(
     writer: &mut Writer,
     order: Order,
     moment: u64,
-    link_in: &mut I,
-    link_out: &mut L,
-    journal_out: &mut J,
-    out: &mut O,
+    desk: &mut D,
     observer: &mut B,
 ) -> Result<(), DriveFault>
     requires rests { IsAtRest writer.old }
-    requires journal { J.failed journal_out.old ≡ false }
-    requires settled { IsSettled (J.seen journal_out.old) (J.may_leave journal_out.old) }
-    requires link_out { L.failed link_out.old ≡ false }
-    requires link_in { I.failed link_in.old ≡ false }
-    requires out { O.failed out.old ≡ false }
+    requires unfailed { IsUnfailed (D.look desk.old).failed }
     ensures worked { (start : Start) (past : List Happening) (first : Streams) (since : B)
-        → IsDrivenAt start past writer.old first
-        (shown (J.seen journal_out.old) (L.held link_out.old) (I.left link_in.old) (O.held out.old))
+        → IsDrivenAt start past writer.old first (D.look desk.old).streams
         → is_busy start past ≡ false → B.told start since observer.old past
-        → WorkedOn start past ((order, moment) ∷ []) first result writer.new
-        (shown (J.seen journal_out.old) (L.held link_out.old) (I.left link_in.old) (O.held out.old))
-        (shown (J.seen journal_out.new) (L.held link_out.new) (I.left link_in.new) (O.held out.new))
-        (J.may_leave journal_out.new) (B.told start since observer.new) (B.told_end start since observer.new) }
+        → WorkedOn start past ((order, moment) ∷ []) first result writer.new (D.look desk.old) (D.look desk.new)
+        (B.told start since observer.new) (B.told_end start since observer.new) }
     ensures rests { OnOk result (IsAtRest writer.new) }
     ensures quiet { OnOk result
         ((start : Start) (past : List Happening) → Describes start past writer.new → is_busy start past ≡ false) }
-    ensures ok { OnOk result
-        (NoneFailed (J.failed journal_out.new) (L.failed link_out.new) (I.failed link_in.new) (O.failed out.new)) }
-    ensures err { IfErr result (λ fault.
-        FailedAs fault (J.failed journal_out.new) (L.failed link_out.new) (I.failed link_in.new) (O.failed out.new)) }
-    ensures settled { OnOk result (IsSettled (J.seen journal_out.new) (J.may_leave journal_out.new)) }
-    ensures grown { (more : List ℕ) × Appends (J.seen journal_out.old) (J.seen journal_out.new) more }
-    ensures any_moment { LeavesOnly J.moment J.left_since journal_out.old journal_out.new
-        (IsBetween (J.seen journal_out.old) (J.seen journal_out.new)) }
+    ensures ends { EndsAs result (D.look desk.old) (D.look desk.new) }
+    ensures grown { Grows D.look D.moment D.left_since D.same desk.old desk.new }
 {
     let id = order.id();
     let Ok(reply) = writer.submit(order.copy(), moment) else {
         return Err(DriveFault::NoMemory);
     };
     observer.see(&Happening::Asked(order, moment), writer.journal());
-    if !put_all(out, &reply_line(id, reply)) {
+    if !desk.say(&reply_line(id, reply)) {
         return Err(DriveFault::Out);
     }
     observer.see(&Happening::Answered(id, reply), writer.journal());
-    work(writer, link_in, link_out, journal_out, out, observer)
+    work(writer, desk, observer)
 }

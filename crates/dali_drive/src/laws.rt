@@ -154,7 +154,7 @@ pub fn what_is_read_stays()
 /// keeps is a journal by itself.
 pub fn older_orders_act_once()
     ensures { (older : JournalState) (limit most : ℕ) (first : Streams) (past : List Happening)
-        (b : IsBegunBehind older limit most first) → standing_of older.records ≡ Idle
+        (b : IsBegunBehind (Some older) limit most first) → standing_of older.records ≡ Idle
         → Legal (start_of b.journal) past → KeepsRecords past
         → ActsOnceBehind older limit (start_of b.journal) past }
 {}
@@ -165,21 +165,21 @@ pub fn older_orders_act_once()
 /// where there are no records yet, the whole is just what the older journals' own drives left.
 pub fn what_is_followed_behind_is_of_the_whole()
     ensures ended { (older : JournalState) (limit most room : ℕ) (given : List Given) (found left : List ℕ)
-        (first : Streams) (writer : WriterState) (last : Streams) (b : IsBegunBehind older limit most first)
+        (first : Streams) (writer : WriterState) (last : Streams) (b : IsBegunBehind (Some older) limit most first)
         (follow : IsFollowed (start_of b.journal) given (record first { journal = b.begun.middle }) writer last)
         → first.journal ≡ Some found → last.journal ≡ Some left
         → length (journal_spelling Two b.journal.records) ≤ room
         → CameToItsEnd (order_count older + limit) room (journal_spelling Two b.journal.records)
         (record { start = start_of b.journal; past = happenings follow.steps }) (bytes_behind older.records left) }
     ensures broken { (older : JournalState) (limit most room : ℕ) (given : List Given) (fault : DriveFault)
-        (found left : List ℕ) (first last : Streams) (b : IsBegunBehind older limit most first)
+        (found left : List ℕ) (first last : Streams) (b : IsBegunBehind (Some older) limit most first)
         (follow : IsBrokenFollow (start_of b.journal) given fault (record first { journal = b.begun.middle }) last)
         → first.journal ≡ Some found → IsBetween follow.then.journal last.journal left
         → length (journal_spelling Two b.journal.records) ≤ room
         → (past : List Happening) × HasSat (order_count older + limit) room (journal_spelling Two b.journal.records)
         (record { start = start_of b.journal; past = past }) (bytes_behind older.records left) }
     ensures again { (older : JournalState) (limit most : ℕ) (found : List ℕ) (first : Streams)
-        (b : IsBegunBehind older limit most first)
+        (b : IsBegunBehind (Some older) limit most first)
         → first.journal ≡ Some found → b.begun.opened.version ≡ Two
         → IsSameFile (order_count older + limit) (bytes_behind older.records found)
         (journal_spelling Two b.journal.records) }

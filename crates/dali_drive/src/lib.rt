@@ -4,31 +4,37 @@
 #![tactic(auto)]
 
 mod behind;
+mod desk;
 mod driving;
 mod following;
 pub mod laws;
+mod lent_sinks;
 mod lines;
 mod link;
 mod listed;
 mod observer;
 mod reading;
 mod std_streams;
+mod store_desk;
 mod stored;
 mod streams;
 mod survey;
 mod survey_lines;
 
-pub use behind::{BehindFault, follow_behind};
+pub use behind::{BehindFault, JournalLimits, follow_stored};
 pub use dali_trace::DriveFault;
-pub use driving::{drive, drive_observed};
-pub use following::{Given, Orders, follow, follow_stored};
-pub use lines::{Line, push_decimal, push_text};
+pub use desk::{Desk, OpenDesk};
+pub use driving::{drive, drive_at};
+pub use following::{Given, Orders, follow};
+pub use lent_sinks::LentSinks;
+pub use lines::{AnswerText, Line, push_decimal, push_text};
 pub use link::exchange;
 pub use listed::ListedOrders;
 pub use observer::{FindingObserver, Nobody, Observer};
 pub use reading::read_unit;
 pub use std_streams::{StdSink, StdSource};
-pub use stored::{StoredFault, drive_stored, drive_stored_observed};
+pub use store_desk::StoreDesk;
+pub use stored::{StoredFault, drive_stored};
 pub use streams::{Got, Sink, Source, put_all};
 pub use survey::{scan_units, verify_orders};
 pub use survey_lines::{bytes_line, silent_line};

@@ -16,7 +16,7 @@ use dali_trace::{DriveFault, Reply, decimal_of};
 const MOST_ANSWER: usize = 9;
 
 // What was read of an answer's line, without its line feed.
-pub(crate) type AnswerText = ArrayVec<u8, MOST_ANSWER>;
+pub type AnswerText = ArrayVec<u8, MOST_ANSWER>;
 
 // No line that is written has more bytes: a number has at most twenty digits.
 const MOST_LINE: usize = 80;

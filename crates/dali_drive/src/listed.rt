@@ -1,5 +1,5 @@
 // Orders of a list, one after another.
-ghost use Rattle.std.specs.Prelude.{◌≡◌};
+ghost use Rattle.std.specs.Prelude.{◌≡◌, ◌≤◌, ◌-◌, ◌^◌, length};
 ghost use Rattle.dali_drive.specs.Listed.{state_of};
 
 use crate::following::{Given, Orders};
@@ -15,8 +15,11 @@ pub struct ListedOrders<'a> {
 impl<'a> ListedOrders<'a> {
     /// All these orders, of which none was given.
     pub fn new(orders: &'a [Order], moment: u64) -> ListedOrders<'a>
-        ensures { state_of result ≡ record { rest = orders.entry.now; moment = moment } }
+        ensures state { state_of result ≡ record { rest = orders.entry.now; moment = moment } }
+        ensures few { length orders.entry.now ≤ 2 ^ 64 - 1 }
     {
+        // it tells what is so of every list
+        let _most = orders.len();
         ListedOrders {
             rest: orders,
             moment,

@@ -85,9 +85,13 @@ impl<W: Write> StdSink<W> {
 }
 
 impl<W: Write> Sink for StdSink<W> {
+    ghost use Rattle.std.specs.Prelude.{None};
     ghost use Rattle.dali_drive.specs.StdStreams.{sink_held, sink_failed};
 
     ghost held = { sink_held W.contents };
+
+    // no clause of std tells what a flush does
+    ghost flushed = { λ _. None };
 
     ghost failed = { sink_failed };
 
@@ -132,4 +136,6 @@ impl<W: Write> Sink for StdSink<W> {
     fn cause(&self) -> Option<ErrorKind> {
         self.cause
     }
+
+    ghost flushed_is_held = { λ _. tt };
 }

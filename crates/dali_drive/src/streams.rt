@@ -1,7 +1,7 @@
 // What a drive reads and writes, a byte or a few at a time.
-ghost use Rattle.std.specs.Prelude.{◌≡◌, ◌<◌, ◌≤◌, ◌||◌, ℕ, Bool, List, Option, IfSome, not, length, take, true, false};
+ghost use Rattle.std.specs.Prelude.{◌≡◌, ◌<◌, ◌||◌, ℕ, Bool, List, Option, IfSome, not, length, true, false};
 ghost use Rattle.std.specs.Io.KnownBytes.{Keeps, Appends};
-ghost use Rattle.dali_drive.specs.Streams.{TakesOneByte, Puts, PutsFirst, is_failure, is_refusal};
+ghost use Rattle.dali_drive.specs.Streams.{TakesOneByte, Puts, PutsFirst, Flushes, IsPart, is_failure, is_refusal};
 
 use std::io::ErrorKind;
 
@@ -33,15 +33,21 @@ pub trait Source {
     fn has_failed(&self) -> bool
         ensures { result ≡ failed self.now };
 
-    /// Of what kind the failure was, where there was one and that is known.
+    /// Of what kind the failure was, where there was one and that is known: not, unless a stream tells it.
     fn cause(&self) -> Option<ErrorKind>
-        ensures { IfSome result (λ kind. failed self.now ≡ true) };
+        ensures { IfSome result (λ kind. failed self.now ≡ true) }
+    {
+        None
+    }
 }
 
 /// Where bytes are put (profile).
 pub trait Sink {
     /// The bytes that it holds, where they are known.
     ghost held: { Self → Option (List ℕ) };
+
+    /// Those that it held when it was flushed last, where they are known.
+    ghost flushed: { Self → Option (List ℕ) };
 
     /// Whether a call has failed.
     ghost failed: { Self → Bool };
@@ -53,26 +59,35 @@ pub trait Sink {
     fn put(&mut self, bytes: &[u8]) -> Option<usize>
         requires { 0 < length bytes.now }
         ensures bytes { Puts (held self.old) (held self.new) result bytes.now }
+        ensures unflushed { flushed self.new ≡ flushed self.old }
         ensures failed { failed self.new ≡ (failed self.old || is_refusal result) };
 
     /// Sees to it that what is held is where it belongs. `false` where that failed.
     fn flush(&mut self) -> bool
         ensures bytes { Keeps (held self.old) (held self.new) }
+        ensures flushed { Flushes result (held self.new) (flushed self.old) (flushed self.new) }
         ensures failed { failed self.new ≡ (failed self.old || not result) };
 
     /// Whether a call has failed: exactly since `put` gave `None` or `Some(0)`, or `flush` false.
     fn has_failed(&self) -> bool
         ensures { result ≡ failed self.now };
 
-    /// Of what kind the failure was, where there was one and that is known.
+    /// Of what kind the failure was, where there was one and that is known: not, unless a stream tells it.
     fn cause(&self) -> Option<ErrorKind>
-        ensures { IfSome result (λ kind. failed self.now ≡ true) };
+        ensures { IfSome result (λ kind. failed self.now ≡ true) }
+    {
+        None
+    }
+
+    /// What was flushed is a first part of what is held.
+    ghost flushed_is_held: { (sink : Self) → IsPart (flushed sink) (held sink) };
 }
 
 /// Puts all the bytes, and says whether they are held. Where they aren't, just the first so many are (profile).
 pub fn put_all<S: Sink>(sink: &mut S, bytes: &[u8]) -> bool
     ensures whole { result ≡ true → Appends (S.held sink.old) (S.held sink.new) bytes.now }
     ensures cut { result ≡ false → PutsFirst (S.held sink.old) (S.held sink.new) bytes.now }
+    ensures unflushed { S.flushed sink.new ≡ S.flushed sink.old }
     ensures failed { S.failed sink.new ≡ (S.failed sink.old || not result) }
 {
     let mut done = 0;
@@ -88,8 +103,8 @@ pub fn put_all<S: Sink>(sink: &mut S, bytes: &[u8]) -> bool
 // Puts all the bytes and flushes.
 pub(crate) fn send<S: Sink>(sink: &mut S, bytes: &[u8]) -> bool
     ensures whole { result ≡ true → Appends (S.held sink.old) (S.held sink.new) bytes.now }
-    ensures cut { result ≡ false
-        → (k : ℕ) × (k ≤ length bytes.now) × Appends (S.held sink.old) (S.held sink.new) (take k bytes.now) }
+    ensures cut { result ≡ false → PutsFirst (S.held sink.old) (S.held sink.new) bytes.now }
+    ensures flushed { Flushes result (S.held sink.new) (S.flushed sink.old) (S.flushed sink.new) }
     ensures failed { S.failed sink.new ≡ (S.failed sink.old || not result) }
 {
     put_all(sink, bytes) && sink.flush()

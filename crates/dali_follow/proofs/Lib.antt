@@ -1,3 +1,4 @@
 pub mod JudgedLemmas
 pub mod GaveLemmas
 pub mod WorkedLineLemmas
+pub mod WorkedJudgedLemmas

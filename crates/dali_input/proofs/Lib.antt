@@ -6,3 +6,4 @@ pub mod SetupLemmas
 pub mod OrderLemmas
 pub mod BankTextLemmas
 pub mod WorkedSetupLemmas
+pub mod WorkedInputLemmas

@@ -1,95 +1,81 @@
 -- Lemmas on how a drive behind older journals ended.
-use Rattle.std.proofs.Common.{◌≡◌, ℕ, List, [], ◌∷◌, ◌++◌, Option, Some, None, IfSome, ap, inl, inr, refl, subst}
+use Rattle.std.proofs.Common.{◌≡◌, Bool, ℕ, List, [], ◌∷◌, ◌++◌, Option, Some, None, IfSome, ap, inl, inr, refl, subst}
 use Rattle.dali_journal.specs.declared.behind.JoinFault.{JoinFault}
 use Rattle.dali_journal.specs.declared.record.Record.{Record}
 use Rattle.dali_journal.specs.declared.standing.Standing.TheVariants.{Idle}
 use Rattle.dali_journal.specs.JournalState.{JournalState}
 use Rattle.dali_journal.specs.Sentence.{next_standing, standing_of}
 use Rattle.dali_store.specs.declared.opening.OpenFault.{OpenFault}
-use Rattle.dali_store.specs.Stores.{IsSettled}
 use Rattle.dali_drive.specs.declared.behind.BehindFault.{BehindFault}
 use Rattle.dali_drive.specs.declared.behind.BehindFault.TheVariants as behind
 use Rattle.dali_trace.specs.declared.fault.DriveFault.{DriveFault}
 use Rattle.dali_drive.specs.declared.following.Given.{Given}
-use Rattle.dali_drive.specs.Behind.{EndsBehind}
-use Rattle.dali_drive.specs.Transcript.{Streams}
+use Rattle.dali_drive.specs.Behind.{EndsBehind, BehindShows}
+use Rattle.dali_drive.specs.Desks.{Look}
 use Rattle.dali_report.specs.declared.report.Report.{Report}
 use Rattle.dali_report.specs.Told.{IsTold, IsToldEnd}
 use Rattle.dali_faults.specs.declared.fault.Status.{Status}
 use Rattle.dali_link_commands.specs.BehindAnswers.{BreaksBehind, IsBehindNamed, fault_unjoined}
+use Rattle.dali_link_commands.specs.Benches.{with_lines}
 use Rattle.dali_link_commands.specs.DriveAnswers.{fault_unopened}
 use Rattle.dali_faults.specs.JournalInput.{journal_limit, order_limit}
 use Rattle.dali_link_commands.specs.Told.{IsFaultTold, IsFileFaultTold}
 
-nothing_left : (seen : Option (List ℕ)) → IsSettled seen (λ c. ⊥)
-nothing_left None = tt
-nothing_left (Some bytes) = λ c never. absurd never
-
-module _ {G N : Type 0} (gave : G → G → List Given → Type 0) (contents : N → Option (List ℕ)) (older : JournalState)
-    (before after : Report N) (orders left : G) (first last : Streams) (replies : Option (List ℕ))
-    (leaves leaves_then : List ℕ → Type 0) (fault : BehindFault) (status : Status)
+module _ {G N : Type 0} (gave : G → G → List Given → Type 0) (contents : N → Option (List ℕ))
+    (older : Option JournalState) (before after : Report N) (orders left : G) (first last : Look)
+    (replies : Option (List ℕ)) (lost : Bool)
+    (fault : BehindFault) (status : Status)
     (ends : EndsBehind gave (IsTold contents) (IsToldEnd contents) older order_limit journal_limit orders fault first
-    leaves before left (record last { out = replies }) leaves_then after) where
+    before left (with_lines last replies lost) after)
+    (shows : BehindShows fault (with_lines last replies lost).failed) where
   abbrev Ends : BehindFault → Type 0
   Ends why = EndsBehind gave (IsTold contents) (IsToldEnd contents) older order_limit journal_limit orders why first
-      leaves before left (record last { out = replies }) leaves_then after
+      before left (with_lines last replies lost) after × BehindShows why (with_lines last replies lost).failed
 
   -- the journal wasn't opened, and its fault was told
   pub behind_unopened : (why : OpenFault) → fault ≡ behind.Open why
-      → IsFileFaultTold (fault_unopened why) status replies last.out
+      → IsFileFaultTold (fault_unopened why) status replies last.streams.out
       → BreaksBehind gave contents older before after orders left first status last
   behind_unopened why is told =
-      let end = subst Ends is ends in
+      let end = subst Ends is (ends, shows) in
       inl (record {
         fault = why;
         replies = replies;
+        lost = lost;
         unopened = end.0.0;
+        failed = end.1;
         told = told;
-        unread = end.1;
-        unreported = end.2;
+        unread = end.0.1;
+        unreported = end.0.2;
       })
 
   -- it is none with the older one, which was told
   pub behind_unjoined : (why : JoinFault) → fault ≡ behind.Join why
-      → IsFileFaultTold (fault_unjoined why) status replies last.out
+      → IsFileFaultTold (fault_unjoined why) status replies last.streams.out
       → BreaksBehind gave contents older before after orders left first status last
   behind_unjoined why is told =
-      let end = subst Ends is ends in
+      let end = subst Ends is (ends, shows) in
       inr (inl (record {
         fault = why;
         replies = replies;
-        unjoined = record {
-          begun = end.begun;
-          why = end.why;
-          streams = end.streams;
-          settled = nothing_left last.journal;
-          ungiven = end.ungiven;
-          untold = end.untold;
-        };
+        lost = lost;
+        unjoined = end.0;
+        unfailed = end.1;
         told = told;
       }))
 
   -- it broke off, and its fault was told
-  pub behind_broken : (why : DriveFault) → fault ≡ behind.Drive why → IsFaultTold why status replies last.out
+  pub behind_broken : (why : DriveFault) → fault ≡ behind.Drive why
+      → IsFaultTold why status replies last.streams.out
       → BreaksBehind gave contents older before after orders left first status last
   behind_broken why is told =
-      let end = subst Ends is ends in
-      let observed = end.observed in
+      let end = subst Ends is (ends, shows) in
       inr (inr (record {
         fault = why;
         replies = replies;
-        broken = record {
-          behind = end.behind;
-          observed = record {
-            given = observed.given;
-            gave_all = observed.gave_all;
-            breaks = record {
-              follow = observed.breaks.follow;
-              left = λ c never. absurd never;
-              told_all = observed.breaks.told_all;
-            };
-          };
-        };
+        lost = lost;
+        broken = end.0;
+        failed = end.1;
         told = told;
       }))
 

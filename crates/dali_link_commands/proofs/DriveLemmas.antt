@@ -7,71 +7,29 @@ use Rattle.std.specs.List.{flat_map}
 use Rattle.std.proofs.lemmas.List.{flat_map_more, take_more}
 use Rattle.dali_input.specs.declared.item.ItemFault.{ItemFault}
 use Rattle.dali_bank.specs.Order.{Contents}
-use Rattle.dali_input.specs.Input.{InputState, ReadsInput}
+use Rattle.dali_input.specs.declared.fault.InputFault.{InputFault}
+use Rattle.dali_input.specs.declared.fault.InputFault.TheVariants as inputs
+use Rattle.dali_input.specs.Input.{InputState, IsReadFailure, ReadsInput}
 use Rattle.dali_input.specs.Orders.{orders_limit}
 use Rattle.dali_text.specs.declared.output.OutputFailed.{OutputFailed}
-use Rattle.dali_store.specs.declared.opening.OpenFault.{OpenFault}
-use Rattle.dali_drive.specs.declared.stored.StoredFault.{StoredFault}
-use Rattle.dali_drive.specs.declared.stored.StoredFault.TheVariants as stored
-use Rattle.dali_drive.specs.Driven.{at_moment}
-use Rattle.dali_drive.specs.Observed.{EndsObserved}
-use Rattle.dali_report.specs.declared.report.Report.{Report}
-use Rattle.dali_report.specs.Told.{IsTold, IsToldEnd}
-use Rattle.dali_link_commands.specs.DriveAnswers.{IsDriveAnswer, fault_unopened}
-use Rattle.dali_faults.specs.JournalInput.{journal_limit, order_limit}
-use Rattle.dali_drive.specs.Transcript.{Streams}
+use Rattle.dali_drive.specs.Desks.{Look}
 use Rattle.dali_trace.specs.declared.fault.DriveFault.{DriveFault}
 use Rattle.dali_trace.specs.declared.fault.DriveFault.TheVariants as drives
 use Rattle.dali_drive.specs.Streams.{PutsFirst}
 use Rattle.dali_faults.specs.declared.fault.Status.{Status}
 use Rattle.dali_faults.specs.declared.fault.Status.TheVariants.{Unwritten}
-use Rattle.dali_link_commands.specs.OrdersAnswers.{IsInputAnswer, IsReaderAnswer, IsFileAnswer}
+use Rattle.dali_link_commands.specs.OrdersAnswers.{IsInputAnswer, IsReaderAnswer, IsFileAnswer, IsUnread}
 use Rattle.dali_link_commands.specs.ReadAnswers.{TellsLine}
-use Rattle.dali_link_commands.specs.Told.{IsFaultTold, IsFileFaultTold, IsFaultText, TellsWorded, error_line, is_out, refused_lines}
+use Rattle.dali_link_commands.specs.Told.{IsFaultTold, IsFaultText, IsPlain, error_line, is_out}
+use Rattle.dali_link_commands.specs.Told.{refused_lines}
 use Rattle.dali_faults.specs.declared.fault.Fault.{Fault}
 use Rattle.dali_faults.specs.declared.fault.Fault.TheVariants.{Drive}
 use Rattle.dali_faults.specs.Faults.{item_line, status_of, told_line}
 use Rattle.dali_text.proofs.StreamLemmas.{appends_both, appends_kept}
 
-module _ {N : Type 0} (contents : N → Option (List ℕ)) (moment : ℕ) (require_done : Bool) (before after : Report N)
-    (orders : List Contents) (first last : Streams) (replies : Option (List ℕ)) (leaves leaves_then : List ℕ → Type 0)
-    (fault : StoredFault) (status : Status)
-    (ends : EndsObserved (IsTold contents) (IsToldEnd contents) order_limit journal_limit
-    (at_moment moment orders) fault first
-    leaves before (record last { out = replies }) leaves_then after) where
-  -- the journal wasn't opened, and its fault was told
-  pub ends_unopened : (why : OpenFault) → fault ≡ stored.Open why
-      → IsFileFaultTold (fault_unopened why) status replies last.out
-      → IsDriveAnswer contents moment require_done before after orders first status last
-  ends_unopened why is told =
-      let end = subst (λ (f : StoredFault). EndsObserved (IsTold contents) (IsToldEnd contents) order_limit
-      journal_limit (at_moment moment orders) f first leaves before (record last { out = replies }) leaves_then after)
-      is ends in
-      inr (inl (record { fault = why; replies = replies; unopened = end.0.0; told = told; unreported = end.1 }))
-
-  -- it broke off, and its fault was told
-  pub ends_broken : (why : DriveFault) → fault ≡ stored.Drive why → IsFaultTold why status replies last.out
-      → IsDriveAnswer contents moment require_done before after orders first status last
-  ends_broken why is told =
-      let end = subst (λ (f : StoredFault). EndsObserved (IsTold contents) (IsToldEnd contents) order_limit
-      journal_limit (at_moment moment orders) f first leaves before (record last { out = replies }) leaves_then after)
-      is ends in
-      inr (inr (record {
-        fault = why;
-        replies = replies;
-        broken = record {
-          begun = end.begun;
-          observed = record {
-            breaks = record { drive = end.observed.breaks.drive; left = λ c never. absurd never };
-            told_all = end.observed.told_all;
-          };
-        };
-        told = told;
-      }))
-
 -- the bytes that were read are those that the command had
-pub read_and_answered : (answers : List Contents → Streams → Status → Streams → Type 0) (unreported : Type 0)
-    (before after : InputState) (first last : Streams) (status : Status) (input given : List ℕ)
+pub read_and_answered : (answers : List Contents → Look → Status → Look → Type 0) (unreported : Type 0)
+    (before after : InputState) (first last : Look) (status : Status) (input given : List ℕ)
     → given ≡ input → ReadsInput orders_limit before after input
     → IsInputAnswer answers unreported first status last given
     → IsReaderAnswer answers unreported first status last before after
@@ -82,9 +40,9 @@ read_and_answered answers unreported before after first last status input given 
 pub worded : (result : Result Status OutputFailed) (fault : Fault) (words : List ℕ) (before mid after : Option (List ℕ))
     → Appends before mid (error_line words) → OnOk result (Appends mid after (told_line fault))
     → IfOk result (λ status. status ≡ status_of fault)
-    → IfOk result (λ status. (status ≡ status_of fault) × TellsWorded fault before after)
+    → IfOk result (λ status. (status ≡ status_of fault) × Appends before after (error_line words ++ told_line fault))
 worded (Ok status) fault words before mid after line told is =
-    (is, (words, appends_both before mid after (error_line words) (told_line fault) line told))
+    (is, appends_both before mid after (error_line words) (told_line fault) line told)
 worded (Err error) fault words before mid after line told is = tt
 
 -- one refused item more is told; any default serves
@@ -99,15 +57,15 @@ refused_more refused i default before mid now within so_far written =
     ∙ ap (λ us. flat_map line us) (sym (take_more refused i default within)))
     (appends_both before mid now (refused_lines (take i refused)) (line (get_or refused i default)) so_far written)
 
--- a fault with words before it
+-- a fault with plain words before it
 pub worded_is : (fault : DriveFault) (words text : List ℕ) → ((fault ≡ drives.Journal) ⊎ (fault ≡ drives.Link))
-    → text ≡ error_line words ++ told_line (Drive fault) → IsFaultText fault text
-worded_is fault words text (inl journal) is =
+    → IsPlain words → text ≡ error_line words ++ told_line (Drive fault) → IsFaultText fault text
+worded_is fault words text (inl journal) plain is =
     subst (λ (f : DriveFault). IsFaultText f text) (sym journal)
-    (words, subst (λ (f : DriveFault). text ≡ error_line words ++ told_line (Drive f)) journal is)
-worded_is fault words text (inr link) is =
+    (words, plain, subst (λ (f : DriveFault). text ≡ error_line words ++ told_line (Drive f)) journal is)
+worded_is fault words text (inr link) plain is =
     subst (λ (f : DriveFault). IsFaultText f text) (sym link)
-    (words, subst (λ (f : DriveFault). text ≡ error_line words ++ told_line (Drive f)) link is)
+    (words, plain, subst (λ (f : DriveFault). text ≡ error_line words ++ told_line (Drive f)) link is)
 
 pub worded_no_out : (fault : DriveFault) → ((fault ≡ drives.Journal) ⊎ (fault ≡ drives.Link)) → is_out fault ≡ false
 worded_no_out fault (inl journal) = rw journal refl
@@ -173,14 +131,23 @@ never_failed true mid new other first second = cc
 never_failed false true new other first second = cc
 never_failed false false new other first second = second
 
+-- a reader fails at these alone
+is_unread : (before after : InputState) (fault : InputFault) → IsReadFailure before after fault → IsUnread fault
+is_unread before after inputs.Memory failure = inr refl
+is_unread before after inputs.File failure = inl refl
+is_unread before after inputs.Json failure = absurd failure
+is_unread before after inputs.Document failure = absurd failure
+is_unread before after inputs.TooBig failure = absurd failure
+is_unread before after inputs.Hex failure = absurd failure
+
 -- what a reader gave are some bytes
-pub file_answered : (answers : List Contents → Streams → Status → Streams → Type 0) (unreported : Type 0)
-    (before after : InputState) (first : Streams) (status : Status) (last : Streams)
+pub file_answered : (answers : List Contents → Look → Status → Look → Type 0) (unreported : Type 0)
+    (before after : InputState) (first : Look) (status : Status) (last : Look)
     → IsReaderAnswer answers unreported first status last before after
     → IsFileAnswer answers unreported first status last
 file_answered answers unreported before after first status last (inl (input, read, answer)) = inl (input, answer)
 file_answered answers unreported before after first status last (inr (fault, failure, undriven, none)) =
-    inr (fault, undriven, none)
+    inr (fault, is_unread before after fault failure, undriven, none)
 
 -- the line by another name
 pub line_told : (good status : Status) (before after : Option (List ℕ)) (one two : List ℕ) → one ≡ two

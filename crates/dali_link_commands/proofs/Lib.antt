@@ -1,6 +1,17 @@
+pub mod WordsLemmas
+pub mod ReportLemmas
 pub mod DriveLemmas
 pub mod FollowLemmas
 pub mod BehindLemmas
+pub mod OlderLemmas
 mod WorkedEndLemmas
 mod WorkedFollowLemmas
 mod WorkedBehindLemmas
+mod WorkedWordsLemmas
+pub mod WorkedBenchLemmas
+mod WorkedOrdersLemmas
+mod WorkedBreakLemmas
+mod WorkedReadLemmas
+mod WorkedReportLemmas
+pub mod ReadLemmas
+mod WorkedOlderLemmas

@@ -7,6 +7,7 @@ use Rattle.dali_input.specs.declared.fault.InputFault.TheVariants.{File, TooBig}
 use Rattle.dali_faults.specs.declared.fault.Fault.TheVariants.{Input, Drive}
 use Rattle.dali_link_commands.specs.Told.{IsFaultTold, IsFaultText, TellsFileFault, error_line}
 use Rattle.dali_faults.specs.Faults.{told_line}
+use Rattle.dali_link_commands.proofs.WordsLemmas.{known_plain}
 
 pub out_told_by_its_status : (written : Option (List ℕ)) → IsFaultTold faults.Out Unwritten written written
 out_told_by_its_status written = (refl, refl)
@@ -39,10 +40,10 @@ not_in_part_and_refused (text, line, inr told) = let is : Refused ≡ Unwritten 
 
 -- a fault of the link has a line in words before its own, and that of its end has none
 pub link_told_with_words : IsFaultText faults.Link (error_line (codes "x") ++ told_line (Drive faults.Link))
-link_told_with_words = (codes "x", refl)
+link_told_with_words = (codes "x", known_plain (codes "x") refl, refl)
 
 pub link_not_without_words : IsFaultText faults.Link (told_line (Drive faults.Link)) → ⊥
-link_not_without_words (words, told) =
+link_not_without_words (words, plain, told) =
     let first : 100 ≡ 101 = ap (λ (text : List ℕ). get_or text 0 0) told in omega (arith, first)
 
 pub end_not_with_words : IsFaultText faults.End (error_line (codes "x") ++ told_line (Drive faults.End)) → ⊥
@@ -51,10 +52,10 @@ end_not_with_words told =
 
 -- a file's fault has a line in words before its own, and that of too many bytes has none
 pub told_with_words : TellsFileFault (Input File) (Some []) (Some (error_line (codes "x") ++ told_line (Input File)))
-told_with_words = (codes "x", refl)
+told_with_words = (codes "x", known_plain (codes "x") refl, refl)
 
 pub not_without_words : TellsFileFault (Input File) (Some []) (Some (codes "fault 21 File\n")) → ⊥
-not_without_words (words, told) =
+not_without_words (words, plain, told) =
     let first : 102 ≡ 101 = ap (λ (text : List ℕ). get_or text 0 0) told in omega (arith, first)
 
 pub told_alone : TellsFileFault (Input TooBig) (Some []) (Some (told_line (Input TooBig)))

@@ -6,6 +6,7 @@ use Rattle.dali_faults.specs.declared.fault.Status.TheVariants.{Good, Refused, F
 use Rattle.dali_faults.specs.Faults.{told_line}
 use Rattle.dali_link_commands.specs.FollowAnswers.{TellsFollowed, followed_status}
 use Rattle.dali_link_commands.specs.Told.{error_line}
+use Rattle.dali_link_commands.proofs.WordsLemmas.{known_plain}
 
 -- a refused line shows in the status, whatever was done; an order that isn't done only where that is asked for
 pub refused_line_refuses : (followed_status true false true ≡ Refused) × (followed_status true true true ≡ Refused)
@@ -21,7 +22,7 @@ all_well = refl
 -- a source that has failed is told, and no good end, whatever came before
 pub failed_source_told :
     TellsFollowed true Good Failed (Some []) (Some (error_line (codes "x") ++ told_line (Input File)))
-failed_source_told = λ written. (refl, (codes "x", refl))
+failed_source_told = λ written. (refl, (codes "x", known_plain (codes "x") refl, refl))
 
 pub failed_source_is_no_good_end : TellsFollowed true Good Good (Some []) (Some []) → ⊥
 failed_source_is_no_good_end told =

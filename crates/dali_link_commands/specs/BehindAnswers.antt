@@ -14,12 +14,13 @@ use Rattle.dali_drive.specs.declared.following.Given.{Given}
 use Rattle.dali_drive.specs.declared.listed.ListedOrders.{ListedOrders}
 use Rattle.dali_drive.specs.declared.std_streams.StdSource.{StdSource}
 use Rattle.dali_drive.specs.declared.stored.StoredFault.TheVariants as stored
-use Rattle.dali_drive.specs.Behind.{IsFollowBehind, IsFollowBehindBreak, EndsUnjoined}
+use Rattle.dali_drive.specs.Behind.{IsFollowBehind, IsFollowBehindBreak, IsDriveBehind, EndsUnjoined}
+use Rattle.dali_drive.specs.Driven.{at_moment}
 use Rattle.dali_drive.specs.Followed.{happenings}
-use Rattle.dali_drive.specs.Listed.{GaveListed, IsEmpty, state_of}
+use Rattle.dali_drive.specs.Listed.{GaveListed, state_of}
 use Rattle.dali_drive.specs.StdStreams.{source_left, source_failed}
-use Rattle.dali_drive.specs.Stored.{IsStoredFault}
-use Rattle.dali_drive.specs.Transcript.{Streams}
+use Rattle.dali_drive.specs.Stored.{EndsAtFault}
+use Rattle.dali_drive.specs.Desks.{Look, Settled, IsUnfailed, FailsOpen, ShowsFault}
 use Rattle.dali_follow.specs.declared.order_lines.OrderLines.{OrderLines}
 use Rattle.dali_follow.specs.Gave as lines
 use Rattle.dali_report.specs.declared.report.Report.{Report}
@@ -30,11 +31,12 @@ use Rattle.dali_faults.specs.declared.fault.Fault.{Fault}
 use Rattle.dali_faults.specs.declared.fault.Fault.TheVariants.{Input, Older}
 use Rattle.dali_faults.specs.declared.fault.Status.{Status}
 use Rattle.dali_link_commands.specs.declared.older.OlderFault.{OlderFault}
-use Rattle.dali_link_commands.specs.DriveAnswers.{IsDriveAnswer, ended_status, fault_unopened}
-use Rattle.dali_link_commands.specs.FollowAnswers.{IsFollowAnswer, AreUnread, TellsFollowed, followed_status}
+use Rattle.dali_link_commands.specs.DriveAnswers.{ended_status, fault_unopened}
+use Rattle.dali_link_commands.specs.FollowAnswers.{AreUnread, TellsFollowed, followed_status}
 use Rattle.dali_faults.specs.JournalInput.{journal_limit, order_limit}
 use Rattle.dali_link_commands.specs.Older.{fault_older}
-use Rattle.dali_link_commands.specs.OrdersAnswers.{EndsUndriven, IsUndriven}
+use Rattle.dali_link_commands.specs.Benches.{IsUndriven, with_lines}
+use Rattle.dali_link_commands.specs.OrdersAnswers.{EndsUndriven, IsUnread}
 use Rattle.dali_link_commands.specs.Told.{IsFaultTold, IsFileFaultTold}
 
 -- the fault of journals that are none together
@@ -43,21 +45,31 @@ fault_unjoined (Repeated id) = Older
 fault_unjoined NoMemory = Input Memory
 
 module _ {G N : Type 0} (gave : G → G → List Given → Type 0) (over : G → Type 0) (contents : N → Option (List ℕ))
-    (older : JournalState) (before after : Report N) (orders left : G) (first last : Streams) where
-  -- just what was given was followed, up to where no more came, nothing more is to be done, and the report has it all
+    (older : Option JournalState) (before after : Report N) (orders left : G) (first last : Look) where
+  -- just what was given was followed, up to where no more came, nothing more is to be done, and the report has it all;
+  -- no stream has failed, and a stop leaves what the journal shows
   pub record FollowsBehind : Type 0 where
     pub writer : WriterState
-    pub followed : IsFollowBehind gave over (IsTold contents) older order_limit journal_limit orders first before
-        writer left last after
+    pub followed : IsFollowBehind gave over (IsTold contents) older order_limit journal_limit orders first.streams
+        before writer left last.streams after
+    pub unfailed : IsUnfailed last.failed
+    pub settled : Settled last
 
-module _ {G N : Type 0} (gave : G → G → List Given → Type 0) (contents : N → Option (List ℕ)) (older : JournalState)
-    (before after : Report N) (orders left : G) (first : Streams) (status : Status) (last : Streams) where
-  -- the journal wasn't opened, its fault was told, and nothing was taken of the orders
+module _ {G N : Type 0} (gave : G → G → List Given → Type 0) (contents : N → Option (List ℕ))
+    (older : Option JournalState) (before after : Report N) (orders left : G) (first : Look) (status : Status)
+    (last : Look) where
+  -- What is told of a fault goes behind what the lines held then, 'replies', where they hadn't failed unless that was
+  -- the fault, 'lost'.
+
+  -- the journal wasn't opened, since its store failed or its bytes are none, which was told; nothing was taken of the
+  -- orders
   pub record UnopenedBehind : Type 0 where
     pub fault : OpenFault
     pub replies : Option (List ℕ)
-    pub unopened : IsStoredFault order_limit journal_limit [] (stored.Open fault) first (record last { out = replies })
-    pub told : IsFileFaultTold (fault_unopened fault) status replies last.out
+    pub lost : Bool
+    pub unopened : EndsAtFault order_limit journal_limit [] (stored.Open fault) first (with_lines last replies lost)
+    pub failed : FailsOpen fault (with_lines last replies lost).failed
+    pub told : IsFileFaultTold (fault_unopened fault) status replies last.streams.out
     pub unread : left ≡ orders
     pub unreported : after ≡ before
 
@@ -65,58 +77,63 @@ module _ {G N : Type 0} (gave : G → G → List Given → Type 0) (contents : N
   pub record UnjoinedBehind : Type 0 where
     pub fault : JoinFault
     pub replies : Option (List ℕ)
-    pub unjoined : EndsUnjoined fault older order_limit journal_limit orders first before left
-        (record last { out = replies }) (λ c. ⊥) after
-    pub told : IsFileFaultTold (fault_unjoined fault) status replies last.out
+    pub lost : Bool
+    pub unjoined : EndsUnjoined fault older order_limit journal_limit orders first.streams before left
+        (with_lines last replies lost) after
+    pub unfailed : IsUnfailed (with_lines last replies lost).failed
+    pub told : IsFileFaultTold (fault_unjoined fault) status replies last.streams.out
 
-  -- it broke off behind what had been given so far, its fault was told, and the report has what there was
+  -- it broke off behind what had been given so far, since a stream failed or gave no answer, which was told; the report
+  -- has what there was, and a stop leaves all that was kept before the step that was broken off
   pub record BrokenBehind : Type 0 where
     pub fault : DriveFault
     pub replies : Option (List ℕ)
+    pub lost : Bool
     pub broken : IsFollowBehindBreak gave (IsTold contents) (IsToldEnd contents) older order_limit journal_limit
-        orders fault first before left (record last { out = replies }) after (λ c. ⊥)
-    pub told : IsFaultTold fault status replies last.out
+        orders fault first.streams before left (with_lines last replies lost).streams after last.may_leave
+    pub failed : ShowsFault fault (with_lines last replies lost).failed
+    pub told : IsFaultTold fault status replies last.streams.out
 
-  -- why not all was followed; what a stop may leave of the journal then is not said here
+  -- why not all was followed
   abbrev pub BreaksBehind : Type 0
   BreaksBehind = UnopenedBehind ⊎ UnjoinedBehind ⊎ BrokenBehind
 
 module _ {R N : Type 0} (rest : R → Option (List ℕ)) (failed : R → Bool) (contents : N → Option (List ℕ))
-    (older : JournalState) (require_done : Bool) (before after : Report N) (orders left : OrderLines R)
-    (first : Streams) (status : Status) (last : Streams) where
+    (older : Option JournalState) (require_done : Bool) (before after : Report N) (orders left : OrderLines R)
+    (first : Look) (status : Status) (last : Look) where
   -- what the lines of a stream gave was followed, and a failure of their source is told
   pub record EndsLinesBehind : Type 0 where
     pub replies : Option (List ℕ)
+    pub lost : Bool
     pub follows : FollowsBehind (lines.Gave rest failed) lines.IsOver contents older before after orders left first
-        (record last { out = replies })
+        (with_lines last replies lost)
     pub told : TellsFollowed (failed (lines.state_of left).source)
         (followed_status (lines.state_of left).has_refused require_done
         (all_done (happenings follows.followed.observed.follow.steps)))
-        status replies last.out
+        status replies last.streams.out
 
   abbrev pub IsLinesBehind : Type 0
   IsLinesBehind =
       EndsLinesBehind ⊎ BreaksBehind (lines.Gave rest failed) contents older before after orders left first status last
 
-module _ {N : Type 0} (contents : N → Option (List ℕ)) (older : JournalState) (moment : ℕ) (require_done : Bool)
-    (before after : Report N) (orders : List Contents) (first : Streams) (status : Status) (last : Streams) where
-  -- all the orders of a list were followed, each at this moment
-  pub record EndsListBehind (listed left : ListedOrders) : Type 0 where
-    pub follows : FollowsBehind GaveListed IsEmpty contents older before after listed left first last
-    pub status_is : status ≡ ended_status require_done (all_done (happenings follows.followed.observed.follow.steps))
+module _ {N : Type 0} (older : Option JournalState) (contents : N → Option (List ℕ)) (moment : ℕ)
+    (require_done : Bool) (before after : Report N) (orders : List Contents) (first : Look) (status : Status)
+    (last : Look) where
+  -- all the orders of a list were asked at this moment, nothing more is to be done, and the report has all of it
+  pub record EndsListBehind : Type 0 where
+    pub writer : WriterState
+    pub driven : IsDriveBehind (IsTold contents) older order_limit journal_limit (at_moment moment orders)
+        first.streams before writer last.streams after
+    pub unfailed : IsUnfailed last.failed
+    pub settled : Settled last
+    pub status_is : status ≡ ended_status require_done (all_done driven.observed.drive.past)
 
-  abbrev pub IsListBehind : Type 0
-  IsListBehind =
-      (listed : ListedOrders) × (left : ListedOrders) × (state_of listed ≡ record { rest = orders; moment = moment })
-      × (EndsListBehind listed left ⊎ BreaksBehind GaveListed contents older before after listed left first status last)
-
--- what is answered of a list of orders, behind an older journal where there is one
-abbrev pub IsAnswerBehind : {N : Type 0} → Option JournalState → (N → Option (List ℕ)) → ℕ → Bool → Report N → Report N
-    → List Contents → Streams → Status → Streams → Type 0
-IsAnswerBehind None contents moment require_done before after orders first status last =
-    IsDriveAnswer contents moment require_done before after orders first status last
-IsAnswerBehind (Some older) contents moment require_done before after orders first status last =
-    IsListBehind contents older moment require_done before after orders first status last
+  -- what is answered of a list of orders, behind an older journal where there is one
+  abbrev pub IsAnswerBehind : Type 0
+  IsAnswerBehind =
+      EndsListBehind
+      ⊎ ((listed : ListedOrders) × (left : ListedOrders) × (state_of listed ≡ record { rest = orders; moment = moment })
+      × BreaksBehind GaveListed contents older before after listed left first status last)
 
 -- what is answered where older journals of these names are read: behind what they hold, which is at rest, or that one
 -- can't be used; where there are no names, behind none
@@ -126,25 +143,16 @@ IsBehindNamed (name ∷ names) answers refused =
     ((older : JournalState) × (standing_of older.records ≡ Idle) × answers (Some older)) ⊎ refused
 
 -- an older journal can't be used, which is told, and nothing else was done
-abbrev pub EndsUnread : {N : Type 0} → Report N → Report N → Streams → Status → Streams → Type 0
+abbrev pub EndsUnread : {N : Type 0} → Report N → Report N → Look → Status → Look → Type 0
 EndsUnread before after first status last =
-    (fault : OlderFault) × IsUndriven first last × IsFileFaultTold (fault_older fault) status first.out last.out
-    × (after ≡ before)
-
--- what is answered of the lines of a stream, behind an older journal where there is one
-abbrev pub IsLinesAnswer : {R N : Type 0} → Option JournalState → (R → Option (List ℕ)) → (R → Bool)
-    → (N → Option (List ℕ)) → Bool → Report N → Report N → OrderLines R → OrderLines R → Streams → Status → Streams
-    → Type 0
-IsLinesAnswer None rest failed contents require_done before after orders left first status last =
-    IsFollowAnswer rest failed contents require_done before after orders left first status last
-IsLinesAnswer (Some older) rest failed contents require_done before after orders left first status last =
-    IsLinesBehind rest failed contents older require_done before after orders left first status last
+    (fault : OlderFault) × IsUndriven first last
+    × IsFileFaultTold (fault_older fault) status first.streams.out last.streams.out × (after ≡ before)
 
 -- The same of a file of lines, of which nothing is known: of what it gave, or of one that isn't opened.
 abbrev pub IsFileFollow : {F N : Type 0} → Option JournalState → (F → Option (List ℕ)) → (N → Option (List ℕ)) → ℕ
-    → Bool → Report N → Report N → Streams → Status → Streams → Type 0
+    → Bool → Report N → Report N → Look → Status → Look → Type 0
 IsFileFollow {F} older remaining contents moment require_done before after first status last =
     ((orders : OrderLines (StdSource F)) × (left : OrderLines (StdSource F)) × AreUnread source_failed moment orders
-    × IsLinesAnswer older (source_left remaining) source_failed contents require_done before after orders left first
+    × IsLinesBehind (source_left remaining) source_failed contents older require_done before after orders left first
     status last)
-    ⊎ ((fault : InputFault) × EndsUndriven fault first status last × (after ≡ before))
+    ⊎ ((fault : InputFault) × IsUnread fault × EndsUndriven fault first status last × (after ≡ before))

@@ -1,4 +1,5 @@
 pub mod Told
+pub mod Benches
 pub mod OrdersAnswers
 pub mod DriveAnswers
 pub mod FollowAnswers

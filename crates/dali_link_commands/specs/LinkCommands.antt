@@ -1,73 +1,96 @@
 -- What a command over a link does: each as its own definition says.
-use Rattle.std.specs.Prelude.{◌≡◌, ◌≤◌, ◌⊎◌, ℕ, Bool, true, false, is_some, List, Option, None, ⊤}
+use Rattle.std.specs.Prelude.{◌≡◌, ◌≤◌, ◌⊎◌, ◌&&◌, ◌||◌, not, ℕ, Bool, true, false, is_some, List, [], Option, None, ⊤}
 use Rattle.std.specs.Io.KnownBytes.{Appends}
 use Rattle.std.specs.declared.fs.File.{File}
 use Rattle.dali_bank.specs.Order.{Contents}
-use Rattle.dali_drive.specs.Transcript.{Streams}
+use Rattle.dali_drive.specs.Desks.{Look}
 use Rattle.dali_report.specs.declared.report.Report.{Report}
-use Rattle.dali_report.specs.Told.{has_failed}
+use Rattle.dali_report.specs.Told.{has_failed, has_output}
 use Rattle.dali_faults.specs.declared.fault.Status.{Status}
 use Rattle.dali_faults.specs.declared.fault.Status.TheVariants.{Failed, Unwritten}
 use Rattle.dali_link_commands.specs.declared.link_command.LinkCommand.{LinkCommand}
 use Rattle.dali_link_commands.specs.declared.link_command.LinkCommand.TheVariants.{Drive, Follow, Read, Verify, Scan}
 use Rattle.dali_link_commands.specs.BehindAnswers.{IsAnswerBehind, IsBehindNamed, IsFileFollow, EndsUnread}
 use Rattle.dali_journal.specs.JournalState.{JournalState}
+use Rattle.dali_link_commands.specs.Benches.{with_lines}
 use Rattle.dali_link_commands.specs.OrdersAnswers.{IsFileAnswer}
 use Rattle.dali_link_commands.specs.ReadAnswers.{IsReadAnswer, IsScanAnswer, IsVerifyAnswer}
-use Rattle.dali_link_commands.specs.Told.{error_line}
+use Rattle.dali_link_commands.specs.Told.{IsPlain, error_line}
 
 -- a short address that it names is one
 abbrev pub IsShort : LinkCommand → Type 0
 IsShort (Read unit bank) = unit ≤ 63
 IsShort other = ⊤
 
--- a report couldn't be written, which is told in words behind all else; not where the output has failed
-abbrev pub TellsUnreported : Status → Option (List ℕ) → Option (List ℕ) → Type 0
-TellsUnreported status before after =
-    (status ≡ Unwritten) ⊎ ((status ≡ Failed) × ((words : List ℕ) × Appends before after (error_line words)))
+-- the name of the file that it writes, and none where it writes none
+abbrev pub file_of : LinkCommand → List ℕ
+file_of (Drive task report) = task.journal.now
+file_of (Follow task report) = task.journal.now
+file_of (Read unit bank) = bank.now
+file_of other = []
 
--- a command that ended so far had a report, and ends so: as it did, unless one was wanted that couldn't be written
-abbrev pub EndsReported : {N : Type 0} → Bool → Report N → Status → Status → Option (List ℕ) → Option (List ℕ) → Type 0
-EndsReported wanted report ended status before after =
-    (((wanted ≡ false) ⊎ (has_failed report ≡ false)) × (status ≡ ended) × (after ≡ before))
-    ⊎ ((wanted ≡ true) × TellsUnreported status before after)
+-- a report couldn't be written, which is told in plain words behind all else; not where the output has failed
+abbrev pub TellsUnreported : Status → Option (List ℕ) → Option (List ℕ) → Type 0
+TellsUnreported status before after = (status ≡ Unwritten)
+    ⊎ ((status ≡ Failed) × ((words : List ℕ) × IsPlain words × Appends before after (error_line words)))
+
+-- a report was wanted, and wasn't opened, or has failed
+abbrev pub is_lost : {N : Type 0} → Bool → Bool → Report N → Bool
+is_lost wanted opened report = wanted && (not opened || has_failed report)
+
+-- a command that ended so far ends so: as it did, and where its report is lost, telling that
+abbrev pub EndsReported : Bool → Status → Status → Option (List ℕ) → Option (List ℕ) → Type 0
+EndsReported true ended status before after = TellsUnreported status before after
+EndsReported false ended status before after = (status ≡ ended) × (after ≡ before)
+
+-- a report as it is opened: it hasn't failed, and has no output where none is wanted
+pub record IsFresh {N : Type 0} (wanted : Bool) (report : Report N) : Type 0 where
+  pub unfailed : has_failed report ≡ false
+  pub only_wanted : wanted ≡ false → has_output report ≡ false
 
 -- no bytes of a file are known
 abbrev pub file_contents : File → Option (List ℕ)
 file_contents file = None
 
--- a command with a report in a file
-pub record IsReported (wanted : Bool) (answers : Report File → Report File → Streams → Status → Streams → Type 0)
-    (first : Streams) (status : Status) (last : Streams) : Type 0 where
+-- a command with a report in a file, which is opened before all else where it is wanted, and has an output exactly
+-- where it was opened
+pub record IsReported (wanted : Bool) (answers : Report File → Report File → Look → Status → Look → Type 0)
+    (first : Look) (status : Status) (last : Look) : Type 0 where
   pub before : Report File
   pub after : Report File
   pub ended : Status
   pub lines : Option (List ℕ)
-  pub answered : answers before after first ended (record last { out = lines })
-  pub reported : EndsReported wanted after ended status lines last.out
+  pub failed : Bool
+  pub fresh : IsFresh wanted before
+  pub answered : answers before after first ended (with_lines last lines failed)
+  pub reported : EndsReported (is_lost wanted (has_output before) after) ended status lines last.streams.out
 
 -- one over a file of orders
-abbrev pub OverOrders : (Report File → Report File → List Contents → Streams → Status → Streams → Type 0)
-    → Report File → Report File → Streams → Status → Streams → Type 0
+abbrev pub OverOrders : (Report File → Report File → List Contents → Look → Status → Look → Type 0)
+    → Report File → Report File → Look → Status → Look → Type 0
 OverOrders answers before after first status last =
     IsFileAnswer (answers before after) (after ≡ before) first status last
 
 -- one behind the older journals of these names
 abbrev pub BehindNamed : {A : Type 0} → List A
-    → (Option JournalState → Report File → Report File → Streams → Status → Streams → Type 0)
-    → Report File → Report File → Streams → Status → Streams → Type 0
+    → (Option JournalState → Report File → Report File → Look → Status → Look → Type 0)
+    → Report File → Report File → Look → Status → Look → Type 0
 BehindNamed names answers before after first status last =
     IsBehindNamed names (λ older. answers older before after first status last)
     (EndsUnread before after first status last)
 
-abbrev pub IsLinkAnswer : LinkCommand → Streams → Status → Streams → Type 0
-IsLinkAnswer (Drive names terms report) first status last =
-    IsReported (is_some report) (BehindNamed names.older.now (λ older.
-    OverOrders (IsAnswerBehind older file_contents terms.moment terms.require_done))) first status last
-IsLinkAnswer (Follow names terms report) first status last =
-    IsReported (is_some report) (BehindNamed names.older.now (λ older.
-    IsFileFollow older file_contents file_contents terms.moment terms.require_done)) first status last
-IsLinkAnswer (Read unit bank) first status last = IsReadAnswer unit first status last
+-- of what a stop may leave of the file of a bank nothing is known
+abbrev pub anything : (List ℕ → Type 0) → Type 0
+anything leaves = ⊤
+
+abbrev pub IsLinkAnswer : LinkCommand → Look → Status → Look → Type 0
+IsLinkAnswer (Drive task report) first status last =
+    IsReported (is_some report) (BehindNamed task.older.now (λ older.
+    OverOrders (IsAnswerBehind older file_contents task.moment task.require_done))) first status last
+IsLinkAnswer (Follow task report) first status last =
+    IsReported (is_some report) (BehindNamed task.older.now (λ older.
+    IsFileFollow older file_contents file_contents task.moment task.require_done)) first status last
+IsLinkAnswer (Read unit bank) first status last = IsReadAnswer unit anything first status last
 IsLinkAnswer (Verify orders report) first status last =
     IsReported (is_some report) (OverOrders (IsVerifyAnswer file_contents)) first status last
 IsLinkAnswer Scan first status last = IsScanAnswer first status last

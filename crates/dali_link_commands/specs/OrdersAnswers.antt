@@ -4,35 +4,36 @@ use Rattle.std.specs.Prelude.{◌≡◌, ◌≢◌, ◌⊎◌, ℕ, List}
 use Rattle.std.specs.Io.KnownBytes.{Appends}
 use Rattle.dali_bank.specs.Order.{Contents}
 use Rattle.dali_input.specs.declared.fault.InputFault.{InputFault}
+use Rattle.dali_input.specs.declared.fault.InputFault.TheVariants.{Memory, File}
 use Rattle.dali_input.specs.declared.item.ItemFault.{ItemFault}
 use Rattle.dali_input.specs.Input.{InputState, IsReadFailure, ReadsInput}
 use Rattle.dali_input.specs.Orders.{AreOrdersIn, AreRefusedIn, IsInputFault, orders_limit}
-use Rattle.dali_drive.specs.Transcript.{Streams}
+use Rattle.dali_drive.specs.Desks.{Look}
 use Rattle.dali_faults.specs.declared.fault.Fault.TheVariants.{Input}
 use Rattle.dali_faults.specs.declared.fault.Status.{Status}
 use Rattle.dali_faults.specs.declared.fault.Status.TheVariants.{Refused, Unwritten}
+use Rattle.dali_link_commands.specs.Benches.{IsUndriven}
 use Rattle.dali_link_commands.specs.Told.{refused_lines, IsFileFaultTold}
 
--- neither the journal nor the link was touched
-pub record IsUndriven (first last : Streams) : Type 0 where
-  pub journal : last.journal ≡ first.journal
-  pub link : last.link ≡ first.link
-  pub answers : last.answers ≡ first.answers
-
 -- items are refused, and all these are told
-pub record EndsRefused (input : List ℕ) (first : Streams) (status : Status) (last : Streams) : Type 0 where
+pub record EndsRefused (input : List ℕ) (first : Look) (status : Status) (last : Look) : Type 0 where
   pub refused : List (ℕ × ItemFault)
   pub are_refused : AreRefusedIn input refused
   pub undriven : IsUndriven first last
-  pub told : status ≢ Unwritten → (status ≡ Refused) × Appends first.out last.out (refused_lines refused)
+  pub told : status ≢ Unwritten
+      → (status ≡ Refused) × Appends first.streams.out last.streams.out (refused_lines refused)
 
 -- the fault is told of an input that isn't driven
-pub record EndsUndriven (fault : InputFault) (first : Streams) (status : Status) (last : Streams) : Type 0 where
+pub record EndsUndriven (fault : InputFault) (first : Look) (status : Status) (last : Look) : Type 0 where
   pub undriven : IsUndriven first last
-  pub told : IsFileFaultTold (Input fault) status first.out last.out
+  pub told : IsFileFaultTold (Input fault) status first.streams.out last.streams.out
 
-module _ (answers : List Contents → Streams → Status → Streams → Type 0) (unreported : Type 0) (first : Streams)
-    (status : Status) (last : Streams) where
+-- a file isn't read, or there is no memory for it
+abbrev pub IsUnread : InputFault → Type 0
+IsUnread fault = (fault ≡ File) ⊎ (fault ≡ Memory)
+
+module _ (answers : List Contents → Look → Status → Look → Type 0) (unreported : Type 0) (first : Look)
+    (status : Status) (last : Look) where
   -- how a command ended over what was read: over the orders that it spells, with refused items, or with no orders at
   -- all
   abbrev pub IsInputAnswer : List ℕ → Type 0
@@ -52,4 +53,4 @@ module _ (answers : List Contents → Streams → Status → Streams → Type 0)
   abbrev pub IsFileAnswer : Type 0
   IsFileAnswer =
       ((input : List ℕ) × IsInputAnswer input)
-      ⊎ ((fault : InputFault) × EndsUndriven fault first status last × unreported)
+      ⊎ ((fault : InputFault) × IsUnread fault × EndsUndriven fault first status last × unreported)

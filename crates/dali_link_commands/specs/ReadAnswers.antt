@@ -4,6 +4,8 @@ use Rattle.std.specs.Io.KnownBytes.{Appends}
 use Rattle.dali_bank.specs.Order.{Contents}
 use Rattle.dali_input.specs.declared.fault.InputFault.TheVariants.{File}
 use Rattle.dali_input.specs.BankText.{rows_text}
+use Rattle.dali_store.specs.declared.opening.OpenFault.TheVariants.{Store}
+use Rattle.dali_store.specs.declared.store.StoreFault.TheVariants as stores
 use Rattle.dali_store.specs.Stores.{Becomes, KeepsOrBecomes}
 use Rattle.dali_read.specs.Places.{bank_course}
 use Rattle.dali_trace.specs.declared.fault.DriveFault.{DriveFault}
@@ -11,12 +13,14 @@ use Rattle.dali_drive.specs.Streams.{PutsFirst}
 use Rattle.dali_drive.specs.SurveyLines.{bytes_line, silent_line}
 use Rattle.dali_drive.specs.Surveys.{IsScan, ScanBroke, IsVerifiedTold, VerifyBrokeTold, link_of}
 use Rattle.dali_drive.specs.Transcript.{Streams}
+use Rattle.dali_drive.specs.Desks.{Look, Settled, IsUnfailed, FailsOpen, ShowsFault, LeavesNoMore}
 use Rattle.dali_drive.specs.UnitRead.{IsUnitRead, UnitReadBroke}
 use Rattle.dali_report.specs.declared.report.Report.{Report}
 use Rattle.dali_report.specs.Told.{IsToldFound}
 use Rattle.dali_faults.specs.declared.fault.Fault.TheVariants.{Input}
 use Rattle.dali_faults.specs.declared.fault.Status.{Status}
 use Rattle.dali_faults.specs.declared.fault.Status.TheVariants.{Good, Refused, Unwritten}
+use Rattle.dali_link_commands.specs.Benches.{with_lines}
 use Rattle.dali_link_commands.specs.Told.{IsFaultTold, IsFileFaultTold}
 
 -- a line was written whole and the command ends so, or the output failed and holds a first part of it
@@ -24,76 +28,104 @@ abbrev pub TellsLine : List ℕ → Status → Status → Option (List ℕ) → 
 TellsLine line good status before after =
     ((status ≡ good) × Appends before after line) ⊎ ((status ≡ Unwritten) × PutsFirst before after line)
 
--- ---- `read`. Of the streams, the journal is the file of the bank.
+-- what a survey goes over: a desk without its journal, which is left alone
+abbrev pub on_link : Look → Streams
+on_link look = record look.streams { journal = None }
 
--- the whole bank was read, its text stands in the file, and its line was told
-pub record EndsRead (unit : ℕ) (first : Streams) (status : Status) (last : Streams) : Type 0 where
-  pub bytes : List ℕ
-  pub read : IsUnitRead unit bank_course (Some bytes) (link_of first) (link_of last)
-  pub file : Becomes first.journal last.journal (rows_text bytes)
-  pub told : TellsLine (bytes_line unit (length bytes)) Good status first.out last.out
+pub record IsUntouched (first last : Look) : Type 0 where
+  pub journal : last.streams.journal ≡ first.streams.journal
+  pub leaves : LeavesNoMore first last
 
--- all tries of a block missed, which is told, and the file is as it was
-pub record EndsSilent (unit : ℕ) (first : Streams) (status : Status) (last : Streams) : Type 0 where
-  pub read : IsUnitRead unit bank_course None (link_of first) (link_of last)
-  pub file : last.journal ≡ first.journal
-  pub told : TellsLine (silent_line unit) Refused status first.out last.out
+-- ---- `read`. Of the desk, the journal is the file of the bank; 'leaves_only' says what a stop may leave of it at each
+-- moment.
 
--- the whole bank was read, and the file couldn't be written, which is told
-pub record EndsUnkept (unit : ℕ) (first : Streams) (status : Status) (last : Streams) : Type 0 where
-  pub bytes : List ℕ
-  pub read : IsUnitRead unit bank_course (Some bytes) (link_of first) (link_of last)
-  pub file : KeepsOrBecomes first.journal last.journal (rows_text bytes)
-  pub told : IsFileFaultTold (Input File) status first.out last.out
+module _ (unit : ℕ) (leaves_only : (List ℕ → Type 0) → Type 0) (first : Look) (status : Status) (last : Look) where
+  -- the whole bank was read, its text stands in the file, also after a stop, and its line was told
+  pub record EndsRead : Type 0 where
+    pub bytes : List ℕ
+    pub read : IsUnitRead unit bank_course (Some bytes) (link_of first.streams) (link_of last.streams)
+    pub file : Becomes first.streams.journal last.streams.journal (rows_text bytes)
+    pub settled : Settled last
+    pub leaves : leaves_only (λ c. first.may_leave c ⊎ (c ≡ rows_text bytes))
+    pub lost : Bool
+    pub unfailed : IsUnfailed (with_lines last first.streams.out lost).failed
+    pub told : TellsLine (bytes_line unit (length bytes)) Good status first.streams.out last.streams.out
 
--- the link broke the reading off, which is told, and the file is as it was
-pub record EndsUnread (unit : ℕ) (first : Streams) (status : Status) (last : Streams) : Type 0 where
-  pub fault : DriveFault
-  pub broke : UnitReadBroke unit bank_course fault (link_of first) (link_of last)
-  pub file : last.journal ≡ first.journal
-  pub told : IsFaultTold fault status first.out last.out
+  -- all tries of a block missed, which is told, and the file is as it was
+  pub record EndsSilent : Type 0 where
+    pub read : IsUnitRead unit bank_course None (link_of first.streams) (link_of last.streams)
+    pub file : last.streams.journal ≡ first.streams.journal
+    pub leaves : leaves_only first.may_leave
+    pub lost : Bool
+    pub unfailed : IsUnfailed (with_lines last first.streams.out lost).failed
+    pub told : TellsLine (silent_line unit) Refused status first.streams.out last.streams.out
 
--- the text of a bank
-abbrev pub IsTextOfBank : List ℕ → Type 0
-IsTextOfBank text = (bank : List ℕ) × (text ≡ rows_text bank)
+  -- the whole bank was read, and the file failed, which is told
+  pub record EndsUnkept : Type 0 where
+    pub bytes : List ℕ
+    pub read : IsUnitRead unit bank_course (Some bytes) (link_of first.streams) (link_of last.streams)
+    pub file : KeepsOrBecomes first.streams.journal last.streams.journal (rows_text bytes)
+    pub leaves : leaves_only (λ c. first.may_leave c ⊎ (c ≡ rows_text bytes))
+    pub lost : Bool
+    pub failed : FailsOpen (Store stores.Failed) (with_lines last first.streams.out lost).failed
+    pub told : IsFileFaultTold (Input File) status first.streams.out last.streams.out
 
-abbrev pub IsReadAnswer : ℕ → Streams → Status → Streams → Type 0
-IsReadAnswer unit first status last =
-    EndsRead unit first status last ⊎ EndsSilent unit first status last ⊎ EndsUnkept unit first status last
-    ⊎ EndsUnread unit first status last
+  -- the link broke the reading off, which is told, and the file is as it was
+  pub record EndsUnread : Type 0 where
+    pub fault : DriveFault
+    pub broke : UnitReadBroke unit bank_course fault (link_of first.streams) (link_of last.streams)
+    pub file : last.streams.journal ≡ first.streams.journal
+    pub leaves : leaves_only first.may_leave
+    pub lost : Bool
+    pub failed : ShowsFault fault (with_lines last first.streams.out lost).failed
+    pub told : IsFaultTold fault status first.streams.out last.streams.out
+
+  abbrev pub IsReadAnswer : Type 0
+  IsReadAnswer = EndsRead ⊎ EndsSilent ⊎ EndsUnkept ⊎ EndsUnread
 
 -- ---- `verify`
 
 module _ {N : Type 0} (contents : N → Option (List ℕ)) (before after : Report N) (orders : List Contents)
-    (first : Streams) (status : Status) (last : Streams) where
+    (first : Look) (status : Status) (last : Look) where
   -- the units of all the orders were read and what was found was reported, and it ended well where all are the same
   pub record EndsVerified : Type 0 where
     pub all_same : Bool
-    pub verified : IsVerifiedTold (IsToldFound contents) orders all_same first before last after
+    pub verified : IsVerifiedTold (IsToldFound contents) orders all_same (on_link first) before (on_link last) after
+    pub untouched : IsUntouched first last
+    pub unfailed : IsUnfailed last.failed
     pub status_is : status ≡ (if all_same then Good else Refused)
 
   -- the link or the output broke it off, which is told
   pub record EndsUnverified : Type 0 where
     pub fault : DriveFault
     pub lines : Option (List ℕ)
-    pub broke : VerifyBrokeTold (IsToldFound contents) orders fault first before (record last { out = lines }) after
-    pub told : IsFaultTold fault status lines last.out
+    pub lost : Bool
+    pub broke : VerifyBrokeTold (IsToldFound contents) orders fault (on_link first) before
+        (on_link (with_lines last lines lost)) after
+    pub untouched : IsUntouched first last
+    pub failed : ShowsFault fault (with_lines last lines lost).failed
+    pub told : IsFaultTold fault status lines last.streams.out
 
   abbrev pub IsVerifyAnswer : Type 0
   IsVerifyAnswer = EndsVerified ⊎ EndsUnverified
 
 -- ---- `scan`
 
-pub record EndsScanned (first : Streams) (status : Status) (last : Streams) : Type 0 where
+pub record EndsScanned (first : Look) (status : Status) (last : Look) : Type 0 where
   pub units : ℕ
-  pub scanned : IsScan units first last
+  pub scanned : IsScan units (on_link first) (on_link last)
+  pub untouched : IsUntouched first last
+  pub unfailed : IsUnfailed last.failed
   pub status_is : status ≡ Good
 
-pub record EndsUnscanned (first : Streams) (status : Status) (last : Streams) : Type 0 where
+pub record EndsUnscanned (first : Look) (status : Status) (last : Look) : Type 0 where
   pub fault : DriveFault
   pub lines : Option (List ℕ)
-  pub broke : ScanBroke fault first (record last { out = lines })
-  pub told : IsFaultTold fault status lines last.out
+  pub lost : Bool
+  pub broke : ScanBroke fault (on_link first) (on_link (with_lines last lines lost))
+  pub untouched : IsUntouched first last
+  pub failed : ShowsFault fault (with_lines last lines lost).failed
+  pub told : IsFaultTold fault status lines last.streams.out
 
-abbrev pub IsScanAnswer : Streams → Status → Streams → Type 0
+abbrev pub IsScanAnswer : Look → Status → Look → Type 0
 IsScanAnswer first status last = EndsScanned first status last ⊎ EndsUnscanned first status last

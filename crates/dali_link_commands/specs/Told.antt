@@ -1,7 +1,10 @@
 -- How refused items and faults are told behind a command's lines.
-use Rattle.std.specs.Prelude.{◌≡◌, ◌≢◌, ◌⊎◌, ◌++◌, ℕ, Bool, true, false, List, Option, codes}
-use Rattle.std.specs.List.{flat_map}
+use Rattle.std.specs.Prelude.{◌≡◌, ◌≢◌, ◌⊎◌, ◌++◌, ◌&&◌, ℕ, Bool, true, false, List, [], ◌∷◌, Option, codes}
+use Rattle.std.specs.Prelude.{chars, nat_le, if◌then◌else◌}
+use Rattle.std.specs.Fmt.{digits}
+use Rattle.std.specs.List.{AllByRecursion, flat_map}
 use Rattle.std.specs.Io.KnownBytes.{Appends}
+use Rattle.dali_bank.specs.Spelling.{IsTextByte}
 use Rattle.dali_input.specs.declared.fault.InputFault.TheVariants.{Memory, File}
 use Rattle.dali_input.specs.declared.item.ItemFault.{ItemFault}
 use Rattle.dali_trace.specs.declared.fault.DriveFault.{DriveFault}
@@ -17,16 +20,32 @@ use Rattle.dali_faults.specs.Faults.{item_line, told_line, status_of}
 abbrev pub refused_lines : List (ℕ × ItemFault) → List ℕ
 refused_lines refused = flat_map (λ item. item_line item.0 item.1) refused
 
+-- a character of 20h to 7Eh: none of these ends a line
+abbrev pub is_plain : ℕ → Bool
+is_plain letter = nat_le 0x20 letter && nat_le letter 0x7E
+
+-- words of these alone, which stand on one line
+abbrev pub IsPlain : List ℕ → Type 0
+IsPlain words = AllByRecursion IsTextByte words
+
+-- a character as words show it: one that isn't plain by its hexadecimal number
+abbrev pub shown_letter : ℕ → List ℕ
+shown_letter letter = if is_plain letter then letter ∷ [] else codes "\\u{" ++ digits 16 false letter ++ codes "}"
+
+-- a text so
+abbrev pub shown_text : List ℕ → List ℕ
+shown_text text = flat_map shown_letter (chars text)
+
 -- a line in words for a person
 abbrev pub error_line : List ℕ → List ℕ
 error_line words = codes "error: " ++ words ++ codes "\n"
 
--- such a line and then that of the fault
+-- such a line, of plain words, and then that of the fault
 abbrev pub TellsWorded : Fault → Option (List ℕ) → Option (List ℕ) → Type 0
 TellsWorded fault before after =
-    (words : List ℕ) × Appends before after (error_line words ++ told_line fault)
+    (words : List ℕ) × IsPlain words × Appends before after (error_line words ++ told_line fault)
 
--- the fault's line, and where a file, an older journal or the memory failed a line in words before it
+-- the fault's line, and where a file, an older journal or the memory failed a line in plain words before it
 abbrev pub TellsFileFault : Fault → Option (List ℕ) → Option (List ℕ) → Type 0
 TellsFileFault (Input Memory) before after = TellsWorded (Input Memory) before after
 TellsFileFault (Input File) before after = TellsWorded (Input File) before after
@@ -38,10 +57,12 @@ abbrev pub is_out : DriveFault → Bool
 is_out Out = true
 is_out fault = false
 
--- the text of a fault: its line, and where the journal or the link failed a line in words before it
+-- the text of a fault: its line, and where the journal or the link failed a line in plain words before it
 abbrev pub IsFaultText : DriveFault → List ℕ → Type 0
-IsFaultText Journal text = (words : List ℕ) × (text ≡ error_line words ++ told_line (Drive Journal))
-IsFaultText Link text = (words : List ℕ) × (text ≡ error_line words ++ told_line (Drive Link))
+IsFaultText Journal text =
+    (words : List ℕ) × IsPlain words × (text ≡ error_line words ++ told_line (Drive Journal))
+IsFaultText Link text =
+    (words : List ℕ) × IsPlain words × (text ≡ error_line words ++ told_line (Drive Link))
 IsFaultText fault text = text ≡ told_line (Drive fault)
 
 -- how a fault is told behind the replies: by its text, or by a first part of that where the output fails then; nothing

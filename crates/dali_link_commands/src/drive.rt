@@ -1,45 +1,40 @@
-ghost use Rattle.std.specs.Prelude.{◌≡◌, ◌↔◌, false, true, IfSome};
+ghost use Rattle.std.specs.Prelude.{◌≡◌, IfSome};
+ghost use Rattle.dali_drive.specs.Desks.{IsUnfailed};
+ghost use Rattle.dali_drive.specs.Stored.{LeavesPart};
 ghost use Rattle.dali_journal.specs.declared.standing.Standing.TheVariants.{Idle};
 ghost use Rattle.dali_journal.specs.Sentence.{standing_of};
-ghost use Rattle.dali_link_commands.specs.BehindAnswers.{IsAnswerBehind};
-ghost use Rattle.dali_drive.specs.Stored.{LeavesPart};
-ghost use Rattle.dali_drive.specs.Transcript.{shown};
 ghost use Rattle.dali_input.specs.Input.{ReadsAtMost, state_of};
 ghost use Rattle.dali_input.specs.Orders.{orders_limit};
-ghost use Rattle.dali_store.specs.Stores.{IsSettled, LeavesOnly};
-ghost use Rattle.dali_text.specs.Output.{has_failed, held};
-ghost use Rattle.dali_link_commands.specs.DriveAnswers.{IsDriveAnswer, ended_status as status_at_end};
+ghost use Rattle.dali_store.specs.Stores.{LeavesOnly};
+ghost use Rattle.dali_link_commands.specs.Benches.{TellsUnwritten, bench};
+ghost use Rattle.dali_link_commands.specs.BehindAnswers.{IsAnswerBehind};
+ghost use Rattle.dali_link_commands.specs.DriveAnswers.{ended_status as status_at_end};
 ghost use Rattle.dali_link_commands.specs.OrdersAnswers.{IsInputAnswer, IsReaderAnswer};
 ghost use Rattle.dali_faults.specs.JournalInput.{order_limit};
 
-use crate::behind::drive_orders_behind;
-use crate::drive_lines::{Causes, tell_fault, tell_refused, tell_unopened, tell_unread};
+use crate::carrying::carry_out;
+use crate::drive_lines::{tell_refused, tell_unread};
 use crate::lines::Lines;
 use dali_bank::Order;
-use dali_drive::{Sink, Source, StoredFault, drive_stored_observed};
-use dali_faults::{JOURNAL_LIMIT, Status};
+use dali_drive::{ListedOrders, Sink, Source, StoreDesk};
+use dali_faults::Status;
 use dali_input::{Input, ORDERS_LIMIT, read_input, read_orders};
-use dali_journal::{Journal, MOST_ORDERS};
+use dali_journal::Journal;
 use dali_report::Report;
 use dali_store::Store;
 use std::alloc::Global;
 use std::io;
 use std::io::{ErrorKind, Read, Write};
 
-/// What a person calls the orders and the journal of a drive.
+/// What is to be driven, and how.
 #[derive(Clone, Copy)]
-pub struct DriveNames<'a> {
-    /// ORDERS.
+pub struct DriveTask<'a> {
+    /// What a person calls the orders: ORDERS.
     pub orders: &'a str,
-    /// JOURNAL.
+    /// And the journal: JOURNAL.
     pub journal: &'a str,
     /// The older journals, the oldest first.
     pub older: &'a [&'a str],
-}
-
-/// How orders are to be driven.
-#[derive(Clone, Copy)]
-pub struct DriveTerms {
     /// The moment that is kept with each order that begins.
     pub moment: u64,
     /// Whether each last reply has to be `kept 0 Done`.
@@ -48,57 +43,38 @@ pub struct DriveTerms {
 
 /// Carries out the orders that a reader gives over a link, with the journal that a store holds, as `drive_orders` does.
 ///
-/// Behind an older journal, which has to be at rest, as `drive_orders_behind` does.
-///
 /// Where an item is refused, the lines of all that are, are written, and nothing else is touched; nor is it where there
 /// are no orders: 13 TooBig over 16777216 bytes, 11 Json, 12 Document, 20 Memory or 21 File.
 pub fn drive_input<R: Read, I: Source, L: Sink, S: Store, W: Write, N: Write + Drop>(
     alloc: Global,
     older: Option<Journal>,
-    names: DriveNames<'_>,
+    task: DriveTask<'_>,
     input: &mut Input<R>,
-    terms: DriveTerms,
-    link_in: &mut I,
-    link_out: &mut L,
-    store: &mut S,
-    lines: &mut Lines<W>,
+    desk: &mut StoreDesk<I, L, S, Lines<W>>,
     report: &mut Report<N>,
 ) -> Status
     requires rests { IfSome older (λ journal. standing_of journal.records ≡ Idle) }
-    requires store { S.failed store.old ≡ false }
-    requires link_out { L.failed link_out.old ≡ false }
-    requires link_in { I.failed link_in.old ≡ false }
-    requires lines { has_failed lines.old.output ≡ false }
+    requires unfailed { IsUnfailed
+        (bench S.seen S.failed S.may_leave L.held L.failed I.left I.failed W.contents desk.old).failed }
     ensures driven { IsReaderAnswer
-        (IsAnswerBehind older N.contents terms.moment terms.require_done report.old report.new)
+        (IsAnswerBehind older N.contents task.entry.moment task.entry.require_done report.old report.new)
         (report.new ≡ report.old)
-        (shown (S.seen store.old) (L.held link_out.old) (I.left link_in.old) (held W.contents lines.old.output))
-        result
-        (shown (S.seen store.new) (L.held link_out.new) (I.left link_in.new) (held W.contents lines.new.output))
+        (bench S.seen S.failed S.may_leave L.held L.failed I.left I.failed W.contents desk.old)
+        result (bench S.seen S.failed S.may_leave L.held L.failed I.left I.failed W.contents desk.new)
         (state_of R.remaining input.old) (state_of R.remaining input.new) }
     ensures read { ReadsAtMost orders_limit (state_of R.remaining input.old) (state_of R.remaining input.new) }
-    ensures unwritten { result ≡ Status.Unwritten ↔ has_failed lines.new.output ≡ true }
-    ensures settled { result ≡ Status.Good → IsSettled (S.seen store.new) (S.may_leave store.new) }
-    ensures any_moment { LeavesOnly S.moment S.left_since store.old store.new
-        (LeavesPart order_limit (S.seen store.old) (S.seen store.new) (S.may_leave store.old)) }
+    ensures unwritten { TellsUnwritten result
+        (bench S.seen S.failed S.may_leave L.held L.failed I.left I.failed W.contents desk.new) }
+    ensures any_moment { LeavesOnly S.moment S.left_since desk.old.journal desk.new.journal
+        (LeavesPart order_limit (S.seen desk.old.journal) (S.seen desk.new.journal)
+        (S.may_leave desk.old.journal)) }
 {
     match read_input(alloc, input, ORDERS_LIMIT) {
-        Ok(bytes) => drive_bytes(
-            alloc,
-            older,
-            names,
-            bytes.as_slice(),
-            terms,
-            link_in,
-            link_out,
-            store,
-            lines,
-            report,
-        ),
+        Ok(bytes) => drive_bytes(alloc, older, task, bytes.as_slice(), desk, report),
         Err(fault) => tell_unread(
             alloc,
-            &mut lines.output,
-            names.orders,
+            &mut desk.out.output,
+            task.orders,
             fault,
             failure_of(input.cause()),
         ),
@@ -117,60 +93,29 @@ pub(crate) fn failure_of(cause: Option<ErrorKind>) -> Option<io::Error> {
 fn drive_bytes<I: Source, L: Sink, S: Store, W: Write, N: Write + Drop>(
     alloc: Global,
     older: Option<Journal>,
-    names: DriveNames<'_>,
+    task: DriveTask<'_>,
     input: &[u8],
-    terms: DriveTerms,
-    link_in: &mut I,
-    link_out: &mut L,
-    store: &mut S,
-    lines: &mut Lines<W>,
+    desk: &mut StoreDesk<I, L, S, Lines<W>>,
     report: &mut Report<N>,
 ) -> Status
     requires rests { IfSome older (λ journal. standing_of journal.records ≡ Idle) }
-    requires store { S.failed store.old ≡ false }
-    requires link_out { L.failed link_out.old ≡ false }
-    requires link_in { I.failed link_in.old ≡ false }
-    requires lines { has_failed lines.old.output ≡ false }
+    requires unfailed { IsUnfailed
+        (bench S.seen S.failed S.may_leave L.held L.failed I.left I.failed W.contents desk.old).failed }
     ensures answer { IsInputAnswer
-        (IsAnswerBehind older N.contents terms.moment terms.require_done report.old report.new)
+        (IsAnswerBehind older N.contents task.entry.moment task.entry.require_done report.old report.new)
         (report.new ≡ report.old)
-        (shown (S.seen store.old) (L.held link_out.old) (I.left link_in.old) (held W.contents lines.old.output))
-        result
-        (shown (S.seen store.new) (L.held link_out.new) (I.left link_in.new) (held W.contents lines.new.output))
-        input.now }
-    ensures unwritten { result ≡ Status.Unwritten ↔ has_failed lines.new.output ≡ true }
-    ensures settled { result ≡ Status.Good → IsSettled (S.seen store.new) (S.may_leave store.new) }
-    ensures any_moment { LeavesOnly S.moment S.left_since store.old store.new
-        (LeavesPart order_limit (S.seen store.old) (S.seen store.new) (S.may_leave store.old)) }
+        (bench S.seen S.failed S.may_leave L.held L.failed I.left I.failed W.contents desk.old)
+        result (bench S.seen S.failed S.may_leave L.held L.failed I.left I.failed W.contents desk.new) input.now }
+    ensures unwritten { TellsUnwritten result
+        (bench S.seen S.failed S.may_leave L.held L.failed I.left I.failed W.contents desk.new) }
+    ensures any_moment { LeavesOnly S.moment S.left_since desk.old.journal desk.new.journal
+        (LeavesPart order_limit (S.seen desk.old.journal) (S.seen desk.new.journal)
+        (S.may_leave desk.old.journal)) }
 {
     match read_orders(alloc, input) {
-        Ok(Ok(orders)) => match older {
-            Some(older) => drive_orders_behind(
-                alloc,
-                older,
-                names.journal,
-                orders.as_slice(),
-                terms,
-                link_in,
-                link_out,
-                store,
-                lines,
-                report,
-            ),
-            None => drive_orders(
-                alloc,
-                names.journal,
-                orders.as_slice(),
-                terms,
-                link_in,
-                link_out,
-                store,
-                lines,
-                report,
-            ),
-        },
-        Ok(Err(refused)) => tell_refused(&mut lines.output, refused.as_slice()),
-        Err(fault) => tell_unread(alloc, &mut lines.output, names.orders, fault, None),
+        Ok(Ok(orders)) => drive_orders(alloc, older, task, orders.as_slice(), desk, report),
+        Ok(Err(refused)) => tell_refused(&mut desk.out.output, refused.as_slice()),
+        Err(fault) => tell_unread(alloc, &mut desk.out.output, task.orders, fault, None),
     }
 }
 
@@ -182,58 +127,34 @@ fn drive_bytes<I: Source, L: Sink, S: Store, W: Write, N: Write + Drop>(
 /// Header, 3 Record, 4 Sequence, 5 Repeated, 6 Full, 20 Memory or 21 File. A drive breaks off at 1 Journal, 2 Link, 3
 /// Line, 4 End, 6 TooLong or 20 Memory. Where `lines` fails it is 7 Out, or there stands a first part of the fault's
 /// line; later calls of it write nothing more.
+///
+/// Behind an older journal, where there is one, which has to be at rest, an order that it has ended gets its kept
+/// reply, or `reused`, with no frame. Where both have an order number in common nothing is sent: 15 Older.
 pub fn drive_orders<I: Source, L: Sink, S: Store, W: Write, N: Write + Drop>(
     alloc: Global,
-    name: &str,
+    older: Option<Journal>,
+    task: DriveTask<'_>,
     orders: &[Order],
-    terms: DriveTerms,
-    link_in: &mut I,
-    link_out: &mut L,
-    store: &mut S,
-    lines: &mut Lines<W>,
+    desk: &mut StoreDesk<I, L, S, Lines<W>>,
     report: &mut Report<N>,
 ) -> Status
-    requires store { S.failed store.old ≡ false }
-    requires link_out { L.failed link_out.old ≡ false }
-    requires link_in { I.failed link_in.old ≡ false }
-    requires lines { has_failed lines.old.output ≡ false }
-    ensures answer { IsDriveAnswer N.contents terms.moment terms.require_done report.old report.new orders.now
-        (shown (S.seen store.old) (L.held link_out.old) (I.left link_in.old) (held W.contents lines.old.output))
-        result
-        (shown (S.seen store.new) (L.held link_out.new) (I.left link_in.new) (held W.contents lines.new.output)) }
-    ensures unwritten { result ≡ Status.Unwritten ↔ has_failed lines.new.output ≡ true }
-    ensures settled { result ≡ Status.Good → IsSettled (S.seen store.new) (S.may_leave store.new) }
-    ensures any_moment { LeavesOnly S.moment S.left_since store.old store.new
-        (LeavesPart order_limit (S.seen store.old) (S.seen store.new) (S.may_leave store.old)) }
+    requires rests { IfSome older (λ journal. standing_of journal.records ≡ Idle) }
+    requires unfailed { IsUnfailed
+        (bench S.seen S.failed S.may_leave L.held L.failed I.left I.failed W.contents desk.old).failed }
+    ensures answer { IsAnswerBehind older N.contents task.entry.moment task.entry.require_done
+        report.old report.new orders.now
+        (bench S.seen S.failed S.may_leave L.held L.failed I.left I.failed W.contents desk.old) result
+        (bench S.seen S.failed S.may_leave L.held L.failed I.left I.failed W.contents desk.new) }
+    ensures unwritten { TellsUnwritten result
+        (bench S.seen S.failed S.may_leave L.held L.failed I.left I.failed W.contents desk.new) }
+    ensures any_moment { LeavesOnly S.moment S.left_since desk.old.journal desk.new.journal
+        (LeavesPart order_limit (S.seen desk.old.journal) (S.seen desk.new.journal)
+        (S.may_leave desk.old.journal)) }
 {
-    match drive_stored_observed(
-        alloc,
-        MOST_ORDERS,
-        JOURNAL_LIMIT as usize,
-        orders,
-        terms.moment,
-        link_in,
-        link_out,
-        store,
-        lines,
-        report,
-    ) {
-        Ok(_) => ended_status(terms.require_done, report.all_done()),
-        Err(StoredFault::Open(fault)) => tell_unopened(
-            alloc,
-            &mut lines.output,
-            name,
-            fault,
-            store.cause(),
-        ),
-        Err(StoredFault::Drive(fault)) => {
-            let causes = Causes {
-                link_in: link_in.cause(),
-                link_out: link_out.cause(),
-                store: store.cause(),
-            };
-            tell_fault(alloc, lines, fault, causes)
-        }
+    let mut listed = ListedOrders::new(orders, task.moment);
+    match carry_out(alloc, older, task.journal, &mut listed, desk, report) {
+        Ok(()) => ended_status(task.require_done, report.all_done()),
+        Err(status) => status,
     }
 }
 

@@ -1,20 +1,20 @@
-ghost use Rattle.std.specs.Prelude.{◌≡◌, ◌↔◌, None, true, false, IfSome};
-ghost use Rattle.dali_drive.specs.StdStreams.{source_left, source_failed, sink_held, sink_failed};
-ghost use Rattle.dali_drive.specs.Transcript.{shown};
+ghost use Rattle.std.specs.Prelude.{◌≡◌, ◌↔◌, true, IfSome};
+ghost use Rattle.dali_drive.specs.Desks.{IsUnfailed};
 ghost use Rattle.dali_text.specs.Output.{has_failed, held};
+ghost use Rattle.dali_link_commands.specs.Benches.{TellsUnwritten, std_bench};
 ghost use Rattle.dali_link_commands.specs.BehindAnswers.{IsAnswerBehind, IsBehindNamed, EndsUnread};
 ghost use Rattle.dali_journal.specs.declared.standing.Standing.TheVariants.{Idle};
 ghost use Rattle.dali_journal.specs.Sentence.{standing_of};
-ghost use Rattle.dali_link_commands.specs.OrdersAnswers.{IsFileAnswer};
+ghost use Rattle.dali_link_commands.specs.OrdersAnswers.{IsFileAnswer, IsUnread};
 ghost use Rattle.dali_link_commands.specs.Told.{IsFileFaultTold};
 ghost use Rattle.dali_input.specs.declared.fault.InputFault.{InputFault};
 
-use crate::drive::{DriveNames, DriveTerms, drive_input};
+use crate::drive::{DriveTask, drive_input};
 use crate::drive_lines::tell_unread;
 use crate::lines::Lines;
 use crate::older::read_older;
 use crate::older_lines::tell_older;
-use dali_drive::{StdSink, StdSource};
+use dali_drive::{StdSink, StdSource, StoreDesk};
 use dali_faults::{Fault, Status};
 use dali_input::{Input, InputFault};
 use dali_journal::Journal;
@@ -37,36 +37,23 @@ pub fn drive_files<
     N: Write + Drop,
 >(
     rt: &R,
-    names: DriveNames<'_>,
-    terms: DriveTerms,
-    link_in: &mut StdSource<I>,
-    link_out: &mut StdSink<L>,
-    lines: &mut Lines<O>,
+    task: DriveTask<'_>,
+    desk: &mut StoreDesk<StdSource<I>, StdSink<L>, FileStore<'_, R>, Lines<O>>,
     report: &mut Report<N>,
 ) -> Status
-    requires link_out { sink_failed link_out.old ≡ false }
-    requires link_in { source_failed link_in.old ≡ false }
-    requires lines { has_failed lines.old.output ≡ false }
-    ensures driven { IsBehindNamed names.entry.older.now
+    requires unfailed { IsUnfailed (std_bench L.contents I.remaining O.contents desk.old).failed }
+    ensures driven { IsBehindNamed task.entry.older.now
         (λ older. IsFileAnswer
-        (IsAnswerBehind older N.contents terms.moment terms.require_done report.old report.new)
-        (report.new ≡ report.old)
-        (shown None (sink_held L.contents link_out.old) (source_left I.remaining link_in.old)
-        (held O.contents lines.old.output))
-        result
-        (shown None (sink_held L.contents link_out.new) (source_left I.remaining link_in.new)
-        (held O.contents lines.new.output)))
-        (EndsUnread report.old report.new
-        (shown None (sink_held L.contents link_out.old) (source_left I.remaining link_in.old)
-        (held O.contents lines.old.output))
-        result
-        (shown None (sink_held L.contents link_out.new) (source_left I.remaining link_in.new)
-        (held O.contents lines.new.output))) }
-    ensures unwritten { result ≡ Status.Unwritten ↔ has_failed lines.new.output ≡ true }
+        (IsAnswerBehind older N.contents task.entry.moment task.entry.require_done report.old report.new)
+        (report.new ≡ report.old) (std_bench L.contents I.remaining O.contents desk.old) result
+        (std_bench L.contents I.remaining O.contents desk.new))
+        (EndsUnread report.old report.new (std_bench L.contents I.remaining O.contents desk.old) result
+        (std_bench L.contents I.remaining O.contents desk.new)) }
+    ensures unwritten { TellsUnwritten result (std_bench L.contents I.remaining O.contents desk.new) }
 {
-    match read_older(rt, names.older) {
-        Ok(older) => drive_behind_files(rt, older, names, terms, link_in, link_out, lines, report),
-        Err(unjoined) => tell_older(rt.alloc(), &mut lines.output, &unjoined),
+    match read_older(rt, task.older) {
+        Ok(older) => drive_behind_files(rt, older, task, desk, report),
+        Err(unjoined) => tell_older(rt.alloc(), &mut desk.out.output, &unjoined),
     }
 }
 
@@ -80,41 +67,24 @@ fn drive_behind_files<
 >(
     rt: &R,
     older: Option<Journal>,
-    names: DriveNames<'_>,
-    terms: DriveTerms,
-    link_in: &mut StdSource<I>,
-    link_out: &mut StdSink<L>,
-    lines: &mut Lines<O>,
+    task: DriveTask<'_>,
+    desk: &mut StoreDesk<StdSource<I>, StdSink<L>, FileStore<'_, R>, Lines<O>>,
     report: &mut Report<N>,
 ) -> Status
     requires rests { IfSome older (λ journal. standing_of journal.records ≡ Idle) }
-    requires link_out { sink_failed link_out.old ≡ false }
-    requires link_in { source_failed link_in.old ≡ false }
-    requires lines { has_failed lines.old.output ≡ false }
+    requires unfailed { IsUnfailed (std_bench L.contents I.remaining O.contents desk.old).failed }
     ensures driven { IsFileAnswer
-        (IsAnswerBehind older N.contents terms.moment terms.require_done report.old report.new)
-        (report.new ≡ report.old)
-        (shown None (sink_held L.contents link_out.old) (source_left I.remaining link_in.old)
-        (held O.contents lines.old.output))
-        result
-        (shown None (sink_held L.contents link_out.new) (source_left I.remaining link_in.new)
-        (held O.contents lines.new.output)) }
-    ensures unwritten { result ≡ Status.Unwritten ↔ has_failed lines.new.output ≡ true }
+        (IsAnswerBehind older N.contents task.entry.moment task.entry.require_done report.old report.new)
+        (report.new ≡ report.old) (std_bench L.contents I.remaining O.contents desk.old) result
+        (std_bench L.contents I.remaining O.contents desk.new) }
+    ensures unwritten { TellsUnwritten result (std_bench L.contents I.remaining O.contents desk.new) }
 {
-    match opened(rt, names.orders) {
-        Ok((file, found)) => drive_input(
-            rt.alloc(),
-            older,
-            names,
-            &mut Input::new(file),
-            terms,
-            link_in,
-            link_out,
-            &mut FileStore::new(rt, names.journal, &found),
-            lines,
-            report,
-        ),
-        Err(error) => tell_unopened_orders(rt.alloc(), lines, names.orders, error),
+    match opened(rt, task.orders) {
+        Ok((file, found)) => {
+            desk.journal.keep_journal(&found);
+            drive_input(rt.alloc(), older, task, &mut Input::new(file), desk, report)
+        }
+        Err(error) => tell_unopened_orders(rt.alloc(), &mut desk.out, task.orders, error),
     }
 }
 
@@ -125,7 +95,7 @@ pub(crate) fn tell_unopened_orders<O: Write>(
     name: &str,
     error: io::Error,
 ) -> Status
-    ensures told { (fault : InputFault) × IsFileFaultTold (Fault.Input fault) result
+    ensures told { (fault : InputFault) × IsUnread fault × IsFileFaultTold (Fault.Input fault) result
         (held O.contents lines.old.output) (held O.contents lines.new.output) }
     ensures unwritten { result ≡ Status.Unwritten ↔ has_failed lines.new.output ≡ true }
 {

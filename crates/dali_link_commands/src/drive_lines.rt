@@ -1,19 +1,22 @@
 // How a drive's end is told.
-ghost use Rattle.std.specs.Prelude.{◌≡◌, ◌≢◌, ◌↔◌, ◌⊎◌, ◌++◌, IfOk, IfErr, OnOk, false, true, string_bytes};
+ghost use Rattle.std.specs.Prelude.{◌≡◌, ◌≢◌, ◌↔◌, ◌⊎◌, ◌++◌, ℕ, List, IfOk, IfErr, OnOk, false, true};
+ghost use Rattle.std.specs.Prelude.{string_bytes};
+ghost use Rattle.std.specs.Io.KnownBytes.{Appends};
 ghost use Rattle.dali_text.specs.Output.{TellsFailure, Takes, has_failed, held, is_flushed};
 ghost use Rattle.dali_faults.specs.Ends.{TellsEnd};
 ghost use Rattle.dali_faults.specs.Faults.{status_of, told_line};
 ghost use Rattle.dali_link_commands.specs.Told.{IsFaultTold, IsFileFaultTold, TellsFileFault, TellsWorded};
-ghost use Rattle.dali_link_commands.specs.Told.{error_line, is_out, refused_lines, IsFaultText};
+ghost use Rattle.dali_link_commands.specs.Told.{error_line, is_out, refused_lines, IsFaultText, IsPlain};
 ghost use Rattle.dali_link_commands.specs.DriveAnswers.{fault_unopened};
 
 use crate::lines::Lines;
+use crate::words::{plain_words, shown};
 use dali_drive::{DriveFault, Sink, put_all};
 use dali_faults::{Fault, Status, drive_line, write_failure, write_refused_item};
 use dali_input::{InputFault, ItemFault};
 use dali_journal::JournalFault;
 use dali_store::{OpenFault, StoreFault};
-use dali_text::{Escaped, Output, OutputFailed};
+use dali_text::{Output, OutputFailed};
 use std::alloc::{AllocError, Global};
 use std::io;
 use std::io::{ErrorKind, Write};
@@ -31,10 +34,7 @@ impl Causes<'_> {
     // Words for a fault, where there are any, and memory for them.
     fn words(&self, alloc: Global, fault: DriveFault) -> Option<String> {
         match (fault, self.link_in, self.link_out) {
-            (DriveFault::Journal, _, _) => {
-                let words = Escaped::whole(self.store?);
-                format!(in alloc; "{words}").ok()
-            }
+            (DriveFault::Journal, _, _) => String::from_str(alloc, self.store?).ok(),
             (DriveFault::Link, _, Some(kind)) => {
                 format!(in alloc; "the frames can't be written to standard output: {kind}").ok()
             }
@@ -105,10 +105,13 @@ fn tell_text<W: Write>(lines: &mut Lines<W>, fault: DriveFault, text: &str) -> S
     Fault::Drive(fault).status()
 }
 
-// The line of a fault behind these words.
+// The line of a fault behind these words, as they are shown.
 fn worded_text(alloc: Global, fault: DriveFault, words: &str) -> Result<String, AllocError>
-    ensures { IfOk result (λ text. string_bytes text ≡ error_line words.now ++ told_line (Fault.Drive fault)) }
+    ensures { IfOk result (λ text. (words : List ℕ) × IsPlain words
+        × (string_bytes text ≡ error_line words ++ told_line (Fault.Drive fault))) }
 {
+    let words = shown(alloc, words)?;
+    let words = words.as_str();
     let mut text = format!(in alloc; "error: {words}\n")?;
     text.push_str(drive_line(fault))?;
     Ok(text)
@@ -289,19 +292,13 @@ fn write_unusable<W: Write>(
     ensures end { TellsEnd result output.new }
 {
     let made = match words {
-        Some(words) => {
-            let words = Escaped::whole(words);
-            format!(in alloc; "{words}")
-        }
-        None => {
-            let name = Escaped::whole(name);
-            format!(in alloc; "the file can't be used: {name}")
-        }
+        Some(words) => String::from_str(alloc, words).ok(),
+        None => format!(in alloc; "the file can't be used: {name}").ok(),
     };
     let fault = Fault::Input(InputFault::File);
-    match made {
-        Ok(words) => write_worded(output, words.as_str(), fault),
-        Err(_) => write_worded(output, "the file can't be used", fault),
+    match plain_words(alloc, made) {
+        Some(words) => write_worded(output, words.as_str(), fault),
+        None => write_worded(output, "the file can't be used", fault),
     }
 }
 
@@ -316,14 +313,14 @@ fn write_no_memory<W: Write>(
     ensures end { TellsEnd result output.new }
 {
     let fault = Fault::Input(InputFault::Memory);
-    let name = Escaped::whole(name);
-    match format!(in alloc; "memory ran out: {name}") {
-        Ok(words) => write_worded(output, words.as_str(), fault),
-        Err(_) => write_worded(output, "memory ran out", fault),
+    let made = format!(in alloc; "memory ran out: {name}").ok();
+    match plain_words(alloc, made) {
+        Some(words) => write_worded(output, words.as_str(), fault),
+        None => write_worded(output, "memory ran out", fault),
     }
 }
 
-// Writes a line in words for a person, and then the fault.
+// Writes a line in these words, for a person, and then the fault.
 #[tactic(auto, using(dali_text::proofs::StreamLemmas::appends_both))]
 pub(crate) fn write_worded<W: Write>(
     output: &mut Output<W>,
@@ -331,7 +328,7 @@ pub(crate) fn write_worded<W: Write>(
     fault: Fault,
 ) -> Result<Status, OutputFailed>
     ensures told { IfOk result (λ status. (status ≡ status_of fault)
-        × TellsWorded fault (held W.contents output.old) (held W.contents output.new)) }
+        × Appends (held W.contents output.old) (held W.contents output.new) (error_line words.now ++ told_line fault)) }
     ensures end { fault ≢ Fault.Drive DriveFault.Out → TellsEnd result output.new }
 {
     writeln!(output, "error: {words}")?;

@@ -1,21 +1,26 @@
-ghost use Rattle.std.specs.Prelude.{◌≡◌, ◌≢◌, ◌↔◌, false, true};
+ghost use Rattle.std.specs.Prelude.{◌≡◌, ◌≢◌, ◌↔◌, IfSome, false, true};
+ghost use Rattle.dali_drive.specs.Desks.{IsUnfailed};
 ghost use Rattle.dali_drive.specs.Stored.{LeavesPart};
-ghost use Rattle.dali_drive.specs.Transcript.{shown};
+ghost use Rattle.dali_journal.specs.declared.standing.Standing.TheVariants.{Idle};
+ghost use Rattle.dali_journal.specs.Sentence.{standing_of};
 ghost use Rattle.dali_follow.specs.Gave.{state_of};
-ghost use Rattle.dali_store.specs.Stores.{IsSettled, LeavesOnly};
+ghost use Rattle.dali_store.specs.Stores.{LeavesOnly};
 ghost use Rattle.dali_text.specs.Output.{has_failed, held};
-ghost use Rattle.dali_link_commands.specs.FollowAnswers.{IsFollowAnswer, TellsFollowed};
+ghost use Rattle.dali_link_commands.specs.Benches.{TellsUnwritten, bench};
+ghost use Rattle.dali_link_commands.specs.BehindAnswers.{IsLinesBehind};
+ghost use Rattle.dali_link_commands.specs.FollowAnswers.{TellsFollowed};
 ghost use Rattle.dali_link_commands.specs.FollowAnswers.{followed_status as status_at_end};
 ghost use Rattle.dali_faults.specs.JournalInput.{order_limit};
 
-use crate::drive::{DriveNames, ended_status, failure_of};
-use crate::drive_lines::{Causes, tell_fault, tell_unopened, tell_unread};
+use crate::carrying::carry_out;
+use crate::drive::{DriveTask, ended_status, failure_of};
+use crate::drive_lines::tell_unread;
 use crate::lines::Lines;
-use dali_drive::{Sink, Source, StoredFault, follow_stored};
-use dali_faults::{JOURNAL_LIMIT, Status};
+use dali_drive::{Sink, Source, StoreDesk};
+use dali_faults::Status;
 use dali_follow::OrderLines;
 use dali_input::InputFault;
-use dali_journal::MOST_ORDERS;
+use dali_journal::Journal;
 use dali_report::Report;
 use dali_store::Store;
 use std::alloc::Global;
@@ -29,67 +34,40 @@ use std::io::Write;
 /// It ends where the lines do: as `Refused` where one was refused, or where each last reply has to be `kept 0 Done` and
 /// one isn't. Where their source fails it ends there too, which is told behind all else: 21 File.
 ///
-/// Nothing is sent, and no line is read, where no journal is opened; it breaks off, and its fault is told, as of
-/// `drive_orders`.
+/// Nothing is sent, and no line is read, where no journal is opened; behind an older journal, and where it breaks off,
+/// it is as of `drive_orders`.
 pub fn follow_lines<R: Source, I: Source, L: Sink, S: Store, W: Write, N: Write + Drop>(
     alloc: Global,
-    names: DriveNames<'_>,
+    older: Option<Journal>,
+    task: DriveTask<'_>,
     orders: &mut OrderLines<R>,
-    require_done: bool,
-    link_in: &mut I,
-    link_out: &mut L,
-    store: &mut S,
-    lines: &mut Lines<W>,
+    desk: &mut StoreDesk<I, L, S, Lines<W>>,
     report: &mut Report<N>,
 ) -> Status
-    requires store { S.failed store.old ≡ false }
-    requires link_out { L.failed link_out.old ≡ false }
-    requires link_in { I.failed link_in.old ≡ false }
-    requires lines { has_failed lines.old.output ≡ false }
-    ensures answer { IsFollowAnswer R.left R.failed N.contents require_done report.old report.new orders.old orders.new
-        (shown (S.seen store.old) (L.held link_out.old) (I.left link_in.old) (held W.contents lines.old.output))
-        result
-        (shown (S.seen store.new) (L.held link_out.new) (I.left link_in.new) (held W.contents lines.new.output)) }
-    ensures unwritten { result ≡ Status.Unwritten ↔ has_failed lines.new.output ≡ true }
-    ensures settled { result ≡ Status.Good → IsSettled (S.seen store.new) (S.may_leave store.new) }
-    ensures any_moment { LeavesOnly S.moment S.left_since store.old store.new
-        (LeavesPart order_limit (S.seen store.old) (S.seen store.new) (S.may_leave store.old)) }
+    requires rests { IfSome older (λ journal. standing_of journal.records ≡ Idle) }
+    requires unfailed { IsUnfailed
+        (bench S.seen S.failed S.may_leave L.held L.failed I.left I.failed W.contents desk.old).failed }
+    ensures answer { IsLinesBehind R.left R.failed N.contents older task.entry.require_done report.old report.new
+        orders.old orders.new (bench S.seen S.failed S.may_leave L.held L.failed I.left I.failed W.contents desk.old)
+        result (bench S.seen S.failed S.may_leave L.held L.failed I.left I.failed W.contents desk.new) }
+    ensures unwritten { TellsUnwritten result
+        (bench S.seen S.failed S.may_leave L.held L.failed I.left I.failed W.contents desk.new) }
+    ensures any_moment { LeavesOnly S.moment S.left_since desk.old.journal desk.new.journal
+        (LeavesPart order_limit (S.seen desk.old.journal) (S.seen desk.new.journal)
+        (S.may_leave desk.old.journal)) }
 {
-    match follow_stored(
-        alloc,
-        MOST_ORDERS,
-        JOURNAL_LIMIT as usize,
-        orders,
-        link_in,
-        link_out,
-        store,
-        lines,
-        report,
-    ) {
-        Ok(_) => {
-            let ended = followed_status(orders.has_refused(), require_done, report.all_done());
-            tell_followed(alloc, lines, names.orders, orders, ended)
+    match carry_out(alloc, older, task.journal, orders, desk, report) {
+        Ok(()) => {
+            let done = report.all_done();
+            let ended = followed_status(orders.has_refused(), task.require_done, done);
+            tell_followed(alloc, &mut desk.out, task.orders, orders, ended)
         }
-        Err(StoredFault::Open(fault)) => tell_unopened(
-            alloc,
-            &mut lines.output,
-            names.journal,
-            fault,
-            store.cause(),
-        ),
-        Err(StoredFault::Drive(fault)) => {
-            let causes = Causes {
-                link_in: link_in.cause(),
-                link_out: link_out.cause(),
-                store: store.cause(),
-            };
-            tell_fault(alloc, lines, fault, causes)
-        }
+        Err(status) => status,
     }
 }
 
 // How a stream ends that was followed to its end.
-pub(crate) fn followed_status(has_refused: bool, require_done: bool, done: bool) -> Status
+fn followed_status(has_refused: bool, require_done: bool, done: bool) -> Status
     ensures { result ≡ status_at_end has_refused require_done done }
 {
     if has_refused {
@@ -100,7 +78,7 @@ pub(crate) fn followed_status(has_refused: bool, require_done: bool, done: bool)
 }
 
 // Tells that the source of the lines has failed, where it has; else it ends so.
-pub(crate) fn tell_followed<R: Source, W: Write>(
+fn tell_followed<R: Source, W: Write>(
     alloc: Global,
     lines: &mut Lines<W>,
     name: &str,

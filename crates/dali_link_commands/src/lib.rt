@@ -2,7 +2,7 @@
 //! status.
 #![tactic(auto)]
 
-pub mod behind;
+mod carrying;
 pub mod drive;
 pub mod drive_files;
 mod drive_lines;
@@ -16,5 +16,6 @@ pub mod read;
 mod report_file;
 pub mod survey;
 pub mod survey_files;
+mod words;
 
 pub use link_command::LinkCommand;

@@ -1,4 +1,5 @@
 // Where a drive's lines go: its replies, and then its fault.
+ghost use Rattle.std.specs.Prelude.{None};
 ghost use Rattle.dali_text.specs.Output.{has_failed, held};
 
 use dali_drive::Sink;
@@ -14,6 +15,9 @@ pub struct Lines<W> {
 
 impl<W: Write> Sink for Lines<W> {
     ghost held = { λ lines. held W.contents lines.output };
+
+    // its output tells whether all is flushed, and not what was
+    ghost flushed = { λ _. None };
 
     ghost failed = { λ lines. has_failed lines.output };
 
@@ -32,4 +36,6 @@ impl<W: Write> Sink for Lines<W> {
     fn cause(&self) -> Option<ErrorKind> {
         self.output.cause()
     }
+
+    ghost flushed_is_held = { λ _. tt };
 }

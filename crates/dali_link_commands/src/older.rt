@@ -1,15 +1,18 @@
 // Older journals: those that are full or retired, whose orders still count as begun.
-ghost use Rattle.std.specs.Prelude.{◌≡◌, ◌≢◌, [], IfErr, IfOk, IfSome, None, OnErr};
+ghost use Rattle.std.specs.Prelude.{◌≡◌, ◌≢◌, ◌<◌, [], IfErr, IfOk, IfSome, None, OnErr, length, map};
 ghost use Rattle.dali_journal.specs.declared.standing.Standing.TheVariants.{Idle};
 ghost use Rattle.dali_journal.specs.Sentence.{standing_of};
-ghost use Rattle.dali_link_commands.specs.Older.{IsJoinedBehind, IsOlderFault, fault_older};
+ghost use Rattle.dali_input.specs.Input.{ReadsAtMost, state_of};
+ghost use Rattle.dali_faults.specs.JournalInput.{journal_limit};
+ghost use Rattle.dali_link_commands.specs.Older.{AreJoined, AreSoMany, IsFirstUnusable, IsJoinedBehind, IsOlderFault};
+ghost use Rattle.dali_link_commands.specs.Older.{IsReadBehind, IsUnusable, fault_older};
 
 use dali_faults::{Fault, JOURNAL_LIMIT, journal_in};
 use dali_input::{Input, InputFault, read_input};
 use dali_journal::{JoinFault, Journal, JournalFault, Standing};
 use std::alloc::Global;
 use std::fs::{File, Files, TryLockError};
-use std::io::ErrorKind;
+use std::io::{ErrorKind, Read};
 use std::{fs, io};
 
 /// Why a file can't be used as an older journal.
@@ -66,6 +69,56 @@ pub fn joined_behind(
     }
 }
 
+/// Which of the inputs can't be used as an older journal, counted from 0, and why.
+#[derive(Clone, Copy, Debug, PartialEq, Eq)]
+pub struct Unusable {
+    pub index: usize,
+    pub fault: OlderFault,
+}
+
+/// The journals of these inputs as one, each behind those that are named before it; none where there are no inputs.
+///
+/// Each has to be at rest. Behind the first one that can't be used no input is read.
+pub fn joined_older<R: Read>(
+    alloc: Global,
+    inputs: &mut [Input<R>],
+) -> Result<Option<Journal>, Unusable>
+    ensures ok { IfOk result
+        (AreJoined (map (state_of R.remaining) inputs.old) (map (state_of R.remaining) inputs.new)) }
+    ensures err { IfErr result (λ unusable. IsFirstUnusable
+        (map (state_of R.remaining) inputs.old) (map (state_of R.remaining) inputs.new)
+        unusable.index unusable.fault) }
+    ensures within { IfErr result (λ unusable. unusable.index < length inputs.old) }
+{
+    let mut older = None;
+    for (index, input) in inputs.iter_mut().enumerate() {
+        match joined_input(alloc, older, input) {
+            Ok(journal) => older = Some(journal),
+            Err(fault) => return Err(Unusable { index, fault }),
+        }
+    }
+    Ok(older)
+}
+
+// The journal of this input behind the older one.
+fn joined_input<R: Read>(
+    alloc: Global,
+    older: Option<Journal>,
+    input: &mut Input<R>,
+) -> Result<Journal, OlderFault>
+    requires rests { IfSome older (λ journal. standing_of journal.records ≡ Idle) }
+    ensures ok { IfOk result
+        (IsReadBehind older (state_of R.remaining input.old) (state_of R.remaining input.new)) }
+    ensures err { IfErr result
+        (IsUnusable older (state_of R.remaining input.old) (state_of R.remaining input.new)) }
+    ensures read { ReadsAtMost journal_limit (state_of R.remaining input.old) (state_of R.remaining input.new) }
+{
+    match read_input(alloc, input, JOURNAL_LIMIT) {
+        Ok(bytes) => joined_behind(alloc, older, bytes),
+        Err(fault) => Err(OlderFault::Unloaded(Fault::Input(fault))),
+    }
+}
+
 /// A file that can't be used as an older journal: its name, why, and words for what the system says of it.
 #[derive(Drop)]
 pub struct Unjoined<'a> {
@@ -74,86 +127,59 @@ pub struct Unjoined<'a> {
     pub words: Option<String>,
 }
 
-/// The journals of these files as one, each behind those that are named before it; none where none is named. No
-/// contract tells what a file holds.
+/// The journals of these files as one, each behind those that are named before it; none where none is named. All are
+/// open, and no drive can open one, before the first of them is read.
+///
+/// No contract tells what a file holds.
 pub(crate) fn read_older<'a, R: Files<File = File> + AllocGlobal>(
     rt: &R,
     names: &'a [&'a str],
 ) -> Result<Option<Journal>, Unjoined<'a>>
+    ensures all { IfOk result (AreSoMany (length names.entry.now)) }
     ensures rests { IfOk result (λ older. IfSome older (λ journal. standing_of journal.records ≡ Idle)) }
     ensures none { IfOk result (λ older. names.entry.now ≡ [] → older ≡ None) }
     ensures some { IfOk result (λ older. older ≡ None → names.entry.now ≡ []) }
     ensures err { OnErr result (names.entry.now ≢ []) }
 {
-    match names.split_first() {
-        None => Ok(None),
-        Some((name, rest)) => match read_all_behind(rt, name, rest) {
-            Ok(older) => Ok(Some(older)),
-            Err(unjoined) => Err(unjoined),
-        },
-    }
-}
-
-// The same of one file and others.
-fn read_all_behind<'a, R: Files<File = File> + AllocGlobal>(
-    rt: &R,
-    name: &'a str,
-    rest: &'a [&'a str],
-) -> Result<Journal, Unjoined<'a>>
-    ensures { IfOk result (λ journal. standing_of journal.records ≡ Idle) }
-{
-    let mut older = read_behind(rt, None, name)?;
-    for &name in rest {
-        older = read_behind(rt, Some(older), name)?;
-    }
-    Ok(older)
-}
-
-// The journal of this file behind the older one.
-fn read_behind<'a, R: Files<File = File> + AllocGlobal>(
-    rt: &R,
-    older: Option<Journal>,
-    name: &'a str,
-) -> Result<Journal, Unjoined<'a>>
-    requires rests { IfSome older (λ journal. standing_of journal.records ≡ Idle) }
-    ensures { IfOk result (λ journal. standing_of journal.records ≡ Idle) }
-{
-    let bytes = match bytes_of(rt, name) {
-        Ok(bytes) => bytes,
-        Err((fault, words)) => {
-            let fault = OlderFault::Unloaded(Fault::Input(fault));
-            return Err(Unjoined { name, fault, words });
-        }
-    };
-    match joined_behind(rt.alloc(), older, bytes) {
-        Ok(journal) => Ok(journal),
-        Err(fault) => Err(Unjoined {
-            name,
-            fault,
-            words: None,
+    let mut inputs = all_opened(rt, names)?;
+    match joined_older(rt.alloc(), &mut inputs) {
+        Ok(older) => Ok(older),
+        Err(unusable) => Err(Unjoined {
+            name: names[unusable.index],
+            fault: unusable.fault,
+            words: failure_words(rt.alloc(), &inputs[unusable.index]),
         }),
     }
 }
 
-// The bytes of a file, up to one past the limit of a journal; or why it can't be read, and words for that.
-fn bytes_of<R: Files<File = File> + AllocGlobal>(
+// The files of these names, each of which no drive has open.
+fn all_opened<'a, R: Files<File = File> + AllocGlobal>(
     rt: &R,
-    name: &str,
-) -> Result<Vec<u8>, (InputFault, Option<String>)> {
-    let file = match opened(rt, name) {
-        Ok(file) => file,
-        Err(unopened) => return Err((unopened.fault(), unopened.words(rt.alloc()))),
-    };
-    let mut input = Input::new(file);
-    match read_input(rt.alloc(), &mut input, JOURNAL_LIMIT) {
-        Ok(bytes) => Ok(bytes),
-        Err(fault) => {
-            let words = match input.cause() {
-                Some(cause) => format!(in rt.alloc(); "{cause}").ok(),
-                None => None,
-            };
-            Err((fault, words))
-        }
+    names: &'a [&'a str],
+) -> Result<Vec<Input<File>>, Unjoined<'a>>
+    ensures all { IfOk result (λ inputs. length inputs.items ≡ length names.entry.now) }
+    ensures err { OnErr result (names.entry.now ≢ []) }
+{
+    let mut inputs = Vec::new(rt.alloc());
+    for &name in names {
+        let (fault, words) = match opened(rt, name) {
+            Ok(file) => match inputs.push(Input::new(file)) {
+                Ok(()) => continue,
+                Err(_) => (InputFault::Memory, None),
+            },
+            Err(unopened) => (unopened.fault(), unopened.words(rt.alloc())),
+        };
+        let fault = OlderFault::Unloaded(Fault::Input(fault));
+        return Err(Unjoined { name, fault, words });
+    }
+    Ok(inputs)
+}
+
+// Words for why the reading of an input has failed, where it has.
+fn failure_words(alloc: Global, input: &Input<File>) -> Option<String> {
+    match input.cause() {
+        Some(cause) => format!(in alloc; "{cause}").ok(),
+        None => None,
     }
 }
 

@@ -9,10 +9,11 @@ ghost use Rattle.dali_link_commands.specs.Told.{IsFileFaultTold, TellsFileFault}
 
 use crate::drive_lines::{write_worded, written_status};
 use crate::older::{OlderFault, Unjoined};
+use crate::words::plain_words;
 use dali_faults::{Fault, Status};
 use dali_input::InputFault;
 use dali_journal::JoinFault;
-use dali_text::{Escaped, Output, OutputFailed};
+use dali_text::{Output, OutputFailed};
 use std::alloc::Global;
 use std::io::Write;
 
@@ -63,7 +64,8 @@ fn write_older<W: Write>(
         × TellsFileFault (fault_older fault) (held W.contents output.old) (held W.contents output.new)) }
     ensures end { TellsEnd result output.new }
 {
-    match words_for(alloc, name, fault, words) {
+    let made = words_for(alloc, name, fault, words);
+    match plain_words(alloc, made) {
         Some(words) => write_worded(output, words.as_str(), fault.fault()),
         None => write_worded(output, "an older journal can't be used", fault.fault()),
     }
@@ -71,9 +73,7 @@ fn write_older<W: Write>(
 
 // Words for a person, where there is memory for them.
 fn words_for(alloc: Global, name: &str, fault: OlderFault, words: Option<&str>) -> Option<String> {
-    let name = Escaped::whole(name);
     if let Some(words) = words {
-        let words = Escaped::whole(words);
         return format!(in alloc; "the older journal can't be used: {name}: {words}").ok();
     }
     match fault {

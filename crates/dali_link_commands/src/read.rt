@@ -1,12 +1,13 @@
-ghost use Rattle.std.specs.Prelude.{◌≡◌, ◌≢◌, ◌↔◌, ◌⊎◌, ◌≤◌, true, false};
-ghost use Rattle.dali_drive.specs.Transcript.{shown};
+ghost use Rattle.std.specs.Prelude.{◌≡◌, ◌≢◌, ◌↔◌, ◌≤◌, true, false};
+ghost use Rattle.dali_drive.specs.Desks.{IsUnfailed};
 ghost use Rattle.dali_store.specs.Stores.{LeavesOnly};
 ghost use Rattle.dali_text.specs.Output.{has_failed, held};
-ghost use Rattle.dali_link_commands.specs.ReadAnswers.{IsReadAnswer, IsTextOfBank, TellsLine};
+ghost use Rattle.dali_link_commands.specs.Benches.{TellsUnwritten, bench};
+ghost use Rattle.dali_link_commands.specs.ReadAnswers.{IsReadAnswer, TellsLine};
 
 use crate::drive_lines::{Causes, tell_fault, tell_unusable};
 use crate::lines::Lines;
-use dali_drive::{Sink, Source, bytes_line, put_all, read_unit, silent_line};
+use dali_drive::{Sink, Source, StoreDesk, bytes_line, put_all, read_unit, silent_line};
 use dali_faults::Status;
 use dali_input::text_of;
 use dali_read::Places;
@@ -24,41 +25,36 @@ pub fn read_bank<I: Source, L: Sink, S: Store, W: Write>(
     alloc: Global,
     unit: u8,
     name: &str,
-    link_in: &mut I,
-    link_out: &mut L,
-    store: &mut S,
-    lines: &mut Lines<W>,
+    desk: &mut StoreDesk<I, L, S, Lines<W>>,
 ) -> Status
     requires unit { unit ≤ 63 }
-    requires store { S.failed store.old ≡ false }
-    requires link_out { L.failed link_out.old ≡ false }
-    requires link_in { I.failed link_in.old ≡ false }
-    requires lines { has_failed lines.old.output ≡ false }
+    requires unfailed { IsUnfailed
+        (bench S.seen S.failed S.may_leave L.held L.failed I.left I.failed W.contents desk.old).failed }
     ensures answer { IsReadAnswer unit
-        (shown (S.seen store.old) (L.held link_out.old) (I.left link_in.old) (held W.contents lines.old.output))
-        result
-        (shown (S.seen store.new) (L.held link_out.new) (I.left link_in.new) (held W.contents lines.new.output)) }
-    ensures unwritten { result ≡ Status.Unwritten ↔ has_failed lines.new.output ≡ true }
-    ensures any_moment { LeavesOnly S.moment S.left_since store.old store.new
-        (λ c. S.may_leave store.old c ⊎ IsTextOfBank c) }
+        (LeavesOnly S.moment S.left_since desk.old.journal desk.new.journal)
+        (bench S.seen S.failed S.may_leave L.held L.failed I.left I.failed W.contents desk.old) result
+        (bench S.seen S.failed S.may_leave L.held L.failed I.left I.failed W.contents desk.new) }
+    ensures unwritten { TellsUnwritten result
+        (bench S.seen S.failed S.may_leave L.held L.failed I.left I.failed W.contents desk.new) }
 {
-    match read_unit(unit, &Places::Bank, link_in, link_out) {
+    match read_unit(unit, &Places::Bank, &mut desk.link_in, &mut desk.link_out) {
         Ok(Some(bytes)) => {
-            if store.replace(&text_of(&bytes)) {
-                tell_line(lines, &bytes_line(unit, bytes.len() as u8), Status::Good)
+            if desk.journal.replace(&text_of(&bytes)) {
+                let line = bytes_line(unit, bytes.len() as u8);
+                tell_line(&mut desk.out, &line, Status::Good)
             } else {
-                tell_unusable(alloc, &mut lines.output, name, store.cause())
+                tell_unusable(alloc, &mut desk.out.output, name, desk.journal.cause())
             }
         }
-        Ok(None) => tell_line(lines, &silent_line(unit), Status::Refused),
+        Ok(None) => tell_line(&mut desk.out, &silent_line(unit), Status::Refused),
         Err(fault) => {
             let causes = Causes {
-                link_in: link_in.cause(),
-                link_out: link_out.cause(),
+                link_in: desk.link_in.cause(),
+                link_out: desk.link_out.cause(),
                 store: None,
             };
-            tell_fault(alloc, lines, fault, causes)
-        },
+            tell_fault(alloc, &mut desk.out, fault, causes)
+        }
     }
 }
 

@@ -1,13 +1,15 @@
 // The file of a report. No contract tells what a file holds: that it holds then what it is given is trusted.
-ghost use Rattle.std.specs.Prelude.{◌≡◌, ◌≢◌, ◌↔◌, OnOk, false, true, is_some};
+ghost use Rattle.std.specs.Prelude.{◌≡◌, ◌≢◌, ◌↔◌, ◌&&◌, ℕ, List, OnOk, false, true, is_none, is_some};
 ghost use Rattle.dali_text.specs.Output.{Takes, TellsFailure, has_failed, held};
-ghost use Rattle.dali_link_commands.specs.LinkCommands.{EndsReported, TellsUnreported};
-ghost use Rattle.dali_link_commands.specs.Told.{error_line};
+ghost use Rattle.dali_report.specs.Told.{has_failed as report_failed, has_output};
+ghost use Rattle.dali_link_commands.specs.LinkCommands.{EndsReported, TellsUnreported, is_lost};
+ghost use Rattle.dali_link_commands.specs.Told.{IsPlain, error_line};
 
 use crate::lines::Lines;
+use crate::words::plain_words;
 use dali_faults::Status;
 use dali_report::Report;
-use dali_text::{Escaped, Output, OutputFailed};
+use dali_text::{Output, OutputFailed};
 use std::alloc::Global;
 use std::fs::{File, Files, OpenOptions};
 use std::io::{Read, Write};
@@ -34,7 +36,11 @@ impl ReportFile {
     pub(crate) fn open<R: Files<File = File> + AllocGlobal>(
         rt: &R,
         name: Option<&str>,
-    ) -> ReportFile {
+    ) -> ReportFile
+        ensures output { has_output result.report ≡ (is_some name.entry && is_none result.unopened) }
+        ensures unopened { is_some result.unopened ≡ true → is_some name.entry ≡ true }
+        ensures unfailed { report_failed result.report ≡ false }
+    {
         let (output, unopened) = match name {
             Some(name) => match opened(rt, name) {
                 Ok(file) => (Some(Output::new(file)), None),
@@ -58,18 +64,16 @@ impl ReportFile {
         ended: Status,
     ) -> Status
         requires { ended ≡ Status.Unwritten ↔ has_failed lines.old.output ≡ true }
-        ensures told { EndsReported (is_some name.entry) self.now.report ended result
-            (held W.contents lines.old.output) (held W.contents lines.new.output) }
+        ensures told { EndsReported (is_lost (is_some name.entry) (is_none self.now.unopened) self.now.report)
+            ended result (held W.contents lines.old.output) (held W.contents lines.new.output) }
         ensures unwritten { result ≡ Status.Unwritten ↔ has_failed lines.new.output ≡ true }
     {
         let Some(name) = name else {
             return ended;
         };
         if self.unopened.is_some() || self.report.has_failed() {
-            return match unreported_words(alloc, name, self.cause(alloc)) {
-                Some(words) => tell_unreported(lines, words.as_str()),
-                None => tell_unreported(lines, "the report can't be written"),
-            };
+            let made = unreported_words(alloc, name, self.cause(alloc));
+            return tell_unreported(alloc, lines, made);
         }
         ended
     }
@@ -116,21 +120,37 @@ fn is_foreign<R: Files<File = File>>(rt: &R, name: &str) -> io::Result<bool> {
 }
 
 // Tells that a report can't be written.
-fn tell_unreported<W: Write>(lines: &mut Lines<W>, words: &str) -> Status
+fn tell_unreported<W: Write>(alloc: Global, lines: &mut Lines<W>, made: Option<String>) -> Status
     ensures told { TellsUnreported result
         (held W.contents lines.old.output) (held W.contents lines.new.output) }
     ensures unwritten { result ≡ Status.Unwritten ↔ has_failed lines.new.output ≡ true }
 {
-    match write_error(&mut lines.output, words) {
+    match write_unreported(alloc, &mut lines.output, made) {
         Ok(()) => Status::Failed,
         Err(_) => Status::Unwritten,
+    }
+}
+
+// Writes it in the words that were made for it, or in others.
+fn write_unreported<W: Write>(
+    alloc: Global,
+    output: &mut Output<W>,
+    made: Option<String>,
+) -> Result<(), OutputFailed>
+    ensures line { OnOk result ((words : List ℕ) × IsPlain words
+        × Takes W.contents output.old output.new (error_line words)) }
+    ensures failed { TellsFailure result output.old output.new }
+    ensures unfailed { OnOk result (has_failed output.new ≡ false) }
+{
+    match plain_words(alloc, made) {
+        Some(words) => write_error(output, words.as_str()),
+        None => write_error(output, "the report can't be written"),
     }
 }
 
 fn unreported_words(alloc: Global, name: &str, cause: Option<String>) -> Option<String> {
     let cause = cause?;
     let cause = cause.as_str();
-    let name = Escaped::whole(name);
     format!(in alloc; "the report can't be written: {name}: {cause}").ok()
 }
 

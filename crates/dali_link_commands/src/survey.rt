@@ -1,8 +1,8 @@
-ghost use Rattle.std.specs.Prelude.{◌≡◌, ◌↔◌, None, true, false};
-ghost use Rattle.dali_drive.specs.Transcript.{shown};
+ghost use Rattle.std.specs.Prelude.{◌≡◌};
+ghost use Rattle.dali_drive.specs.Desks.{IsUnfailed};
 ghost use Rattle.dali_input.specs.Input.{ReadsAtMost, state_of};
 ghost use Rattle.dali_input.specs.Orders.{orders_limit};
-ghost use Rattle.dali_text.specs.Output.{has_failed, held};
+ghost use Rattle.dali_link_commands.specs.Benches.{TellsUnwritten, bench};
 ghost use Rattle.dali_link_commands.specs.OrdersAnswers.{IsInputAnswer, IsReaderAnswer};
 ghost use Rattle.dali_link_commands.specs.ReadAnswers.{IsScanAnswer, IsVerifyAnswer};
 
@@ -10,10 +10,11 @@ use crate::drive::failure_of;
 use crate::drive_lines::{Causes, tell_fault, tell_refused, tell_unread};
 use crate::lines::Lines;
 use dali_bank::Order;
-use dali_drive::{Sink, Source, scan_units, verify_orders};
+use dali_drive::{Sink, Source, StoreDesk, scan_units, verify_orders};
 use dali_faults::Status;
 use dali_input::{Input, ORDERS_LIMIT, read_input, read_orders};
 use dali_report::Report;
+use dali_store::Store;
 use std::alloc::Global;
 use std::io::{Read, Write};
 
@@ -21,39 +22,28 @@ use std::io::{Read, Write};
 ///
 /// Where an item is refused, the lines of all that are, are written, and the link isn't touched; nor is it where there
 /// are no orders: 13 TooBig over 16777216 bytes, 11 Json, 12 Document, 20 Memory or 21 File.
-pub fn verify_input<R: Read, I: Source, L: Sink, W: Write, N: Write + Drop>(
+pub fn verify_input<R: Read, I: Source, L: Sink, S: Store, W: Write, N: Write + Drop>(
     alloc: Global,
     name: &str,
     input: &mut Input<R>,
-    link_in: &mut I,
-    link_out: &mut L,
-    lines: &mut Lines<W>,
+    desk: &mut StoreDesk<I, L, S, Lines<W>>,
     report: &mut Report<N>,
 ) -> Status
-    requires link_out { L.failed link_out.old ≡ false }
-    requires link_in { I.failed link_in.old ≡ false }
-    requires lines { has_failed lines.old.output ≡ false }
+    requires { IsUnfailed
+        (bench S.seen S.failed S.may_leave L.held L.failed I.left I.failed W.contents desk.old).failed }
     ensures verified { IsReaderAnswer (IsVerifyAnswer N.contents report.old report.new) (report.new ≡ report.old)
-        (shown None (L.held link_out.old) (I.left link_in.old) (held W.contents lines.old.output))
-        result
-        (shown None (L.held link_out.new) (I.left link_in.new) (held W.contents lines.new.output))
+        (bench S.seen S.failed S.may_leave L.held L.failed I.left I.failed W.contents desk.old) result
+        (bench S.seen S.failed S.may_leave L.held L.failed I.left I.failed W.contents desk.new)
         (state_of R.remaining input.old) (state_of R.remaining input.new) }
     ensures read { ReadsAtMost orders_limit (state_of R.remaining input.old) (state_of R.remaining input.new) }
-    ensures unwritten { result ≡ Status.Unwritten ↔ has_failed lines.new.output ≡ true }
+    ensures unwritten { TellsUnwritten result
+        (bench S.seen S.failed S.may_leave L.held L.failed I.left I.failed W.contents desk.new) }
 {
     match read_input(alloc, input, ORDERS_LIMIT) {
-        Ok(bytes) => verify_bytes(
-            alloc,
-            name,
-            bytes.as_slice(),
-            link_in,
-            link_out,
-            lines,
-            report,
-        ),
+        Ok(bytes) => verify_bytes(alloc, name, bytes.as_slice(), desk, report),
         Err(fault) => tell_unread(
             alloc,
-            &mut lines.output,
+            &mut desk.out.output,
             name,
             fault,
             failure_of(input.cause()),
@@ -62,29 +52,25 @@ pub fn verify_input<R: Read, I: Source, L: Sink, W: Write, N: Write + Drop>(
 }
 
 // Compares units with the orders that these bytes spell.
-fn verify_bytes<I: Source, L: Sink, W: Write, N: Write + Drop>(
+fn verify_bytes<I: Source, L: Sink, S: Store, W: Write, N: Write + Drop>(
     alloc: Global,
     name: &str,
     input: &[u8],
-    link_in: &mut I,
-    link_out: &mut L,
-    lines: &mut Lines<W>,
+    desk: &mut StoreDesk<I, L, S, Lines<W>>,
     report: &mut Report<N>,
 ) -> Status
-    requires link_out { L.failed link_out.old ≡ false }
-    requires link_in { I.failed link_in.old ≡ false }
-    requires lines { has_failed lines.old.output ≡ false }
+    requires { IsUnfailed
+        (bench S.seen S.failed S.may_leave L.held L.failed I.left I.failed W.contents desk.old).failed }
     ensures answer { IsInputAnswer (IsVerifyAnswer N.contents report.old report.new) (report.new ≡ report.old)
-        (shown None (L.held link_out.old) (I.left link_in.old) (held W.contents lines.old.output))
-        result
-        (shown None (L.held link_out.new) (I.left link_in.new) (held W.contents lines.new.output))
-        input.now }
-    ensures unwritten { result ≡ Status.Unwritten ↔ has_failed lines.new.output ≡ true }
+        (bench S.seen S.failed S.may_leave L.held L.failed I.left I.failed W.contents desk.old) result
+        (bench S.seen S.failed S.may_leave L.held L.failed I.left I.failed W.contents desk.new) input.now }
+    ensures unwritten { TellsUnwritten result
+        (bench S.seen S.failed S.may_leave L.held L.failed I.left I.failed W.contents desk.new) }
 {
     match read_orders(alloc, input) {
-        Ok(Ok(orders)) => verify_units(alloc, orders.as_slice(), link_in, link_out, lines, report),
-        Ok(Err(refused)) => tell_refused(&mut lines.output, refused.as_slice()),
-        Err(fault) => tell_unread(alloc, &mut lines.output, name, fault, None),
+        Ok(Ok(orders)) => verify_units(alloc, orders.as_slice(), desk, report),
+        Ok(Err(refused)) => tell_refused(&mut desk.out.output, refused.as_slice()),
+        Err(fault) => tell_unread(alloc, &mut desk.out.output, name, fault, None),
     }
 }
 
@@ -93,34 +79,38 @@ fn verify_bytes<I: Source, L: Sink, W: Write, N: Write + Drop>(
 /// `Good` where all are the same, else as `Refused`.
 ///
 /// Where `lines` fails it is 7 Out, or there stands a first part of the fault's line.
-pub fn verify_units<I: Source, L: Sink, W: Write, N: Write + Drop>(
+pub fn verify_units<I: Source, L: Sink, S: Store, W: Write, N: Write + Drop>(
     alloc: Global,
     orders: &[Order],
-    link_in: &mut I,
-    link_out: &mut L,
-    lines: &mut Lines<W>,
+    desk: &mut StoreDesk<I, L, S, Lines<W>>,
     report: &mut Report<N>,
 ) -> Status
-    requires link_out { L.failed link_out.old ≡ false }
-    requires link_in { I.failed link_in.old ≡ false }
-    requires lines { has_failed lines.old.output ≡ false }
+    requires { IsUnfailed
+        (bench S.seen S.failed S.may_leave L.held L.failed I.left I.failed W.contents desk.old).failed }
     ensures answer { IsVerifyAnswer N.contents report.old report.new orders.now
-        (shown None (L.held link_out.old) (I.left link_in.old) (held W.contents lines.old.output))
-        result
-        (shown None (L.held link_out.new) (I.left link_in.new) (held W.contents lines.new.output)) }
-    ensures unwritten { result ≡ Status.Unwritten ↔ has_failed lines.new.output ≡ true }
+        (bench S.seen S.failed S.may_leave L.held L.failed I.left I.failed W.contents desk.old) result
+        (bench S.seen S.failed S.may_leave L.held L.failed I.left I.failed W.contents desk.new) }
+    ensures unwritten { TellsUnwritten result
+        (bench S.seen S.failed S.may_leave L.held L.failed I.left I.failed W.contents desk.new) }
 {
-    match verify_orders(orders, link_in, link_out, lines, report) {
+    let ended = verify_orders(
+        orders,
+        &mut desk.link_in,
+        &mut desk.link_out,
+        &mut desk.out,
+        report,
+    );
+    match ended {
         Ok(true) => Status::Good,
         Ok(false) => Status::Refused,
         Err(fault) => {
             let causes = Causes {
-                link_in: link_in.cause(),
-                link_out: link_out.cause(),
+                link_in: desk.link_in.cause(),
+                link_out: desk.link_out.cause(),
                 store: None,
             };
-            tell_fault(alloc, lines, fault, causes)
-        },
+            tell_fault(alloc, &mut desk.out, fault, causes)
+        }
     }
 }
 
@@ -129,30 +119,27 @@ pub fn verify_units<I: Source, L: Sink, W: Write, N: Write + Drop>(
 /// Link, 3 Line, 4 End or 6 TooLong.
 ///
 /// Where `lines` fails it is 7 Out, or there stands a first part of the fault's line.
-pub fn scan<I: Source, L: Sink, W: Write>(
+pub fn scan<I: Source, L: Sink, S: Store, W: Write>(
     alloc: Global,
-    link_in: &mut I,
-    link_out: &mut L,
-    lines: &mut Lines<W>,
+    desk: &mut StoreDesk<I, L, S, Lines<W>>,
 ) -> Status
-    requires link_out { L.failed link_out.old ≡ false }
-    requires link_in { I.failed link_in.old ≡ false }
-    requires lines { has_failed lines.old.output ≡ false }
+    requires { IsUnfailed
+        (bench S.seen S.failed S.may_leave L.held L.failed I.left I.failed W.contents desk.old).failed }
     ensures answer { IsScanAnswer
-        (shown None (L.held link_out.old) (I.left link_in.old) (held W.contents lines.old.output))
-        result
-        (shown None (L.held link_out.new) (I.left link_in.new) (held W.contents lines.new.output)) }
-    ensures unwritten { result ≡ Status.Unwritten ↔ has_failed lines.new.output ≡ true }
+        (bench S.seen S.failed S.may_leave L.held L.failed I.left I.failed W.contents desk.old)
+        result (bench S.seen S.failed S.may_leave L.held L.failed I.left I.failed W.contents desk.new) }
+    ensures unwritten { TellsUnwritten result
+        (bench S.seen S.failed S.may_leave L.held L.failed I.left I.failed W.contents desk.new) }
 {
-    match scan_units(link_in, link_out, lines) {
+    match scan_units(&mut desk.link_in, &mut desk.link_out, &mut desk.out) {
         Ok(_) => Status::Good,
         Err(fault) => {
             let causes = Causes {
-                link_in: link_in.cause(),
-                link_out: link_out.cause(),
+                link_in: desk.link_in.cause(),
+                link_out: desk.link_out.cause(),
                 store: None,
             };
-            tell_fault(alloc, lines, fault, causes)
-        },
+            tell_fault(alloc, &mut desk.out, fault, causes)
+        }
     }
 }

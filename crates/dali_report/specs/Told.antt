@@ -1,5 +1,5 @@
 -- What a report has been told, and what it holds.
-use Rattle.std.specs.Prelude.{◌≡◌, ◌||◌, ◌==◌, ℕ, Bool, true, false, List, [], Option, Some, None, option_map}
+use Rattle.std.specs.Prelude.{◌≡◌, ◌||◌, ◌==◌, ℕ, Bool, true, false, List, [], Option, Some, None, is_some, option_map}
 use Rattle.std.specs.Io.KnownBytes.{Appends}
 use Rattle.std.proofs.Common.{refl}
 use Rattle.std.proofs.KnownBytes.{Appends-nil}
@@ -36,6 +36,10 @@ has_failed report = report.starved || output_failed report.output
 
 abbrev pub has_failed_output : {W : Type 0} → Report W → Bool
 has_failed_output report = output_failed report.output
+
+-- it goes somewhere
+abbrev pub has_output : {W : Type 0} → Report W → Bool
+has_output report = is_some report.output
 
 -- it stays failed, and its output as it is
 abbrev pub IsSilent : {W : Type 0} → Report W → Report W → Type 0

@@ -1,13 +1,13 @@
 ghost use Rattle.std.specs.Prelude.{◌≡◌, ◌∷◌, ◌⊎◌, ◌||◌, List, IsOkAnd, OnOk, None, false, true, is_some, option_map};
 ghost use Rattle.std.specs.Io.KnownBytes.{Appends};
-ghost use Rattle.dali_text.specs.Output.{Takes, TellsFailure};
+ghost use Rattle.dali_text.specs.Output.{Takes, TellsFailure, is_flushed};
 ghost use Rattle.dali_trace.specs.declared.happening.Happening.{Happening};
 ghost use Rattle.dali_trace.specs.declared.happening.Happening.TheVariants.{Answered};
 ghost use Rattle.dali_trace.specs.Trace.{Start, records_of};
 ghost use Rattle.dali_report.specs.Lines.{last_data, line_of};
 ghost use Rattle.dali_report.specs.Reports.{is_last_reply, is_well as well, resumed};
 ghost use Rattle.dali_report.specs.Told.{IsTold, IsToldEnd, output_held, output_failed, report_held};
-ghost use Rattle.dali_report.specs.Told.{has_failed as report_failed, has_failed_output};
+ghost use Rattle.dali_report.specs.Told.{has_failed as report_failed, has_failed_output, has_output};
 ghost use Rattle.dali_report.specs.Told.{spoken, is_number, IsToldFound, none_found};
 
 use crate::line::{LastReply, end_line, found_line};
@@ -65,6 +65,7 @@ impl<W: Write> Report<W> {
     pub fn new(alloc: Global, output: Option<Output<W>>) -> Report<W>
         ensures held { report_held W.contents result ≡ output_held W.contents output }
         ensures failed { report_failed result ≡ output_failed output }
+        ensures output { has_output result ≡ is_some output }
         ensures done { result.all_done ≡ true }
     {
         Report {
@@ -253,6 +254,7 @@ fn is_well(reply: Reply) -> bool
 // Writes a line, and flushes it.
 fn write_line<W: Write>(output: &mut Output<W>, line: &[u8]) -> Result<(), OutputFailed>
     ensures line { OnOk result (Takes W.contents output.old output.new line.now) }
+    ensures flushed { OnOk result (is_flushed output.new ≡ true) }
     ensures failed { TellsFailure result output.old output.new }
 {
     output.write_all(line)?;

@@ -134,6 +134,9 @@ pub half_isnt_replaced : KeepsOrBecomes (Some (1 ∷ [])) (Some (2 ∷ [])) (2 �
 half_isnt_replaced (inl keeps) = cc
 half_isnt_replaced (inr becomes) = cc
 
+pub become_unknown_isnt_become : Becomes (Some (1 ∷ [])) None (2 ∷ []) → ⊥
+become_unknown_isnt_become forgotten = forgotten
+
 -- What a store in memory may leave
 
 pub unsynced_may_be_left : (v : Vec ℕ Global) → v.items ≡ 1 ∷ [] → MayBeLeft (1 ∷ 2 ∷ []) (v ∷ []) (1 ∷ [])

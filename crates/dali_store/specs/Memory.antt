@@ -1,6 +1,8 @@
 -- What a store in memory shows, and what a stop may leave of it or might have left.
-use Rattle.std.specs.Prelude.{◌≡◌, ◌⊎◌, ℕ, List, [], ◌∷◌, length, drop, Vec, Bool}
+use Rattle.std.specs.Prelude.{◌≡◌, ◌⊎◌, ℕ, List, [], ◌∷◌, Some, length, drop, Vec, Bool}
 use mathlib.Core.Logic.{inl, inr}
+use Rattle.std.proofs.Common.{sym}
+use Rattle.std.proofs.lemmas.Option.{same_Some}
 use Rattle.std.specs.declared.alloc.Global.{Global}
 use Rattle.dali_store.specs.declared.memory.MemoryStore.{MemoryStore}
 
@@ -57,3 +59,7 @@ pub only_now : (bytes : List ℕ) (unsynced : Contents) (past : Times) (c : List
     → MightBeLeft bytes unsynced past (length past) c → MayBeLeft bytes unsynced c
 only_now bytes unsynced past c (inl now) = now
 only_now bytes unsynced past c (inr had) = absurd (none_left past c had)
+
+-- what is there may be left
+pub seen_left : (store : MemoryStore) (c : List ℕ) → Some store.bytes.items ≡ Some c → memory_leaves store c
+seen_left store c is = inl (sym (same_Some store.bytes.items c is))

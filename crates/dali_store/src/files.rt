@@ -80,6 +80,13 @@ impl<'a, R: Files<File = File> + AllocGlobal> FileStore<'a, R> {
         }
     }
 
+    /// From here on it is that of a journal, which can't be the file of the orders, as `new` makes it.
+    pub fn keep_journal(&mut self, orders: &Metadata)
+        ensures { has_failed self.new ≡ has_failed self.old }
+    {
+        self.orders = Some(id_of(orders));
+    }
+
     // Notes a failure, and the words of the first one.
     fn note(&mut self, hindrance: Hindrance)
         ensures { self.new.failed ≡ true }
@@ -105,6 +112,8 @@ impl<'a, R: Files<File = File> + AllocGlobal> Store for FileStore<'a, R> {
     ghost failed = { λ s. s.failed };
 
     ghost counts_now = { λ s t c le may. tt };
+
+    ghost leaves_what_is_seen = { λ s c is. tt };
 
     ghost only_now = { λ s c left. tt };
 

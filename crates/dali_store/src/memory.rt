@@ -2,8 +2,8 @@
 ghost use Rattle.std.specs.Prelude.{◌≡◌, ◌<◌, ◌≤◌, ℕ, List, [], ◌∷◌, ◌++◌, ◌||◌, not, true, false, length};
 ghost use Rattle.std.specs.Prelude.{Some, IfOk, IfSome};
 ghost use Rattle.std.proofs.Common.{inl};
-ghost use Rattle.dali_store.specs.Memory.{memory_leaves, memory_left, only_now};
-ghost use Rattle.dali_store.specs.Stores.{Takes, CutsTo, IsBetween, IsBehind, MayAlso, Elapses, is_refusal};
+ghost use Rattle.dali_store.specs.Memory.{memory_leaves, memory_left, only_now, seen_left};
+ghost use Rattle.dali_store.specs.Stores.{Takes, CutsTo, IsBetween, IsBehind, IsSettled, MayAlso, Elapses, is_refusal};
 
 use crate::store::{Store, StoreFault};
 use std::alloc::{AllocError, Global};
@@ -126,6 +126,8 @@ impl Store for MemoryStore {
 
     ghost counts_now = { λ m t c le now. inl now };
 
+    ghost leaves_what_is_seen = { seen_left };
+
     ghost only_now = { λ m c left. only_now m.bytes.items m.unsynced.items m.past.items c left };
 
     fn read(&mut self, alloc: Global, limit: usize) -> Result<Vec<u8>, StoreFault> {
@@ -186,7 +188,16 @@ impl Store for MemoryStore {
         self.put(next) && self.settle()
     }
 
-    fn sync(&mut self) -> bool {
+    // Where nothing is new all stays as it is, so that a sync takes no memory then.
+    fn sync(&mut self) -> bool
+        ensures still { self.old.unsynced.items ≡ [] → self.new ≡ self.old }
+        ensures same { self.new.bytes.items ≡ self.old.bytes.items }
+        ensures settled { result ≡ true → IsSettled (Some self.new.bytes.items) (memory_leaves self.new) }
+        ensures stop { (c : List ℕ) → memory_leaves self.new c → memory_leaves self.old c }
+        ensures time { Elapses (length self.old.past.items) (length self.new.past.items) (memory_left self.old)
+            (memory_left self.new) (memory_leaves self.new) }
+        ensures failed { self.new.failed ≡ (self.old.failed || not result) }
+    {
         self.unsynced.is_empty() || self.settle()
     }
 

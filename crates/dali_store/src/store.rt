@@ -1,6 +1,6 @@
 // The place of one journal.
 ghost use Rattle.std.specs.Prelude.{◌≡◌, ◌<◌, ◌≤◌, ◌||◌, ℕ, Bool, List, Option, not, length, take, true, false};
-ghost use Rattle.std.specs.Prelude.{IfOk, IfSome, IsErrOf, OnOk, OnErr};
+ghost use Rattle.std.specs.Prelude.{IfOk, IfSome, IsErrOf, OnOk, OnErr, Some};
 ghost use Rattle.std.specs.Io.KnownBytes.{Appends};
 ghost use Rattle.dali_store.specs.declared.store.StoreFault.TheVariants.{TooBig};
 ghost use Rattle.dali_store.specs.Stores.{Shows, IsSettled, IsBetween, IsWithin, MayAlso, Elapses, LeavesOnly};
@@ -124,19 +124,22 @@ pub trait Store {
     ghost counts_now: { (store : Self) (t : ℕ) (c : List ℕ) → t ≤ moment store → may_leave store c
         → left_since store t c };
 
+    /// What is seen may be left.
+    ghost leaves_what_is_seen: { (store : Self) (c : List ℕ) → seen store ≡ Some c → may_leave store c };
+
     /// Since this moment there is no other.
     ghost only_now: { (store : Self) (c : List ℕ) → left_since store (moment store) c → may_leave store c };
 }
 
 // Puts all the bytes. Where that fails a first part of them was put.
 fn append_all<S: Store>(store: &mut S, bytes: &[u8]) -> bool
-    requires settled { IsSettled (S.seen store.old) (S.may_leave store.old) }
     ensures whole { result ≡ true → Appends (S.seen store.old) (S.seen store.new) bytes.now }
     ensures cut { result ≡ false
         → (k : ℕ) × (k ≤ length bytes.now) × Appends (S.seen store.old) (S.seen store.new) (take k bytes.now) }
-    ensures stop { (c : List ℕ) → S.may_leave store.new c → IsBetween (S.seen store.old) (S.seen store.new) c }
-    ensures any_moment { LeavesOnly S.moment S.left_since store.old store.new
-        (IsBetween (S.seen store.old) (S.seen store.new)) }
+    ensures stop { IsSettled (S.seen store.old) (S.may_leave store.old)
+        → (c : List ℕ) → S.may_leave store.new c → IsBetween (S.seen store.old) (S.seen store.new) c }
+    ensures any_moment { IsSettled (S.seen store.old) (S.may_leave store.old)
+        → LeavesOnly S.moment S.left_since store.old store.new (IsBetween (S.seen store.old) (S.seen store.new)) }
     ensures failed { S.failed store.new ≡ (S.failed store.old || not result) }
 {
     let mut done = 0;
@@ -152,16 +155,16 @@ fn append_all<S: Store>(store: &mut S, bytes: &[u8]) -> bool
 /// Puts all the bytes behind those that are there, and sees to it that a stop leaves them. Where that fails a first
 /// part of them was put, perhaps all.
 ///
-/// At each moment a stop leaves what was there before with a first part of what was put.
+/// Where a stop left all that was there before, at each moment it leaves that with a first part of what was put.
 pub fn keep<S: Store>(store: &mut S, bytes: &[u8]) -> bool
-    requires settled { IsSettled (S.seen store.old) (S.may_leave store.old) }
     ensures whole { result ≡ true → Appends (S.seen store.old) (S.seen store.new) bytes.now }
     ensures settled { result ≡ true → IsSettled (S.seen store.new) (S.may_leave store.new) }
     ensures cut { result ≡ false
         → (k : ℕ) × (k ≤ length bytes.now) × Appends (S.seen store.old) (S.seen store.new) (take k bytes.now) }
-    ensures stop { (c : List ℕ) → S.may_leave store.new c → IsBetween (S.seen store.old) (S.seen store.new) c }
-    ensures any_moment { LeavesOnly S.moment S.left_since store.old store.new
-        (IsBetween (S.seen store.old) (S.seen store.new)) }
+    ensures stop { IsSettled (S.seen store.old) (S.may_leave store.old)
+        → (c : List ℕ) → S.may_leave store.new c → IsBetween (S.seen store.old) (S.seen store.new) c }
+    ensures any_moment { IsSettled (S.seen store.old) (S.may_leave store.old)
+        → LeavesOnly S.moment S.left_since store.old store.new (IsBetween (S.seen store.old) (S.seen store.new)) }
     ensures failed { S.failed store.new ≡ (S.failed store.old || not result) }
 {
     append_all(store, bytes) && store.sync()

@@ -2,3 +2,4 @@ pub mod StreamLemmas
 pub mod BankLinesLemmas
 pub mod RunTextLemmas
 pub mod JournalLinesLemmas
+pub mod WorkedLinesLemmas

@@ -3,10 +3,13 @@
 #![tactic(auto)]
 
 pub use dali_drive::{
-    BehindFault, DriveFault, Given, Got, Line, ListedOrders, Nobody, Observer, Orders, Sink,
-    Source, StdSink, StdSource, StoredFault, drive, drive_observed, drive_stored,
-    drive_stored_observed, follow, follow_behind, follow_stored, laws as drive_laws, put_all,
+    BehindFault, Desk, DriveFault, FindingObserver, Given, Got, JournalLimits, LentSinks, Line,
+    ListedOrders, Nobody, Observer, OpenDesk, Orders, Sink, Source, StdSink, StdSource, StoreDesk,
+    StoredFault, drive, drive_at, drive_stored, exchange, follow, follow_stored,
+    laws as drive_laws, put_all, read_unit, scan_units, verify_orders,
 };
 pub use dali_engine::{Outcome, RunFault, Writer, run, run_sim};
 pub use dali_laws::laws;
+pub use dali_read::{Finding, Places};
+pub use dali_store::{FileStore, MemoryStore, OpenFault, Store, StoreFault, open};
 pub use dali_trace::{Event, Happening, Reply, Want};

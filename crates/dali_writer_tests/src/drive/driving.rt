@@ -401,11 +401,13 @@ fn drive_std(alloc: Global, answers: &[u8]) -> Result<Left, Fail> {
         journal_out.failed,
         out.has_failed(),
     ];
+    let (journal, flushed) = journal_out.into_held()?;
     Ok(Left {
         fault: driven.err(),
         taken: answers.len().saturating_sub(rest.len()),
         link,
-        journal: journal_out.bytes,
+        journal,
+        flushed,
         out: told,
         failed,
     })

@@ -58,6 +58,8 @@ impl Store for Failing {
 
     ghost counts_now = { λ s t c le may. tt };
 
+    ghost leaves_what_is_seen = { λ s c is. tt };
+
     ghost only_now = { λ s c left. tt };
 
     fn read(&mut self, alloc: Global, limit: usize) -> Result<Vec<u8>, StoreFault> {
@@ -166,13 +168,13 @@ fn judge_point(
     late: bool,
     point: &Point<'_>,
 ) -> Result<(), Fail> {
-    let mut store = Failing {
+    let store = Failing {
         store: MemoryStore::new(alloc, run.file.to_vec(alloc)?),
         good,
         late,
         failed: false,
     };
-    let left = drive_over(alloc, &mut store, &seen.answers)?;
+    let (left, store) = drive_over(alloc, store, &seen.answers)?;
     expect_that(is_left(run, seen, point, &left), "a drive cut there")?;
     expect_that(store.failed == point.fault.is_some(), "a store that failed")?;
     let bytes = store.store.bytes();

@@ -13,12 +13,18 @@ use dali_gear::{Fate, GearFault, SimBus, Unit};
 use dali_journal::Journal;
 use dali_shared_tests::expect_that;
 use dali_store::{MemoryStore, Store};
-use dali_writer::{StoredFault, drive_stored};
+use dali_writer::{JournalLimits, StoreDesk, StoredFault, drive_stored};
 use std::alloc::Global;
 use std::test::Fail;
 
 // Where the records of the three orders end in the journal's file, behind the header and behind each.
 pub(crate) static ENDS: [usize; 10] = [4, 35, 37, 39, 70, 72, 74, 105, 107, 109];
+
+// As many orders and bytes as the journal has in the end.
+const LIMITS: JournalLimits = JournalLimits {
+    orders: 3,
+    bytes: 109,
+};
 
 // The first bytes of bank 1 of each unit in the end.
 const BANK: [u8; 10] = [0x77, 0xFF, 0xFF, 0x03, 0xA4, 0xCE, 0xEF, 0xAD, 0xAB, 0xFF];
@@ -110,34 +116,30 @@ pub(crate) struct Left {
     pub(crate) out: Vec<u8>,
 }
 
-pub(crate) fn drive_over<S: Store>(
+// Drives the orders over a store, and gives it back.
+pub(crate) fn drive_over<S: Store + Drop>(
     alloc: Global,
-    store: &mut S,
+    store: S,
     answers: &[u8],
-) -> Result<Left, Fail>
-    requires { S.failed store.old ≡ false }
+) -> Result<(Left, S), Fail>
+    requires { S.failed store ≡ false }
 {
-    let mut link_in = Script::new(answers, MANY);
-    let mut link_out = Shelf::new(alloc, MANY, MANY, false);
-    let mut out = Shelf::new(alloc, MANY, 0, false);
-    let orders = three_orders()?;
-    let driven = drive_stored(
-        alloc,
-        3,
-        109,
-        &orders,
-        0,
-        &mut link_in,
-        &mut link_out,
-        store,
-        &mut out,
-    );
-    Ok(Left {
+    let mut desk = StoreDesk {
+        link_in: Script::new(answers, MANY),
+        link_out: Shelf::new(alloc, MANY, MANY, false),
+        journal: store,
+        out: Shelf::new(alloc, MANY, 0, false),
+    };
+    let driven = drive_stored(alloc, LIMITS, &three_orders()?, 0, &mut desk);
+    let (link, _) = desk.link_out.into_held()?;
+    let (out, _) = desk.out.into_held()?;
+    let left = Left {
         fault: driven.err(),
-        untaken: link_in.bytes.len(),
-        link: link_out.bytes,
-        out: out.bytes,
-    })
+        untaken: desk.link_in.bytes.len(),
+        link,
+        out,
+    };
+    Ok((left, desk.journal))
 }
 
 // Whether it came to its end.
@@ -160,8 +162,8 @@ pub(crate) fn judge_end(
     expect_that(carry_again(&mut bus, frames), "proper frames")?;
     let seen = work_from(alloc, &mut bus, file, &three_orders()?, None)?;
     expect_that(are_written(&bus), "the bytes of all units")?;
-    let mut store = MemoryStore::new(alloc, file.to_vec(alloc)?);
-    let left = drive_over(alloc, &mut store, &seen.answers)?;
+    let store = MemoryStore::new(alloc, file.to_vec(alloc)?);
+    let (left, store) = drive_over(alloc, store, &seen.answers)?;
     expect_that(has_ended(&left, &seen, records), "a drive to its end")?;
     let is_kept = store.bytes() == whole && store.unsynced().is_empty();
     expect_that(is_kept, "each record once")?;

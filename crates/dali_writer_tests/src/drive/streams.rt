@@ -1,12 +1,13 @@
 // Streams in memory that fail after so many bytes or flushes, and drives over them.
-ghost use Rattle.std.specs.Prelude.{◌≡◌, ◌||◌, Some, None, false, not, ⊤};
-ghost use Rattle.dali_drive.specs.Streams.{Puts, is_refusal};
+ghost use Rattle.std.specs.Prelude.{◌≡◌, ◌++◌, Some, false};
+ghost use Rattle.std.proofs.Common.{refl};
 
 use crate::gtin::HEADER;
 use dali_bank::Order;
 use dali_journal::Journal;
-use dali_store::{Store, StoreFault};
-use dali_writer::{DriveFault, Got, Nobody, Orders, Sink, Source, Writer, drive, follow};
+use dali_writer::{
+    DriveFault, Got, LentSinks, Nobody, Orders, Sink, Source, Writer, drive, follow,
+};
 use std::alloc::Global;
 use std::io;
 use std::io::{ErrorKind, Read, Write};
@@ -53,16 +54,14 @@ impl<'a> Source for Script<'a> {
     fn has_failed(&self) -> bool {
         self.failed
     }
-
-    fn cause(&self) -> Option<ErrorKind> {
-        None
-    }
 }
 
-// Holds the bytes that it has room for, of which it takes two at most in a call, and flushes or syncs so many times.
+// Holds the bytes that it has room for, of which it takes two at most in a call, and flushes so many times.
 #[derive(Drop)]
 pub(crate) struct Shelf {
-    pub(crate) bytes: Vec<u8>,
+    // What it held when it was flushed last, and what was put since.
+    flushed: Vec<u8>,
+    unflushed: Vec<u8>,
     room: usize,
     flushes: usize,
     // What it answers where there is no room: `Some(0)` or `None`.
@@ -75,22 +74,34 @@ impl Shelf {
         ensures { result.failed ≡ false }
     {
         Shelf {
-            bytes: Vec::new(alloc),
+            flushed: Vec::new(alloc),
+            unflushed: Vec::new(alloc),
             room,
             flushes,
             counts,
             failed: false,
         }
     }
+
+    // All that it holds, and how much of that is flushed.
+    pub(crate) fn into_held(self) -> Result<(Vec<u8>, usize), Fail> {
+        let mut held = self.flushed;
+        let flushed = held.len();
+        held.extend_from_slice(&self.unflushed)?;
+        Ok((held, flushed))
+    }
 }
 
-impl Shelf {
-    fn take(&mut self, bytes: &[u8]) -> Option<usize>
-        ensures bytes { Puts (Some self.old.bytes.items) (Some self.new.bytes.items) result bytes.now }
-        ensures failed { self.new.failed ≡ (self.old.failed || is_refusal result) }
-    {
+impl Sink for Shelf {
+    ghost held = { λ s. Some (s.flushed.items ++ s.unflushed.items) };
+
+    ghost flushed = { λ s. Some s.flushed.items };
+
+    ghost failed = { λ s. s.failed };
+
+    fn put(&mut self, bytes: &[u8]) -> Option<usize> {
         let count = bytes.len().min(2).min(self.room);
-        if count == 0 || self.bytes.extend_from_slice(&bytes[..count]).is_err() {
+        if count == 0 || self.unflushed.extend_from_slice(&bytes[..count]).is_err() {
             self.failed = true;
             return if self.counts { Some(0) } else { None };
         }
@@ -98,87 +109,21 @@ impl Shelf {
         Some(count)
     }
 
-    fn is_flushed(&mut self) -> bool
-        ensures bytes { self.new.bytes ≡ self.old.bytes }
-        ensures failed { self.new.failed ≡ (self.old.failed || not result) }
-    {
-        if self.flushes == 0 {
+    fn flush(&mut self) -> bool {
+        if self.flushes == 0 || self.flushed.extend_from_slice(&self.unflushed).is_err() {
             self.failed = true;
             return false;
         }
+        self.unflushed.clear();
         self.flushes -= 1;
         true
     }
-}
-
-impl Sink for Shelf {
-    ghost held = { λ s. Some s.bytes.items };
-
-    ghost failed = { λ s. s.failed };
-
-    fn put(&mut self, bytes: &[u8]) -> Option<usize> {
-        self.take(bytes)
-    }
-
-    fn flush(&mut self) -> bool {
-        self.is_flushed()
-    }
 
     fn has_failed(&self) -> bool {
         self.failed
     }
 
-    fn cause(&self) -> Option<ErrorKind> {
-        None
-    }
-}
-
-// As a journal's end, of which nothing is known: a drive appends to it, and syncs it.
-impl Store for Shelf {
-    ghost seen = { λ s. None };
-
-    ghost may_leave = { λ s c. ⊤ };
-
-    ghost moment = { λ s. 0 };
-
-    ghost left_since = { λ s t c. ⊤ };
-
-    ghost failed = { λ s. s.failed };
-
-    ghost counts_now = { λ s t c le may. tt };
-
-    ghost only_now = { λ s c left. tt };
-
-    fn read(&mut self, _alloc: Global, _limit: usize) -> Result<Vec<u8>, StoreFault> {
-        self.failed = true;
-        Err(StoreFault::Failed)
-    }
-
-    fn append(&mut self, bytes: &[u8]) -> Option<usize> {
-        self.take(bytes)
-    }
-
-    fn cut(&mut self, _len: usize) -> bool {
-        self.failed = true;
-        false
-    }
-
-    fn replace(&mut self, _bytes: &[u8]) -> bool {
-        self.failed = true;
-        false
-    }
-
-    fn sync(&mut self) -> bool {
-        self.is_flushed()
-    }
-
-    fn has_failed(&self) -> bool {
-        self.failed
-    }
-
-    fn cause(&self) -> Option<&str> {
-        None
-    }
+    ghost flushed_is_held = { λ s. (s.unflushed.items, refl) };
 }
 
 // How many bytes of each stream go well, and how many flushes.
@@ -215,6 +160,8 @@ pub(crate) struct Left {
     pub(crate) taken: usize,
     pub(crate) link: Vec<u8>,
     pub(crate) journal: Vec<u8>,
+    // How many bytes of the journal are flushed.
+    pub(crate) flushed: usize,
     pub(crate) out: Vec<u8>,
     // Whether the answers, the link, the journal and the replies failed.
     pub(crate) failed: [bool; 4],
@@ -237,6 +184,7 @@ impl Left {
             && self.taken == wanted.taken
             && self.link.as_slice() == wanted.link
             && self.journal.as_slice() == wanted.journal
+            && (self.fault == Some(DriveFault::Journal) || self.flushed == self.journal.len())
             && self.out.as_slice() == wanted.out
             && self.failed == wanted.failed
     }
@@ -283,7 +231,7 @@ pub(crate) fn drive_from(
         &mut journal_out,
         &mut out,
     );
-    Ok(left_of(driven.err(), answers, link_in, link_out, journal_out, out))
+    left_of(driven.err(), answers, link_in, link_out, journal_out, out)
 }
 
 // Follows what a source gives with a writer that goes on from what a file holds.
@@ -299,16 +247,14 @@ pub(crate) fn follow_from<G: Orders + Drop>(
     let mut link_out = Shelf::new(alloc, good.link, good.link_flushes, good.counts);
     let mut journal_out = Shelf::new(alloc, good.journal, good.journal_flushes, good.counts);
     let mut out = Shelf::new(alloc, good.out, 0, good.counts);
-    let followed = follow(
-        Writer::new(journal),
-        orders,
-        &mut link_in,
-        &mut link_out,
-        &mut journal_out,
-        &mut out,
-        &mut Nobody,
-    );
-    Ok(left_of(followed.err(), answers, link_in, link_out, journal_out, out))
+    let mut desk = LentSinks {
+        link_in: &mut link_in,
+        link_out: &mut link_out,
+        journal: &mut journal_out,
+        out: &mut out,
+    };
+    let followed = follow(Writer::new(journal), orders, &mut desk, &mut Nobody);
+    left_of(followed.err(), answers, link_in, link_out, journal_out, out)
 }
 
 // What stands in the streams, and what was taken of these answers.
@@ -319,21 +265,25 @@ fn left_of(
     link_out: Shelf,
     journal_out: Shelf,
     out: Shelf,
-) -> Left {
+) -> Result<Left, Fail> {
     let failed = [
         link_in.failed,
         link_out.failed,
         journal_out.failed,
         out.failed,
     ];
-    Left {
+    let (link, _) = link_out.into_held()?;
+    let (journal, flushed) = journal_out.into_held()?;
+    let (out, _) = out.into_held()?;
+    Ok(Left {
         fault,
         taken: answers.len().saturating_sub(link_in.bytes.len()),
-        link: link_out.bytes,
-        journal: journal_out.bytes,
-        out: out.bytes,
+        link,
+        journal,
+        flushed,
+        out,
         failed,
-    }
+    })
 }
 
 // A reader and writer whose first calls fail so. Then it gives and takes at most so many bytes in a call.

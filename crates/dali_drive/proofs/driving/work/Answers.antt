@@ -1,8 +1,8 @@
 use Rattle.std.proofs.Common.{[], ◌++◌, refl}
 use Rattle.std.proofs.lemmas.Result.{err_from_is_err_and}
 use Rattle.std.proofs.KnownBytes.{Appends-nil}
-use Rattle.dali_drive.proofs.WorkLemmas.{works_on, breaks_on}
-use Rattle.dali_drive.proofs.StoreLemmas.{untouched, then_on, none_more, more_of}
+use Rattle.dali_drive.proofs.WorkLemmas.{works_on, breaks_on, leaving_less}
+use Rattle.dali_drive.proofs.DeskLemmas.{still, grows_on}
 use Rattle.dali_drive.proofs.driving.work.Goals as goal
 
 pub loop-preserved : goal.loop-preserved
@@ -11,16 +11,11 @@ loop-preserved g c = record {
       let before = c.loop.invariant.worked start past first since d told in
       works_on start past [] [] first _ _ _ _ before _ _ _
       (c.in_ok-advance.ensures.worked start (before.more ++ past) first since before.driven_at before.told_all);
-  journal = c.in_ok-advance.ensures.ok.0;
-  settled = c.in_ok-advance.ensures.settled;
-  grown = more_of _ _ _ c.loop.invariant.grown c.in_ok-advance.ensures.grown;
-  moments =
-      then_on g.J.Store.seen g.J.Store.may_leave g.J.Store.moment g.J.Store.left_since _ _ _
-      c.loop.invariant.grown c.in_ok-advance.ensures.grown c.loop.invariant.moments
-      c.in_ok-advance.ensures.any_moment;
-  link_out = c.in_ok-advance.ensures.ok.1;
-  link_in = c.in_ok-advance.ensures.ok.2;
-  out = c.in_ok-advance.ensures.ok.3;
+  unfailed = c.in_ok-advance.ensures.ends.0;
+  settles = λ settled. c.in_ok-advance.ensures.ends.1 (c.loop.invariant.settles settled);
+  grown = grows_on g.D.Desk.look g.D.Desk.moment g.D.Desk.left_since g.D.Desk.same g.met.D.Desk.same_on _ _ _
+      c.loop.invariant.grown c.loop.invariant.settles
+      c.in_ok-advance.ensures.grown;
 }
 
 pub returns-clause-worked : goal.returns-clause-worked
@@ -35,7 +30,8 @@ returns-in_err-advance-clause-worked g c = λ start past first since d told.
     let next =
     c.in_err-advance.ensures.worked start (before.more ++ past) first since before.driven_at before.told_all in
     let p = err_from_is_err_and c.from_residual.result c.from_residual.ensures.1 in
-    rw (p.1, p.2) (breaks_on start past [] [] first _ _ _ _ before _ _ _ _ _ next)
+    rw (p.1, p.2) (breaks_on start past [] [] first _ _ _ _ before _ _ _ _ _
+    (leaving_less _ _ _ _ _ _ _ _ _ _ _ (λ d left. (c.loop.invariant.settles left.0, left.1)) next))
 
 pub loop-init : goal.loop-init
 loop-init g c = record {
@@ -43,31 +39,23 @@ loop-init g c = record {
     more = [];
     driven_at = d;
     asked = refl;
-    said = Appends-nil (g.O.Sink.held c.args.out.now);
+    said = Appends-nil (g.D.Desk.look c.args.desk.now).streams.out;
     told_all = told;
   };
-  journal = c.requires.journal;
-  settled = c.requires.settled;
-  grown = none_more (g.J.Store.seen c.args.journal_out.now);
-  moments = untouched g.J.Store.seen g.J.Store.may_leave g.J.Store.moment g.J.Store.left_since c.args.journal_out.now
-      c.requires.settled (g.met.J.Store.only_now c.args.journal_out.now);
-  link_out = c.requires.link_out;
-  link_in = c.requires.link_in;
-  out = c.requires.out;
+  unfailed = c.requires.unfailed;
+  settles = λ settled. settled;
+  grown = still g.D.Desk.look g.D.Desk.moment g.D.Desk.left_since g.D.Desk.same c.args.desk.now
+      (g.met.D.Desk.only_now c.args.desk.now) (g.met.D.Desk.same_now c.args.desk.now);
 }
 
 pub returns-clause-grown : goal.returns-clause-grown
-returns-clause-grown g c = more_of _ _ _ c.loop.invariant.grown c.in_ok-advance.ensures.grown
-
-pub returns-clause-any_moment : goal.returns-clause-any_moment
-returns-clause-any_moment g c =
-    then_on g.J.Store.seen g.J.Store.may_leave g.J.Store.moment g.J.Store.left_since _ _ _
-    c.loop.invariant.grown c.in_ok-advance.ensures.grown c.loop.invariant.moments c.in_ok-advance.ensures.any_moment
+returns-clause-grown g c =
+    grows_on g.D.Desk.look g.D.Desk.moment g.D.Desk.left_since g.D.Desk.same g.met.D.Desk.same_on _ _ _
+    c.loop.invariant.grown c.loop.invariant.settles
+    c.in_ok-advance.ensures.grown
 
 pub returns-in_err-advance-clause-grown : goal.returns-in_err-advance-clause-grown
-returns-in_err-advance-clause-grown g c = more_of _ _ _ c.loop.invariant.grown c.in_err-advance.ensures.grown
-
-pub returns-in_err-advance-clause-any_moment : goal.returns-in_err-advance-clause-any_moment
-returns-in_err-advance-clause-any_moment g c =
-    then_on g.J.Store.seen g.J.Store.may_leave g.J.Store.moment g.J.Store.left_since _ _ _
-    c.loop.invariant.grown c.in_err-advance.ensures.grown c.loop.invariant.moments c.in_err-advance.ensures.any_moment
+returns-in_err-advance-clause-grown g c =
+    grows_on g.D.Desk.look g.D.Desk.moment g.D.Desk.left_since g.D.Desk.same g.met.D.Desk.same_on _ _ _
+    c.loop.invariant.grown c.loop.invariant.settles
+    c.in_err-advance.ensures.grown

@@ -1,7 +1,7 @@
 use Rattle.std.proofs.Common.{[], ◌∷◌, refl, inl, inr, arith}
 use Rattle.std.proofs.lemmas.Result.{err_from_is_err_and}
-use Rattle.dali_drive.proofs.FollowLemmas.{begins, begins_broken}
-use Rattle.dali_drive.proofs.StoreLemmas.{then_on, more_of}
+use Rattle.dali_drive.proofs.FollowLemmas.{begins, begins_broken, breaks_less}
+use Rattle.dali_drive.proofs.DeskLemmas.{grows_on}
 use Rattle.dali_drive.proofs.following.follow_all.Goals as goal
 
 pub loop-init : goal.loop-init
@@ -14,13 +14,9 @@ loop-init g c =
       follow = begun.0;
       told = begun.1;
       rests = c.in_ok-begin.ensures.rests;
-      journal = c.in_ok-begin.ensures.ok.0;
-      settled = c.in_ok-begin.ensures.settled;
+      unfailed = c.in_ok-begin.ensures.ends.0;
+      settles = c.in_ok-begin.ensures.ends.1;
       grown = c.in_ok-begin.ensures.grown;
-      moments = c.in_ok-begin.ensures.any_moment;
-      link_out = c.in_ok-begin.ensures.ok.1;
-      link_in = c.in_ok-begin.ensures.ok.2;
-      out = c.in_ok-begin.ensures.ok.3;
     }
 
 pub returns-in_err-begin-clause-broken : goal.returns-in_err-begin-clause-broken
@@ -50,14 +46,14 @@ returns-in_err-take-clause-broken g c =
     rw (p.1, p.2) (record {
       given = c.in-Some.given ∷ i.given;
       gave_all = c.in-Some.ensures.given c.args.orders.now i.given i.gave;
-      breaks = broken;
+      breaks = breaks_less _ _ _ _ _ _ _ _ _ (λ d left. (i.settles left.0, left.1)) broken;
     })
 
-pub returns-in_err-take-clause-any_moment : goal.returns-in_err-take-clause-any_moment
-returns-in_err-take-clause-any_moment g c =
-    let i = c.loop.invariant in
-    then_on g.J.Store.seen g.J.Store.may_leave g.J.Store.moment g.J.Store.left_since _ _ _ i.grown
-    c.in_err-take.ensures.grown i.moments c.in_err-take.ensures.any_moment
+pub returns-in_err-take-clause-grown : goal.returns-in_err-take-clause-grown
+returns-in_err-take-clause-grown g c =
+    grows_on g.D.Desk.look g.D.Desk.moment g.D.Desk.left_since g.D.Desk.same g.met.D.Desk.same_on _ _ _
+    c.loop.invariant.grown c.loop.invariant.settles
+    c.in_err-take.ensures.grown
 
 pub loop-preserved : goal.loop-preserved
 loop-preserved g c =
@@ -70,14 +66,11 @@ loop-preserved g c =
       follow = next.0;
       told = next.1;
       rests = c.in_ok-take.ensures.rests;
-      journal = c.in_ok-take.ensures.ok.0;
-      settled = c.in_ok-take.ensures.settled;
-      grown = more_of _ _ _ i.grown c.in_ok-take.ensures.grown;
-      moments = then_on g.J.Store.seen g.J.Store.may_leave g.J.Store.moment g.J.Store.left_since _ _ _ i.grown
-          c.in_ok-take.ensures.grown i.moments c.in_ok-take.ensures.any_moment;
-      link_out = c.in_ok-take.ensures.ok.1;
-      link_in = c.in_ok-take.ensures.ok.2;
-      out = c.in_ok-take.ensures.ok.3;
+      unfailed = c.in_ok-take.ensures.ends.0;
+      settles = λ settled. c.in_ok-take.ensures.ends.1 (i.settles settled);
+      grown = grows_on g.D.Desk.look g.D.Desk.moment g.D.Desk.left_since g.D.Desk.same g.met.D.Desk.same_on _ _ _
+          i.grown i.settles
+          c.in_ok-take.ensures.grown;
     }
 
 pub returns-clause-followed : goal.returns-clause-followed

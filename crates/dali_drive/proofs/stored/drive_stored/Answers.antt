@@ -1,20 +1,23 @@
-use Rattle.std.proofs.lemmas.Result.{IfOk-weaker, IfErr-weaker}
+use Rattle.std.proofs.Common.{None}
 use Rattle.std.specs.Prelude.{⊤}
 use Rattle.dali_drive.specs.declared.observer.Nobody.{Nobody}
 use Rattle.dali_drive.specs.Driven.{at_moment}
-use Rattle.dali_drive.proofs.ObservedLemmas.{drive_of, end_of}
+use Rattle.dali_drive.proofs.ListedDriveLemmas.{behind_driven, behind_broken, stored_drive, stored_end}
 use Rattle.dali_drive.proofs.stored.drive_stored.Goals as goal
 
-pub returns-clause-driven : goal.returns-clause-driven
-returns-clause-driven g c =
-    IfOk-weaker c.drive_stored_observed.result _ _
-    (λ writer is. drive_of {B = Nobody} (λ _ _ _ _. ⊤) (λ _ _ _ _ _ _ _. ⊤) c.args.limit c.args.most
-    (at_moment c.args.moment c.args.orders.now) _ _ _ _ writer is)
-    c.drive_stored_observed.ensures.driven
+pub returns-in-Ok-clause-driven : goal.returns-in-Ok-clause-driven
+returns-in-Ok-clause-driven g c =
+    stored_drive {B = Nobody} (λ _ _ _ _. ⊤) c.args.limits.orders c.args.limits.bytes
+    (at_moment c.args.moment c.args.orders.now) _ _ _ _ c.in-Ok.writer
+    (behind_driven (λ _ _ _ _. ⊤) (λ _ _ _ _ _ _ _. ⊤) None c.args.limits.orders c.args.limits.bytes c.args.orders.now
+    c.args.moment c.new-listed.result c.new-listed.ensures.state _ _ _ _ _ c.new-listed.ensures.few c.in-Ok.writer
+    c.in-Ok.ensures.followed)
 
-pub returns-clause-broken : goal.returns-clause-broken
-returns-clause-broken g c =
-    IfErr-weaker c.drive_stored_observed.result _ _
-    (λ fault is. end_of {B = Nobody} (λ _ _ _ _. ⊤) (λ _ _ _ _ _ _ _. ⊤) c.args.limit c.args.most
-    (at_moment c.args.moment c.args.orders.now) _ _ _ _ _ _ fault is)
-    c.drive_stored_observed.ensures.broken
+pub returns-in-Err-Drive-clause-broken : goal.returns-in-Err-Drive-clause-broken
+returns-in-Err-Drive-clause-broken g c =
+    stored_end {B = Nobody} (λ _ _ _ _. ⊤) (λ _ _ _ _ _ _ _. ⊤) c.args.limits.orders c.args.limits.bytes
+    (at_moment c.args.moment c.args.orders.now) (g.D.Desk.look c.args.desk.now)
+    (g.D.Desk.look c.follow_stored.new.desk) _ _ c.in-Err-Drive.fault
+    (behind_broken (λ _ _ _ _. ⊤) (λ _ _ _ _ _ _ _. ⊤) None c.args.limits.orders c.args.limits.bytes c.args.orders.now
+    c.args.moment c.new-listed.result c.new-listed.ensures.state _ _ _ _ _ _ c.in-Err-Drive.fault
+    (rw c.in-Err-Drive.field-0-is at c.in-Err-Drive.ensures.broken))

@@ -6,6 +6,7 @@ abbrev pub invariant-loop-done : goal.invariant-loop-done
 invariant-loop-done g l = record {
   within : l.done ≤ length l.bytes;
   bytes : Appends (g.S.Sink.held l.fn.sink) (g.S.Sink.held l.sink) (take l.done l.bytes);
+  unflushed : g.S.Sink.flushed l.sink ≡ g.S.Sink.flushed l.fn.sink;
   failed : g.S.Sink.failed l.sink ≡ g.S.Sink.failed l.fn.sink;
 }
 

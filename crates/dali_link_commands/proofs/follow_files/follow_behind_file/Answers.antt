@@ -1,22 +1,23 @@
 use Rattle.std.proofs.Common.{inl}
-use Rattle.dali_drive.specs.StdStreams.{source_failed}
+use Rattle.dali_drive.specs.Desks.{Look}
+use Rattle.dali_drive.specs.StdStreams.{source_left, source_failed}
+use Rattle.dali_link_commands.specs.Benches.{std_bench}
+use Rattle.dali_link_commands.specs.BehindAnswers.{IsLinesBehind}
+use Rattle.dali_link_commands.specs.LinkCommands.{file_contents}
 use Rattle.dali_link_commands.proofs.FollowLemmas.{new_are_unread}
+use Rattle.dali_link_commands.proofs.ReadLemmas.{kept_journal}
 use Rattle.dali_link_commands.proofs.follow_files.follow_behind_file.Goals as goal
 
-pub returns-in-Some-clause-followed : goal.returns-in-Some-clause-followed
-returns-in-Some-clause-followed g c = rw c.in-Some.is (inl (
-  c.new-orders.result,
-  c.follow_lines_behind.new.orders,
-  new_are_unread source_failed c.new.result c.args.terms.moment c.new-orders.result c.new-orders.ensures
-      c.new.ensures.failed,
-  c.follow_lines_behind.ensures.answer,
-))
-
 pub returns-in-Ok-clause-followed : goal.returns-in-Ok-clause-followed
-returns-in-Ok-clause-followed g c = rw c.in-None.is (inl (
+returns-in-Ok-clause-followed g c = inl (
   c.new-orders.result,
   c.follow_lines.new.orders,
-  new_are_unread source_failed c.new.result c.args.terms.moment c.new-orders.result c.new-orders.ensures
+  new_are_unread source_failed c.new.result c.args.task.moment c.new-orders.result c.new-orders.ensures
       c.new.ensures.failed,
-  c.follow_lines.ensures.answer,
-))
+  kept_journal g.L.Write.contents g.I.Read.remaining g.O.Write.contents c.args.desk.now c.keep_journal.new.self
+      (λ (first : Look). IsLinesBehind (source_left file_contents) source_failed g.N.Write.contents c.args.older
+      c.args.task.require_done c.args.report.now c.follow_lines.new.report c.new-orders.result
+      c.follow_lines.new.orders first c.follow_lines.result
+      (std_bench g.L.Write.contents g.I.Read.remaining g.O.Write.contents c.follow_lines.new.desk))
+      c.keep_journal.ensures c.follow_lines.ensures.answer,
+)

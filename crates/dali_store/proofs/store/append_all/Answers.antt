@@ -8,13 +8,13 @@ use Rattle.dali_store.proofs.store.append_all.Goals as goal
 pub loop-done-init : goal.loop-done-init
 loop-done-init g c =
     let old = c.args.store.now in
-    let stop = settled_between (g.S.Store.seen old) (g.S.Store.may_leave old) c.requires.settled in
+    let stop = settled_between (g.S.Store.seen old) (g.S.Store.may_leave old) in
     record {
       within = omega arith;
       bytes = Appends-nil (g.S.Store.seen c.args.store.now);
       stop = stop;
-      moments = started g.S.Store.moment g.S.Store.left_since c.args.store.now _
-          (λ d left. stop d (g.met.S.Store.only_now c.args.store.now d left));
+      moments = λ settled. started g.S.Store.moment g.S.Store.left_since c.args.store.now _
+          (λ d left. stop settled d (g.met.S.Store.only_now c.args.store.now d left));
       failed = refl;
     }
 
@@ -26,9 +26,9 @@ loop-done-preserved g c =
           let most = c.in-Some.ensures.bytes.0 in
           let room = i.within in grind (arith, length-take, length-drop);
       bytes = put_more _ _ _ _ _ _ i.bytes put;
-      stop = left_more _ _ _ _ _ _ _ i.bytes put i.stop c.in-Some.ensures.stop;
-      moments = grown g.S.Store.moment g.S.Store.left_since _ _ _ _ _ _ _ _ _ _ i.bytes put i.stop
-          c.in-Some.ensures.stop i.moments c.in-Some.ensures.time;
+      stop = λ settled. left_more _ _ _ _ _ _ _ i.bytes put (i.stop settled) c.in-Some.ensures.stop;
+      moments = λ settled. grown g.S.Store.moment g.S.Store.left_since _ _ _ _ _ _ _ _ _ _ i.bytes put
+          (i.stop settled) c.in-Some.ensures.stop (i.moments settled) c.in-Some.ensures.time;
       failed =
           let h = c.in-Some.ensures.failed in
           let f = i.failed in let n = c.if-count-gt0.true in grind (arith, common_steps);
@@ -37,13 +37,13 @@ loop-done-preserved g c =
 pub returns-in_default-clause-stop : goal.returns-in_default-clause-stop
 returns-in_default-clause-stop g c =
     let i = c.loop-done.invariant in
-    left_more _ _ _ _ _ _ _ i.bytes c.in-Some.ensures.bytes.1 i.stop c.in-Some.ensures.stop
+    λ settled. left_more _ _ _ _ _ _ _ i.bytes c.in-Some.ensures.bytes.1 (i.stop settled) c.in-Some.ensures.stop
 
 pub returns-in_default-clause-any_moment : goal.returns-in_default-clause-any_moment
 returns-in_default-clause-any_moment g c =
     let i = c.loop-done.invariant in
-    grown g.S.Store.moment g.S.Store.left_since _ _ _ _ _ _ _ _ _ _ i.bytes c.in-Some.ensures.bytes.1 i.stop
-    c.in-Some.ensures.stop i.moments c.in-Some.ensures.time
+    λ settled. grown g.S.Store.moment g.S.Store.left_since _ _ _ _ _ _ _ _ _ _ i.bytes c.in-Some.ensures.bytes.1
+    (i.stop settled) c.in-Some.ensures.stop (i.moments settled) c.in-Some.ensures.time
 
 pub returns-in_default-2-clause-cut : goal.returns-in_default-2-clause-cut
 returns-in_default-2-clause-cut g c = λ no.
@@ -57,10 +57,10 @@ returns-in_default-2-clause-cut g c = λ no.
 pub returns-in_default-2-clause-stop : goal.returns-in_default-2-clause-stop
 returns-in_default-2-clause-stop g c =
     let i = c.loop-done.invariant in
-    left_more _ _ _ _ _ _ _ i.bytes c.in_default.ensures.bytes.2 i.stop c.in_default.ensures.stop
+    λ settled. left_more _ _ _ _ _ _ _ i.bytes c.in_default.ensures.bytes.2 (i.stop settled) c.in_default.ensures.stop
 
 pub returns-in_default-2-clause-any_moment : goal.returns-in_default-2-clause-any_moment
 returns-in_default-2-clause-any_moment g c =
     let i = c.loop-done.invariant in
-    grown g.S.Store.moment g.S.Store.left_since _ _ _ _ _ _ _ _ _ _ i.bytes c.in_default.ensures.bytes.2 i.stop
-    c.in_default.ensures.stop i.moments c.in_default.ensures.time
+    λ settled. grown g.S.Store.moment g.S.Store.left_since _ _ _ _ _ _ _ _ _ _ i.bytes c.in_default.ensures.bytes.2
+    (i.stop settled) c.in_default.ensures.stop (i.moments settled) c.in_default.ensures.time

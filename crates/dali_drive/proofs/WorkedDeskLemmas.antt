@@ -1,0 +1,141 @@
+-- What a desk shows and what a stop may leave of it, by hand, and what is near it and isn't so.
+use Rattle.std.proofs.Common.{◌≡◌, refl, subst, arith, ℕ, Bool, true, false, List, [], ◌∷◌, ◌++◌}
+use Rattle.std.proofs.Common.{Some, None, Ok, Err}
+use Rattle.dali_trace.specs.declared.fault.DriveFault.TheVariants as faults
+use Rattle.dali_drive.specs.Desks.{Look, look_of, failures, Settled, EndsAs, LeavesSince, LeavesPut}
+use Rattle.dali_drive.specs.LentSinks.{SinkLeaves, SinkLeft}
+use Rattle.dali_drive.specs.Streams.{Flushes, IsPart}
+use Rattle.dali_drive.specs.Transcript.{shown}
+
+-- What a flush does
+
+pub flushed_all : Flushes true (Some (1 ∷ 2 ∷ [])) (Some (1 ∷ [])) (Some (1 ∷ 2 ∷ []))
+flushed_all = refl
+
+pub flushed_no_less : Flushes true (Some (1 ∷ 2 ∷ [])) (Some (1 ∷ [])) (Some (1 ∷ [])) → ⊥
+flushed_no_less flushes = cc
+
+pub failed_flush_flushes_nothing : Flushes false (Some (1 ∷ 2 ∷ [])) (Some (1 ∷ [])) (Some (1 ∷ []))
+    × (Flushes false (Some (1 ∷ 2 ∷ [])) (Some (1 ∷ [])) (Some (1 ∷ 2 ∷ [])) → ⊥)
+failed_flush_flushes_nothing = (refl, λ flushes. cc)
+
+-- where it is never told, it isn't told then
+pub untold_flush : Flushes true (Some (1 ∷ [])) None None × (Flushes true (Some (1 ∷ [])) None (Some (1 ∷ [])) → ⊥)
+untold_flush = (refl, λ flushes. cc)
+
+-- What is flushed of a sink
+
+pub parts : IsPart (Some []) (Some (1 ∷ [])) × IsPart (Some (1 ∷ [])) (Some (1 ∷ 2 ∷ []))
+    × IsPart (Some (1 ∷ [])) (Some (1 ∷ []))
+parts = ((1 ∷ [], refl), (2 ∷ [], refl), ([], refl))
+
+pub untold_is_part : IsPart None (Some (1 ∷ [])) × IsPart None None
+untold_is_part = (tt, tt)
+
+pub more_isnt_part : IsPart (Some (1 ∷ 2 ∷ [])) (Some (1 ∷ [])) → ⊥
+more_isnt_part (rest, is) = cc
+
+pub end_isnt_part : IsPart (Some (2 ∷ [])) (Some (1 ∷ 2 ∷ [])) → ⊥
+end_isnt_part (rest, is) = cc
+
+pub told_isnt_part_of_untold : IsPart (Some (1 ∷ [])) None → ⊥
+told_isnt_part_of_untold part = part
+
+-- What a stop leaves of a sink
+
+pub each_part_left : SinkLeaves (Some (1 ∷ [])) (Some (1 ∷ 2 ∷ 3 ∷ [])) (1 ∷ [])
+    × SinkLeaves (Some (1 ∷ [])) (Some (1 ∷ 2 ∷ 3 ∷ [])) (1 ∷ 2 ∷ [])
+    × SinkLeaves (Some (1 ∷ [])) (Some (1 ∷ 2 ∷ 3 ∷ [])) (1 ∷ 2 ∷ 3 ∷ [])
+each_part_left = (([], 2 ∷ 3 ∷ [], refl, refl), (2 ∷ [], 3 ∷ [], refl, refl), (2 ∷ 3 ∷ [], [], refl, refl))
+
+pub flushed_is_left : SinkLeaves (Some (1 ∷ [])) (Some (1 ∷ 2 ∷ 3 ∷ [])) [] → ⊥
+flushed_is_left (more, rest, front, whole) = cc
+
+pub no_hole_left : SinkLeaves (Some (1 ∷ [])) (Some (1 ∷ 2 ∷ 3 ∷ [])) (1 ∷ 3 ∷ []) → ⊥
+no_hole_left (more, rest, front, whole) = cc
+
+pub no_more_left_than_held : SinkLeaves (Some (1 ∷ [])) (Some (1 ∷ 2 ∷ [])) (1 ∷ 2 ∷ 3 ∷ []) → ⊥
+no_more_left_than_held (more, rest, front, whole) = cc
+
+-- before two bytes were flushed one of them might have been left alone
+pub might_have_been_left : SinkLeft (Some (1 ∷ 2 ∷ [])) (Some (1 ∷ 2 ∷ 3 ∷ [])) 1 (1 ∷ [])
+    × SinkLeft (Some (1 ∷ 2 ∷ [])) (Some (1 ∷ 2 ∷ 3 ∷ [])) 2 (1 ∷ 2 ∷ [])
+might_have_been_left = ((omega arith, (2 ∷ 3 ∷ [], refl)), (omega arith, (3 ∷ [], refl)))
+
+pub no_less_was_left : SinkLeft (Some (1 ∷ 2 ∷ [])) (Some (1 ∷ 2 ∷ 3 ∷ [])) 2 (1 ∷ []) → ⊥
+no_less_was_left left = omega (arith, left.0)
+
+pub no_other_was_left : SinkLeft (Some (1 ∷ 2 ∷ [])) (Some (1 ∷ 2 ∷ 3 ∷ [])) 0 (2 ∷ []) → ⊥
+no_other_was_left (least, (rest, is)) = cc
+
+-- How a desk stands
+
+-- its journal shows these bytes, of which a stop leaves all, or those that were flushed
+abbrev desk_of : List ℕ → List ℕ → Bool → Look
+desk_of flushed held failed =
+    look_of (shown (Some held) (Some []) (Some []) (Some [])) (failures failed false false false)
+    (SinkLeaves (Some flushed) (Some held))
+
+abbrev all_flushed : Look
+all_flushed = desk_of (1 ∷ []) (1 ∷ []) false
+
+abbrev one_unflushed : Look
+one_unflushed = desk_of (1 ∷ []) (1 ∷ 2 ∷ []) false
+
+abbrev journal_failed : Look
+journal_failed = desk_of (1 ∷ []) (1 ∷ 2 ∷ []) true
+
+pub all_settled : Settled all_flushed
+all_settled c (more, rest, front, whole) = by more rest front whole where
+  by : (more rest : List ℕ) → c ≡ 1 ∷ more → 1 ∷ [] ≡ c ++ rest → c ≡ 1 ∷ []
+  by [] rest front whole = front
+  by (a ∷ more) rest front whole =
+      let long : 1 ∷ [] ≡ (1 ∷ a ∷ more) ++ rest = subst (λ (b : List ℕ). 1 ∷ [] ≡ b ++ rest) front whole in absurd cc
+
+pub unflushed_isnt_settled : Settled one_unflushed → ⊥
+unflushed_isnt_settled settled = let lost = settled (1 ∷ []) ([], 2 ∷ [], refl, refl) in cc
+
+-- what came to its end
+pub ended_settled : EndsAs {A = ℕ} (Ok 0) all_flushed all_flushed
+ended_settled = ((refl, refl, refl, refl), λ settled. settled)
+
+pub unsettled_isnt_ended : EndsAs {A = ℕ} (Ok 0) all_flushed one_unflushed → ⊥
+unsettled_isnt_ended ends = unflushed_isnt_settled (ends.1 all_settled)
+
+pub failed_isnt_ended : EndsAs {A = ℕ} (Ok 0) one_unflushed journal_failed → ⊥
+failed_isnt_ended ends = let unfailed = ends.0.0 in cc
+
+-- what a fault broke off
+pub ended_failed : EndsAs {A = ℕ} (Err faults.Journal) all_flushed journal_failed
+ended_failed = (refl, refl, refl, refl)
+
+pub unfailed_isnt_broken_off : EndsAs {A = ℕ} (Err faults.Journal) all_flushed one_unflushed → ⊥
+unfailed_isnt_broken_off ends = let failed = ends.0 in cc
+
+pub another_fault_isnt_shown : EndsAs {A = ℕ} (Err faults.Out) all_flushed journal_failed → ⊥
+another_fault_isnt_shown ends = let unfailed = ends.0 in cc
+
+-- what a stop leaves since
+pub left_since_settled : LeavesSince all_flushed one_unflushed (1 ∷ 2 ∷ [])
+left_since_settled = (all_settled, (2 ∷ [], [], refl, refl))
+
+pub no_other_left_since : LeavesSince all_flushed one_unflushed [] → ⊥
+no_other_left_since left = flushed_by left.1 where
+  flushed_by : SinkLeaves (Some (1 ∷ [])) (Some (1 ∷ 2 ∷ [])) [] → ⊥
+  flushed_by (more, rest, front, whole) = cc
+
+pub nothing_told_of_unsettled : LeavesSince one_unflushed all_flushed (1 ∷ []) → ⊥
+nothing_told_of_unsettled left = unflushed_isnt_settled left.0
+
+-- what was put is left behind the rest
+pub put_left : LeavesPut all_flushed one_unflushed
+put_left c left = left.1
+
+-- and no bytes were taken away
+abbrev cut_off : Look
+cut_off = desk_of [] (1 ∷ 2 ∷ []) false
+
+pub rest_isnt_cut_off : LeavesPut all_flushed cut_off → ⊥
+rest_isnt_cut_off left = by (left [] (all_settled, ([], 1 ∷ 2 ∷ [], refl, refl))) where
+  by : SinkLeaves (Some (1 ∷ [])) (Some (1 ∷ 2 ∷ [])) [] → ⊥
+  by (more, rest, front, whole) = cc

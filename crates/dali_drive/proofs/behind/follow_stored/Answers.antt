@@ -1,0 +1,71 @@
+use Rattle.std.proofs.Common.{refl, subst, ℕ}
+use Rattle.dali_drive.specs.Behind.{IsWhole}
+use Rattle.dali_drive.proofs.FollowLemmas.{breaks_less}
+use Rattle.dali_drive.proofs.StoreLemmas.{driven_part}
+use Rattle.dali_drive.proofs.behind.follow_stored.Goals as goal
+
+pub returns-in-Ok-follow-clause-followed : goal.returns-in-Ok-follow-clause-followed
+returns-in-Ok-follow-clause-followed g c = record {
+  behind = record {
+    begun = record {
+      journal = c.in-Ok.own;
+      opened = c.in-Ok.ensures.journal;
+      middle = (g.D.Desk.look c.open.new.self).streams.journal;
+      written = c.in-Ok.ensures.holds;
+    };
+    journal = c.in-Ok-joined.whole;
+    whole = subst (λ (n : ℕ). IsWhole c.args.older n c.in-Ok.own c.in-Ok-joined.whole)
+        c.in-Ok.ensures.journal.found.loaded.0 c.in-Ok-joined.ensures.ok;
+  };
+  observed = rw (c.new.ensures.journal, c.in-Ok.ensures.only) at c.in-Ok-follow.ensures.followed;
+}
+
+pub returns-in-Err-follow-clause-broken : goal.returns-in-Err-follow-clause-broken
+returns-in-Err-follow-clause-broken g c = record {
+  behind = record {
+    begun = record {
+      journal = c.in-Ok.own;
+      opened = c.in-Ok.ensures.journal;
+      middle = (g.D.Desk.look c.open.new.self).streams.journal;
+      written = c.in-Ok.ensures.holds;
+    };
+    journal = c.in-Ok-joined.whole;
+    whole = subst (λ (n : ℕ). IsWhole c.args.older n c.in-Ok.own c.in-Ok-joined.whole)
+        c.in-Ok.ensures.journal.found.loaded.0 c.in-Ok-joined.ensures.ok;
+  };
+  observed =
+      let o = rw (c.new.ensures.journal, c.in-Ok.ensures.only) at c.in-Err-follow.ensures.broken in record {
+        given = o.given;
+        gave_all = o.gave_all;
+        breaks = breaks_less _ _ _ _ _ _ _ _ _ (λ d left. (c.in-Ok.ensures.settled, left)) o.breaks;
+      };
+}
+
+pub returns-in-Err-joined-clause-broken : goal.returns-in-Err-joined-clause-broken
+returns-in-Err-joined-clause-broken g c = record {
+  begun = record {
+    journal = c.in-Ok.own;
+    opened = c.in-Ok.ensures.journal;
+    middle = (g.D.Desk.look c.open.new.self).streams.journal;
+    written = c.in-Ok.ensures.holds;
+  };
+  why = c.in-Err-joined.ensures.err;
+  streams = c.in-Ok.ensures.only;
+  settled = c.in-Ok.ensures.settled;
+  ungiven = refl;
+  untold = refl;
+}
+
+pub returns-in-Ok-follow-clause-any_moment : goal.returns-in-Ok-follow-clause-any_moment
+returns-in-Ok-follow-clause-any_moment g c =
+    driven_part (λ (desk : g.row.D.Denot). (g.D.Desk.look desk).streams.journal)
+    (λ (desk : g.row.D.Denot). (g.D.Desk.look desk).may_leave) g.D.Desk.moment g.D.Desk.left_since
+    c.args.limits.orders c.args.limits.bytes _ _ _ _ c.in-Ok.ensures.journal c.in-Ok.ensures.holds
+    c.in-Ok.ensures.any_moment (c.in-Ok-follow.ensures.grown.leaves c.in-Ok.ensures.settled)
+
+pub returns-in-Err-follow-clause-any_moment : goal.returns-in-Err-follow-clause-any_moment
+returns-in-Err-follow-clause-any_moment g c =
+    driven_part (λ (desk : g.row.D.Denot). (g.D.Desk.look desk).streams.journal)
+    (λ (desk : g.row.D.Denot). (g.D.Desk.look desk).may_leave) g.D.Desk.moment g.D.Desk.left_since
+    c.args.limits.orders c.args.limits.bytes _ _ _ _ c.in-Ok.ensures.journal c.in-Ok.ensures.holds
+    c.in-Ok.ensures.any_moment (c.in-Err-follow.ensures.grown.leaves c.in-Ok.ensures.settled)

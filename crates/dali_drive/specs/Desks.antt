@@ -1,0 +1,85 @@
+-- What a drive works at: a journal, a link there and back, and replies.
+use Rattle.std.specs.Prelude.{◌≡◌, ℕ, Bool, false, List, Result, Ok, Err}
+use Rattle.std.specs.Io.KnownBytes.{Appends}
+use Rattle.dali_store.specs.declared.opening.OpenFault.{OpenFault}
+use Rattle.dali_store.specs.Opened.{is_store_failure}
+use Rattle.dali_store.specs.Stores.{IsSettled, IsBetween, LeavesOnly}
+use Rattle.dali_trace.specs.declared.fault.DriveFault.{DriveFault}
+use Rattle.dali_drive.specs.Driven.{NoneFailed, FailedAs, LeavesBetween}
+use Rattle.dali_drive.specs.Transcript.{Streams}
+
+-- which of its streams have failed
+pub record Failures : Type 0 where
+  pub journal : Bool
+  pub link_out : Bool
+  pub link_in : Bool
+  pub out : Bool
+
+abbrev pub failures : Bool → Bool → Bool → Bool → Failures
+failures journal link_out link_in out =
+    record { journal = journal; link_out = link_out; link_in = link_in; out = out }
+
+-- what there is of it at a moment: what its streams show, which of them have failed, and what a stop may leave of the
+-- journal
+pub record Look : Type 1 where
+  pub streams : Streams
+  pub failed : Failures
+  pub may_leave : List ℕ → Type 0
+
+abbrev pub look_of : Streams → Failures → (List ℕ → Type 0) → Look
+look_of streams failed may_leave = record { streams = streams; failed = failed; may_leave = may_leave }
+
+-- none has failed
+abbrev pub IsUnfailed : Failures → Type 0
+IsUnfailed failed = NoneFailed failed.journal failed.link_out failed.link_in failed.out
+
+-- those have failed that do where this fault comes
+abbrev pub ShowsFault : DriveFault → Failures → Type 0
+ShowsFault fault failed = FailedAs fault failed.journal failed.link_out failed.link_in failed.out
+
+-- and where the journal isn't opened
+abbrev pub FailsOpen : OpenFault → Failures → Type 0
+FailsOpen fault failed =
+    (failed.journal ≡ is_store_failure fault) × (failed.link_out ≡ false) × (failed.link_in ≡ false)
+    × (failed.out ≡ false)
+
+-- a stop leaves just what the journal shows
+abbrev pub Settled : Look → Type 0
+Settled look = IsSettled look.streams.journal look.may_leave
+
+-- none has failed, and where a stop left all it does so now; or those have failed that do where the fault comes
+abbrev pub EndsAs : {A : Type 0} → Result A DriveFault → Look → Look → Type 0
+EndsAs (Ok value) old new = IsUnfailed new.failed × (Settled old → Settled new)
+EndsAs (Err fault) old new = ShowsFault fault new.failed
+
+-- what a stop may leave then, where it left all before
+abbrev pub LeavesSince : Look → Look → List ℕ → Type 0
+LeavesSince old new c = Settled old × new.may_leave c
+
+-- that is what the journal showed, with all or a first part of what was put since
+abbrev pub LeavesPut : Look → Look → Type 0
+LeavesPut old new = LeavesBetween old.streams.journal new.streams.journal (LeavesSince old new)
+
+-- no more may be left than before
+abbrev pub LeavesNoMore : Look → Look → Type 0
+LeavesNoMore old new = (c : List ℕ) → new.may_leave c → old.may_leave c
+
+-- bytes were put behind the journal's, and where a stop left all it leaves that at each moment with a first part of
+-- them; and the streams are the same
+pub record Grows {D : Type 0} (look : D → Look) (moment : D → ℕ) (left_since : D → ℕ → List ℕ → Type 0)
+    (same : D → D → Type 0) (old new : D) : Type 0 where
+  pub more : List ℕ
+  pub grown : Appends (look old).streams.journal (look new).streams.journal more
+  pub leaves : Settled (look old)
+      → LeavesOnly moment left_since old new (IsBetween (look old).streams.journal (look new).streams.journal)
+  pub stays : same old new
+
+-- just the journal, the replies, or the link were written
+abbrev pub with_journal : Streams → Streams → Streams
+with_journal old new = record old { journal = new.journal }
+
+abbrev pub with_out : Streams → Streams → Streams
+with_out old new = record old { out = new.out }
+
+abbrev pub with_link : Streams → Streams → Streams
+with_link old new = record old { link = new.link; answers = new.answers }

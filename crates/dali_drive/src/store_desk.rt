@@ -1,0 +1,57 @@
+// A desk whose journal is in a store.
+ghost use Rattle.std.specs.Prelude.{⊤};
+
+use crate::desk::{Desk, OpenDesk};
+use crate::lines::AnswerText;
+use crate::link::exchange_noting;
+use crate::streams::{Sink, Source, put_all};
+use dali_frame::Frame;
+use dali_journal::Journal;
+use dali_store::{OpenFault, Store, keep, open};
+use dali_trace::DriveFault;
+use std::alloc::Global;
+
+/// A desk whose journal is in a store (profile).
+#[derive(Drop)]
+pub struct StoreDesk<I, L, S, O> {
+    pub link_in: I,
+    pub link_out: L,
+    pub journal: S,
+    pub out: O,
+}
+
+impl<I: Source, L: Sink, S: Store, O: Sink> Desk for StoreDesk<I, L, S, O> {
+    ghost use Rattle.dali_drive.specs.StoreDesks.{store_look};
+
+    ghost look = { store_look S.seen S.failed S.may_leave L.held L.failed I.left I.failed O.held O.failed };
+
+    ghost moment = { λ desk. S.moment desk.journal };
+
+    ghost left_since = { λ desk. S.left_since desk.journal };
+
+    ghost same = { λ _ _. ⊤ };
+
+    fn keep(&mut self, bytes: &[u8]) -> bool {
+        keep(&mut self.journal, bytes)
+    }
+
+    fn exchange(&mut self, frame: &Frame, text: &mut AnswerText) -> Result<Option<u8>, DriveFault> {
+        exchange_noting(frame, &mut self.link_in, &mut self.link_out, text)
+    }
+
+    fn say(&mut self, line: &[u8]) -> bool {
+        put_all(&mut self.out, line)
+    }
+
+    ghost only_now = { λ desk c left. S.only_now desk.journal c left };
+
+    ghost same_now = { λ _. tt };
+
+    ghost same_on = { λ _ _ _ _ _. tt };
+}
+
+impl<I: Source, L: Sink, S: Store, O: Sink> OpenDesk for StoreDesk<I, L, S, O> {
+    fn open(&mut self, alloc: Global, limit: u32, most: usize) -> Result<Journal, OpenFault> {
+        open(alloc, &mut self.journal, limit, most)
+    }
+}

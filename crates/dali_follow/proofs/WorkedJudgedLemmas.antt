@@ -1,0 +1,164 @@
+-- What a line comes to and what it doesn't, and why no more is read, by hand, on both sides of each rule.
+use Rattle.std.proofs.Common.{◌≡◌, refl, ap, inl, inr, ◌-◌, ◌^◌, ℕ, true, false, List, [], ◌∷◌, Some, None, Ok, Err}
+use Rattle.std.proofs.Common.{length, codes, arith}
+use Rattle.serde_json.specs.Data.{Data, null, number, unsigned, object, member, no_members}
+use Rattle.dali_bank.specs.Order.{Contents}
+use Rattle.dali_input.specs.declared.fault.InputFault.{InputFault}
+use Rattle.dali_input.specs.declared.fault.InputFault.TheVariants.{Json, Document, TooBig}
+use Rattle.dali_input.specs.declared.item.ItemFault.TheVariants.{Shape, Key}
+use Rattle.dali_input.specs.Input.{IsJson}
+use Rattle.dali_follow.specs.declared.fault.LineFault.TheVariants.{Input, Item}
+use Rattle.dali_follow.specs.declared.order_lines.OrderLines.{OrderLines}
+use Rattle.dali_follow.specs.declared.reading.LineEnd.TheVariants.{LineFeed, Stream, Broken}
+use Rattle.dali_follow.specs.Judged.{IsNoSubmission, JudgesAt, JudgesValue, JudgesLine}
+use Rattle.dali_follow.specs.Lines.{line_limit}
+use Rattle.dali_follow.specs.Read.{IsBroken, ReadsLine}
+use Rattle.dali_follow.specs.Gave.{IsCut, IsEnd, IsOver, LineGives}
+
+-- ---- what is submitted at a moment
+
+-- what is submitted is read already, so that no fault of the line's JSON is left
+pub no_input_fault_of_an_item : (moment : ℕ) (item : Data) (fault : InputFault)
+    → ¬ JudgesAt moment item (Err (Input fault))
+no_input_fault_of_an_item moment item fault = λ judged. judged
+
+pub no_number_is_a_shape : JudgesAt 5 null (Err (Item Shape))
+no_number_is_a_shape = inl refl
+
+pub no_number_is_no_key : ¬ JudgesAt 5 null (Err (Item Key))
+no_number_is_no_key = λ (id, unit, numbers, known). let some = numbers.order_is in cc
+
+pub not_at_another_moment : (item : Data) (order : Contents) → ¬ JudgesAt 5 item (Ok (order, 6))
+not_at_another_moment item order = λ judged. let same = judged.1 in omega arith
+
+-- ---- a value
+
+abbrev submission_and_steps : Data
+submission_and_steps =
+    object (member (codes "steps") (number (unsigned 9)) (member (codes "submit") null no_members))
+
+pub another_key_refused : JudgesValue 5 submission_and_steps (Err (Input Document))
+another_key_refused = inl ((refl, λ item at is. let only = is.0 in cc), refl)
+
+pub another_key_not_as_an_order : (order : Contents) (at : ℕ) → ¬ JudgesValue 5 submission_and_steps (Ok (order, at))
+another_key_not_as_an_order order at = λ judged. by judged where
+  by : JudgesValue 5 submission_and_steps (Ok (order, at)) → ⊥
+  by (inl (none, is)) = cc
+  by (inr (item, then, submitted, judged)) = let only = submitted.0 in cc
+
+-- a value without the key is an item, whatever it is
+pub item_not_a_document : ¬ JudgesValue 5 null (Err (Input Document))
+item_not_a_document = λ judged. by judged where
+  by : JudgesValue 5 null (Err (Input Document)) → ⊥
+  by (inl (none, is)) = let some = none.0 in cc
+  by (inr (item, at, submitted, judged)) = judged
+
+pub item_refused_as_one : JudgesValue 5 null (Err (Item Shape))
+item_refused_as_one = inr (null, 5, (refl, refl), inl refl)
+
+pub no_value_without_json : (moment : ℕ) (json : Data) → ¬ JudgesValue moment json (Err (Input Json))
+no_value_without_json moment json = λ judged. by judged where
+  by : JudgesValue moment json (Err (Input Json)) → ⊥
+  by (inl (none, is)) = cc
+  by (inr (item, at, submitted, judged)) = judged
+
+-- ---- a line
+
+pub json_not_refused_as_none : (moment : ℕ) (line : List ℕ) (json : Data) → IsJson line_limit line json
+    → ¬ JudgesLine moment line (Err (Input Json))
+json_not_refused_as_none moment line json is_json = λ judged. by judged where
+  by : JudgesLine moment line (Err (Input Json)) → ⊥
+  by (inl (Json, no_json, is)) = let none = no_json.1 is_json.1.0 in let some = is_json.1.1 in cc
+  by (inl (other, no_json, is)) = cc
+  by (inr (value, is_value, judged)) = no_value_without_json moment value judged
+
+pub fitting_not_too_big : (moment : ℕ) (line : List ℕ) → length line ≡ 16384
+    → ¬ JudgesLine moment line (Err (Input TooBig))
+fitting_not_too_big moment line fits = λ judged. by judged where
+  by : JudgesLine moment line (Err (Input TooBig)) → ⊥
+  by (inl (TooBig, no_json, is)) = omega arith
+  by (inl (other, no_json, is)) = cc
+  by (inr (value, is_value, inl (none, is))) = cc
+  by (inr (value, is_value, inr (item, at, submitted, judged))) = judged
+
+pub too_big_not_an_order : (moment at : ℕ) (line : List ℕ) (order : Contents) → length line ≡ 16385
+    → ¬ JudgesLine moment line (Ok (order, at))
+too_big_not_an_order moment at line order long = λ judged. by judged where
+  by : JudgesLine moment line (Ok (order, at)) → ⊥
+  by (inl (fault, no_json, is)) = cc
+  by (inr (value, is_value, judged)) = let fits = is_value.0 in omega arith
+
+pub passed_over_where_blank : LineGives 1 5 (codes " \r") None
+passed_over_where_blank = refl
+
+pub not_passed_over : ¬ LineGives 1 5 (codes " {}") None
+not_passed_over = λ blank. cc
+
+-- ---- a line that is broken off
+
+pub broken_by_a_failure : IsBroken true (codes "ab")
+broken_by_a_failure = inl refl
+
+pub not_broken_at_will : ¬ IsBroken false (codes "ab")
+not_broken_at_will = λ broken. by broken where
+  by : IsBroken false (codes "ab") → ⊥
+  by (inl failed) = cc
+  by (inr long) = omega (arith, long)
+
+-- the length at which one is, and one less
+pub broken_by_its_length : (line : List ℕ) → length line ≡ 2 ^ 64 - 1 → IsBroken false line
+broken_by_its_length line long = inr long
+
+pub one_byte_less_not_broken : (line : List ℕ) → length line ≡ 2 ^ 64 - 2 → ¬ IsBroken false line
+one_byte_less_not_broken line long = λ broken. by broken where
+  by : IsBroken false line → ⊥
+  by (inl failed) = cc
+  by (inr most) = omega (arith, long, most)
+
+pub not_cut_at_will : ¬ IsCut false (codes "a" ∷ []) (codes "a\nb")
+not_cut_at_will = λ cut. by cut (cut.broken) where
+  by : (cut : IsCut false (codes "a" ∷ []) (codes "a\nb")) → IsBroken false cut.begun → ⊥
+  by cut (inl failed) = cc
+  by cut (inr long) = omega (arith, long, ap (length {A = ℕ}) cut.bytes_are)
+
+-- ---- what is taken for a line
+
+pub read_to_its_line_feed : ReadsLine (Some (codes "ab\nc")) (Some (codes "c")) false (codes "ab") LineFeed
+read_to_its_line_feed = refl
+
+pub line_feed_is_taken : ¬ ReadsLine (Some (codes "ab\nc")) (Some (codes "\nc")) false (codes "ab") LineFeed
+line_feed_is_taken = λ taken. cc
+
+pub read_to_the_end : ReadsLine (Some (codes "ab")) (Some []) false (codes "ab") Stream
+read_to_the_end = (refl, refl)
+
+pub no_end_before_the_last_byte : ¬ ReadsLine (Some (codes "ab")) (Some (codes "b")) false (codes "a") Stream
+no_end_before_the_last_byte = λ ended. let none = ended.1 in cc
+
+pub no_break_without_a_failure : ¬ ReadsLine (Some (codes "ab")) (Some []) false (codes "ab") Broken
+no_break_without_a_failure = λ broken. not_broken_at_will broken.1
+
+-- ---- why no more is read
+
+pub ended_behind_a_line_feed : IsEnd (Some []) false (codes "a" ∷ []) (codes "a\n")
+ended_behind_a_line_feed = inl (refl, inl refl)
+
+pub no_end_where_more_is_left : ¬ IsEnd (Some (codes "b\n")) false (codes "a" ∷ []) (codes "a\nb")
+no_end_where_more_is_left = λ ends. by ends where
+  by : IsEnd (Some (codes "b\n")) false (codes "a" ∷ []) (codes "a\nb") → ⊥
+  by (inl ended) = let none = ended.0 in cc
+  by (inr cut) = not_cut_at_will cut
+
+pub over_where_the_stream_is : {R : Type 0} (lines : OrderLines R) → lines.is_over ≡ true → IsOver lines
+over_where_the_stream_is lines is = inl is
+
+pub over_where_no_line_can_be_counted : {R : Type 0} (lines : OrderLines R) → lines.count ≡ 2 ^ 64 - 1
+    → IsOver lines
+over_where_no_line_can_be_counted lines most = inr most
+
+pub not_over_before : {R : Type 0} (lines : OrderLines R) → lines.is_over ≡ false → lines.count ≡ 2 ^ 64 - 2
+    → ¬ IsOver lines
+not_over_before lines goes_on less = λ over. by over where
+  by : IsOver lines → ⊥
+  by (inl is) = cc
+  by (inr most) = omega (arith, less, most)

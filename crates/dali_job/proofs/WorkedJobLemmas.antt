@@ -1,0 +1,163 @@
+-- Which job short command lines ask for, by hand, on both sides of each rule.
+use Rattle.std.proofs.Common.{◌≡◌, ◌∙◌, refl, ap, ℕ, true, false, List, [], ◌∷◌, Option, Some, None, Bor, codes, arith}
+use Rattle.std.proofs.Common.{option_map, subst, get_or}
+use Rattle.std.specs.Prelude.{unwrap_or}
+use Rattle.clap.specs.Words.{Row, Text, all_of, first_of, one_of, subcommand_of}
+use Rattle.clap.proofs.OnLiterals.{clap_on_literals}
+use Rattle.dali_job.specs.declared.job.Job.TheVariants.{Check, Run, Read, Verify, Scan}
+use Rattle.dali_job.specs.Jobs.{HasFlag, HasNumber, HasOption, HasValue, HasValues, IsJobOf, IsNumber, bench_app}
+
+-- ---- a number's text
+
+pub plus_may_stand_before : IsNumber (codes "+63") 63
+plus_may_stand_before =
+    record { numeral = (omega arith, (omega arith, (omega arith, tt))); value = refl; fits = omega arith }
+
+pub no_number_without_a_digit : (number : ℕ) → ¬ IsNumber (codes "+") number
+no_number_without_a_digit number = λ is. omega (arith, is.numeral.0)
+
+pub no_letter_in_a_number : (number : ℕ) → ¬ IsNumber (codes "6a") number
+no_letter_in_a_number number = λ is. omega (arith, is.numeral.1.1.0)
+
+pub no_other_number : ¬ IsNumber (codes "63") 64
+no_other_number = λ is. omega (arith, is.value)
+
+no_6_of_5 : (text : Text) → Some (codes "5") ≡ Some text → ¬ IsNumber text 6
+no_6_of_5 text same = λ is.
+    let five : text ≡ codes "5" = cc in
+    let of_5 : IsNumber (codes "5") 6 = subst (λ t. IsNumber t 6) five is in omega (arith, of_5.value)
+
+-- ---- texts that differ
+
+abbrev first_byte : List Text → ℕ
+first_byte [] = 0
+first_byte (text ∷ texts) = get_or text 0 0
+
+a_is_not_b : (text : Text) → Some (codes "a") ≡ Some text → text ≡ codes "b" → ⊥
+a_is_not_b text same other =
+    let both : codes "a" ≡ codes "b" = cc in
+    let byte : 97 ≡ 98 = ap (λ (t : Text). get_or t 0 0) both in omega (arith, byte)
+
+turned_is_another : codes "a" ∷ codes "b" ∷ [] ≡ codes "b" ∷ codes "a" ∷ [] → ⊥
+turned_is_another turned = let byte : 97 ≡ 98 = ap first_byte turned in omega (arith, byte)
+
+-- ---- what a parse entered
+
+-- the command and the rows of these words
+abbrev entered_by : List Text → Option (Text × List Row)
+entered_by words = subcommand_of bench_app (codes "dali_bench" ∷ words)
+
+abbrev rows_in : Option (Text × List Row) → List Row
+rows_in entered = unwrap_or (option_map (λ (both : Text × List Row). both.1) entered) []
+
+abbrev name_in : Option (Text × List Row) → Text
+name_in entered = unwrap_or (option_map (λ (both : Text × List Row). both.0) entered) []
+
+flag_is : (entered : Option (Text × List Row)) (command id : Text) → HasFlag entered command id
+    → one_of id (rows_in entered) ≡ Some (codes "true")
+flag_is entered command id (rows, is, given) = ap (λ e. one_of id (rows_in e)) is ∙ given
+
+value_is : (entered : Option (Text × List Row)) (command id value : Text) → HasValue entered command id value
+    → first_of id (rows_in entered) ≡ Some value
+value_is entered command id value (rows, is, given) = ap (λ e. first_of id (rows_in e)) is ∙ given
+
+values_are : (entered : Option (Text × List Row)) (command id : Text) (values : List Text)
+    → HasValues entered command id values → unwrap_or (all_of id (rows_in entered)) [] ≡ values
+values_are entered command id values (rows, is, given) =
+    ap (λ e. unwrap_or (all_of id (rows_in e)) []) is ∙ given
+
+-- ---- commands without options
+
+pub scan_asked : IsJobOf (codes "dali_bench" ∷ codes "scan" ∷ []) Scan
+unfolding clap_on_literals
+scan_asked = (rows_in (entered_by (codes "scan" ∷ [])), refl)
+
+pub no_scan_asked_by_check : ¬ IsJobOf (codes "dali_bench" ∷ codes "check" ∷ codes "a" ∷ []) Scan
+unfolding clap_on_literals
+no_scan_asked_by_check = λ (rows, is).
+    let other : codes "check" ≡ codes "scan" = ap name_in is in cc
+
+pub check_asked : (orders : Bor Text) → orders.now ≡ codes "a"
+    → IsJobOf (codes "dali_bench" ∷ codes "check" ∷ codes "a" ∷ []) (Check orders)
+unfolding clap_on_literals
+check_asked orders is = (rows_in (entered_by (codes "check" ∷ codes "a" ∷ [])), refl, rw is refl)
+
+pub no_other_file_checked : (orders : Bor Text) → orders.now ≡ codes "b"
+    → ¬ IsJobOf (codes "dali_bench" ∷ codes "check" ∷ codes "a" ∷ []) (Check orders)
+unfolding clap_on_literals
+no_other_file_checked orders is = λ has.
+    a_is_not_b orders.now
+    (value_is (entered_by (codes "check" ∷ codes "a" ∷ [])) (codes "check") (codes "ORDERS") orders.now has) is
+
+-- ---- a flag
+
+pub frames_asked : HasFlag (entered_by (codes "run" ∷ codes "a" ∷ codes "--frames" ∷ [])) (codes "run") (codes "frames")
+unfolding clap_on_literals
+frames_asked = (rows_in (entered_by (codes "run" ∷ codes "a" ∷ codes "--frames" ∷ [])), refl, refl)
+
+pub no_frames_unasked : ¬ HasFlag (entered_by (codes "run" ∷ codes "a" ∷ [])) (codes "run") (codes "frames")
+unfolding clap_on_literals
+no_frames_unasked = λ has.
+    let given : Some (codes "false") ≡ Some (codes "true") =
+    flag_is (entered_by (codes "run" ∷ codes "a" ∷ [])) (codes "run") (codes "frames") has in cc
+
+pub frames_not_dropped : (scenario : Bor Text)
+    → ¬ IsJobOf (codes "dali_bench" ∷ codes "run" ∷ codes "a" ∷ codes "--frames" ∷ []) (Run scenario false)
+frames_not_dropped scenario = λ is. let given = is.1.1 frames_asked in cc
+
+-- ---- units, options and moments
+
+pub unit_64_not_read : (bank : Bor Text)
+    → ¬ IsJobOf (codes "dali_bench" ∷ codes "read" ∷ codes "64" ∷ codes "b" ∷ []) (Read 64 bank)
+unit_64_not_read bank = λ is. omega (arith, is.0.1)
+
+pub report_not_dropped : (orders : Bor Text)
+    → ¬ IsJobOf (codes "dali_bench" ∷ codes "verify" ∷ codes "a" ∷ codes "--report" ∷ codes "r" ∷ [])
+    (Verify orders None)
+unfolding clap_on_literals
+report_not_dropped orders = λ is.
+    let (rows, entered, none) = is.1 in
+    let left_out : Some (codes "r") ≡ None = ap (λ e. first_of (codes "report") (rows_in e)) entered ∙ none in cc
+
+pub no_report_unasked : (report : Bor Text)
+    → ¬ HasOption (entered_by (codes "verify" ∷ codes "a" ∷ [])) (codes "verify") (codes "report") (Some report)
+unfolding clap_on_literals
+no_report_unasked report = λ has.
+    let given : None ≡ Some report.now =
+    value_is (entered_by (codes "verify" ∷ codes "a" ∷ [])) (codes "verify") (codes "report") report.now has in cc
+
+-- a drive of two files
+abbrev driven : List Text → Option (Text × List Row)
+driven options = entered_by (codes "drive" ∷ codes "o" ∷ codes "j" ∷ options)
+
+pub moment_0_where_none_is_given : HasNumber (driven []) (codes "drive") (codes "moment") 0
+unfolding clap_on_literals
+moment_0_where_none_is_given = (
+  rows_in (driven []),
+  codes "0",
+  refl,
+  refl,
+  record { numeral = (omega arith, (omega arith, tt)); value = refl; fits = omega arith },
+)
+
+pub no_other_moment : ¬ HasNumber (driven (codes "--moment" ∷ codes "5" ∷ [])) (codes "drive") (codes "moment") 6
+unfolding clap_on_literals
+no_other_moment = λ (rows, text, entered, given, is).
+    no_6_of_5 text (ap (λ e. one_of (codes "moment") (rows_in e)) entered ∙ given) is
+
+pub older_in_their_order : HasValues (driven (codes "--older" ∷ codes "a" ∷ codes "--older" ∷ codes "b" ∷ []))
+    (codes "drive") (codes "older") (codes "a" ∷ codes "b" ∷ [])
+unfolding clap_on_literals
+older_in_their_order =
+    (rows_in (driven (codes "--older" ∷ codes "a" ∷ codes "--older" ∷ codes "b" ∷ [])), refl, refl)
+
+pub older_not_turned : ¬ HasValues (driven (codes "--older" ∷ codes "a" ∷ codes "--older" ∷ codes "b" ∷ []))
+    (codes "drive") (codes "older") (codes "b" ∷ codes "a" ∷ [])
+unfolding clap_on_literals
+older_not_turned = λ has. turned_is_another
+    (values_are (driven (codes "--older" ∷ codes "a" ∷ codes "--older" ∷ codes "b" ∷ [])) (codes "drive")
+    (codes "older") (codes "b" ∷ codes "a" ∷ []) has)
+
+pub no_older_unasked : HasValues (driven []) (codes "drive") (codes "older") []
+unfolding clap_on_literals
+no_older_unasked = (rows_in (driven []), refl, refl)

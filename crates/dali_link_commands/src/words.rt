@@ -1,0 +1,43 @@
+// Words for a person on a stream that others read too: plain characters on one line.
+ghost use Rattle.std.specs.Prelude.{◌≡◌, ◌++◌, IfOk, OnOk, IfSome, string_bytes};
+ghost use Rattle.dali_link_commands.specs.Told.{IsPlain, shown_letter, shown_text};
+
+use std::alloc::{AllocError, Global};
+
+/// What was made of words, as it is shown; none where there is no memory for that.
+pub(crate) fn plain_words(alloc: Global, made: Option<String>) -> Option<String>
+    ensures { IfSome result (λ words. IsPlain (string_bytes words)) }
+{
+    let made = made?;
+    shown(alloc, made.as_str()).ok()
+}
+
+/// A text on one line: each of its characters that isn't from 20h to 7Eh by its number.
+pub(crate) fn shown(alloc: Global, text: &str) -> Result<String, AllocError>
+    ensures text { IfOk result (λ words. string_bytes words ≡ shown_text text.now) }
+    ensures plain { IfOk result (λ words. IsPlain (string_bytes words)) }
+{
+    let words = all_shown(alloc, text)?;
+    Ok(words)
+}
+
+fn all_shown(alloc: Global, text: &str) -> Result<String, AllocError>
+    ensures { IfOk result (λ words. string_bytes words ≡ shown_text text.now) }
+{
+    let mut words = String::new(alloc);
+    for letter in text.chars() {
+        push_shown(alloc, &mut words, letter)?;
+    }
+    Ok(words)
+}
+
+fn push_shown(alloc: Global, words: &mut String, letter: char) -> Result<(), AllocError>
+    ensures { OnOk result (string_bytes words.new ≡ string_bytes words.old ++ shown_letter letter) }
+{
+    if (' '..='~').contains(&letter) {
+        return words.push(letter);
+    }
+    let number = u32::from(letter);
+    let told = format!(in alloc; "\\u{{{number:x}}}")?;
+    words.push_str(told.as_str())
+}

@@ -1,0 +1,140 @@
+-- What a report tells of short traces, and what it holds, by hand, on both sides of each rule.
+use Rattle.std.proofs.Common.{◌≡◌, refl, ℕ, true, false, List, [], ◌∷◌, Option, Some, None, length, codes}
+use Rattle.dali_bank.specs.Order.{Contents}
+use Rattle.dali_frame.specs.declared.forward.Frame.{Frame}
+use Rattle.dali_frame.specs.declared.forward.Frame.TheVariants.{AskDtr1, Enable}
+use Rattle.dali_journal.specs.declared.record.Code.TheVariants.{Done, Doubt}
+use Rattle.dali_journal.specs.declared.record.Record.TheVariants.{Began, Opened, Ended}
+use Rattle.dali_trace.specs.declared.fault.DriveFault.{DriveFault}
+use Rattle.dali_trace.specs.declared.happening.Reply.TheVariants as replies
+use Rattle.dali_trace.specs.declared.happening.Happening.{Happening}
+use Rattle.dali_trace.specs.declared.happening.Happening.TheVariants.{Asked, Answered, Sent, Kept}
+use Rattle.dali_trace.specs.Trace.{Start}
+use Rattle.dali_report.specs.declared.report.Report.{Report}
+use Rattle.dali_report.specs.declared.tally.Tally.{Tally}
+use Rattle.dali_report.specs.Lines.{escaped, is_plain}
+use Rattle.dali_report.specs.Reports.{all_done, exchanges, is_ended_now, report_text, resumed, spoken_of}
+use Rattle.dali_report.specs.Tallies.{IsTally}
+use Rattle.dali_report.specs.Told.{HasWritten, IsTold, IsToldEnd, has_failed, report_held, spoken}
+
+-- ---- which order is spoken of, and whether it ended in this drive
+
+abbrev first : Contents
+first = record { id = 1; unit = 5; updates = (0x09, 0x00) ∷ [] }
+
+abbrev second : Contents
+second = record { id = 2; unit = 6; updates = (0x09, 0x01) ∷ [] }
+
+-- a journal of no order, and one that has begun the first
+abbrev new_start : Start
+new_start = record { records = []; limit = 3 }
+
+abbrev begun_start : Start
+begun_start = record { records = Began first 7 ∷ []; limit = 3 }
+
+pub the_newest_is_spoken_of : (spoken_of begun_start (Asked second 0 ∷ []) ≡ Some second)
+    × (spoken_of begun_start [] ≡ Some first)
+the_newest_is_spoken_of = (refl, refl)
+
+pub of_an_ended_order_none_is_resumed :
+    resumed (record { records = Ended Done ∷ Opened 5 ∷ Began first 7 ∷ []; limit = 3 }) ≡ None
+of_an_ended_order_none_is_resumed = refl
+
+pub ended_now : is_ended_now new_start (Kept (Ended Done) ∷ Asked first 0 ∷ []) 1 ≡ true
+ended_now = refl
+
+-- where it was asked again, its end stood before
+pub ended_before : is_ended_now new_start (Asked first 0 ∷ Kept (Ended Done) ∷ Asked first 0 ∷ []) 1 ≡ false
+ended_before = refl
+
+pub resumed_ends_now : is_ended_now begun_start (Asked first 0 ∷ []) 1 ≡ true
+resumed_ends_now = refl
+
+pub no_other_ends_with_it : is_ended_now begun_start (Asked second 0 ∷ []) 2 ≡ false
+no_other_ends_with_it = refl
+
+-- ---- which frames are counted
+
+abbrev sent : Happening
+sent = Sent (Enable 5) None
+
+pub taken_ends_no_count : length (exchanges (sent ∷ Answered 1 replies.Taken ∷ sent ∷ [])) ≡ 2
+taken_ends_no_count = refl
+
+pub last_reply_ends_the_count : length (exchanges (sent ∷ Answered 1 replies.Busy ∷ sent ∷ [])) ≡ 1
+last_reply_ends_the_count = refl
+
+abbrev one_missed : Tally → Type 0
+one_missed tally = IsTally (record { frame = AskDtr1 5; answer = None } ∷ []) tally
+
+pub a_miss_is_counted : (tally : Tally) → one_missed tally → (tally.frames ≡ 1) × (tally.misses ≡ 1)
+a_miss_is_counted tally is = (is.frames, is.misses)
+
+-- ---- which replies are done
+
+pub done_and_taken_are_well : all_done (Answered 1 (replies.Kept Done) ∷ Answered 1 replies.Taken ∷ []) ≡ true
+done_and_taken_are_well = refl
+
+pub one_in_doubt_is_not : all_done (Answered 2 (replies.Kept Done) ∷ Answered 1 (replies.Kept Doubt) ∷ []) ≡ false
+one_in_doubt_is_not = refl
+
+pub taken_has_no_line : report_text new_start (Answered 1 replies.Taken ∷ []) ≡ []
+taken_has_no_line = refl
+
+-- ---- which bytes stand for themselves
+
+pub plain_from_a_space : (is_plain 0x1F ≡ false) × (is_plain 0x20 ≡ true)
+plain_from_a_space = (refl, refl)
+
+pub plain_to_a_tilde : (is_plain 0x7E ≡ true) × (is_plain 0x7F ≡ false)
+plain_to_a_tilde = (refl, refl)
+
+pub backslash_escaped : escaped (codes "1\\\r") ≡ codes "1\\x5C\\x0D"
+backslash_escaped = refl
+
+-- ---- what a report holds
+
+pub want_of_memory_is_a_failure : {W : Type 0} (report : Report W) → report.starved ≡ true
+    → has_failed report ≡ true
+want_of_memory_is_a_failure report starved = rw starved refl
+
+pub no_output_never_fails : {W : Type 0} (report : Report W) → report.starved ≡ false → report.output ≡ None
+    → has_failed report ≡ false
+no_output_never_fails report starved none = rw (starved, none) refl
+
+module _ {W : Type 0} (contents : W → Option (List ℕ)) (first_report now : Report W) where
+  pub good_has_written : has_failed now ≡ false → report_held contents first_report ≡ Some (codes "a")
+      → report_held contents now ≡ Some (codes "a") → ¬ HasWritten contents first_report now (codes "b")
+  good_has_written well held holds = λ written.
+      let put = rw (held, holds) at written.0 well in cc
+
+  pub failed_stays_failed : has_failed first_report ≡ true → has_failed now ≡ false → (text : List ℕ)
+      → ¬ HasWritten contents first_report now text
+  failed_stays_failed failed well text = λ written. let silent = written.1 failed in let stays = silent.0 in cc
+
+  -- and what had failed holds what it held then
+  pub failed_writes_no_more : (text : List ℕ) → HasWritten contents first_report now text
+      → has_failed first_report ≡ true → report_held contents now ≡ report_held contents first_report
+  failed_writes_no_more text written failed =
+      let silent = written.1 failed in rw silent.1 refl
+
+  pub not_done_where_one_is_refused : IsTold contents new_start first_report now (Answered 1 replies.IdReused ∷ [])
+      → now.all_done ≡ false
+  not_done_where_one_is_refused told = told.done_is
+
+  pub done_where_none_is_asked : IsTold contents new_start first_report now [] → now.all_done ≡ true
+  done_where_none_is_asked told = told.done_is
+
+  -- though a drive breaks off behind it
+  pub not_done_though_broken_off : (fault : DriveFault) (frame : Frame) (text : List ℕ)
+      → IsToldEnd contents new_start first_report now (Answered 1 replies.IdReused ∷ []) fault frame text
+      → now.all_done ≡ false
+  not_done_though_broken_off fault frame text told = told.done_is
+
+  pub speaks_of_the_newest : IsTold contents begun_start first_report now (Asked second 0 ∷ [])
+      → (now.spoken ≡ Some (spoken second)) × (now.resumed ≡ Some (spoken first)) × (now.ended ≡ false)
+  speaks_of_the_newest told = (told.spoken_is, told.resumed_is, told.ended_is)
+
+  pub end_is_kept_in_mind : IsTold contents begun_start first_report now (Kept (Ended Done) ∷ [])
+      → now.ended ≡ true
+  end_is_kept_in_mind told = told.ended_is

@@ -22,7 +22,7 @@ use Rattle.dali_drive.specs.Desks.{Look, LeavesSince}
 use Rattle.dali_drive.specs.Transcript.{Streams, said_lines, shown}
 use Rattle.dali_drive.specs.Driven.{orders_asked, IsDriven, LeavesBetween}
 use Rattle.dali_drive.specs.Observed.{IsToldEnd}
-use Rattle.dali_drive.specs.WorkedOn.{IsDrivenAt, HasWorked, HasBroken, WorkedOn}
+use Rattle.dali_drive.specs.WorkedOn.{IsDone, IsDrivenAt, HasWorked, HasBroken, WorkedOn}
 use Rattle.dali_drive.specs.Followed.{Step, happenings, told_lines, given_in, as_given, muted, IsFollowedAt}
 use Rattle.dali_drive.specs.Followed.{IsFollowed, BrokenOrder, BrokenStep, BreaksFollow, GivenOn}
 use Rattle.dali_drive.proofs.DriveLemmas.{IsCut}
@@ -242,7 +242,7 @@ module _ (start : Start) (given : List Given) (first : Streams) (then : WriterSt
   pub order_on : {A : Type 0} (result : Result A DriveFault)
       → WorkedOn start (happenings follow.steps) ((order, moment) ∷ []) (muted first) result writer old new told
       told_end
-      → OnOk result ((s : Start) (past : List Happening) → Describes s past writer → is_busy s past ≡ false)
+      → OnOk result (IsDone writer)
       → GivenOn start (gives.Order order moment ∷ given) first result writer old new told told_end
   order_on (Ok done) worked quiet =
       let at = follows_on start follow.steps given first then old.streams follow.at ((order, moment) ∷ []) writer
@@ -250,7 +250,7 @@ module _ (start : Start) (given : List Given) (first : Streams) (then : WriterSt
         record {
           steps = map Happened worked.more ++ follow.steps;
           at = at;
-          quiet = quiet start (happenings (map Happened worked.more ++ follow.steps)) at.driven_at.described;
+          quiet = quiet.1 start (happenings (map Happened worked.more ++ follow.steps)) at.driven_at.described;
         },
         told_first told worked.more follow.steps worked.told_all,
       )

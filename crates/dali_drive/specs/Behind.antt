@@ -1,15 +1,16 @@
 -- Orders that are followed behind older journals: the records of these stand behind those of the store in one journal,
 -- and the store keeps its own alone.
-use Rattle.std.specs.Prelude.{◌≡◌, ◌+◌, ◌++◌, ℕ, true, false, List, [], Option, Some, None, option_map, drop, length}
+use Rattle.std.specs.Prelude.{◌≡◌, ◌+◌, ◌++◌, ℕ, true, false, List, [], Option, Some, None, IfSome, option_map, drop, length}
 use Rattle.dali_bank.specs.Order.{Contents}
 use Rattle.dali_frame.specs.declared.forward.Frame.{Frame}
 use Rattle.dali_journal.specs.declared.behind.JoinFault.{JoinFault}
 use Rattle.dali_journal.specs.declared.record.Record.{Record}
 use Rattle.dali_journal.specs.declared.version.Version.TheVariants.{Two}
+use Rattle.dali_journal.specs.declared.standing.Standing.TheVariants.{Idle}
 use Rattle.dali_journal.specs.Behind.{IsJoinFault}
 use Rattle.dali_journal.specs.JournalState.{JournalState, AreKept, order_count}
 use Rattle.dali_journal.specs.Orders.{kept_of}
-use Rattle.dali_journal.specs.Sentence.{is_begun}
+use Rattle.dali_journal.specs.Sentence.{is_begun, standing_of}
 use Rattle.dali_journal.specs.Spelling.{header, journal_spelling}
 use Rattle.dali_trace.specs.declared.happening.Happening.{Happening}
 use Rattle.dali_trace.specs.declared.happening.Reply.{Reply}
@@ -37,6 +38,10 @@ pub record IsJoined (older : JournalState) (limit : ℕ) (own whole : JournalSta
 abbrev pub IsWhole : Option JournalState → ℕ → JournalState → JournalState → Type 0
 IsWhole None limit own whole = whole ≡ own
 IsWhole (Some older) limit own whole = IsJoined older limit own whole
+
+-- the older one is at rest, and no stream of the desk has failed
+abbrev pub IsReadyBehind : Option JournalState → Look → Type 0
+IsReadyBehind older look = IfSome older (λ journal. standing_of journal.records ≡ Idle) × IsUnfailed look.failed
 
 -- why they are none together
 abbrev pub IsUnjoined : JoinFault → JournalState → Option JournalState → Type 0

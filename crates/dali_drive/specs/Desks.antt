@@ -74,6 +74,13 @@ pub record Grows {D : Type 0} (look : D → Look) (moment : D → ℕ) (left_sin
       → LeavesOnly moment left_since old new (IsBetween (look old).streams.journal (look new).streams.journal)
   pub stays : same old new
 
+-- work at a desk: this came of it, it ended so, and the desk has grown
+pub record Works {D A : Type 0} (look : D → Look) (moment : D → ℕ) (left_since : D → ℕ → List ℕ → Type 0)
+    (same : D → D → Type 0) (result : Result A DriveFault) (old new : D) (came : Type 0) : Type 0 where
+  pub came_of_it : came
+  pub ends : EndsAs result (look old) (look new)
+  pub grown : Grows look moment left_since same old new
+
 -- just the journal, the replies, or the link were written
 abbrev pub with_journal : Streams → Streams → Streams
 with_journal old new = record old { journal = new.journal }

@@ -1,5 +1,5 @@
 -- Which traces a drive makes, and where a fault leaves one.
-use Rattle.std.specs.Prelude.{◌≡◌, ◌≤◌, ◌⊎◌, ◌++◌, ℕ, Bool, true, false, List, [], ◌∷◌, Option, Result, Err, length, ⊤}
+use Rattle.std.specs.Prelude.{◌≡◌, ◌≤◌, ◌⊎◌, ◌++◌, ℕ, Bool, true, false, List, [], ◌∷◌, Option, Result, Ok, Err, length, ⊤}
 use Rattle.std.specs.Prelude.{take, reverse, map}
 use Rattle.std.specs.Io.KnownBytes.{Appends, Keeps}
 use Rattle.dali_frame.specs.declared.forward.Frame.{Frame}
@@ -175,6 +175,11 @@ FailedAs Link journal link_out link_in out =
     × (out ≡ false)
 FailedAs Out journal link_out link_in out = (journal ≡ false) × (link_out ≡ false) × (link_in ≡ false) × (out ≡ true)
 FailedAs other journal link_out link_in out = NoneFailed journal link_out link_in out
+
+-- of what goes over a link: none where it came to its end
+abbrev pub LinkEnds : {A : Type 0} → Result A DriveFault → Bool → Bool → Bool → Type 0
+LinkEnds (Ok value) link_out link_in out = NoneFailed false link_out link_in out
+LinkEnds (Err fault) link_out link_in out = FailedAs fault false link_out link_in out
 
 -- a read that failed
 abbrev pub is_link_failure : Result (Option ℕ) DriveFault → Bool

@@ -1,12 +1,12 @@
 -- Readings of a unit over a link.
-use Rattle.std.specs.Prelude.{◌≡◌, ℕ, List, ◌∷◌, Option, drop, map}
+use Rattle.std.specs.Prelude.{◌≡◌, ◌≤◌, ℕ, Bool, false, List, ◌∷◌, Option, drop, map}
 use Rattle.dali_frame.specs.declared.forward.Frame.{Frame}
 use Rattle.dali_trace.specs.declared.happening.Happening.TheVariants.{Sent}
 use Rattle.dali_write.specs.Exchanges.{Exchange}
 use Rattle.dali_write.specs.Tries.{Trying, Missed, Misses}
 use Rattle.dali_write.specs.declared.request.Request.{Request}
 use Rattle.dali_read.specs.declared.block.Block.{Block}
-use Rattle.dali_read.specs.Blocks.{block_requests, bytes_of, IsBlockRead, Succeeds, Fails, Stands}
+use Rattle.dali_read.specs.Blocks.{Fits, block_requests, bytes_of, IsBlockRead, Succeeds, Fails, Stands}
 use Rattle.dali_read.specs.Readings.{Course, Done, InTurn, Ends, IsReading, bytes_in, told_in}
 use Rattle.dali_trace.specs.declared.fault.DriveFault.{DriveFault}
 use Rattle.dali_drive.specs.Transcript.{Streams, Transcript}
@@ -21,6 +21,10 @@ pub record BreaksAfter (told : List Exchange) (frame : Frame) (fault : DriveFaul
   pub middle : Streams
   pub text : LinkText told first middle
   pub broken : BreaksFrame frame fault middle last
+
+-- a block of a unit can be read over streams that haven't failed
+abbrev pub CanRead : ℕ → Block → Bool → Bool → Type 0
+CanRead unit block link_out link_in = (unit ≤ 63) × Fits block × (link_out ≡ false) × (link_in ≡ false)
 
 -- One try of a block
 

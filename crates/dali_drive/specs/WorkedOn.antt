@@ -1,18 +1,28 @@
 -- What a drive has come to in its midst.
-use Rattle.std.specs.Prelude.{◌≡◌, ◌++◌, ℕ, List, Result, Ok, Err, reverse}
+use Rattle.std.specs.Prelude.{◌≡◌, ◌++◌, ℕ, List, Result, Ok, Err, false, reverse}
 use Rattle.std.specs.Io.KnownBytes.{Appends}
 use Rattle.dali_frame.specs.declared.forward.Frame.{Frame}
 use Rattle.dali_bank.specs.Order.{Contents}
 use Rattle.dali_trace.specs.declared.happening.Happening.{Happening}
 use Rattle.dali_trace.specs.declared.fault.DriveFault.{DriveFault}
-use Rattle.dali_trace.specs.Trace.{Start}
-use Rattle.dali_engine.specs.WriterState.{WriterState}
+use Rattle.dali_trace.specs.Trace.{Start, is_busy}
+use Rattle.dali_engine.specs.WriterState.{WriterState, IsAtRest}
 use Rattle.dali_engine.specs.Describes.{Describes}
 use Rattle.dali_engine.specs.Follows.{Follows}
-use Rattle.dali_drive.specs.Desks.{Look, LeavesSince}
+use Rattle.dali_drive.specs.Desks.{Look, LeavesSince, IsUnfailed}
 use Rattle.dali_drive.specs.Transcript.{Streams, said_lines}
 use Rattle.dali_drive.specs.Driven.{IsDriven, BrokenOff, LeavesBetween, orders_asked}
 use Rattle.dali_drive.specs.Observed.{IsToldEnd}
+
+-- a writer at rest, at a desk of which no stream has failed
+abbrev pub IsReady : WriterState → Look → Type 0
+IsReady writer look = IsAtRest writer × IsUnfailed look.failed
+
+-- a writer at rest that has nothing to do, whatever trace describes it
+abbrev pub IsDone : WriterState → Type 0
+IsDone writer =
+    IsAtRest writer
+    × ((start : Start) (past : List Happening) → Describes start past writer → is_busy start past ≡ false)
 
 -- this trace was driven, and describes the writer
 pub record IsDrivenAt (start : Start) (past : List Happening) (writer : WriterState) (first last : Streams)

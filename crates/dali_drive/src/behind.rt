@@ -3,10 +3,10 @@ ghost use Rattle.std.specs.Prelude.{◌≡◌, IfOk, IfErr, IfSome, OnOk};
 ghost use Rattle.dali_journal.specs.declared.standing.Standing.TheVariants.{Idle};
 ghost use Rattle.dali_journal.specs.Sentence.{standing_of};
 ghost use Rattle.dali_store.specs.Stores.{LeavesOnly};
-ghost use Rattle.dali_drive.specs.Behind.{IsFollowBehind, EndsBehind, BehindShows, IsWhole, IsUnjoined};
-ghost use Rattle.dali_drive.specs.Desks.{IsUnfailed, Settled};
+ghost use Rattle.dali_drive.specs.Behind.{IsFollowBehind, IsReadyBehind, EndsBehind, BehindShows, IsWhole, IsUnjoined};
+ghost use Rattle.dali_drive.specs.Desks.{Settled};
 ghost use Rattle.dali_drive.specs.Stored.{LeavesPart};
-ghost use Rattle.dali_engine.specs.WriterState.{IsAtRest};
+ghost use Rattle.dali_drive.specs.WorkedOn.{IsReady};
 
 use crate::desk::OpenDesk;
 use crate::following::{Orders, follow};
@@ -50,14 +50,12 @@ pub fn follow_stored<D: OpenDesk, G: Orders, B: Observer>(
     desk: &mut D,
     observer: &mut B,
 ) -> Result<Writer, BehindFault>
-    requires rests { IfSome older (λ journal. standing_of journal.records ≡ Idle) }
-    requires unfailed { IsUnfailed (D.look desk.old).failed }
+    requires ready { IsReadyBehind older (D.look desk.old) }
     ensures followed { IfOk result (λ writer. IsFollowBehind G.gave G.over B.told older limits.orders limits.bytes
         orders.old (D.look desk.old).streams observer.old writer orders.new (D.look desk.new).streams observer.new) }
-    ensures rests { IfOk result IsAtRest }
+    ensures ready { IfOk result (λ writer. IsReady writer (D.look desk.new)) }
     ensures broken { IfErr result (λ fault. EndsBehind G.gave B.told B.told_end older limits.orders limits.bytes
         orders.old fault (D.look desk.old) observer.old orders.new (D.look desk.new) observer.new) }
-    ensures ok { OnOk result (IsUnfailed (D.look desk.new).failed) }
     ensures settled { OnOk result (Settled (D.look desk.new)) }
     ensures err { IfErr result (λ fault. BehindShows fault (D.look desk.new).failed) }
     ensures any_moment { LeavesOnly D.moment D.left_since desk.old desk.new (LeavesPart limits.orders

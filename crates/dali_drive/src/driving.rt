@@ -4,13 +4,12 @@ ghost use Rattle.dali_trace.specs.declared.happening.Happening.{Happening};
 ghost use Rattle.dali_trace.specs.Trace.{Start, is_busy};
 ghost use Rattle.dali_engine.specs.WriterState.{start_of, IsAtRest};
 ghost use Rattle.dali_engine.specs.WorkLeft.{work_left};
-ghost use Rattle.dali_engine.specs.Describes.{Describes};
-ghost use Rattle.dali_drive.specs.Desks.{IsUnfailed, Settled, EndsAs, Grows, LeavesSince};
+ghost use Rattle.dali_drive.specs.Desks.{IsUnfailed, Settled, EndsAs, Grows, LeavesSince, Works};
 ghost use Rattle.dali_drive.specs.Transcript.{Streams, shown};
 ghost use Rattle.dali_drive.specs.Driven.{at_moment, IsDrive, BreaksOff, NoneFailed, FailedAs};
 ghost use Rattle.dali_drive.specs.LentSinks.{SinkLeaves};
 ghost use Rattle.dali_store.specs.Stores.{IsSettled};
-ghost use Rattle.dali_drive.specs.WorkedOn.{IsDrivenAt, WorkedOn};
+ghost use Rattle.dali_drive.specs.WorkedOn.{IsDone, IsDrivenAt, IsReady, WorkedOn};
 
 use crate::desk::Desk;
 use crate::following::follow;
@@ -30,16 +29,13 @@ fn advance<D: Desk, B: Observer>(
     observer: &mut B,
 ) -> Result<bool, DriveFault>
     requires unfailed { IsUnfailed (D.look desk.old).failed }
-    ensures worked { (start : Start) (past : List Happening) (first : Streams) (since : B)
+    ensures worked { Works D.look D.moment D.left_since D.same result desk.old desk.new
+        ((start : Start) (past : List Happening) (first : Streams) (since : B)
         → IsDrivenAt start past writer.old first (D.look desk.old).streams → B.told start since observer.old past
         → WorkedOn start past [] first result writer.new (D.look desk.old) (D.look desk.new)
-        (B.told start since observer.new) (B.told_end start since observer.new) }
+        (B.told start since observer.new) (B.told_end start since observer.new)) }
     ensures fewer { IfOk result (λ busy. busy ≡ true → work_left writer.new.phase < work_left writer.old.phase) }
-    ensures rests { IfOk result (λ busy. busy ≡ false → IsAtRest writer.new) }
-    ensures quiet { IfOk result (λ busy. busy ≡ false → (start : Start) (past : List Happening)
-        → Describes start past writer.new → is_busy start past ≡ false) }
-    ensures ends { EndsAs result (D.look desk.old) (D.look desk.new) }
-    ensures grown { Grows D.look D.moment D.left_since D.same desk.old desk.new }
+    ensures done { IfOk result (λ busy. busy ≡ false → IsDone writer.new) }
 {
     match writer.want() {
         Want::Idle => return Ok(false),
@@ -80,15 +76,12 @@ fn work<D: Desk, B: Observer>(
     observer: &mut B,
 ) -> Result<(), DriveFault>
     requires unfailed { IsUnfailed (D.look desk.old).failed }
-    ensures worked { (start : Start) (past : List Happening) (first : Streams) (since : B)
+    ensures worked { Works D.look D.moment D.left_since D.same result desk.old desk.new
+        ((start : Start) (past : List Happening) (first : Streams) (since : B)
         → IsDrivenAt start past writer.old first (D.look desk.old).streams → B.told start since observer.old past
         → WorkedOn start past [] first result writer.new (D.look desk.old) (D.look desk.new)
-        (B.told start since observer.new) (B.told_end start since observer.new) }
-    ensures rests { OnOk result (IsAtRest writer.new) }
-    ensures quiet { OnOk result
-        ((start : Start) (past : List Happening) → Describes start past writer.new → is_busy start past ≡ false) }
-    ensures ends { EndsAs result (D.look desk.old) (D.look desk.new) }
-    ensures grown { Grows D.look D.moment D.left_since D.same desk.old desk.new }
+        (B.told start since observer.new) (B.told_end start since observer.new)) }
+    ensures done { OnOk result (IsDone writer.new) }
 {
     while advance(writer, desk, observer)? {}
     Ok(())
@@ -119,10 +112,8 @@ pub fn drive<I: Source, L: Sink, J: Sink, O: Sink>(
     out: &mut O,
 ) -> Result<Writer, DriveFault>
     requires rests { IsAtRest writer }
-    requires journal { J.failed journal_out.old ≡ false }
-    requires link_out { L.failed link_out.old ≡ false }
-    requires link_in { I.failed link_in.old ≡ false }
-    requires out { O.failed out.old ≡ false }
+    requires unfailed {
+        NoneFailed (J.failed journal_out.old) (L.failed link_out.old) (I.failed link_in.old) (O.failed out.old) }
     ensures driven { IfOk result (λ driven. IsDrive (start_of writer.journal) (at_moment moment orders.now)
         (shown (J.held journal_out.old) (L.held link_out.old) (I.left link_in.old) (O.held out.old))
         driven (shown (J.held journal_out.new) (L.held link_out.new) (I.left link_in.new) (O.held out.new))) }
@@ -156,8 +147,7 @@ pub fn drive_at<D: Desk>(
     moment: u64,
     desk: &mut D,
 ) -> Result<Writer, DriveFault>
-    requires rests { IsAtRest writer }
-    requires unfailed { IsUnfailed (D.look desk.old).failed }
+    requires ready { IsReady writer (D.look desk.old) }
     ensures driven { IfOk result (λ driven. IsDrive (start_of writer.journal) (at_moment moment orders.now)
         (D.look desk.old).streams driven (D.look desk.new).streams) }
     ensures rests { IfOk result IsAtRest }
@@ -177,17 +167,13 @@ pub(crate) fn begin<D: Desk, B: Observer>(
     desk: &mut D,
     observer: &mut B,
 ) -> Result<(), DriveFault>
-    requires rests { IsAtRest writer.old }
-    requires unfailed { IsUnfailed (D.look desk.old).failed }
-    ensures worked { WorkedOn (start_of writer.old.journal) [] [] (D.look desk.old).streams result writer.new
+    requires ready { IsReady writer.old (D.look desk.old) }
+    ensures worked { Works D.look D.moment D.left_since D.same result desk.old desk.new
+        (WorkedOn (start_of writer.old.journal) [] [] (D.look desk.old).streams result writer.new
         (D.look desk.old) (D.look desk.new)
         (B.told (start_of writer.old.journal) observer.old observer.new)
-        (B.told_end (start_of writer.old.journal) observer.old observer.new) }
-    ensures rests { OnOk result (IsAtRest writer.new) }
-    ensures quiet { OnOk result
-        ((start : Start) (past : List Happening) → Describes start past writer.new → is_busy start past ≡ false) }
-    ensures ends { EndsAs result (D.look desk.old) (D.look desk.new) }
-    ensures grown { Grows D.look D.moment D.left_since D.same desk.old desk.new }
+        (B.told_end (start_of writer.old.journal) observer.old observer.new)) }
+    ensures done { OnOk result (IsDone writer.new) }
 {
     writer.rest();
     observer.begin(writer.journal());
@@ -202,18 +188,14 @@ pub(crate) fn carry_out<D: Desk, B: Observer>(
     desk: &mut D,
     observer: &mut B,
 ) -> Result<(), DriveFault>
-    requires rests { IsAtRest writer.old }
-    requires unfailed { IsUnfailed (D.look desk.old).failed }
-    ensures worked { (start : Start) (past : List Happening) (first : Streams) (since : B)
+    requires ready { IsReady writer.old (D.look desk.old) }
+    ensures worked { Works D.look D.moment D.left_since D.same result desk.old desk.new
+        ((start : Start) (past : List Happening) (first : Streams) (since : B)
         → IsDrivenAt start past writer.old first (D.look desk.old).streams
         → is_busy start past ≡ false → B.told start since observer.old past
         → WorkedOn start past ((order, moment) ∷ []) first result writer.new (D.look desk.old) (D.look desk.new)
-        (B.told start since observer.new) (B.told_end start since observer.new) }
-    ensures rests { OnOk result (IsAtRest writer.new) }
-    ensures quiet { OnOk result
-        ((start : Start) (past : List Happening) → Describes start past writer.new → is_busy start past ≡ false) }
-    ensures ends { EndsAs result (D.look desk.old) (D.look desk.new) }
-    ensures grown { Grows D.look D.moment D.left_since D.same desk.old desk.new }
+        (B.told start since observer.new) (B.told_end start since observer.new)) }
+    ensures done { OnOk result (IsDone writer.new) }
 {
     let id = order.id();
     let Ok(reply) = writer.submit(order.copy(), moment) else {

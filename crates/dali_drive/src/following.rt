@@ -1,10 +1,11 @@
 // Orders that come one after another, each carried out before the next is read.
 ghost use Rattle.std.specs.Prelude.{◌≡◌, ◌∷◌, [], List, Option, IfOk, IfErr, OnOk, IfNone};
 ghost use Rattle.dali_drive.specs.declared.following.Given.{Given};
-ghost use Rattle.dali_drive.specs.Desks.{IsUnfailed, EndsAs, LeavesSince, Grows};
+ghost use Rattle.dali_drive.specs.Desks.{EndsAs, LeavesSince, Grows, Works};
 ghost use Rattle.dali_drive.specs.Followed.{with_next, happenings, IsFollowed, GivenOn};
 ghost use Rattle.dali_drive.specs.Followed.{IsObservedFollow, IsObservedFollowBreak};
 ghost use Rattle.dali_drive.specs.Transcript.{Streams};
+ghost use Rattle.dali_drive.specs.WorkedOn.{IsReady};
 ghost use Rattle.dali_trace.specs.Trace.{Start};
 ghost use Rattle.dali_engine.specs.WriterState.{start_of, IsAtRest};
 
@@ -51,8 +52,7 @@ pub fn follow<D: Desk, G: Orders, B: Observer>(
     desk: &mut D,
     observer: &mut B,
 ) -> Result<Writer, DriveFault>
-    requires rests { IsAtRest writer }
-    requires unfailed { IsUnfailed (D.look desk.old).failed }
+    requires ready { IsReady writer (D.look desk.old) }
     ensures followed { IfOk result (λ followed.
         IsObservedFollow G.gave G.over B.told (start_of writer.journal) orders.old (D.look desk.old).streams
         observer.old followed orders.new (D.look desk.new).streams observer.new) }
@@ -65,39 +65,14 @@ pub fn follow<D: Desk, G: Orders, B: Observer>(
     ensures grown { Grows D.look D.moment D.left_since D.same desk.old desk.new }
 {
     let mut writer = writer;
-    match follow_all(&mut writer, orders, desk, observer) {
-        Ok(()) => Ok(writer),
-        Err(fault) => Err(fault),
-    }
-}
-
-// Carries out what the writer still has to do, and then what the source gives.
-fn follow_all<D: Desk, G: Orders, B: Observer>(
-    writer: &mut Writer,
-    orders: &mut G,
-    desk: &mut D,
-    observer: &mut B,
-) -> Result<(), DriveFault>
-    requires rests { IsAtRest writer.old }
-    requires unfailed { IsUnfailed (D.look desk.old).failed }
-    ensures followed { OnOk result (IsObservedFollow G.gave G.over B.told (start_of writer.old.journal) orders.old
-        (D.look desk.old).streams observer.old writer.new orders.new (D.look desk.new).streams observer.new) }
-    ensures rests { OnOk result (IsAtRest writer.new) }
-    ensures broken { IfErr result (λ fault.
-        IsObservedFollowBreak G.gave B.told B.told_end (start_of writer.old.journal) orders.old fault
-        (D.look desk.old).streams observer.old orders.new (D.look desk.new).streams observer.new
-        (LeavesSince (D.look desk.old) (D.look desk.new))) }
-    ensures ends { EndsAs result (D.look desk.old) (D.look desk.new) }
-    ensures grown { Grows D.look D.moment D.left_since D.same desk.old desk.new }
-{
-    begin(writer, desk, observer)?;
+    begin(&mut writer, desk, observer)?;
     for _ in 0..u64::MAX {
         let Some(given) = orders.next() else {
-            return Ok(());
+            return Ok(writer);
         };
-        take(writer, given, desk, observer)?;
+        take(&mut writer, given, desk, observer)?;
     }
-    Ok(())
+    Ok(writer)
 }
 
 // Carries out the order that was given, or tells the line.
@@ -107,16 +82,14 @@ fn take<D: Desk, B: Observer>(
     desk: &mut D,
     observer: &mut B,
 ) -> Result<(), DriveFault>
-    requires rests { IsAtRest writer.old }
-    requires unfailed { IsUnfailed (D.look desk.old).failed }
-    ensures worked { (start : Start) (before : List Given) (first : Streams) (since : B)
+    requires ready { IsReady writer.old (D.look desk.old) }
+    ensures worked { Works D.look D.moment D.left_since D.same result desk.old desk.new
+        ((start : Start) (before : List Given) (first : Streams) (since : B)
         (follow : IsFollowed start before first writer.old (D.look desk.old).streams)
         → B.told start since observer.old (happenings follow.steps)
         → GivenOn start (given ∷ before) first result writer.new (D.look desk.old) (D.look desk.new)
-        (B.told start since observer.new) (B.told_end start since observer.new) }
+        (B.told start since observer.new) (B.told_end start since observer.new)) }
     ensures rests { OnOk result (IsAtRest writer.new) }
-    ensures ends { EndsAs result (D.look desk.old) (D.look desk.new) }
-    ensures grown { Grows D.look D.moment D.left_since D.same desk.old desk.new }
 {
     match given {
         Given::Order(order, moment) => carry_out(writer, order, moment, desk, observer),

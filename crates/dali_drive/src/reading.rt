@@ -1,9 +1,9 @@
 ghost use Rattle.std.specs.Prelude.{◌≡◌, ◌≤◌, ◌+◌, ◌++◌, Some, None, IfOk, IfErr, OnOk, IfSome, IsNone, length, false};
-ghost use Rattle.dali_read.specs.Blocks.{Fits, read_answer};
+ghost use Rattle.dali_read.specs.Blocks.{read_answer};
 ghost use Rattle.dali_read.specs.Places.{course_of};
 ghost use Rattle.dali_drive.specs.Transcript.{link_shown};
-ghost use Rattle.dali_drive.specs.Driven.{FailedAs};
-ghost use Rattle.dali_drive.specs.UnitRead.{TryTold, TryMissed, TryBroke, BlockTold, BlockFailed, BlockBroke};
+ghost use Rattle.dali_drive.specs.Driven.{FailedAs, LinkEnds};
+ghost use Rattle.dali_drive.specs.UnitRead.{CanRead, TryTold, TryMissed, TryBroke, BlockTold, BlockFailed, BlockBroke};
 ghost use Rattle.dali_drive.specs.UnitRead.{IsUnitRead, UnitReadBroke};
 
 use crate::link::exchange;
@@ -47,10 +47,7 @@ fn try_block<I: Source, L: Sink>(
     link_in: &mut I,
     link_out: &mut L,
 ) -> Result<Option<ArrayVec<u8, MOST_OF_BLOCK>>, DriveFault>
-    requires unit { unit ≤ 63 }
-    requires fits { Fits block }
-    requires link_in { I.failed link_in.old ≡ false }
-    requires link_out { L.failed link_out.old ≡ false }
+    requires ready { CanRead unit block (L.failed link_out.old) (I.failed link_in.old) }
     ensures read { IfOk result (λ outcome. IfSome outcome (λ bytes. TryTold unit block bytes.items
         (link_shown (L.held link_out.old) (I.left link_in.old))
         (link_shown (L.held link_out.new) (I.left link_in.new)))) }
@@ -60,8 +57,7 @@ fn try_block<I: Source, L: Sink>(
     ensures broken { IfErr result (λ fault. TryBroke unit block fault
         (link_shown (L.held link_out.old) (I.left link_in.old))
         (link_shown (L.held link_out.new) (I.left link_in.new))) }
-    ensures ok { OnOk result ((I.failed link_in.new ≡ false) × (L.failed link_out.new ≡ false)) }
-    ensures err { IfErr result (λ fault. FailedAs fault false (L.failed link_out.new) (I.failed link_in.new) false) }
+    ensures ends { LinkEnds result (L.failed link_out.new) (I.failed link_in.new) false }
 {
     let mut bytes = ArrayVec::new();
     let mut number = 0;
@@ -83,10 +79,7 @@ fn read_block<I: Source, L: Sink>(
     link_in: &mut I,
     link_out: &mut L,
 ) -> Result<Option<ArrayVec<u8, MOST_OF_BLOCK>>, DriveFault>
-    requires unit { unit ≤ 63 }
-    requires fits { Fits block }
-    requires link_in { I.failed link_in.old ≡ false }
-    requires link_out { L.failed link_out.old ≡ false }
+    requires ready { CanRead unit block (L.failed link_out.old) (I.failed link_in.old) }
     ensures read { IfOk result (λ outcome. IfSome outcome (λ bytes. BlockTold unit block bytes.items
         (link_shown (L.held link_out.old) (I.left link_in.old))
         (link_shown (L.held link_out.new) (I.left link_in.new)))) }
@@ -96,8 +89,7 @@ fn read_block<I: Source, L: Sink>(
     ensures broken { IfErr result (λ fault. BlockBroke unit block fault
         (link_shown (L.held link_out.old) (I.left link_in.old))
         (link_shown (L.held link_out.new) (I.left link_in.new))) }
-    ensures ok { OnOk result ((I.failed link_in.new ≡ false) × (L.failed link_out.new ≡ false)) }
-    ensures err { IfErr result (λ fault. FailedAs fault false (L.failed link_out.new) (I.failed link_in.new) false) }
+    ensures ends { LinkEnds result (L.failed link_out.new) (I.failed link_in.new) false }
 {
     for _ in 0..MOST_TRIES {
         if let Some(bytes) = try_block(unit, block, link_in, link_out)? {

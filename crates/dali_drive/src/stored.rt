@@ -4,7 +4,7 @@ ghost use Rattle.dali_store.specs.Stores.{LeavesOnly};
 ghost use Rattle.dali_drive.specs.Stored.{IsStoredDrive, EndsAtFault, StoredShows, LeavesPart};
 ghost use Rattle.dali_drive.specs.Desks.{IsUnfailed, Settled};
 ghost use Rattle.dali_drive.specs.Driven.{at_moment};
-ghost use Rattle.dali_engine.specs.WriterState.{IsAtRest};
+ghost use Rattle.dali_drive.specs.WorkedOn.{IsReady};
 
 use crate::behind::{BehindFault, JournalLimits, follow_stored};
 use crate::desk::OpenDesk;
@@ -36,13 +36,12 @@ pub fn drive_stored<D: OpenDesk>(
     moment: u64,
     desk: &mut D,
 ) -> Result<Writer, StoredFault>
-    requires { IsUnfailed (D.look desk.old).failed }
+    requires unfailed { IsUnfailed (D.look desk.old).failed }
     ensures driven { IfOk result (λ writer. IsStoredDrive limits.orders limits.bytes (at_moment moment orders.now)
         (D.look desk.old).streams writer (D.look desk.new).streams) }
-    ensures rests { IfOk result IsAtRest }
+    ensures ready { IfOk result (λ writer. IsReady writer (D.look desk.new)) }
     ensures broken { IfErr result (λ fault. EndsAtFault limits.orders limits.bytes (at_moment moment orders.now) fault
         (D.look desk.old) (D.look desk.new)) }
-    ensures ok { OnOk result (IsUnfailed (D.look desk.new).failed) }
     ensures settled { OnOk result (Settled (D.look desk.new)) }
     ensures err { IfErr result (λ fault. StoredShows fault (D.look desk.new).failed) }
     ensures any_moment { LeavesOnly D.moment D.left_since desk.old desk.new (LeavesPart limits.orders

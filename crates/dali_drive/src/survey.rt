@@ -1,7 +1,7 @@
 ghost use Rattle.std.specs.Prelude.{◌≡◌, ◌<◌, ◌↔◌, ◌≤◌, IfOk, IfErr, OnOk, Some, false, true, is_some};
 ghost use Rattle.dali_read.specs.Places.{last_course, order_course};
 ghost use Rattle.dali_drive.specs.Transcript.{link_shown, shown};
-ghost use Rattle.dali_drive.specs.Driven.{FailedAs, NoneFailed};
+ghost use Rattle.dali_drive.specs.Driven.{FailedAs, LinkEnds, NoneFailed};
 ghost use Rattle.dali_drive.specs.Surveys.{IsScanReport, IsOrderReport, Reported, BreaksReport, FoundOf};
 ghost use Rattle.dali_drive.specs.Surveys.{IsScan, ScanBroke};
 ghost use Rattle.dali_drive.specs.Surveys.{IsVerifiedTold, VerifyBrokeTold};
@@ -25,20 +25,15 @@ fn scan_unit<I: Source, L: Sink, O: Sink>(
     link_out: &mut L,
     out: &mut O,
 ) -> Result<bool, DriveFault>
-    requires unit { unit ≤ 63 }
-    requires link_in { I.failed link_in.old ≡ false }
-    requires link_out { L.failed link_out.old ≡ false }
-    requires out { O.failed out.old ≡ false }
+    requires ready { (unit ≤ 63)
+        × NoneFailed false (L.failed link_out.old) (I.failed link_in.old) (O.failed out.old) }
     ensures told { IfOk result (λ answers. Reported IsScanReport unit (λ report. answers ≡ is_some report.outcome)
         (shown None (L.held link_out.old) (I.left link_in.old) (O.held out.old))
         (shown None (L.held link_out.new) (I.left link_in.new) (O.held out.new))) }
     ensures broken { IfErr result (λ fault. BreaksReport IsScanReport fault unit unit last_course
         (shown None (L.held link_out.old) (I.left link_in.old) (O.held out.old))
         (shown None (L.held link_out.new) (I.left link_in.new) (O.held out.new))) }
-    ensures ok { OnOk result
-        (NoneFailed false (L.failed link_out.new) (I.failed link_in.new) (O.failed out.new)) }
-    ensures err { IfErr result (λ fault.
-        FailedAs fault false (L.failed link_out.new) (I.failed link_in.new) (O.failed out.new)) }
+    ensures ends { LinkEnds result (L.failed link_out.new) (I.failed link_in.new) (O.failed out.new) }
 {
     let Some(bytes) = read_unit(unit, &Places::Last, link_in, link_out)? else {
         return Ok(false);
@@ -62,9 +57,7 @@ pub fn scan_units<I: Source, L: Sink, O: Sink>(
     link_out: &mut L,
     out: &mut O,
 ) -> Result<u8, DriveFault>
-    requires link_in { I.failed link_in.old ≡ false }
-    requires link_out { L.failed link_out.old ≡ false }
-    requires out { O.failed out.old ≡ false }
+    requires unfailed { NoneFailed false (L.failed link_out.old) (I.failed link_in.old) (O.failed out.old) }
     ensures scanned { IfOk result (λ units. IsScan units
         (shown None (L.held link_out.old) (I.left link_in.old) (O.held out.old))
         (shown None (L.held link_out.new) (I.left link_in.new) (O.held out.new))) }
@@ -96,9 +89,7 @@ fn verify_order<I: Source, L: Sink, O: Sink>(
     link_out: &mut L,
     out: &mut O,
 ) -> Result<Option<Finding>, DriveFault>
-    requires link_in { I.failed link_in.old ≡ false }
-    requires link_out { L.failed link_out.old ≡ false }
-    requires out { O.failed out.old ≡ false }
+    requires unfailed { NoneFailed false (L.failed link_out.old) (I.failed link_in.old) (O.failed out.old) }
     ensures told { IfOk result (λ found. Reported IsOrderReport order.now
         (λ report. FoundOf report.item report.outcome found)
         (shown None (L.held link_out.old) (I.left link_in.old) (O.held out.old))
@@ -107,10 +98,7 @@ fn verify_order<I: Source, L: Sink, O: Sink>(
         (order_course order.now.updates)
         (shown None (L.held link_out.old) (I.left link_in.old) (O.held out.old))
         (shown None (L.held link_out.new) (I.left link_in.new) (O.held out.new))) }
-    ensures ok { OnOk result
-        (NoneFailed false (L.failed link_out.new) (I.failed link_in.new) (O.failed out.new)) }
-    ensures err { IfErr result (λ fault.
-        FailedAs fault false (L.failed link_out.new) (I.failed link_in.new) (O.failed out.new)) }
+    ensures ends { LinkEnds result (L.failed link_out.new) (I.failed link_in.new) (O.failed out.new) }
 {
     let Some(bytes) = read_unit(order.unit(), &Places::Order(order), link_in, link_out)? else {
         return if put_all(out, &order_silent_line(order)) {
@@ -142,9 +130,7 @@ pub fn verify_orders<I: Source, L: Sink, O: Sink, B: FindingObserver>(
     out: &mut O,
     observer: &mut B,
 ) -> Result<bool, DriveFault>
-    requires link_in { I.failed link_in.old ≡ false }
-    requires link_out { L.failed link_out.old ≡ false }
-    requires out { O.failed out.old ≡ false }
+    requires unfailed { NoneFailed false (L.failed link_out.old) (I.failed link_in.old) (O.failed out.old) }
     ensures verified { IfOk result (λ all_same. IsVerifiedTold B.told_found orders.now all_same
         (shown None (L.held link_out.old) (I.left link_in.old) (O.held out.old)) observer.old
         (shown None (L.held link_out.new) (I.left link_in.new) (O.held out.new)) observer.new) }

@@ -1,4 +1,4 @@
-use Rattle.std.proofs.Common.{[], ◌++◌, refl}
+use Rattle.std.proofs.Common.{rules, [], ◌++◌, refl}
 use Rattle.std.proofs.lemmas.Result.{err_from_is_err_and}
 use Rattle.std.proofs.KnownBytes.{Appends-nil}
 use Rattle.dali_drive.proofs.WorkLemmas.{works_on, breaks_on, leaving_less}
@@ -10,28 +10,40 @@ loop-preserved g c = record {
   worked = λ start past first since d told.
       let before = c.loop.invariant.worked start past first since d told in
       works_on start past [] [] first _ _ _ _ before _ _ _
-      (c.in_ok-advance.ensures.worked start (before.more ++ past) first since before.driven_at before.told_all);
-  unfailed = c.in_ok-advance.ensures.ends.0;
-  settles = λ settled. c.in_ok-advance.ensures.ends.1 (c.loop.invariant.settles settled);
+      (c.in_ok-advance.ensures.worked.came_of_it start (before.more ++ past) first since before.driven_at before.told_all);
+  unfailed = c.in_ok-advance.ensures.worked.ends.0;
+  settles = λ settled. c.in_ok-advance.ensures.worked.ends.1 (c.loop.invariant.settles settled);
   grown = grows_on g.D.Desk.look g.D.Desk.moment g.D.Desk.left_since g.D.Desk.same g.met.D.Desk.same_on _ _ _
       c.loop.invariant.grown c.loop.invariant.settles
-      c.in_ok-advance.ensures.grown;
+      c.in_ok-advance.ensures.worked.grown;
 }
 
 pub returns-clause-worked : goal.returns-clause-worked
-returns-clause-worked g c = λ start past first since d told.
-    let before = c.loop.invariant.worked start past first since d told in
-    works_on start past [] [] first _ _ _ _ before _ _ _
-    (c.in_ok-advance.ensures.worked start (before.more ++ past) first since before.driven_at before.told_all)
+returns-clause-worked g c = record {
+  came_of_it = λ start past first since d told.
+      let before = c.loop.invariant.worked start past first since d told in
+      works_on start past [] [] first _ _ _ _ before _ _ _
+      (c.in_ok-advance.ensures.worked.came_of_it start (before.more ++ past) first since before.driven_at before.told_all);
+  ends = search rules;
+  grown = 
+      grows_on g.D.Desk.look g.D.Desk.moment g.D.Desk.left_since g.D.Desk.same g.met.D.Desk.same_on _ _ _
+      c.loop.invariant.grown c.loop.invariant.settles c.in_ok-advance.ensures.worked.grown;
+}
 
 pub returns-in_err-advance-clause-worked : goal.returns-in_err-advance-clause-worked
-returns-in_err-advance-clause-worked g c = λ start past first since d told.
-    let before = c.loop.invariant.worked start past first since d told in
-    let next =
-    c.in_err-advance.ensures.worked start (before.more ++ past) first since before.driven_at before.told_all in
-    let p = err_from_is_err_and c.from_residual.result c.from_residual.ensures.1 in
-    rw (p.1, p.2) (breaks_on start past [] [] first _ _ _ _ before _ _ _ _ _
-    (leaving_less _ _ _ _ _ _ _ _ _ _ _ (λ d left. (c.loop.invariant.settles left.0, left.1)) next))
+returns-in_err-advance-clause-worked g c = record {
+  came_of_it = λ start past first since d told.
+      let before = c.loop.invariant.worked start past first since d told in
+      let next =
+      c.in_err-advance.ensures.worked.came_of_it start (before.more ++ past) first since before.driven_at before.told_all in
+      let p = err_from_is_err_and c.from_residual.result c.from_residual.ensures.1 in
+      rw (p.1, p.2) (breaks_on start past [] [] first _ _ _ _ before _ _ _ _ _
+      (leaving_less _ _ _ _ _ _ _ _ _ _ _ (λ d left. (c.loop.invariant.settles left.0, left.1)) next));
+  ends = search rules;
+  grown = 
+      grows_on g.D.Desk.look g.D.Desk.moment g.D.Desk.left_since g.D.Desk.same g.met.D.Desk.same_on _ _ _
+      c.loop.invariant.grown c.loop.invariant.settles c.in_err-advance.ensures.worked.grown;
+}
 
 pub loop-init : goal.loop-init
 loop-init g c = record {
@@ -47,15 +59,3 @@ loop-init g c = record {
   grown = still g.D.Desk.look g.D.Desk.moment g.D.Desk.left_since g.D.Desk.same c.args.desk.now
       (g.met.D.Desk.only_now c.args.desk.now) (g.met.D.Desk.same_now c.args.desk.now);
 }
-
-pub returns-clause-grown : goal.returns-clause-grown
-returns-clause-grown g c =
-    grows_on g.D.Desk.look g.D.Desk.moment g.D.Desk.left_since g.D.Desk.same g.met.D.Desk.same_on _ _ _
-    c.loop.invariant.grown c.loop.invariant.settles
-    c.in_ok-advance.ensures.grown
-
-pub returns-in_err-advance-clause-grown : goal.returns-in_err-advance-clause-grown
-returns-in_err-advance-clause-grown g c =
-    grows_on g.D.Desk.look g.D.Desk.moment g.D.Desk.left_since g.D.Desk.same g.met.D.Desk.same_on _ _ _
-    c.loop.invariant.grown c.loop.invariant.settles
-    c.in_err-advance.ensures.grown

@@ -20,6 +20,6 @@ loop-preserved g c =
     let missed = rw c.in_default.is at c.in_ok-bytes.ensures.missed in
     record {
       missed = one_miss_more c.args.unit c.args.block c.loop.counter _ _ _ c.loop.invariant.missed (missed refl);
-      link_out = c.in_ok-bytes.ensures.ok.1;
-      link_in = c.in_ok-bytes.ensures.ok.0;
+      link_out = c.in_ok-bytes.ensures.ends.1;
+      link_in = c.in_ok-bytes.ensures.ends.2;
     }

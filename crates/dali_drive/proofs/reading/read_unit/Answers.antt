@@ -46,6 +46,6 @@ loop-block-preserved g c =
       read =
           reading_goes_on c.args.unit (course_of c.args.places.now) _ _ _ _ _ _ c.in-Some.block joined
           c.loop-block.invariant.read c.in-Some.ensures.fits next told;
-      link_out = c.in_ok-more.ensures.ok.1;
-      link_in = c.in_ok-more.ensures.ok.0;
+      link_out = c.in_ok-more.ensures.ends.1;
+      link_in = c.in_ok-more.ensures.ends.2;
     }

@@ -18,20 +18,20 @@ returns-then-not-is_met-clause-missed g c = λ none.
 
 pub keep_answer-requires : goal.keep_answer-requires
 keep_answer-requires g c =
-    try_has_room c.args.unit c.args.block _ _ _ _ c.in-Some.request c.in_ok-answer.answer c.requires.fits
+    try_has_room c.args.unit c.args.block _ _ _ _ c.in-Some.request c.in_ok-answer.answer c.requires.ready.1
     c.loop-request.invariant.tried (sym c.in-Some.ensures.request)
 
 pub overflow_add-number : goal.overflow_add-number
 overflow_add-number g c =
     let few =
-    few_requests c.args.unit c.args.block c.loop-request.number c.in-Some.request c.requires.fits
+    few_requests c.args.unit c.args.block c.loop-request.number c.in-Some.request c.requires.ready.1
     (sym c.in-Some.ensures.request) in
     omega (arith, few.1)
 
 pub loop-request-smaller : goal.loop-request-smaller
 loop-request-smaller g c =
     let few =
-    few_requests c.args.unit c.args.block c.loop-request.number c.in-Some.request c.requires.fits
+    few_requests c.args.unit c.args.block c.loop-request.number c.in-Some.request c.requires.ready.1
     (sym c.in-Some.ensures.request) in
     omega (arith, few.0)
 

@@ -29,7 +29,7 @@ loop-unit-preserved g c =
           ∙ (ap (λ (n : ℕ). n ∷ addresses_below c.loop-unit.unit) r.item_is ∙ sym (one_more c.loop-unit.unit));
       units_are = both.0;
       few = both.1;
-      link_out = c.in_ok-scan_unit.ensures.ok.1;
-      link_in = c.in_ok-scan_unit.ensures.ok.2;
-      out = c.in_ok-scan_unit.ensures.ok.3;
+      link_out = c.in_ok-scan_unit.ensures.ends.1;
+      link_in = c.in_ok-scan_unit.ensures.ends.2;
+      out = c.in_ok-scan_unit.ensures.ends.3;
     }

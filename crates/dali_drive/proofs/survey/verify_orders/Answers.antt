@@ -49,9 +49,9 @@ loop-order-init g c = record {
     told_all = g.met.B.FindingObserver.told_none c.args.observer.now;
   };
   same = (λ t. tt, λ t. refl);
-  link_out = c.requires.link_out;
-  link_in = c.requires.link_in;
-  out = c.requires.out;
+  link_out = c.requires.unfailed.1;
+  link_in = c.requires.unfailed.2;
+  out = c.requires.unfailed.3;
 }
 
 pub returns-clause-verified : goal.returns-clause-verified
@@ -87,7 +87,7 @@ loop-order-preserved g c =
           (c.find.ensures c.args.observer.now i.told.found i.told.told_all);
       same = both_same _ _ _ _ i.same (same_by c.is_same-all_same.ensures
           (same_told r.report r.report.outcome c.in_ok-found.found refl r.so));
-      link_out = c.in_ok-found.ensures.ok.1;
-      link_in = c.in_ok-found.ensures.ok.2;
-      out = c.in_ok-found.ensures.ok.3;
+      link_out = c.in_ok-found.ensures.ends.1;
+      link_in = c.in_ok-found.ensures.ends.2;
+      out = c.in_ok-found.ensures.ends.3;
     }

@@ -3,7 +3,7 @@ use Rattle.dali_engine.specs.WriterState.{start_of, IsAtRest}
 use Rattle.dali_drive.specs.declared.following.Given.{Given}
 use Rattle.dali_drive.specs.Desks.{Settled, IsUnfailed, Grows}
 use Rattle.dali_drive.specs.Followed.{happenings, IsFollowed}
-use Rattle.dali_drive.proofs.following.follow_all.Given as goal
+use Rattle.dali_drive.proofs.following.follow.Given as goal
 
 abbrev pub invariant-loop : goal.invariant-loop
 invariant-loop g l = record {

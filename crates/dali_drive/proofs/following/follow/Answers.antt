@@ -2,26 +2,26 @@ use Rattle.std.proofs.Common.{[], ◌∷◌, refl, inl, inr, arith}
 use Rattle.std.proofs.lemmas.Result.{err_from_is_err_and}
 use Rattle.dali_drive.proofs.FollowLemmas.{begins, begins_broken, breaks_less}
 use Rattle.dali_drive.proofs.DeskLemmas.{grows_on}
-use Rattle.dali_drive.proofs.following.follow_all.Goals as goal
+use Rattle.dali_drive.proofs.following.follow.Goals as goal
 
 pub loop-init : goal.loop-init
 loop-init g c =
-    let begun = begins _ _ _ _ _ c.in_ok-begin.ensures.worked c.in_ok-begin.ensures.quiet in
+    let begun = begins _ _ _ _ _ c.in_ok-begin.ensures.worked.came_of_it c.in_ok-begin.ensures.done.1 in
     record {
       given = [];
       gave = g.met.G.Orders.gave_none c.args.orders.now;
       count = refl;
       follow = begun.0;
       told = begun.1;
-      rests = c.in_ok-begin.ensures.rests;
-      unfailed = c.in_ok-begin.ensures.ends.0;
-      settles = c.in_ok-begin.ensures.ends.1;
-      grown = c.in_ok-begin.ensures.grown;
+      rests = c.in_ok-begin.ensures.done.0;
+      unfailed = c.in_ok-begin.ensures.worked.ends.0;
+      settles = c.in_ok-begin.ensures.worked.ends.1;
+      grown = c.in_ok-begin.ensures.worked.grown;
     }
 
 pub returns-in_err-begin-clause-broken : goal.returns-in_err-begin-clause-broken
 returns-in_err-begin-clause-broken g c =
-    let broken = begins_broken _ _ _ _ _ _ _ c.in_err-begin.ensures.worked in
+    let broken = begins_broken _ _ _ _ _ _ _ c.in_err-begin.ensures.worked.came_of_it in
     let p = err_from_is_err_and c.from_residual.result c.from_residual.ensures.1 in
     rw (p.1, p.2) (record {
       given = [];
@@ -41,7 +41,7 @@ returns-in_default-clause-followed g c = record {
 pub returns-in_err-take-clause-broken : goal.returns-in_err-take-clause-broken
 returns-in_err-take-clause-broken g c =
     let i = c.loop.invariant in
-    let broken = c.in_err-take.ensures.worked _ _ _ _ i.follow i.told in
+    let broken = c.in_err-take.ensures.worked.came_of_it _ _ _ _ i.follow i.told in
     let p = err_from_is_err_and c.from_residual-in_err-take.result c.from_residual-in_err-take.ensures.1 in
     rw (p.1, p.2) (record {
       given = c.in-Some.given ∷ i.given;
@@ -53,12 +53,12 @@ pub returns-in_err-take-clause-grown : goal.returns-in_err-take-clause-grown
 returns-in_err-take-clause-grown g c =
     grows_on g.D.Desk.look g.D.Desk.moment g.D.Desk.left_since g.D.Desk.same g.met.D.Desk.same_on _ _ _
     c.loop.invariant.grown c.loop.invariant.settles
-    c.in_err-take.ensures.grown
+    c.in_err-take.ensures.worked.grown
 
 pub loop-preserved : goal.loop-preserved
 loop-preserved g c =
     let i = c.loop.invariant in
-    let next = c.in_ok-take.ensures.worked _ _ _ _ i.follow i.told in
+    let next = c.in_ok-take.ensures.worked.came_of_it _ _ _ _ i.follow i.told in
     record {
       given = c.in-Some.given ∷ i.given;
       gave = c.in-Some.ensures.given c.args.orders.now i.given i.gave;
@@ -66,11 +66,11 @@ loop-preserved g c =
       follow = next.0;
       told = next.1;
       rests = c.in_ok-take.ensures.rests;
-      unfailed = c.in_ok-take.ensures.ends.0;
-      settles = λ settled. c.in_ok-take.ensures.ends.1 (i.settles settled);
+      unfailed = c.in_ok-take.ensures.worked.ends.0;
+      settles = λ settled. c.in_ok-take.ensures.worked.ends.1 (i.settles settled);
       grown = grows_on g.D.Desk.look g.D.Desk.moment g.D.Desk.left_since g.D.Desk.same g.met.D.Desk.same_on _ _ _
           i.grown i.settles
-          c.in_ok-take.ensures.grown;
+          c.in_ok-take.ensures.worked.grown;
     }
 
 pub returns-clause-followed : goal.returns-clause-followed

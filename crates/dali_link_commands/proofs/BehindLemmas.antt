@@ -1,83 +1,58 @@
 -- Lemmas on how a drive behind older journals ended.
 use Rattle.std.proofs.Common.{◌≡◌, Bool, ℕ, List, [], ◌∷◌, ◌++◌, Option, Some, None, IfSome, ap, inl, inr, refl, subst}
-use Rattle.dali_journal.specs.declared.behind.JoinFault.{JoinFault}
 use Rattle.dali_journal.specs.declared.record.Record.{Record}
 use Rattle.dali_journal.specs.declared.standing.Standing.TheVariants.{Idle}
 use Rattle.dali_journal.specs.JournalState.{JournalState}
 use Rattle.dali_journal.specs.Sentence.{next_standing, standing_of}
-use Rattle.dali_store.specs.declared.opening.OpenFault.{OpenFault}
 use Rattle.dali_drive.specs.declared.behind.BehindFault.{BehindFault}
 use Rattle.dali_drive.specs.declared.behind.BehindFault.TheVariants as behind
-use Rattle.dali_trace.specs.declared.fault.DriveFault.{DriveFault}
 use Rattle.dali_drive.specs.declared.following.Given.{Given}
 use Rattle.dali_drive.specs.Behind.{EndsBehind, BehindShows}
 use Rattle.dali_drive.specs.Desks.{Look}
 use Rattle.dali_report.specs.declared.report.Report.{Report}
 use Rattle.dali_report.specs.Told.{IsTold, IsToldEnd}
 use Rattle.dali_faults.specs.declared.fault.Status.{Status}
-use Rattle.dali_link_commands.specs.BehindAnswers.{BreaksBehind, IsBehindNamed, fault_unjoined}
+use Rattle.dali_link_commands.specs.BehindAnswers.{BreaksBehind, IsBehindNamed, IsBreakTold}
 use Rattle.dali_link_commands.specs.Benches.{with_lines}
-use Rattle.dali_link_commands.specs.DriveAnswers.{fault_unopened}
 use Rattle.dali_faults.specs.JournalInput.{journal_limit, order_limit}
-use Rattle.dali_link_commands.specs.Told.{IsFaultTold, IsFileFaultTold}
 
-module _ {G N : Type 0} (gave : G → G → List Given → Type 0) (contents : N → Option (List ℕ))
+-- what broke a drive off was told, and the lines alone were written for that
+pub break_told : {G N : Type 0} (gave : G → G → List Given → Type 0) (contents : N → Option (List ℕ))
     (older : Option JournalState) (before after : Report N) (orders left : G) (first last : Look)
-    (replies : Option (List ℕ)) (lost : Bool)
-    (fault : BehindFault) (status : Status)
-    (ends : EndsBehind gave (IsTold contents) (IsToldEnd contents) older order_limit journal_limit orders fault first
-    before left (with_lines last replies lost) after)
-    (shows : BehindShows fault (with_lines last replies lost).failed) where
-  abbrev Ends : BehindFault → Type 0
-  Ends why = EndsBehind gave (IsTold contents) (IsToldEnd contents) older order_limit journal_limit orders why first
-      before left (with_lines last replies lost) after × BehindShows why (with_lines last replies lost).failed
-
-  -- the journal wasn't opened, and its fault was told
-  pub behind_unopened : (why : OpenFault) → fault ≡ behind.Open why
-      → IsFileFaultTold (fault_unopened why) status replies last.streams.out
-      → BreaksBehind gave contents older before after orders left first status last
-  behind_unopened why is told =
-      let end = subst Ends is (ends, shows) in
-      inl (record {
-        fault = why;
-        replies = replies;
-        lost = lost;
-        unopened = end.0.0;
-        failed = end.1;
-        told = told;
-        unread = end.0.1;
-        unreported = end.0.2;
-      })
-
-  -- it is none with the older one, which was told
-  pub behind_unjoined : (why : JoinFault) → fault ≡ behind.Join why
-      → IsFileFaultTold (fault_unjoined why) status replies last.streams.out
-      → BreaksBehind gave contents older before after orders left first status last
-  behind_unjoined why is told =
-      let end = subst Ends is (ends, shows) in
-      inr (inl (record {
-        fault = why;
-        replies = replies;
-        lost = lost;
-        unjoined = end.0;
-        unfailed = end.1;
-        told = told;
-      }))
-
-  -- it broke off, and its fault was told
-  pub behind_broken : (why : DriveFault) → fault ≡ behind.Drive why
-      → IsFaultTold why status replies last.streams.out
-      → BreaksBehind gave contents older before after orders left first status last
-  behind_broken why is told =
-      let end = subst Ends is (ends, shows) in
-      inr (inr (record {
-        fault = why;
-        replies = replies;
-        lost = lost;
-        broken = end.0;
-        failed = end.1;
-        told = told;
-      }))
+    (replies : Option (List ℕ)) (lost : Bool) (status : Status) (fault : BehindFault)
+    → EndsBehind gave (IsTold contents) (IsToldEnd contents) older order_limit journal_limit orders fault first
+    before left (with_lines last replies lost) after
+    → BehindShows fault (with_lines last replies lost).failed → IsBreakTold fault status replies last.streams.out
+    → BreaksBehind gave contents older before after orders left first status last
+break_told gave contents older before after orders left first last replies lost status (behind.Open why) ends shows
+    told = inl (record {
+      fault = why;
+      replies = replies;
+      lost = lost;
+      unopened = ends.0;
+      failed = shows;
+      told = told;
+      unread = ends.1;
+      unreported = ends.2;
+    })
+break_told gave contents older before after orders left first last replies lost status (behind.Join why) ends shows
+    told = inr (inl (record {
+      fault = why;
+      replies = replies;
+      lost = lost;
+      unjoined = ends;
+      unfailed = shows;
+      told = told;
+    }))
+break_told gave contents older before after orders left first last replies lost status (behind.Drive why) ends shows
+    told = inr (inr (record {
+      fault = why;
+      replies = replies;
+      lost = lost;
+      broken = ends;
+      failed = shows;
+      told = told;
+    }))
 
 -- records behind others that are at rest stand as they do by themselves
 pub standing_behind : (own older : List Record) → standing_of older ≡ Idle

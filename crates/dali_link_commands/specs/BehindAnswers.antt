@@ -2,14 +2,14 @@
 use Rattle.std.specs.Prelude.{◌≡◌, ◌⊎◌, ℕ, Bool, List, [], ◌∷◌, Option, Some, None}
 use Rattle.dali_bank.specs.Order.{Contents}
 use Rattle.dali_journal.specs.declared.behind.JoinFault.{JoinFault}
-use Rattle.dali_journal.specs.declared.behind.JoinFault.TheVariants.{Repeated, NoMemory}
 use Rattle.dali_journal.specs.declared.standing.Standing.TheVariants.{Idle}
 use Rattle.dali_journal.specs.JournalState.{JournalState}
 use Rattle.dali_journal.specs.Sentence.{standing_of}
 use Rattle.dali_input.specs.declared.fault.InputFault.{InputFault}
-use Rattle.dali_input.specs.declared.fault.InputFault.TheVariants.{Memory}
 use Rattle.dali_store.specs.declared.opening.OpenFault.{OpenFault}
 use Rattle.dali_trace.specs.declared.fault.DriveFault.{DriveFault}
+use Rattle.dali_drive.specs.declared.behind.BehindFault.{BehindFault}
+use Rattle.dali_drive.specs.declared.behind.BehindFault.TheVariants as behind
 use Rattle.dali_drive.specs.declared.following.Given.{Given}
 use Rattle.dali_drive.specs.declared.listed.ListedOrders.{ListedOrders}
 use Rattle.dali_drive.specs.declared.std_streams.StdSource.{StdSource}
@@ -28,9 +28,9 @@ use Rattle.dali_report.specs.Reports.{all_done}
 use Rattle.dali_report.specs.Told.{IsTold, IsToldEnd}
 use Rattle.dali_engine.specs.WriterState.{WriterState}
 use Rattle.dali_faults.specs.declared.fault.Fault.{Fault}
-use Rattle.dali_faults.specs.declared.fault.Fault.TheVariants.{Input, Older}
 use Rattle.dali_faults.specs.declared.fault.Status.{Status}
 use Rattle.dali_link_commands.specs.declared.older.OlderFault.{OlderFault}
+use Rattle.dali_link_commands.specs.declared.older.OlderFault.TheVariants.{Join}
 use Rattle.dali_link_commands.specs.DriveAnswers.{ended_status, fault_unopened}
 use Rattle.dali_link_commands.specs.FollowAnswers.{AreUnread, TellsFollowed, followed_status}
 use Rattle.dali_faults.specs.JournalInput.{journal_limit, order_limit}
@@ -41,8 +41,13 @@ use Rattle.dali_link_commands.specs.Told.{IsFaultTold, IsFileFaultTold}
 
 -- the fault of journals that are none together
 abbrev pub fault_unjoined : JoinFault → Fault
-fault_unjoined (Repeated id) = Older
-fault_unjoined NoMemory = Input Memory
+fault_unjoined fault = fault_older (Join fault)
+
+-- how it is told, behind what the lines held, that not all was followed
+abbrev pub IsBreakTold : BehindFault → Status → Option (List ℕ) → Option (List ℕ) → Type 0
+IsBreakTold (behind.Open fault) status before after = IsFileFaultTold (fault_unopened fault) status before after
+IsBreakTold (behind.Join fault) status before after = IsFileFaultTold (fault_unjoined fault) status before after
+IsBreakTold (behind.Drive fault) status before after = IsFaultTold fault status before after
 
 module _ {G N : Type 0} (gave : G → G → List Given → Type 0) (over : G → Type 0) (contents : N → Option (List ℕ))
     (older : Option JournalState) (before after : Report N) (orders left : G) (first last : Look) where

@@ -1,6 +1,6 @@
 -- How refused items and faults are told behind a command's lines.
 use Rattle.std.specs.Prelude.{◌≡◌, ◌≢◌, ◌⊎◌, ◌++◌, ◌&&◌, ℕ, Bool, true, false, List, [], ◌∷◌, Option, codes}
-use Rattle.std.specs.Prelude.{chars, nat_le, if◌then◌else◌}
+use Rattle.std.specs.Prelude.{chars, nat_le, if◌then◌else◌, IfOk, Result}
 use Rattle.std.specs.Fmt.{digits}
 use Rattle.std.specs.List.{AllByRecursion, flat_map}
 use Rattle.std.specs.Io.KnownBytes.{Appends}
@@ -15,6 +15,15 @@ use Rattle.dali_faults.specs.declared.fault.Fault.TheVariants.{Input, Drive, Old
 use Rattle.dali_faults.specs.declared.fault.Status.{Status}
 use Rattle.dali_faults.specs.declared.fault.Status.TheVariants.{Unwritten}
 use Rattle.dali_faults.specs.Faults.{item_line, told_line, status_of}
+use Rattle.dali_faults.specs.Ends.{TellsEnd}
+use Rattle.dali_text.specs.declared.output.Output.{Output}
+use Rattle.dali_text.specs.declared.output.OutputFailed.{OutputFailed}
+use Rattle.dali_text.specs.Output.{held}
+use Rattle.dali_link_commands.specs.declared.drive_lines.FileFault.{FileFault}
+use Rattle.dali_link_commands.specs.declared.drive_lines.FileFault.TheVariants as files
+use Rattle.dali_link_commands.specs.declared.drive_lines.FileFault.TheVariants.{Unopened, Unread}
+use Rattle.dali_link_commands.specs.DriveAnswers.{fault_unopened}
+use Rattle.dali_link_commands.specs.Older.{fault_older}
 
 -- the lines of the refused items
 abbrev pub refused_lines : List (ℕ × ItemFault) → List ℕ
@@ -78,3 +87,18 @@ IsFaultTold fault status before after =
 abbrev pub IsFileFaultTold : Fault → Status → Option (List ℕ) → Option (List ℕ) → Type 0
 IsFileFaultTold fault status before after =
     status ≢ Unwritten → (status ≡ status_of fault) × TellsFileFault fault before after
+
+-- and by what was written of it, where it doesn't fail
+abbrev pub IsFaultWritten : {W : Type 0} → Fault → Result Status OutputFailed → (W → Option (List ℕ)) → Output W
+    → Output W → Type 0
+IsFaultWritten fault result contents before after =
+    IfOk result (λ status. (status ≡ status_of fault)
+    × TellsFileFault fault (held contents before) (held contents after))
+    × TellsEnd result after
+
+-- the fault that is told of a file
+abbrev pub fault_of : FileFault → Fault
+fault_of (Unopened fault words) = fault_unopened fault
+fault_of (files.Older fault words) = fault_older fault
+fault_of (Unread fault cause) = Input fault
+fault_of (files.Unwritten words) = Input File

@@ -1,30 +1,34 @@
-ghost use Rattle.std.specs.Prelude.{◌≡◌, IfSome};
-ghost use Rattle.dali_drive.specs.Desks.{IsUnfailed};
+ghost use Rattle.std.specs.Prelude.{◌≡◌};
+ghost use Rattle.dali_drive.specs.Behind.{IsReadyBehind};
 ghost use Rattle.dali_drive.specs.Stored.{LeavesPart};
-ghost use Rattle.dali_journal.specs.declared.standing.Standing.TheVariants.{Idle};
-ghost use Rattle.dali_journal.specs.Sentence.{standing_of};
 ghost use Rattle.dali_input.specs.Input.{ReadsAtMost, state_of};
 ghost use Rattle.dali_input.specs.Orders.{orders_limit};
 ghost use Rattle.dali_store.specs.Stores.{LeavesOnly};
 ghost use Rattle.dali_link_commands.specs.Benches.{TellsUnwritten, bench};
 ghost use Rattle.dali_link_commands.specs.BehindAnswers.{IsAnswerBehind};
 ghost use Rattle.dali_link_commands.specs.DriveAnswers.{ended_status as status_at_end};
-ghost use Rattle.dali_link_commands.specs.OrdersAnswers.{IsInputAnswer, IsReaderAnswer};
+ghost use Rattle.dali_link_commands.specs.OrdersAnswers.{IsReaderAnswer};
 ghost use Rattle.dali_faults.specs.JournalInput.{order_limit};
 
-use crate::carrying::carry_out;
-use crate::drive_lines::{tell_refused, tell_unread};
+use crate::broken::tell_broken;
+use crate::drive_lines::{FileFault, tell_file, tell_refused};
 use crate::lines::Lines;
 use dali_bank::Order;
-use dali_drive::{ListedOrders, Sink, Source, StoreDesk};
-use dali_faults::Status;
+use dali_drive::{JournalLimits, ListedOrders, Sink, Source, StoreDesk, follow_stored};
+use dali_faults::{JOURNAL_LIMIT, Status};
 use dali_input::{Input, ORDERS_LIMIT, read_input, read_orders};
-use dali_journal::Journal;
+use dali_journal::{Journal, MOST_ORDERS};
 use dali_report::Report;
 use dali_store::Store;
 use std::alloc::Global;
 use std::io;
 use std::io::{ErrorKind, Read, Write};
+
+// What a journal may have.
+pub(crate) const LIMITS: JournalLimits = JournalLimits {
+    orders: MOST_ORDERS,
+    bytes: JOURNAL_LIMIT as usize,
+};
 
 /// What is to be driven, and how.
 #[derive(Clone, Copy)]
@@ -53,31 +57,35 @@ pub fn drive_input<R: Read, I: Source, L: Sink, S: Store, W: Write, N: Write + D
     desk: &mut StoreDesk<I, L, S, Lines<W>>,
     report: &mut Report<N>,
 ) -> Status
-    requires rests { IfSome older (λ journal. standing_of journal.records ≡ Idle) }
-    requires unfailed { IsUnfailed
-        (bench S.seen S.failed S.may_leave L.held L.failed I.left I.failed W.contents desk.old).failed }
+    requires ready { IsReadyBehind older
+        (bench S.seen S.failed S.may_leave L.held L.failed I.left I.failed W.contents desk.old) }
     ensures driven { IsReaderAnswer
         (IsAnswerBehind older N.contents task.entry.moment task.entry.require_done report.old report.new)
         (report.new ≡ report.old)
         (bench S.seen S.failed S.may_leave L.held L.failed I.left I.failed W.contents desk.old)
         result (bench S.seen S.failed S.may_leave L.held L.failed I.left I.failed W.contents desk.new)
-        (state_of R.remaining input.old) (state_of R.remaining input.new) }
-    ensures read { ReadsAtMost orders_limit (state_of R.remaining input.old) (state_of R.remaining input.new) }
-    ensures unwritten { TellsUnwritten result
+        (state_of R.remaining input.old) (state_of R.remaining input.new)
+        × TellsUnwritten result
         (bench S.seen S.failed S.may_leave L.held L.failed I.left I.failed W.contents desk.new) }
+    ensures read { ReadsAtMost orders_limit (state_of R.remaining input.old) (state_of R.remaining input.new) }
     ensures any_moment { LeavesOnly S.moment S.left_since desk.old.journal desk.new.journal
         (LeavesPart order_limit (S.seen desk.old.journal) (S.seen desk.new.journal)
         (S.may_leave desk.old.journal)) }
 {
-    match read_input(alloc, input, ORDERS_LIMIT) {
-        Ok(bytes) => drive_bytes(alloc, older, task, bytes.as_slice(), desk, report),
-        Err(fault) => tell_unread(
-            alloc,
-            &mut desk.out.output,
-            task.orders,
-            fault,
-            failure_of(input.cause()),
-        ),
+    let bytes = match read_input(alloc, input, ORDERS_LIMIT) {
+        Ok(bytes) => bytes,
+        Err(fault) => {
+            let fault = FileFault::Unread(fault, failure_of(input.cause()));
+            return tell_file(alloc, &mut desk.out.output, task.orders, fault);
+        }
+    };
+    match read_orders(alloc, bytes.as_slice()) {
+        Ok(Ok(orders)) => drive_orders(alloc, older, task, orders.as_slice(), desk, report),
+        Ok(Err(refused)) => tell_refused(&mut desk.out.output, refused.as_slice()),
+        Err(fault) => {
+            let fault = FileFault::Unread(fault, None);
+            tell_file(alloc, &mut desk.out.output, task.orders, fault)
+        }
     }
 }
 
@@ -86,36 +94,6 @@ pub(crate) fn failure_of(cause: Option<ErrorKind>) -> Option<io::Error> {
     match cause {
         Some(kind) => Some(io::Error::from(kind)),
         None => None,
-    }
-}
-
-// Carries out the orders that these bytes spell.
-fn drive_bytes<I: Source, L: Sink, S: Store, W: Write, N: Write + Drop>(
-    alloc: Global,
-    older: Option<Journal>,
-    task: DriveTask<'_>,
-    input: &[u8],
-    desk: &mut StoreDesk<I, L, S, Lines<W>>,
-    report: &mut Report<N>,
-) -> Status
-    requires rests { IfSome older (λ journal. standing_of journal.records ≡ Idle) }
-    requires unfailed { IsUnfailed
-        (bench S.seen S.failed S.may_leave L.held L.failed I.left I.failed W.contents desk.old).failed }
-    ensures answer { IsInputAnswer
-        (IsAnswerBehind older N.contents task.entry.moment task.entry.require_done report.old report.new)
-        (report.new ≡ report.old)
-        (bench S.seen S.failed S.may_leave L.held L.failed I.left I.failed W.contents desk.old)
-        result (bench S.seen S.failed S.may_leave L.held L.failed I.left I.failed W.contents desk.new) input.now }
-    ensures unwritten { TellsUnwritten result
-        (bench S.seen S.failed S.may_leave L.held L.failed I.left I.failed W.contents desk.new) }
-    ensures any_moment { LeavesOnly S.moment S.left_since desk.old.journal desk.new.journal
-        (LeavesPart order_limit (S.seen desk.old.journal) (S.seen desk.new.journal)
-        (S.may_leave desk.old.journal)) }
-{
-    match read_orders(alloc, input) {
-        Ok(Ok(orders)) => drive_orders(alloc, older, task, orders.as_slice(), desk, report),
-        Ok(Err(refused)) => tell_refused(&mut desk.out.output, refused.as_slice()),
-        Err(fault) => tell_unread(alloc, &mut desk.out.output, task.orders, fault, None),
     }
 }
 
@@ -138,23 +116,22 @@ pub fn drive_orders<I: Source, L: Sink, S: Store, W: Write, N: Write + Drop>(
     desk: &mut StoreDesk<I, L, S, Lines<W>>,
     report: &mut Report<N>,
 ) -> Status
-    requires rests { IfSome older (λ journal. standing_of journal.records ≡ Idle) }
-    requires unfailed { IsUnfailed
-        (bench S.seen S.failed S.may_leave L.held L.failed I.left I.failed W.contents desk.old).failed }
+    requires ready { IsReadyBehind older
+        (bench S.seen S.failed S.may_leave L.held L.failed I.left I.failed W.contents desk.old) }
     ensures answer { IsAnswerBehind older N.contents task.entry.moment task.entry.require_done
         report.old report.new orders.now
         (bench S.seen S.failed S.may_leave L.held L.failed I.left I.failed W.contents desk.old) result
-        (bench S.seen S.failed S.may_leave L.held L.failed I.left I.failed W.contents desk.new) }
-    ensures unwritten { TellsUnwritten result
+        (bench S.seen S.failed S.may_leave L.held L.failed I.left I.failed W.contents desk.new)
+        × TellsUnwritten result
         (bench S.seen S.failed S.may_leave L.held L.failed I.left I.failed W.contents desk.new) }
     ensures any_moment { LeavesOnly S.moment S.left_since desk.old.journal desk.new.journal
         (LeavesPart order_limit (S.seen desk.old.journal) (S.seen desk.new.journal)
         (S.may_leave desk.old.journal)) }
 {
     let mut listed = ListedOrders::new(orders, task.moment);
-    match carry_out(alloc, older, task.journal, &mut listed, desk, report) {
-        Ok(()) => ended_status(task.require_done, report.all_done()),
-        Err(status) => status,
+    match follow_stored(alloc, older, LIMITS, &mut listed, desk, report) {
+        Ok(_writer) => ended_status(task.require_done, report.all_done()),
+        Err(fault) => tell_broken(alloc, task.journal, desk, fault),
     }
 }
 

@@ -1,25 +1,22 @@
-ghost use Rattle.std.specs.Prelude.{◌≡◌, ◌↔◌, true, IfSome};
+ghost use Rattle.std.specs.Prelude.{◌≡◌, ◌↔◌, true};
 ghost use Rattle.dali_drive.specs.Desks.{IsUnfailed};
 ghost use Rattle.dali_text.specs.Output.{has_failed, held};
 ghost use Rattle.dali_link_commands.specs.Benches.{TellsUnwritten, std_bench};
 ghost use Rattle.dali_link_commands.specs.BehindAnswers.{IsAnswerBehind, IsBehindNamed, EndsUnread};
-ghost use Rattle.dali_journal.specs.declared.standing.Standing.TheVariants.{Idle};
-ghost use Rattle.dali_journal.specs.Sentence.{standing_of};
 ghost use Rattle.dali_link_commands.specs.OrdersAnswers.{IsFileAnswer, IsUnread};
 ghost use Rattle.dali_link_commands.specs.Told.{IsFileFaultTold};
 ghost use Rattle.dali_input.specs.declared.fault.InputFault.{InputFault};
 
 use crate::drive::{DriveTask, drive_input};
-use crate::drive_lines::tell_unread;
+use crate::drive_lines::{FileFault, tell_file};
 use crate::lines::Lines;
 use crate::older::read_older;
-use crate::older_lines::tell_older;
 use dali_drive::{StdSink, StdSource, StoreDesk};
 use dali_faults::{Fault, Status};
 use dali_input::{Input, InputFault};
-use dali_journal::Journal;
 use dali_report::Report;
 use dali_store::FileStore;
+use dali_text::Output;
 use std::alloc::Global;
 use std::fs::{File, Files, Metadata};
 use std::io::{ErrorKind, Read, Write};
@@ -48,62 +45,41 @@ pub fn drive_files<
         (report.new ≡ report.old) (std_bench L.contents I.remaining O.contents desk.old) result
         (std_bench L.contents I.remaining O.contents desk.new))
         (EndsUnread report.old report.new (std_bench L.contents I.remaining O.contents desk.old) result
-        (std_bench L.contents I.remaining O.contents desk.new)) }
-    ensures unwritten { TellsUnwritten result (std_bench L.contents I.remaining O.contents desk.new) }
+        (std_bench L.contents I.remaining O.contents desk.new))
+        × TellsUnwritten result (std_bench L.contents I.remaining O.contents desk.new) }
 {
-    match read_older(rt, task.older) {
-        Ok(older) => drive_behind_files(rt, older, task, desk, report),
-        Err(unjoined) => tell_older(rt.alloc(), &mut desk.out.output, &unjoined),
-    }
-}
-
-// The same behind this older journal, where there is one.
-fn drive_behind_files<
-    R: Files<File = File> + AllocGlobal,
-    I: Read,
-    L: Write,
-    O: Write,
-    N: Write + Drop,
->(
-    rt: &R,
-    older: Option<Journal>,
-    task: DriveTask<'_>,
-    desk: &mut StoreDesk<StdSource<I>, StdSink<L>, FileStore<'_, R>, Lines<O>>,
-    report: &mut Report<N>,
-) -> Status
-    requires rests { IfSome older (λ journal. standing_of journal.records ≡ Idle) }
-    requires unfailed { IsUnfailed (std_bench L.contents I.remaining O.contents desk.old).failed }
-    ensures driven { IsFileAnswer
-        (IsAnswerBehind older N.contents task.entry.moment task.entry.require_done report.old report.new)
-        (report.new ≡ report.old) (std_bench L.contents I.remaining O.contents desk.old) result
-        (std_bench L.contents I.remaining O.contents desk.new) }
-    ensures unwritten { TellsUnwritten result (std_bench L.contents I.remaining O.contents desk.new) }
-{
+    let older = match read_older(rt, task.older) {
+        Ok(older) => older,
+        Err(unjoined) => {
+            let fault = FileFault::Older(unjoined.fault, unjoined.words.as_deref());
+            return tell_file(rt.alloc(), &mut desk.out.output, unjoined.name, fault);
+        }
+    };
     match opened(rt, task.orders) {
         Ok((file, found)) => {
             desk.journal.keep_journal(&found);
             drive_input(rt.alloc(), older, task, &mut Input::new(file), desk, report)
         }
-        Err(error) => tell_unopened_orders(rt.alloc(), &mut desk.out, task.orders, error),
+        Err(error) => tell_unopened(rt.alloc(), &mut desk.out.output, task.orders, error),
     }
 }
 
 // Writes that a file of orders can't be opened, and why.
-pub(crate) fn tell_unopened_orders<O: Write>(
+pub(crate) fn tell_unopened<O: Write>(
     alloc: Global,
-    lines: &mut Lines<O>,
+    output: &mut Output<O>,
     name: &str,
     error: io::Error,
 ) -> Status
     ensures told { (fault : InputFault) × IsUnread fault × IsFileFaultTold (Fault.Input fault) result
-        (held O.contents lines.old.output) (held O.contents lines.new.output) }
-    ensures unwritten { result ≡ Status.Unwritten ↔ has_failed lines.new.output ≡ true }
+        (held O.contents output.old) (held O.contents output.new) }
+    ensures unwritten { result ≡ Status.Unwritten ↔ has_failed output.new ≡ true }
 {
     let fault = match error.kind() {
         ErrorKind::OutOfMemory => InputFault::Memory,
         _ => InputFault::File,
     };
-    tell_unread(alloc, &mut lines.output, name, fault, Some(error))
+    tell_file(alloc, output, name, FileFault::Unread(fault, Some(error)))
 }
 
 // Opens a file to read it, and looks which one it is.

@@ -5,11 +5,13 @@ ghost use Rattle.std.specs.Io.KnownBytes.{Appends};
 ghost use Rattle.dali_text.specs.Output.{TellsFailure, Takes, has_failed, held, is_flushed};
 ghost use Rattle.dali_faults.specs.Ends.{TellsEnd};
 ghost use Rattle.dali_faults.specs.Faults.{status_of, told_line};
-ghost use Rattle.dali_link_commands.specs.Told.{IsFaultTold, IsFileFaultTold, TellsFileFault, TellsWorded};
+ghost use Rattle.dali_link_commands.specs.Told.{IsFaultTold, IsFaultWritten, IsFileFaultTold, fault_of};
 ghost use Rattle.dali_link_commands.specs.Told.{error_line, is_out, refused_lines, IsFaultText, IsPlain};
 ghost use Rattle.dali_link_commands.specs.DriveAnswers.{fault_unopened};
 
 use crate::lines::Lines;
+use crate::older::OlderFault;
+use crate::older_lines::write_older;
 use crate::words::{plain_words, shown};
 use dali_drive::{DriveFault, Sink, put_all};
 use dali_faults::{Fault, Status, drive_line, write_failure, write_refused_item};
@@ -55,9 +57,8 @@ pub fn tell_fault<W: Write>(
     causes: Causes<'_>,
 ) -> Status
     requires { has_failed lines.old.output ≡ is_out fault }
-    ensures told { IsFaultTold fault result
-        (held W.contents lines.old.output) (held W.contents lines.new.output) }
-    ensures unwritten { result ≡ Status.Unwritten ↔ has_failed lines.new.output ≡ true }
+    ensures told { IsFaultTold fault result (held W.contents lines.old.output) (held W.contents lines.new.output)
+        × (result ≡ Status.Unwritten ↔ has_failed lines.new.output ≡ true) }
 {
     match fault {
         DriveFault::Out => Status::Unwritten,
@@ -75,9 +76,8 @@ fn tell_worded<W: Write>(
 ) -> Status
     requires unfailed { has_failed lines.old.output ≡ false }
     requires worded { (fault ≡ DriveFault.Journal) ⊎ (fault ≡ DriveFault.Link) }
-    ensures told { IsFaultTold fault result
-        (held W.contents lines.old.output) (held W.contents lines.new.output) }
-    ensures unwritten { result ≡ Status.Unwritten ↔ has_failed lines.new.output ≡ true }
+    ensures told { IsFaultTold fault result (held W.contents lines.old.output) (held W.contents lines.new.output)
+        × (result ≡ Status.Unwritten ↔ has_failed lines.new.output ≡ true) }
 {
     if let Some(words) = causes.words(alloc, fault) {
         if let Ok(text) = worded_text(alloc, fault, words.as_str()) {
@@ -92,9 +92,8 @@ fn tell_text<W: Write>(lines: &mut Lines<W>, fault: DriveFault, text: &str) -> S
     requires unfailed { has_failed lines.old.output ≡ false }
     requires other { is_out fault ≡ false }
     requires text { IsFaultText fault text.now }
-    ensures told { IsFaultTold fault result
-        (held W.contents lines.old.output) (held W.contents lines.new.output) }
-    ensures unwritten { result ≡ Status.Unwritten ↔ has_failed lines.new.output ≡ true }
+    ensures told { IsFaultTold fault result (held W.contents lines.old.output) (held W.contents lines.new.output)
+        × (result ≡ Status.Unwritten ↔ has_failed lines.new.output ≡ true) }
 {
     if !put_all(lines, text.as_bytes()) {
         return Status::Unwritten;
@@ -170,23 +169,52 @@ fn write_items<W: Write>(
     Ok(())
 }
 
-/// Writes why a journal isn't opened, with the words that its store has for that.
-pub fn tell_unopened<W: Write>(
+/// Why a file is of no use to a command, with what its store or the system says of that.
+#[derive(Drop)]
+pub(crate) enum FileFault<'a> {
+    /// No journal of it is opened.
+    Unopened(OpenFault, Option<&'a str>),
+    /// It can't be used as an older journal.
+    Older(OlderFault, Option<&'a str>),
+    /// It gives no orders.
+    Unread(InputFault, Option<io::Error>),
+    /// It can't be written.
+    Unwritten(Option<&'a str>),
+}
+
+/// Writes why the file of this name is of no use.
+pub(crate) fn tell_file<W: Write>(
     alloc: Global,
     output: &mut Output<W>,
     name: &str,
-    fault: OpenFault,
-    cause: Option<&str>,
+    fault: FileFault<'_>,
 ) -> Status
-    ensures told { IsFileFaultTold (fault_unopened fault) result
+    ensures told { IsFileFaultTold (fault_of fault.entry) result
         (held W.contents output.old) (held W.contents output.new) }
     ensures unwritten { result ≡ Status.Unwritten ↔ has_failed output.new ≡ true }
     ensures not_good { result ≢ Status.Good }
 {
-    written_status(write_unopened(alloc, output, name, fault, cause))
+    written_status(write_file_fault(alloc, output, name, fault))
 }
 
 // The same, or that the output has failed.
+fn write_file_fault<W: Write>(
+    alloc: Global,
+    output: &mut Output<W>,
+    name: &str,
+    fault: FileFault<'_>,
+) -> Result<Status, OutputFailed>
+    ensures { IsFaultWritten (fault_of fault.entry) result W.contents output.old output.new }
+{
+    match fault {
+        FileFault::Unopened(fault, words) => write_unopened(alloc, output, name, fault, words),
+        FileFault::Older(fault, words) => write_older(alloc, output, name, fault, words),
+        FileFault::Unread(fault, cause) => write_unread(alloc, output, name, fault, cause),
+        FileFault::Unwritten(words) => write_unusable(alloc, output, name, words),
+    }
+}
+
+// Writes why a journal isn't opened.
 fn write_unopened<W: Write>(
     alloc: Global,
     output: &mut Output<W>,
@@ -194,9 +222,7 @@ fn write_unopened<W: Write>(
     fault: OpenFault,
     cause: Option<&str>,
 ) -> Result<Status, OutputFailed>
-    ensures told { IfOk result (λ status. (status ≡ status_of (fault_unopened fault))
-        × TellsFileFault (fault_unopened fault) (held W.contents output.old) (held W.contents output.new)) }
-    ensures end { TellsEnd result output.new }
+    ensures { IsFaultWritten (fault_unopened fault) result W.contents output.old output.new }
 {
     match fault {
         OpenFault::Journal(JournalFault::NoMemory) | OpenFault::Store(StoreFault::NoMemory) => {
@@ -210,38 +236,7 @@ fn write_unopened<W: Write>(
     }
 }
 
-/// Writes why a file of this name can't be used, with the words that its store has for that.
-pub fn tell_unusable<W: Write>(
-    alloc: Global,
-    output: &mut Output<W>,
-    name: &str,
-    words: Option<&str>,
-) -> Status
-    ensures told { IsFileFaultTold (Fault.Input InputFault.File) result
-        (held W.contents output.old) (held W.contents output.new) }
-    ensures unwritten { result ≡ Status.Unwritten ↔ has_failed output.new ≡ true }
-    ensures not_good { result ≢ Status.Good }
-{
-    written_status(write_unusable(alloc, output, name, words))
-}
-
-/// Writes why there are no orders, and what the system says of that, where their reader failed.
-pub fn tell_unread<W: Write>(
-    alloc: Global,
-    output: &mut Output<W>,
-    name: &str,
-    fault: InputFault,
-    cause: Option<io::Error>,
-) -> Status
-    ensures told { IsFileFaultTold (Fault.Input fault) result
-        (held W.contents output.old) (held W.contents output.new) }
-    ensures unwritten { result ≡ Status.Unwritten ↔ has_failed output.new ≡ true }
-    ensures not_good { result ≢ Status.Good }
-{
-    written_status(write_unread(alloc, output, name, fault, cause))
-}
-
-// The same, or that the output has failed.
+// Writes why there are no orders.
 fn write_unread<W: Write>(
     alloc: Global,
     output: &mut Output<W>,
@@ -249,9 +244,7 @@ fn write_unread<W: Write>(
     fault: InputFault,
     cause: Option<io::Error>,
 ) -> Result<Status, OutputFailed>
-    ensures told { IfOk result (λ status. (status ≡ status_of (Fault.Input fault))
-        × TellsFileFault (Fault.Input fault) (held W.contents output.old) (held W.contents output.new)) }
-    ensures end { TellsEnd result output.new }
+    ensures { IsFaultWritten (Fault.Input fault) result W.contents output.old output.new }
 {
     match fault {
         InputFault::Memory => write_no_memory(alloc, output, name),
@@ -267,9 +260,7 @@ fn write_unreadable<W: Write>(
     name: &str,
     cause: Option<io::Error>,
 ) -> Result<Status, OutputFailed>
-    ensures told { IfOk result (λ status. (status ≡ Status.Failed)
-        × TellsWorded (Fault.Input InputFault.File) (held W.contents output.old) (held W.contents output.new)) }
-    ensures end { TellsEnd result output.new }
+    ensures { IsFaultWritten (Fault.Input InputFault.File) result W.contents output.old output.new }
 {
     let Some(cause) = cause else {
         return write_unusable(alloc, output, name, None);
@@ -287,9 +278,7 @@ fn write_unusable<W: Write>(
     name: &str,
     words: Option<&str>,
 ) -> Result<Status, OutputFailed>
-    ensures told { IfOk result (λ status. (status ≡ Status.Failed)
-        × TellsWorded (Fault.Input InputFault.File) (held W.contents output.old) (held W.contents output.new)) }
-    ensures end { TellsEnd result output.new }
+    ensures { IsFaultWritten (Fault.Input InputFault.File) result W.contents output.old output.new }
 {
     let made = match words {
         Some(words) => String::from_str(alloc, words).ok(),
@@ -308,9 +297,7 @@ fn write_no_memory<W: Write>(
     output: &mut Output<W>,
     name: &str,
 ) -> Result<Status, OutputFailed>
-    ensures told { IfOk result (λ status. (status ≡ Status.Failed)
-        × TellsWorded (Fault.Input InputFault.Memory) (held W.contents output.old) (held W.contents output.new)) }
-    ensures end { TellsEnd result output.new }
+    ensures { IsFaultWritten (Fault.Input InputFault.Memory) result W.contents output.old output.new }
 {
     let fault = Fault::Input(InputFault::Memory);
     let made = format!(in alloc; "memory ran out: {name}").ok();

@@ -1,8 +1,6 @@
-ghost use Rattle.std.specs.Prelude.{◌≡◌, ◌≢◌, ◌↔◌, IfSome, false, true};
-ghost use Rattle.dali_drive.specs.Desks.{IsUnfailed};
+ghost use Rattle.std.specs.Prelude.{◌≡◌, ◌≢◌, ◌↔◌, false, true};
+ghost use Rattle.dali_drive.specs.Behind.{IsReadyBehind};
 ghost use Rattle.dali_drive.specs.Stored.{LeavesPart};
-ghost use Rattle.dali_journal.specs.declared.standing.Standing.TheVariants.{Idle};
-ghost use Rattle.dali_journal.specs.Sentence.{standing_of};
 ghost use Rattle.dali_follow.specs.Gave.{state_of};
 ghost use Rattle.dali_store.specs.Stores.{LeavesOnly};
 ghost use Rattle.dali_text.specs.Output.{has_failed, held};
@@ -12,11 +10,11 @@ ghost use Rattle.dali_link_commands.specs.FollowAnswers.{TellsFollowed};
 ghost use Rattle.dali_link_commands.specs.FollowAnswers.{followed_status as status_at_end};
 ghost use Rattle.dali_faults.specs.JournalInput.{order_limit};
 
-use crate::carrying::carry_out;
-use crate::drive::{DriveTask, ended_status, failure_of};
-use crate::drive_lines::tell_unread;
+use crate::broken::tell_broken;
+use crate::drive::{DriveTask, LIMITS, ended_status, failure_of};
+use crate::drive_lines::{FileFault, tell_file};
 use crate::lines::Lines;
-use dali_drive::{Sink, Source, StoreDesk};
+use dali_drive::{Sink, Source, StoreDesk, follow_stored};
 use dali_faults::Status;
 use dali_follow::OrderLines;
 use dali_input::InputFault;
@@ -44,25 +42,24 @@ pub fn follow_lines<R: Source, I: Source, L: Sink, S: Store, W: Write, N: Write 
     desk: &mut StoreDesk<I, L, S, Lines<W>>,
     report: &mut Report<N>,
 ) -> Status
-    requires rests { IfSome older (λ journal. standing_of journal.records ≡ Idle) }
-    requires unfailed { IsUnfailed
-        (bench S.seen S.failed S.may_leave L.held L.failed I.left I.failed W.contents desk.old).failed }
+    requires ready { IsReadyBehind older
+        (bench S.seen S.failed S.may_leave L.held L.failed I.left I.failed W.contents desk.old) }
     ensures answer { IsLinesBehind R.left R.failed N.contents older task.entry.require_done report.old report.new
         orders.old orders.new (bench S.seen S.failed S.may_leave L.held L.failed I.left I.failed W.contents desk.old)
-        result (bench S.seen S.failed S.may_leave L.held L.failed I.left I.failed W.contents desk.new) }
-    ensures unwritten { TellsUnwritten result
+        result (bench S.seen S.failed S.may_leave L.held L.failed I.left I.failed W.contents desk.new)
+        × TellsUnwritten result
         (bench S.seen S.failed S.may_leave L.held L.failed I.left I.failed W.contents desk.new) }
     ensures any_moment { LeavesOnly S.moment S.left_since desk.old.journal desk.new.journal
         (LeavesPart order_limit (S.seen desk.old.journal) (S.seen desk.new.journal)
         (S.may_leave desk.old.journal)) }
 {
-    match carry_out(alloc, older, task.journal, orders, desk, report) {
-        Ok(()) => {
+    match follow_stored(alloc, older, LIMITS, orders, desk, report) {
+        Ok(_writer) => {
             let done = report.all_done();
             let ended = followed_status(orders.has_refused(), task.require_done, done);
             tell_followed(alloc, &mut desk.out, task.orders, orders, ended)
         }
-        Err(status) => status,
+        Err(fault) => tell_broken(alloc, task.journal, desk, fault),
     }
 }
 
@@ -92,8 +89,8 @@ fn tell_followed<R: Source, W: Write>(
     ensures unwritten { result ≡ Status.Unwritten ↔ has_failed lines.new.output ≡ true }
 {
     if orders.has_failed() {
-        let cause = failure_of(orders.cause());
-        return tell_unread(alloc, &mut lines.output, name, InputFault::File, cause);
+        let fault = FileFault::Unread(InputFault::File, failure_of(orders.cause()));
+        return tell_file(alloc, &mut lines.output, name, fault);
     }
     ended
 }

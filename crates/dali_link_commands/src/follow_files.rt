@@ -1,21 +1,18 @@
-ghost use Rattle.std.specs.Prelude.{◌≡◌, IfSome};
+ghost use Rattle.std.specs.Prelude.{◌≡◌};
 ghost use Rattle.dali_drive.specs.Desks.{IsUnfailed};
 ghost use Rattle.dali_link_commands.specs.Benches.{TellsUnwritten, std_bench};
 ghost use Rattle.dali_link_commands.specs.BehindAnswers.{IsBehindNamed, IsFileFollow, EndsUnread};
-ghost use Rattle.dali_journal.specs.declared.standing.Standing.TheVariants.{Idle};
-ghost use Rattle.dali_journal.specs.Sentence.{standing_of};
 ghost use Rattle.dali_link_commands.specs.LinkCommands.{file_contents};
 
 use crate::drive::DriveTask;
-use crate::drive_files::{opened, tell_unopened_orders};
+use crate::drive_files::{opened, tell_unopened};
+use crate::drive_lines::{FileFault, tell_file};
 use crate::follow::follow_lines;
 use crate::lines::Lines;
 use crate::older::read_older;
-use crate::older_lines::tell_older;
 use dali_drive::{StdSink, StdSource, StoreDesk};
 use dali_faults::Status;
 use dali_follow::OrderLines;
-use dali_journal::Journal;
 use dali_report::Report;
 use dali_store::FileStore;
 use std::fs::{File, Files};
@@ -48,42 +45,22 @@ pub fn follow_file<
         (std_bench L.contents I.remaining O.contents desk.old) result
         (std_bench L.contents I.remaining O.contents desk.new))
         (EndsUnread report.old report.new (std_bench L.contents I.remaining O.contents desk.old) result
-        (std_bench L.contents I.remaining O.contents desk.new)) }
-    ensures unwritten { TellsUnwritten result (std_bench L.contents I.remaining O.contents desk.new) }
+        (std_bench L.contents I.remaining O.contents desk.new))
+        × TellsUnwritten result (std_bench L.contents I.remaining O.contents desk.new) }
 {
-    match read_older(rt, task.older) {
-        Ok(older) => follow_behind_file(rt, older, task, desk, report),
-        Err(unjoined) => tell_older(rt.alloc(), &mut desk.out.output, &unjoined),
-    }
-}
-
-// The same behind this older journal, where there is one.
-fn follow_behind_file<
-    R: Files<File = File> + AllocGlobal,
-    I: Read,
-    L: Write,
-    O: Write,
-    N: Write + Drop,
->(
-    rt: &R,
-    older: Option<Journal>,
-    task: DriveTask<'_>,
-    desk: &mut StoreDesk<StdSource<I>, StdSink<L>, FileStore<'_, R>, Lines<O>>,
-    report: &mut Report<N>,
-) -> Status
-    requires rests { IfSome older (λ journal. standing_of journal.records ≡ Idle) }
-    requires unfailed { IsUnfailed (std_bench L.contents I.remaining O.contents desk.old).failed }
-    ensures followed { IsFileFollow older file_contents N.contents task.entry.moment task.entry.require_done
-        report.old report.new (std_bench L.contents I.remaining O.contents desk.old) result
-        (std_bench L.contents I.remaining O.contents desk.new) }
-    ensures unwritten { TellsUnwritten result (std_bench L.contents I.remaining O.contents desk.new) }
-{
+    let older = match read_older(rt, task.older) {
+        Ok(older) => older,
+        Err(unjoined) => {
+            let fault = FileFault::Older(unjoined.fault, unjoined.words.as_deref());
+            return tell_file(rt.alloc(), &mut desk.out.output, unjoined.name, fault);
+        }
+    };
     match opened(rt, task.orders) {
         Ok((file, found)) => {
             let mut orders = OrderLines::new(rt.alloc(), StdSource::new(file), task.moment);
             desk.journal.keep_journal(&found);
             follow_lines(rt.alloc(), older, task, &mut orders, desk, report)
         }
-        Err(error) => tell_unopened_orders(rt.alloc(), &mut desk.out, task.orders, error),
+        Err(error) => tell_unopened(rt.alloc(), &mut desk.out.output, task.orders, error),
     }
 }

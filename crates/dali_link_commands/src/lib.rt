@@ -2,7 +2,7 @@
 //! status.
 #![tactic(auto)]
 
-mod carrying;
+mod broken;
 pub mod drive;
 pub mod drive_files;
 mod drive_lines;

@@ -76,8 +76,7 @@ impl<'a> LinkCommand<'a> {
         rt: &R,
         desk: &mut StoreDesk<StdSource<I>, StdSink<L>, FileStore<'_, R>, Lines<O>>,
     ) -> Status
-        requires short { IsShort self.now }
-        requires unfailed { IsUnfailed (std_bench L.contents I.remaining O.contents desk.old).failed }
+        requires ready { IsShort self.now × IsUnfailed (std_bench L.contents I.remaining O.contents desk.old).failed }
         ensures carried_out { IsLinkAnswer self.now (std_bench L.contents I.remaining O.contents desk.old) result
             (std_bench L.contents I.remaining O.contents desk.new) }
         ensures unwritten { TellsUnwritten result (std_bench L.contents I.remaining O.contents desk.new) }

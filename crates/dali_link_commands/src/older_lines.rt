@@ -1,14 +1,9 @@
 // How a journal is told that can't stand behind others.
-ghost use Rattle.std.specs.Prelude.{◌≡◌, ◌≢◌, ◌↔◌, IfOk, true};
-ghost use Rattle.dali_text.specs.Output.{has_failed, held};
-ghost use Rattle.dali_link_commands.specs.BehindAnswers.{fault_unjoined};
-ghost use Rattle.dali_faults.specs.Ends.{TellsEnd};
-ghost use Rattle.dali_faults.specs.Faults.{status_of};
 ghost use Rattle.dali_link_commands.specs.Older.{fault_older};
-ghost use Rattle.dali_link_commands.specs.Told.{IsFileFaultTold, TellsFileFault};
+ghost use Rattle.dali_link_commands.specs.Told.{IsFaultWritten};
 
-use crate::drive_lines::{write_worded, written_status};
-use crate::older::{OlderFault, Unjoined};
+use crate::drive_lines::write_worded;
+use crate::older::OlderFault;
 use crate::words::plain_words;
 use dali_faults::{Fault, Status};
 use dali_input::InputFault;
@@ -18,51 +13,14 @@ use std::alloc::Global;
 use std::io::Write;
 
 /// Writes why a file can't be used as an older journal: words for that, and then the fault.
-pub(crate) fn tell_older<W: Write>(
-    alloc: Global,
-    output: &mut Output<W>,
-    unjoined: &Unjoined<'_>,
-) -> Status
-    ensures told { IsFileFaultTold (fault_older unjoined.now.fault) result
-        (held W.contents output.old) (held W.contents output.new) }
-    ensures unwritten { result ≡ Status.Unwritten ↔ has_failed output.new ≡ true }
-    ensures not_good { result ≢ Status.Good }
-{
-    written_status(write_older(
-        alloc,
-        output,
-        unjoined.name,
-        unjoined.fault,
-        unjoined.words.as_deref(),
-    ))
-}
-
-/// Writes why the journal of this name is none together with the older ones.
-pub(crate) fn tell_unjoined<W: Write>(
-    alloc: Global,
-    output: &mut Output<W>,
-    name: &str,
-    fault: JoinFault,
-) -> Status
-    ensures told { IsFileFaultTold (fault_unjoined fault) result
-        (held W.contents output.old) (held W.contents output.new) }
-    ensures unwritten { result ≡ Status.Unwritten ↔ has_failed output.new ≡ true }
-    ensures not_good { result ≢ Status.Good }
-{
-    written_status(write_older(alloc, output, name, OlderFault::Join(fault), None))
-}
-
-// The same, or that the output has failed.
-fn write_older<W: Write>(
+pub(crate) fn write_older<W: Write>(
     alloc: Global,
     output: &mut Output<W>,
     name: &str,
     fault: OlderFault,
     words: Option<&str>,
 ) -> Result<Status, OutputFailed>
-    ensures told { IfOk result (λ status. (status ≡ status_of (fault_older fault))
-        × TellsFileFault (fault_older fault) (held W.contents output.old) (held W.contents output.new)) }
-    ensures end { TellsEnd result output.new }
+    ensures { IsFaultWritten (fault_older fault) result W.contents output.old output.new }
 {
     let made = words_for(alloc, name, fault, words);
     match plain_words(alloc, made) {

@@ -5,7 +5,7 @@ ghost use Rattle.dali_text.specs.Output.{has_failed, held};
 ghost use Rattle.dali_link_commands.specs.Benches.{TellsUnwritten, bench};
 ghost use Rattle.dali_link_commands.specs.ReadAnswers.{IsReadAnswer, TellsLine};
 
-use crate::drive_lines::{Causes, tell_fault, tell_unusable};
+use crate::drive_lines::{Causes, FileFault, tell_fault, tell_file};
 use crate::lines::Lines;
 use dali_drive::{Sink, Source, StoreDesk, bytes_line, put_all, read_unit, silent_line};
 use dali_faults::Status;
@@ -27,14 +27,13 @@ pub fn read_bank<I: Source, L: Sink, S: Store, W: Write>(
     name: &str,
     desk: &mut StoreDesk<I, L, S, Lines<W>>,
 ) -> Status
-    requires unit { unit ≤ 63 }
-    requires unfailed { IsUnfailed
+    requires ready { (unit ≤ 63) × IsUnfailed
         (bench S.seen S.failed S.may_leave L.held L.failed I.left I.failed W.contents desk.old).failed }
     ensures answer { IsReadAnswer unit
         (LeavesOnly S.moment S.left_since desk.old.journal desk.new.journal)
         (bench S.seen S.failed S.may_leave L.held L.failed I.left I.failed W.contents desk.old) result
-        (bench S.seen S.failed S.may_leave L.held L.failed I.left I.failed W.contents desk.new) }
-    ensures unwritten { TellsUnwritten result
+        (bench S.seen S.failed S.may_leave L.held L.failed I.left I.failed W.contents desk.new)
+        × TellsUnwritten result
         (bench S.seen S.failed S.may_leave L.held L.failed I.left I.failed W.contents desk.new) }
 {
     match read_unit(unit, &Places::Bank, &mut desk.link_in, &mut desk.link_out) {
@@ -43,7 +42,8 @@ pub fn read_bank<I: Source, L: Sink, S: Store, W: Write>(
                 let line = bytes_line(unit, bytes.len() as u8);
                 tell_line(&mut desk.out, &line, Status::Good)
             } else {
-                tell_unusable(alloc, &mut desk.out.output, name, desk.journal.cause())
+                let fault = FileFault::Unwritten(desk.journal.cause());
+                tell_file(alloc, &mut desk.out.output, name, fault)
             }
         }
         Ok(None) => tell_line(&mut desk.out, &silent_line(unit), Status::Refused),

@@ -3,11 +3,11 @@ ghost use Rattle.dali_drive.specs.Desks.{IsUnfailed};
 ghost use Rattle.dali_input.specs.Input.{ReadsAtMost, state_of};
 ghost use Rattle.dali_input.specs.Orders.{orders_limit};
 ghost use Rattle.dali_link_commands.specs.Benches.{TellsUnwritten, bench};
-ghost use Rattle.dali_link_commands.specs.OrdersAnswers.{IsInputAnswer, IsReaderAnswer};
+ghost use Rattle.dali_link_commands.specs.OrdersAnswers.{IsReaderAnswer};
 ghost use Rattle.dali_link_commands.specs.ReadAnswers.{IsScanAnswer, IsVerifyAnswer};
 
 use crate::drive::failure_of;
-use crate::drive_lines::{Causes, tell_fault, tell_refused, tell_unread};
+use crate::drive_lines::{Causes, FileFault, tell_fault, tell_file, tell_refused};
 use crate::lines::Lines;
 use dali_bank::Order;
 use dali_drive::{Sink, Source, StoreDesk, scan_units, verify_orders};
@@ -29,48 +29,30 @@ pub fn verify_input<R: Read, I: Source, L: Sink, S: Store, W: Write, N: Write + 
     desk: &mut StoreDesk<I, L, S, Lines<W>>,
     report: &mut Report<N>,
 ) -> Status
-    requires { IsUnfailed
+    requires unfailed { IsUnfailed
         (bench S.seen S.failed S.may_leave L.held L.failed I.left I.failed W.contents desk.old).failed }
     ensures verified { IsReaderAnswer (IsVerifyAnswer N.contents report.old report.new) (report.new ≡ report.old)
         (bench S.seen S.failed S.may_leave L.held L.failed I.left I.failed W.contents desk.old) result
         (bench S.seen S.failed S.may_leave L.held L.failed I.left I.failed W.contents desk.new)
-        (state_of R.remaining input.old) (state_of R.remaining input.new) }
+        (state_of R.remaining input.old) (state_of R.remaining input.new)
+        × TellsUnwritten result
+        (bench S.seen S.failed S.may_leave L.held L.failed I.left I.failed W.contents desk.new) }
     ensures read { ReadsAtMost orders_limit (state_of R.remaining input.old) (state_of R.remaining input.new) }
-    ensures unwritten { TellsUnwritten result
-        (bench S.seen S.failed S.may_leave L.held L.failed I.left I.failed W.contents desk.new) }
 {
-    match read_input(alloc, input, ORDERS_LIMIT) {
-        Ok(bytes) => verify_bytes(alloc, name, bytes.as_slice(), desk, report),
-        Err(fault) => tell_unread(
-            alloc,
-            &mut desk.out.output,
-            name,
-            fault,
-            failure_of(input.cause()),
-        ),
-    }
-}
-
-// Compares units with the orders that these bytes spell.
-fn verify_bytes<I: Source, L: Sink, S: Store, W: Write, N: Write + Drop>(
-    alloc: Global,
-    name: &str,
-    input: &[u8],
-    desk: &mut StoreDesk<I, L, S, Lines<W>>,
-    report: &mut Report<N>,
-) -> Status
-    requires { IsUnfailed
-        (bench S.seen S.failed S.may_leave L.held L.failed I.left I.failed W.contents desk.old).failed }
-    ensures answer { IsInputAnswer (IsVerifyAnswer N.contents report.old report.new) (report.new ≡ report.old)
-        (bench S.seen S.failed S.may_leave L.held L.failed I.left I.failed W.contents desk.old) result
-        (bench S.seen S.failed S.may_leave L.held L.failed I.left I.failed W.contents desk.new) input.now }
-    ensures unwritten { TellsUnwritten result
-        (bench S.seen S.failed S.may_leave L.held L.failed I.left I.failed W.contents desk.new) }
-{
-    match read_orders(alloc, input) {
+    let bytes = match read_input(alloc, input, ORDERS_LIMIT) {
+        Ok(bytes) => bytes,
+        Err(fault) => {
+            let fault = FileFault::Unread(fault, failure_of(input.cause()));
+            return tell_file(alloc, &mut desk.out.output, name, fault);
+        }
+    };
+    match read_orders(alloc, bytes.as_slice()) {
         Ok(Ok(orders)) => verify_units(alloc, orders.as_slice(), desk, report),
         Ok(Err(refused)) => tell_refused(&mut desk.out.output, refused.as_slice()),
-        Err(fault) => tell_unread(alloc, &mut desk.out.output, name, fault, None),
+        Err(fault) => {
+            let fault = FileFault::Unread(fault, None);
+            tell_file(alloc, &mut desk.out.output, name, fault)
+        }
     }
 }
 
@@ -85,12 +67,12 @@ pub fn verify_units<I: Source, L: Sink, S: Store, W: Write, N: Write + Drop>(
     desk: &mut StoreDesk<I, L, S, Lines<W>>,
     report: &mut Report<N>,
 ) -> Status
-    requires { IsUnfailed
+    requires unfailed { IsUnfailed
         (bench S.seen S.failed S.may_leave L.held L.failed I.left I.failed W.contents desk.old).failed }
     ensures answer { IsVerifyAnswer N.contents report.old report.new orders.now
         (bench S.seen S.failed S.may_leave L.held L.failed I.left I.failed W.contents desk.old) result
-        (bench S.seen S.failed S.may_leave L.held L.failed I.left I.failed W.contents desk.new) }
-    ensures unwritten { TellsUnwritten result
+        (bench S.seen S.failed S.may_leave L.held L.failed I.left I.failed W.contents desk.new)
+        × TellsUnwritten result
         (bench S.seen S.failed S.may_leave L.held L.failed I.left I.failed W.contents desk.new) }
 {
     let ended = verify_orders(
@@ -123,12 +105,12 @@ pub fn scan<I: Source, L: Sink, S: Store, W: Write>(
     alloc: Global,
     desk: &mut StoreDesk<I, L, S, Lines<W>>,
 ) -> Status
-    requires { IsUnfailed
+    requires unfailed { IsUnfailed
         (bench S.seen S.failed S.may_leave L.held L.failed I.left I.failed W.contents desk.old).failed }
     ensures answer { IsScanAnswer
         (bench S.seen S.failed S.may_leave L.held L.failed I.left I.failed W.contents desk.old)
-        result (bench S.seen S.failed S.may_leave L.held L.failed I.left I.failed W.contents desk.new) }
-    ensures unwritten { TellsUnwritten result
+        result (bench S.seen S.failed S.may_leave L.held L.failed I.left I.failed W.contents desk.new)
+        × TellsUnwritten result
         (bench S.seen S.failed S.may_leave L.held L.failed I.left I.failed W.contents desk.new) }
 {
     match scan_units(&mut desk.link_in, &mut desk.link_out, &mut desk.out) {

@@ -4,7 +4,7 @@ ghost use Rattle.dali_link_commands.specs.Benches.{TellsUnwritten, std_bench};
 ghost use Rattle.dali_link_commands.specs.OrdersAnswers.{IsFileAnswer};
 ghost use Rattle.dali_link_commands.specs.ReadAnswers.{IsVerifyAnswer};
 
-use crate::drive_files::{opened, tell_unopened_orders};
+use crate::drive_files::{opened, tell_unopened};
 use crate::lines::Lines;
 use crate::survey::verify_input;
 use dali_drive::{StdSink, StdSource, StoreDesk};
@@ -33,13 +33,13 @@ pub fn verify_file<
     requires unfailed { IsUnfailed (std_bench L.contents I.remaining O.contents desk.old).failed }
     ensures verified { IsFileAnswer (IsVerifyAnswer N.contents report.old report.new) (report.new ≡ report.old)
         (std_bench L.contents I.remaining O.contents desk.old) result
-        (std_bench L.contents I.remaining O.contents desk.new) }
-    ensures unwritten { TellsUnwritten result (std_bench L.contents I.remaining O.contents desk.new) }
+        (std_bench L.contents I.remaining O.contents desk.new)
+        × TellsUnwritten result (std_bench L.contents I.remaining O.contents desk.new) }
 {
     match opened(rt, name) {
         Ok((file, _found)) => {
             verify_input(rt.alloc(), name, &mut Input::new(file), desk, report)
         }
-        Err(error) => tell_unopened_orders(rt.alloc(), &mut desk.out, name, error),
+        Err(error) => tell_unopened(rt.alloc(), &mut desk.out.output, name, error),
     }
 }

@@ -1,24 +1,51 @@
-use Rattle.std.proofs.Common.{◌∙◌, ap₂, inl, inr, subst}
-use Rattle.dali_follow.specs.Gave.{state_of}
+use Rattle.std.proofs.Common.{rules, ◌∙◌, ap₂, inl, inr, subst}
+use Rattle.dali_follow.specs.Gave.{Gave, state_of}
 use Rattle.dali_text.specs.Output.{has_failed, held}
 use Rattle.dali_faults.specs.declared.fault.Status.{Status}
+use Rattle.dali_link_commands.specs.Benches.{bench}
 use Rattle.dali_link_commands.specs.FollowAnswers.{TellsFollowed, followed_status}
+use Rattle.dali_link_commands.proofs.BehindLemmas.{break_told}
 use Rattle.dali_link_commands.proofs.follow.follow_lines.Goals as goal
 
 pub returns-in-Ok-clause-answer : goal.returns-in-Ok-clause-answer
-returns-in-Ok-clause-answer g c = inl (record {
-  lost = has_failed c.carry_out.new.desk.out.output;
-  replies = held g.W.Write.contents c.carry_out.new.desk.out.output;
-  follows = c.in-Ok.ensures.followed;
-  told =
-      subst (λ (status : Status). TellsFollowed (g.R.Source.failed (state_of c.carry_out.new.orders).source)
-      status c.tell_followed.result (held g.W.Write.contents c.carry_out.new.desk.out.output)
-      (held g.W.Write.contents c.tell_followed.new.lines.output))
-      (c.followed_status-ended.ensures
-      ∙ ap₂ (λ refused done. followed_status refused c.args.task.require_done done) c.has_refused.ensures
-      (c.all_done-done.ensures ∙ c.in-Ok.ensures.followed.followed.observed.told_all.done_is))
-      c.tell_followed.ensures.told;
-})
+returns-in-Ok-clause-answer g c = (
+  inl (record {
+    lost = has_failed c.follow_stored.new.desk.out.output;
+    replies = held g.W.Write.contents c.follow_stored.new.desk.out.output;
+    follows = record {
+      writer = c.in-Ok._writer;
+      followed = c.in-Ok.ensures.followed;
+      unfailed = c.in-Ok.ensures.ready.1;
+      settled = c.in-Ok.ensures.settled;
+    };
+    told =
+        subst (λ (status : Status). TellsFollowed (g.R.Source.failed (state_of c.follow_stored.new.orders).source)
+        status c.tell_followed.result (held g.W.Write.contents c.follow_stored.new.desk.out.output)
+        (held g.W.Write.contents c.tell_followed.new.lines.output))
+        (c.followed_status-ended.ensures
+        ∙ ap₂ (λ refused done. followed_status refused c.args.task.require_done done) c.has_refused.ensures
+        (c.all_done-done.ensures ∙ c.in-Ok.ensures.followed.observed.told_all.done_is))
+        c.tell_followed.ensures.told;
+  }),
+  search rules,
+)
 
 pub returns-in-Err-clause-answer : goal.returns-in-Err-clause-answer
-returns-in-Err-clause-answer g c = inr c.in-Err.ensures.broken
+returns-in-Err-clause-answer g c =
+    let desk = c.follow_stored.new.desk in
+    rw c.tell_broken.ensures.only (
+      inr (break_told (Gave g.R.Source.left g.R.Source.failed) g.N.Write.contents c.args.older c.args.report.now
+      c.follow_stored.new.observer _ _
+      (bench g.S.Store.seen g.S.Store.failed g.S.Store.may_leave g.L.Sink.held g.L.Sink.failed g.I.Source.left
+      g.I.Source.failed g.W.Write.contents c.args.desk.now)
+      (bench g.S.Store.seen g.S.Store.failed g.S.Store.may_leave g.L.Sink.held g.L.Sink.failed g.I.Source.left
+      g.I.Source.failed g.W.Write.contents (record desk { out = c.tell_broken.new.desk.out }))
+      (held g.W.Write.contents desk.out.output) (has_failed desk.out.output) c.tell_broken.result c.in-Err.fault
+      c.in-Err.ensures.broken c.in-Err.ensures.err c.tell_broken.ensures.told),
+      search rules,
+    )
+
+pub returns-in-Err-clause-any_moment : goal.returns-in-Err-clause-any_moment
+returns-in-Err-clause-any_moment g c =
+    let left = c.follow_stored.ensures.any_moment in
+    rw c.tell_broken.ensures.only (record { later = left.later; each = left.each; before = left.before })

@@ -1,7 +1,38 @@
+use Rattle.std.proofs.Common.{rules, inl, inr, refl}
+use Rattle.dali_drive.specs.Desks.{Look}
+use Rattle.dali_drive.specs.StdStreams.{source_left, source_failed}
+use Rattle.dali_link_commands.specs.Benches.{std_bench}
+use Rattle.dali_link_commands.specs.BehindAnswers.{IsLinesBehind}
+use Rattle.dali_link_commands.specs.LinkCommands.{file_contents}
 use Rattle.dali_link_commands.proofs.BehindLemmas.{behind_named}
+use Rattle.dali_link_commands.proofs.FollowLemmas.{new_are_unread}
+use Rattle.dali_link_commands.proofs.ReadLemmas.{kept_journal}
 use Rattle.dali_link_commands.proofs.follow_files.follow_file.Goals as goal
 
-pub returns-in-Ok-clause-followed : goal.returns-in-Ok-clause-followed
-returns-in-Ok-clause-followed g c =
+pub returns-in-Ok-opened : goal.returns-in-Ok-opened
+returns-in-Ok-opened g c = record {
+  followed = (
+    behind_named _ c.in-Ok.older _ _ c.in-Ok.ensures.none c.in-Ok.ensures.some c.in-Ok.ensures.rests (inl (
+          c.new-orders.result,
+          c.follow_lines.new.orders,
+          new_are_unread source_failed c.new.result c.args.task.moment c.new-orders.result c.new-orders.ensures
+              c.new.ensures.failed,
+          kept_journal g.L.Write.contents g.I.Read.remaining g.O.Write.contents c.args.desk.now c.keep_journal.new.self
+              (λ (first : Look). IsLinesBehind (source_left file_contents) source_failed g.N.Write.contents c.in-Ok.older
+              c.args.task.require_done c.args.report.now c.follow_lines.new.report c.new-orders.result
+              c.follow_lines.new.orders first c.follow_lines.result
+              (std_bench g.L.Write.contents g.I.Read.remaining g.O.Write.contents c.follow_lines.new.desk))
+              c.keep_journal.ensures c.follow_lines.ensures.answer.0,
+        )),
+    search rules,
+  );
+}
+
+pub returns-in-Err-opened : goal.returns-in-Err-opened
+returns-in-Err-opened g c = record {
+  followed = (
     behind_named _ c.in-Ok.older _ _ c.in-Ok.ensures.none c.in-Ok.ensures.some c.in-Ok.ensures.rests
-    c.follow_behind_file.ensures.followed
+        (inr (c.tell_unopened.ensures.told.0, c.tell_unopened.ensures.told.1, search rules, refl)),
+    search rules,
+  );
+}

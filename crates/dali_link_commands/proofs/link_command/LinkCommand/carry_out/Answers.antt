@@ -13,7 +13,7 @@ returns-in-Drive-clause-carried_out g c = rw c.in-Drive.is
     c.drive_files-ended.new.report
     c.drive_files-ended.result c.end.result (held g.O.Write.contents c.drive_files-ended.new.desk.out.output)
     (has_failed c.drive_files-ended.new.desk.out.output) c.open-file.ensures.unfailed c.open-file.ensures.output
-    c.drive_files-ended.ensures.driven c.end.ensures.told)
+    c.drive_files-ended.ensures.driven.0 c.end.ensures.told)
 
 pub returns-in-Follow-clause-carried_out : goal.returns-in-Follow-clause-carried_out
 returns-in-Follow-clause-carried_out g c = rw c.in-Follow.is
@@ -24,7 +24,7 @@ returns-in-Follow-clause-carried_out g c = rw c.in-Follow.is
     c.follow_file-ended.result c.end-in-Follow.result (held g.O.Write.contents c.follow_file-ended.new.desk.out.output)
     (has_failed c.follow_file-ended.new.desk.out.output) c.open-file-in-Follow.ensures.unfailed
     c.open-file-in-Follow.ensures.output
-    c.follow_file-ended.ensures.followed c.end-in-Follow.ensures.told)
+    c.follow_file-ended.ensures.followed.0 c.end-in-Follow.ensures.told)
 
 pub returns-in-Verify-clause-carried_out : goal.returns-in-Verify-clause-carried_out
 returns-in-Verify-clause-carried_out g c = rw c.in-Verify.is
@@ -35,7 +35,7 @@ returns-in-Verify-clause-carried_out g c = rw c.in-Verify.is
     c.verify_file-ended.result c.end-in-Verify.result (held g.O.Write.contents c.verify_file-ended.new.desk.out.output)
     (has_failed c.verify_file-ended.new.desk.out.output) c.open-file-in-Verify.ensures.unfailed
     c.open-file-in-Verify.ensures.output
-    c.verify_file-ended.ensures.verified c.end-in-Verify.ensures.told)
+    c.verify_file-ended.ensures.verified.0 c.end-in-Verify.ensures.told)
 
 pub returns-in-Read-clause-carried_out : goal.returns-in-Read-clause-carried_out
-returns-in-Read-clause-carried_out g c = rw c.in-Read.is (nothing_known _ _ _ _ _ c.read_bank.ensures.answer)
+returns-in-Read-clause-carried_out g c = rw c.in-Read.is (nothing_known _ _ _ _ _ c.read_bank.ensures.answer.0)

@@ -1,0 +1,51 @@
+// How a drive is told that broke off, behind what its lines hold.
+ghost use Rattle.std.specs.Prelude.{◌≡◌, ◌≢◌};
+ghost use Rattle.dali_drive.specs.Behind.{BehindShows};
+ghost use Rattle.dali_link_commands.specs.Benches.{TellsUnwritten, bench};
+ghost use Rattle.dali_link_commands.specs.BehindAnswers.{IsBreakTold};
+
+use crate::drive_lines::{Causes, FileFault, tell_fault, tell_file};
+use crate::lines::Lines;
+use crate::older::OlderFault;
+use dali_drive::{BehindFault, Sink, Source, StoreDesk};
+use dali_faults::Status;
+use dali_store::Store;
+use std::alloc::Global;
+use std::io::Write;
+
+// Tells why not all was followed, with the name of the journal, where the lines haven't failed, or that is the fault.
+pub(crate) fn tell_broken<I: Source, L: Sink, S: Store, W: Write>(
+    alloc: Global,
+    name: &str,
+    desk: &mut StoreDesk<I, L, S, Lines<W>>,
+    fault: BehindFault,
+) -> Status
+    requires shown { BehindShows fault
+        (bench S.seen S.failed S.may_leave L.held L.failed I.left I.failed W.contents desk.old).failed }
+    ensures told { IsBreakTold fault result
+        (bench S.seen S.failed S.may_leave L.held L.failed I.left I.failed W.contents desk.old).streams.out
+        (bench S.seen S.failed S.may_leave L.held L.failed I.left I.failed W.contents desk.new).streams.out }
+    ensures only { desk.new ≡ record desk.old { out = desk.new.out } }
+    ensures unwritten { TellsUnwritten result
+        (bench S.seen S.failed S.may_leave L.held L.failed I.left I.failed W.contents desk.new) }
+    ensures not_good { result ≢ Status.Good }
+{
+    match fault {
+        BehindFault::Open(fault) => {
+            let fault = FileFault::Unopened(fault, desk.journal.cause());
+            tell_file(alloc, &mut desk.out.output, name, fault)
+        }
+        BehindFault::Join(fault) => {
+            let fault = FileFault::Older(OlderFault::Join(fault), None);
+            tell_file(alloc, &mut desk.out.output, name, fault)
+        }
+        BehindFault::Drive(fault) => {
+            let causes = Causes {
+                link_in: desk.link_in.cause(),
+                link_out: desk.link_out.cause(),
+                store: desk.journal.cause(),
+            };
+            tell_fault(alloc, &mut desk.out, fault, causes)
+        }
+    }
+}

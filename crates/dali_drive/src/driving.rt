@@ -112,8 +112,8 @@ pub fn drive<I: Source, L: Sink, J: Sink, O: Sink>(
     out: &mut O,
 ) -> Result<Writer, DriveFault>
     requires rests { IsAtRest writer }
-    requires unfailed {
-        NoneFailed (J.failed journal_out.old) (L.failed link_out.old) (I.failed link_in.old) (O.failed out.old) }
+    requires unfailed { NoneFailed (J.failed journal_out.old) (L.failed link_out.old) (I.failed link_in.old)
+        (O.failed out.old) }
     ensures driven { IfOk result (λ driven. IsDrive (start_of writer.journal) (at_moment moment orders.now)
         (shown (J.held journal_out.old) (L.held link_out.old) (I.left link_in.old) (O.held out.old))
         driven (shown (J.held journal_out.new) (L.held link_out.new) (I.left link_in.new) (O.held out.new))) }

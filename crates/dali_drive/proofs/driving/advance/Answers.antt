@@ -149,7 +149,8 @@ returns-else-not-say-clause-worked g c = record {
               (subst (Appends _ _) {y = reply_line c.in-Say.id c.in-Say.reply}
               (c.deref-in-Say.ensures.0 ∙ c.reply_line.ensures) (c.if-not-say.ensures.whole refl));
           described = described;
-          follows = c.said.ensures.follows start past c.in-Say.id c.in-Say.reply (sym c.in-Say.ensures.phase) d.described
+          follows =
+              c.said.ensures.follows start past c.in-Say.id c.in-Say.reply (sym c.in-Say.ensures.phase) d.described
               d.follows;
         };
         asked = refl;
@@ -174,7 +175,7 @@ returns-in-Idle-clause-worked g c = record {
     told_all = told;
   };
   ends = search rules;
-  grown = 
+  grown =
       still g.D.Desk.look g.D.Desk.moment g.D.Desk.left_since g.D.Desk.same c.args.desk.now
       (g.met.D.Desk.only_now c.args.desk.now) (g.met.D.Desk.same_now c.args.desk.now);
 }

@@ -27,7 +27,7 @@ returns-in_default-clause-worked g c = record {
     told_all = told;
   };
   ends = search rules;
-  grown = 
+  grown =
       still g.D.Desk.look g.D.Desk.moment g.D.Desk.left_since g.D.Desk.same c.args.desk.now
       (g.met.D.Desk.only_now c.args.desk.now) (g.met.D.Desk.same_now c.args.desk.now);
 }
@@ -65,7 +65,8 @@ returns-clause-worked g c = record {
       let order = c.args.order in
       let described = rw c.copy.ensures.value at (c.in-Ok.ensures.described start past d.described) in
       let follows = rw c.copy.ensures.value at (c.in-Ok.ensures.follows start past d.follows) in
-      let line = c.deref.ensures.0 ∙ c.reply_line.ensures ∙ ap (λ (n : ℕ). reply_line n c.in-Ok.reply) c.id-id.ensures in
+      let line =
+      c.deref.ensures.0 ∙ c.reply_line.ensures ∙ ap (λ (n : ℕ). reply_line n c.in-Ok.reply) c.id-id.ensures in
       let said = subst (Appends _ _) line (c.if-not-say.ensures.whole refl) in
       let asked = c.see.ensures start since past told
       (stands_so start _ c.submit.new.self _ described c.journal.ensures) in
@@ -88,7 +89,7 @@ returns-clause-worked g c = record {
         told_all = answered;
       }) (c.work.ensures.worked.came_of_it start _ first since d_next answered);
   ends = search rules;
-  grown = 
+  grown =
       grows_on g.D.Desk.look g.D.Desk.moment g.D.Desk.left_since g.D.Desk.same g.met.D.Desk.same_on _ _ _
       c.if-not-say.ensures.grown (still_settled (g.D.Desk.look c.args.desk.now) (g.D.Desk.look c.say.new.self)
       c.if-not-say.ensures.only c.if-not-say.ensures.left) c.work.ensures.worked.grown;

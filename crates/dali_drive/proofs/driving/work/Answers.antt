@@ -10,7 +10,8 @@ loop-preserved g c = record {
   worked = λ start past first since d told.
       let before = c.loop.invariant.worked start past first since d told in
       works_on start past [] [] first _ _ _ _ before _ _ _
-      (c.in_ok-advance.ensures.worked.came_of_it start (before.more ++ past) first since before.driven_at before.told_all);
+      (c.in_ok-advance.ensures.worked.came_of_it start (before.more ++ past) first since before.driven_at
+      before.told_all);
   unfailed = c.in_ok-advance.ensures.worked.ends.0;
   settles = λ settled. c.in_ok-advance.ensures.worked.ends.1 (c.loop.invariant.settles settled);
   grown = grows_on g.D.Desk.look g.D.Desk.moment g.D.Desk.left_since g.D.Desk.same g.met.D.Desk.same_on _ _ _
@@ -23,9 +24,10 @@ returns-clause-worked g c = record {
   came_of_it = λ start past first since d told.
       let before = c.loop.invariant.worked start past first since d told in
       works_on start past [] [] first _ _ _ _ before _ _ _
-      (c.in_ok-advance.ensures.worked.came_of_it start (before.more ++ past) first since before.driven_at before.told_all);
+      (c.in_ok-advance.ensures.worked.came_of_it start (before.more ++ past) first since before.driven_at
+      before.told_all);
   ends = search rules;
-  grown = 
+  grown =
       grows_on g.D.Desk.look g.D.Desk.moment g.D.Desk.left_since g.D.Desk.same g.met.D.Desk.same_on _ _ _
       c.loop.invariant.grown c.loop.invariant.settles c.in_ok-advance.ensures.worked.grown;
 }
@@ -35,12 +37,13 @@ returns-in_err-advance-clause-worked g c = record {
   came_of_it = λ start past first since d told.
       let before = c.loop.invariant.worked start past first since d told in
       let next =
-      c.in_err-advance.ensures.worked.came_of_it start (before.more ++ past) first since before.driven_at before.told_all in
+      c.in_err-advance.ensures.worked.came_of_it start (before.more ++ past) first since before.driven_at
+      before.told_all in
       let p = err_from_is_err_and c.from_residual.result c.from_residual.ensures.1 in
       rw (p.1, p.2) (breaks_on start past [] [] first _ _ _ _ before _ _ _ _ _
       (leaving_less _ _ _ _ _ _ _ _ _ _ _ (λ d left. (c.loop.invariant.settles left.0, left.1)) next));
   ends = search rules;
-  grown = 
+  grown =
       grows_on g.D.Desk.look g.D.Desk.moment g.D.Desk.left_since g.D.Desk.same g.met.D.Desk.same_on _ _ _
       c.loop.invariant.grown c.loop.invariant.settles c.in_err-advance.ensures.worked.grown;
 }

@@ -11,7 +11,8 @@ returns-in-Order-clause-worked g c = record {
   came_of_it = λ start before first since follow told.
       rw c.in-Order.is (order_on start before first _ (g.D.Desk.look c.args.desk.now)
       (g.D.Desk.look c.carry_out.new.desk) follow c.in-Order.order c.in-Order.moment _ _ _ c.carry_out.result
-      (c.carry_out.ensures.worked.came_of_it start _ _ since follow.at.driven_at follow.quiet told) c.carry_out.ensures.done);
+      (c.carry_out.ensures.worked.came_of_it start _ _ since follow.at.driven_at follow.quiet told)
+      c.carry_out.ensures.done);
   ends = search rules;
   grown = search rules;
 }

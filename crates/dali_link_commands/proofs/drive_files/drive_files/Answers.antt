@@ -9,20 +9,20 @@ use Rattle.dali_link_commands.proofs.ReadLemmas.{kept_journal}
 use Rattle.dali_link_commands.proofs.drive_files.drive_files.Goals as goal
 
 pub returns-in-Ok-opened : goal.returns-in-Ok-opened
-returns-in-Ok-opened g c =
-    let answers = IsAnswerBehind c.in-Ok.older g.N.Write.contents c.args.task.moment c.args.task.require_done
-    c.args.report.now c.drive_input.new.report in
-    let unreported = c.drive_input.new.report ≡ c.args.report.now in
-    record {
-      driven = (
+returns-in-Ok-opened g c = record {
+  driven =
+      let answers = IsAnswerBehind c.in-Ok.older g.N.Write.contents c.args.task.moment c.args.task.require_done
+      c.args.report.now c.drive_input.new.report in
+      let unreported = c.drive_input.new.report ≡ c.args.report.now in (
         behind_named _ c.in-Ok.older _ _ c.in-Ok.ensures.none c.in-Ok.ensures.some c.in-Ok.ensures.rests
-        (kept_journal g.L.Write.contents g.I.Read.remaining g.O.Write.contents c.args.desk.now c.keep_journal.new.self
-        (λ (first : Look). IsFileAnswer answers unreported first c.drive_input.result
-        (std_bench g.L.Write.contents g.I.Read.remaining g.O.Write.contents c.drive_input.new.desk)) c.keep_journal.ensures
-        (file_answered answers unreported _ _ _ _ _ c.drive_input.ensures.driven.0)),
+            (kept_journal g.L.Write.contents g.I.Read.remaining g.O.Write.contents c.args.desk.now
+            c.keep_journal.new.self
+            (λ (first : Look). IsFileAnswer answers unreported first c.drive_input.result
+            (std_bench g.L.Write.contents g.I.Read.remaining g.O.Write.contents c.drive_input.new.desk))
+            c.keep_journal.ensures (file_answered answers unreported _ _ _ _ _ c.drive_input.ensures.driven.0)),
         search rules,
       );
-    }
+}
 
 pub returns-in-Err-opened : goal.returns-in-Err-opened
 returns-in-Err-opened g c = record {

@@ -35,13 +35,13 @@ returns-in-Err-clause-answer g c =
     let desk = c.follow_stored.new.desk in
     rw c.tell_broken.ensures.only (
       inr (break_told (Gave g.R.Source.left g.R.Source.failed) g.N.Write.contents c.args.older c.args.report.now
-      c.follow_stored.new.observer _ _
-      (bench g.S.Store.seen g.S.Store.failed g.S.Store.may_leave g.L.Sink.held g.L.Sink.failed g.I.Source.left
-      g.I.Source.failed g.W.Write.contents c.args.desk.now)
-      (bench g.S.Store.seen g.S.Store.failed g.S.Store.may_leave g.L.Sink.held g.L.Sink.failed g.I.Source.left
-      g.I.Source.failed g.W.Write.contents (record desk { out = c.tell_broken.new.desk.out }))
-      (held g.W.Write.contents desk.out.output) (has_failed desk.out.output) c.tell_broken.result c.in-Err.fault
-      c.in-Err.ensures.broken c.in-Err.ensures.err c.tell_broken.ensures.told),
+          c.follow_stored.new.observer _ _
+          (bench g.S.Store.seen g.S.Store.failed g.S.Store.may_leave g.L.Sink.held g.L.Sink.failed g.I.Source.left
+          g.I.Source.failed g.W.Write.contents c.args.desk.now)
+          (bench g.S.Store.seen g.S.Store.failed g.S.Store.may_leave g.L.Sink.held g.L.Sink.failed g.I.Source.left
+          g.I.Source.failed g.W.Write.contents (record desk { out = c.tell_broken.new.desk.out }))
+          (held g.W.Write.contents desk.out.output) (has_failed desk.out.output) c.tell_broken.result c.in-Err.fault
+          c.in-Err.ensures.broken c.in-Err.ensures.err c.tell_broken.ensures.told),
       search rules,
     )
 

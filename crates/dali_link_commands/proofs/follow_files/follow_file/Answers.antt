@@ -13,17 +13,17 @@ pub returns-in-Ok-opened : goal.returns-in-Ok-opened
 returns-in-Ok-opened g c = record {
   followed = (
     behind_named _ c.in-Ok.older _ _ c.in-Ok.ensures.none c.in-Ok.ensures.some c.in-Ok.ensures.rests (inl (
-          c.new-orders.result,
-          c.follow_lines.new.orders,
-          new_are_unread source_failed c.new.result c.args.task.moment c.new-orders.result c.new-orders.ensures
-              c.new.ensures.failed,
-          kept_journal g.L.Write.contents g.I.Read.remaining g.O.Write.contents c.args.desk.now c.keep_journal.new.self
-              (λ (first : Look). IsLinesBehind (source_left file_contents) source_failed g.N.Write.contents c.in-Ok.older
-              c.args.task.require_done c.args.report.now c.follow_lines.new.report c.new-orders.result
-              c.follow_lines.new.orders first c.follow_lines.result
-              (std_bench g.L.Write.contents g.I.Read.remaining g.O.Write.contents c.follow_lines.new.desk))
-              c.keep_journal.ensures c.follow_lines.ensures.answer.0,
-        )),
+      c.new-orders.result,
+      c.follow_lines.new.orders,
+      new_are_unread source_failed c.new.result c.args.task.moment c.new-orders.result c.new-orders.ensures
+          c.new.ensures.failed,
+      kept_journal g.L.Write.contents g.I.Read.remaining g.O.Write.contents c.args.desk.now c.keep_journal.new.self
+          (λ (first : Look). IsLinesBehind (source_left file_contents) source_failed g.N.Write.contents c.in-Ok.older
+          c.args.task.require_done c.args.report.now c.follow_lines.new.report c.new-orders.result
+          c.follow_lines.new.orders first c.follow_lines.result
+          (std_bench g.L.Write.contents g.I.Read.remaining g.O.Write.contents c.follow_lines.new.desk))
+          c.keep_journal.ensures c.follow_lines.ensures.answer.0,
+    )),
     search rules,
   );
 }

@@ -25,17 +25,25 @@ def answer_to(line, carry):
     try:
         return carry(known[1])
     except OSError as fault:
-        raise Broken(fault) from fault
+        raise Broken(words_of(fault)) from fault
+
+
+def words_of(fault):
+    """Give words for what the system refused at the interface, without its number."""
+    return f"the interface can't be used: {fault.strerror}" if fault.strerror else str(fault)
 
 
 def tell(fault):
     """Tell what is wrong on standard error, which the command has too."""
-    print("error:", fault, file=sys.stderr)
+    print("error:", words_of(fault) if isinstance(fault, OSError) else fault, file=sys.stderr)
 
 
 def serve(carry, words):
     """Start the command, carry its frames, and return its status; where the link broke never 0."""
-    command = subprocess.Popen(words, stdin=subprocess.PIPE, stdout=subprocess.PIPE, bufsize=0)
+    try:
+        command = subprocess.Popen(words, stdin=subprocess.PIPE, stdout=subprocess.PIPE, bufsize=0)
+    except OSError as fault:
+        raise Broken(f"the command can't be started: {words[0]}: {fault.strerror}") from fault
     least = 0
     try:
         while line := command.stdout.readline(16):

@@ -12,6 +12,7 @@ Options have another letter in the place of `S`, another baud rate, and a line f
 """
 
 import argparse
+import errno
 import fcntl
 import functools
 import os
@@ -30,6 +31,14 @@ REPLY = rb"(?:J([0-9A-Fa-f]{2})|N|X)"
 REPLIES = {CARRIAGE_RETURN: re.compile(REPLY + rb"\r"), LINE_FEED: re.compile(REPLY + rb"\r?\n")}
 # Each baud rate of the system, with the name that the system has for it.
 BAUD_RATES = {name[1:]: getattr(termios, name) for name in dir(termios) if re.fullmatch("B[1-9][0-9]*", name)}
+# Why a serial line isn't opened, and what to do.
+WHY_UNOPENED = {
+    errno.EAGAIN: "another adapter has it: end that one first",
+    errno.EBUSY: "another program has it, as ModemManager (docs/LINK.md): end that one first",
+    errno.EACCES: "it may not be opened: put the user into the group that owns it, on Debian dialout",
+    errno.ENOENT: "it isn't there: is the interface plugged in?",
+    errno.ENOTTY: "it is no serial line",
+}
 INTERFACES = """\
 The interface replies J and two hexadecimal digits, N or X. An interface that
 replies so, after its published driver, and not tried on hardware:
@@ -40,15 +49,17 @@ replies so, after its published driver, and not tried on hardware:
 
 def open_interface(options):
     """Open the serial line raw, for us alone, and pass over what is still under way on it."""
-    line = os.open(options.device, os.O_RDWR | os.O_NOCTTY | os.O_NONBLOCK)
-    fcntl.flock(line, fcntl.LOCK_EX | fcntl.LOCK_NB)
     eight_bits = termios.CS8 | termios.CREAD | termios.CLOCAL
     try:
+        line = os.open(options.device, os.O_RDWR | os.O_NOCTTY | os.O_NONBLOCK)
+        fcntl.flock(line, fcntl.LOCK_EX | fcntl.LOCK_NB)
+        fcntl.ioctl(line, termios.TIOCEXCL)
         control = termios.tcgetattr(line)[6]
         control[termios.VMIN], control[termios.VTIME] = 1, 0
         termios.tcsetattr(line, termios.TCSANOW, [0, 0, eight_bits, 0, options.baud, options.baud, control])
-    except termios.error as fault:
-        raise OSError(*fault.args, options.device) from fault
+    except (OSError, termios.error) as fault:
+        why = WHY_UNOPENED.get(fault.args[0], os.strerror(fault.args[0]))
+        raise Broken(f"the interface can't be opened: {options.device}: {why}") from fault
     time.sleep(TIME_OUT)
     return functools.partial(carry, line, options.letter, LINE_FEED if options.line_feed else CARRIAGE_RETURN)
 

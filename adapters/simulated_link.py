@@ -197,13 +197,19 @@ def load_unit(folder, short_address, fixed=()):
 
 
 def save_units(folder, units):
-    """Put what each unit keeps without power in its file; a file is replaced as a whole."""
+    """Put what each unit keeps without power in its file; a file is replaced as a whole.
+
+    What is written first is always a new file: a kill may have left one, and in a folder that others may write a link
+    may stand there, which is never followed.
+    """
     for unit in units:
         bank_1 = bytearray(unit.banks[1])
         bank_1[LOCK_BYTE] = SHUT
         path = pathlib.Path(folder, f"unit_{unit.short_address}.hex")
         new = path.with_suffix(".new")
-        new.write_text("".join(f"{bank_1[at:at + 16].hex(' ').upper()}\n" for at in range(0, len(bank_1), 16)))
+        new.unlink(missing_ok=True)
+        with open(os.open(new, os.O_WRONLY | os.O_CREAT | os.O_EXCL | os.O_NOFOLLOW, 0o666), "w") as file:
+            file.writelines(f"{bank_1[at:at + 16].hex(' ').upper()}\n" for at in range(0, len(bank_1), 16))
         os.replace(new, path)
 
 

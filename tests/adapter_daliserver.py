@@ -234,7 +234,7 @@ def test_daliserver_gone_at_connect(folder):
     want((status, answers, told), (2, None, words))
     for turn, words in [(["close"], "error: the server closed the connection\n"),
                         ([0.2, "close"], "error: the server closed the connection\n"),
-                        ([0.2, "reset"], "error: [Errno 104] Connection reset by peer\n"),
+                        ([0.2, "reset"], "error: the interface can't be used: Connection reset by peer\n"),
                         ([NONE], "error: the server spoke unasked\n"),
                         ([0.2, "02"], "error: the server spoke unasked\n")]:
         server = Server([turn, [NONE]])
@@ -357,6 +357,6 @@ def test_daliserver_wrong_options(folder):
         want((ended.returncode, "there is no command" in ended.stderr), (2, True))
     words = [DALISERVER, *map(str, options_for(server.port)), "--", "/none"]
     ended = subprocess.run(words, capture_output=True, text=True)
-    want((ended.returncode, ended.stderr), (2, "error: [Errno 2] No such file or directory: '/none'\n"))
+    want((ended.returncode, ended.stderr), (2, "error: the command can't be started: /none: No such file or directory\n"))
     server.close()
     want(server.heard, [[]])

@@ -1,10 +1,14 @@
 """Tests of the serial link, over a pseudo-terminal with an interface that a thread plays."""
 
 import concurrent.futures
+import errno
+import fcntl
 import os
 import pty
 import select
+import struct
 import subprocess
+import sys
 import termios
 import threading
 import time
@@ -16,6 +20,18 @@ from driven import ROOT
 
 SERIAL = ADAPTERS / "serial_link.py"
 HAT = ["--letter", "h", "--baud", "19200", "--line-feed"]
+TIOCGEXCL = 0x80045440  # whether a line is one program's alone, of Linux
+
+# The adapter where the system refuses to open the line.
+REFUSED = """
+import os, sys
+sys.path.insert(0, sys.argv[1])
+import serial_link
+def refuse(*_):
+    raise OSError(int(sys.argv[2]), "refused")
+os.open = refuse
+sys.exit(serial_link.main(serial_link.parser(), serial_link.open_interface, ["/dev/ttyUSB0", "--", "true"]))
+"""
 
 
 class Interface:
@@ -136,16 +152,28 @@ def test_serial_cannot_start(folder):
     held = subprocess.Popen([SERIAL, interface.device, "--", *player(words)], stderr=subprocess.PIPE)
     while interface.thread.is_alive() and not interface.heard:
         time.sleep(0.05)
+    is_exclusive = struct.unpack("i", fcntl.ioctl(interface.far_line, TIOCGEXCL, bytes(4)))
     status, answers, told = run(SERIAL, [interface.device], ["A303"])
     held.terminate()
     held.wait()
     held.stderr.close()
     interface.close()
-    want((status, answers, interface.heard), (2, None, ["SC301\r"]))
-    assert told.startswith("error: "), told
-    want(run(SERIAL, ["/dev/null"], ["A303"])[:2], (2, None))
-    want(run(SERIAL, [folder / "none"], ["A303"])[:2], (2, None))
+    unopened = "error: the interface can't be opened: {}: {}\n".format
+    has_it = unopened(interface.device, "another adapter has it: end that one first")
+    want((status, answers, told, interface.heard, is_exclusive), (2, None, has_it, ["SC301\r"], (1,)))
+    want(run(SERIAL, ["/dev/null"], ["A303"]), (2, None, unopened("/dev/null", "it is no serial line")))
+    none = folder / "none"
+    want(run(SERIAL, [none], ["A303"]), (2, None, unopened(none, "it isn't there: is the interface plugged in?")))
     want(subprocess.run([SERIAL], stderr=subprocess.DEVNULL).returncode, 2)
+
+
+def test_serial_tells_why_it_is_not_opened(folder):
+    for number, words in [(errno.EACCES, "put the user into the group that owns it, on Debian dialout"),
+                          (errno.EBUSY, "another program has it, as ModemManager"), (errno.EIO, "Input/output error")]:
+        ended = subprocess.run([sys.executable, "-c", REFUSED, SERIAL.parent, str(number)], capture_output=True, text=True)
+        want((ended.returncode, ended.stdout), (2, ""))
+        assert ended.stderr.startswith("error: the interface can't be opened: /dev/ttyUSB0: "), ended.stderr
+        assert words in ended.stderr and "Errno" not in ended.stderr, ended.stderr
 
 
 # Options

@@ -161,6 +161,19 @@ def test_the_file_is_as_after_power_down(folder):
     want(os.listdir(folder), ["unit_5.hex"])
 
 
+def test_a_link_in_its_way_is_never_followed(folder):
+    other = folder / "other"
+    other.write_text("kept")
+    for at_new in (other, folder / "none"):
+        (folder / "unit_5.new").symlink_to(at_new)
+        want(run(SIMULATED, ["--folder", folder], [*OPENED, "C712"])[0], 7)
+        want((other.read_text(), saved(folder), sorted(os.listdir(folder))), ("kept", blank(x03=0x12),
+             ["other", "unit_5.hex"]))
+    (folder / "unit_5.new").write_text("left by a kill")
+    want(run(SIMULATED, ["--folder", folder], [*OPENED, "C713"])[0], 7)
+    want((saved(folder), sorted(os.listdir(folder))), (blank(x03=0x13), ["other", "unit_5.hex"]))
+
+
 def test_options(folder):
     options = ["--folder", folder, "--unit", "5", "--unit", "6", "--lose-frame", "8,9", "--lose-frame", "14",
                "--lose-answer", "10", "--refuse", "11", "--fixed", "5:07", "--lose-power", "6:3,15", "--frames"]

@@ -79,6 +79,11 @@ GOOD = {
                          ['{"order":1,"unit":5,"colour":"wei\\u00df \\ud83d\\udca1"}']),
     "no orders": (b"order,unit,gtin\n", [""]),
 }
+NUMBERED = {
+    "numbers from 7": (b"unit,gtin\n5,4006381333931\n;\n6,\n".replace(b";", b","),
+                       ['{"order":7,"unit":5,"gtin":"4006381333931"}', '{"order":8,"unit":6}']),
+    "none to number": (b"unit;year\n", [""]),
+}
 LATIN_1 = {
     "Latin-1": (b"order;unit;colour\n1;5;wei\xdf\n", ['{"order":1,"unit":5,"colour":"wei\\u00df"}']),
     "ASCII as Latin-1": (b"order;unit;colour\n1;5;RAL\n", ['{"order":1,"unit":5,"colour":"RAL"}']),
@@ -86,6 +91,8 @@ LATIN_1 = {
 
 EMPTY = "line 1: the table is empty: its first line has the keys, as order,unit,gtin"
 UTF_16 = "line 1: the file is in UTF-16, or is no text: it has to be saved as CSV in UTF-8"
+WORKBOOK = "line 1: the file is a workbook, and no table: its sheet has to be saved as CSV in UTF-8"
+TABS = "line 1: the cells stand between tabs: the table has to be saved as CSV, with commas or semicolons"
 ORDER_MISSING = "line 1: order: the key is missing"
 UNIT_MISSING = "line 1: unit: the key is missing"
 WIDE = ": one with a separator in it stands in quotes"
@@ -111,7 +118,9 @@ BAD = (
                                        "line 1: week: the key stands there twice", ORDER_MISSING]),
     (b"1,5,4006381333931\n", ["line 1: 1: no such key", "line 1: 5: no such key", "line 1: 4006381333931: no such key",
                               ORDER_MISSING, UNIT_MISSING]),
-    (b"order\tunit\n1\t5\n", ["line 1: order\\u{9}unit: no such key", ORDER_MISSING, UNIT_MISSING]),
+    (b"order\tunit\n1\t5\n", [TABS]),
+    (b"PK\x03\x04\x14\0\0\0", [WORKBOOK]),
+    (b"\xd0\xcf\x11\xe0\xa1\xb1", [WORKBOOK]),
     (b"order,unit;year\n1,5;24\n", ["line 1: order,unit: no such key", ORDER_MISSING, UNIT_MISSING]),
     (b"order,unit,year\n1,5\n2,5,24,\n3,5,24\n4\n", ["line 2: 2 cells, and the header has 3",
                                                     f"line 3: 4 cells, and the header has 3{WIDE}",
@@ -153,7 +162,7 @@ def run(words, given=b"", **streams):
 
 
 def test_good(folder):
-    for options, cases in (((), GOOD), (("--latin-1",), LATIN_1)):
+    for options, cases in (((), GOOD), (("--latin-1",), LATIN_1), (("--from", "7"), NUMBERED)):
         for name, (table, orders) in cases.items():
             path = folder / "table.csv"
             path.write_bytes(table)
@@ -177,6 +186,19 @@ def test_bad_latin_1(folder):
     ended = run(["--latin-1", "-"], MARK + b"order,unit,year\n1,5,24\n")
     wanted = b"orders_from_csv: -: line 1: the file begins with the mark of UTF-8, so it isn't in Latin-1\n"
     want((ended.returncode, ended.stdout, ended.stderr), (1, b"", wanted))
+
+
+def test_bad_numbers(folder):
+    column = "line 1: order: with --from the numbers aren't those of the table: take the column out"
+    over = f"line 3: order: the number {GREATEST + 1} is over {GREATEST}"
+    for first, table, line in (("7", b"order,unit\n1,5\n", column), (str(GREATEST), b"unit\n5\n6\n", over)):
+        ended = run(["--from", first, "-"], table)
+        wanted = f"orders_from_csv: -: {line}\n"
+        want((ended.returncode, ended.stdout, ended.stderr.decode()), (1, b"", wanted))
+    for first in ("", "-1", "x", "1.0", str(GREATEST + 1)):
+        ended = run([f"--from={first}", "-"], b"unit\n5\n")
+        want((first, ended.returncode, ended.stdout), (first, 2, b""))
+        assert b"is no whole number up to" in ended.stderr, ended
 
 
 def test_many_bad_rows(folder):

@@ -68,13 +68,8 @@ driven_older : (start : Start) (newer older : List Happening) (first last : Stre
 driven_older start [] older first last d = (last, d)
 driven_older start (next ∷ newer) older first last d =
     let text = text_before next (newer ++ older) first last d.text in
-    driven_older start newer older first text.0 (record {
-      legal = d.legal.0;
-      planned = d.planned.0;
-      in_turn = d.in_turn.1;
-      in_range = range_before next (newer ++ older) d.in_range;
-      text = text.1;
-    })
+    let range = range_before next (newer ++ older) d.in_range in
+    driven_older start newer older first text.0 (search)
 
 -- Some moment of a trail at which it was killed so that this is left
 

@@ -79,20 +79,8 @@ module _ (older : List Record) where
       (is : whole first.journal ≡ Some begun) where
     driven_whole : (past : List Happening) (last : Streams) → IsDriven start past first last
         → IsDriven start past (record first { journal = Some begun }) (all last)
-    driven_whole past last d = record {
-      legal = d.legal;
-      planned = d.planned;
-      in_turn = d.in_turn;
-      in_range = d.in_range;
-      text = record {
-        heard = d.text.heard;
-        lines = d.text.lines;
-        journal = rw is at (appends_whole first.journal last.journal (recorded past) has d.text.journal);
-        link = d.text.link;
-        answers = d.text.answers;
-        out = d.text.out;
-      };
-    }
+    driven_whole past last d =
+        let added = rw is at (appends_whole first.journal last.journal (recorded past) has d.text.journal) in search
 
     abbrev drive_whole : (orders : List (Contents × ℕ)) (writer : WriterState) (last : Streams)
         → IsDrive start orders first writer last

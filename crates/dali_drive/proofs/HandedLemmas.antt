@@ -41,11 +41,10 @@ use Rattle.dali_laws.proofs.TakenLemmas.{neither}
 use Rattle.dali_engine.specs.declared.phase.Phase.{Phase}
 use Rattle.dali_engine.specs.declared.phase.Phase.TheVariants.{Idle}
 use Rattle.dali_engine.specs.WriterState.{WriterState, start_of, IsResumed, IsAtRest}
-use Rattle.dali_engine.specs.Describes.{Describes, IsAt}
-use Rattle.dali_engine.specs.Follows.{WasTold}
+use Rattle.dali_engine.specs.Describes.{Describes}
 use Rattle.dali_drive.specs.Lines.{link_line}
 use Rattle.dali_drive.specs.Transcript.{Streams, Transcript, AreAnswers, sent_lines}
-use Rattle.dali_drive.specs.Driven.{IsInTurn, IsDrive}
+use Rattle.dali_drive.specs.Driven.{IsInTurn, KeepsRecords, IsDrive}
 use Rattle.dali_drive.proofs.WorkLemmas.{in_order, both_said}
 
 -- Looks back that reach the older trace
@@ -63,14 +62,14 @@ since_behind ends past (next ∷ more) = by (ends next) (since_behind ends past 
   by false rest = (rest.0, ap (λ (t : List Happening). next ∷ t) rest.1)
 
 -- so there are as many frames, and then older ones
-pub sent_behind : (past more : List Happening)
+sent_behind : (past more : List Happening)
     → (older : List Exchange) × (sent_of (more ++ past) ≡ sent_of more ++ older)
 sent_behind past more =
     let rest = since_behind is_stop past more in
     (frames_in rest.0, ap frames_in rest.1 ∙ frames_joined (since is_stop more) rest.0)
 
 -- where an order waits, it was taken in the newer one
-pub since_alike : (past more : List Happening) → IsSome (waiting more)
+since_alike : (past more : List Happening) → IsSome (waiting more)
     → sent_since_taken (more ++ past) ≡ sent_since_taken more
 since_alike past [] waits = cc
 since_alike past (Answered id replies.Taken ∷ more) waits = refl
@@ -84,11 +83,11 @@ since_alike past (Stopped ∷ more) waits = refl
 since_alike past (_ ∷ more) waits = since_alike past more waits
 
 -- an order is at work, or one waits
-abbrev pub IsAtHand : Start → List Happening → Type 0
+abbrev IsAtHand : Start → List Happening → Type 0
 IsAtHand start past = (is_at_work (standing_at start past) ≡ true) ⊎ IsSome (waiting past)
 
 -- where one is at hand that wasn't at work at the start, it was begun or taken in the newer one
-pub told_alike : (next : Start) (past more : List Happening) → is_at_work (standing_of next.records) ≡ false
+told_alike : (next : Start) (past more : List Happening) → is_at_work (standing_of next.records) ≡ false
     → IsAtHand next more → told_in (more ++ past) ≡ told_in more
 told_alike next past [] idle (inl works) = cc
 told_alike next past [] idle (inr waits) = cc
@@ -125,7 +124,7 @@ blocked_waits start past id unit may = number_waits (waiting past) id may.1
 
 -- what a whole tells from its start, beside what its newer part tells from the second start: as much, and perhaps
 -- older frames
-pub record IsBehind (start next : Start) (whole more : List Happening) : Type 0 where
+record IsBehind (start next : Start) (whole more : List Happening) : Type 0 where
   pub limit : start.limit ≡ next.limit
   pub records : records_of start whole ≡ records_of next more
   pub course : course_of whole ≡ course_of more
@@ -134,7 +133,7 @@ pub record IsBehind (start next : Start) (whole more : List Happening) : Type 0 
   pub since : IsSome (waiting more) → sent_since_taken whole ≡ sent_since_taken more
   pub told : IsAtHand next more → told_in whole ≡ told_in more
 
-module _ (start next : Start) (whole more : List Happening) (behind : IsBehind start next whole more) where
+module _ {start next : Start} {whole more : List Happening} (behind : IsBehind start next whole more) where
   serves_behind : (stands : Standing) (unit : ℕ) → Serves more stands unit → Serves whole stands unit
   serves_behind (standings.Left left) unit serves = rw behind.course serves
   serves_behind _ unit serves = serves
@@ -181,13 +180,13 @@ module _ (start next : Start) (whole more : List Happening) (behind : IsBehind s
       rw (behind.records, behind.course, behind.since (number_waits (waiting more) id may.1)) may
   says_behind id reply may = absurd may
 
-  pub happens_behind : (newest : Happening) → MayHappen next more newest → MayHappen start whole newest
+  happens_behind : (newest : Happening) → MayHappen next more newest → MayHappen start whole newest
   happens_behind (Answered id reply) may = says_behind id reply may
   happens_behind (Sent frame answer) may = rw behind.records (sends_behind (standing_at next more) frame may)
   happens_behind (Kept entry) may = keeps_behind entry may
   happens_behind _ may = tt
 
-  pub replies_behind : (order : Contents) (newest : Happening) → Replies next more order newest
+  replies_behind : (order : Contents) (newest : Happening) → Replies next more order newest
       → Replies start whole order newest
   replies_behind order (Answered id reply) due = (due.0, rw (behind.records, behind.course, behind.limit) due.1)
   replies_behind order _ due = absurd due
@@ -197,7 +196,7 @@ module _ (start next : Start) (whole more : List Happening) (behind : IsBehind s
   planned_at_hand newest at planned =
       planned_too start next whole more newest behind.records (behind.told at) planned
 
-  pub planned_behind : (newest : Happening) → MayFollow next more newest → IsPlanned next more newest
+  planned_behind : (newest : Happening) → MayFollow next more newest → IsPlanned next more newest
       → IsPlanned start whole newest
   planned_behind (Sent frame answer) may planned =
       planned_at_hand (Sent frame answer) (at_hand more (standing_at next more) (told_in more) (asks.Send frame) planned
@@ -212,13 +211,6 @@ module _ (start next : Start) (whole more : List Happening) (behind : IsBehind s
       planned_at_hand (Answered id (replies.Blocked unit)) (inr (blocked_waits next more id unit may)) planned
   planned_behind other may planned = tt
 
--- a trace that leaves nothing to be done, and a start from what it leaves
-record IsHanded (start : Start) (past : List Happening) (next : Start) : Type 0 where
-  pub limit : next.limit ≡ start.limit
-  pub records : next.records ≡ records_of start past
-  pub finished : IsFinished past
-  pub quiet : is_busy start past ≡ false
-
 kept_both : (newer older : List Happening) → kept_in (newer ++ older) ≡ kept_in newer ++ kept_in older
 kept_both [] older = refl
 kept_both (Kept entry ∷ newer) older = ap (◌∷◌ entry) (kept_both newer older)
@@ -231,72 +223,68 @@ said_course (Waiting order moment) said = cc
 said_course Working said = cc
 said_course JustEnded said = cc
 
--- behind it the trace from that start tells as much, and is as much
-module _ (start : Start) (past : List Happening) (next : Start) (handed : IsHanded start past next) where
-  both_quiet : (is_at_work (standing_at start past) ≡ false) × (is_unsaid past ≡ false)
-  both_quiet = neither (is_at_work (standing_at start past)) (is_unsaid past) handed.quiet
+-- behind a drive the trace from what it left tells as much, and is as much
+module _ {start : Start} {orders : List (Contents × ℕ)} {first middle : Streams} {handed : WriterState}
+    (one : IsDrive start orders first handed middle) where
+  abbrev past : List Happening
+  past = one.past
 
-  idle : is_at_work (standing_of next.records) ≡ false
-  idle = rw handed.records both_quiet.0
+  abbrev next : Start
+  next = start_of handed.journal
+
+  both_quiet : (is_at_work (standing_at start past) ≡ false) × (is_unsaid past ≡ false)
+  both_quiet = neither (is_at_work (standing_at start past)) (is_unsaid past) one.quiet
 
   records_both : (more : List Happening) → records_of start (more ++ past) ≡ records_of next more
-  records_both more = rw (kept_both more past, append_assoc, handed.records) refl
+  records_both more = rw (kept_both more past, append_assoc, one.described.same) refl
 
   course_both : (more : List Happening) → course_of (more ++ past) ≡ course_of more
   course_both [] = said_course (course_of past) both_quiet.1
-  course_both (Answered id reply ∷ []) = sym (said_quiet id reply past handed.finished)
+  course_both (Answered id reply ∷ []) = sym (said_quiet id reply past one.described.finished)
   course_both (Answered id reply ∷ Asked order moment ∷ more) = ap (replied order moment reply) (course_both more)
   course_both (newest ∷ more) = ap (λ (before : Course). next_course before newest) (course_both more)
 
   is_behind : (more : List Happening) → IsBehind start next (more ++ past) more
-  is_behind more =
-      let sent = sent_behind past more in
-      record {
-        limit = sym handed.limit;
-        records = records_both more;
-        course = course_both more;
-        older = sent.0;
-        sent = sent.1;
-        since = since_alike past more;
-        told = told_alike next past more idle;
-      }
+  is_behind more = record {
+    limit = one.described.limit;
+    records = records_both more;
+    course = course_both more;
+    older = (sent_behind past more).0;
+    sent = (sent_behind past more).1;
+    since = since_alike past more;
+    told = told_alike next past more (rw (← one.described.same) both_quiet.0);
+  }
 
   -- no reply is due to an order of the older trace
   follows_both : (more : List Happening) (newest : Happening) → MayFollow next more newest
       → MayFollow start (more ++ past) newest
   follows_both [] newest may =
-      may_follow start past newest handed.finished
-      (happens_behind start next past [] (is_behind []) newest may)
-  follows_both (Asked order moment ∷ more) newest may =
-      replies_behind start next (more ++ past) more (is_behind more) order newest may
-  follows_both (last ∷ more) newest may =
-      happens_behind start next (last ∷ more ++ past) (last ∷ more) (is_behind (last ∷ more)) newest may
+      may_follow start past newest one.described.finished (happens_behind (is_behind []) newest may)
+  follows_both (Asked order moment ∷ more) newest may = replies_behind (is_behind more) order newest may
+  follows_both (last ∷ more) newest may = happens_behind (is_behind (last ∷ more)) newest may
 
-  legal_both : Legal start past → (more : List Happening) → Legal next more → Legal start (more ++ past)
-  legal_both legal [] after = legal
-  legal_both legal (newest ∷ more) after = (legal_both legal more after.0, follows_both more newest after.1)
+  legal_both : (more : List Happening) → Legal next more → Legal start (more ++ past)
+  legal_both [] after = one.driven.legal
+  legal_both (newest ∷ more) after = (legal_both more after.0, follows_both more newest after.1)
 
-  planned_both : ByPlan start past → (more : List Happening) → Legal next more → ByPlan next more
-      → ByPlan start (more ++ past)
-  planned_both planned [] legal after = planned
-  planned_both planned (newest ∷ more) legal after = (
-    planned_both planned more legal.0 after.0,
-    planned_behind start next (more ++ past) more (is_behind more) newest legal.1 after.1,
-  )
+  planned_both : (more : List Happening) → Legal next more → ByPlan next more → ByPlan start (more ++ past)
+  planned_both [] legal after = one.driven.planned
+  planned_both (newest ∷ more) legal after =
+      (planned_both more legal.0 after.0, planned_behind (is_behind more) newest legal.1 after.1)
 
   busy_both : (more : List Happening) → is_busy start (more ++ past) ≡ is_busy next more
   busy_both more = rw (records_both more, course_both more) refl
 
-  in_turn_both : AtEachPast (IsInTurn start) past → (more : List Happening) → AtEachPast (IsInTurn next) more
+  in_turn_both : (more : List Happening) → AtEachPast (IsInTurn next) more
       → AtEachPast (IsInTurn start) (more ++ past)
-  in_turn_both turn [] after = turn
-  in_turn_both turn (Asked order moment ∷ more) after = (busy_both more ∙ after.0, in_turn_both turn more after.1)
-  in_turn_both turn (Stopped ∷ more) after = absurd after.0
-  in_turn_both turn (Powered address ∷ more) after = absurd after.0
-  in_turn_both turn (_ ∷ more) after = (tt, in_turn_both turn more after.1)
+  in_turn_both [] after = one.driven.in_turn
+  in_turn_both (Asked order moment ∷ more) after = (busy_both more ∙ after.0, in_turn_both more after.1)
+  in_turn_both (Stopped ∷ more) after = absurd after.0
+  in_turn_both (Powered address ∷ more) after = absurd after.0
+  in_turn_both (_ ∷ more) after = (tt, in_turn_both more after.1)
 
   finished_both : (more : List Happening) → IsFinished more → IsFinished (more ++ past)
-  finished_both [] finished = handed.finished
+  finished_both [] finished = one.described.finished
   finished_both (Asked order moment ∷ more) finished = finished
   finished_both (_ ∷ more) finished = tt
 
@@ -351,41 +339,27 @@ pub one_drive : (start : Start) (orders more : List (Contents × ℕ)) (first mi
     → IsDrive start orders first handed middle → IsDrive (start_of handed.journal) more middle writer last
     → IsAtRest writer → IsDrive start (orders ++ more) first writer last
 one_drive start orders more first middle last handed writer one two rests =
-    let next : Start = start_of handed.journal in
     let both : List Happening = two.past ++ one.past in
-    let is : IsHanded start one.past next = record {
-      limit = sym one.described.limit;
-      records = sym one.described.same;
-      finished = one.described.finished;
-      quiet = one.quiet;
-    } in
-    let idle = quiet_idle next two.past writer two.described two.quiet rests in
-    let legal = legal_both start one.past next is one.driven.legal two.past two.driven.legal in
-    let planned = planned_both start one.past next is one.driven.planned two.past two.driven.legal two.driven.planned in
-    let quiet : is_busy start both ≡ false = busy_both start one.past next is two.past ∙ two.quiet in
+    let idle = quiet_idle (start_of handed.journal) two.past writer two.described two.quiet rests in
+    let legal = legal_both one two.past two.driven.legal in
+    let planned = planned_both one two.past two.driven.legal two.driven.planned in
+    let quiet : is_busy start both ≡ false = busy_both one two.past ∙ two.quiet in
     let said = neither (is_at_work (standing_at start both)) (is_unsaid both) quiet in
+    let in_turn = in_turn_both one two.past two.driven.in_turn in
+    let kept = all_both (kept_in two.past) (kept_in one.past) two.driven.in_range one.driven.in_range in
+    let in_range : KeepsRecords both = rw (kept_both two.past one.past) kept in
+    let text = text_both two.past one.past first middle last one.driven.text two.driven.text in
     record {
       past = both;
-      driven = record {
-        legal = legal;
-        planned = planned;
-        in_turn = in_turn_both start one.past next is one.driven.in_turn two.past two.driven.in_turn;
-        in_range =
-            rw (kept_both two.past one.past) (all_both (kept_in two.past) (kept_in one.past) two.driven.in_range
-            one.driven.in_range);
-        text = text_both two.past one.past first middle last one.driven.text two.driven.text;
-      };
+      driven = search;
       asked = rw (in_order two.past one.past, one.asked, two.asked) refl;
       quiet = quiet;
       described = record {
         legal = legal;
-        finished = finished_both start one.past next is two.past two.described.finished;
-        same = records_both start one.past next is two.past ∙ two.described.same;
+        finished = finished_both one two.past two.described.finished;
+        same = records_both one two.past ∙ two.described.same;
         limit = one.described.limit ∙ two.described.limit;
-        place = subst (λ (phase : Phase). IsAt phase both) (sym idle) said.1;
+        place = rw idle said.1;
       };
-      follows = record {
-        planned = planned;
-        told = subst (λ (phase : Phase). WasTold phase (told_in both)) (sym idle) tt;
-      };
+      follows = record { planned = planned; told = rw idle tt };
     }

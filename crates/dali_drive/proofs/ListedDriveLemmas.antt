@@ -85,8 +85,15 @@ module _ {B : Type 0} (told : Start → B → B → List Happening → Type 0) (
       → reverse (submitted given) ++ at_moment moment orders_left.rest.now ≡ at_moment moment orders
   whole given gave =
       let at : moment ≡ listed.moment = ap (λ (s : ListedState). s.moment) (sym is) in
-      rw (rest_is, gave.rest_is, at, gave.given_are, submitted_given, reverse-reverse,
-      at_append listed.moment gave.orders orders_left.rest.now) refl
+      rw (
+        rest_is,
+        gave.rest_is,
+        at,
+        gave.given_are,
+        submitted_given,
+        reverse-reverse,
+        at_append listed.moment gave.orders orders_left.rest.now,
+      ) refl
 
   -- all of them were given
   all_given : length orders ≤ 2 ^ 64 - 1 → (given : List Given) → GaveListed listed orders_left given
@@ -108,8 +115,13 @@ module _ {B : Type 0} (told : Start → B → B → List Happening → Type 0) (
           unmuted start o.follow.steps first last (rw o.follow.at.given_are (are_orders o.given o.gave_all))
           o.follow.at.driven_at.driven o.follow.at.said;
       asked =
-          rw (asked_given, o.follow.at.given_are, ← whole o.given o.gave_all,
-          all_given few o.given o.gave_all o.ends, append-nil) refl;
+          rw (
+            asked_given,
+            o.follow.at.given_are,
+            ← whole o.given o.gave_all,
+            all_given few o.given o.gave_all o.ends,
+            append-nil,
+          ) refl;
       quiet = o.follow.quiet;
       described = o.follow.at.driven_at.described;
       follows = o.follow.at.driven_at.follows;

@@ -30,7 +30,7 @@ asked_given [] = refl
 asked_given (Happened (Asked order moment) ∷ steps) = ap (◌∷◌ (order, moment)) (asked_given steps)
 asked_given (_ ∷ steps) = asked_given steps
 
-submitted_both : (orders : List (Contents × ℕ)) (given : List Given)
+pub submitted_both : (orders : List (Contents × ℕ)) (given : List Given)
     → submitted (as_given orders ++ given) ≡ orders ++ submitted given
 submitted_both [] given = refl
 submitted_both (order ∷ orders) given = ap (◌∷◌ order) (submitted_both orders given)

@@ -18,7 +18,6 @@ use Rattle.dali_journal.proofs.AheadLemmas.{spelling_append}
 use Rattle.dali_drive.proofs.SittingLemmas.{all_both}
 use Rattle.dali_write.specs.declared.ask.Ask.TheVariants as asks
 use Rattle.dali_write.proofs.RestLemmas.{older_reads}
-use Rattle.dali_trace.specs.declared.happening.Reply.{Reply}
 use Rattle.dali_trace.specs.declared.happening.Reply.TheVariants as replies
 use Rattle.dali_trace.specs.declared.happening.Happening.{Happening}
 use Rattle.dali_trace.specs.declared.happening.Happening.TheVariants.{Asked, Answered, Sent, Kept, Stopped, Powered}
@@ -27,8 +26,7 @@ use Rattle.dali_trace.proofs.CutLemmas.{frames_joined}
 use Rattle.dali_trace.specs.Trace.{Start, records_of, standing_at, sent_of, sent_since_taken, waiting, course_of}
 use Rattle.dali_trace.specs.Trace.{is_at_work, is_unsaid, is_busy, Course, Quiet, Waiting, Working, JustEnded, replied}
 use Rattle.dali_trace.specs.Trace.{next_course, unsaid_in}
-use Rattle.dali_trace.specs.Legal.{Serves, IsGuardedWrite, MaySend, IsDue, MayKeep, HasNumber, MaySay, MayHappen}
-use Rattle.dali_trace.specs.Legal.{Replies, MayFollow, Legal, IsFinished}
+use Rattle.dali_trace.specs.Legal.{Serves, MaySend, IsDue, HasNumber, MayHappen, Replies, MayFollow, Legal, IsFinished}
 use Rattle.dali_trace.specs.ByPlan.{told_in, Asks, IsPlanned, ByPlan}
 use Rattle.dali_laws.proofs.AgreeLemmas.{planned_too, may_follow, said_quiet}
 use Rattle.dali_laws.proofs.CourseLemmas.{waits_on, closed_verdict}
@@ -55,15 +53,13 @@ since_behind : (ends : Happening → Bool) (past more : List Happening)
 since_behind ends past [] = (since ends past, refl)
 since_behind ends past (next ∷ more) = by (ends next) (since_behind ends past more) where
   by : (ended : Bool) → (older : List Happening) × (since ends (more ++ past) ≡ since ends more ++ older)
-      → (older : List Happening)
-      × ((if ended then [] else next ∷ since ends (more ++ past))
+      → (older : List Happening) × ((if ended then [] else next ∷ since ends (more ++ past))
       ≡ (if ended then [] else next ∷ since ends more) ++ older)
   by true rest = ([], refl)
   by false rest = (rest.0, ap (λ (t : List Happening). next ∷ t) rest.1)
 
 -- so there are as many frames, and then older ones
-sent_behind : (past more : List Happening)
-    → (older : List Exchange) × (sent_of (more ++ past) ≡ sent_of more ++ older)
+sent_behind : (past more : List Happening) → (older : List Exchange) × (sent_of (more ++ past) ≡ sent_of more ++ older)
 sent_behind past more =
     let rest = since_behind is_stop past more in
     (frames_in rest.0, ap frames_in rest.1 ∙ frames_joined (since is_stop more) rest.0)
@@ -138,15 +134,6 @@ module _ {start next : Start} {whole more : List Happening} (behind : IsBehind s
   serves_behind (standings.Left left) unit serves = rw behind.course serves
   serves_behind _ unit serves = serves
 
-  -- it was selected, whatever came before
-  guarded_behind : (stands : Standing) (byte : ℕ) → IsGuardedWrite more stands byte
-      → IsGuardedWrite whole stands byte
-  guarded_behind stands byte g =
-      let s = g.selected in
-      let sent = behind.sent ∙ ap (λ (l : List Exchange). l ++ behind.older) s.2 ∙ append_assoc s.0 s.1 behind.older in
-      let selected : Selects g.unit g.location (sent_of whole) = (s.0, s.1 ++ behind.older, sent, s.3) in
-      let serves = serves_behind stands g.unit g.serves in search
-
   sends_behind : (stands : Standing) (frame : Frame) → MaySend more stands frame → MaySend whole stands frame
   sends_behind stands (Dtr0 byte) may = (may.0, serves_behind stands may.0 may.1)
   sends_behind stands (Dtr1 byte) may = (may.0, serves_behind stands may.0 may.1)
@@ -154,7 +141,12 @@ module _ {start next : Start} {whole more : List Happening} (behind : IsBehind s
   sends_behind stands (AskDtr1 unit) may = serves_behind stands unit may
   sends_behind stands (Read unit) may = serves_behind stands unit may
   sends_behind stands (Enable unit) may = (serves_behind stands unit may.0, may.1)
-  sends_behind stands (Write byte) may = guarded_behind stands byte may
+  -- it was selected, whatever came before
+  sends_behind stands (Write byte) g =
+      let s = g.selected in
+      let sent = behind.sent ∙ ap (λ (l : List Exchange). l ++ behind.older) s.2 ∙ append_assoc s.0 s.1 behind.older in
+      let selected : Selects g.unit g.location (sent_of whole) = (s.0, s.1 ++ behind.older, sent, s.3) in
+      let serves = serves_behind stands g.unit g.serves in search
   sends_behind stands other may = absurd may
 
   due_behind : (entry : Record) → IsDue more entry → IsDue whole entry
@@ -162,28 +154,21 @@ module _ {start next : Start} {whole more : List Happening} (behind : IsBehind s
   due_behind (Closed unit) due = rw (behind.course, behind.since due.0) due
   due_behind other due = tt
 
+  happens_behind : (newest : Happening) → MayHappen next more newest → MayHappen start whole newest
+  happens_behind (Answered id (replies.Kept code)) may = rw (behind.course, behind.records) may
+  happens_behind (Answered id (replies.Blocked unit)) may =
+      rw (behind.records, behind.course, behind.since (number_waits (waiting more) id may.1)) may
+  happens_behind (Answered id reply) may = absurd may
+  happens_behind (Sent frame answer) may = rw behind.records (sends_behind (standing_at next more) frame may)
   -- a read that stands does so whatever came before
-  keeps_behind : (entry : Record) → MayKeep next more entry → MayKeep start whole entry
-  keeps_behind entry may = record {
+  happens_behind (Kept entry) may = record {
     whole = rw (behind.records, behind.limit) may.whole;
     due = due_behind entry may.due;
     grounds =
         rw (behind.records, behind.sent) (grounds_too (StillRead (sent_of more))
-        (StillRead (sent_of more ++ behind.older))
-        (λ unit location byte stands. older_reads (sent_of more) behind.older unit location byte stands)
+        (StillRead (sent_of more ++ behind.older)) (older_reads (sent_of more) behind.older)
         (standing_at next more) entry may.grounds);
   }
-
-  says_behind : (id : ℕ) (reply : Reply) → MaySay next more id reply → MaySay start whole id reply
-  says_behind id (replies.Kept code) may = rw (behind.course, behind.records) may
-  says_behind id (replies.Blocked unit) may =
-      rw (behind.records, behind.course, behind.since (number_waits (waiting more) id may.1)) may
-  says_behind id reply may = absurd may
-
-  happens_behind : (newest : Happening) → MayHappen next more newest → MayHappen start whole newest
-  happens_behind (Answered id reply) may = says_behind id reply may
-  happens_behind (Sent frame answer) may = rw behind.records (sends_behind (standing_at next more) frame may)
-  happens_behind (Kept entry) may = keeps_behind entry may
   happens_behind _ may = tt
 
   replies_behind : (order : Contents) (newest : Happening) → Replies next more order newest
@@ -193,8 +178,7 @@ module _ {start next : Start} {whole more : List Happening} (behind : IsBehind s
 
   planned_at_hand : (newest : Happening) → IsAtHand next more → IsPlanned next more newest
       → IsPlanned start whole newest
-  planned_at_hand newest at planned =
-      planned_too start next whole more newest behind.records (behind.told at) planned
+  planned_at_hand newest at planned = planned_too start next whole more newest behind.records (behind.told at) planned
 
   planned_behind : (newest : Happening) → MayFollow next more newest → IsPlanned next more newest
       → IsPlanned start whole newest
@@ -275,8 +259,7 @@ module _ {start : Start} {orders : List (Contents × ℕ)} {first middle : Strea
   busy_both : (more : List Happening) → is_busy start (more ++ past) ≡ is_busy next more
   busy_both more = rw (records_both more, course_both more) refl
 
-  in_turn_both : (more : List Happening) → AtEachPast (IsInTurn next) more
-      → AtEachPast (IsInTurn start) (more ++ past)
+  in_turn_both : (more : List Happening) → AtEachPast (IsInTurn next) more → AtEachPast (IsInTurn start) (more ++ past)
   in_turn_both [] after = one.driven.in_turn
   in_turn_both (Asked order moment ∷ more) after = (busy_both more ∙ after.0, in_turn_both more after.1)
   in_turn_both (Stopped ∷ more) after = absurd after.0
@@ -290,8 +273,7 @@ module _ {start : Start} {orders : List (Contents × ℕ)} {first middle : Strea
 
 -- The text of both
 
-sent_lines_both : (newer older : List Happening)
-    → sent_lines (newer ++ older) ≡ sent_lines older ++ sent_lines newer
+sent_lines_both : (newer older : List Happening) → sent_lines (newer ++ older) ≡ sent_lines older ++ sent_lines newer
 sent_lines_both [] older = sym (append-nil (sent_lines older))
 sent_lines_both (Sent frame answer ∷ newer) older =
     ap (λ (text : List ℕ). text ++ link_line frame) (sent_lines_both newer older)

@@ -13,6 +13,7 @@ use Rattle.dali_trace.specs.declared.happening.Happening.{Happening}
 use Rattle.dali_trace.specs.declared.happening.Happening.TheVariants.{Sent, Kept}
 use Rattle.dali_trace.specs.Trace.{Start, records_of}
 use Rattle.dali_trace.specs.Legal.{IsFinished}
+use Rattle.dali_trace.specs.Next.{IsNext}
 use Rattle.dali_engine.specs.WriterState.{WriterState, start_of}
 use Rattle.dali_store.specs.Opened.{Loads}
 use Rattle.dali_store.proofs.OpenLemmas.{split_front}
@@ -20,7 +21,7 @@ use Rattle.dali_trace.specs.declared.fault.DriveFault.{DriveFault}
 use Rattle.dali_drive.specs.Transcript.{Streams, Transcript, AreAnswers, recorded, sent_lines, said_lines, shown}
 use Rattle.dali_drive.specs.Driven.{KeepsRecords, IsDriven, IsDrive, IsBrokenDrive}
 use Rattle.dali_drive.specs.Stored.{IsBegun, IsPartBehind}
-use Rattle.dali_drive.specs.Kills.{IsKilledAt, MayHaveDriven, StoodOnce}
+use Rattle.dali_drive.specs.Kills.{RecordInHand, IsKilledAt, MayHaveDriven, StoodOnce}
 use Rattle.dali_drive.proofs.SittingLemmas.{made, loads, drive_holds, journal_recorded, grown_known, kept_known}
 use Rattle.dali_drive.proofs.SittingLemmas.{first_part, IsTrail, from, BrokeWith, broke_with}
 use Rattle.dali_drive.proofs.DriveLemmas.{keeps_on}
@@ -73,32 +74,19 @@ driven_older start (next ∷ newer) older first last d =
 
 -- Some moment of a trail at which it was killed so that this is left
 
-record StandsAt (start : Start) (trail : List Happening) (left : List ℕ) : Type 0 where
-  pub newer : List Happening
-  pub older : List Happening
-  pub past : List Happening
-  pub split : trail ≡ newer ++ older
-  pub killed : IsKilledAt start older past left
+abbrev StandsAt : Start → List Happening → List ℕ → Type 0
+StandsAt start trail left =
+    (newer : List Happening) × (older : List Happening) × (past : List Happening) × (trail ≡ newer ++ older)
+    × IsKilledAt start older past left
 
 stands_whole : (start : Start) (past : List Happening) (left : List ℕ) → IsFinished past
     → left ≡ journal_spelling Two (records_of start past) → StandsAt start past left
-stands_whole start past left finished is = record {
-  newer = [];
-  older = past;
-  past = past;
-  split = refl;
-  killed = inl (record { is = refl; finished = finished; bytes = is });
-}
+stands_whole start past left finished is =
+    ([], past, past, refl, inl (record { is = refl; finished = finished; bytes = is }))
 
 one_more : (start : Start) (next : Happening) (past : List Happening) (left : List ℕ) → StandsAt start past left
     → StandsAt start (next ∷ past) left
-one_more start next past left b = record {
-  newer = next ∷ b.newer;
-  older = b.older;
-  past = b.past;
-  split = ap (λ (l : List Happening). next ∷ l) b.split;
-  killed = b.killed;
-}
+one_more start next past left s = (next ∷ s.0, s.1, s.2, ap (◌∷◌ next) s.3, s.4)
 
 -- the bytes with all of the start's records are a first part of them and the recorded ones
 stands_at : (start : Start) (past : List Happening) (left more rest : List ℕ) → IsTrail start past
@@ -129,23 +117,19 @@ stands_at start (Kept entry ∷ past) left more rest trail is all =
 
     behind : (m : List ℕ) → left ≡ B ++ m → ((count : ℕ) × (count < length sp) × (m ≡ take count sp)) ⊎ (m ≡ sp)
         → StandsAt start (Kept entry ∷ past) left
-    behind m front (inr whole) =
-        stands_whole start (Kept entry ∷ past) left tt (cc (front, were, whole))
-    behind m front (inl (count, less, cut)) = record {
-      newer = Kept entry ∷ [];
-      older = past;
-      past = past;
-      split = refl;
-      killed = inr (inr (inl (record {
-        entry = entry;
-        next = record { work = tt; may = trail.0.1; planned = trail.1.1 };
-        in_range = trail.2.0;
-        count = count;
-        less = less;
-        is = refl;
-        bytes = cc (front, were, cut);
-      })));
-    }
+    behind m front (inr whole) = stands_whole start (Kept entry ∷ past) left tt (cc (front, were, whole))
+    behind m front (inl (count, less, cut)) =
+        let next : IsNext start past (Kept entry) = record { work = tt; may = trail.0.1; planned = trail.1.1 } in
+        let in_hand : RecordInHand start past past left = record {
+          entry = entry;
+          next = next;
+          in_range = trail.2.0;
+          count = count;
+          less = less;
+          is = refl;
+          bytes = cc (front, were, cut);
+        } in
+        (Kept entry ∷ [], past, past, refl, inr (inr (inl in_hand)))
 
     by : (length left < length B) ⊎ (length B ≤ length left) → ((m : List ℕ) → B ≡ left ++ m → StandsAt start past left)
         → StandsAt start (Kept entry ∷ past) left
@@ -177,25 +161,24 @@ module _ {limit most : ℕ} {found seen left : List ℕ} {first : Streams} (last
   stood trail rest end d drove all =
       let front : left ≡ J ++ part.2.0 =
       rw (one_records limit found part.0 b.journal.records part.1 (loads is b)) part.2.2 in
-      let at =
-      stands_at (start_of b.journal) trail left part.2.0 rest (d.legal, d.planned, d.in_range) front all in
-      let older = driven_older (start_of b.journal) at.newer at.older (from b) end (rw at.split at d) in record {
+      let at = stands_at (start_of b.journal) trail left part.2.0 rest (d.legal, d.planned, d.in_range) front all in
+      let older = driven_older (start_of b.journal) at.0 at.1 (from b) end (rw at.3 at d) in record {
         trail = trail;
         drove = drove;
-        sitting = record { start = start_of b.journal; past = at.past };
+        sitting = record { start = start_of b.journal; past = at.2 };
         killed = record {
           first = first;
           now = older.0;
           is_found = is;
           begun = b;
-          older = at.older;
+          older = at.1;
           driven = older.1;
-          past = at.past;
-          at = at.killed;
+          past = at.2;
+          at = at.4;
           is = refl;
         };
-        newer = at.newer;
-        split = at.split;
+        newer = at.0;
+        split = at.3;
       }
 
   -- all that it wrote is seen
@@ -216,8 +199,7 @@ module _ {limit most : ℕ} {found seen left : List ℕ} {first : Streams} (last
       → StoodOnce limit most found left first last
   stood_before fault d = by (broke_with (start_of b.journal) d.past d.middle last fault d.rest d.broken) where
     by : BrokeWith (start_of b.journal) d.past d.middle last fault → StoodOnce limit most found left first last
-    by (inl (keeps, _, _, _, _)) =
-        stood_seen d.past d.middle d.driven (b, orders, inr (fault, d, inl refl)) keeps
+    by (inl (keeps, _, _, _, _)) = stood_seen d.past d.middle d.driven (b, orders, inr (fault, d, inl refl)) keeps
     by (inr (journal, (entry, next, cut))) =
         let sp = spelling Two entry in
         let n = cut.journal.count in

@@ -29,7 +29,7 @@ use Rattle.dali_drive.specs.Observed.{IsObserved, IsObservedBreak}
 use Rattle.dali_drive.specs.Stored.{IsStoredDrive, EndsAtFault}
 use Rattle.dali_drive.specs.Transcript.{Streams, said_lines}
 use Rattle.dali_drive.proofs.DriveLemmas.{at_append}
-use Rattle.dali_drive.proofs.FollowLawLemmas.{asked_given, given_then}
+use Rattle.dali_drive.proofs.FollowLawLemmas.{asked_given, given_then, submitted_both}
 
 -- orders were given and no lines
 abbrev AreOrders : List Given → Type 0
@@ -47,8 +47,7 @@ orders_behind [] given are = are
 orders_behind (order ∷ orders) given are = orders_behind orders given are
 
 submitted_given : (orders : List (Contents × ℕ)) → submitted (as_given orders) ≡ orders
-submitted_given [] = refl
-submitted_given (order ∷ orders) = ap (◌∷◌ order) (submitted_given orders)
+submitted_given orders = simp append-nil at (submitted_both orders [])
 
 -- so just the replies and the sayings were written
 lines_said : (steps : List Step) → AreOrders (given_in steps) → told_lines steps ≡ said_lines (happenings steps)
@@ -85,15 +84,8 @@ module _ {B : Type 0} (told : Start → B → B → List Happening → Type 0) (
       → reverse (submitted given) ++ at_moment moment orders_left.rest.now ≡ at_moment moment orders
   whole given gave =
       let at : moment ≡ listed.moment = ap (λ (s : ListedState). s.moment) (sym is) in
-      rw (
-        rest_is,
-        gave.rest_is,
-        at,
-        gave.given_are,
-        submitted_given,
-        reverse-reverse,
-        at_append listed.moment gave.orders orders_left.rest.now,
-      ) refl
+      rw (rest_is, gave.rest_is, at, gave.given_are, submitted_given, reverse-reverse)
+      (sym (at_append listed.moment gave.orders orders_left.rest.now))
 
   -- all of them were given
   all_given : length orders ≤ 2 ^ 64 - 1 → (given : List Given) → GaveListed listed orders_left given
@@ -115,13 +107,8 @@ module _ {B : Type 0} (told : Start → B → B → List Happening → Type 0) (
           unmuted start o.follow.steps first last (rw o.follow.at.given_are (are_orders o.given o.gave_all))
           o.follow.at.driven_at.driven o.follow.at.said;
       asked =
-          rw (
-            asked_given,
-            o.follow.at.given_are,
-            ← whole o.given o.gave_all,
-            all_given few o.given o.gave_all o.ends,
-            append-nil,
-          ) refl;
+          rw (asked_given, o.follow.at.given_are, ← whole o.given o.gave_all)
+          (rw (all_given few o.given o.gave_all o.ends, append-nil));
       quiet = o.follow.quiet;
       described = o.follow.at.driven_at.described;
       follows = o.follow.at.driven_at.follows;
@@ -146,8 +133,7 @@ module _ {B : Type 0} (told : Start → B → B → List Happening → Type 0) (
             driven =
                 unmuted start f.steps first f.then
                 (orders_behind (reverse b.unasked) (given_in f.steps) (rw b.given_are at are)) b.driven f.said;
-            asked =
-                rw (← append_assoc, given_then f.steps b.unasked o.given b.given_are) (whole o.given o.gave_all);
+            asked = rw (← append_assoc, given_then f.steps b.unasked o.given b.given_are) (whole o.given o.gave_all);
             broken = b.broken (at_moment moment orders_left.rest.now);
           };
           left = o.breaks.left;
@@ -187,12 +173,12 @@ module _ {B : Type 0} (told : Start → B → B → List Happening → Type 0)
 
 -- behind none it is a drive over the store
 
-module _ {B : Type 0} (told : Start → B → B → List Happening → Type 0) (limit most : ℕ)
-    (orders : List (Contents × ℕ)) (first : Streams) (before : B) (last : Streams) (after : B) where
-  pub stored_drive : (writer : WriterState)
-      → IsDriveBehind told None limit most orders first before writer last after
-      → IsStoredDrive limit most orders first writer last
-  stored_drive writer o = record { begun = o.behind.begun; drive = rw o.behind.whole at o.observed.drive }
+pub stored_drive : {B : Type 0} (told : Start → B → B → List Happening → Type 0) (limit most : ℕ)
+    (orders : List (Contents × ℕ)) (first : Streams) (before : B) (last : Streams) (after : B) (writer : WriterState)
+    → IsDriveBehind told None limit most orders first before writer last after
+    → IsStoredDrive limit most orders first writer last
+stored_drive told limit most orders first before last after writer o =
+    record { begun = o.behind.begun; drive = rw o.behind.whole at o.observed.drive }
 
 pub stored_end : {B : Type 0} (told : Start → B → B → List Happening → Type 0)
     (told_end : Start → B → B → List Happening → DriveFault → Frame → List ℕ → Type 0) (limit most : ℕ)

@@ -7,7 +7,6 @@ use Rattle.std.specs.Io.KnownBytes.{Appends, Keeps}
 use Rattle.dali_bank.specs.Order.{Contents}
 use Rattle.dali_frame.specs.declared.forward.Frame.{Frame}
 use Rattle.dali_journal.specs.declared.record.Record.{Record}
-use Rattle.dali_journal.specs.declared.record.Record.TheVariants.{Began, Opened, Ended, Closed}
 use Rattle.dali_journal.specs.declared.version.Version.TheVariants.{Two}
 use Rattle.dali_journal.specs.Spelling.{spelling, header, journal_spelling, IsRecord}
 use Rattle.dali_journal.specs.Reading.{IsCutOf}
@@ -118,10 +117,7 @@ record_finished start _ entry next = tt
 
 -- a record has bytes, so a journal with one more is another
 has_bytes : (entry : Record) → 0 < length (spelling Two entry)
-has_bytes (Began order moment) = omega arith
-has_bytes (Opened unit) = omega arith
-has_bytes (Ended code) = omega arith
-has_bytes (Closed unit) = omega arith
+has_bytes entry = grind arith
 
 -- A drive over a store that showed these bytes
 
@@ -158,32 +154,25 @@ module _ {limit most : ℕ} {found : List ℕ} {first : Streams} (is : first.jou
   with_left : (past : List Happening) (left rest : List ℕ) → IsTrail (start_of b.journal) past → IsFinished past
       → (last : Record) × IsCutOf Two rest last
       → left ≡ journal_spelling Two (records_of (start_of b.journal) past) ++ rest → Sat past left
-  with_left past left rest trail finished cut same = record {
-    limit_is = b.opened.found.loaded.0;
-    found_loads = loads;
-    legal = trail.0;
-    planned = trail.1;
-    finished = finished;
-    left_loads = rw same (record {
-      version = Two;
-      len = length (journal_spelling Two (records_of (start_of b.journal) past));
-      kept = so past trail;
-      loadable = record { rest = rest; spelled = refl; cut = cut; counts = refl };
-    });
-  }
+  with_left past left rest trail finished cut same =
+      let loads_left : Loads limit (records_of (start_of b.journal) past) left = rw same (record {
+        version = Two;
+        len = length (journal_spelling Two (records_of (start_of b.journal) past));
+        kept = so past trail;
+        loadable = record { rest = rest; spelled = refl; cut = cut; counts = refl };
+      }) in
+      assumption (b.opened.found.loaded, loads)
 
   whole : (past : List Happening) (left : List ℕ) → IsTrail (start_of b.journal) past → IsFinished past
       → left ≡ journal_spelling Two (records_of (start_of b.journal) past) → Sat past left
-  whole past left trail finished same =
-      with_left past left [] trail finished cut_of_none (same ∙ sym (append-nil _))
+  whole past left trail finished same = with_left past left [] trail finished cut_of_none (same ∙ sym (append-nil _))
 
   cut_off : (past : List Happening) (left : List ℕ) (entry : Record) (count : ℕ) → IsTrail (start_of b.journal) past
       → IsNext (start_of b.journal) past (Kept entry) → IsRecord Two entry → count < length (spelling Two entry)
       → left ≡ journal_spelling Two (records_of (start_of b.journal) past) ++ take count (spelling Two entry)
       → Sat past left
   cut_off past left entry count trail next range less same =
-      with_left past left (take count (spelling Two entry)) trail
-      (record_finished (start_of b.journal) past entry next)
+      with_left past left (take count (spelling Two entry)) trail (record_finished (start_of b.journal) past entry next)
       (cut_of_some entry (spelling Two entry) count refl range less) same
 
   -- whatever was in hand where it was killed
@@ -242,10 +231,8 @@ module _ (start : Start) (past : List Happening) (old new : Streams) where
       inl (off.3.journal, said ∷ past, inr (said, (off.0, off.1, refl, off.2), refl), tt, λ entry same. cc)
   broke_with NoMemory [] never = absurd never
   broke_with NoMemory (order ∷ rest) off = still_past NoMemory off.3.journal off.0
-  broke_with Link rest (frame, next, inl cut) =
-      still_past Link cut.journal (frame_finished start past frame next)
-  broke_with Link rest (frame, next, inr none) =
-      still_past Link none.journal (frame_finished start past frame next)
+  broke_with Link rest (frame, next, inl cut) = still_past Link cut.journal (frame_finished start past frame next)
+  broke_with Link rest (frame, next, inr none) = still_past Link none.journal (frame_finished start past frame next)
   broke_with fault rest off = still_past fault off.2.journal (frame_finished start past off.0 off.1)
 
 module _ {limit most : ℕ} {found : List ℕ} {first last : Streams} (is : first.journal ≡ Some found)
@@ -290,16 +277,14 @@ module _ {limit most : ℕ} {found : List ℕ} {first last : Streams} (is : firs
   one_kept : (entry other : Record) → IsNext begins d.past (Kept entry) → IsNext begins d.past (Kept other)
       → other ≡ entry
   one_kept entry other next also =
-      let one : Kept other ≡ Kept entry =
-      one_next begins d.past (Kept entry) (Kept other) d.driven.legal next also in
+      let one : Kept other ≡ Kept entry = one_next begins d.past (Kept entry) (Kept other) d.driven.legal next also in
       cc
 
   trail : IsTrail begins d.past
   trail = (d.driven.legal, d.driven.planned, d.driven.in_range)
 
   pub sat_broken : (past : List Happening) → MayHaveHappened begins d.past fault past → IsFinished past
-      → KeptWhereWhole begins d.past past left
-      → IsSat limit found (record { start = begins; past = past }) left
+      → KeptWhereWhole begins d.past past left → IsSat limit found (record { start = begins; past = past }) left
   sat_broken past happened finished counts = by happened broke where
     broke : BrokeWith begins d.past d.middle last fault
     broke = broke_with begins d.past d.middle last fault d.rest d.broken
@@ -377,8 +362,7 @@ module _ {limit most : ℕ} {found : List ℕ} {first last : Streams} (is : firs
 
     of_record : (entry : Record) → fault ≡ Journal → IsNext begins d.past (Kept entry) → HasPart entry → Made
     of_record entry journal next (part, same, inr all) =
-        make (Kept entry ∷ d.past) (inr (Kept entry, rw journal (entry, refl, next), refl)) tt
-        (λ other also.
+        make (Kept entry ∷ d.past) (inr (Kept entry, rw journal (entry, refl, next), refl)) tt (λ other also.
         let one = one_kept entry other next also in (
           λ grown. rw one (same ∙ ap (λ (l : List ℕ). was ++ l) all),
           λ whole. ap (λ (e : Record). Kept e ∷ d.past) (sym one),

@@ -8,7 +8,7 @@ use Rattle.dali_bank.specs.Order.{Contents}
 use Rattle.dali_journal.specs.declared.record.Record.{Record}
 use Rattle.dali_journal.specs.declared.version.Version.TheVariants.{Two}
 use Rattle.dali_journal.specs.JournalState.{JournalState, AreKept, order_count}
-use Rattle.dali_journal.specs.Loading.{IsLoadable}
+use Rattle.dali_journal.specs.Loading.{IsLoadable, IsLoaded}
 use Rattle.dali_journal.specs.Spelling.{header, records_spelling, journal_spelling}
 use Rattle.dali_journal.proofs.AheadLemmas.{spelling_append}
 use Rattle.dali_trace.specs.declared.happening.Happening.{Happening}
@@ -53,8 +53,7 @@ module _ (older : List Record) where
       → Appends (whole old) (whole new) more
   appends_whole None new more has added = absurd has
   appends_whole (Some x) None more has added = absurd added
-  appends_whole (Some x) (Some y) more has added =
-      ap (bytes_behind older) added ∙ behind_more x more has.0 has.1
+  appends_whole (Some x) (Some y) more has added = ap (bytes_behind older) added ∙ behind_more x more has.0 has.1
 
   keeps_whole : (old new : Option (List ℕ)) → Keeps old new → Keeps (whole old) (whole new)
   keeps_whole None new same = tt
@@ -158,6 +157,10 @@ module _ (older : JournalState) {limit most : ℕ} {first : Streams} (b : IsBegu
   kept_whole : AreKept Two (order_count older + limit) b.journal.records
   kept_whole = rw b.whole.limit_is at b.whole.kept
 
+  loaded : IsLoaded (order_count older + limit) found b.journal (length found) Two
+  loaded =
+      (b.whole.limit_is, kept_whole, record { rest = []; spelled = sym (append-nil _); cut = cut_of_none; counts = refl })
+
   abbrev begun_whole : (room : ℕ) → length found ≤ room
       → IsBegun (order_count older + limit) room (muted (record first { journal = Some found }))
   begun_whole room within = record {
@@ -166,17 +169,7 @@ module _ (older : JournalState) {limit most : ℕ} {first : Streams} (b : IsBegu
       version = Two;
       counted = length found;
       total = length found;
-      found = record {
-        bytes = found;
-        shown = refl;
-        within = within;
-        total_is = refl;
-        loaded = (
-          b.whole.limit_is,
-          kept_whole,
-          record { rest = []; spelled = sym (append-nil found); cut = cut_of_none; counts = refl },
-        );
-      };
+      found = record { bytes = found; shown = refl; within = within; total_is = refl; loaded = loaded };
     };
     middle = Some found;
     written = refl;
@@ -185,8 +178,7 @@ module _ (older : JournalState) {limit most : ℕ} {first : Streams} (b : IsBegu
   pub ended_whole : (room : ℕ) (within : length found ≤ room) (given : List Given) (writer : WriterState)
       (last : Streams) (left : List ℕ)
       (follow : IsFollowed (start_of b.journal) given (record first { journal = b.begun.middle }) writer last)
-      → last.journal ≡ Some left
-      → CameToItsEnd (order_count older + limit) room found
+      → last.journal ≡ Some left → CameToItsEnd (order_count older + limit) room found
       (record { start = start_of b.journal; past = happenings follow.steps }) (bytes_behind older.records left)
   ended_whole room within given writer last left follow held =
       came_to_its_end {first = muted (record first { journal = Some found })} refl (begun_whole room within)

@@ -61,13 +61,7 @@ begun_on file counted within loadable = record {
     version = Two;
     counted = counted;
     total = length file;
-    found = record {
-      bytes = file;
-      shown = refl;
-      within = within;
-      total_is = refl;
-      loaded = (refl, none_kept, loadable);
-    };
+    found = record { bytes = file; shown = refl; within = within; total_is = refl; loaded = (refl, none_kept, loadable) };
   };
   middle = Some bare_file;
   written = refl;
@@ -160,8 +154,7 @@ stopped_amid_frame past happened finished = record {
 }
 
 pub second_broke_off : BrokeOff 10 100 torn_file second_sitting begun_file
-second_broke_off =
-    stopped_amid_frame first_frame (inr (Sent (Dtr1 1) None, (Dtr1 1, None, refl, first_next), refl)) tt
+second_broke_off = stopped_amid_frame first_frame (inr (Sent (Dtr1 1) None, (Dtr1 1, None, refl, first_next), refl)) tt
 
 pub or_without_the_frame : BrokeOff 10 100 torn_file second_without_the_frame begun_file
 or_without_the_frame = stopped_amid_frame begun (inl refl) tt
@@ -221,8 +214,7 @@ counted_where_whole counts =
 
 -- a file of other records is no same one
 pub no_same_file : IsSameFile 10 begun_file torn_file → ⊥
-no_same_file same =
-    torn_not_begun (loads_still 10 (Began first_order 7 ∷ []) begun_file torn_file same begun_loads)
+no_same_file same = torn_not_begun (loads_still 10 (Began first_order 7 ∷ []) begun_file torn_file same begun_loads)
 
 -- a fault breaks off a step of its own, and want of memory none
 pub no_step_without_memory : MayHaveHappened empty begun NoMemory first_frame → ⊥

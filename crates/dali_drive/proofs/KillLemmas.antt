@@ -1,8 +1,8 @@
 -- A drive over a store that is killed at some moment.
 use Rattle.std.proofs.Common.{◌≡◌, ◌<◌, ◌≤◌, ◌⊎◌, refl, sym, ap, ◌∙◌, inl, inr, ℕ, List, [], ◌∷◌, ◌++◌, Option, Some}
-use Rattle.std.proofs.Common.{None, length, take, drop, arith, take-append-drop}
+use Rattle.std.proofs.Common.{None, length, take, drop, arith, length-append, take-append-drop}
 use Rattle.std.proofs.lemmas.Bool.{cases_lt}
-use Rattle.std.proofs.lemmas.List.{append_assoc, append-nil, append_cancel_left}
+use Rattle.std.proofs.lemmas.List.{append_assoc, append-nil, append_cancel_left, take_at}
 use Rattle.std.specs.Io.KnownBytes.{Appends, Consumes, Keeps, append_known, prepend_known}
 use Rattle.dali_bank.specs.Order.{Contents}
 use Rattle.dali_journal.specs.declared.record.Record.{Record}
@@ -23,7 +23,7 @@ use Rattle.dali_drive.specs.Driven.{KeepsRecords, IsDriven, IsDrive, IsBrokenDri
 use Rattle.dali_drive.specs.Stored.{IsBegun, IsPartBehind}
 use Rattle.dali_drive.specs.Kills.{RecordInHand, IsKilledAt, MayHaveDriven, StoodOnce}
 use Rattle.dali_drive.proofs.SittingLemmas.{made, loads, drive_holds, journal_recorded, grown_known, kept_known}
-use Rattle.dali_drive.proofs.SittingLemmas.{first_part, IsTrail, from, BrokeWith, broke_with}
+use Rattle.dali_drive.proofs.SittingLemmas.{IsTrail, from, BrokeWith, broke_with}
 use Rattle.dali_drive.proofs.DriveLemmas.{keeps_on}
 
 -- A driven trace cut short is driven
@@ -115,19 +115,19 @@ stands_at start (Kept entry ∷ past) left more rest trail is all =
     were : B ≡ journal_spelling Two (records_of start past)
     were = sym (journal_recorded start past)
 
-    behind : (m : List ℕ) → left ≡ B ++ m → ((count : ℕ) × (count < length sp) × (m ≡ take count sp)) ⊎ (m ≡ sp)
-        → StandsAt start (Kept entry ∷ past) left
-    behind m front (inr whole) = stands_whole start (Kept entry ∷ past) left tt (cc (front, were, whole))
-    behind m front (inl (count, less, cut)) =
+    behind : (m tail : List ℕ) → left ≡ B ++ m → sp ≡ m ++ tail → StandsAt start (Kept entry ∷ past) left
+    behind m [] front whole =
+        stands_whole start (Kept entry ∷ past) left tt (cc (front, were, whole, append-nil m))
+    behind m (x ∷ tail) front whole =
         let next : IsNext start past (Kept entry) = record { work = tt; may = trail.0.1; planned = trail.1.1 } in
         let in_hand : RecordInHand start past past left = record {
           entry = entry;
           next = next;
           in_range = trail.2.0;
-          count = count;
-          less = less;
+          count = length m;
+          less = omega (arith, ap (length {A = ℕ}) whole, length-append {A = ℕ});
           is = refl;
-          bytes = cc (front, were, cut);
+          bytes = rw (whole, take_at m (x ∷ tail) (length m) refl) (cc (front, were));
         } in
         (Kept entry ∷ [], past, past, refl, inr (inr (inl in_hand)))
 
@@ -137,7 +137,7 @@ stands_at start (Kept entry ∷ past) left more rest trail is all =
         let s = split_front left rest B sp (sym same) (omega (arith, less)) in
         one_more start (Kept entry) past left (older s.0 s.1)
     by (inr more_of) older =
-        let s = split_front B sp left rest same more_of in behind s.0 s.1 (first_part sp s.0 rest s.2)
+        let s = split_front B sp left rest same more_of in behind s.0 rest s.1 s.2
 stands_at start (next ∷ past) left more rest trail is all =
     one_more start next past left (stands_at start past left more rest (trail.0.0, trail.1.0, trail.2) is all)
 

@@ -1,7 +1,7 @@
 -- What a drive over a store leaves.
 use Rattle.std.proofs.Common.{◌≡◌, ◌<◌, ◌≤◌, ◌⊎◌, refl, sym, ap, ◌∙◌, inl, inr, ℕ, List, [], ◌∷◌, ◌++◌, Option, Some}
-use Rattle.std.proofs.Common.{None, length, take, drop, arith, length-append, length-take, take-append-drop}
-use Rattle.std.proofs.lemmas.List.{append_assoc, append-nil, take_at, append_cancel_left}
+use Rattle.std.proofs.Common.{None, length, take, drop, arith, length-append, take-append-drop}
+use Rattle.std.proofs.lemmas.List.{append_assoc, append-nil, append_cancel_left}
 use Rattle.std.specs.List.{AllByRecursion}
 use Rattle.std.specs.Io.KnownBytes.{Appends, Keeps}
 use Rattle.dali_bank.specs.Order.{Contents}
@@ -24,7 +24,7 @@ use Rattle.dali_laws.proofs.NextLemmas.{one_next}
 use Rattle.dali_laws.proofs.RepeatLemmas.{legal_sentence}
 use Rattle.dali_engine.specs.WriterState.{WriterState, start_of}
 use Rattle.dali_engine.proofs.StopLemmas.{cut_of_none, cut_of_some}
-use Rattle.dali_store.specs.Stores.{Becomes, IsBetween}
+use Rattle.dali_store.specs.Stores.{IsBetween}
 use Rattle.dali_store.specs.Opened.{Loads}
 use Rattle.dali_store.proofs.OpenLemmas.{found_loads, found_kept}
 use Rattle.dali_trace.specs.declared.fault.DriveFault.{DriveFault}
@@ -46,25 +46,11 @@ pub record IsSat (limit : ℕ) (found : List ℕ) (sitting : Sitting) (left : Li
 
 -- Bytes that are known
 
--- what they become, and where they grow or stay
-became_known : (new : Option (List ℕ)) (was now : List ℕ) → Becomes (Some was) new now → new ≡ Some now
-became_known new was now becomes = grind arith
-
 pub grown_known : (new : Option (List ℕ)) (was more : List ℕ) → Appends (Some was) new more → new ≡ Some (was ++ more)
 grown_known new was more grown = grind arith
 
 pub kept_known : (new : Option (List ℕ)) (was : List ℕ) → Keeps (Some was) new → new ≡ Some was
 kept_known new was keeps = grind arith
-
--- a first part is shorter, or it is all
-pub first_part : (all front tail : List ℕ) → all ≡ front ++ tail
-    → ((count : ℕ) × (count < length all) × (front ≡ take count all)) ⊎ (front ≡ all)
-first_part all front [] whole = inr (sym (append-nil front) ∙ sym whole)
-first_part all front (x ∷ tail) whole = inl (
-  length front,
-  omega (arith, ap (length {A = ℕ}) whole, length-append {A = ℕ}),
-  sym (ap (take (length front)) whole ∙ take_at front (x ∷ tail) (length front) refl),
-)
 
 -- what lies between known bytes has the first ones, and then a first part of what was put
 between_known : (was more c : List ℕ) → IsBetween (Some was) (Some (was ++ more)) c
@@ -135,20 +121,17 @@ module _ {limit most : ℕ} {found : List ℕ} {first : Streams} (is : first.jou
   Sat past left = IsSat limit found (record { start = start_of b.journal; past = past }) left
 
   pub made : b.middle ≡ Some (journal_spelling Two b.journal.records)
-  made = became_known b.middle found _ (rw is at b.written)
+  made = let written = rw is at b.written in grind arith
 
   pub loads : Loads limit b.journal.records found
-  loads =
-      rw (rw is at b.opened.found.shown) (found_loads limit most first.journal b.journal b.opened.version
-      b.opened.counted b.opened.total b.opened.found)
+  loads = rw (rw is at b.opened.found.shown) (found_loads limit most first.journal b.journal _ _ _ b.opened.found)
 
   so : (past : List Happening) → IsTrail (start_of b.journal) past
       → AreKept Two limit (records_of (start_of b.journal) past)
   so past trail =
-      let kept =
-      found_kept limit most first.journal b.journal b.opened.version b.opened.counted b.opened.total b.opened.found in
-      rw b.opened.found.loaded.0 at (kept_so (start_of b.journal) past (rw b.opened.found.loaded.0 kept) trail.0
-      trail.2)
+      let kept = found_kept limit most first.journal b.journal _ _ _ b.opened.found in
+      let limit_is = b.opened.found.loaded.0 in
+      rw limit_is at (kept_so (start_of b.journal) past (rw limit_is kept) trail.0 trail.2)
 
   -- its records stand there, and behind them a part of another, or nothing
   with_left : (past : List Happening) (left rest : List ℕ) → IsTrail (start_of b.journal) past → IsFinished past
@@ -167,14 +150,6 @@ module _ {limit most : ℕ} {found : List ℕ} {first : Streams} (is : first.jou
       → left ≡ journal_spelling Two (records_of (start_of b.journal) past) → Sat past left
   whole past left trail finished same = with_left past left [] trail finished cut_of_none (same ∙ sym (append-nil _))
 
-  cut_off : (past : List Happening) (left : List ℕ) (entry : Record) (count : ℕ) → IsTrail (start_of b.journal) past
-      → IsNext (start_of b.journal) past (Kept entry) → IsRecord Two entry → count < length (spelling Two entry)
-      → left ≡ journal_spelling Two (records_of (start_of b.journal) past) ++ take count (spelling Two entry)
-      → Sat past left
-  cut_off past left entry count trail next range less same =
-      with_left past left (take count (spelling Two entry)) trail (record_finished (start_of b.journal) past entry next)
-      (cut_of_some entry (spelling Two entry) count refl range less) same
-
   -- whatever was in hand where it was killed
   pub sat_killed : (older past : List Happening) (left : List ℕ) → IsTrail (start_of b.journal) older
       → IsKilledAt (start_of b.journal) older past left → Sat past left
@@ -183,7 +158,9 @@ module _ {limit most : ℕ} {found : List ℕ} {first : Streams} (is : first.jou
       rw sent.is (whole (Sent sent.frame sent.answer ∷ older) left ((t.0, sent.next.may), (t.1, sent.next.planned), t.2)
       tt sent.bytes)
   sat_killed older past left t (inr (inr (inl cut))) =
-      rw cut.is (cut_off older left cut.entry cut.count t cut.next cut.in_range cut.less cut.bytes)
+      rw cut.is (with_left older left (take cut.count (spelling Two cut.entry)) t
+      (record_finished (start_of b.journal) older cut.entry cut.next)
+      (cut_of_some cut.entry (spelling Two cut.entry) cut.count refl cut.in_range cut.less) cut.bytes)
   sat_killed older past left t (inr (inr (inr said))) =
       rw said.is (whole (Answered said.id said.reply ∷ older) left
       ((t.0, said.next.may), (t.1, said.next.planned), t.2) tt said.bytes)
@@ -251,12 +228,9 @@ module _ {limit most : ℕ} {found : List ℕ} {first last : Streams} (is : firs
   still : Keeps d.middle.journal last.journal → left ≡ was
   still keeps = between_still was left (rw (at_middle, kept_known last.journal was (rw at_middle at keeps)) at between)
 
-  -- this much of a record was put, or all of it
+  -- this much of a record was put
   abbrev HasPart : Record → Type 0
-  HasPart entry =
-      (part : List ℕ) × (left ≡ was ++ part)
-      × (((count : ℕ) × (count < length (spelling Two entry)) × (part ≡ take count (spelling Two entry)))
-      ⊎ (part ≡ spelling Two entry))
+  HasPart entry = (part : List ℕ) × (more : List ℕ) × (left ≡ was ++ part) × (spelling Two entry ≡ part ++ more)
 
   part_left : (entry : Record) → CutRecord entry d.middle last → HasPart entry
   part_left entry cut =
@@ -266,7 +240,7 @@ module _ {limit most : ℕ} {found : List ℕ} {first last : Streams} (is : firs
       let k = between_known was (take n sp) left (rw (at_middle, now) at between) in
       let whole : sp ≡ k.0 ++ (k.1 ++ drop n sp) =
       sym (take-append-drop n sp) ∙ ap (λ (l : List ℕ). l ++ drop n sp) k.3 ∙ append_assoc k.0 k.1 (drop n sp) in
-      (k.0, k.2, first_part sp k.0 (k.1 ++ drop n sp) whole)
+      (k.0, k.1 ++ drop n sp, k.2, whole)
 
   -- where a record stands whole, no less was put
   longer : (part : List ℕ) (entry : Record) → left ≡ was ++ part → left ≡ was ++ spelling Two entry
@@ -289,19 +263,19 @@ module _ {limit most : ℕ} {found : List ℕ} {first last : Streams} (is : firs
     broke : BrokeWith begins d.past d.middle last fault
     broke = broke_with begins d.past d.middle last fault d.rest d.broken
 
-    kept : (entry : Record) → IsNext begins d.past (Kept entry) → CutRecord entry d.middle last
+    kept : (entry : Record) → IsNext begins d.past (Kept entry) → IsRecord Two entry
         → left ≡ was ++ spelling Two entry → Sat is b past left
-    kept entry next cut all =
+    kept entry next range all =
         rw ((counts entry next).1 all) (whole is b (Kept entry ∷ d.past) left
-        ((trail.0, next.may), (trail.1, next.planned), (cut.in_range, trail.2)) tt all)
+        ((trail.0, next.may), (trail.1, next.planned), (range, trail.2)) tt all)
 
-    part_kept : (entry : Record) → IsNext begins d.past (Kept entry) → CutRecord entry d.middle last → HasPart entry
+    part_kept : (entry : Record) → IsNext begins d.past (Kept entry) → IsRecord Two entry → HasPart entry
         → past ≡ d.past → Sat is b past left
-    part_kept entry next cut (part, same, inr all) is_trace =
-        kept entry next cut (same ∙ ap (λ (l : List ℕ). was ++ l) all)
-    part_kept entry next cut (part, same, inl (count, less, first)) is_trace =
-        rw is_trace (cut_off is b d.past left entry count trail next cut.in_range less
-        (same ∙ ap (λ (l : List ℕ). was ++ l) first))
+    part_kept entry next range (part, [], same, spelled) is_trace =
+        kept entry next range (rw (spelled, append-nil) same)
+    part_kept entry next range (part, x ∷ more, same, spelled) is_trace =
+        rw is_trace (with_left is b d.past left part trail (record_finished begins d.past entry next)
+        (entry, (range, x ∷ more, (λ e. cc), spelled)) same)
 
     no_record : (next : Happening) → IsNext begins d.past next → past ≡ next ∷ d.past → left ≡ was → Sat is b past left
     no_record (Kept entry) next grown same =
@@ -314,13 +288,13 @@ module _ {limit most : ℕ} {found : List ℕ} {first last : Streams} (is : firs
     by : MayHaveHappened begins d.past fault past → BrokeWith begins d.past d.middle last fault → Sat is b past left
     by (inl is_trace) (inl (keeps, _, _, _, _)) =
         rw is_trace (whole is b d.past left trail (rw is_trace at finished) (still keeps))
-    by (inl is_trace) (inr (_, (entry, next, cut))) = part_kept entry next cut (part_left entry cut) is_trace
+    by (inl is_trace) (inr (_, (entry, next, cut))) = part_kept entry next cut.in_range (part_left entry cut) is_trace
     by (inr (next, step, is_more)) (inl (keeps, _, _, _, _)) =
         no_record next (step_next begins d.past fault next step) is_more (still keeps)
     by (inr (next, step, is_more)) (inr (_, (entry, also, cut))) =
         let one : next ≡ Kept entry =
         one_next begins d.past (Kept entry) next d.driven.legal also (step_next begins d.past fault next step) in
-        kept entry also cut ((counts entry also).0 (is_more ∙ ap (λ (h : Happening). h ∷ d.past) one))
+        kept entry also cut.in_range ((counts entry also).0 (is_more ∙ ap (λ (h : Happening). h ∷ d.past) one))
 
   -- Something may have happened
 
@@ -361,20 +335,16 @@ module _ {limit most : ℕ} {found : List ℕ} {first last : Streams} (is : firs
     )
 
     of_record : (entry : Record) → fault ≡ Journal → IsNext begins d.past (Kept entry) → HasPart entry → Made
-    of_record entry journal next (part, same, inr all) =
+    of_record entry journal next (part, [], same, spelled) =
         make (Kept entry ∷ d.past) (inr (Kept entry, rw journal (entry, refl, next), refl)) tt (λ other also.
-        let one = one_kept entry other next also in (
-          λ grown. rw one (same ∙ ap (λ (l : List ℕ). was ++ l) all),
-          λ whole. ap (λ (e : Record). Kept e ∷ d.past) (sym one),
-        ))
-    of_record entry journal next (part, same, inl (count, less, first)) =
+        let one = one_kept entry other next also in
+        (λ grown. rw (one, spelled, append-nil) same, λ whole. rw one))
+    of_record entry journal next (part, x ∷ more, same, spelled) =
+        let less : length part < length (spelling Two entry) =
+        omega (arith, ap (length {A = ℕ}) spelled, length-append {A = ℕ}) in
         make d.past (inl refl) (record_finished begins d.past entry next)
         (less_put d.past part same (λ other grown. omega (arith, ap (length {A = Happening}) grown))
-        (λ other also. rw (one_kept entry other next also, first) (omega (
-          arith,
-          less,
-          length-take count (spelling Two entry),
-        ))))
+        (λ other also. rw (one_kept entry other next also) less))
 
     by : BrokeWith begins d.past d.middle last fault → Made
     by (inl (keeps, past, happened, finished, none)) =

@@ -66,10 +66,10 @@ Fell start orders fault first last left =
     ⊎ ((writer : WriterState) × (then : Streams) × IsDrive start orders first writer then
     × Keeps then.journal last.journal × IsBetween then.journal last.journal left)
 
-pub fell : (start : Start) (given : List Given) (fault : DriveFault) (first last : Streams) (left : List ℕ)
+pub fell : {start : Start} {given : List Given} {fault : DriveFault} {first last : Streams} (left : List ℕ)
     (f : IsBrokenFollow start given fault first last) → IsBetween f.then.journal last.journal left
     → Fell start (reverse (submitted given)) fault (muted first) last left
-fell start given fault first last left f between = by fault f.broken where
+fell {start} {given} {fault} {first} {last} left f between = by fault f.broken where
   of_order : (fault : DriveFault) → BrokenOrder start f.steps given fault first f.then last
       → Fell start (reverse (submitted given)) fault (muted first) last left
   of_order fault b = inl (
@@ -98,16 +98,16 @@ fell start given fault first last left f between = by fault f.broken where
 
 module _ {limit most : ℕ} {found : List ℕ} {first : Streams} (is : first.journal ≡ Some found)
     (b : IsBegun limit most first) where
-  pub fell_sat : (orders : List (Contents × ℕ)) (fault : DriveFault) (last : Streams) (left : List ℕ)
+  pub fell_sat : {orders : List (Contents × ℕ)} {fault : DriveFault} {last : Streams} (left : List ℕ)
       → Fell (start_of b.journal) orders fault (from b) last left
       → (past : List Happening) × HasSat limit most found (record { start = start_of b.journal; past = past }) left
-  fell_sat orders fault last left (inl (d, between)) =
+  fell_sat left (inl (d, between)) =
       let sat = some_broken is b d left between in (sat.0, inr (inl sat.1))
-  fell_sat orders fault last left (inr (writer, then, d, keeps, between)) =
+  fell_sat {last = last} left (inr (writer, then, d, keeps, between)) =
       let holds = drive_holds d.driven (made is b) in
       let still = kept_known last.journal _ (rw holds at keeps) in
       let same = between_still _ left (rw (holds, still) at between) in
-      (d.past, inl (came_to_its_end is b orders writer then left d (holds ∙ ap Some (sym same))))
+      (d.past, inl (came_to_its_end is b d (holds ∙ ap Some (sym same))))
 
 module _ {limit most : ℕ} {found : List ℕ} {first : Streams} (is : first.journal ≡ Some found)
     (b : IsBegun limit most first) where
@@ -119,13 +119,11 @@ module _ {limit most : ℕ} {found : List ℕ} {first : Streams} (is : first.jou
       (follow : IsFollowed (start_of b.journal) given (from b) writer last) → last.journal ≡ Some left
       → CameToItsEnd limit most found (record { start = start_of b.journal; past = happenings follow.steps }) left
   followed_ended given writer last left follow held =
-      came_to_its_end is begun_so (reverse (submitted given)) writer last left
-      (as_drive (start_of b.journal) given (from b) writer last follow) held
+      came_to_its_end is begun_so (as_drive (start_of b.journal) given (from b) writer last follow) held
 
   pub followed_broken : (given : List Given) (fault : DriveFault) (last : Streams) (left : List ℕ)
       (follow : IsBrokenFollow (start_of b.journal) given fault (from b) last)
       → IsBetween follow.then.journal last.journal left
       → (past : List Happening) × HasSat limit most found (record { start = start_of b.journal; past = past }) left
   followed_broken given fault last left follow between =
-      fell_sat is begun_so (reverse (submitted given)) fault last left
-      (fell (start_of b.journal) given fault (from b) last left follow between)
+      fell_sat is begun_so left (fell left follow between)

@@ -1,6 +1,6 @@
 -- A drive over a store that is killed at some moment.
 use Rattle.std.proofs.Common.{◌≡◌, ◌<◌, ◌≤◌, ◌⊎◌, refl, sym, ap, ◌∙◌, inl, inr, ℕ, List, [], ◌∷◌, ◌++◌, Option, Some}
-use Rattle.std.proofs.Common.{None, length, take, drop, arith, length-append, take-append-drop}
+use Rattle.std.proofs.Common.{length, take, drop, arith, length-append, take-append-drop}
 use Rattle.std.proofs.lemmas.Bool.{cases_lt}
 use Rattle.std.proofs.lemmas.List.{append_assoc, append-nil, append_cancel_left, take_at}
 use Rattle.std.specs.Io.KnownBytes.{Appends, Consumes, Keeps, append_known, prepend_known}
@@ -29,13 +29,10 @@ use Rattle.dali_drive.proofs.DriveLemmas.{keeps_on}
 -- A driven trace cut short is driven
 
 appends_known : (a : Option (List ℕ)) (bytes : List ℕ) → Appends a (append_known a bytes) bytes
-appends_known None bytes = tt
-appends_known (Some x) bytes = refl
+appends_known a bytes = grind arith
 
 consumes_front : (a b : Option (List ℕ)) (x y : List ℕ) → Consumes a b (x ++ y) → Consumes a (prepend_known y b) x
-consumes_front None b x y taken = tt
-consumes_front (Some all) None x y taken = absurd taken
-consumes_front (Some all) (Some rest) x y taken = taken ∙ append_assoc x y rest
+consumes_front a b x y taken = grind (arith, append_assoc {A = ℕ})
 
 -- the text of a trace, with its link's answers in this rest
 text_at : (past : List Happening) (first : Streams) (rest : Option (List ℕ)) (heard : List ℕ) → AreAnswers past heard
@@ -43,14 +40,7 @@ text_at : (past : List Happening) (first : Streams) (rest : Option (List ℕ)) (
 text_at past first rest heard lines taken = (
   shown (append_known first.journal (recorded past)) (append_known first.link (sent_lines past)) rest
       (append_known first.out (said_lines past)),
-  record {
-    heard = heard;
-    lines = lines;
-    journal = appends_known first.journal (recorded past);
-    link = appends_known first.link (sent_lines past);
-    answers = taken;
-    out = appends_known first.out (said_lines past);
-  },
+  search appends_known,
 )
 
 text_before : (next : Happening) (past : List Happening) (first last : Streams) → Transcript (next ∷ past) first last
@@ -116,8 +106,7 @@ stands_at start (Kept entry ∷ past) left more rest trail is all =
     were = sym (journal_recorded start past)
 
     behind : (m tail : List ℕ) → left ≡ B ++ m → sp ≡ m ++ tail → StandsAt start (Kept entry ∷ past) left
-    behind m [] front whole =
-        stands_whole start (Kept entry ∷ past) left tt (cc (front, were, whole, append-nil m))
+    behind m [] front whole = stands_whole start (Kept entry ∷ past) left tt (cc (front, were, whole, append-nil m))
     behind m (x ∷ tail) front whole =
         let next : IsNext start past (Kept entry) = record { work = tt; may = trail.0.1; planned = trail.1.1 } in
         let in_hand : RecordInHand start past past left = record {

@@ -13,14 +13,14 @@ use Rattle.dali_trace.specs.declared.fault.DriveFault.TheVariants.{Line, Out}
 use Rattle.dali_trace.specs.Replies.{reply_line}
 use Rattle.dali_trace.specs.Trace.{Start}
 use Rattle.dali_journal.specs.JournalState.{JournalState}
-use Rattle.dali_engine.specs.WriterState.{WriterState, start_of}
+use Rattle.dali_engine.specs.WriterState.{WriterState}
 use Rattle.dali_drive.specs.declared.following.Given.{Given}
 use Rattle.dali_drive.specs.declared.following.Given.TheVariants as gives
 use Rattle.dali_drive.specs.declared.listed.ListedOrders.{ListedOrders}
 use Rattle.dali_drive.specs.declared.stored.StoredFault.TheVariants.{Drive}
 use Rattle.dali_drive.specs.Behind.{IsFollowBehind, IsFollowBehindBreak, IsDriveBehind, IsDriveBehindBreak}
 use Rattle.dali_drive.specs.Desks.{Look}
-use Rattle.dali_drive.specs.Driven.{at_moment, IsDriven}
+use Rattle.dali_drive.specs.Driven.{at_moment, IsDriven, orders_asked}
 use Rattle.dali_drive.specs.Followed.{Step, happenings, told_lines, given_in, submitted, as_given, muted, IsOver}
 use Rattle.dali_drive.specs.Followed.{BrokenOrder, BrokenStep, IsObservedFollow, IsObservedFollowBreak}
 use Rattle.dali_drive.specs.Followed.Step.{Happened, Told}
@@ -100,21 +100,14 @@ module _ {B : Type 0} (told : Start → B → B → List Happening → Type 0) (
   pub listed_driven : length orders ≤ 2 ^ 64 - 1 → (writer : WriterState)
       → IsObservedFollow GaveListed IsEmpty told start listed first before writer orders_left last after
       → IsObserved told start (at_moment moment orders) first before writer last after
-  listed_driven few writer o = record {
-    drive = record {
-      past = happenings o.follow.steps;
-      driven =
-          unmuted start o.follow.steps first last (rw o.follow.at.given_are (are_orders o.given o.gave_all))
-          o.follow.at.driven_at.driven o.follow.at.said;
-      asked =
-          rw (asked_given, o.follow.at.given_are, ← whole o.given o.gave_all)
-          (rw (all_given few o.given o.gave_all o.ends, append-nil));
-      quiet = o.follow.quiet;
-      described = o.follow.at.driven_at.described;
-      follows = o.follow.at.driven_at.follows;
-    };
-    told_all = o.told_all;
-  }
+  listed_driven few writer o =
+      let f = o.follow in
+      let driven =
+      unmuted start f.steps first last (rw f.at.given_are (are_orders o.given o.gave_all)) f.at.driven_at.driven f.at.said in
+      let asked : reverse (orders_asked (happenings f.steps)) ≡ at_moment moment orders =
+      rw (asked_given, f.at.given_are, ← whole o.given o.gave_all)
+      (rw (all_given few o.given o.gave_all o.ends, append-nil)) in
+      record { drive = search; told_all = o.told_all }
 
   pub listed_broken : (told_end : Start → B → B → List Happening → DriveFault → Frame → List ℕ → Type 0)
       (may_leave : List ℕ → Type 0) (fault : DriveFault)
@@ -151,12 +144,8 @@ module _ {B : Type 0} (told : Start → B → B → List Happening → Type 0)
   pub behind_driven : length orders ≤ 2 ^ 64 - 1 → (writer : WriterState)
       → IsFollowBehind GaveListed IsEmpty told older limit most listed first before writer orders_left last after
       → IsDriveBehind told older limit most (at_moment moment orders) first before writer last after
-  behind_driven few writer o = record {
-    behind = o.behind;
-    observed =
-        listed_driven told (start_of o.behind.journal) orders moment listed is
-        (record first { journal = o.behind.begun.middle }) before orders_left last after few writer o.observed;
-  }
+  behind_driven few writer o =
+      record { behind = o.behind; observed = listed_driven told _ orders moment listed is _ _ _ _ _ few writer o.observed }
 
   pub behind_broken : (may_leave : List ℕ → Type 0) (fault : DriveFault)
       → IsFollowBehindBreak GaveListed told told_end older limit most listed fault first before orders_left last after
@@ -165,10 +154,7 @@ module _ {B : Type 0} (told : Start → B → B → List Happening → Type 0)
       may_leave
   behind_broken may_leave fault o = record {
     behind = o.behind;
-    observed =
-        listed_broken told (start_of o.behind.journal) orders moment listed is
-        (record first { journal = o.behind.begun.middle }) before orders_left last after told_end may_leave fault
-        o.observed;
+    observed = listed_broken told _ orders moment listed is _ _ _ _ _ told_end may_leave fault o.observed;
   }
 
 -- behind none it is a drive over the store

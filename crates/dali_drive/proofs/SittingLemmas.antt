@@ -165,10 +165,10 @@ module _ {limit most : ℕ} {found : List ℕ} {first : Streams} (is : first.jou
       rw said.is (whole (Answered said.id said.reply ∷ older) left
       ((t.0, said.next.may), (t.1, said.next.planned), t.2) tt said.bytes)
 
-  pub came_to_its_end : (orders : List (Contents × ℕ)) (writer : WriterState) (last : Streams) (left : List ℕ)
+  pub came_to_its_end : {orders : List (Contents × ℕ)} {writer : WriterState} {last : Streams} {left : List ℕ}
       (d : IsDrive (start_of b.journal) orders (from b) writer last) → last.journal ≡ Some left
       → CameToItsEnd limit most found (record { start = start_of b.journal; past = d.past }) left
-  came_to_its_end orders writer last left d held = record {
+  came_to_its_end {orders} {writer} {last} {left} d held = record {
     orders = orders;
     first = first;
     writer = writer;
@@ -298,32 +298,30 @@ module _ {limit most : ℕ} {found : List ℕ} {first last : Streams} (is : firs
 
   -- Something may have happened
 
+  pub broke_off : (past : List Happening) → MayHaveHappened begins d.past fault past → IsFinished past
+      → KeptWhereWhole begins d.past past left
+      → BrokeOff limit most found (record { start = begins; past = past }) left
+  broke_off past happened finished counts = record {
+    orders = orders;
+    fault = fault;
+    first = first;
+    last = last;
+    is_found = is;
+    begun = b;
+    drive = d;
+    is_left = between;
+    past = past;
+    happened = happened;
+    finished = finished;
+    counts = counts;
+    is = refl;
+  }
+
   abbrev Made : Type 0
   Made = (past : List Happening) × BrokeOff limit most found (record { start = begins; past = past }) left
 
   pub some_broken : Made
   some_broken = by (broke_with begins d.past d.middle last fault d.rest d.broken) where
-    make : (past : List Happening) → MayHaveHappened begins d.past fault past → IsFinished past
-        → KeptWhereWhole begins d.past past left → Made
-    make past happened finished counts = (
-      past,
-      record {
-        orders = orders;
-        fault = fault;
-        first = first;
-        last = last;
-        is_found = is;
-        begun = b;
-        drive = d;
-        is_left = between;
-        past = past;
-        happened = happened;
-        finished = finished;
-        counts = counts;
-        is = refl;
-      },
-    )
-
     -- less than a record was put, so none is kept
     less_put : (past : List Happening) (part : List ℕ) → left ≡ was ++ part
         → ((entry : Record) → past ≡ Kept entry ∷ d.past → ⊥)
@@ -336,18 +334,19 @@ module _ {limit most : ℕ} {found : List ℕ} {first last : Streams} (is : firs
 
     of_record : (entry : Record) → fault ≡ Journal → IsNext begins d.past (Kept entry) → HasPart entry → Made
     of_record entry journal next (part, [], same, spelled) =
-        make (Kept entry ∷ d.past) (inr (Kept entry, rw journal (entry, refl, next), refl)) tt (λ other also.
+        (Kept entry ∷ d.past, broke_off (Kept entry ∷ d.past)
+        (inr (Kept entry, rw journal (entry, refl, next), refl)) tt (λ other also.
         let one = one_kept entry other next also in
-        (λ grown. rw (one, spelled, append-nil) same, λ whole. rw one))
+        (λ grown. rw (one, spelled, append-nil) same, λ whole. rw one)))
     of_record entry journal next (part, x ∷ more, same, spelled) =
         let less : length part < length (spelling Two entry) =
         omega (arith, ap (length {A = ℕ}) spelled, length-append {A = ℕ}) in
-        make d.past (inl refl) (record_finished begins d.past entry next)
+        (d.past, broke_off d.past (inl refl) (record_finished begins d.past entry next)
         (less_put d.past part same (λ other grown. omega (arith, ap (length {A = Happening}) grown))
-        (λ other also. rw (one_kept entry other next also) less))
+        (λ other also. rw (one_kept entry other next also) less)))
 
     by : BrokeWith begins d.past d.middle last fault → Made
     by (inl (keeps, past, happened, finished, none)) =
-        make past happened finished (less_put past [] (still keeps ∙ sym (append-nil was)) none
-        (λ entry next. has_bytes entry))
+        (past, broke_off past happened finished (less_put past [] (still keeps ∙ sym (append-nil was)) none
+        (λ entry next. has_bytes entry)))
     by (inr (journal, (entry, next, cut))) = of_record entry journal next (part_left entry cut)

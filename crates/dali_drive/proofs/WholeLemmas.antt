@@ -1,6 +1,6 @@
 -- A drive behind older journals is a drive of the whole, whose bytes are those of the older records and the store's.
 use Rattle.std.proofs.Common.{◌≡◌, ◌∙◌, ◌≤◌, refl, sym, ap, inl, inr, ℕ, List, [], ◌∷◌, ◌++◌, ◌+◌, length, Option, Some}
-use Rattle.std.proofs.Common.{None, append_assoc, reverse}
+use Rattle.std.proofs.Common.{None, append_assoc, arith}
 use Rattle.std.proofs.lemmas.List.{append-nil}
 use Rattle.std.specs.Prelude.{option_map}
 use Rattle.std.specs.Io.KnownBytes.{Appends, Keeps}
@@ -22,69 +22,58 @@ use Rattle.dali_trace.specs.declared.fault.DriveFault.TheVariants.{Journal, Link
 use Rattle.dali_drive.specs.declared.following.Given.{Given}
 use Rattle.dali_drive.specs.Behind.{IsBegunBehind, bytes_behind, streams_behind}
 use Rattle.dali_drive.specs.Driven.{IsDriven, IsDrive, BrokenOff}
-use Rattle.dali_drive.specs.Followed.{happenings, muted, submitted, IsFollowed, IsBrokenFollow}
+use Rattle.dali_drive.specs.Followed.{happenings, muted, IsFollowed, IsBrokenFollow}
 use Rattle.dali_drive.specs.Repeats.{HasSat, IsSameFile}
 use Rattle.dali_drive.specs.Sittings.{CameToItsEnd}
 use Rattle.dali_drive.specs.Stored.{IsBegun}
 use Rattle.dali_drive.specs.Transcript.{Streams, recorded}
 use Rattle.dali_drive.proofs.FollowLawLemmas.{as_drive, Fell, fell, fell_sat}
-use Rattle.dali_drive.proofs.SittingLemmas.{made, came_to_its_end}
-
--- ---- bytes with a header
-
-abbrev HasHeader : Option (List ℕ) → Type 0
-HasHeader None = ⊥
-HasHeader (Some bytes) = (rest : List ℕ) × (bytes ≡ header Two ++ rest)
-
-header_more : (old new : Option (List ℕ)) (more : List ℕ) → HasHeader old → Appends old new more → HasHeader new
-header_more None new more has added = absurd has
-header_more (Some x) None more has added = absurd added
-header_more (Some x) (Some y) more has added = (has.0 ++ more, rw has.1 at added)
+use Rattle.dali_drive.proofs.SittingLemmas.{made, came_to_its_end, grown_known, from}
 
 module _ (older : List Record) where
   abbrev whole : Option (List ℕ) → Option (List ℕ)
   whole bytes = option_map (bytes_behind older) bytes
 
-  behind_more : (bytes more rest : List ℕ) → bytes ≡ header Two ++ rest
-      → bytes_behind older (bytes ++ more) ≡ bytes_behind older bytes ++ more
-  behind_more bytes more rest is = rw is (sym (append_assoc (journal_spelling Two older) rest more))
-
-  appends_whole : (old new : Option (List ℕ)) (more : List ℕ) → HasHeader old → Appends old new more
-      → Appends (whole old) (whole new) more
-  appends_whole None new more has added = absurd has
-  appends_whole (Some x) None more has added = absurd added
-  appends_whole (Some x) (Some y) more has added = ap (bytes_behind older) added ∙ behind_more x more has.0 has.1
-
-  keeps_whole : (old new : Option (List ℕ)) → Keeps old new → Keeps (whole old) (whole new)
-  keeps_whole None new same = tt
-  keeps_whole (Some x) None same = absurd same
-  keeps_whole (Some x) (Some y) same = ap (bytes_behind older) same
-
-  between_whole : (old new : Option (List ℕ)) (c : List ℕ) → HasHeader old → IsBetween old new c
-      → IsBetween (whole old) (whole new) (bytes_behind older c)
-  between_whole None new c has between = absurd has
-  between_whole (Some x) None c has between = tt
-  between_whole (Some x) (Some y) c has (more, rest, begins, all) =
-      let front : c ≡ header Two ++ (has.0 ++ more) = rw has.1 at begins in
-      let begin = ap (bytes_behind older) begins ∙ behind_more x more has.0 has.1 in
-      (more, rest, begin, ap (bytes_behind older) all ∙ behind_more c rest (has.0 ++ more) front)
-
-  -- ---- what was driven
-
   abbrev all : Streams → Streams
   all streams = streams_behind older streams
 
-  module _ (start : Start) (first : Streams) (begun : List ℕ) (has : HasHeader first.journal)
-      (is : whole first.journal ≡ Some begun) where
+  -- ---- bytes with a header
+
+  behind_more : (bytes own more longer : List ℕ) → bytes ≡ header Two ++ own → longer ≡ bytes ++ more
+      → bytes_behind older longer ≡ bytes_behind older bytes ++ more
+  behind_more bytes own more longer has is =
+      rw (is, has) (sym (append_assoc (journal_spelling Two older) own more))
+
+  appends_whole : (old new : Option (List ℕ)) (own more : List ℕ) → old ≡ Some (header Two ++ own)
+      → Appends old new more → Appends (whole old) (whole new) more
+  appends_whole old new own more has added =
+      rw (has, grown_known new (header Two ++ own) more (rw has at added))
+      (sym (append_assoc (journal_spelling Two older) own more))
+
+  keeps_whole : (old new : Option (List ℕ)) → Keeps old new → Keeps (whole old) (whole new)
+  keeps_whole old new same = grind arith
+
+  between_whole : (old new : Option (List ℕ)) (own c : List ℕ) → old ≡ Some (header Two ++ own) → IsBetween old new c
+      → IsBetween (whole old) (whole new) (bytes_behind older c)
+  between_whole old None own c has between = rw has tt
+  between_whole old (Some now) own c has between =
+      let k = rw has at between in
+      rw has (k.0, k.1, behind_more (header Two ++ own) own k.0 c refl k.2, behind_more c (own ++ k.0) k.1 now k.2 k.3)
+
+  -- ---- what was driven
+
+  module _ {start : Start} {first : Streams} {own begun : List ℕ} (has : first.journal ≡ Some (header Two ++ own))
+      (is : journal_spelling Two older ++ own ≡ begun) where
     driven_whole : (past : List Happening) (last : Streams) → IsDriven start past first last
         → IsDriven start past (record first { journal = Some begun }) (all last)
     driven_whole past last d =
-        let added = rw is at (appends_whole first.journal last.journal (recorded past) has d.text.journal) in search
+        let added = rw (has, is) at (appends_whole first.journal last.journal own (recorded past) has d.text.journal) in
+        search
 
-    abbrev drive_whole : (orders : List (Contents × ℕ)) (writer : WriterState) (last : Streams)
+    abbrev drive_whole : {orders : List (Contents × ℕ)} {writer : WriterState} {last : Streams}
         → IsDrive start orders first writer last
         → IsDrive start orders (record first { journal = Some begun }) writer (all last)
-    drive_whole orders writer last d = record {
+    drive_whole {orders} {writer} {last} d = record {
       past = d.past;
       driven = driven_whole d.past last d.driven;
       asked = d.asked;
@@ -93,46 +82,48 @@ module _ (older : List Record) where
       follows = d.follows;
     }
 
+    now_has : (past : List Happening) (then : Streams) → IsDriven start past first then
+        → then.journal ≡ Some (header Two ++ (own ++ recorded past))
+    now_has past then d = grown_known then.journal (header Two ++ own) (recorded past) (rw has at d.text.journal)
+
     off_whole : (past : List Happening) (rest : List (Contents × ℕ)) (fault : DriveFault) (then last : Streams)
-        → HasHeader then.journal → BrokenOff start past rest fault then last
+        → IsDriven start past first then → BrokenOff start past rest fault then last
         → BrokenOff start past rest fault (all then) (all last)
-    off_whole past rest Journal then last has (entry, next, cut) =
-        let part = appends_whole then.journal last.journal _ has cut.journal.part in
+    off_whole past rest Journal then last d (entry, next, cut) =
+        let part = appends_whole then.journal last.journal _ _ (now_has past then d) cut.journal.part in
         (entry, next, search)
-    off_whole past rest Link then last has (frame, next, inl cut) =
+    off_whole past rest Link then last d (frame, next, inl cut) =
         (frame, next, inl (assumption (keeps_whole then.journal last.journal cut.journal)))
-    off_whole past rest Link then last has (frame, next, inr cut) =
+    off_whole past rest Link then last d (frame, next, inr cut) =
         (frame, next, inr (assumption (keeps_whole then.journal last.journal cut.journal)))
-    off_whole past [] NoMemory then last has off = absurd off
-    off_whole past (order ∷ rest) NoMemory then last has off =
+    off_whole past [] NoMemory then last d off = absurd off
+    off_whole past (order ∷ rest) NoMemory then last d off =
         (off.0, off.1, off.2, assumption (keeps_whole then.journal last.journal off.3.journal))
-    off_whole past rest Out then last has off =
+    off_whole past rest Out then last d off =
         (off.0, off.1, off.2, assumption (keeps_whole then.journal last.journal off.3.journal))
-    off_whole past rest fault then last has off =
+    off_whole past rest fault then last d off =
         (off.0, off.1, assumption (keeps_whole then.journal last.journal off.2.journal))
 
-    fell_whole : (orders : List (Contents × ℕ)) (fault : DriveFault) (last : Streams) (left : List ℕ)
+    fell_whole : {orders : List (Contents × ℕ)} {fault : DriveFault} {last : Streams} (left : List ℕ)
         → Fell start orders fault first last left
         → Fell start orders fault (record first { journal = Some begun }) (all last) (bytes_behind older left)
-    fell_whole orders fault last left (inl (d, between)) =
-        let then = header_more first.journal d.middle.journal _ has d.driven.text.journal in inl (
-          record {
-            past = d.past;
-            rest = d.rest;
-            middle = all d.middle;
-            driven = driven_whole d.past d.middle d.driven;
-            asked = d.asked;
-            broken = off_whole d.past d.rest fault d.middle last then d.broken;
-          },
-          between_whole d.middle.journal last.journal left then between,
-        )
-    fell_whole orders fault last left (inr (writer, then, d, keeps, between)) = inr (
+    fell_whole {orders} {fault} {last} left (inl (d, between)) = inl (
+      record {
+        past = d.past;
+        rest = d.rest;
+        middle = all d.middle;
+        driven = driven_whole d.past d.middle d.driven;
+        asked = d.asked;
+        broken = off_whole d.past d.rest fault d.middle last d.driven d.broken;
+      },
+      between_whole d.middle.journal last.journal _ left (now_has d.past d.middle d.driven) between,
+    )
+    fell_whole {orders} {fault} {last} left (inr (writer, then, d, keeps, between)) = inr (
       writer,
       all then,
-      drive_whole orders writer then d,
+      drive_whole d,
       keeps_whole then.journal last.journal keeps,
-      between_whole then.journal last.journal left
-          (header_more first.journal then.journal _ has d.driven.text.journal) between,
+      between_whole then.journal last.journal _ left (now_has d.past then d.driven) between,
     )
 
 -- ---- a sitting of the whole
@@ -148,18 +139,13 @@ module _ (older : JournalState) {limit most : ℕ} {first : Streams} (b : IsBegu
       ap (λ (bytes : List ℕ). header Two ++ bytes) (sym (spelling_append b.begun.journal.records older.records))
       ∙ ap (journal_spelling Two) (sym b.whole.records_are)
 
-  shows_whole : whole older.records b.begun.middle ≡ Some found
-  shows_whole = rw (made is b.begun) (ap Some whole_found)
-
-  has_header : HasHeader b.begun.middle
-  has_header = rw (made is b.begun) (records_spelling Two b.begun.journal.records, refl)
-
   kept_whole : AreKept Two (order_count older + limit) b.journal.records
   kept_whole = rw b.whole.limit_is at b.whole.kept
 
   loaded : IsLoaded (order_count older + limit) found b.journal (length found) Two
   loaded =
-      (b.whole.limit_is, kept_whole, record { rest = []; spelled = sym (append-nil _); cut = cut_of_none; counts = refl })
+      let spelled = sym (append-nil found) in
+      (b.whole.limit_is, kept_whole, record { rest = []; spelled = spelled; cut = cut_of_none; counts = refl })
 
   abbrev begun_whole : (room : ℕ) → length found ≤ room
       → IsBegun (order_count older + limit) room (muted (record first { journal = Some found }))
@@ -177,29 +163,24 @@ module _ (older : JournalState) {limit most : ℕ} {first : Streams} (b : IsBegu
 
   pub ended_whole : (room : ℕ) (within : length found ≤ room) (given : List Given) (writer : WriterState)
       (last : Streams) (left : List ℕ)
-      (follow : IsFollowed (start_of b.journal) given (record first { journal = b.begun.middle }) writer last)
+      (follow : IsFollowed (start_of b.journal) given (from b.begun) writer last)
       → last.journal ≡ Some left → CameToItsEnd (order_count older + limit) room found
       (record { start = start_of b.journal; past = happenings follow.steps }) (bytes_behind older.records left)
   ended_whole room within given writer last left follow held =
       came_to_its_end {first = muted (record first { journal = Some found })} refl (begun_whole room within)
-      (reverse (submitted given)) writer (all older.records last) (bytes_behind older.records left)
-      (drive_whole older.records (start_of b.journal) (muted (record first { journal = b.begun.middle })) found
-      has_header shows_whole (reverse (submitted given)) writer last
-      (as_drive (start_of b.journal) given (record first { journal = b.begun.middle }) writer last follow))
-      (ap (whole older.records) held)
+      (drive_whole older.records (made is b.begun) whole_found
+      (as_drive (start_of b.journal) given (from b.begun) writer last follow)) (ap (whole older.records) held)
 
   pub broke_whole : (room : ℕ) (within : length found ≤ room) (given : List Given) (fault : DriveFault)
       (last : Streams) (left : List ℕ)
-      (follow : IsBrokenFollow (start_of b.journal) given fault (record first { journal = b.begun.middle }) last)
+      (follow : IsBrokenFollow (start_of b.journal) given fault (from b.begun) last)
       → IsBetween follow.then.journal last.journal left
       → (past : List Happening) × HasSat (order_count older + limit) room found
       (record { start = start_of b.journal; past = past }) (bytes_behind older.records left)
   broke_whole room within given fault last left follow between =
       fell_sat {first = muted (record first { journal = Some found })} refl (begun_whole room within)
-      (reverse (submitted given)) fault (all older.records last) (bytes_behind older.records left)
-      (fell_whole older.records (start_of b.journal) (muted (record first { journal = b.begun.middle })) found
-      has_header shows_whole (reverse (submitted given)) fault last left
-      (fell (start_of b.journal) given fault (record first { journal = b.begun.middle }) last left follow between))
+      (bytes_behind older.records left)
+      (fell_whole older.records (made is b.begun) whole_found left (fell left follow between))
 
   -- what a store shows that was opened before, behind the older records, is the same file
   abbrev Again : List ℕ → Type 0

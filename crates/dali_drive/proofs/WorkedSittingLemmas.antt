@@ -34,6 +34,7 @@ use Rattle.dali_drive.specs.WorkedSittings.{both_sittings, worlds}
 use Rattle.dali_drive.proofs.KillLemmas.{one_records}
 use Rattle.dali_drive.proofs.RepeatLemmas.{sat_so, loads_still, act_once}
 use Rattle.dali_drive.proofs.WorkedDriveLemmas.{first_is_record, first_next, taken_line, no_record}
+use Rattle.dali_drive.proofs.SittingLemmas.{broke_off}
 
 none_kept : AreKept Two 10 []
 none_kept = record { in_range = tt; whole = (tt, omega arith) }
@@ -55,13 +56,13 @@ torn_loads = record { version = Two; len = 4; kept = none_kept; loadable = torn_
 
 abbrev begun_on : (file : List ℕ) (counted : ℕ) → length file ≤ 100 → IsLoadable Two file [] counted
     → IsBegun 10 100 (before_on file)
-begun_on file counted within loadable = record {
+begun_on file counted within holds = record {
   journal = record { records = []; limit = 10; room = 0; numbers = []; index_room = 0 };
   opened = record {
     version = Two;
     counted = counted;
     total = length file;
-    found = record { bytes = file; shown = refl; within = within; total_is = refl; loaded = (refl, none_kept, loadable) };
+    found = record { bytes = file; shown = refl; within = within; total_is = refl; loaded = (refl, none_kept, holds) };
   };
   middle = Some bare_file;
   written = refl;
@@ -137,21 +138,9 @@ frame_broken = record {
 -- after the begun order no record is next, so none counts
 stopped_amid_frame : (past : List Happening) → MayHaveHappened empty begun Link past → IsFinished past
     → BrokeOff 10 100 torn_file (record { start = empty; past = past }) begun_file
-stopped_amid_frame past happened finished = record {
-  orders = (first_order, 7) ∷ [];
-  fault = Link;
-  first = before_on torn_file;
-  last = amid_frame;
-  is_found = refl;
-  begun = begun_on torn_file 4 (omega arith) torn_is;
-  drive = frame_broken;
-  is_left = ([], [], refl, refl);
-  past = past;
-  happened = happened;
-  finished = finished;
-  counts = λ entry next. absurd (no_record entry next);
-  is = refl;
-}
+stopped_amid_frame past happened finished =
+    broke_off {first = before_on torn_file} refl (begun_on torn_file 4 (omega arith) torn_is) frame_broken begun_file
+    ([], [], refl, refl) past happened finished (λ entry next. absurd (no_record entry next))
 
 pub second_broke_off : BrokeOff 10 100 torn_file second_sitting begun_file
 second_broke_off = stopped_amid_frame first_frame (inr (Sent (Dtr1 1) None, (Dtr1 1, None, refl, first_next), refl)) tt
@@ -160,13 +149,7 @@ pub or_without_the_frame : BrokeOff 10 100 torn_file second_without_the_frame be
 or_without_the_frame = stopped_amid_frame begun (inl refl) tt
 
 pub both_sat : HaveSat 10 100 [] (second_sitting ∷ first_sitting ∷ []) begun_file
-both_sat = (
-  torn_file,
-  begun_file,
-  ([], torn_file, inl refl, inr (inr first_killed), inl refl),
-  inr (inl second_broke_off),
-  inl refl,
-)
+both_sat = (_, _, ([], _, inl refl, inr (inr first_killed), inl refl), inr (inl second_broke_off), inl refl)
 
 -- Along the worlds of a blank unit that hears no frame they act as one
 

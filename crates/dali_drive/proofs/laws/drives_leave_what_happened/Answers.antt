@@ -4,7 +4,7 @@ use Rattle.dali_drive.proofs.laws.drives_leave_what_happened.Goals as goal
 
 pub returns-clause-ended : goal.returns-clause-ended
 returns-clause-ended g = λ limit most orders found left first writer last is held d.
-    came_to_its_end is d.begun orders writer last left d.drive held
+    came_to_its_end is d.begun d.drive held
 
 pub returns-clause-broken : goal.returns-clause-broken
 returns-clause-broken g = λ limit most orders fault found left first last begun d is between.

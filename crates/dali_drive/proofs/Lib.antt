@@ -7,7 +7,6 @@ pub mod KillLemmas
 pub mod RepeatLemmas
 pub mod WorkLemmas
 pub mod HandedLemmas
-pub mod HandedDriveLemmas
 pub mod FollowLemmas
 pub mod FollowLawLemmas
 pub mod WholeLemmas

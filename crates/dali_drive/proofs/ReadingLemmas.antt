@@ -42,7 +42,7 @@ told_nothing first = record {
   out = Appends-nil first.out;
 }
 
-answers_both : (newer older : List Exchange) (heard then : List ℕ) → AreAnswers (as_sent older) heard
+pub answers_both : (newer older : List Exchange) (heard then : List ℕ) → AreAnswers (as_sent older) heard
     → AreAnswers (as_sent newer) then → AreAnswers (as_sent (newer ++ older)) (heard ++ then)
 answers_both [] older heard then lines more = rw more (rw (append-nil heard) lines)
 answers_both (x ∷ newer) older heard then lines (before, last, rest, line, is) = (

@@ -1,102 +1,76 @@
 -- A scan of two units by hand, and what is near it and isn't one.
-use Rattle.std.proofs.Common.{ap, ◌≡◌, ◌≢◌, ◌∙◌, inl, inr, refl, sym, append_assoc, ℕ, zero, suc, List, [], ◌∷◌, ◌++◌}
-use Rattle.std.proofs.Common.{Some, None, codes}
-use Rattle.std.proofs.Common.{Option, true, is_some, get_or, take, drop, length, arith}
-use Rattle.std.proofs.Common.{◌≤◌, ◌+◌, Bool, false, if◌then◌else◌}
+use Rattle.std.proofs.Common.{ap, ◌≡◌, ◌∙◌, inl, inr, refl, sym, append_assoc, ℕ, zero, suc, List, [], ◌∷◌, ◌++◌, Some}
+use Rattle.std.proofs.Common.{None, codes, Option, true, is_some, get_or, take, drop, length, arith, ◌≤◌, append-nil}
+use Rattle.std.proofs.Common.{take-append-drop}
 use Rattle.std.proofs.lemmas.Fmt.{decimal_digit}
 use Rattle.std.proofs.lemmas.List.{length-map}
-use Rattle.std.proofs.lemmas.List.Elements.{All-from_recursion}
-use Rattle.std.specs.Io.BufRead.{strip_last}
 use Rattle.dali_frame.specs.declared.forward.Frame.TheVariants.{Dtr0, Dtr1, AskDtr0, AskDtr1, Read}
-use Rattle.dali_frame.specs.Hex.{SpellsHexNumber, byte_digits}
 use Rattle.dali_write.specs.Exchanges.{Exchange}
 use Rattle.dali_write.specs.WorkedAccesses.{sent}
-use Rattle.dali_write.specs.declared.request.Wish.TheVariants.{Nothing, Exactly, Anything}
-use Rattle.dali_write.specs.Tries.{Missed, Misses}
+use Rattle.dali_write.specs.declared.request.Wish.TheVariants.{Nothing, Exactly}
+use Rattle.dali_write.specs.Tries.{Misses}
 use Rattle.dali_read.specs.declared.finding.Finding.TheVariants.{Same, Other, Short, Format}
-use Rattle.dali_read.specs.Blocks.{Fits, block_requests, Succeeds}
+use Rattle.dali_read.specs.Blocks.{Fits, block_requests, Succeeds, IsBlockRead}
 use Rattle.dali_read.specs.Places.{first_block, last_course}
-use Rattle.dali_read.specs.Readings.{Course, Ends, Done}
-use Rattle.dali_drive.specs.Lines.{IsAnswerLine}
-use Rattle.dali_drive.specs.Transcript.{Streams, AreAnswers}
+use Rattle.dali_read.specs.Readings.{Course, Ends, Done, IsRead, InTurn, bytes_in, told_in}
+use Rattle.dali_drive.specs.Lines.{IsAnswerLine, link_line}
+use Rattle.dali_drive.specs.Transcript.{Streams, AreAnswers, link_shown}
 use Rattle.dali_drive.specs.UnitRead.{LinkText, UnitReadBroke}
 use Rattle.dali_drive.specs.SurveyLines.{last_line, units_line, bytes_line, silent_line, order_head, finding_line}
 use Rattle.dali_drive.specs.SurveyLines.{order_silent_line}
-use Rattle.dali_drive.specs.Surveys.{Report, Surveyed, IsScanReport, link_of}
-use Rattle.dali_drive.specs.WorkedSurveys.{missed, length_read, silent_unit, found_unit, two_units}
-use Rattle.dali_drive.specs.WorkedSurveys.{before_two_units, after_two_units, near_order, far_order, same_order}
-use Rattle.dali_drive.specs.WorkedSurveys.{silent_order}
+use Rattle.dali_drive.specs.Surveys.{Report, Surveyed, IsScanReport, link_of, Reported, BreaksReport, TellsLast, IsScan}
+use Rattle.dali_drive.specs.Surveys.{BreaksScan, ScanBroke, items_in, all_told, lines_in, answered, addresses_below}
+use Rattle.dali_drive.specs.WorkedSurveys.{missed, length_read, silent_unit, found_unit, two_units, before_two_units}
+use Rattle.dali_drive.specs.WorkedSurveys.{after_two_units, near_order, far_order, same_order, silent_order}
 use Rattle.dali_drive.specs.WorkedSurveys.{amid_third_unit, silent_unit_told, before_one_unit, one_unit_and}
 use Rattle.dali_trace.specs.declared.fault.DriveFault.{DriveFault}
 use Rattle.dali_drive.specs.Driven.{BreaksFrame}
-use Rattle.dali_drive.specs.Surveys.{Reported, BreaksReport, TellsLast, IsScan, BreaksScan, ScanBroke}
-use Rattle.dali_drive.specs.Surveys.{items_in, all_told, lines_in, answered, addresses_below}
 use Rattle.dali_write.specs.Requests.{request}
-use Rattle.dali_drive.proofs.ReadingLemmas.{told_nothing, as_sent}
-use Rattle.dali_drive.proofs.WorkedDriveLemmas.{none_line}
+use Rattle.dali_drive.proofs.ReadingLemmas.{told_nothing, as_sent, answers_both, reading_breaks, block_breaks}
+use Rattle.dali_drive.proofs.ReadingLemmas.{try_breaks}
+use Rattle.dali_drive.proofs.WorkedDriveLemmas.{none_line, answer_line}
 use Rattle.dali_trace.specs.declared.fault.DriveFault.TheVariants as faults
+use Rattle.dali_frame.specs.declared.forward.Frame.{Frame}
+use Rattle.dali_read.specs.declared.block.Block.{Block}
 
 -- The lines
 
-last_told : last_line 1 0x77 ≡ codes "unit 1 last 77\n"
-last_told = rw (decimal_digit 1 (omega arith)) refl
-
 pub lines_are : (last_line 7 0xFE ≡ codes "unit 7 last FE\n") × (units_line 0 ≡ codes "units 0\n")
     × (bytes_line 5 9 ≡ codes "unit 5 bytes 9\n") × (silent_line 6 ≡ codes "unit 6 silent\n")
-lines_are = (
-  rw (decimal_digit 7 (omega arith)) refl,
-  rw (decimal_digit 0 (omega arith)) refl,
-  rw (decimal_digit 5 (omega arith), decimal_digit 9 (omega arith)) refl,
-  rw (decimal_digit 6 (omega arith)) refl,
-)
+lines_are = search (decimal_digit, arith)
 
 pub near_head : order_head near_order ≡ codes "order 7 unit 1"
-near_head = rw (decimal_digit 7 (omega arith), decimal_digit 1 (omega arith)) refl
+near_head = search (decimal_digit, arith)
 
 pub far_head : order_head far_order ≡ codes "order 8 unit 0"
-far_head = rw (decimal_digit 8 (omega arith), decimal_digit 0 (omega arith)) refl
+far_head = search (decimal_digit, arith)
 
 pub findings_are : (finding_line near_order Same ≡ codes "order 7 unit 1 same\n")
     × (finding_line near_order (Other 0x0C 0x5A) ≡ codes "order 7 unit 1 other 0C 5A\n")
     × (finding_line near_order Short ≡ codes "order 7 unit 1 short\n")
     × (finding_line near_order Format ≡ codes "order 7 unit 1 format\n")
     × (order_silent_line far_order ≡ codes "order 8 unit 0 silent\n")
-findings_are = (
-  rw (decimal_digit 7 (omega arith), decimal_digit 1 (omega arith)) refl,
-  rw (decimal_digit 7 (omega arith), decimal_digit 1 (omega arith)) refl,
-  rw (decimal_digit 7 (omega arith), decimal_digit 1 (omega arith)) refl,
-  rw (decimal_digit 7 (omega arith), decimal_digit 1 (omega arith)) refl,
-  rw (decimal_digit 8 (omega arith), decimal_digit 0 (omega arith)) refl,
-)
+findings_are = search (decimal_digit, arith)
 
 -- What came back
 
-byte_line : (c d byte : ℕ) → c ≢ 10 → d ≢ 10 → strip_last 13 (c ∷ d ∷ []) ≡ c ∷ d ∷ []
-    → SpellsHexNumber (c ∷ d ∷ []) byte → IsAnswerLine (Some byte) (c ∷ d ∷ 10 ∷ [])
-byte_line c d byte one two whole spells = record {
-  line = c ∷ d ∷ [];
-  is_short = record { short = omega arith; inside = All-from_recursion (λ b. b ≢ 10) (c ∷ d ∷ []) (one, (two, tt)) };
-  spells = rw whole (refl, spells);
-  ended = refl;
-}
-
 pub line_00 : IsAnswerLine (Some 0x00) (codes "00\n")
-line_00 = byte_line 48 48 0x00 (λ e. cc) (λ e. cc) refl ((omega arith, (omega arith, tt)), refl)
+line_00 = answer_line (codes "00") (omega arith) (omega arith)
 
 pub line_01 : IsAnswerLine (Some 0x01) (codes "01\n")
-line_01 = byte_line 48 49 0x01 (λ e. cc) (λ e. cc) refl ((omega arith, (omega arith, tt)), refl)
+line_01 = answer_line (codes "01") (omega arith) (omega arith)
 
 pub line_03 : IsAnswerLine (Some 0x03) (codes "03\n")
-line_03 = byte_line 48 51 0x03 (λ e. cc) (λ e. cc) refl ((omega arith, (omega arith, tt)), refl)
+line_03 = answer_line (codes "03") (omega arith) (omega arith)
 
 pub line_04 : IsAnswerLine (Some 0x04) (codes "04\n")
-line_04 = byte_line 48 52 0x04 (λ e. cc) (λ e. cc) refl ((omega arith, (omega arith, tt)), refl)
+line_04 = answer_line (codes "04") (omega arith) (omega arith)
 
 pub line_77 : IsAnswerLine (Some 0x77) (codes "77\n")
-line_77 = byte_line 55 55 0x77 (λ e. cc) (λ e. cc) refl ((omega arith, (omega arith, tt)), refl)
+line_77 = answer_line (codes "77") (omega arith) (omega arith)
 
 pub line_A5 : IsAnswerLine (Some 0xA5) (codes "A5\n")
-line_A5 = byte_line 65 53 0xA5 (λ e. cc) (λ e. cc) refl ((omega arith, (omega arith, tt)), refl)
+line_A5 = answer_line (codes "A5") (omega arith) (omega arith)
 
 -- a read of unit 1, by the lines that tell where DTR0 stands, the byte and where it stands then
 pub read_heard : (told : List Exchange) (location byte after : ℕ) (heard place read moved : List ℕ)
@@ -107,48 +81,10 @@ pub read_heard : (told : List Exchange) (location byte after : ℕ) (heard place
     ∷ told))
     (heard ++ codes "--\n01\n--\n" ++ place ++ read ++ moved ++ codes "01\n")
 read_heard told location byte after heard place read moved at is next lines =
-    let one = heard ++ codes "--\n" in
-    let two = heard ++ codes "--\n01\n" in
-    let three = heard ++ codes "--\n01\n--\n" in
-    let four = three ++ place in
-    let five = four ++ read in
-    let six = five ++ moved in (
-      six,
-      codes "01\n",
-      (
-        five,
-        moved,
-        (
-          four,
-          read,
-          (
-            three,
-            place,
-            (
-              two,
-              codes "--\n",
-              (
-                one,
-                codes "01\n",
-                (heard, codes "--\n", lines, none_line, refl),
-                line_01,
-                sym (append_assoc heard (codes "--\n") (codes "01\n")),
-              ),
-              none_line,
-              sym (append_assoc heard (codes "--\n01\n") (codes "--\n")),
-            ),
-            at,
-            refl,
-          ),
-          is,
-          refl,
-        ),
-        next,
-        refl,
-      ),
-      line_01,
-      refl,
-    )
+    let selected : AreAnswers (as_sent (sent (Dtr0 location) None ∷ sent (AskDtr1 1) (Some 1) ∷ sent (Dtr1 1) None
+    ∷ told)) (heard ++ codes "--\n01\n--\n") =
+    (_, _, (_, _, (_, _, lines, none_line, refl), line_01, refl), none_line, simp append_assoc) in
+    (_, _, (_, _, (_, _, (_, _, selected, at, refl), is, refl), next, refl), line_01, refl)
 
 abbrev pub lines_of : ℕ → List ℕ → List ℕ
 lines_of zero heard = heard
@@ -157,26 +93,19 @@ lines_of (suc tries) heard = lines_of tries heard ++ codes "--\n" ++ codes "--\n
 pub missed_heard : (tries : ℕ) (told : List Exchange) (heard : List ℕ) → AreAnswers (as_sent told) heard
     → AreAnswers (as_sent (missed tries ++ told)) (lines_of tries heard)
 missed_heard zero told heard lines = lines
-missed_heard (suc tries) told heard lines = (
-  lines_of tries heard ++ codes "--\n",
-  codes "--\n",
-  (lines_of tries heard, codes "--\n", missed_heard tries told heard lines, none_line, refl),
-  none_line,
-  refl,
-)
+missed_heard (suc tries) told heard lines =
+    (_, _, (_, _, missed_heard tries told heard lines, none_line, refl), none_line, refl)
 
 -- Unit 0 is silent, and unit 1 answers
-
-one_missed : Missed (block_requests 0 first_block) (sent (AskDtr1 0) None ∷ sent (Dtr1 1) None ∷ [])
-one_missed = (Exactly 1, drop 2 (block_requests 0 first_block), (λ e. cc), (Nothing, tt, refl))
 
 all_missed : (tries : ℕ) → Misses (block_requests 0 first_block) tries (missed tries)
 all_missed zero = refl
 all_missed (suc tries) =
-    (sent (AskDtr1 0) None ∷ sent (Dtr1 1) None ∷ [], missed tries, refl, one_missed, all_missed tries)
+    let older = all_missed tries in
+    (sent (AskDtr1 0) None ∷ sent (Dtr1 1) None ∷ [], _, refl, (Exactly 1, _, (λ e. cc), (Nothing, tt, refl)), older)
 
 pub first_fits : Fits first_block
-first_fits = record { some = omega arith; few = omega arith; within = omega arith }
+first_fits = omega arith
 
 pub silent_ends : (course : Course) → course [] ≡ Some first_block → Ends 0 course None (missed 8)
 silent_ends course next = record {
@@ -193,63 +122,47 @@ silent_ends course next = record {
 pub silent_scanned : IsScanReport silent_unit
 silent_scanned = (silent_ends last_course refl, refl)
 
-pub length_told : Succeeds 1 first_block (0x77 ∷ []) length_read
-length_told = record {
-  tried = length_read;
+-- a block that was read at once, and a reading that came to its end
+pub at_once : {unit : ℕ} {block : Block} {bytes : List ℕ} {told : List Exchange} → IsBlockRead unit block bytes told
+    → Succeeds unit block bytes told
+at_once {told = told} read = record {
+  tried = told;
   missed = [];
   misses = 0;
-  parts = refl;
-  read = (
-    (
-      Exactly 1,
-      refl,
-      (
-        Exactly 1,
-        refl,
-        (
-          Anything,
-          refl,
-          (Exactly 0, refl, (Nothing, tt, (Exactly 1, refl, (Nothing, tt, refl)))),
-        ),
-      ),
-    ),
-    refl,
-  );
+  parts = sym (append-nil told);
+  read = read;
   few = omega arith;
   misses_are = refl;
 }
+
+pub is_read : {unit : ℕ} {course : Course} (done : List Done) → InTurn unit course done → course (bytes_in done) ≡ None
+    → IsRead unit course (bytes_in done) (told_in done)
+is_read done turn over = record { done = done; in_turn = turn; bytes_are = refl; told_are = refl; over = over }
+
+pub length_told : Succeeds 1 first_block (0x77 ∷ []) length_read
+length_told =
+    at_once ((_, search, (_, search, (_, search, (_, search, (_, search, (_, search, (_, search, refl))))))), refl)
 
 abbrev pub first_done : Done
 first_done = record { block = first_block; bytes = 0x77 ∷ []; told = length_read }
 
 found_ends : Ends 1 last_course (Some (0x77 ∷ [])) length_read
-found_ends = record {
-  done = first_done ∷ [];
-  in_turn = (tt, first_fits, refl, length_told);
-  bytes_are = refl;
-  told_are = refl;
-  over = refl;
-}
+found_ends = is_read (first_done ∷ []) (tt, first_fits, refl, length_told) refl
 
 pub found_scanned : IsScanReport found_unit
-found_scanned = (found_ends, (0x77, refl, sym last_told))
+found_scanned = (found_ends, (0x77, refl, search (decimal_digit, arith)))
+
+pub length_heard : AreAnswers (as_sent length_read) (codes "--\n01\n--\n00\n77\n01\n01\n")
+length_heard =
+    read_heard [] 0x00 0x77 0x01 [] (codes "00\n") (codes "77\n") (codes "01\n") line_00 line_77 line_01 refl
 
 two_heard : AreAnswers (as_sent (length_read ++ missed 8)) (lines_of 8 [] ++ codes "--\n01\n--\n00\n77\n01\n01\n")
-two_heard =
-    read_heard (missed 8) 0x00 0x77 0x01 (lines_of 8 []) (codes "00\n") (codes "77\n") (codes "01\n") line_00 line_77
-    line_01 (missed_heard 8 [] [] refl)
+two_heard = answers_both length_read (missed 8) (lines_of 8 []) _ (missed_heard 8 [] [] refl) length_heard
 
 pub two_surveyed : Surveyed IsScanReport two_units before_two_units after_two_units
 two_surveyed = record {
   each = (found_scanned, (silent_scanned, tt));
-  link = record {
-    heard = codes "--\n--\n--\n--\n--\n--\n--\n--\n--\n--\n--\n--\n--\n--\n--\n--\n--\n01\n--\n00\n77\n01\n01\n";
-    lines = two_heard;
-    journal = tt;
-    link = refl;
-    answers = refl;
-    out = tt;
-  };
+  link = record { heard = _; lines = two_heard; journal = tt; link = refl; answers = refl; out = tt };
   out = refl;
 }
 
@@ -275,32 +188,19 @@ not_two_bytes line (last, one, is) = cc
 -- where a reading is broken off in its first frame
 pub frame_broke : {fault : DriveFault} {old new : Streams} (unit : ℕ) (course : Course) → course [] ≡ Some first_block
     → BreaksFrame (Dtr1 1) fault old new → UnitReadBroke unit course fault old new
-frame_broke {fault} {old} {new} unit course next broken = record {
-  told = [];
-  frame = Dtr1 1;
-  reading = record {
-    done = [];
-    in_turn = tt;
-    block = first_block;
-    fits = first_fits;
-    next = next;
-    tried = [];
-    stands = record {
-      tried = [];
-      missed = [];
-      misses = 0;
-      next = request (Dtr1 1) Nothing;
-      left = drop 1 (block_requests unit first_block);
-      parts = refl;
-      few = omega arith;
-      misses_are = refl;
-      try = refl;
-      frame_is = refl;
-    };
-    told_are = refl;
-  };
-  broke = record { middle = old; text = told_nothing old; broken = broken };
-}
+frame_broke {fault} {old} {new} unit course next broken =
+    reading_breaks unit course [] old old new first_block fault
+    (record { done = []; in_turn = tt; bytes_are = refl; text = told_nothing old }) first_fits next
+    (block_breaks unit first_block 0 old old new fault
+    (record { told = []; misses_are = refl; text = told_nothing old }) (omega arith)
+    (try_breaks unit first_block [] 0 old old new (request (Dtr1 1) Nothing) fault
+    (record { told = []; try = refl; bytes_are = refl; text = told_nothing old }) refl broken))
+
+-- a frame's line is broken off behind so many bytes
+pub cut_frame : (frame : Frame) (count : ℕ) (old answers : List ℕ) → count ≤ 5 → BreaksFrame frame faults.Link
+    (link_shown (Some old) (Some answers)) (link_shown (Some (old ++ take count (link_line frame))) (Some answers))
+cut_frame frame count old answers few =
+    inl (record { journal = tt; link = record { count = count; within = few; part = refl }; answers = refl; out = tt })
 
 -- the third unit is broken off in its first frame
 pub third_broke : ScanBroke faults.Link before_two_units amid_third_unit
@@ -310,75 +210,35 @@ third_broke = record {
   asked = refl;
   middle = after_two_units;
   surveyed = two_surveyed;
-  broke = inl (omega arith, (frame_broke 2 last_course refl cut, refl));
-} where
-  cut : BreaksFrame (Dtr1 1) faults.Link (link_of after_two_units) (link_of amid_third_unit)
-  cut = inl (record {
-    journal = tt;
-    link = record { count = 2; within = omega arith; part = refl };
-    answers = refl;
-    out = tt;
-  })
+  broke = inl (omega arith, (frame_broke 2 last_course refl (cut_frame (Dtr1 1) 2 _ _ (omega arith)), refl));
+}
 
 -- One unit, and its line whole or in part
 
-one_text : (out : List ℕ) → LinkText length_read (link_of before_one_unit) (link_of (one_unit_and out))
-one_text out = record {
-  heard = codes "--\n01\n--\n00\n77\n01\n01\n";
-  lines =
-      read_heard [] 0x00 0x77 0x01 [] (codes "00\n") (codes "77\n") (codes "01\n") line_00 line_77 line_01 refl;
-  journal = tt;
-  link = refl;
-  answers = refl;
-  out = tt;
-}
+one_text : LinkText length_read (link_of before_one_unit) (link_of (one_unit_and []))
+one_text = record { heard = _; lines = length_heard; journal = tt; link = refl; answers = refl; out = tt }
 
 pub one_reported : Reported IsScanReport 1 (λ report. true ≡ is_some report.outcome) before_one_unit
     (one_unit_and (codes "unit 1 last 77\n"))
-one_reported = record {
-  report = found_unit;
-  item_is = refl;
-  is = found_scanned;
-  so = refl;
-  link = one_text (codes "unit 1 last 77\n");
-  out = refl;
-}
+one_reported =
+    record { report = found_unit; item_is = refl; is = found_scanned; so = refl; link = one_text; out = refl }
 
 pub part_written : BreaksReport IsScanReport faults.Out 1 1 last_course before_one_unit (one_unit_and (codes "unit 1"))
-part_written = (
-  found_unit,
-  refl,
-  found_scanned,
-  one_text (codes "unit 1"),
-  record { count = 6; within = omega arith; part = refl },
-)
+part_written =
+    (found_unit, refl, found_scanned, one_text, record { count = 6; within = omega arith; part = refl })
 
-other_part : (count : ℕ) (rest : List ℕ) → codes "unit 2" ≡ take count (codes "unit 1" ++ rest) → ⊥
-other_part zero rest e = cc
-other_part (suc zero) rest e = cc
-other_part (suc (suc zero)) rest e = cc
-other_part (suc (suc (suc zero))) rest e = cc
-other_part (suc (suc (suc (suc zero)))) rest e = cc
-other_part (suc (suc (suc (suc (suc zero))))) rest e = cc
-other_part (suc (suc (suc (suc (suc (suc count)))))) rest e =
-    let never : 50 ≡ 49 = ap (λ (l : List ℕ). get_or l 5 0) e in omega (arith, never)
-
-no_part : (unit : ℕ) (outcome : Option (List ℕ)) (line : List ℕ) (count : ℕ) → unit ≡ 1 → TellsLast unit outcome line
-    → codes "unit 2" ≡ take count line → ⊥
-no_part unit None line zero one is e = cc
-no_part unit None line (suc count) one is e =
-    let never : codes "unit 2" ≡ take (suc count) [] = e ∙ ap (λ (l : List ℕ). take (suc count) l) is in cc
-no_part unit (Some bytes) line count one (last, bytes_are, is) e =
-    other_part count (codes " last " ++ byte_digits last ++ codes "\n")
-    (e ∙ ap (λ (l : List ℕ). take count l) (is ∙ ap (λ (u : ℕ). last_line u last) one ∙ line_of_one last))
-  where
-    line_of_one : (last : ℕ) → last_line 1 last ≡ codes "unit 1" ++ (codes " last " ++ byte_digits last ++ codes "\n")
-    line_of_one last = rw (decimal_digit 1 (omega arith)) refl
+no_part : (unit : ℕ) (outcome : Option (List ℕ)) (line rest : List ℕ) → unit ≡ 1 → TellsLast unit outcome line
+    → codes "unit 2" ++ rest ≡ line → ⊥
+no_part unit None line rest one is e = let never = e ∙ is in cc
+no_part unit (Some bytes) line rest one (last, bytes_are, is) e =
+    let whole = rw (one, decimal_digit 1 (omega arith)) at (e ∙ is) in
+    let never : 50 ≡ 49 = ap (λ (l : List ℕ). get_or l 5 0) whole in omega (arith, never)
 
 pub no_other_text : BreaksReport IsScanReport faults.Out 1 1 last_course before_one_unit (one_unit_and (codes "unit 2"))
     → ⊥
 no_other_text (report, same, (ends, tells), text, part) =
-    no_part report.item report.outcome report.line part.count same tells part.part
+    no_part report.item report.outcome report.line (drop part.count report.line) same tells
+    (ap (λ (l : List ℕ). l ++ drop part.count report.line) part.part ∙ take-append-drop part.count report.line)
 
 -- another fault than Out leaves no part of a line
 pub no_line_of_another_fault : BreaksReport IsScanReport faults.End 1 1 last_course before_one_unit
@@ -394,17 +254,11 @@ all_asked units first last scan =
 -- at most so many units as there are addresses
 answered_few : (reports : List (Report ℕ)) → answered reports ≤ length reports
 answered_few [] = omega arith
-answered_few (report ∷ reports) = one_more (is_some report.outcome) (answered_few reports) where
-  one_more : (answers : Bool) → answered reports ≤ length reports
-      → answered reports + (if answers then 1 else 0) ≤ length (report ∷ reports)
-  one_more true few = omega (arith, few)
-  one_more false few = omega (arith, few)
+answered_few (report ∷ reports) = let few = answered_few reports in grind arith
 
 pub at_most_all : (units : ℕ) (first last : Streams) → IsScan units first last → units ≤ 64
 at_most_all units first last scan =
-    let few = answered_few scan.reports in
-    let all = all_asked units first last scan in
-    let are = scan.units_are in omega (arith, few, all, are)
+    omega (arith, answered_few scan.reports, all_asked units first last scan, scan.units_are)
 
 -- a scan that is broken off has a report of each address below
 below_length : (address : ℕ) → length (addresses_below address) ≡ address

@@ -1,116 +1,55 @@
 -- Two orders verified by hand, one frame that is broken off, and what is near them and isn't so.
-use Rattle.std.proofs.Common.{ap, ◌≡◌, ◌≢◌, ◌∙◌, inl, inr, refl, sym, subst, ℕ, List, [], ◌∷◌, ◌++◌, Some, None}
-use Rattle.std.proofs.Common.{codes}
-use Rattle.std.proofs.Common.{true, false, get_or, length, arith}
+use Rattle.std.proofs.Common.{ap, ◌≡◌, ◌∙◌, inl, inr, refl, sym, ℕ, List, [], ◌∷◌, ◌++◌, Some, None, codes, true, false}
+use Rattle.std.proofs.Common.{get_or, length, arith}
 use Rattle.std.proofs.lemmas.Fmt.{decimal_digit}
-use Rattle.std.proofs.lemmas.List.Elements.{All-from_recursion}
 use Rattle.dali_frame.specs.declared.forward.Frame.TheVariants.{Dtr1, AskDtr0}
-use Rattle.dali_frame.specs.Hex.{byte_digits}
-use Rattle.dali_write.specs.declared.request.Wish.TheVariants.{Nothing, Exactly, Anything}
-use Rattle.dali_read.specs.declared.finding.Finding.TheVariants.{Same, Other, Short, Format}
-use Rattle.dali_read.specs.Blocks.{Fits, Succeeds}
+use Rattle.dali_read.specs.declared.finding.Finding.TheVariants.{Same, Other, Short}
+use Rattle.dali_read.specs.Blocks.{Succeeds}
 use Rattle.dali_read.specs.Places.{block, order_course}
 use Rattle.dali_read.specs.Readings.{Ends}
 use Rattle.dali_read.specs.Findings.{IsFound}
-use Rattle.dali_drive.specs.Lines.{IsShort}
 use Rattle.dali_drive.specs.Transcript.{Streams, AreAnswers}
-use Rattle.dali_drive.specs.SurveyLines.{finding_line}
-use Rattle.dali_drive.specs.SurveyLines.{order_silent_line}
-use Rattle.dali_drive.specs.Surveys.{Surveyed, IsOrderReport, IsSame, TellsOrder, link_of}
-use Rattle.dali_drive.specs.WorkedSurveys.{length_read, byte_read}
-use Rattle.dali_drive.specs.WorkedSurveys.{near_order, far_order, same_order}
-use Rattle.dali_drive.specs.WorkedSurveys.{other_order, short_order, silent_order, before_two_orders}
-use Rattle.dali_drive.specs.WorkedSurveys.{after_two_orders}
-use Rattle.dali_drive.specs.WorkedSurveys.{after_near_order, amid_far_order, before_frame, after_frame}
+use Rattle.dali_drive.specs.Surveys.{Surveyed, IsOrderReport, IsSame, TellsOrder, IsVerified, VerifyBroke}
+use Rattle.dali_drive.specs.WorkedSurveys.{length_read, byte_read, near_order, far_order, same_order, other_order}
+use Rattle.dali_drive.specs.WorkedSurveys.{short_order, silent_order, before_two_orders, after_two_orders}
+use Rattle.dali_drive.specs.WorkedSurveys.{after_near_order, amid_far_order, before_frame, after_frame, missed}
 use Rattle.dali_drive.specs.Driven.{BreaksFrame}
-use Rattle.dali_drive.specs.Surveys.{IsVerified}
-use Rattle.dali_drive.specs.Surveys.{VerifyBroke}
-use Rattle.dali_drive.proofs.WorkedSurveyLemmas.{findings_are, line_00, line_01, line_03, line_04, line_77}
-use Rattle.dali_drive.proofs.WorkedSurveyLemmas.{line_A5, read_heard, lines_of, missed_heard, first_fits, silent_ends}
-use Rattle.dali_drive.proofs.WorkedSurveyLemmas.{length_told, first_done, frame_broke}
+use Rattle.dali_drive.proofs.WorkedSurveyLemmas.{findings_are, line_03, line_04, line_A5, read_heard, lines_of}
+use Rattle.dali_drive.proofs.WorkedSurveyLemmas.{missed_heard, first_fits, silent_ends, length_told, first_done}
+use Rattle.dali_drive.proofs.WorkedSurveyLemmas.{frame_broke, at_once, is_read, length_heard, cut_frame}
 use Rattle.dali_trace.specs.declared.fault.DriveFault.TheVariants as faults
 use Rattle.dali_drive.proofs.ReadingLemmas.{as_sent}
+use Rattle.dali_drive.proofs.WorkedDriveLemmas.{is_short}
 
 -- Two orders: the unit of the first one has its byte, and that of the second is silent
 
-row_fits : Fits (block 0x03 1)
-row_fits = record { some = omega arith; few = omega arith; within = omega arith }
-
 byte_told : (byte : ℕ) → Succeeds 1 (block 0x03 1) (byte ∷ []) (byte_read byte)
-byte_told byte = record {
-  tried = byte_read byte;
-  missed = [];
-  misses = 0;
-  parts = refl;
-  read = (
-    (
-      Exactly 1,
-      refl,
-      (
-        Exactly 4,
-        refl,
-        (
-          Anything,
-          refl,
-          (Exactly 3, refl, (Nothing, tt, (Exactly 1, refl, (Nothing, tt, refl)))),
-        ),
-      ),
-    ),
-    refl,
-  );
-  few = omega arith;
-  misses_are = refl;
-}
+byte_told byte =
+    at_once ((_, search, (_, search, (_, search, (_, search, (_, search, (_, search, (_, search, refl))))))), refl)
 
 near_ends : (byte : ℕ)
     → Ends 1 (order_course near_order.updates) (Some (0x77 ∷ byte ∷ [])) (byte_read byte ++ length_read)
-near_ends byte = record {
-  done = record { block = block 0x03 1; bytes = byte ∷ []; told = byte_read byte } ∷ first_done ∷ [];
-  in_turn = ((tt, first_fits, refl, length_told), row_fits, refl, byte_told byte);
-  bytes_are = refl;
-  told_are = refl;
-  over = refl;
-}
+near_ends byte = is_read (record { block = block 0x03 1; bytes = byte ∷ []; told = byte_read byte } ∷ first_done ∷ [])
+    ((tt, first_fits, refl, length_told), omega arith, refl, byte_told byte) refl
 
 same_found : IsFound near_order.updates (0x77 ∷ 0xA5 ∷ []) Same
 same_found = (0x77, omega arith, inl (0xA5 ∷ [], refl, omega arith, ([], refl)))
 
 other_found : IsFound near_order.updates (0x77 ∷ 0x5A ∷ []) (Other 0x03 0x5A)
-other_found = (
-  0x77,
-  omega arith,
-  inl (
-    0x5A ∷ [],
-    refl,
-    omega arith,
-    ([], 0xA5, [], [], refl, refl, λ e. omega (arith, e)),
-  ),
-)
+other_found =
+    (0x77, omega arith, inl (0x5A ∷ [], refl, omega arith, ([], 0xA5, [], [], refl, refl, λ e. omega (arith, e))))
 
 pub same_told : IsOrderReport same_order
-same_told = (
-  near_ends 0xA5,
-  (Same, same_found, sym (rw (decimal_digit 7 (omega arith), decimal_digit 1 (omega arith)) refl)),
-)
+same_told = (near_ends 0xA5, (Same, same_found, sym findings_are.0))
 
 pub other_told : IsOrderReport other_order
-other_told = (
-  near_ends 0x5A,
-  (Other 0x03 0x5A, other_found, sym (rw (decimal_digit 7 (omega arith), decimal_digit 1 (omega arith)) refl)),
-)
+other_told = (near_ends 0x5A, (Other 0x03 0x5A, other_found, search (decimal_digit, arith)))
 
 pub short_told : TellsOrder near_order (Some (0x02 ∷ [])) (codes "order 7 unit 1 short\n")
-short_told = (
-  Short,
-  (0x02, [], refl, omega arith),
-  sym (rw (decimal_digit 7 (omega arith), decimal_digit 1 (omega arith)) refl),
-)
+short_told = (Short, (0x02, [], refl, omega arith), sym findings_are.2)
 
 pub silent_told : IsOrderReport silent_order
-silent_told = (
-  silent_ends (order_course far_order.updates) refl,
-  sym (rw (decimal_digit 8 (omega arith), decimal_digit 0 (omega arith)) refl),
-)
+silent_told = (silent_ends (order_course far_order.updates) refl, sym findings_are.4)
 
 -- which of them are the same
 
@@ -126,8 +65,7 @@ not_other (last, enough, inr (more, e, far, behind)) = omega (arith, far)
 
 pub other_is_not : IsSame other_order → ⊥
 other_is_not (bytes, is, found) =
-    let same : 0x77 ∷ 0x5A ∷ [] ≡ bytes = cc in
-    not_other (subst (λ (l : List ℕ). IsFound near_order.updates l Same) (sym same) found)
+    let same : 0x77 ∷ 0x5A ∷ [] ≡ bytes = cc in not_other (rw (← same) at found)
 
 not_short : IsFound near_order.updates (0x02 ∷ []) Same → ⊥
 not_short (last, enough, inl (more, e, near, first)) = let same : 0x02 ≡ last = cc in omega (arith, enough, same)
@@ -135,8 +73,7 @@ not_short (last, enough, inr (more, e, far, behind)) = omega (arith, far)
 
 pub short_is_not : IsSame short_order → ⊥
 short_is_not (bytes, is, found) =
-    let same : 0x02 ∷ [] ≡ bytes = cc in
-    not_short (subst (λ (l : List ℕ). IsFound near_order.updates l Same) (sym same) found)
+    let same : 0x02 ∷ [] ≡ bytes = cc in not_short (rw (← same) at found)
 
 pub silent_is_not : IsSame silent_order → ⊥
 silent_is_not (bytes, is, found) = cc
@@ -144,40 +81,25 @@ silent_is_not (bytes, is, found) = cc
 -- another byte isn't told as the same
 pub not_told_same : TellsOrder near_order (Some (0x77 ∷ 0x5A ∷ [])) (codes "order 7 unit 1 same\n") → ⊥
 not_told_same (Same, found, is) = not_other found
-not_told_same (Other location byte, found, is) =
-    let other : finding_line near_order (Other location byte)
-    ≡ codes "order 7 unit 1" ++ codes " other " ++ byte_digits location ++ codes " " ++ byte_digits byte ++ codes "\n" =
-    rw (decimal_digit 7 (omega arith), decimal_digit 1 (omega arith)) refl in
-    let never = ap (λ (l : List ℕ). length l) (is ∙ other) in omega (arith, never)
-not_told_same (Short, found, is) =
-    let never = ap (λ (l : List ℕ). length l) (is ∙ findings_are.2) in omega (arith, never)
-not_told_same (Format, found, is) =
-    let never = ap (λ (l : List ℕ). length l) (is ∙ findings_are.3) in omega (arith, never)
+not_told_same (_, found, is) =
+    let whole = rw (decimal_digit 7 (omega arith), decimal_digit 1 (omega arith)) at is in
+    let never = ap (λ (l : List ℕ). length l) whole in omega (arith, never)
 
 -- nor a silent unit as a short one
 pub not_told_short : TellsOrder far_order None (codes "order 8 unit 0 short\n") → ⊥
 not_told_short is =
-    let silent : order_silent_line far_order ≡ codes "order 8 unit 0 silent\n" = findings_are.4 in
-    let never = ap (λ (l : List ℕ). length l) (is ∙ silent) in omega (arith, never)
+    let never = ap (λ (l : List ℕ). length l) (is ∙ findings_are.4) in omega (arith, never)
 
 near_heard : AreAnswers (as_sent (byte_read 0xA5 ++ length_read))
     (codes "--\n01\n--\n00\n77\n01\n01\n--\n01\n--\n03\nA5\n04\n01\n")
 near_heard =
     read_heard length_read 0x03 0xA5 0x04 (codes "--\n01\n--\n00\n77\n01\n01\n") (codes "03\n") (codes "A5\n")
-    (codes "04\n") line_03 line_A5 line_04
-    (read_heard [] 0x00 0x77 0x01 [] (codes "00\n") (codes "77\n") (codes "01\n") line_00 line_77 line_01 refl)
+    (codes "04\n") line_03 line_A5 line_04 length_heard
 
 near_verified : Surveyed IsOrderReport (same_order ∷ []) before_two_orders after_near_order
 near_verified = record {
   each = (same_told, tt);
-  link = record {
-    heard = codes "--\n01\n--\n00\n77\n01\n01\n--\n01\n--\n03\nA5\n04\n01\n";
-    lines = near_heard;
-    journal = tt;
-    link = refl;
-    answers = refl;
-    out = tt;
-  };
+  link = record { heard = _; lines = near_heard; journal = tt; link = refl; answers = refl; out = tt };
   out = refl;
 }
 
@@ -189,21 +111,16 @@ one_verified = record {
   same = (λ is. (is_same, tt), λ all. refl);
 }
 
+both_heard : AreAnswers (as_sent (missed 8 ++ byte_read 0xA5 ++ length_read))
+    (lines_of 8 (codes "--\n01\n--\n00\n77\n01\n01\n--\n01\n--\n03\nA5\n04\n01\n"))
+both_heard = missed_heard 8 (byte_read 0xA5 ++ length_read) _ near_heard
+
 pub two_verified : IsVerified (near_order ∷ far_order ∷ []) false before_two_orders after_two_orders
 two_verified = record {
   reports = silent_order ∷ same_order ∷ [];
   surveyed = record {
     each = (silent_told, (same_told, tt));
-    link = record {
-      heard = lines_of 8 (codes "--\n01\n--\n00\n77\n01\n01\n--\n01\n--\n03\nA5\n04\n01\n");
-      lines =
-          missed_heard 8 (byte_read 0xA5 ++ length_read)
-          (codes "--\n01\n--\n00\n77\n01\n01\n--\n01\n--\n03\nA5\n04\n01\n") near_heard;
-      journal = tt;
-      link = refl;
-      answers = refl;
-      out = tt;
-    };
+    link = record { heard = _; lines = both_heard; journal = tt; link = refl; answers = refl; out = tt };
     out = refl;
   };
   all = refl;
@@ -218,36 +135,20 @@ far_broke = record {
   asked = refl;
   middle = after_near_order;
   surveyed = near_verified;
-  broke = (frame_broke 0 (order_course far_order.updates) refl cut, refl);
-} where
-  cut : BreaksFrame (Dtr1 1) faults.Link (link_of after_near_order) (link_of amid_far_order)
-  cut = inl (record {
-    journal = tt;
-    link = record { count = 2; within = omega arith; part = refl };
-    answers = refl;
-    out = tt;
-  })
+  broke = (frame_broke 0 (order_course far_order.updates) refl (cut_frame (Dtr1 1) 2 _ _ (omega arith)), refl);
+}
 
 -- One frame that is broken off
 
 pub cut_line_is_link : BreaksFrame (AskDtr0 5) faults.Link (before_frame []) (after_frame (codes "0B9"))
-cut_line_is_link =
-    inl (record {
-      journal = tt;
-      link = record { count = 3; within = omega arith; part = refl };
-      answers = refl;
-      out = tt;
-    })
+cut_line_is_link = cut_frame (AskDtr0 5) 3 _ _ (omega arith)
 
 pub half_answer_is_link : BreaksFrame (AskDtr0 5) faults.Link (before_frame (codes "0")) (after_frame (codes "0B98\n"))
-half_answer_is_link = inr (record { journal = tt; link = refl; answers = (codes "0", short, refl); out = tt }) where
-  short : IsShort (codes "0")
-  short = record { short = omega arith; inside = All-from_recursion (λ b. b ≢ 10) (codes "0") ((λ e. cc), tt) }
+half_answer_is_link =
+    inr (record { journal = tt; link = refl; answers = (codes "0", is_short _ (omega arith), refl); out = tt })
 
 pub no_answer_is_end : BreaksFrame (AskDtr0 5) faults.End (before_frame []) (after_frame (codes "0B98\n"))
-no_answer_is_end = record { journal = tt; link = refl; answers = ([], short, refl, refl); out = tt } where
-  short : IsShort []
-  short = record { short = omega arith; inside = All-from_recursion (λ b. b ≢ 10) [] tt }
+no_answer_is_end = record { journal = tt; link = refl; answers = ([], is_short _ (omega arith), refl, refl); out = tt }
 
 pub cut_line_is_no_end : BreaksFrame (AskDtr0 5) faults.End (before_frame []) (after_frame (codes "0B9")) → ⊥
 cut_line_is_no_end broke = let never = ap (λ (l : List ℕ). length l) broke.link in omega (arith, never)

@@ -137,13 +137,9 @@ module _ (unit : ℕ) (block : Block) where
   pub try_breaks : (bytes : List ℕ) (number : ℕ) (first mid last : Streams) (next : Request) (fault : DriveFault)
       → TriedTo unit block bytes number first mid → slice_get requests number ≡ Some next
       → BreaksFrame next.frame fault mid last → TryBroke unit block fault first last
-  try_breaks bytes number first mid last next fault t is broken = record {
-    told = t.told;
-    next = next;
-    left = _;
-    try = at_hand number t.told next is t.try;
-    broke = record { middle = mid; text = t.text; broken = broken };
-  }
+  try_breaks bytes number first mid last next fault t is broken =
+      let try = at_hand number t.told next is t.try in
+      record { told = _; next = _; left = _; try = try; broke = record { middle = _; text = t.text; broken = broken } }
 
   pub try_ends : (bytes : List ℕ) (number : ℕ) (first last : Streams) → TriedTo unit block bytes number first last
       → slice_get requests number ≡ None → TryTold unit block bytes first last
@@ -182,15 +178,7 @@ module _ (unit : ℕ) (block : Block) where
       → BlockTold unit block bytes first last
   block_told bytes misses first mid last m few t = record {
     told = t.told ++ m.told;
-    succeeds = record {
-      tried = t.told;
-      missed = m.told;
-      misses = misses;
-      parts = refl;
-      read = t.read;
-      few = few;
-      misses_are = m.misses_are;
-    };
+    succeeds = search;
     text = told_both t.told m.told first mid last m.text t.text;
   }
 
@@ -200,18 +188,7 @@ module _ (unit : ℕ) (block : Block) where
   block_breaks misses first mid last fault m few t = record {
     told = t.told ++ m.told;
     frame = t.next.frame;
-    stands = record {
-      tried = t.told;
-      missed = m.told;
-      misses = misses;
-      next = t.next;
-      left = t.left;
-      parts = refl;
-      few = few;
-      misses_are = m.misses_are;
-      try = t.try;
-      frame_is = refl;
-    };
+    stands = grind arith;
     broke = breaks_later t.told m.told t.next.frame fault first mid last m.text t.broke;
   }
 
@@ -238,16 +215,7 @@ module _ (unit : ℕ) (course : Course) where
       → BlockFailed unit block mid last → IsUnitRead unit course None first last
   reading_is_silent bytes first mid last block r fits next f = record {
     told = f.told ++ told_in r.done;
-    ends = record {
-      done = r.done;
-      in_turn = r.in_turn;
-      block = block;
-      fits = fits;
-      next = ap course r.bytes_are ∙ next;
-      missed = f.told;
-      fails = f.fails;
-      told_are = refl;
-    };
+    ends = search (ap course r.bytes_are ∙ next);
     text = told_both f.told (told_in r.done) first mid last r.text f.text;
   }
 
@@ -257,15 +225,6 @@ module _ (unit : ℕ) (course : Course) where
   reading_breaks bytes first mid last block fault r fits next b = record {
     told = b.told ++ told_in r.done;
     frame = b.frame;
-    reading = record {
-      done = r.done;
-      in_turn = r.in_turn;
-      block = block;
-      fits = fits;
-      next = ap course r.bytes_are ∙ next;
-      tried = b.told;
-      stands = b.stands;
-      told_are = refl;
-    };
+    reading = grind (arith, ap course r.bytes_are ∙ next);
     broke = breaks_later b.told (told_in r.done) b.frame fault first mid last r.text b.broke;
   }

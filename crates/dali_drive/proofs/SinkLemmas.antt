@@ -1,6 +1,6 @@
 -- What a stop leaves of a sink of records, behind what is put there.
-use Rattle.std.proofs.Common.{◌≡◌, ◌≤◌, ◌⊎◌, ◌<◌, ◌∙◌, refl, sym, ap, subst, inl, inr, arith, ℕ, Bool, true, false}
-use Rattle.std.proofs.Common.{List, [], ◌++◌, Option, Some, None, length, length-append, take, append-nil, append_assoc}
+use Rattle.std.proofs.Common.{◌≡◌, ◌≤◌, ◌⊎◌, ◌<◌, ◌∙◌, sym, ap, subst, inl, inr, arith, ℕ, Bool, true, false, List, []}
+use Rattle.std.proofs.Common.{◌++◌, Option, Some, None, length, length-append, append-nil, append_assoc}
 use Rattle.std.proofs.lemmas.Bool.{cases_lt}
 use Rattle.std.specs.Io.KnownBytes.{Appends}
 use Rattle.dali_store.specs.Stores.{IsSettled, IsBetween}
@@ -18,8 +18,7 @@ FlushedSince before now flushed = (flushed ≡ Some before) ⊎ (flushed ≡ Som
 
 flushed_since : (done : Bool) (before now : List ℕ) (new : Option (List ℕ))
     → Flushes done (Some now) (Some before) new → FlushedSince before now new
-flushed_since true before now new is = inr is
-flushed_since false before now new is = inl is
+flushed_since done before now new flushes = grind arith
 
 module _ (before more now : List ℕ) (is : now ≡ before ++ more) where
   left_behind : (flushed : Option (List ℕ)) → FlushedSince before now flushed → (c : List ℕ)
@@ -70,8 +69,7 @@ leaves_put done (Some flushed) (Some held) new (Some now) more part put flushes 
 -- some bytes were put
 pub some_put : (done : Bool) (old new : Option (List ℕ)) (bytes : List ℕ) → (done ≡ true → Appends old new bytes)
     → (done ≡ false → PutsFirst old new bytes) → (more : List ℕ) × Appends old new more
-some_put true old new bytes whole cut = (bytes, whole refl)
-some_put false old new bytes whole cut = let first = cut refl in (take first.0 bytes, first.2)
+some_put done old new bytes whole cut = grind arith
 
 -- and so it does at each moment
 pub record PutOver (flushed held flushed_now held_now : Option (List ℕ)) : Type 0 where

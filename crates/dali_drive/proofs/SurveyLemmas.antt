@@ -1,10 +1,10 @@
 -- How surveys of units go on, report by report, and how they are broken off.
-use Rattle.std.proofs.Common.{◌≡◌, ◌<◌, ◌∙◌, ◌↔◌, refl, sym, ap, subst, ℕ, List, [], ◌∷◌, ◌++◌, Option, Some, None, Bool, true, false}
-use Rattle.std.proofs.Common.{is_some, suc, ◌+◌, length, take, drop, drop-cons, reverse, get_or, arith}
-use Rattle.std.proofs.Common.{◌&&◌, if◌then◌else◌}
+use Rattle.std.proofs.Common.{◌≡◌, ◌<◌, ◌∙◌, ◌↔◌, refl, sym, ap, subst, ℕ, List, [], ◌∷◌, ◌++◌, Option, Some, None}
+use Rattle.std.proofs.Common.{Bool, true, false, is_some, suc, ◌+◌, length, take, drop, drop-cons, reverse, get_or}
+use Rattle.std.proofs.Common.{arith, ◌&&◌}
 use Rattle.std.proofs.lemmas.List.{take_more, take-append-drop, reverse-append, reverse-reverse}
 use Rattle.std.specs.Io.KnownBytes.{Appends}
-use Rattle.std.proofs.KnownBytes.{Appends-trans, Keeps-refl}
+use Rattle.std.proofs.KnownBytes.{Appends-trans}
 use Rattle.dali_bank.specs.Order.{Contents}
 use Rattle.dali_read.specs.Readings.{Course}
 use Rattle.dali_read.specs.Places.{last_course, order_course}
@@ -14,12 +14,12 @@ use Rattle.dali_read.specs.declared.finding.Finding.TheVariants.{Same}
 use Rattle.dali_read.proofs.FindingLemmas.{same_found}
 use Rattle.dali_read.proofs.CourseLemmas.{last_read}
 use Rattle.dali_trace.specs.declared.fault.DriveFault.{DriveFault}
-use Rattle.dali_trace.specs.declared.fault.DriveFault.TheVariants.{Journal, Link, Line, End, NoMemory, TooLong, Out}
+use Rattle.dali_trace.specs.declared.fault.DriveFault.TheVariants.{Out}
 use Rattle.dali_drive.specs.Transcript.{Streams, shown, link_shown}
 use Rattle.dali_drive.specs.UnitRead.{IsUnitRead, UnitReadBroke}
 use Rattle.dali_drive.specs.Surveys.{Report, Surveyed, Reported, BreaksReport, IsScanReport, IsOrderReport, IsSame}
-use Rattle.dali_drive.specs.Surveys.{FoundOf, IsAllTold}
-use Rattle.dali_drive.specs.Surveys.{TellsLast, TellsOrder, all_told, answered, link_of, addresses_below}
+use Rattle.dali_drive.specs.Surveys.{FoundOf, IsAllTold, TellsLast, TellsOrder, all_told, answered, link_of}
+use Rattle.dali_drive.specs.Surveys.{addresses_below}
 use Rattle.dali_drive.proofs.DriveLemmas.{IsCut, part_of_it}
 use Rattle.dali_drive.proofs.ReadingLemmas.{told_both}
 
@@ -38,13 +38,7 @@ pub breaks_reading : {A : Type 0} (is_report : Report A → Type 0) (fault : Dri
     (course : Course) (l more a less o : Option (List ℕ))
     → UnitReadBroke unit course fault (link_shown l a) (link_shown more less)
     → BreaksReport is_report fault item unit course (shown None l a o) (shown None more less o)
-breaks_reading is_report Out item unit course l more a less o broke = absurd broke.broke.broken.answers
-breaks_reading is_report Journal item unit course l more a less o broke = (broke, Keeps-refl o)
-breaks_reading is_report NoMemory item unit course l more a less o broke = (broke, Keeps-refl o)
-breaks_reading is_report Link item unit course l more a less o broke = (broke, Keeps-refl o)
-breaks_reading is_report (Line fault) item unit course l more a less o broke = (broke, Keeps-refl o)
-breaks_reading is_report End item unit course l more a less o broke = (broke, Keeps-refl o)
-breaks_reading is_report TooLong item unit course l more a less o broke = (broke, Keeps-refl o)
+breaks_reading is_report fault item unit course l more a less o broke = grind arith
 
 -- ---- which units answer
 
@@ -120,17 +114,15 @@ module _ (order : Contents) (l more a less o out : Option (List ℕ)) (outcome :
 -- the unit by another name
 pub read_of : {course : Course} {outcome : Option (List ℕ)} {first last : Streams} (one two : ℕ) → one ≡ two
     → IsUnitRead one course outcome first last → IsUnitRead two course outcome first last
-read_of {course} {outcome} {first} {last} one two same read =
-    subst (λ (unit : ℕ). IsUnitRead unit course outcome first last) same read
+read_of one two same read = grind arith
 
 pub broke_of : {course : Course} {fault : DriveFault} {first last : Streams} (one two : ℕ) → one ≡ two
     → UnitReadBroke one course fault first last → UnitReadBroke two course fault first last
-broke_of {course} {fault} {first} {last} one two same broke =
-    subst (λ (unit : ℕ). UnitReadBroke unit course fault first last) same broke
+broke_of one two same broke = grind arith
 
 -- one more address
 pub one_more : (address : ℕ) → addresses_below (address + 1) ≡ address ∷ addresses_below address
-one_more address = let same : address + 1 ≡ suc address = omega arith in ap addresses_below same
+one_more address = grind arith
 
 -- one more item, of those that a list begins with
 pub items_more : (orders : List Contents) (index : ℕ) (d order : Contents) (items : List Contents)
@@ -154,12 +146,11 @@ items_left orders index d order items below is so =
 -- all so far and this one
 pub both_same : (all one : Bool) (older now : Type 0) → ((all ≡ true) ↔ older) → ((one ≡ true) ↔ now)
     → ((all && one) ≡ true) ↔ (now × older)
-both_same true one older now so this = (λ is. (this.0 is, so.0 refl), λ both. this.1 both.0)
-both_same false one older now so this = (λ never. cc, λ both. let never = so.1 both.1 in cc)
+both_same all one older now so this = grind arith
 
 -- the same of what is the same
 pub same_by : {A B C : Type 0} → (A ↔ B) → (B ↔ C) → A ↔ C
-same_by first second = (λ a. second.0 (first.0 a), λ c. first.1 (second.1 c))
+same_by first second = grind arith
 
 -- one more order was told
 pub told_more : {B : Type 0} (told : B → B → List (Contents × Option Finding) → Type 0)
@@ -167,20 +158,13 @@ pub told_more : {B : Type 0} (told : B → B → List (Contents × Option Findin
     (report : Report Contents) → report.item ≡ order → FoundOf report.item report.outcome found
     → (t : IsAllTold told reports first mid) → told first last ((order, found) ∷ t.found)
     → IsAllTold told (report ∷ reports) first last
-told_more told reports first mid last order found report is so t more = record {
-  found = (order, found) ∷ t.found;
-  are_found = (sym is, so, t.are_found);
-  told_all = more;
-}
+told_more told reports first mid last order found report is so t more = grind arith
 
 -- one more unit answered, or none
 pub counts_one : {A : Type 0} (report : Report A) (reports : List (Report A)) (answers : Bool)
     → answers ≡ is_some report.outcome → answers ≡ true → answered (report ∷ reports) ≡ answered reports + 1
-counts_one report reports answers same is =
-    ap (λ (b : Bool). answered reports + (if b then 1 else 0)) (sym same ∙ is)
+counts_one report reports answers same is = grind arith
 
 pub counts_none : {A : Type 0} (report : Report A) (reports : List (Report A)) (answers : Bool)
     → answers ≡ is_some report.outcome → answers ≡ false → answered (report ∷ reports) ≡ answered reports
-counts_none report reports answers same is =
-    let none = ap (λ (b : Bool). answered reports + (if b then 1 else 0)) (sym same ∙ is) in
-    let still : answered reports + 0 ≡ answered reports = omega arith in none ∙ still
+counts_none report reports answers same is = grind arith

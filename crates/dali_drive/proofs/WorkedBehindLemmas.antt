@@ -1,5 +1,5 @@
 -- What stands behind older journals, and what a list of orders gives, by hand, and what is near both.
-use Rattle.std.proofs.Common.{Some, ◌≡◌, ◌∙◌, refl, sym, ap, ℕ, true, false, List, [], ◌∷◌, ◌++◌, ◌+◌, length, arith}
+use Rattle.std.proofs.Common.{Some, ◌≡◌, ◌∙◌, refl, sym, ap, ℕ, true, false, List, [], ◌∷◌, ◌++◌, length, arith}
 use Rattle.std.proofs.Common.{append-nil, length-append, reverse, suc, codes, Option, None}
 use Rattle.dali_bank.specs.Order.{Contents}
 use Rattle.dali_journal.specs.declared.behind.JoinFault.{JoinFault}
@@ -9,7 +9,6 @@ use Rattle.dali_journal.specs.declared.record.Record.{Record}
 use Rattle.dali_journal.specs.declared.record.Record.TheVariants.{Began, Opened, Ended}
 use Rattle.dali_journal.specs.declared.version.Version.TheVariants.{Two}
 use Rattle.dali_journal.specs.JournalState.{JournalState}
-use Rattle.dali_journal.specs.Orders.{orders_of}
 use Rattle.dali_journal.specs.Sentence.{is_begun}
 use Rattle.dali_journal.specs.Spelling.{header, journal_spelling}
 use Rattle.dali_trace.specs.Trace.{Start}
@@ -53,11 +52,7 @@ own_records = Ended Silent ∷ Began second_order 8 ∷ []
 pub whole_of_two : (older : JournalState) (most : ℕ) (first : Streams) (b : IsBegunBehind (Some older) 10 most first)
     → older.records ≡ older_records → b.begun.journal.records ≡ own_records
     → (b.journal.records ≡ own_records ++ older_records) × (b.journal.limit ≡ 11)
-whole_of_two older most first b there here = (
-  b.whole.records_are ∙ ap (λ (rs : List Record). rs ++ older.records) here
-      ∙ ap (λ (rs : List Record). own_records ++ rs) there,
-  b.whole.limit_is ∙ ap (λ (rs : List Record). length (orders_of rs) + 10) there,
-)
+whole_of_two older most first b there here = grind arith
 
 -- ---- each order acts once
 
@@ -92,8 +87,7 @@ older_number_again older start there here acts =
 pub unjoined_without_a_common_number : {G B : Type 0} (older : JournalState) (limit most : ℕ) (orders : G)
     (first : Streams) (before : B) (left : G) (last : Look) (after : B) → older.records ≡ older_records
     → EndsUnjoined (Repeated 2) (Some older) limit most orders first before left last after → ⊥
-unjoined_without_a_common_number older limit most orders first before left last after there ends =
-    let begun : false ≡ true = sym (ap (is_begun 2) there) ∙ ends.why.1 in cc
+unjoined_without_a_common_number older limit most orders first before left last after there ends = grind arith
 
 -- one that stands alone is joined
 pub alone_is_joined : {G B : Type 0} (fault : JoinFault) (limit most : ℕ) (orders : G) (first : Streams) (before : B)
@@ -105,25 +99,19 @@ pub unjoined_and_sent : {G B : Type 0} (fault : JoinFault) (older : Option Journ
     (first : Streams) (before : B) (left : G) (last : Look) (after : B) → first.link ≡ Some []
     → last.streams.link ≡ Some (codes "C301\n")
     → EndsUnjoined fault older limit most orders first before left last after → ⊥
-unjoined_and_sent fault older limit most orders first before left last after none sent ends =
-    let kept : last.streams.link ≡ first.link = ap (λ (s : Streams). s.link) ends.streams in
-    let same : Some (codes "C301\n") ≡ Some [] = sym sent ∙ kept ∙ none in cc
+unjoined_and_sent fault older limit most orders first before left last after none sent ends = grind arith
 
 pub unjoined_and_heard : {G B : Type 0} (fault : JoinFault) (older : Option JournalState) (limit most : ℕ) (orders : G)
     (first : Streams) (before : B) (left : G) (last : Look) (after : B) → first.answers ≡ Some (codes "--\n")
     → last.streams.answers ≡ Some []
     → EndsUnjoined fault older limit most orders first before left last after → ⊥
-unjoined_and_heard fault older limit most orders first before left last after line heard ends =
-    let kept : last.streams.answers ≡ first.answers = ap (λ (s : Streams). s.answers) ends.streams in
-    let same : Some [] ≡ Some (codes "--\n") = sym heard ∙ kept ∙ line in cc
+unjoined_and_heard fault older limit most orders first before left last after line heard ends = grind arith
 
 pub unjoined_and_said : {G B : Type 0} (fault : JoinFault) (older : Option JournalState) (limit most : ℕ) (orders : G)
     (first : Streams) (before : B) (left : G) (last : Look) (after : B) → first.out ≡ Some []
     → last.streams.out ≡ Some (codes "reply 1 taken\n")
     → EndsUnjoined fault older limit most orders first before left last after → ⊥
-unjoined_and_said fault older limit most orders first before left last after none said ends =
-    let kept : last.streams.out ≡ first.out = ap (λ (s : Streams). s.out) ends.streams in
-    let same : Some (codes "reply 1 taken\n") ≡ Some [] = sym said ∙ kept ∙ none in cc
+unjoined_and_said fault older limit most orders first before left last after none said ends = grind arith
 
 -- ---- what a list gives
 

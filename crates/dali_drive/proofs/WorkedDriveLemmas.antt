@@ -1,5 +1,5 @@
 -- A small drive, and what is near it and isn't one.
-use Rattle.std.proofs.Common.{ap, ◌≡◌, ◌≢◌, inl, inr, refl, sym, ℕ, List, [], ◌∷◌, Some, None, codes, Bool, true, false}
+use Rattle.std.proofs.Common.{◌≡◌, ◌≢◌, inl, inr, refl, sym, ℕ, List, [], ◌∷◌, Some, None, codes, Bool, true, false}
 use Rattle.std.proofs.Common.{not, ◌⊎◌, arith, Option, ◌++◌, ◌≤◌, length}
 use Rattle.std.proofs.lemmas.Fmt.{decimal_digit}
 use Rattle.std.proofs.lemmas.List.Elements.{All-from_recursion}
@@ -108,16 +108,15 @@ each_its_own fault = search (inl, inr)
 
 pub journal_alone : (journal link_out link_in out : Bool) → FailedAs faults.Journal journal link_out link_in out
     → NoneFailed (not journal) link_out link_in out
-journal_alone journal link_out link_in out came = (ap not came.0, came.1, came.2, came.3)
+journal_alone journal link_out link_in out came = grind arith
 
 pub one_of_the_link : (journal link_out link_in out : Bool) → FailedAs faults.Link journal link_out link_in out
     → NoneFailed journal (not link_out) link_in out ⊎ NoneFailed journal link_out (not link_in) out
-one_of_the_link journal link_out link_in out (kept, inl (is, heard), written) = inl (kept, ap not is, heard, written)
-one_of_the_link journal link_out link_in out (kept, inr (sent, is), written) = inr (kept, sent, ap not is, written)
+one_of_the_link journal link_out link_in out came = grind arith
 
 pub out_alone : (journal link_out link_in out : Bool) → FailedAs faults.Out journal link_out link_in out
     → NoneFailed journal link_out link_in (not out)
-out_alone journal link_out link_in out came = (came.0, came.1, came.2, ap not came.3)
+out_alone journal link_out link_in out came = grind arith
 
 pub none_else : (fault : LineFault) (journal link_out link_in out : Bool)
     → (FailedAs faults.End journal link_out link_in out → NoneFailed journal link_out link_in out)

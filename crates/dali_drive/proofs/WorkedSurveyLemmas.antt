@@ -1,6 +1,6 @@
 -- A scan of two units by hand, and what is near it and isn't one.
-use Rattle.std.proofs.Common.{ap, ◌≡◌, ◌∙◌, inl, inr, refl, sym, append_assoc, ℕ, zero, suc, List, [], ◌∷◌, ◌++◌, Some}
-use Rattle.std.proofs.Common.{None, codes, Option, true, is_some, get_or, take, drop, length, arith, ◌≤◌, append-nil}
+use Rattle.std.proofs.Common.{ap, ◌≡◌, ◌∙◌, inl, refl, sym, append_assoc, ℕ, zero, suc, List, [], ◌∷◌, ◌++◌, Some, None}
+use Rattle.std.proofs.Common.{codes, Option, true, is_some, get_or, take, drop, length, arith, ◌≤◌, append-nil}
 use Rattle.std.proofs.Common.{take-append-drop}
 use Rattle.std.proofs.lemmas.Fmt.{decimal_digit}
 use Rattle.std.proofs.lemmas.List.{length-map}
@@ -137,7 +137,7 @@ at_once {told = told} read = record {
 
 pub is_read : {unit : ℕ} {course : Course} (done : List Done) → InTurn unit course done → course (bytes_in done) ≡ None
     → IsRead unit course (bytes_in done) (told_in done)
-is_read done turn over = record { done = done; in_turn = turn; bytes_are = refl; told_are = refl; over = over }
+is_read done turn over = grind arith
 
 pub length_told : Succeeds 1 first_block (0x77 ∷ []) length_read
 length_told =
@@ -177,7 +177,7 @@ lines_in_turn = refl
 
 -- a silent unit has no line, and a unit that answers just its own
 pub no_silent_line : Surveyed IsScanReport two_units before_two_units silent_unit_told → ⊥
-no_silent_line s = let never = ap (λ (l : List ℕ). length l) s.out in omega (arith, never)
+no_silent_line surveyed = grind arith
 
 pub not_silent_with_a_line : TellsLast 0 None (codes "unit 0 last 00\n") → ⊥
 not_silent_with_a_line is = cc
@@ -199,8 +199,7 @@ frame_broke {fault} {old} {new} unit course next broken =
 -- a frame's line is broken off behind so many bytes
 pub cut_frame : (frame : Frame) (count : ℕ) (old answers : List ℕ) → count ≤ 5 → BreaksFrame frame faults.Link
     (link_shown (Some old) (Some answers)) (link_shown (Some (old ++ take count (link_line frame))) (Some answers))
-cut_frame frame count old answers few =
-    inl (record { journal = tt; link = record { count = count; within = few; part = refl }; answers = refl; out = tt })
+cut_frame frame count old answers few = grind arith
 
 -- the third unit is broken off in its first frame
 pub third_broke : ScanBroke faults.Link before_two_units amid_third_unit
@@ -273,9 +272,7 @@ all_below_asked fault first last broke =
 
 pub only_its_line_behind : (fault : DriveFault) (units : ℕ) (old new : Streams) → BreaksScan fault 64 units old new
     → fault ≡ faults.Out
-only_its_line_behind fault units old new (inl (below, broke)) = absurd (omega (arith, below))
-only_its_line_behind fault units old new (inr (all, is, text, part)) = is
+only_its_line_behind fault units old new broke = grind arith
 
 pub nothing_past_it : (fault : DriveFault) (units : ℕ) (old new : Streams) → BreaksScan fault 65 units old new → ⊥
-nothing_past_it fault units old new (inl (below, broke)) = omega (arith, below)
-nothing_past_it fault units old new (inr (all, is, text, part)) = let never : 65 ≡ 64 = all in omega (arith, never)
+nothing_past_it fault units old new broke = grind arith

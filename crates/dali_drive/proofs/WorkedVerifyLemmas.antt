@@ -1,6 +1,6 @@
 -- Two orders verified by hand, one frame that is broken off, and what is near them and isn't so.
-use Rattle.std.proofs.Common.{ap, ◌≡◌, ◌∙◌, inl, inr, refl, sym, ℕ, List, [], ◌∷◌, ◌++◌, Some, None, codes, true, false}
-use Rattle.std.proofs.Common.{get_or, length, arith}
+use Rattle.std.proofs.Common.{ap, ◌∙◌, inl, inr, refl, sym, ℕ, List, [], ◌∷◌, ◌++◌, Some, None, codes, true, false}
+use Rattle.std.proofs.Common.{length, arith}
 use Rattle.std.proofs.lemmas.Fmt.{decimal_digit}
 use Rattle.dali_frame.specs.declared.forward.Frame.TheVariants.{Dtr1, AskDtr0}
 use Rattle.dali_read.specs.declared.finding.Finding.TheVariants.{Same, Other, Short}
@@ -57,23 +57,13 @@ pub is_same : IsSame same_order
 is_same = (0x77 ∷ 0xA5 ∷ [], refl, same_found)
 
 pub not_other : IsFound near_order.updates (0x77 ∷ 0x5A ∷ []) Same → ⊥
-not_other (last, enough, inl (more, e, near, (rest, own))) =
-    let same : more ≡ 0xA5 ∷ rest = own in
-    let whole : 0x77 ∷ 0x5A ∷ [] ≡ last ∷ 0xA5 ∷ rest = cc in
-    let never : 0x5A ≡ 0xA5 = ap (λ (l : List ℕ). get_or l 1 0) whole in omega (arith, never)
-not_other (last, enough, inr (more, e, far, behind)) = omega (arith, far)
+not_other found = grind arith
 
 pub other_is_not : IsSame other_order → ⊥
-other_is_not (bytes, is, found) =
-    let same : 0x77 ∷ 0x5A ∷ [] ≡ bytes = cc in not_other (rw (← same) at found)
-
-not_short : IsFound near_order.updates (0x02 ∷ []) Same → ⊥
-not_short (last, enough, inl (more, e, near, first)) = let same : 0x02 ≡ last = cc in omega (arith, enough, same)
-not_short (last, enough, inr (more, e, far, behind)) = omega (arith, far)
+other_is_not same = grind arith
 
 pub short_is_not : IsSame short_order → ⊥
-short_is_not (bytes, is, found) =
-    let same : 0x02 ∷ [] ≡ bytes = cc in not_short (rw (← same) at found)
+short_is_not same = grind arith
 
 pub silent_is_not : IsSame silent_order → ⊥
 silent_is_not (bytes, is, found) = cc
@@ -148,13 +138,13 @@ half_answer_is_link =
     inr (record { journal = tt; link = refl; answers = (codes "0", is_short _ (omega arith), refl); out = tt })
 
 pub no_answer_is_end : BreaksFrame (AskDtr0 5) faults.End (before_frame []) (after_frame (codes "0B98\n"))
-no_answer_is_end = record { journal = tt; link = refl; answers = ([], is_short _ (omega arith), refl, refl); out = tt }
+no_answer_is_end = grind arith
 
 pub cut_line_is_no_end : BreaksFrame (AskDtr0 5) faults.End (before_frame []) (after_frame (codes "0B9")) → ⊥
-cut_line_is_no_end broke = let never = ap (λ (l : List ℕ). length l) broke.link in omega (arith, never)
+cut_line_is_no_end broke = grind arith
 
 pub other_line_is_no_end : BreaksFrame (AskDtr0 5) faults.End (before_frame []) (after_frame (codes "0B9C\n")) → ⊥
-other_line_is_no_end broke = let never : 67 ≡ 56 = ap (λ (l : List ℕ). get_or l 3 0) broke.link in omega (arith, never)
+other_line_is_no_end broke = grind arith
 
 pub out_breaks_no_frame : (old new : Streams) → BreaksFrame (AskDtr0 5) faults.Out old new → ⊥
 out_breaks_no_frame old new broke = broke.answers

@@ -15,7 +15,7 @@ use Rattle.dali_write.specs.declared.request.Request.{Request}
 use Rattle.dali_write.specs.declared.request.Wish.TheVariants.{Exactly}
 use Rattle.dali_read.specs.declared.block.Block.{Block}
 use Rattle.dali_read.specs.Blocks.{Fits, block_requests, reads, read_answer, bytes_of}
-use Rattle.dali_read.specs.Readings.{Course, told_in}
+use Rattle.dali_read.specs.Readings.{Course, told_in, Done}
 use Rattle.dali_read.proofs.BlockBytesLemmas.{block_count}
 use Rattle.dali_trace.specs.declared.fault.DriveFault.{DriveFault}
 use Rattle.dali_drive.specs.Transcript.{Streams, Transcript, AreAnswers, sent_lines, said_lines, recorded}
@@ -83,9 +83,7 @@ reads_in [] = 0
 reads_in (next ∷ left) = reads_in_one next.frame + reads_in left
 
 answer_few : (frame : Frame) (answer : Option ℕ) → length (read_answer frame answer) ≤ reads_in_one frame
-answer_few (Read to) None = omega arith
-answer_few (Read to) (Some byte) = omega arith
-answer_few _ answer = omega arith
+answer_few frame answer = grind arith
 
 bytes_few : (requests : List Request) (told : List Exchange) (left : List Request) → Trying requests told left
     → length (bytes_of told) + reads_in left ≤ reads_in requests
@@ -117,22 +115,20 @@ module _ (unit : ℕ) (block : Block) where
       → all ≡ bytes ++ read_answer next.frame answer → TriedTo unit block bytes number first mid
       → slice_get requests number ≡ Some next → Meets next.wish answer
       → Transcript (Sent next.frame answer ∷ []) mid last → TriedTo unit block all (number + 1) first last
-  try_goes_on bytes all number first mid last next answer more t is meets text = record {
-    told = record { frame = next.frame; answer = answer } ∷ t.told;
-    try = (next.wish, meets, at_hand number t.told next is t.try);
-    bytes_are = rw more (ap (λ (l : List ℕ). l ++ read_answer next.frame answer) t.bytes_are);
-    text = told_both (record { frame = next.frame; answer = answer } ∷ []) t.told _ _ _ t.text text;
-  }
+  try_goes_on bytes all number first mid last next answer more t is meets text =
+      let one : List Exchange = record { frame = next.frame; answer = answer } ∷ [] in
+      let try = at_hand number t.told next is t.try in
+      let both = told_both one t.told _ _ _ t.text text in
+      record { told = one ++ t.told; try = (_, meets, try); bytes_are = grind (arith, t.bytes_are); text = both }
 
   pub try_misses : (bytes : List ℕ) (number : ℕ) (first mid last : Streams) (next : Request) (answer : Option ℕ)
       → TriedTo unit block bytes number first mid → slice_get requests number ≡ Some next
       → (Meets next.wish answer → ⊥) → Transcript (Sent next.frame answer ∷ []) mid last
       → TryMissed unit block first last
-  try_misses bytes number first mid last next answer t is missed text = record {
-    told = record { frame = next.frame; answer = answer } ∷ t.told;
-    missed = (next.wish, _, missed, at_hand number t.told next is t.try);
-    text = told_both (record { frame = next.frame; answer = answer } ∷ []) t.told _ _ _ t.text text;
-  }
+  try_misses bytes number first mid last next answer t is missed text =
+      let one : List Exchange = record { frame = next.frame; answer = answer } ∷ [] in
+      let try = at_hand number t.told next is t.try in
+      record { told = one ++ t.told; missed = (_, _, missed, try); text = told_both one t.told _ _ _ t.text text }
 
   pub try_breaks : (bytes : List ℕ) (number : ℕ) (first mid last : Streams) (next : Request) (fault : DriveFault)
       → TriedTo unit block bytes number first mid → slice_get requests number ≡ Some next
@@ -167,30 +163,21 @@ module _ (unit : ℕ) (block : Block) where
 
   pub one_miss_more : (misses : ℕ) (first mid last : Streams) → MissedSoOften unit block misses first mid
       → TryMissed unit block mid last → MissedSoOften unit block (misses + 1) first last
-  one_miss_more misses first mid last m t = record {
-    told = t.told ++ m.told;
-    misses_are = rw (add-one misses) (t.told, m.told, refl, t.missed, m.misses_are);
-    text = told_both t.told m.told first mid last m.text t.text;
-  }
+  one_miss_more misses first mid last m t =
+      let text = told_both t.told m.told _ _ _ m.text t.text in
+      record { told = _; misses_are = rw add-one (t.told, m.told, refl, t.missed, m.misses_are); text = text }
 
   pub block_told : (bytes : List ℕ) (misses : ℕ) (first mid last : Streams)
       → MissedSoOften unit block misses first mid → misses < most_tries → TryTold unit block bytes mid last
       → BlockTold unit block bytes first last
-  block_told bytes misses first mid last m few t = record {
-    told = t.told ++ m.told;
-    succeeds = search;
-    text = told_both t.told m.told first mid last m.text t.text;
-  }
+  block_told bytes misses first mid last m few t =
+      record { told = _; succeeds = search; text = told_both t.told m.told _ _ _ m.text t.text }
 
   pub block_breaks : (misses : ℕ) (first mid last : Streams) (fault : DriveFault)
       → MissedSoOften unit block misses first mid → misses < most_tries → TryBroke unit block fault mid last
       → BlockBroke unit block fault first last
-  block_breaks misses first mid last fault m few t = record {
-    told = t.told ++ m.told;
-    frame = t.next.frame;
-    stands = grind arith;
-    broke = breaks_later t.told m.told t.next.frame fault first mid last m.text t.broke;
-  }
+  block_breaks misses first mid last fault m few t =
+      record { told = _; frame = _; stands = grind arith; broke = breaks_later t.told m.told _ _ _ _ _ m.text t.broke }
 
   -- a block that was read has told a byte of each of its locations
   pub told_count : (bytes : List ℕ) (first last : Streams) → BlockTold unit block bytes first last
@@ -203,28 +190,23 @@ module _ (unit : ℕ) (course : Course) where
   pub reading_goes_on : (bytes more all : List ℕ) (first mid last : Streams) (block : Block) → all ≡ bytes ++ more
       → ReadSoFar unit course bytes first mid → Fits block → course bytes ≡ Some block
       → BlockTold unit block more mid last → ReadSoFar unit course all first last
-  reading_goes_on bytes more all first mid last block joined r fits next t = record {
-    done = record { block = block; bytes = more; told = t.told } ∷ r.done;
-    in_turn = (r.in_turn, fits, ap course r.bytes_are ∙ next, t.succeeds);
-    bytes_are = rw joined (ap (λ (l : List ℕ). l ++ more) r.bytes_are);
-    text = told_both t.told (told_in r.done) first mid last r.text t.text;
-  }
+  reading_goes_on bytes more all first mid last block joined r fits next t =
+      let done : List Done = record { block = block; bytes = more; told = t.told } ∷ r.done in
+      let same = ap course r.bytes_are ∙ next in
+      let text = told_both t.told (told_in r.done) first mid last r.text t.text in
+      record { done = done; in_turn = search; bytes_are = grind (arith, r.bytes_are); text = text }
 
   pub reading_is_silent : (bytes : List ℕ) (first mid last : Streams) (block : Block)
       → ReadSoFar unit course bytes first mid → Fits block → course bytes ≡ Some block
       → BlockFailed unit block mid last → IsUnitRead unit course None first last
-  reading_is_silent bytes first mid last block r fits next f = record {
-    told = f.told ++ told_in r.done;
-    ends = search (ap course r.bytes_are ∙ next);
-    text = told_both f.told (told_in r.done) first mid last r.text f.text;
-  }
+  reading_is_silent bytes first mid last block r fits next f =
+      let same = ap course r.bytes_are ∙ next in
+      record { told = _; ends = search; text = told_both f.told (told_in r.done) _ _ _ r.text f.text }
 
   pub reading_breaks : (bytes : List ℕ) (first mid last : Streams) (block : Block) (fault : DriveFault)
       → ReadSoFar unit course bytes first mid → Fits block → course bytes ≡ Some block
       → BlockBroke unit block fault mid last → UnitReadBroke unit course fault first last
-  reading_breaks bytes first mid last block fault r fits next b = record {
-    told = b.told ++ told_in r.done;
-    frame = b.frame;
-    reading = grind (arith, ap course r.bytes_are ∙ next);
-    broke = breaks_later b.told (told_in r.done) b.frame fault first mid last r.text b.broke;
-  }
+  reading_breaks bytes first mid last block fault r fits next b =
+      let same = ap course r.bytes_are ∙ next in
+      let broke = breaks_later b.told (told_in r.done) _ _ _ _ _ r.text b.broke in
+      record { told = _; frame = _; reading = grind arith; broke = broke }

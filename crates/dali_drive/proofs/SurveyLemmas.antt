@@ -1,14 +1,12 @@
 -- How surveys of units go on, report by report, and how they are broken off.
-use Rattle.std.proofs.Common.{◌≡◌, ◌<◌, ◌∙◌, ◌↔◌, refl, sym, ap, subst, ℕ, List, [], ◌∷◌, ◌++◌, Option, Some, None}
-use Rattle.std.proofs.Common.{Bool, true, false, is_some, suc, ◌+◌, length, take, drop, drop-cons, reverse, get_or}
-use Rattle.std.proofs.Common.{arith, ◌&&◌}
+use Rattle.std.proofs.Common.{◌≡◌, ◌<◌, ◌↔◌, refl, ℕ, List, [], ◌∷◌, ◌++◌, Option, Some, None, Bool, true, false}
+use Rattle.std.proofs.Common.{is_some, suc, ◌+◌, length, take, drop, drop-cons, reverse, get_or, arith, ◌&&◌}
 use Rattle.std.proofs.lemmas.List.{take_more, take-append-drop, reverse-append, reverse-reverse}
 use Rattle.std.specs.Io.KnownBytes.{Appends}
 use Rattle.std.proofs.KnownBytes.{Appends-trans}
 use Rattle.dali_bank.specs.Order.{Contents}
 use Rattle.dali_read.specs.Readings.{Course}
 use Rattle.dali_read.specs.Places.{last_course, order_course}
-use Rattle.dali_read.specs.Findings.{IsFound}
 use Rattle.dali_read.specs.declared.finding.Finding.{Finding}
 use Rattle.dali_read.specs.declared.finding.Finding.TheVariants.{Same}
 use Rattle.dali_read.proofs.FindingLemmas.{same_found}
@@ -18,8 +16,7 @@ use Rattle.dali_trace.specs.declared.fault.DriveFault.TheVariants.{Out}
 use Rattle.dali_drive.specs.Transcript.{Streams, shown, link_shown}
 use Rattle.dali_drive.specs.UnitRead.{IsUnitRead, UnitReadBroke}
 use Rattle.dali_drive.specs.Surveys.{Report, Surveyed, Reported, BreaksReport, IsScanReport, IsOrderReport, IsSame}
-use Rattle.dali_drive.specs.Surveys.{FoundOf, IsAllTold, TellsLast, TellsOrder, all_told, answered, link_of}
-use Rattle.dali_drive.specs.Surveys.{addresses_below}
+use Rattle.dali_drive.specs.Surveys.{FoundOf, IsAllTold, TellsLast, TellsOrder, answered, addresses_below}
 use Rattle.dali_drive.proofs.DriveLemmas.{IsCut, part_of_it}
 use Rattle.dali_drive.proofs.ReadingLemmas.{told_both}
 
@@ -27,11 +24,8 @@ pub surveyed_more : {A : Type 0} (is_report : Report A → Type 0) (reports : Li
     (is_so : Report A → Type 0) (first mid last : Streams)
     → Surveyed is_report reports first mid → (r : Reported is_report item is_so mid last)
     → Surveyed is_report (r.report ∷ reports) first last
-surveyed_more is_report reports item is_so first mid last s r = record {
-  each = (r.is, s.each);
-  link = told_both r.report.told (all_told reports) (link_of first) (link_of mid) (link_of last) s.link r.link;
-  out = Appends-trans _ _ _ _ _ s.out r.out;
-}
+surveyed_more is_report reports item is_so first mid last s r =
+    record { each = search; link = told_both _ _ _ _ _ s.link r.link; out = Appends-trans _ _ _ _ _ s.out r.out }
 
 -- the fault broke the reading off, before its line
 pub breaks_reading : {A : Type 0} (is_report : Report A → Type 0) (fault : DriveFault) (item : A) (unit : ℕ)
@@ -51,14 +45,8 @@ module _ (unit : ℕ) (l more a less o out : Option (List ℕ)) (outcome : Optio
   pub unit_scanned : Appends o out line
       → Reported IsScanReport unit (λ report. is_some outcome ≡ is_some report.outcome) (shown None l a o)
       (shown None more less out)
-  unit_scanned written = record {
-    report = scan_report;
-    item_is = refl;
-    is = (r.ends, tells);
-    so = refl;
-    link = r.text;
-    out = written;
-  }
+  unit_scanned written =
+      record { report = scan_report; item_is = refl; is = (r.ends, tells); so = refl; link = r.text; out = written }
 
   pub scan_cut : IsCut o out line
       → BreaksReport IsScanReport Out unit unit last_course (shown None l a o) (shown None more less out)
@@ -74,19 +62,8 @@ last_is unit bytes first last r = let one = last_read r.told unit bytes r.ends i
 -- what is found of an order is all the same, or not
 pub same_told : (report : Report Contents) (outcome : Option (List ℕ)) (found : Option Finding)
     → report.outcome ≡ outcome → FoundOf report.item outcome found → (found ≡ Some Same) ↔ IsSame report
-same_told report None found is none = (
-  λ same. let never = sym none ∙ same in cc,
-  λ all. let never = sym is ∙ all.1 in
-      cc,
-)
-same_told report (Some bytes) found is (finding, so, e) = (
-  λ same. let all : finding ≡ Same = cc in
-      (bytes, is, subst (λ (f : Finding). IsFound report.item.updates bytes f) all so),
-  λ all. let mine : bytes ≡ all.0 = cc in
-      let same = same_found report.item.updates bytes finding
-      (subst (λ (l : List ℕ). IsFound report.item.updates l Same) (sym mine) all.2) so in
-      e ∙ ap (λ (f : Finding). Some f) same,
-)
+same_told report None found is none = grind arith
+same_told report (Some bytes) found is so = grind (arith, same_found report.item.updates bytes so.0)
 
 module _ (order : Contents) (l more a less o out : Option (List ℕ)) (outcome : Option (List ℕ))
     (r : IsUnitRead order.unit (order_course order.updates) outcome (link_shown l a) (link_shown more less))
@@ -97,14 +74,8 @@ module _ (order : Contents) (l more a less o out : Option (List ℕ)) (outcome :
   pub order_verified : (found : Option Finding) → FoundOf order outcome found → Appends o out line
       → Reported IsOrderReport order (λ report. FoundOf report.item report.outcome found) (shown None l a o)
       (shown None more less out)
-  order_verified found so written = record {
-    report = order_report;
-    item_is = refl;
-    is = (r.ends, tells);
-    so = so;
-    link = r.text;
-    out = written;
-  }
+  order_verified found so written =
+      record { report = order_report; item_is = refl; is = (r.ends, tells); so = so; link = r.text; out = written }
 
   pub verify_cut : IsCut o out line
       → BreaksReport IsOrderReport Out order order.unit (order_course order.updates) (shown None l a o)
@@ -128,20 +99,14 @@ one_more address = grind arith
 pub items_more : (orders : List Contents) (index : ℕ) (d order : Contents) (items : List Contents)
     → index < length orders → order ≡ get_or orders index d → items ≡ reverse (take index orders)
     → order ∷ items ≡ reverse (take (index + 1) orders)
-items_more orders index d order items below is so =
-    rw (is, so) (sym (ap (λ (l : List Contents). reverse l) (take_more orders index d below)
-    ∙ reverse-append (take index orders) (get_or orders index d ∷ [])))
+items_more orders index d order items below is so = grind (arith, take_more orders index d below, reverse-append)
 
 -- those that are left
 pub items_left : (orders : List Contents) (index : ℕ) (d order : Contents) (items : List Contents)
     → index < length orders → order ≡ get_or orders index d → items ≡ reverse (take index orders)
     → reverse items ++ order ∷ drop (suc index) orders ≡ orders
 items_left orders index d order items below is so =
-    ap (λ (l : List Contents). reverse l ++ order ∷ drop (suc index) orders) so
-    ∙ ap (λ (l : List Contents). l ++ order ∷ drop (suc index) orders) (reverse-reverse (take index orders))
-    ∙ ap (λ (o : Contents). take index orders ++ o ∷ drop (suc index) orders) is
-    ∙ ap (λ (l : List Contents). take index orders ++ l) (sym (drop-cons orders index d below))
-    ∙ take-append-drop index orders
+    rw (so, reverse-reverse, is) (grind (arith, drop-cons orders index d below, take-append-drop index orders))
 
 -- all so far and this one
 pub both_same : (all one : Bool) (older now : Type 0) → ((all ≡ true) ↔ older) → ((one ≡ true) ↔ now)

@@ -31,9 +31,7 @@ abbrev pub as_sent : List Exchange → List Happening
 as_sent told = map (λ x. Sent x.frame x.answer) told
 
 pub told_nothing : (first : Streams) → LinkText [] first first
-told_nothing first =
-    let kept = Appends-nil first.journal in let said = Appends-nil first.out in
-    record { heard = []; lines = refl; journal = kept; link = Appends-nil _; answers = Consumes-nil _; out = said }
+told_nothing first = grind (arith, Appends-nil, Consumes-nil)
 
 pub answers_both : (newer older : List Exchange) (heard then : List ℕ) → AreAnswers (as_sent older) heard
     → AreAnswers (as_sent newer) then → AreAnswers (as_sent (newer ++ older)) (heard ++ then)
@@ -65,8 +63,7 @@ told_both newer older first mid last one two = record {
 breaks_later : (told before : List Exchange) (frame : Frame) (fault : DriveFault) (first mid last : Streams)
     → LinkText before first mid → BreaksAfter told frame fault mid last
     → BreaksAfter (told ++ before) frame fault first last
-breaks_later told before frame fault first mid last text b =
-    record { middle = b.middle; text = told_both told before _ _ _ text b.text; broken = b.broken }
+breaks_later told before frame fault first mid last text b = grind (arith, told_both)
 
 -- the requests behind the reads
 abbrev asking_back : ℕ → Block → List Request
@@ -139,8 +136,7 @@ module _ (unit : ℕ) (block : Block) where
 
   pub try_ends : (bytes : List ℕ) (number : ℕ) (first last : Streams) → TriedTo unit block bytes number first last
       → slice_get requests number ≡ None → TryTold unit block bytes first last
-  try_ends bytes number first last t is =
-      record { told = t.told; read = (rw (drop_end requests number is) at t.try, t.bytes_are); text = t.text }
+  try_ends bytes number first last t is = grind (arith, drop_end)
 
   -- there is room for the byte that is read next
   pub try_has_room : (bytes : List ℕ) (number : ℕ) (first mid : Streams) (next : Request) (answer : Option ℕ)
@@ -154,10 +150,7 @@ module _ (unit : ℕ) (block : Block) where
   -- no number of a request is higher
   pub few_requests : (number : ℕ) (next : Request) → Fits block → slice_get requests number ≡ Some next
       → (number < length requests) × (number < 22)
-  few_requests number next fits is =
-      let below = slice_get_within requests number next is in
-      let all = length-append (reads unit block.count) (asking_back unit block) in
-      (below, omega (arith, reads_length unit block.count, fits.few))
+  few_requests number next fits is = grind (arith, slice_get_within, length-append, reads_length)
 
   -- The whole of it
 

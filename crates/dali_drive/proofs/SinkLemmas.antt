@@ -1,6 +1,6 @@
 -- What a stop leaves of a sink of records, behind what is put there.
-use Rattle.std.proofs.Common.{◌≡◌, ◌≤◌, ◌⊎◌, ◌<◌, ◌∙◌, sym, ap, subst, inl, inr, arith, ℕ, Bool, true, false, List, []}
-use Rattle.std.proofs.Common.{◌++◌, Option, Some, None, length, length-append, append-nil, append_assoc}
+use Rattle.std.proofs.Common.{◌≡◌, ◌≤◌, ◌⊎◌, sym, arith, ℕ, Bool, true, false, List, [], ◌++◌, Option, Some, None}
+use Rattle.std.proofs.Common.{length, length-append, append-nil, append_assoc}
 use Rattle.std.proofs.lemmas.Bool.{cases_lt}
 use Rattle.std.specs.Io.KnownBytes.{Appends}
 use Rattle.dali_store.specs.Stores.{IsSettled, IsBetween}
@@ -23,25 +23,18 @@ flushed_since done before now new flushes = grind arith
 module _ (before more now : List ℕ) (is : now ≡ before ++ more) where
   left_behind : (flushed : Option (List ℕ)) → FlushedSince before now flushed → (c : List ℕ)
       → SinkLeaves flushed (Some now) c → IsBetween (Some before) (Some now) c
-  left_behind flushed (inl first) c left = rw first at left
-  left_behind flushed (inr all) c left =
-      let l : IsBetween (Some now) (Some now) c = rw all at left in
-      (more ++ l.0, l.1, grind (arith, append_assoc), l.3)
+  left_behind flushed since c left = grind (arith, append_assoc)
 
   part_of : (flushed : Option (List ℕ)) → FlushedSince before now flushed → (t : ℕ) (c : List ℕ)
       → SinkLeft flushed (Some now) t c → (t ≤ length c) × ((rest : List ℕ) × (now ≡ c ++ rest))
   part_of flushed since t c left = grind arith
 
   between : (c rest : List ℕ) → now ≡ c ++ rest → length before ≤ length c → IsBetween (Some before) (Some now) c
-  between c rest so le =
-      let begins = longer_begins before c more rest (sym is ∙ so) le in (begins.0, rest, begins.1, so)
+  between c rest so le = grind (arith, longer_begins)
 
   left_or_between : (t : ℕ) (c rest : List ℕ) → now ≡ c ++ rest → t ≤ length c
       → SinkLeft (Some before) (Some before) t c ⊎ IsBetween (Some before) (Some now) c
-  left_or_between t c rest so le = elim (cases_lt (length c) (length before)) [
-    | inl less ↦ inl (le, longer_begins c before rest more (sym so ∙ is) (omega (arith, less)))
-    | inr least ↦ inr (between c rest so least)
-  ]
+  left_or_between t c rest so le = grind (arith, cases_lt, longer_begins, between)
 
   counted : (flushed : Option (List ℕ)) → FlushedSince before now flushed → length before ≤ flushed_count flushed
   counted flushed since = grind (arith, length-append)

@@ -1,5 +1,5 @@
 -- What a desk shows and what a stop may leave of it, by hand, and what is near it and isn't so.
-use Rattle.std.proofs.Common.{◌≡◌, refl, subst, arith, ℕ, Bool, true, false, List, [], ◌∷◌, ◌++◌, Some, None, Ok, Err}
+use Rattle.std.proofs.Common.{refl, arith, ℕ, Bool, true, false, List, [], ◌∷◌, Some, None, Ok, Err}
 use Rattle.dali_trace.specs.declared.fault.DriveFault.TheVariants as faults
 use Rattle.dali_drive.specs.Desks.{Look, look_of, failures, Settled, EndsAs, LeavesSince, LeavesPut}
 use Rattle.dali_drive.specs.LentSinks.{SinkLeaves, SinkLeft}
@@ -85,11 +85,8 @@ abbrev journal_failed : Look
 journal_failed = desk_of (1 ∷ []) (1 ∷ 2 ∷ []) true
 
 pub all_settled : Settled all_flushed
-all_settled c (more, rest, front, whole) = by more rest front whole where
-  by : (more rest : List ℕ) → c ≡ 1 ∷ more → 1 ∷ [] ≡ c ++ rest → c ≡ 1 ∷ []
-  by [] rest front whole = front
-  by (a ∷ more) rest front whole =
-      let long : 1 ∷ [] ≡ (1 ∷ a ∷ more) ++ rest = subst (λ (b : List ℕ). 1 ∷ [] ≡ b ++ rest) front whole in absurd cc
+all_settled c ([], rest, front, whole) = front
+all_settled c (a ∷ more, rest, front, whole) = grind arith
 
 pub unflushed_isnt_settled : Settled one_unflushed → ⊥
 unflushed_isnt_settled settled = let lost = settled (1 ∷ []) ([], 2 ∷ [], refl, refl) in cc
@@ -133,6 +130,4 @@ abbrev cut_off : Look
 cut_off = desk_of [] (1 ∷ 2 ∷ []) false
 
 pub rest_isnt_cut_off : LeavesPut all_flushed cut_off → ⊥
-rest_isnt_cut_off left = by (left [] (all_settled, ([], 1 ∷ 2 ∷ [], refl, refl))) where
-  by : SinkLeaves (Some (1 ∷ [])) (Some (1 ∷ 2 ∷ [])) [] → ⊥
-  by (more, rest, front, whole) = cc
+rest_isnt_cut_off left = grind (arith, left [] (all_settled, ([], 1 ∷ 2 ∷ [], refl, refl)))

@@ -1,6 +1,6 @@
 -- A scan of two units by hand, and what is near it and isn't one.
 use Rattle.std.proofs.Common.{ap, ◌≡◌, ◌∙◌, inl, refl, sym, append_assoc, ℕ, zero, suc, List, [], ◌∷◌, ◌++◌, Some, None}
-use Rattle.std.proofs.Common.{codes, Option, true, is_some, get_or, take, drop, length, arith, ◌≤◌, append-nil}
+use Rattle.std.proofs.Common.{codes, Option, true, is_some, take, drop, length, arith, ◌≤◌, append-nil}
 use Rattle.std.proofs.Common.{take-append-drop}
 use Rattle.std.proofs.lemmas.Fmt.{decimal_digit}
 use Rattle.std.proofs.lemmas.List.{length-map}
@@ -160,11 +160,7 @@ two_heard : AreAnswers (as_sent (length_read ++ missed 8)) (lines_of 8 [] ++ cod
 two_heard = answers_both length_read (missed 8) (lines_of 8 []) _ (missed_heard 8 [] [] refl) length_heard
 
 pub two_surveyed : Surveyed IsScanReport two_units before_two_units after_two_units
-two_surveyed = record {
-  each = (found_scanned, (silent_scanned, tt));
-  link = record { heard = _; lines = two_heard; journal = tt; link = refl; answers = refl; out = tt };
-  out = refl;
-}
+two_surveyed = search (arith, found_scanned, silent_scanned, two_heard)
 
 -- of a small survey: what its reports are for, their exchanges and lines, and how many units answered
 pub two_units_are : (items_in two_units ≡ 1 ∷ 0 ∷ []) × (all_told two_units ≡ length_read ++ missed 8)
@@ -219,8 +215,7 @@ one_text = record { heard = _; lines = length_heard; journal = tt; link = refl; 
 
 pub one_reported : Reported IsScanReport 1 (λ report. true ≡ is_some report.outcome) before_one_unit
     (one_unit_and (codes "unit 1 last 77\n"))
-one_reported =
-    record { report = found_unit; item_is = refl; is = found_scanned; so = refl; link = one_text; out = refl }
+one_reported = search (arith, found_scanned, one_text)
 
 pub part_written : BreaksReport IsScanReport faults.Out 1 1 last_course before_one_unit (one_unit_and (codes "unit 1"))
 part_written =
@@ -228,10 +223,7 @@ part_written =
 
 no_part : (unit : ℕ) (outcome : Option (List ℕ)) (line rest : List ℕ) → unit ≡ 1 → TellsLast unit outcome line
     → codes "unit 2" ++ rest ≡ line → ⊥
-no_part unit None line rest one is e = let never = e ∙ is in cc
-no_part unit (Some bytes) line rest one (last, bytes_are, is) e =
-    let whole = rw (one, decimal_digit 1 (omega arith)) at (e ∙ is) in
-    let never : 50 ≡ 49 = ap (λ (l : List ℕ). get_or l 5 0) whole in omega (arith, never)
+no_part unit outcome line rest one tells e = grind (arith, decimal_digit)
 
 pub no_other_text : BreaksReport IsScanReport faults.Out 1 1 last_course before_one_unit (one_unit_and (codes "unit 2"))
     → ⊥
@@ -247,8 +239,7 @@ no_line_of_another_fault broke = let never : codes "unit 1" ≡ [] = broke.1 in 
 -- a whole scan
 
 pub all_asked : (units : ℕ) (first last : Streams) (scan : IsScan units first last) → length scan.reports ≡ 64
-all_asked units first last scan =
-    sym (length-map scan.reports (λ (r : Report ℕ). r.item)) ∙ ap (λ (l : List ℕ). length l) scan.all
+all_asked units first last scan = grind (arith, length-map)
 
 -- at most so many units as there are addresses
 answered_few : (reports : List (Report ℕ)) → answered reports ≤ length reports
@@ -266,9 +257,7 @@ below_length (suc address) = let below = below_length address in omega (arith, b
 
 pub all_below_asked : (fault : DriveFault) (first last : Streams) (broke : ScanBroke fault first last)
     → length broke.reports ≡ broke.next
-all_below_asked fault first last broke =
-    sym (length-map broke.reports (λ (r : Report ℕ). r.item)) ∙ ap (λ (l : List ℕ). length l) broke.asked
-    ∙ below_length broke.next
+all_below_asked fault first last broke = grind (arith, length-map, below_length)
 
 pub only_its_line_behind : (fault : DriveFault) (units : ℕ) (old new : Streams) → BreaksScan fault 64 units old new
     → fault ≡ faults.Out

@@ -1,6 +1,5 @@
 -- Two orders verified by hand, one frame that is broken off, and what is near them and isn't so.
-use Rattle.std.proofs.Common.{ap, ◌∙◌, inl, inr, refl, sym, ℕ, List, [], ◌∷◌, ◌++◌, Some, None, codes, true, false}
-use Rattle.std.proofs.Common.{length, arith}
+use Rattle.std.proofs.Common.{inl, inr, refl, sym, ℕ, [], ◌∷◌, ◌++◌, Some, None, codes, true, false, arith}
 use Rattle.std.proofs.lemmas.Fmt.{decimal_digit}
 use Rattle.dali_frame.specs.declared.forward.Frame.TheVariants.{Dtr1, AskDtr0}
 use Rattle.dali_read.specs.declared.finding.Finding.TheVariants.{Same, Other, Short}
@@ -36,8 +35,7 @@ same_found : IsFound near_order.updates (0x77 ∷ 0xA5 ∷ []) Same
 same_found = (0x77, omega arith, inl (0xA5 ∷ [], refl, omega arith, ([], refl)))
 
 other_found : IsFound near_order.updates (0x77 ∷ 0x5A ∷ []) (Other 0x03 0x5A)
-other_found =
-    (0x77, omega arith, inl (0x5A ∷ [], refl, omega arith, ([], 0xA5, [], [], refl, refl, λ e. omega (arith, e))))
+other_found = (0x77, omega arith, inl (_, refl, omega arith, ([], 0xA5, [], [], refl, refl, λ e. omega (arith, e))))
 
 pub same_told : IsOrderReport same_order
 same_told = (near_ends 0xA5, (Same, same_found, sym findings_are.0))
@@ -70,15 +68,11 @@ silent_is_not (bytes, is, found) = cc
 
 -- another byte isn't told as the same
 pub not_told_same : TellsOrder near_order (Some (0x77 ∷ 0x5A ∷ [])) (codes "order 7 unit 1 same\n") → ⊥
-not_told_same (Same, found, is) = not_other found
-not_told_same (_, found, is) =
-    let whole = rw (decimal_digit 7 (omega arith), decimal_digit 1 (omega arith)) at is in
-    let never = ap (λ (l : List ℕ). length l) whole in omega (arith, never)
+not_told_same tells = grind (arith, not_other, decimal_digit)
 
 -- nor a silent unit as a short one
 pub not_told_short : TellsOrder far_order None (codes "order 8 unit 0 short\n") → ⊥
-not_told_short is =
-    let never = ap (λ (l : List ℕ). length l) (is ∙ findings_are.4) in omega (arith, never)
+not_told_short is = grind (arith, findings_are)
 
 near_heard : AreAnswers (as_sent (byte_read 0xA5 ++ length_read))
     (codes "--\n01\n--\n00\n77\n01\n01\n--\n01\n--\n03\nA5\n04\n01\n")
@@ -87,19 +81,10 @@ near_heard =
     (codes "04\n") line_03 line_A5 line_04 length_heard
 
 near_verified : Surveyed IsOrderReport (same_order ∷ []) before_two_orders after_near_order
-near_verified = record {
-  each = (same_told, tt);
-  link = record { heard = _; lines = near_heard; journal = tt; link = refl; answers = refl; out = tt };
-  out = refl;
-}
+near_verified = search (arith, same_told, near_heard)
 
 pub one_verified : IsVerified (near_order ∷ []) true before_two_orders after_near_order
-one_verified = record {
-  reports = same_order ∷ [];
-  surveyed = near_verified;
-  all = refl;
-  same = (λ is. (is_same, tt), λ all. refl);
-}
+one_verified = grind (arith, same_order, near_verified, is_same)
 
 both_heard : AreAnswers (as_sent (missed 8 ++ byte_read 0xA5 ++ length_read))
     (lines_of 8 (codes "--\n01\n--\n00\n77\n01\n01\n--\n01\n--\n03\nA5\n04\n01\n"))

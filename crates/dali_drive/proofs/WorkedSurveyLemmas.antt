@@ -1,7 +1,6 @@
--- A scan of two units by hand, and what is near it and isn't one.
-use Rattle.std.proofs.Common.{ap, ◌≡◌, ◌∙◌, inl, refl, sym, append_assoc, ℕ, zero, suc, List, [], ◌∷◌, ◌++◌, Some, None}
-use Rattle.std.proofs.Common.{codes, Option, true, is_some, take, drop, length, arith, ◌≤◌, append-nil}
-use Rattle.std.proofs.Common.{take-append-drop}
+-- A scan of two units and two orders verified by hand, frames that are broken off, and what is near them and isn't so.
+use Rattle.std.proofs.Common.{◌≡◌, inl, refl, sym, append_assoc, ℕ, zero, suc, List, [], ◌∷◌, ◌++◌, Some, None, codes}
+use Rattle.std.proofs.Common.{true, is_some, take, length, arith, ◌≤◌, append-nil, take-append-drop, inr, false}
 use Rattle.std.proofs.lemmas.Fmt.{decimal_digit}
 use Rattle.std.proofs.lemmas.List.{length-map}
 use Rattle.dali_frame.specs.declared.forward.Frame.TheVariants.{Dtr0, Dtr1, AskDtr0, AskDtr1, Read}
@@ -11,7 +10,7 @@ use Rattle.dali_write.specs.declared.request.Wish.TheVariants.{Nothing, Exactly}
 use Rattle.dali_write.specs.Tries.{Misses}
 use Rattle.dali_read.specs.declared.finding.Finding.TheVariants.{Same, Other, Short, Format}
 use Rattle.dali_read.specs.Blocks.{Fits, block_requests, Succeeds, IsBlockRead}
-use Rattle.dali_read.specs.Places.{first_block, last_course}
+use Rattle.dali_read.specs.Places.{first_block, last_course, block, order_course}
 use Rattle.dali_read.specs.Readings.{Course, Ends, Done, IsRead, InTurn, bytes_in, told_in}
 use Rattle.dali_drive.specs.Lines.{IsAnswerLine, link_line}
 use Rattle.dali_drive.specs.Transcript.{Streams, AreAnswers, link_shown}
@@ -20,18 +19,23 @@ use Rattle.dali_drive.specs.SurveyLines.{last_line, units_line, bytes_line, sile
 use Rattle.dali_drive.specs.SurveyLines.{order_silent_line}
 use Rattle.dali_drive.specs.Surveys.{Report, Surveyed, IsScanReport, link_of, Reported, BreaksReport, TellsLast, IsScan}
 use Rattle.dali_drive.specs.Surveys.{BreaksScan, ScanBroke, items_in, all_told, lines_in, answered, addresses_below}
+use Rattle.dali_drive.specs.Surveys.{IsOrderReport, IsSame, TellsOrder, IsVerified, VerifyBroke}
 use Rattle.dali_drive.specs.WorkedSurveys.{missed, length_read, silent_unit, found_unit, two_units, before_two_units}
 use Rattle.dali_drive.specs.WorkedSurveys.{after_two_units, near_order, far_order, same_order, silent_order}
-use Rattle.dali_drive.specs.WorkedSurveys.{amid_third_unit, silent_unit_told, before_one_unit, one_unit_and}
+use Rattle.dali_drive.specs.WorkedSurveys.{amid_third_unit, silent_unit_told, before_one_unit, one_unit_and, byte_read}
+use Rattle.dali_drive.specs.WorkedSurveys.{other_order, short_order, before_two_orders, after_two_orders}
+use Rattle.dali_drive.specs.WorkedSurveys.{after_near_order, amid_far_order, before_frame, after_frame}
 use Rattle.dali_trace.specs.declared.fault.DriveFault.{DriveFault}
 use Rattle.dali_drive.specs.Driven.{BreaksFrame}
 use Rattle.dali_write.specs.Requests.{request}
 use Rattle.dali_drive.proofs.ReadingLemmas.{told_nothing, as_sent, answers_both, reading_breaks, block_breaks}
 use Rattle.dali_drive.proofs.ReadingLemmas.{try_breaks}
-use Rattle.dali_drive.proofs.WorkedDriveLemmas.{none_line, answer_line}
+use Rattle.dali_drive.proofs.WorkedDriveLemmas.{none_line, answer_line, is_short}
 use Rattle.dali_trace.specs.declared.fault.DriveFault.TheVariants as faults
 use Rattle.dali_frame.specs.declared.forward.Frame.{Frame}
 use Rattle.dali_read.specs.declared.block.Block.{Block}
+use Rattle.dali_read.specs.Findings.{IsFound}
+use Rattle.dali_trace.specs.declared.fault.DriveFault.TheVariants as faults
 
 -- The lines
 
@@ -108,34 +112,21 @@ pub first_fits : Fits first_block
 first_fits = omega arith
 
 pub silent_ends : (course : Course) → course [] ≡ Some first_block → Ends 0 course None (missed 8)
-silent_ends course next = record {
-  done = [];
-  in_turn = tt;
-  block = first_block;
-  fits = first_fits;
-  next = next;
-  missed = missed 8;
-  fails = all_missed 8;
-  told_are = refl;
-}
+silent_ends course next =
+    let fits = first_fits in let fails = all_missed 8 in
+    record { done = []; in_turn = tt; block = _; fits = fits; next = next; missed = _; fails = fails; told_are = refl }
 
 pub silent_scanned : IsScanReport silent_unit
 silent_scanned = (silent_ends last_course refl, refl)
 
 -- a block that was read at once, and a reading that came to its end
-pub at_once : {unit : ℕ} {block : Block} {bytes : List ℕ} {told : List Exchange} → IsBlockRead unit block bytes told
+at_once : {unit : ℕ} {block : Block} {bytes : List ℕ} {told : List Exchange} → IsBlockRead unit block bytes told
     → Succeeds unit block bytes told
-at_once {told = told} read = record {
-  tried = told;
-  missed = [];
-  misses = 0;
-  parts = sym (append-nil told);
-  read = read;
-  few = omega arith;
-  misses_are = refl;
-}
+at_once {told = told} read =
+    let same = sym (append-nil told) in
+    record { tried = told; missed = []; misses = 0; parts = same; read = read; few = omega arith; misses_are = refl }
 
-pub is_read : {unit : ℕ} {course : Course} (done : List Done) → InTurn unit course done → course (bytes_in done) ≡ None
+is_read : {unit : ℕ} {course : Course} (done : List Done) → InTurn unit course done → course (bytes_in done) ≡ None
     → IsRead unit course (bytes_in done) (told_in done)
 is_read done turn over = grind arith
 
@@ -146,13 +137,11 @@ length_told =
 abbrev pub first_done : Done
 first_done = record { block = first_block; bytes = 0x77 ∷ []; told = length_read }
 
-found_ends : Ends 1 last_course (Some (0x77 ∷ [])) length_read
-found_ends = is_read (first_done ∷ []) (tt, first_fits, refl, length_told) refl
-
 pub found_scanned : IsScanReport found_unit
-found_scanned = (found_ends, (0x77, refl, search (decimal_digit, arith)))
+found_scanned =
+    (is_read (first_done ∷ []) (tt, first_fits, refl, length_told) refl, (0x77, refl, search (decimal_digit, arith)))
 
-pub length_heard : AreAnswers (as_sent length_read) (codes "--\n01\n--\n00\n77\n01\n01\n")
+length_heard : AreAnswers (as_sent length_read) (codes "--\n01\n--\n00\n77\n01\n01\n")
 length_heard =
     read_heard [] 0x00 0x77 0x01 [] (codes "00\n") (codes "77\n") (codes "01\n") line_00 line_77 line_01 refl
 
@@ -184,29 +173,25 @@ not_two_bytes line (last, one, is) = cc
 -- where a reading is broken off in its first frame
 pub frame_broke : {fault : DriveFault} {old new : Streams} (unit : ℕ) (course : Course) → course [] ≡ Some first_block
     → BreaksFrame (Dtr1 1) fault old new → UnitReadBroke unit course fault old new
-frame_broke {fault} {old} {new} unit course next broken =
-    reading_breaks unit course [] old old new first_block fault
-    (record { done = []; in_turn = tt; bytes_are = refl; text = told_nothing old }) first_fits next
-    (block_breaks unit first_block 0 old old new fault
-    (record { told = []; misses_are = refl; text = told_nothing old }) (omega arith)
-    (try_breaks unit first_block [] 0 old old new (request (Dtr1 1) Nothing) fault
-    (record { told = []; try = refl; bytes_are = refl; text = told_nothing old }) refl broken))
+frame_broke {old = old} unit course next broken =
+    let text = told_nothing old in
+    reading_breaks unit course [] _ _ _ first_block _
+    (record { done = []; in_turn = tt; bytes_are = refl; text = text }) first_fits next
+    (block_breaks unit first_block 0 _ _ _ _ (record { told = []; misses_are = refl; text = text }) (omega arith)
+    (try_breaks unit first_block [] 0 _ _ _ (request (Dtr1 1) Nothing) _
+    (record { told = []; try = refl; bytes_are = refl; text = text }) refl broken))
 
 -- a frame's line is broken off behind so many bytes
-pub cut_frame : (frame : Frame) (count : ℕ) (old answers : List ℕ) → count ≤ 5 → BreaksFrame frame faults.Link
+cut_frame : (frame : Frame) (count : ℕ) (old answers : List ℕ) → count ≤ 5 → BreaksFrame frame faults.Link
     (link_shown (Some old) (Some answers)) (link_shown (Some (old ++ take count (link_line frame))) (Some answers))
 cut_frame frame count old answers few = grind arith
 
 -- the third unit is broken off in its first frame
+third_cut : BreaksScan faults.Link 2 1 after_two_units amid_third_unit
+third_cut = inl (omega arith, (frame_broke 2 last_course refl (cut_frame (Dtr1 1) 2 _ _ (omega arith)), refl))
+
 pub third_broke : ScanBroke faults.Link before_two_units amid_third_unit
-third_broke = record {
-  reports = two_units;
-  next = 2;
-  asked = refl;
-  middle = after_two_units;
-  surveyed = two_surveyed;
-  broke = inl (omega arith, (frame_broke 2 last_course refl (cut_frame (Dtr1 1) 2 _ _ (omega arith)), refl));
-}
+third_broke = search (arith, two_surveyed, third_cut)
 
 -- One unit, and its line whole or in part
 
@@ -218,18 +203,11 @@ pub one_reported : Reported IsScanReport 1 (λ report. true ≡ is_some report.o
 one_reported = search (arith, found_scanned, one_text)
 
 pub part_written : BreaksReport IsScanReport faults.Out 1 1 last_course before_one_unit (one_unit_and (codes "unit 1"))
-part_written =
-    (found_unit, refl, found_scanned, one_text, record { count = 6; within = omega arith; part = refl })
-
-no_part : (unit : ℕ) (outcome : Option (List ℕ)) (line rest : List ℕ) → unit ≡ 1 → TellsLast unit outcome line
-    → codes "unit 2" ++ rest ≡ line → ⊥
-no_part unit outcome line rest one tells e = grind (arith, decimal_digit)
+part_written = (found_unit, refl, found_scanned, one_text, record { count = 6; within = omega arith; part = refl })
 
 pub no_other_text : BreaksReport IsScanReport faults.Out 1 1 last_course before_one_unit (one_unit_and (codes "unit 2"))
     → ⊥
-no_other_text (report, same, (ends, tells), text, part) =
-    no_part report.item report.outcome report.line (drop part.count report.line) same tells
-    (ap (λ (l : List ℕ). l ++ drop part.count report.line) part.part ∙ take-append-drop part.count report.line)
+no_other_text broke = grind (arith, decimal_digit, take-append-drop broke.4.count broke.0.line)
 
 -- another fault than Out leaves no part of a line
 pub no_line_of_another_fault : BreaksReport IsScanReport faults.End 1 1 last_course before_one_unit
@@ -247,8 +225,7 @@ answered_few [] = omega arith
 answered_few (report ∷ reports) = let few = answered_few reports in grind arith
 
 pub at_most_all : (units : ℕ) (first last : Streams) → IsScan units first last → units ≤ 64
-at_most_all units first last scan =
-    omega (arith, answered_few scan.reports, all_asked units first last scan, scan.units_are)
+at_most_all units first last scan = omega (arith, answered_few scan.reports, all_asked _ _ _ scan, scan.units_are)
 
 -- a scan that is broken off has a report of each address below
 below_length : (address : ℕ) → length (addresses_below address) ≡ address
@@ -265,3 +242,107 @@ only_its_line_behind fault units old new broke = grind arith
 
 pub nothing_past_it : (fault : DriveFault) (units : ℕ) (old new : Streams) → BreaksScan fault 65 units old new → ⊥
 nothing_past_it fault units old new broke = grind arith
+
+-- Two orders: the unit of the first one has its byte, and that of the second is silent
+
+byte_told : (byte : ℕ) → Succeeds 1 (block 0x03 1) (byte ∷ []) (byte_read byte)
+byte_told byte =
+    at_once ((_, search, (_, search, (_, search, (_, search, (_, search, (_, search, (_, search, refl))))))), refl)
+
+near_ends : (byte : ℕ)
+    → Ends 1 (order_course near_order.updates) (Some (0x77 ∷ byte ∷ [])) (byte_read byte ++ length_read)
+near_ends byte = is_read (record { block = block 0x03 1; bytes = byte ∷ []; told = byte_read byte } ∷ first_done ∷ [])
+    ((tt, first_fits, refl, length_told), omega arith, refl, byte_told byte) refl
+
+same_found : IsFound near_order.updates (0x77 ∷ 0xA5 ∷ []) Same
+same_found = (0x77, omega arith, inl (0xA5 ∷ [], refl, omega arith, ([], refl)))
+
+other_found : IsFound near_order.updates (0x77 ∷ 0x5A ∷ []) (Other 0x03 0x5A)
+other_found = (0x77, omega arith, inl (_, refl, omega arith, ([], 0xA5, [], [], refl, refl, λ e. omega (arith, e))))
+
+pub same_told : IsOrderReport same_order
+same_told = (near_ends 0xA5, (Same, same_found, sym findings_are.0))
+
+pub other_told : IsOrderReport other_order
+other_told = (near_ends 0x5A, (Other 0x03 0x5A, other_found, search (decimal_digit, arith)))
+
+pub short_told : TellsOrder near_order (Some (0x02 ∷ [])) (codes "order 7 unit 1 short\n")
+short_told = (Short, (0x02, [], refl, omega arith), sym findings_are.2)
+
+pub silent_told : IsOrderReport silent_order
+silent_told = (silent_ends (order_course far_order.updates) refl, sym findings_are.4)
+
+-- which of them are the same
+
+pub is_same : IsSame same_order
+is_same = (0x77 ∷ 0xA5 ∷ [], refl, same_found)
+
+pub not_other : IsFound near_order.updates (0x77 ∷ 0x5A ∷ []) Same → ⊥
+not_other found = grind arith
+
+pub other_is_not : IsSame other_order → ⊥
+other_is_not same = grind arith
+
+pub short_is_not : IsSame short_order → ⊥
+short_is_not same = grind arith
+
+pub silent_is_not : IsSame silent_order → ⊥
+silent_is_not (bytes, is, found) = cc
+
+-- another byte isn't told as the same
+pub not_told_same : TellsOrder near_order (Some (0x77 ∷ 0x5A ∷ [])) (codes "order 7 unit 1 same\n") → ⊥
+not_told_same tells = grind (arith, not_other, decimal_digit)
+
+-- nor a silent unit as a short one
+pub not_told_short : TellsOrder far_order None (codes "order 8 unit 0 short\n") → ⊥
+not_told_short is = grind (arith, findings_are)
+
+near_heard : AreAnswers (as_sent (byte_read 0xA5 ++ length_read))
+    (codes "--\n01\n--\n00\n77\n01\n01\n--\n01\n--\n03\nA5\n04\n01\n")
+near_heard =
+    read_heard length_read 0x03 0xA5 0x04 (codes "--\n01\n--\n00\n77\n01\n01\n") (codes "03\n") (codes "A5\n")
+    (codes "04\n") line_03 line_A5 line_04 length_heard
+
+near_verified : Surveyed IsOrderReport (same_order ∷ []) before_two_orders after_near_order
+near_verified = search (arith, same_told, near_heard)
+
+pub one_verified : IsVerified (near_order ∷ []) true before_two_orders after_near_order
+one_verified = grind (arith, same_order, near_verified, is_same)
+
+both_heard : AreAnswers (as_sent (missed 8 ++ byte_read 0xA5 ++ length_read))
+    (lines_of 8 (codes "--\n01\n--\n00\n77\n01\n01\n--\n01\n--\n03\nA5\n04\n01\n"))
+both_heard = missed_heard 8 (byte_read 0xA5 ++ length_read) _ near_heard
+
+both_verified : Surveyed IsOrderReport (silent_order ∷ same_order ∷ []) before_two_orders after_two_orders
+both_verified = search (arith, silent_told, same_told, both_heard)
+
+pub two_verified : IsVerified (near_order ∷ far_order ∷ []) false before_two_orders after_two_orders
+two_verified = grind (arith, silent_order, same_order, both_verified, silent_is_not)
+
+far_cut : BreaksReport IsOrderReport faults.Link far_order 0 (order_course far_order.updates) after_near_order
+    amid_far_order
+far_cut = (frame_broke 0 (order_course far_order.updates) refl (cut_frame (Dtr1 1) 2 _ _ (omega arith)), refl)
+
+pub far_broke : VerifyBroke (near_order ∷ far_order ∷ []) faults.Link before_two_orders amid_far_order
+far_broke = search (arith, near_verified, far_cut)
+
+-- One frame that is broken off
+
+pub cut_line_is_link : BreaksFrame (AskDtr0 5) faults.Link (before_frame []) (after_frame (codes "0B9"))
+cut_line_is_link = cut_frame (AskDtr0 5) 3 _ _ (omega arith)
+
+pub half_answer_is_link : BreaksFrame (AskDtr0 5) faults.Link (before_frame (codes "0")) (after_frame (codes "0B98\n"))
+half_answer_is_link =
+    inr (record { journal = tt; link = refl; answers = (codes "0", is_short _ (omega arith), refl); out = tt })
+
+pub no_answer_is_end : BreaksFrame (AskDtr0 5) faults.End (before_frame []) (after_frame (codes "0B98\n"))
+no_answer_is_end = grind arith
+
+pub cut_line_is_no_end : BreaksFrame (AskDtr0 5) faults.End (before_frame []) (after_frame (codes "0B9")) → ⊥
+cut_line_is_no_end broke = grind arith
+
+pub other_line_is_no_end : BreaksFrame (AskDtr0 5) faults.End (before_frame []) (after_frame (codes "0B9C\n")) → ⊥
+other_line_is_no_end broke = grind arith
+
+pub out_breaks_no_frame : (old new : Streams) → BreaksFrame (AskDtr0 5) faults.Out old new → ⊥
+out_breaks_no_frame old new broke = broke.answers

@@ -86,8 +86,12 @@ bytes_few : (requests : List Request) (told : List Exchange) (left : List Reques
     → length (bytes_of told) + reads_in left ≤ reads_in requests
 bytes_few requests [] left try = rw try (omega arith)
 bytes_few requests (x ∷ told) left try =
-    omega (arith, bytes_few requests told (request x.frame try.0 ∷ left) try.2, answer_few x.frame x.answer,
-    length-append (bytes_of told) (read_answer x.frame x.answer))
+    omega (
+      arith,
+      bytes_few requests told (request x.frame try.0 ∷ left) try.2,
+      answer_few x.frame x.answer,
+      length-append (bytes_of told) (read_answer x.frame x.answer),
+    )
 
 reads_both : (one two : List Request) → reads_in (one ++ two) ≡ reads_in one + reads_in two
 reads_both [] two = omega arith
@@ -143,9 +147,15 @@ module _ (unit : ℕ) (block : Block) where
       → Fits block → TriedTo unit block bytes number first mid → slice_get requests number ≡ Some next
       → length bytes + length (read_answer next.frame answer) ≤ 16
   try_has_room bytes number first mid next answer fits t is =
-      omega (arith, bytes_few requests t.told _ (at_hand number t.told next is t.try), answer_few next.frame answer,
-      reads_both (reads unit block.count) (asking_back unit block), reads_count unit block.count,
-      ap (λ (l : List ℕ). length l) t.bytes_are, fits.few)
+      omega (
+        arith,
+        bytes_few requests t.told _ (at_hand number t.told next is t.try),
+        answer_few next.frame answer,
+        reads_both (reads unit block.count) (asking_back unit block),
+        reads_count unit block.count,
+        ap (λ (l : List ℕ). length l) t.bytes_are,
+        fits.few,
+      )
 
   -- no number of a request is higher
   pub few_requests : (number : ℕ) (next : Request) → Fits block → slice_get requests number ≡ Some next

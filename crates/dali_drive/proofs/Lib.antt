@@ -19,6 +19,5 @@ pub mod WorkedSittingLemmas
 pub mod ReadingLemmas
 pub mod SurveyLemmas
 pub mod WorkedSurveyLemmas
-pub mod WorkedVerifyLemmas
 pub mod WorkedBehindLemmas
 pub mod WorkedDeskLemmas

@@ -23,61 +23,30 @@ use Rattle.dali_link_commands.specs.Told.{IsFaultTold, IsFileFaultTold}
 
 module _ {G N : Type 0} (gave : G → G → List Given → Type 0) (contents : N → Option (List ℕ))
     (older : Option JournalState) (before after : Report N) (orders left : G) (first last : Look)
-    (replies : Option (List ℕ)) (lost : Bool)
-    (fault : BehindFault) (status : Status)
+    (replies : Option (List ℕ)) (lost : Bool) (fault : BehindFault) (status : Status)
     (ends : EndsBehind gave (IsTold contents) (IsToldEnd contents) older order_limit journal_limit orders fault first
     before left (with_lines last replies lost) after)
     (shows : BehindShows fault (with_lines last replies lost).failed) where
-  abbrev Ends : BehindFault → Type 0
-  Ends why = EndsBehind gave (IsTold contents) (IsToldEnd contents) older order_limit journal_limit orders why first
-      before left (with_lines last replies lost) after × BehindShows why (with_lines last replies lost).failed
-
   -- the journal wasn't opened, and its fault was told
   pub behind_unopened : (why : OpenFault) → fault ≡ behind.Open why
       → IsFileFaultTold (fault_unopened why) status replies last.streams.out
       → BreaksBehind gave contents older before after orders left first status last
   behind_unopened why is told =
-      let end = subst Ends is (ends, shows) in
-      inl (record {
-        fault = why;
-        replies = replies;
-        lost = lost;
-        unopened = end.0.0;
-        failed = end.1;
-        told = told;
-        unread = end.0.1;
-        unreported = end.0.2;
-      })
+      let ended = rw is at ends in let failed = rw is at shows in inl (search)
 
   -- it is none with the older one, which was told
   pub behind_unjoined : (why : JoinFault) → fault ≡ behind.Join why
       → IsFileFaultTold (fault_unjoined why) status replies last.streams.out
       → BreaksBehind gave contents older before after orders left first status last
   behind_unjoined why is told =
-      let end = subst Ends is (ends, shows) in
-      inr (inl (record {
-        fault = why;
-        replies = replies;
-        lost = lost;
-        unjoined = end.0;
-        unfailed = end.1;
-        told = told;
-      }))
+      let ended = rw is at ends in let failed = rw is at shows in inr (inl (search))
 
   -- it broke off, and its fault was told
   pub behind_broken : (why : DriveFault) → fault ≡ behind.Drive why
       → IsFaultTold why status replies last.streams.out
       → BreaksBehind gave contents older before after orders left first status last
   behind_broken why is told =
-      let end = subst Ends is (ends, shows) in
-      inr (inr (record {
-        fault = why;
-        replies = replies;
-        lost = lost;
-        broken = end.0;
-        failed = end.1;
-        told = told;
-      }))
+      let ended = rw is at ends in let failed = rw is at shows in inr (inr (search))
 
 -- records behind others that are at rest stand as they do by themselves
 pub standing_behind : (own older : List Record) → standing_of older ≡ Idle

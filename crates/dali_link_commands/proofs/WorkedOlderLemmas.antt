@@ -1,5 +1,5 @@
 -- Two journals that are one, in the order in which they are named, and what is near that and is not so.
-use Rattle.std.proofs.Common.{◌≡◌, refl, ℕ, List, [], ◌∷◌, ◌++◌, Some, None, inl, inr, true, false}
+use Rattle.std.proofs.Common.{◌≡◌, refl, ℕ, List, [], ◌∷◌, ◌++◌, Some, None, inl, inr, true, false, arith}
 use Rattle.dali_bank.specs.Order.{Contents}
 use Rattle.dali_journal.specs.declared.behind.JoinFault.TheVariants.{Repeated}
 use Rattle.dali_journal.specs.declared.record.Code.TheVariants.{Done, Silent}
@@ -7,13 +7,12 @@ use Rattle.dali_journal.specs.declared.record.Record.{Record}
 use Rattle.dali_journal.specs.declared.record.Record.TheVariants.{Began, Ended}
 use Rattle.dali_journal.specs.declared.version.Version.{Version}
 use Rattle.dali_journal.specs.JournalState.{JournalState}
-use Rattle.dali_input.specs.declared.fault.InputFault.TheVariants.{Json, Document, TooBig, Hex, Memory, File}
+use Rattle.dali_input.specs.declared.fault.InputFault.TheVariants.{File}
 use Rattle.dali_input.specs.Input.{InputState, ReadsAtMost, ReadsInput}
 use Rattle.dali_faults.specs.declared.fault.Fault.TheVariants.{Input}
 use Rattle.dali_faults.specs.JournalInput.{IsJournalIn, journal_limit}
 use Rattle.dali_link_commands.specs.declared.older.OlderFault.TheVariants.{Unloaded, Join}
-use Rattle.dali_link_commands.specs.Older.{AreOne, AreReadAtRest, IsFirstUnusable, IsReadAtRest}
-use Rattle.dali_link_commands.specs.Older.{IsUnusable}
+use Rattle.dali_link_commands.specs.Older.{AreOne, AreReadAtRest, IsFirstUnusable, IsReadAtRest, IsUnusable}
 
 -- orders 1 and 2, and the journals of each, which are at rest; one of order 1 that is at work
 abbrev order : ℕ → Contents
@@ -91,8 +90,7 @@ number_of_the_first before after other later other_after bytes counted version r
 
 pub no_number_that_the_first_lacks : (before after : InputState)
     → IsUnusable (Some first) before after (Join (Repeated 2)) → ⊥
-no_number_that_the_first_lacks before after (inl (failure, is, failed)) = cc
-no_number_that_the_first_lacks before after (inr (bytes, read, why)) = let begun = why.1.1 in cc
+no_number_that_the_first_lacks before after unusable = grind arith
 
 -- a reading that has failed is told as that, where the input knows that it has
 pub failed_to_read : (left left_then : InputState) → left_then.failed ≡ true
@@ -101,10 +99,6 @@ failed_to_read left left_then failed = inl (File, refl, failed)
 
 pub not_failed_to_read : (before after : InputState) → after.failed ≡ false
     → IsUnusable None before after (Unloaded (Input File)) → ⊥
-not_failed_to_read before after unfailed (inl (Memory, is, failed)) = cc
 not_failed_to_read before after unfailed (inl (File, is, failed)) = cc
-not_failed_to_read before after unfailed (inl (Json, is, never)) = never
-not_failed_to_read before after unfailed (inl (Document, is, never)) = never
-not_failed_to_read before after unfailed (inl (TooBig, is, never)) = never
-not_failed_to_read before after unfailed (inl (Hex, is, never)) = never
+not_failed_to_read before after unfailed (inl (_, is, failed)) = cc
 not_failed_to_read before after unfailed (inr (bytes, read, never)) = never

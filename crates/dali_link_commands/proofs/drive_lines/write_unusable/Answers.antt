@@ -1,12 +1,8 @@
-use Rattle.std.proofs.Common.{refl, codes}
-use Rattle.dali_text.specs.Output.{held}
-use Rattle.dali_input.specs.declared.fault.InputFault.TheVariants.{File}
-use Rattle.dali_faults.specs.declared.fault.Fault.TheVariants.{Input}
-use Rattle.dali_link_commands.proofs.WordsLemmas.{known_plain, told_worded}
+use Rattle.std.proofs.Common.{codes, arith}
+use Rattle.std.proofs.lemmas.Result.{IfOk-weaker}
 use Rattle.dali_link_commands.proofs.drive_lines.write_unusable.Goals as goal
 
 pub returns-in-None-plain_words-clause-told : goal.returns-in-None-plain_words-clause-told
 returns-in-None-plain_words-clause-told g c =
-    told_worded c.write_worded-in-None-plain_words.result (Input File) (codes "the file can't be used")
-    (held g.W.Write.contents c.args.output.now) (held g.W.Write.contents c.write_worded-in-None-plain_words.new.output)
-    (known_plain (codes "the file can't be used") refl) c.write_worded-in-None-plain_words.ensures.told
+    IfOk-weaker _ _ _ (λ _ told. (told.0, (codes "the file can't be used", omega arith, told.1)))
+    c.write_worded-in-None-plain_words.ensures.told

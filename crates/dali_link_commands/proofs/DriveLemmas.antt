@@ -60,7 +60,7 @@ worded_is fault words text (inl journal) plain is = rw journal (words, plain, rw
 worded_is fault words text (inr link) plain is = rw link (words, plain, rw link at is)
 
 -- a fault other than that of the replies is told by its text, or by a first part of it
-told_so : (fault : DriveFault) (status : Status) (before after : Option (List ℕ)) (text : List ℕ)
+pub told_so : (fault : DriveFault) (status : Status) (before after : Option (List ℕ)) (text : List ℕ)
     → is_out fault ≡ false → IsFaultText fault text
     → (((status ≡ status_of (Drive fault)) × Appends before after text)
     ⊎ ((status ≡ Unwritten) × PutsFirst before after text))
@@ -68,24 +68,11 @@ told_so : (fault : DriveFault) (status : Status) (before after : Option (List �
 told_so drives.Out status before after text other is told = cc
 told_so _ status before after text other is told = (text, is, told)
 
-pub cut_short : (fault : DriveFault) (before after : Option (List ℕ)) (bytes text : List ℕ) → is_out fault ≡ false
-    → IsFaultText fault text → bytes ≡ text → PutsFirst before after bytes → IsFaultTold fault Unwritten before after
-cut_short fault before after bytes text other line is part =
-    told_so fault Unwritten before after text other line (inr (refl, rw is at part))
-
-pub unflushed : (fault : DriveFault) (before mid after : Option (List ℕ)) (bytes text : List ℕ)
-    → is_out fault ≡ false → IsFaultText fault text → bytes ≡ text → Appends before mid bytes → Keeps mid after
-    → IsFaultTold fault Unwritten before after
-unflushed fault before mid after bytes text other line is whole kept =
-    cut_short fault before after bytes text other line is
+-- it was written whole, and then nothing
+pub puts_all : (before mid after : Option (List ℕ)) (bytes : List ℕ) → Appends before mid bytes → Keeps mid after
+    → PutsFirst before after bytes
+puts_all before mid after bytes whole kept =
     (length bytes, omega arith, rw take-length (appends_kept before mid after bytes whole kept))
-
-pub flushed : (fault : DriveFault) (status : Status) (before mid after : Option (List ℕ)) (bytes text : List ℕ)
-    → is_out fault ≡ false → IsFaultText fault text → bytes ≡ text → status ≡ status_of (Drive fault)
-    → Appends before mid bytes → Keeps mid after → IsFaultTold fault status before after
-flushed fault status before mid after bytes text other line is so whole kept =
-    told_so fault status before after text other line
-    (inl (so, rw is at (appends_kept before mid after bytes whole kept)))
 
 -- its status is that of a fault that was told
 pub not_unwritten : {A : Type 0} (fault : DriveFault) (status : Status) → is_out fault ≡ false
@@ -111,4 +98,4 @@ file_answered answers unreported before after first status last (inr (fault, fai
 -- the line by another name
 pub line_told : (good status : Status) (before after : Option (List ℕ)) (one two : List ℕ) → one ≡ two
     → TellsLine one good status before after → TellsLine two good status before after
-line_told good status before after one two same told = rw same at told
+line_told _ status before after one two same told = rw same at told

@@ -6,7 +6,7 @@ use Rattle.dali_faults.specs.declared.fault.Status.{Status}
 use Rattle.std.specs.declared.fs.File.{File}
 use Rattle.dali_drive.specs.Desks.{Look}
 use Rattle.dali_link_commands.specs.Benches.{with_lines}
-use Rattle.dali_link_commands.specs.LinkCommands.{EndsReported, IsReported, is_lost}
+use Rattle.dali_link_commands.specs.LinkCommands.{EndsReported, IsFresh, IsReported, is_lost}
 
 -- a report that was wanted was opened where it has an output
 lost_by_output : {N : Type 0} (wanted opened : Bool) (before after : Report N)
@@ -21,13 +21,6 @@ pub reported : (wanted opened : Bool) (answers : Report File → Report File →
     → answers before after first ended (with_lines last lines failed)
     → EndsReported (is_lost wanted opened after) ended status lines last.streams.out
     → IsReported wanted answers first status last
-reported wanted opened answers first last before after ended status lines failed good output answered told = record {
-  before = before;
-  after = after;
-  ended = ended;
-  lines = lines;
-  failed = failed;
-  fresh = record { unfailed = good; only_wanted = λ none. cc };
-  answered = answered;
-  reported = rw (lost_by_output wanted opened before after output) at told;
-}
+reported wanted opened answers first last before after ended status lines failed good output answered told =
+    let fresh : IsFresh wanted before = record { unfailed = good; only_wanted = λ none. cc } in
+    let ends = rw (lost_by_output wanted opened before after output) at told in search

@@ -1,8 +1,9 @@
 -- Lemmas on words that stand on one line.
 use Rattle.std.proofs.Common.{◌≡◌, ℕ, zero, suc, ◌/◌, ◌%◌, List, [], ◌∷◌, ◌++◌, codes, arith, Option, Result, IfOk}
+use Rattle.std.proofs.Common.{OnOk, ◌==◌, false, true}
 use Rattle.std.proofs.lemmas.Bool.{cond_both}
 use Rattle.std.proofs.lemmas.Bool.Decides.{nat_tests}
-use Rattle.std.proofs.lemmas.Result.{IfOk-weaker}
+use Rattle.std.proofs.lemmas.Result.{IfOk-weaker, on_ok_weaker}
 use Rattle.std.specs.Fmt.{digits, digits_onto, digit_glyph}
 use Rattle.std.specs.Io.KnownBytes.{Appends}
 use Rattle.std.specs.List.{flat_map}
@@ -21,9 +22,10 @@ plain_append (x ∷ xs) ys first second = (first.0, plain_append xs ys first.1 s
 plain_digits : (k n : ℕ) (acc : List ℕ) → IsPlain acc → IsPlain (digits_onto k 16 false n acc)
 plain_digits zero n acc plain = plain
 plain_digits (suc k) n acc plain =
-    let glyph : IsTextByte (digit_glyph false (n % 16)) =
-    cond_both _ _ _ IsTextByte (λ _. omega arith) (λ _. omega arith) in
-    cond_both _ _ _ IsPlain (λ _. (glyph, plain)) (λ _. plain_digits k (n / 16) (_ ∷ acc) (glyph, plain))
+    let longer : List ℕ = digit_glyph false (n % 16) ∷ acc in
+    let more : IsPlain longer = (grind (arith, nat_tests), plain) in
+    cond_both (n / 16 == 0) longer (digits_onto k 16 false (n / 16) longer) IsPlain (λ _. more)
+    (λ _. plain_digits k (n / 16) longer more)
 
 plain_letter : (x : ℕ) → is_plain x ≡ true → IsTextByte x
 plain_letter x is = grind (arith, nat_tests)
@@ -31,8 +33,9 @@ plain_letter x is = grind (arith, nat_tests)
 plain_one : (x : ℕ) → IsPlain (shown_letter x)
 unfolding digits
 plain_one x =
-    cond_both _ _ _ IsPlain (λ is. (plain_letter x is, tt))
-    (λ _. plain_append (codes "\\u{" ++ digits 16 false x) (codes "}")
+    let number : List ℕ = codes "\\u{" ++ digits 16 false x in
+    cond_both (is_plain x) (x ∷ []) (number ++ codes "}") IsPlain (λ is. (plain_letter x is, tt))
+    (λ _. plain_append number (codes "}")
     (plain_append (codes "\\u{") (digits 16 false x) (omega arith) (plain_digits 64 x [] tt)) (omega arith))
 
 pub plain_shown : (letters : List ℕ) → IsPlain (flat_map shown_letter letters)
@@ -46,3 +49,9 @@ pub told_worded : (result : Result Status OutputFailed) (fault : Fault) (words :
     → IfOk result (λ status. (status ≡ status_of fault) × TellsWorded fault before after)
 told_worded result fault words before after plain told =
     IfOk-weaker result _ _ (λ status it. (it.0, (words, plain, it.1))) told
+
+-- or nothing behind them
+pub told_plain : {A E : Type 0} → (result : Result A E) (words : List ℕ) (before after : Option (List ℕ))
+    → IsPlain words → OnOk result (Appends before after (error_line words))
+    → OnOk result ((words : List ℕ) × IsPlain words × Appends before after (error_line words))
+told_plain result words before after plain told = on_ok_weaker result (λ it. (words, plain, it)) told

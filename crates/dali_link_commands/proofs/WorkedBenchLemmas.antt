@@ -1,5 +1,6 @@
 -- What there is of a desk, by hand: its lines, what was left alone, and how it ends where its lines have failed.
-use Rattle.std.proofs.Common.{◌≡◌, refl, true, false, ℕ, List, [], ◌∷◌, Option, Some, codes}
+use Rattle.std.proofs.Common.{◌≡◌, refl, ap, true, false, ℕ, List, [], ◌∷◌, Option, Some, codes}
+use Rattle.std.specs.Prelude.{⊤}
 use Rattle.dali_faults.specs.declared.fault.Status.TheVariants.{Good, Unwritten}
 use Rattle.dali_drive.specs.Desks.{Failures, Look, failures, look_of}
 use Rattle.dali_drive.specs.Transcript.{shown}
@@ -66,13 +67,13 @@ abbrev journal_failed : Look
 journal_failed = desk_of (1 ∷ []) [] (codes "--\n") [] (failures true false false false) one_byte
 
 pub failed_is_driven : IsUndriven before journal_failed → ⊥
-failed_is_driven undriven = cc
+failed_is_driven undriven = cc (ap (λ (failed : Failures). failed.journal) undriven.failed)
 
 abbrev link_failed : Look
 link_failed = desk_of (1 ∷ []) [] (codes "--\n") [] (failures false true false false) one_byte
 
 pub failed_link_is_driven : IsUndriven before link_failed → ⊥
-failed_link_is_driven undriven = cc
+failed_link_is_driven undriven = cc (ap (λ (failed : Failures). failed.link_out) undriven.failed)
 
 -- a stop may leave less than before
 abbrev pub unsettled : Look

@@ -1,5 +1,5 @@
 -- What is left where a drive isn't begun or breaks off, and where it comes to its end; and what is near that.
-use Rattle.std.proofs.Common.{◌≡◌, sym, Bool, true, false, ℕ, List, [], ◌∷◌, Option, Some, codes}
+use Rattle.std.proofs.Common.{◌≡◌, sym, ap, Bool, true, false, ℕ, List, [], ◌∷◌, Option, Some, codes}
 use Rattle.dali_bank.specs.Order.{Contents}
 use Rattle.dali_journal.specs.JournalState.{JournalState}
 use Rattle.dali_store.specs.declared.opening.OpenFault.TheVariants as unopened
@@ -7,6 +7,7 @@ use Rattle.dali_store.specs.declared.store.StoreFault.TheVariants as stores
 use Rattle.dali_trace.specs.declared.fault.DriveFault.TheVariants as faults
 use Rattle.dali_drive.specs.declared.following.Given.{Given}
 use Rattle.dali_drive.specs.Desks.{Look}
+use Rattle.dali_drive.specs.Transcript.{Streams}
 use Rattle.dali_follow.specs.declared.order_lines.OrderLines.{OrderLines}
 use Rattle.dali_report.specs.declared.report.Report.{Report}
 use Rattle.dali_faults.specs.declared.fault.Status.{Status}
@@ -38,11 +39,11 @@ module _ {G N : Type 0} (gave : G → G → List Given → Type 0) (contents : N
 
   pub unjoined_and_sent : UnjoinedBehind gave contents older before after orders left first status last
       → first.streams.link ≡ Some [] → last.streams.link ≡ Some (codes "C301\n") → ⊥
-  unjoined_and_sent u none sent = cc
+  unjoined_and_sent u none sent = cc (ap (λ (s : Streams). s.link) u.unjoined.streams)
 
   pub unjoined_and_heard : UnjoinedBehind gave contents older before after orders left first status last
       → first.streams.answers ≡ Some (codes "--\n") → last.streams.answers ≡ Some [] → ⊥
-  unjoined_and_heard u line heard = cc
+  unjoined_and_heard u line heard = cc (ap (λ (s : Streams). s.answers) u.unjoined.streams)
 
   pub unjoined_and_given : UnjoinedBehind gave contents older before after orders left first status last
       → (left ≡ orders → ⊥) → ⊥

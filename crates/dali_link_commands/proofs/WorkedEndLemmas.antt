@@ -1,5 +1,5 @@
 -- How a drive's fault is told: one of the replies' stream by its status alone, with nothing written behind them.
-use Rattle.std.proofs.Common.{refl, inl, inr, ℕ, zero, suc, List, [], ◌++◌, Option, Some, codes, arith}
+use Rattle.std.proofs.Common.{◌≡◌, refl, inl, inr, ap, ℕ, zero, suc, List, [], ◌++◌, Option, Some, codes, get_or, arith}
 use Rattle.dali_trace.specs.declared.fault.DriveFault.TheVariants as faults
 use Rattle.dali_faults.specs.declared.fault.Status.TheVariants.{Good, Refused, Failed, Unwritten}
 use Rattle.dali_input.specs.declared.fault.InputFault.TheVariants.{File, TooBig}
@@ -27,7 +27,8 @@ told_in_part = (told_line (Drive faults.End), refl, inr (refl, (12, omega arith,
 pub nothing_else_in_part : IsFaultTold faults.End Unwritten (Some []) (Some (codes "{}")) → ⊥
 nothing_else_in_part (text, line, inl told) = cc
 nothing_else_in_part (text, line, inr (is, (zero, within, part))) = cc
-nothing_else_in_part (text, line, inr (is, (suc k, within, part))) = let first = rw line at part in cc
+nothing_else_in_part (text, line, inr (is, (suc k, within, part))) =
+    let first : 123 ≡ 100 = ap (λ (text : List ℕ). get_or text 0 0) (rw line at part) in omega (arith, first)
 
 pub not_in_part_and_refused : IsFaultTold faults.End Refused (Some []) (Some []) → ⊥
 not_in_part_and_refused (text, line, inl told) = let none = rw line at told.1 in cc
@@ -38,20 +39,20 @@ pub link_told_with_words : IsFaultText faults.Link (error_line (codes "x") ++ to
 link_told_with_words = (codes "x", omega arith, refl)
 
 pub link_not_without_words : IsFaultText faults.Link (told_line (Drive faults.Link)) → ⊥
-link_not_without_words (words, plain, told) = cc
+link_not_without_words (words, plain, told) = omega (arith, ap (λ (text : List ℕ). get_or text 0 0) told)
 
 pub end_not_with_words : IsFaultText faults.End (error_line (codes "x") ++ told_line (Drive faults.End)) → ⊥
-end_not_with_words told = cc
+end_not_with_words told = omega (arith, ap (λ (text : List ℕ). get_or text 0 0) told)
 
 -- a file's fault has a line in words before its own, and that of too many bytes has none
 pub told_with_words : TellsFileFault (Input File) (Some []) (Some (error_line (codes "x") ++ told_line (Input File)))
 told_with_words = (codes "x", omega arith, refl)
 
 pub not_without_words : TellsFileFault (Input File) (Some []) (Some (codes "fault 21 File\n")) → ⊥
-not_without_words (words, plain, told) = cc
+not_without_words (words, plain, told) = omega (arith, ap (λ (text : List ℕ). get_or text 0 0) told)
 
 pub told_alone : TellsFileFault (Input TooBig) (Some []) (Some (told_line (Input TooBig)))
 told_alone = refl
 
 pub not_with_words : TellsFileFault (Input TooBig) (Some []) (Some (codes "error: x\nfault 13 TooBig\n")) → ⊥
-not_with_words told = cc
+not_with_words told = omega (arith, ap (λ (text : List ℕ). get_or text 0 0) told)

@@ -12,7 +12,9 @@ use Rattle.dali_input.specs.Input.{InputState, ReadsAtMost, ReadsInput}
 use Rattle.dali_faults.specs.declared.fault.Fault.TheVariants.{Input}
 use Rattle.dali_faults.specs.JournalInput.{IsJournalIn, journal_limit}
 use Rattle.dali_link_commands.specs.declared.older.OlderFault.TheVariants.{Unloaded, Join}
-use Rattle.dali_link_commands.specs.Older.{AreOne, AreReadAtRest, IsFirstUnusable, IsReadAtRest, IsUnusable}
+use Rattle.dali_link_commands.specs.Older.{AreJoined, AreOne, AreReadAtRest, HasJournal, IsFirstUnusable, IsReadAtRest}
+use Rattle.dali_link_commands.specs.Older.{IsUnusable}
+use Rattle.dali_link_commands.proofs.OlderLemmas.{first_unusable}
 
 -- orders 1 and 2, and the journals of each, which are at rest; one of order 1 that is at work
 abbrev order : ℕ → Contents
@@ -69,24 +71,14 @@ pub number_of_the_first : (before after other later other_after : InputState) (b
     → ReadsAtMost journal_limit other other_after → IsJournalIn bytes first counted version
     → IsFirstUnusable (before ∷ other ∷ later ∷ []) (after ∷ other_after ∷ later ∷ []) 1
     (Join (Repeated 1))
-number_of_the_first before after other later other_after bytes counted version read other_read at_most loaded = record {
-  earlier = before ∷ [];
-  read = after ∷ [];
-  before = other;
-  after = other_after;
-  later = later ∷ [];
-  befores_are = refl;
-  afters_are = refl;
-  index_is = refl;
-  older = Some first;
-  joined = record { owns = first ∷ []; at_rest = (read, tt); are_one = (refl, refl) };
-  unusable = inr (
-    bytes,
-    other_read,
-    (record { own = first; counted = counted; version = version; loaded = loaded }, (refl, refl)),
-  );
-  at_most = at_most;
-}
+number_of_the_first before after other later other_after bytes counted version read other_read at_most loaded =
+    let joined : AreJoined (before ∷ []) (after ∷ []) (Some first) =
+    record { owns = first ∷ []; at_rest = (read, tt); are_one = (refl, refl) } in
+    let has : HasJournal bytes = record { own = first; counted = counted; version = version; loaded = loaded } in
+    first_unusable (λ (input : InputState). input) (before ∷ other ∷ later ∷ []) (after ∷ other ∷ later ∷ []) 1 other
+    other_after (Some first) (Join (Repeated 1))
+    (before ∷ [], after ∷ [], other ∷ later ∷ [], refl, refl, refl, refl, joined) (omega arith) refl
+    (inr (bytes, other_read, (has, (refl, refl)))) at_most
 
 pub no_number_that_the_first_lacks : (before after : InputState)
     → IsUnusable (Some first) before after (Join (Repeated 2)) → ⊥

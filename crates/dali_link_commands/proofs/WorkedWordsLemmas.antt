@@ -36,7 +36,7 @@ shown_by_its_number = (refl, refl)
 -- no reply stands behind a line feed in the words
 forged : (words : List ℕ) → error_line (codes "x\n{}") ≡ error_line words → IsPlain words → ⊥
 forged words is plain =
-    let same = append_cancel_right (codes "x\n{}") words (codes "\n") cc in line_feed_is_not (rw same plain)
+    let same = append_cancel_right (codes "x\n{}") words (codes "\n") cc in line_feed_is_not (rw (← same) at plain)
 
 pub no_reply_in_words :
     TellsWorded (Input File) (Some []) (Some (error_line (codes "x\n{}") ++ told_line (Input File))) → ⊥

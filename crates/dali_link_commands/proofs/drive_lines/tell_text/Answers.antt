@@ -1,20 +1,22 @@
-use Rattle.std.proofs.Common.{refl}
-use Rattle.dali_link_commands.proofs.DriveLemmas.{unflushed, flushed, not_unwritten}
+use Rattle.std.proofs.Common.{refl, inl, inr}
+use Rattle.dali_faults.specs.declared.fault.Status.TheVariants.{Unwritten}
+use Rattle.dali_text.proofs.StreamLemmas.{appends_kept}
+use Rattle.dali_link_commands.proofs.DriveLemmas.{told_so, puts_all, not_unwritten}
 use Rattle.dali_link_commands.proofs.drive_lines.tell_text.Goals as goal
 
 pub returns-then-not-flush-clause-told : goal.returns-then-not-flush-clause-told
 returns-then-not-flush-clause-told g c =
-    unflushed c.args.fault _ _ _ _ c.args.text.now c.requires.other c.requires.text c.as_bytes.ensures.value
-    (c.if-not-put_all.ensures.whole refl) c.if-not-flush.ensures.bytes
+    let part = puts_all _ _ _ _ (c.if-not-put_all.ensures.whole refl) c.if-not-flush.ensures.bytes in
+    told_so c.args.fault Unwritten _ _ c.args.text.now c.requires.other c.requires.text
+    (inr (refl, rw c.as_bytes.ensures.value at part))
 
 pub returns-clause-told : goal.returns-clause-told
 returns-clause-told g c =
-    flushed c.args.fault c.status.result _ _ _ _ c.args.text.now c.requires.other c.requires.text
-    c.as_bytes.ensures.value c.status.ensures.status (c.if-not-put_all.ensures.whole refl)
-    c.if-not-flush.ensures.bytes
+    let whole = appends_kept _ _ _ _ (c.if-not-put_all.ensures.whole refl) c.if-not-flush.ensures.bytes in
+    told_so c.args.fault c.status.result _ _ c.args.text.now c.requires.other c.requires.text
+    (inl (c.status.ensures.status, rw c.as_bytes.ensures.value at whole))
 
 pub returns-clause-unwritten : goal.returns-clause-unwritten
-returns-clause-unwritten g c = (
-  λ is. not_unwritten c.args.fault c.status.result c.requires.other c.status.ensures.status is,
-  λ failed. cc,
-)
+returns-clause-unwritten g c =
+    let none = rw (rw c.requires.unfailed at c.if-not-put_all.ensures.failed) at c.if-not-flush.ensures.failed in
+    (not_unwritten c.args.fault c.status.result c.requires.other c.status.ensures.status, λ failed. cc (none, failed))

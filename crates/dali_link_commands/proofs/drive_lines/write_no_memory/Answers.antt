@@ -1,8 +1,9 @@
 use Rattle.std.proofs.Common.{codes, arith}
-use Rattle.std.proofs.lemmas.Result.{IfOk-weaker}
+use Rattle.dali_input.specs.declared.fault.InputFault.TheVariants.{Memory}
+use Rattle.dali_faults.specs.declared.fault.Fault.TheVariants.{Input}
+use Rattle.dali_link_commands.proofs.WordsLemmas.{told_worded}
 use Rattle.dali_link_commands.proofs.drive_lines.write_no_memory.Goals as goal
 
 pub returns-in-None-clause-told : goal.returns-in-None-clause-told
 returns-in-None-clause-told g c =
-    IfOk-weaker _ _ _ (λ _ told. (told.0, (codes "memory ran out", omega arith, told.1)))
-    c.write_worded-in-None.ensures.told
+    told_worded _ (Input Memory) (codes "memory ran out") _ _ (omega arith) c.write_worded-in-None.ensures.told

@@ -1,8 +1,9 @@
 use Rattle.std.proofs.Common.{codes, arith}
-use Rattle.std.proofs.lemmas.Result.{IfOk-weaker}
+use Rattle.dali_input.specs.declared.fault.InputFault.TheVariants.{File}
+use Rattle.dali_faults.specs.declared.fault.Fault.TheVariants.{Input}
+use Rattle.dali_link_commands.proofs.WordsLemmas.{told_worded}
 use Rattle.dali_link_commands.proofs.drive_lines.write_unusable.Goals as goal
 
 pub returns-in-None-plain_words-clause-told : goal.returns-in-None-plain_words-clause-told
 returns-in-None-plain_words-clause-told g c =
-    IfOk-weaker _ _ _ (λ _ told. (told.0, (codes "the file can't be used", omega arith, told.1)))
-    c.write_worded-in-None-plain_words.ensures.told
+    told_worded _ (Input File) (codes "the file can't be used") _ _ (omega arith) c.write_worded-in-None-plain_words.ensures.told
